@@ -1,0 +1,108 @@
+-- Actions, moves by the operator and turns, over any meaning of activations. No case reads a place.
+use Rattle.std.specs.Prelude.{◌≡◌, ℕ, ◌<◌, ◌^◌, ◌-◌, ◌+◌, length, IsSome, Bool, true, false, List, [], ◌∷◌, ◌++◌, Option, Some, None, slice_get, slice_set}
+use Rattle.ec_base.specs.Stack.{top_of, below_of}
+use Rattle.ec_world.specs.declared.value.Value.{Value}
+use Rattle.ec_world.specs.declared.process.ProcStatus.{ProcStatus}
+use Rattle.ec_world.specs.declared.process.ProcStatus.TheVariants.{Ready, Entry, Cond, Urgent, Ended, Failed}
+use Rattle.ec_world.specs.declared.process.Proc.{Proc}
+use Rattle.ec_world.specs.declared.stop.Who.{Who}
+use Rattle.ec_world.specs.declared.stop.Effect.{Effect}
+use Rattle.ec_world.specs.declared.stop.Effect.TheVariants.{GoesOn, Calls, Leaves, Ends}
+use Rattle.ec_world.specs.declared.common.Common.{Common}
+use Rattle.ec_world.specs.declared.world.World.{World}
+use Rattle.ec_world.specs.Meaning.{ActivationMeaning}
+use Rattle.ec_world.specs.Effects.{Acted, effect_of}
+
+module _ {A : Type 0} where
+  -- the activations of a process that may go on
+  abbrev pub stack_if_ready : ProcStatus → List A → List A
+  stack_if_ready Ready activations = activations
+  stack_if_ready (Entry o) activations = []
+  stack_if_ready (Cond o) activations = []
+  stack_if_ready (Urgent o) activations = []
+  stack_if_ready Ended activations = []
+  stack_if_ready (Failed cause line) activations = []
+
+  -- the activations of a process that is there and Ready
+  abbrev pub ready_stack : Option (Proc A) → List A
+  ready_stack None = []
+  ready_stack (Some proc) = stack_if_ready proc.status proc.activations
+
+  abbrev pub stack_at : World A → ℕ → List A
+  stack_at w p = ready_stack (slice_get w.processes p)
+
+module _ {A : Type 0} (M : ActivationMeaning A) where
+  -- the activation that acts: on top of `below`, in process p
+  abbrev pub who_of : ℕ → List A → A → Who
+  who_of p below top = record { process = p; depth = length below; operation = M.operation top; own = M.own top }
+
+  abbrev pub finish_top : List A → Option A → Option Value → List A
+  finish_top below None given = []
+  finish_top below (Some top) given = below ++ M.finished top given ∷ []
+
+  -- the process after an effect
+  abbrev pub changed : List A → A → Effect → Proc A
+  changed below top (GoesOn given) = record { activations = below ++ M.finished top given ∷ []; status = Ready }
+  changed below top (Calls op own args) =
+      record { activations = (below ++ M.finished top None ∷ []) ++ M.begun op own args ∷ []; status = Ready }
+  changed below top (Leaves given) =
+      record { activations = finish_top (below_of below) (top_of below) given; status = Ready }
+  changed below top Ends = record { activations = []; status = Ended }
+
+  abbrev pub changed_at : List A → Option A → Effect → Option (Proc A)
+  changed_at below None e = None
+  changed_at below (Some top) e = Some (changed below top e)
+
+  abbrev pub acted : World A → ℕ → List A → A → Acted → World A
+  acted w p below top None = w
+  acted w p below top (Some (c, e)) =
+      record { common = c; processes = slice_set w.processes p (changed below top e) }
+
+  -- what the table has for the activation on top
+  abbrev pub outcome_of : World A → ℕ → List A → A → Acted
+  outcome_of w p below top = effect_of w.common (who_of p below top) (M.stop top) (M.operands top)
+
+  abbrev pub act_if_pending : World A → ℕ → List A → A → Bool → World A
+  act_if_pending w p below top true = acted w p below top (outcome_of w p below top)
+  act_if_pending w p below top false = w
+
+  abbrev pub act_on : World A → ℕ → List A → Option A → World A
+  act_on w p below None = w
+  act_on w p below (Some top) = act_if_pending w p below top (M.is_pending top)
+
+  -- the action of the stop at which process p rests, where it is Ready and the action is pending
+  abbrev pub Action : World A → ℕ → World A
+  Action w p = act_on w p (below_of (stack_at w p)) (top_of (stack_at w p))
+
+  -- p is Ready, its top activation is pending, the table has a case for it, and one more object, process and
+  -- activation can be numbered
+  pub record CanAct (w : World A) (p : ℕ) : Type 0 where
+    pub top : A
+    pub is_top : top_of (stack_at w p) ≡ Some top
+    pub pending : M.is_pending top ≡ true
+    pub has_case : IsSome (outcome_of w p (below_of (stack_at w p)) top)
+    pub objects : length w.common.objects < 2 ^ 32 - 1
+    pub processes : length w.processes < 2 ^ 32 - 1
+    pub activations : length (stack_at w p) < 2 ^ 32 - 1
+
+-- turns, over what silent steps make of an activation and of what the world has beside its processes
+module _ {A : Type 0} (M : ActivationMeaning A) (advance : Common → A → Common × A) where
+  abbrev pub advanced : World A → ℕ → List A → Common × A → World A
+  advanced w p below (c, top) =
+      record { common = c; processes = slice_set w.processes p (record { activations = below ++ top ∷ []; status = Ready }) }
+
+  abbrev pub go_on_unless : World A → ℕ → List A → A → Bool → World A
+  go_on_unless w p below top true = w
+  go_on_unless w p below top false = advanced w p below (advance w.common top)
+
+  abbrev pub go_on : World A → ℕ → List A → Option A → World A
+  go_on w p below None = w
+  go_on w p below (Some top) = go_on_unless w p below top (M.is_pending top)
+
+  -- the code behind a stop whose action is done, up to the next stop
+  abbrev pub GoOn : World A → ℕ → World A
+  GoOn w p = go_on w p (below_of (stack_at w p)) (top_of (stack_at w p))
+
+  -- one turn of process p
+  abbrev pub Turn : World A → ℕ → World A
+  Turn w p = GoOn (Action M w p) p
