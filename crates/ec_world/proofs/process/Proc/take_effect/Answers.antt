@@ -1,7 +1,7 @@
 use Rattle.std.proofs.Common.{rules, arith}
 use Rattle.std.proofs.lemmas.Grind.{common_steps}
 use Rattle.ec_world.proofs.Changes.{called}
-use Rattle.ec_world.proofs.world.Proc.take_effect.Goals as goal
+use Rattle.ec_world.proofs.process.Proc.take_effect.Goals as goal
 
 pub returns-in_ok-begin-in-Calls : goal.returns-in_ok-begin-in-Calls
 returns-in_ok-begin-in-Calls g c =
