@@ -6,6 +6,8 @@ use Rattle.ec_world.specs.declared.value.ValueType.{ValueType}
 use Rattle.ec_world.specs.declared.stop.Stop.TheVariants.{Entry}
 use Rattle.ec_world.specs.declared.common.Common.{Common}
 use Rattle.ec_world.specs.Meaning.{ActivationMeaning}
+use Rattle.ec_world.specs.declared.world.World.{World}
+use Rattle.ec_world.specs.Run.{first_world}
 use Rattle.ec_ir.specs.declared.code.IrOp.{IrOp}
 use Rattle.ec_ir.specs.declared.code.IrOp.TheVariants.{Literal, Rest}
 use Rattle.ec_ir.specs.declared.code.StopRec.{StopRec}
@@ -131,6 +133,10 @@ ir_meaning = record {
   begun = begun;
   finished = finished;
 }
+
+-- the world in which a program begins, on n nodes
+abbrev pub ir_start : Parts → ℕ → World IrActivation
+ir_start program n = first_world ir_meaning n program.classes program.globals
 
 -- ---- live values
 
