@@ -83,6 +83,15 @@ GoesOn Print T = T
 GoesOn (Global index) T = T
 GoesOn End T = Unit {0}
 
+-- code goes on behind this stop
+abbrev pub HasCode : Stop → Type 0
+HasCode Entry = Unit {0}
+HasCode (New class) = Unit {0}
+HasCode (Return gives_self) = ⊥
+HasCode Print = Unit {0}
+HasCode (Global index) = Unit {0}
+HasCode End = ⊥
+
 -- ---- code
 
 -- an operation of the code at place p: its variables are there and of fitting types, what follows is there, and a stop
