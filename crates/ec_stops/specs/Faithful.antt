@@ -11,13 +11,14 @@ use Rattle.ec_ir.specs.declared.activation.IrActivation.{IrActivation}
 use Rattle.ec_ir.specs.Meaning.{stop_at, operation_at, types_of, variable, live_variables, settled}
 use Rattle.ec_ir.specs.Fine.{HasType, Typed, HasCode}
 use Rattle.ec_target.specs.Runs.{Native}
+use Rattle.ec_target.specs.Code.{word_at}
 use Rattle.ec_nodes.specs.Store.{StandsFor}
 use Rattle.ec_stops.specs.declared.table.Place.{Place}
 use Rattle.ec_stops.specs.declared.table.Place.TheVariants.{Slot, Reg}
 use Rattle.ec_stops.specs.declared.table.OperationCode.{OperationCode}
 use Rattle.ec_stops.specs.declared.table.Code.{Code}
 use Rattle.ec_stops.specs.declared.table.StopTable.{StopTable}
-use Rattle.ec_stops.specs.Machine.{MachineMeaning, code_at, block_at, owner_word_at}
+use Rattle.ec_stops.specs.Machine.{MachineMeaning, block_at, owner_word_at}
 use Rattle.ec_memory.specs.Words.{block_word_at, global_word_at, word_in}
 
 -- ---- tables
@@ -41,12 +42,6 @@ words_if (Some o) = o.words
 -- how many words of code an operation has
 abbrev pub words_of : Code → ℕ → ℕ
 words_of code op = words_if (slice_get code.operations op)
-
--- a stop instruction stands at this address
-pub record StopStands (code : List ℕ) (stop_word at : ℕ) : Type 0 where
-  pub number : ℕ
-  pub is : at ≡ code_at number
-  pub word : slice_get code number ≡ Some stop_word
 
 -- ---- frames. Words 0 to 27 are headings and saved registers, words 28 to 127 the slots.
 
@@ -129,8 +124,8 @@ module _ {S : Type 0} (M : MachineMeaning S) (program : Parts) (table : StopTabl
 
 pub record Faithful {S : Type 0} (M : MachineMeaning S) (code : Code) (table : StopTable) (program : Parts) : Type 0 where
   -- each stop has one address, and stop instructions stand at these addresses alone
-  pub stops : (op at : ℕ) (s : StopRec) → stop_at program op at ≡ Some s → (address : ℕ) × (stop_in table op at ≡ Some address) × StopStands code.words M.stop_word address
-  pub only : (address : ℕ) → StopStands code.words M.stop_word address → (op : ℕ) × (at : ℕ) × (s : StopRec) × (stop_at program op at ≡ Some s) × (stop_in table op at ≡ Some address)
+  pub stops : (op at : ℕ) (s : StopRec) → stop_at program op at ≡ Some s → (address : ℕ) × (stop_in table op at ≡ Some address) × (word_at code.words address ≡ Some M.stop_word)
+  pub only : (address : ℕ) → word_at code.words address ≡ Some M.stop_word → (op : ℕ) × (at : ℕ) × (s : StopRec) × (stop_at program op at ≡ Some s) × (stop_in table op at ≡ Some address)
   pub apart : (op at op' at' address : ℕ) → stop_in table op at ≡ Some address → stop_in table op' at' ≡ Some address → (op ≡ op') × (at ≡ at')
   -- the table speaks of the program's operations and stops alone
   pub known : (op at address : ℕ) → stop_in table op at ≡ Some address → (s : StopRec) × (stop_at program op at ≡ Some s)

@@ -25,13 +25,6 @@ pub record MachineMeaning (S : Type 0) : Type 1 where
 
 -- ---- addresses
 
-abbrev pub code_base : ℕ
-code_base = 0x00400000
-
--- word i of the code
-abbrev pub code_at : ℕ → ℕ
-code_at i = code_base + 4 * i
-
 -- where block b begins
 abbrev pub block_at : ℕ → ℕ
 block_at b = 0x10000000 + 512 * b

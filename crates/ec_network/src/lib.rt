@@ -1,0 +1,5 @@
+//! Nodes that run a program as machine code, and what they show of a world.
+#![tactic(auto)]
+
+mod cluster;
+pub mod image;
