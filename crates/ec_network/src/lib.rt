@@ -2,4 +2,5 @@
 #![tactic(auto)]
 
 mod cluster;
+mod kernel;
 pub mod image;
