@@ -1,2 +1,5 @@
 pub mod Changes
 pub mod Defaults
+pub mod Related
+pub mod Simulation
+pub mod Entries
