@@ -3,3 +3,5 @@ pub mod Defaults
 pub mod Related
 pub mod Simulation
 pub mod Entries
+pub mod FirstTrue
+pub mod Placement
