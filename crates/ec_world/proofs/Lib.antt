@@ -5,3 +5,5 @@ pub mod Simulation
 pub mod Entries
 pub mod FirstTrue
 pub mod Placement
+pub mod Members
+pub mod Rounds

@@ -8,3 +8,4 @@ pub mod Moves
 pub mod Run
 pub mod Agree
 pub mod Simulation
+pub mod Search

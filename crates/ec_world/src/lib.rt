@@ -5,6 +5,7 @@ pub mod activation;
 pub mod class;
 pub mod common;
 pub mod event;
+pub mod group;
 pub mod memory;
 pub mod node;
 pub mod object;
