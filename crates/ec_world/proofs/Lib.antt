@@ -7,3 +7,4 @@ pub mod FirstTrue
 pub mod Placement
 pub mod Members
 pub mod Rounds
+pub mod Searching

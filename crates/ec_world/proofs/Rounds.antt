@@ -168,7 +168,7 @@ links_spread c ms n (suc k) z e h i =
 
 -- ---- rounds
 
-pub unmarked : List Bool → ℕ
+unfoldable pub unmarked : List Bool → ℕ
 unmarked [] = 0
 unmarked (true ∷ ms) = unmarked ms
 unmarked (false ∷ ms) = suc (unmarked ms)
@@ -278,3 +278,4 @@ group_of_alone c x none p l = sym (group_of_same c x (x ∷ []) p l (record { ri
     only : (y : ℕ) → InGroup c x y → Has (x ∷ []) y
     only y Itself = has_first x []
     only _ (Linked y z g h i) = let e = none y in absurd (has_none z (rw e at h))
+
