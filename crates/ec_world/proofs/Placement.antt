@@ -1,5 +1,6 @@
 -- Places after events, one event at a time.
-use Rattle.std.proofs.Common.{◌≡◌, ℕ, zero, suc, ◌+◌, ◌-◌, ◌<◌, ◌≤◌, List, [], ◌∷◌, ◌++◌, length, drop, get_or, Option, Some, None, refl, sym, ap, ◌∙◌, arith, length-append, add-one, append_assoc}
+use Rattle.std.proofs.Common.{◌≡◌, ℕ, zero, suc, ◌+◌, ◌-◌, ◌<◌, ◌≤◌, List, [], ◌∷◌, ◌++◌, length, drop, get_or, Option, Some, None, refl, sym, ap, ◌∙◌, arith, add-one}
+use Rattle.std.proofs.lemmas.List.{drop_all}
 use Rattle.std.specs.Prelude.{slice_get, slice_set}
 use Rattle.ec_base.proofs.Lists.{length_set, get_there, drop_at}
 use Rattle.ec_world.specs.declared.event.Event.{Event}
@@ -68,13 +69,7 @@ pub there_over : (count : ℕ) (ms qs : List ℕ) → length qs ≡ count → Ar
 there_over count ms qs e h = rw e h
 
 pub moved_over : (ps ms : List ℕ) (k i : ℕ) → length ms ≤ i → moved ps (drop i ms) k ≡ ps
-moved_over ps ms k i l = rw (drop_past ms i l) refl
-  where
-    drop_past : (ms : List ℕ) (i : ℕ) → length ms ≤ i → drop i ms ≡ []
-    drop_past [] zero l = refl
-    drop_past [] (suc i) l = refl
-    drop_past (m ∷ ms) zero l = absurd (omega arith)
-    drop_past (m ∷ ms) (suc i) l = drop_past ms i (omega arith)
+moved_over ps ms k i l = rw (drop_all i ms l) refl
 
 -- the rest of the events, once one has changed the places
 pub events_next : (ps : List ℕ) (e : Event) (es : List Event) → AreEvents (length ps) (e ∷ es) → AreEvents (length (placed ps e)) es

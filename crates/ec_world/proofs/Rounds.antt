@@ -3,10 +3,16 @@ use Rattle.std.proofs.Common.{◌≡◌, ℕ, zero, suc, ◌+◌, ◌-◌, ◌<�
 use Rattle.std.specs.Prelude.{slice_get, IsSome, ◌==◌}
 use Rattle.std.proofs.lemmas.Grind.{common_steps}
 use Rattle.ec_base.proofs.Lists.{get_within, get_there}
+use Rattle.ec_world.specs.declared.value.Value.{Value}
+use Rattle.ec_world.specs.declared.value.Value.TheVariants.{Int, Str, Ref, Nil, Bool as Truth}
+use Rattle.ec_world.specs.declared.class.FieldRec.{FieldRec}
+use Rattle.ec_world.specs.declared.class.ClassNo.{ClassNo}
+use Rattle.ec_world.specs.declared.class.ClassNo.TheVariants.{Node, Program, Made}
+use Rattle.ec_world.specs.declared.class.ClassRec.{ClassRec}
 use Rattle.ec_world.specs.declared.object.ObjectRec.{ObjectRec}
 use Rattle.ec_world.specs.declared.common.Common.{Common}
-use Rattle.ec_world.specs.Effects.{object_at}
-use Rattle.ec_world.specs.Group.{Has, InGroup, IsGroup, MarksGroup, links_of, mark_at, is_in, wanted, mark_all, spread, rounds, none_marked, group_of}
+use Rattle.ec_world.specs.Effects.{object_at, class_at}
+use Rattle.ec_world.specs.Group.{Has, InGroup, IsGroup, MarksGroup, link_of, links_in, fields_if, links_if, links_of, mark_at, is_in, wanted, mark_all, spread, rounds, none_marked, group_of}
 use Rattle.ec_world.specs.Group.InGroup.{Itself, Linked}
 use Rattle.ec_world.proofs.Members.{has_none, has_first, has_later, has_parts, has_one, has_front, has_back, has_either, group_same, marked_group, object_within, within_object, mark_within}
 
@@ -279,3 +285,36 @@ group_of_alone c x none p l = sym (group_of_same c x (x ∷ []) p l (record { ri
     only y Itself = has_first x []
     only _ (Linked y z g h i) = let e = none y in absurd (has_none z (rw e at h))
 
+
+-- a class none of whose fields is attached
+pub record HasNoAttached (k : ClassRec) : Type 0 where
+  pub each : (f : FieldRec) → Has k.fields f → f.attached ≡ false
+
+link_of-none : (f : FieldRec) (v : Value) (rest : List ℕ) → f.attached ≡ false → link_of f v rest ≡ rest
+link_of-none f (Ref o) rest e = rw e refl
+link_of-none f (Int z) rest e = refl
+link_of-none f (Truth b) rest e = refl
+link_of-none f (Str t) rest e = refl
+link_of-none f Nil rest e = refl
+
+links_in-none : (fs : List FieldRec) (vs : List Value) → ((f : FieldRec) → Has fs f → f.attached ≡ false) → links_in fs vs ≡ []
+links_in-none [] vs h = refl
+links_in-none (f ∷ fs) [] h = refl
+links_in-none (f ∷ fs) (v ∷ vs) h = link_of-none f v (links_in fs vs) (h f (has_first f fs)) ∙ links_in-none fs vs (λ g k. h g (has_later f g fs k))
+
+fields_if-none : (classes : List ClassRec) (class : ClassNo) → ((k : ClassRec) → Has classes k → HasNoAttached k) → (f : FieldRec) → Has (fields_if (class_at classes class)) f → f.attached ≡ false
+fields_if-none classes Node h f m = absurd (has_none f m)
+fields_if-none classes Program h f m = absurd (has_none f m)
+fields_if-none classes (Made i) h f m = part (slice_get classes i) refl m
+  where
+    part : (k : Option ClassRec) → slice_get classes i ≡ k → Has (fields_if k) f → f.attached ≡ false
+    part None e m = absurd (has_none f m)
+    part (Some k) e m = (h k (record { at = i; is = e })).each f m
+
+-- in a program without attached fields nothing is attached
+pub links_of-none : (c : Common) (y : ℕ) → ((k : ClassRec) → Has c.classes k → HasNoAttached k) → links_of c y ≡ []
+links_of-none c y h = part (object_at c.objects y)
+  where
+    part : (o : Option ObjectRec) → links_if c.classes o ≡ []
+    part None = refl
+    part (Some o) = links_in-none (fields_if (class_at c.classes o.class)) o.fields (fields_if-none c.classes o.class h)

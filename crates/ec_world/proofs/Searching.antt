@@ -1,6 +1,7 @@
 -- A search along attached fields finds the whole group.
-use Rattle.std.proofs.Common.{◌≡◌, ◌≢◌, ℕ, zero, suc, ◌+◌, ◌-◌, ◌<◌, ◌≤◌, min, ◌⊎◌, inl, inr, ⊎_elim, Bool, true, false, List, [], ◌∷◌, ◌++◌, length, drop, replicate, Option, Some, None, refl, sym, ap, ◌∙◌, arith, add-one, append_assoc, if◌then◌else◌}
+use Rattle.std.proofs.Common.{◌≡◌, ◌≢◌, ℕ, zero, suc, ◌+◌, ◌-◌, ◌<◌, ◌≤◌, min, ◌⊎◌, inl, inr, ⊎_elim, Bool, true, false, List, [], ◌∷◌, ◌++◌, length, drop, replicate, Option, Some, None, refl, sym, ap, ◌∙◌, arith, append_assoc, length-append, if◌then◌else◌}
 use Rattle.std.specs.Prelude.{slice_get, slice_set, IsSome}
+use Rattle.std.proofs.lemmas.List.{append-nil, drop_all}
 use Rattle.ec_base.specs.Stack.{top_of, below_of}
 use Rattle.ec_base.proofs.Lists.{length_set, get_there, get_within, drop_at}
 use Rattle.ec_base.proofs.Stacks.{stack_parts, top_of_none}
@@ -59,18 +60,8 @@ unmarked_next xs ms i e =
     let s : i + 1 + 1 ≡ suc (i + 1) = omega arith in
     rw (drop_at ms i false e, s) refl
 
-drop_past : (ms : List Bool) (i : ℕ) → length ms ≤ i → drop i ms ≡ []
-drop_past [] zero l = refl
-drop_past [] (suc i) l = refl
-drop_past (m ∷ ms) zero l = absurd (omega arith)
-drop_past (m ∷ ms) (suc i) l = drop_past ms i (omega arith)
-
-nothing_more : (xs : List ℕ) → xs ++ [] ≡ xs
-nothing_more [] = refl
-nothing_more (x ∷ xs) = ap (λ r. x ∷ r) (nothing_more xs)
-
 pub marked_over : (xs : List ℕ) (ms : List Bool) (i k : ℕ) → length ms ≤ i → xs ++ marked_from k (drop i ms) ≡ xs
-marked_over xs ms i k l = rw (drop_past ms i l) (nothing_more xs)
+marked_over xs ms i k l = rw (drop_all i ms l) (append-nil xs)
 
 -- ---- setting a mark
 
@@ -308,10 +299,6 @@ first_search c x p l = let e = unset-first (length c.objects) x p l in rw e (fir
 unfoldable pub work_of : Search → ℕ
 work_of s = unmarked s.marks + length s.todo
 
-length-push : (ps : List ℕ) (k : ℕ) → length (ps ++ k ∷ []) ≡ suc (length ps)
-length-push [] k = refl
-length-push (p ∷ ps) k = ap suc (length-push ps k)
-
 found_work : (s : Search) (z : ℕ) → work_of (found s z) ≡ work_of s
 unfolding work_of
 found_work s z = part (mark_at s.marks z) refl
@@ -319,7 +306,7 @@ found_work s z = part (mark_at s.marks z) refl
     part : (m : Option Bool) → mark_at s.marks z ≡ m → work_of (found_if s z m) ≡ work_of s
     part None e = refl
     part (Some true) e = refl
-    part (Some false) e = let k = mark_fewer s.marks z e in let l = length-push s.todo z in omega arith
+    part (Some false) e = let k = mark_fewer s.marks z e in let l = length-append s.todo (z ∷ []) in omega arith
 
 all_work : (zs : List ℕ) (s : Search) → work_of (all_found s zs) ≡ work_of s
 all_work [] s = refl
@@ -330,7 +317,7 @@ pub less_work : (zs : List ℕ) (s : Search) (y : ℕ) → top_of s.todo ≡ Som
 unfolding work_of
 less_work zs s y e =
     let a = all_work zs (record { marks = s.marks; todo = below_of s.todo }) in
-    let b = length-push (below_of s.todo) y in
+    let b = length-append (below_of s.todo) (y ∷ []) in
     let p = ap length (stack_parts s.todo y e) in
     omega arith
 

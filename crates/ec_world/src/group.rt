@@ -122,3 +122,6 @@ impl Search {
         Ok(())
     }
 }
+
+#[cfg(test)]
+mod tests;

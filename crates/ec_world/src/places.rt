@@ -60,3 +60,24 @@ fn send(placement: &mut Vec<NodeNo>, members: &Oids, k: NodeNo)
         placement[oid as usize - 1] = k;
     }
 }
+
+#[cfg(test)]
+mod tests {
+    use super::*;
+    use ec_base::list::Seq;
+    use std::test::Fail;
+
+    #[test]
+    fn two_objects_move_together(rt: HostRuntime) -> Result<(), Fail> {
+        let members = Seq::from_vec(vec![in rt.alloc(); 4, 5]?);
+        let events = [
+            Event::Created { oid: 4, maker: 3 },
+            Event::Created { oid: 5, maker: 3 },
+            Event::Created { oid: 6, maker: 3 },
+            Event::Moved { members, target: 2 },
+        ];
+        let placement = placement_after(rt.alloc(), 2, &events)?;
+        assert_eq!(rt; placement.as_slice(), [0, 1, 0, 1, 1, 0].as_slice());
+        Ok(())
+    }
+}
