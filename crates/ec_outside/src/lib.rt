@@ -3,7 +3,7 @@
 
 pub mod fault;
 // pub mod file_shelf;
-// pub mod mem_shelf;
+pub mod mem_shelf;
 // pub mod mem_sink;
 // pub mod out_sink;
 pub mod shelf;

@@ -1,7 +1,7 @@
 //! A shelf in memory that fails the calls it is told to: for tests, and for callers that have their files at hand.
-ghost use Rattle.std.specs.Prelude.{◌≡◌, ℕ, ◌+◌, ◌-◌, ◌<◌, ◌≤◌, ◌⊎◌, ◌↔◌, List, [], ◌∷◌, Option, None, min, map, length, IfOk, OnOk, OnErr, IsErr, IsNone, Contains, option_copied};
+ghost use Rattle.std.specs.Prelude.{◌≡◌, ℕ, ◌+◌, ◌-◌, ◌<◌, ◌≤◌, ◌↔◌, List, min, map, take, drop, length, IfOk, OnOk, OnErr, IsErr, Contains, option_copied};
 ghost use Rattle.ec_outside.specs.Fault.{HasRisen, ShareCount, count_of};
-ghost use Rattle.ec_outside.specs.Shelf.{ReadsFile, next_call};
+ghost use Rattle.ec_outside.specs.Shelf.{ReadsFile};
 
 use crate::fault::{Counts, Failed};
 use crate::shelf::Shelf;
@@ -28,13 +28,54 @@ pub struct MemShelf<'a> {
     ghost moves: { 0 < piece },
 }
 
-/// The first file of a name.
+impl<'a> MemShelf<'a> {
+    ghost use Rattle.ec_outside.specs.MemShelf.{IsToFail, content_of, file_of, next_call};
+
+    /// A shelf of these files that has had no call. It moves at most `piece` bytes in a call, and fails the
+    /// calls whose numbers, from 1, are in `failing`. Its kept names are those of its files.
+    pub fn new(
+        alloc: Global,
+        files: &'a [MemFile<'a>],
+        piece: usize,
+        failing: &'a [u64],
+    ) -> Result<MemShelf<'a>, AllocError>
+        requires { 0 < piece }
+        ensures content { IfOk result (λ s. content_of s ≡ file_of files.now) }
+        ensures kept { IfOk result (λ s. s.counts.names ≡ map (λ f. f.name.now) files.now) }
+        ensures none { IfOk result (λ s. (name : List ℕ) → count_of s.counts name ≡ 0) }
+        ensures first { IfOk result (λ s. next_call s ≡ 1) }
+    {
+        let names = files.iter().map(|file| file.name).collect(alloc)?;
+        Ok(MemShelf {
+            files,
+            piece,
+            failing,
+            calls: 0,
+            counts: Counts::new(alloc, names)?,
+        })
+    }
+}
+
+ghost use Rattle.ec_outside.specs.MemShelf.{file_of};
+
+/// What the first file of a name holds.
 fn find<'a>(files: &[MemFile<'a>], name: &str) -> Option<&'a [u8]>
-    ghost use Rattle.ec_outside.specs.MemShelf.{file_of};
     ensures { option_copied result ≡ file_of files.now name.now }
 {
     files
         .iter()
         .find(|file| file.name == name)
         .map(|file| file.bytes)
+}
+
+/// The bytes of a file from a place on, at most `most` of them, into a buffer; how many they are.
+fn copy_from(bytes: &[u8], from: u64, most: usize, buf: &mut [u8]) -> usize
+    ensures count { result ≡ min (min (length bytes.now - from) most) (length buf.new) }
+    ensures bytes { take result buf.new ≡ take result (drop from bytes.now) }
+{
+    let at = usize::try_from(from).unwrap_or(usize::MAX).min(bytes.len());
+    let rest = &bytes[at..];
+    let n = rest.len().min(most).min(buf.len());
+    buf[..n].copy_from_slice(&rest[..n]);
+    n
 }
