@@ -1,11 +1,13 @@
 //! A shelf in memory that fails the calls it is told to: for tests, and for callers that have their files at hand.
 ghost use Rattle.std.specs.Prelude.{◌≡◌, ℕ, ◌+◌, ◌-◌, ◌<◌, ◌≤◌, ◌↔◌, List, min, map, take, drop, length, IfOk, OnOk, OnErr, IsErr, Contains, option_copied};
 ghost use Rattle.ec_outside.specs.Fault.{HasRisen, ShareCount, count_of};
+ghost use Rattle.ec_outside.specs.MemShelf.{IsToFail, file_of, names_of, next_call};
 ghost use Rattle.ec_outside.specs.Shelf.{ReadsFile};
 
 use crate::fault::{Counts, Failed};
 use crate::shelf::Shelf;
 use std::alloc::{AllocError, Global};
+use std::marker::Model;
 
 /// A file of a shelf in memory.
 #[derive(Clone, Copy)]
@@ -25,11 +27,20 @@ pub struct MemShelf<'a> {
     failing: &'a [u64],
     calls: u64,
     counts: Counts<'a>,
-    ghost moves: { 0 < piece },
+}
+
+impl<'a> Model for MemShelf<'a> {
+    ghost use Rattle.std.specs.Prelude.{◌<◌};
+    ghost use Rattle.ec_outside.specs.MemShelf.{MemShelfState};
+
+    ghost Value = { MemShelfState };
+
+    ghost view = { λ s. record { files = s.files.now; piece = s.piece; failing = s.failing.now; calls = s.calls; counts = s.counts } };
+
+    ghost invariant = { λ s. 0 < s.piece };
 }
 
 impl<'a> MemShelf<'a> {
-    ghost use Rattle.ec_outside.specs.MemShelf.{IsToFail, content_of, file_of, next_call};
 
     /// A shelf of these files that has had no call. It moves at most `piece` bytes in a call, and fails the
     /// calls whose numbers, from 1, are in `failing`. Its kept names are those of its files.
@@ -40,10 +51,12 @@ impl<'a> MemShelf<'a> {
         failing: &'a [u64],
     ) -> Result<MemShelf<'a>, AllocError>
         requires { 0 < piece }
-        ensures content { IfOk result (λ s. content_of s ≡ file_of files.now) }
-        ensures kept { IfOk result (λ s. s.counts.names ≡ map (λ f. f.name.now) files.now) }
-        ensures none { IfOk result (λ s. (name : List ℕ) → count_of s.counts name ≡ 0) }
-        ensures first { IfOk result (λ s. next_call s ≡ 1) }
+        ensures files { IfOk result (λ s. s.files ≡ files.now) }
+        ensures piece { IfOk result (λ s. s.piece ≡ piece) }
+        ensures failing { IfOk result (λ s. s.failing ≡ failing.now) }
+        ensures calls { IfOk result (λ s. s.calls ≡ 0) }
+        ensures kept { IfOk result (λ s. s.counts.names ≡ names_of files.now) }
+        ensures faults { IfOk result (λ s. (name : List ℕ) → count_of s.counts name ≡ 0) }
     {
         let names = files.iter().map(|file| file.name).collect(alloc)?;
         Ok(MemShelf {
@@ -55,8 +68,6 @@ impl<'a> MemShelf<'a> {
         })
     }
 }
-
-ghost use Rattle.ec_outside.specs.MemShelf.{file_of};
 
 /// What the first file of a name holds.
 fn find<'a>(files: &[MemFile<'a>], name: &str) -> Option<&'a [u8]>
