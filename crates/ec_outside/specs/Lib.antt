@@ -1,3 +1,5 @@
 pub mod Fault
 pub mod MemShelf
+pub mod MemSink
+pub mod SharedCounts
 pub mod Shelf
