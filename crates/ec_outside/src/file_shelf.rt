@@ -7,6 +7,7 @@ ghost use Rattle.ec_outside.specs.SharedCounts.{count_of-shared};
 use crate::fault::{Counts, Failed};
 use crate::shelf::Shelf;
 use std::alloc::{AllocError, Global};
+use std::marker::Model;
 use std::io::{Read, Seek, SeekFrom};
 use std::rt::Files;
 use std::{fs, io};
@@ -18,14 +19,22 @@ pub struct FileShelf<'a, R> {
     counts: Counts<'a>,
 }
 
+impl<'a, R> Model for FileShelf<'a, R> {
+    ghost use Rattle.ec_outside.specs.Fault.{Tally};
+
+    ghost Value = { Tally };
+
+    ghost view = { λ s. s.counts };
+}
+
 impl<'a, R: Files> Shelf for FileShelf<'a, R> {
     ghost tells = { λ _. ⊥ };
 
     ghost content = { λ _ _. None };
 
-    ghost kept = { λ s. s.counts.names };
+    ghost kept = { λ counts. counts.names };
 
-    ghost faults = { λ s. count_of s.counts };
+    ghost faults = { λ counts. count_of counts };
 
     /// Opens the file and reads once; any error is a fault of its name.
     fn read_at(&mut self, name: &str, from: u64, buf: &mut [u8]) -> Result<usize, Failed> {
@@ -38,7 +47,7 @@ impl<'a, R: Files> Shelf for FileShelf<'a, R> {
         }
     }
 
-    ghost shared = { λ s. count_of-shared s.counts };
+    ghost shared = { λ counts. count_of-shared counts };
 }
 
 impl<'a, R: Files> FileShelf<'a, R> {
@@ -46,8 +55,8 @@ impl<'a, R: Files> FileShelf<'a, R> {
     pub fn new(alloc: Global, files: R, words: &[&'a str]) -> Result<FileShelf<'a, R>, AllocError>
     where
         R: Drop,
-        ensures kept { IfOk result (λ s. s.counts.names ≡ map (λ word. word.now) words.now) }
-        ensures faults { IfOk result (λ s. (name : List ℕ) → count_of s.counts name ≡ 0) }
+        ensures kept { IfOk result (λ counts. counts.names ≡ map (λ word. word.now) words.now) }
+        ensures faults { IfOk result (λ counts. (name : List ℕ) → count_of counts name ≡ 0) }
     {
         let names = Vec::from_slice(alloc, words)?;
         Ok(FileShelf {

@@ -8,4 +8,4 @@ pub mod mem_sink;
 pub mod out_sink;
 pub mod shelf;
 pub mod sink;
-// pub mod whole;
+pub mod whole;
