@@ -73,3 +73,6 @@ fn is_same_name(a: &[u8], b: &[u8]) -> bool
 {
     a.eq_ignore_ascii_case(b)
 }
+
+#[cfg(test)]
+mod tests;

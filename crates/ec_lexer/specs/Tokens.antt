@@ -44,9 +44,9 @@ token form at bytes = record { kind = kind_of form bytes; at = record { from = a
 pub data HasTokensFrom : ℕ → Bytes → List AToken → Type 0 where
   ended : {at : ℕ} {rest : Bytes} → begins rest ≡ End → HasTokensFrom at rest []
   separated : {at n : ℕ} {rest : Bytes} {tokens : List AToken} →
-    begins rest ≡ Separator n → HasTokensFrom (at + n) (drop n rest) tokens → HasTokensFrom at rest tokens
+      begins rest ≡ Separator n → HasTokensFrom (at + n) (drop n rest) tokens → HasTokensFrom at rest tokens
   taken : {at n : ℕ} {rest : Bytes} {form : Form} {tokens : List AToken} →
-    begins rest ≡ Token form n → HasTokensFrom (at + n) (drop n rest) tokens → HasTokensFrom at rest (token form at (take n rest) ∷ tokens)
+      begins rest ≡ Token form n → HasTokensFrom (at + n) (drop n rest) tokens → HasTokensFrom at rest (token form at (take n rest) ∷ tokens)
 
 -- the text has these tokens
 abbrev pub HasTokens : Bytes → List AToken → Type 0

@@ -10,9 +10,9 @@ pub mod token;
 
 use ec_ast::{Span, Text};
 use ec_base::list::Seq;
-use lexeme::{begins, Form, Lexeme};
+use lexeme::{Form, Lexeme, begins};
 use std::alloc::{AllocError, Global};
-use token::{reserved_word, Token, TokenKind};
+use token::{Token, TokenKind, reserved_word};
 
 /// The tokens of a text of less than 2^32 bytes, or None where it has none.
 /// An error is want of memory.

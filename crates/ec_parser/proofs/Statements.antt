@@ -22,7 +22,7 @@ print_by a b c d e f sa sb sc sd se sf w text ea eb ec p ed ee ef et =
     let tokens : (mark (Reserved Stdout) sa ∷ mark Dot sb ∷ mark (Name w) sc ∷ mark OpenBracket sd ∷ mark (Literal (text_of e)) se ∷ mark CloseBracket sf ∷ []) ≡ (mark a sa ∷ mark b sb ∷ mark c sc ∷ mark d sd ∷ mark e se ∷ mark f sf ∷ []) = cc in
     let text_is : text_of e ≡ text = sym et in
     subst (λ x. IsStatement (mark a sa ∷ mark b sb ∷ mark c sc ∷ mark d sd ∷ mark e se ∷ mark f sf ∷ []) (Print (record { text = x; at = se }))) text_is
-      (subst (λ x. IsStatement x (Print (record { text = text_of e; at = se }))) tokens made)
+    (subst (λ x. IsStatement x (Print (record { text = text_of e; at = se }))) tokens made)
 
 -- tokens that begin with what prints begin with a statement of it
 pub print_first : (tokens : List Token) (e : Token) → Begins PRINT tokens → e ≡ get_or tokens 4 e → (6 ≤ length tokens) × IsStatement (take 6 tokens) (Print (literal_of e))
@@ -35,8 +35,8 @@ print_first (a ∷ b ∷ c ∷ d ∷ e ∷ []) x h is = absurd h.1.1.1.1.1
 print_first (a ∷ b ∷ c ∷ d ∷ e ∷ f ∷ rest) x h is =
     let w = of_putstring c.kind h.1.1.0 in
     let made : IsStatement (a ∷ b ∷ c ∷ d ∷ e ∷ f ∷ []) (Print (literal_of e)) =
-      print_by a.kind b.kind c.kind d.kind e.kind f.kind a.at b.at c.at d.at e.at f.at w.0 (text_of e.kind)
-        (of_word a.kind Stdout h.0) (of_dot b.kind h.1.0) w.1 w.2 (of_open_bracket d.kind h.1.1.1.0) (of_literal e.kind h.1.1.1.1.0) (of_close_bracket f.kind h.1.1.1.1.1.0) refl in
+    print_by a.kind b.kind c.kind d.kind e.kind f.kind a.at b.at c.at d.at e.at f.at w.0 (text_of e.kind)
+    (of_word a.kind Stdout h.0) (of_dot b.kind h.1.0) w.1 w.2 (of_open_bracket d.kind h.1.1.1.0) (of_literal e.kind h.1.1.1.1.0) (of_close_bracket f.kind h.1.1.1.1.1.0) refl in
     let same : e ≡ x = sym is in
     (omega arith, subst (λ y. IsStatement (a ∷ b ∷ c ∷ d ∷ e ∷ f ∷ []) (Print (literal_of y))) same made)
 

@@ -39,17 +39,34 @@ pub record Parts (tokens : List Token) (program : Program) : Type 0 where
   pub statements : List Statement
   pub are : AreStatements block statements
   pub tokens_are : tokens ≡ word Const a ∷ id name b ∷ mark Arrow c ∷ word Object d ∷ id object_name e ∷ word Initially f ∷ (block ++ ending g h i end_name j)
-  pub program_is : program ≡ record { constant = Some (record {
-    name = record { text = name; at = b };
-    value = record { name = record { text = object_name; at = e }; initially = statements; end_name = record { text = end_name; at = j } };
-  }) }
+  pub program_is : program ≡ record {
+    constant = Some (record {
+      name = record { text = name; at = b };
+      value = record { name = record { text = object_name; at = e }; initially = statements; end_name = record { text = end_name; at = j } };
+    });
+  }
 
 pub parts : {tokens : List Token} {program : Program} → HasTree tokens program → (tokens ≡ [] → ⊥) → Parts tokens program
 parts empty n = absurd (n refl)
 parts (with_constant (constant {a} {b} {c} {name} (object d e f g h i j {name = object_name} {end_name} {block} {statements} are))) n = record {
-  a = a; b = b; c = c; d = d; e = e; f = f; g = g; h = h; i = i; j = j;
-  name = name; object_name = object_name; end_name = end_name; block = block; statements = statements;
-  are = are; tokens_are = refl; program_is = refl;
+  a = a;
+  b = b;
+  c = c;
+  d = d;
+  e = e;
+  f = f;
+  g = g;
+  h = h;
+  i = i;
+  j = j;
+  name = name;
+  object_name = object_name;
+  end_name = end_name;
+  block = block;
+  statements = statements;
+  are = are;
+  tokens_are = refl;
+  program_is = refl;
 }
 
 not_print : (d e f g : Span) (name : List ℕ) → Begins PRINT (ending d e f name g) → ⊥
@@ -65,7 +82,7 @@ module _ {tokens : List Token} {program : Program} (p : Parts tokens program) wh
   the_end : (statements : List Statement) (n : ℕ) → ReadsStatements (drop 6 tokens) statements n → drop n (drop 6 tokens) ≡ ending p.g p.h p.i p.end_name p.j
   the_end statements n r =
       (same_statements r.are p.are (drop n (drop 6 tokens)) (ending p.g p.h p.i p.end_name p.j) (take-append-drop n (drop 6 tokens) ∙ behind)
-        r.all (not_print p.g p.h p.i p.j p.end_name)).1
+      r.all (not_print p.g p.h p.i p.j p.end_name)).1
 
   pub ends : (statements : List Statement) (n : ℕ) → ReadsStatements (drop 6 tokens) statements n →
       (length (drop n (drop 6 tokens)) ≡ 4) × Begins CONSTANT_END (drop n (drop 6 tokens))
@@ -78,7 +95,7 @@ same_parts {tokens} {p} {q} x y =
     let other = y.tokens_are in
     let behind : x.block ++ ending x.g x.h x.i x.end_name x.j ≡ y.block ++ ending y.g y.h y.i y.end_name y.j = cc in
     let same = same_statements x.are y.are (ending x.g x.h x.i x.end_name x.j) (ending y.g y.h y.i y.end_name y.j) behind
-      (not_print x.g x.h x.i x.j x.end_name) (not_print y.g y.h y.i y.j y.end_name) in
+    (not_print x.g x.h x.i x.j x.end_name) (not_print y.g y.h y.i y.j y.end_name) in
     let first : id x.name x.b ≡ id y.name y.b = cc in
     let second : id x.object_name x.e ≡ id y.object_name y.e = cc in
     let third : id x.end_name x.j ≡ id y.end_name y.j = cc (same.1) in
@@ -103,17 +120,21 @@ object_by : (ka kb kc kd ke kf kg kh ki kj : TokenKind) (a b c d e f g h i j : S
     AreStatements block ss →
     kg ≡ Reserved End → kh ≡ Reserved Initially → ki ≡ Reserved End → kj ≡ Name (text_of kj) →
     HasTree (mark ka a ∷ mark kb b ∷ mark kc c ∷ mark kd d ∷ mark ke e ∷ mark kf f ∷ (block ++ (mark kg g ∷ mark kh h ∷ mark ki i ∷ mark kj j ∷ [])))
-      (record { constant = Some (record {
+    (record {
+      constant = Some (record {
         name = record { text = text_of kb; at = b };
         value = record { name = record { text = text_of ke; at = e }; initially = ss; end_name = record { text = text_of kj; at = j } };
-      }) })
+      });
+    })
 object_by ka kb kc kd ke kf kg kh ki kj a b c d e f g h i j block ss ea eb ec ed ee ef are eg eh ei ej =
     let before : (word Const a ∷ id (text_of kb) b ∷ mark Arrow c ∷ word Object d ∷ id (text_of ke) e ∷ word Initially f ∷ (block ++ ending g h i (text_of kj) j))
-        ≡ (mark ka a ∷ mark kb b ∷ mark kc c ∷ mark kd d ∷ mark ke e ∷ mark kf f ∷ (block ++ (mark kg g ∷ mark kh h ∷ mark ki i ∷ mark kj j ∷ []))) = cc in
-    subst (λ x. HasTree x (record { constant = Some (record {
+    ≡ (mark ka a ∷ mark kb b ∷ mark kc c ∷ mark kd d ∷ mark ke e ∷ mark kf f ∷ (block ++ (mark kg g ∷ mark kh h ∷ mark ki i ∷ mark kj j ∷ []))) = cc in
+    subst (λ x. HasTree x (record {
+      constant = Some (record {
         name = record { text = text_of kb; at = b };
         value = record { name = record { text = text_of ke; at = e }; initially = ss; end_name = record { text = text_of kj; at = j } };
-      }) })) before (with_constant (constant (object d e f g h i j are)))
+      });
+    })) before (with_constant (constant (object d e f g h i j are)))
 
 ended : (block : List Token) (ss : List Statement) (a b c d e f : Token) (end : List Token) (x : Token) →
     Begins CONSTANT_BEGIN (a ∷ b ∷ c ∷ d ∷ e ∷ f ∷ []) → AreStatements block ss → Begins CONSTANT_END end → length end ≡ 4 → x ≡ get_or end 3 x →
@@ -126,9 +147,9 @@ ended block ss a b c d e f (g ∷ h ∷ i ∷ j ∷ k ∷ more) x p are q l is =
 ended block ss a b c d e f (g ∷ h ∷ i ∷ j ∷ []) x p are q l is =
     let same : j ≡ x = sym is in
     subst (λ y. HasTree (a ∷ b ∷ c ∷ d ∷ e ∷ f ∷ (block ++ (g ∷ h ∷ i ∷ j ∷ []))) (record { constant = Some (record { name = name_of b; value = record { name = name_of e; initially = ss; end_name = name_of y } }) })) same
-      (object_by a.kind b.kind c.kind d.kind e.kind f.kind g.kind h.kind i.kind j.kind a.at b.at c.at d.at e.at f.at g.at h.at i.at j.at block ss
-        (of_word a.kind Const p.0) (of_name b.kind p.1.0) (of_arrow c.kind p.1.1.0) (of_word d.kind Object p.1.1.1.0) (of_name e.kind p.1.1.1.1.0) (of_word f.kind Initially p.1.1.1.1.1.0)
-        are (of_word g.kind End q.0) (of_word h.kind Initially q.1.0) (of_word i.kind End q.1.1.0) (of_name j.kind q.1.1.1.0))
+    (object_by a.kind b.kind c.kind d.kind e.kind f.kind g.kind h.kind i.kind j.kind a.at b.at c.at d.at e.at f.at g.at h.at i.at j.at block ss
+    (of_word a.kind Const p.0) (of_name b.kind p.1.0) (of_arrow c.kind p.1.1.0) (of_word d.kind Object p.1.1.1.0) (of_name e.kind p.1.1.1.1.0) (of_word f.kind Initially p.1.1.1.1.1.0)
+    are (of_word g.kind End q.0) (of_word h.kind Initially q.1.0) (of_word i.kind End q.1.1.0) (of_name j.kind q.1.1.1.0))
 
 -- tokens that begin, go on and end as a constant does have its tree
 pub constant_tree : (tokens : List Token) (ss : List Statement) (n : ℕ) (x y z : Token) →
@@ -147,8 +168,8 @@ constant_tree (a ∷ b ∷ c ∷ d ∷ e ∷ f ∷ rest) ss n x y z p r q l ex e
     let begin : Begins CONSTANT_BEGIN (a ∷ b ∷ c ∷ d ∷ e ∷ f ∷ []) = (p.0, (p.1.0, (p.1.1.0, (p.1.1.1.0, (p.1.1.1.1.0, (p.1.1.1.1.1.0, tt)))))) in
     let made = ended (take n rest) ss a b c d e f (drop n rest) z begin r.are q l ez in
     subst (λ u. HasTree (a ∷ b ∷ c ∷ d ∷ e ∷ f ∷ rest) (record { constant = Some (record { name = name_of u; value = record { name = name_of y; initially = ss; end_name = name_of z } }) })) names
-      (subst (λ u. HasTree (a ∷ b ∷ c ∷ d ∷ e ∷ f ∷ rest) (record { constant = Some (record { name = name_of b; value = record { name = name_of u; initially = ss; end_name = name_of z } }) })) object_names
-        (subst (λ u. HasTree (a ∷ b ∷ c ∷ d ∷ e ∷ f ∷ u) (record { constant = Some (record { name = name_of b; value = record { name = name_of e; initially = ss; end_name = name_of z } }) })) (take-append-drop n rest) made))
+    (subst (λ u. HasTree (a ∷ b ∷ c ∷ d ∷ e ∷ f ∷ rest) (record { constant = Some (record { name = name_of b; value = record { name = name_of u; initially = ss; end_name = name_of z } }) })) object_names
+    (subst (λ u. HasTree (a ∷ b ∷ c ∷ d ∷ e ∷ f ∷ u) (record { constant = Some (record { name = name_of b; value = record { name = name_of e; initially = ss; end_name = name_of z } }) })) (take-append-drop n rest) made))
 
 pub empty_tree : (tokens : List Token) → (length tokens == 0) ≡ true → HasTree tokens (record { constant = None })
 empty_tree [] e = empty
@@ -180,6 +201,6 @@ module _ (tokens block end : List Token) (ss : List Statement) (n : ℕ) (block_
       HasTree tokens (record { constant = Some (record { name = name; value = record { name = object_name; initially = ss; end_name = end_name } }) })
   constant_read x y z name object_name end_name p l q ex ey ez nx ny nz =
       let made = constant_tree tokens ss n x y z p reads
-        (subst (λ u. Begins CONSTANT_END u) end_behind q) (subst (λ u. length u ≡ 4) end_behind l)
-        ex ey (subst (λ u. z ≡ get_or u 3 z) end_behind ez) in
+      (subst (λ u. Begins CONSTANT_END u) end_behind q) (subst (λ u. length u ≡ 4) end_behind l)
+      ex ey (subst (λ u. z ≡ get_or u 3 z) end_behind ez) in
       rw (nx, ny, nz) made

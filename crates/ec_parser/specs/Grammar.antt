@@ -35,8 +35,8 @@ SpellsPutstring text = str_eq_ignore_ascii_case PUTSTRING.now text ≡ true
 -- stmt = "stdout" "." PUTSTRING "[" STRING "]"
 pub data IsStatement : List Token → Statement → Type 0 where
   print : {a b c d e f : Span} {putstring text : List ℕ} →
-    SpellsPutstring putstring →
-    IsStatement
+      SpellsPutstring putstring →
+      IsStatement
       (word Stdout a ∷ mark Dot b ∷ id putstring c ∷ mark OpenBracket d ∷ string text e ∷ mark CloseBracket f ∷ [])
       (Print (record { text = text; at = e }))
 
@@ -44,23 +44,23 @@ pub data IsStatement : List Token → Statement → Type 0 where
 pub data AreStatements : List Token → List Statement → Type 0 where
   none : AreStatements [] []
   more : {first rest : List Token} {statement : Statement} {statements : List Statement} →
-    IsStatement first statement →
-    AreStatements rest statements →
-    AreStatements (first ++ rest) (statement ∷ statements)
+      IsStatement first statement →
+      AreStatements rest statements →
+      AreStatements (first ++ rest) (statement ∷ statements)
 
 -- object = "object" ID "initially" { stmt } "end" "initially" "end" ID
 pub data IsObject : List Token → ObjectConstructor → Type 0 where
   object : (a b c d e f g : Span) {name end_name : List ℕ} {block : List Token} {statements : List Statement} →
-    AreStatements block statements →
-    IsObject
+      AreStatements block statements →
+      IsObject
       (word Object a ∷ id name b ∷ word Initially c ∷ (block ++ (word End d ∷ word Initially e ∷ word End f ∷ id end_name g ∷ [])))
       (record { name = record { text = name; at = b }; initially = statements; end_name = record { text = end_name; at = g } })
 
 -- const = "const" ID "<-" object
 pub data IsConstant : List Token → Constant → Type 0 where
   constant : {a b c : Span} {name : List ℕ} {tokens : List Token} {value : ObjectConstructor} →
-    IsObject tokens value →
-    IsConstant
+      IsObject tokens value →
+      IsConstant
       (word Const a ∷ id name b ∷ mark Arrow c ∷ tokens)
       (record { name = record { text = name; at = b }; value = value })
 
@@ -68,5 +68,5 @@ pub data IsConstant : List Token → Constant → Type 0 where
 pub data HasTree : List Token → Program → Type 0 where
   empty : HasTree [] (record { constant = None })
   with_constant : {tokens : List Token} {value : Constant} →
-    IsConstant tokens value →
-    HasTree tokens (record { constant = Some value })
+      IsConstant tokens value →
+      HasTree tokens (record { constant = Some value })

@@ -13,7 +13,7 @@ use ec_ast::{Constant, Literal, Name, ObjectConstructor, Program, Statement, Tex
 use ec_base::list::Seq;
 use ec_lexer::token::{Reserved, Token, TokenKind};
 use std::alloc::{AllocError, Global};
-use symbol::{begins_with, Symbol};
+use symbol::{Symbol, begins_with};
 
 /// How a constant of an object begins: `const ID <- object ID initially`
 pub const CONSTANT_BEGIN: [Symbol; 6] = [

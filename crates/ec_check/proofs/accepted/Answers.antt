@@ -20,11 +20,11 @@ no_tree read tokens found same h is p tree = (rw is at h) p (subst (λ ts. HasTr
 pub returns-in-None-2-clause-none : goal.returns-in-None-2-clause-none
 returns-in-None-2-clause-none c program h =
     no_tree _ c.in-Some.tokens _ c.as_slice.ensures c.in_ok-parse-in-Some.ensures.none c.in-None-2.is program
-      (tree_of c.args.text.now c.in-Some.tokens program (has_tokens _ _ _ c.in_ok-lex.ensures.found c.in-Some.is) h)
+    (tree_of c.args.text.now c.in-Some.tokens program (has_tokens _ _ _ c.in_ok-lex.ensures.found c.in-Some.is) h)
 
 pub returns-in-Some-first_fault-clause-none : goal.returns-in-Some-first_fault-clause-none
 returns-in-Some-first_fault-clause-none c program h =
     faulty c.args.text.now c.in-Some.tokens c.in-Some-2.program program c.in-Some-first_fault.field-0
-      (has_tokens _ _ _ c.in_ok-lex.ensures.found c.in-Some.is)
-      (has_tree _ _ _ _ c.as_slice.ensures c.in_ok-parse-in-Some.ensures.tree c.in-Some-2.is)
-      (sym c.in-Some-first_fault.is ∙ c.first_fault.ensures) h
+    (has_tokens _ _ _ c.in_ok-lex.ensures.found c.in-Some.is)
+    (has_tree _ _ _ _ c.as_slice.ensures c.in_ok-parse-in-Some.ensures.tree c.in-Some-2.is)
+    (sym c.in-Some-first_fault.is ∙ c.first_fault.ensures) h

@@ -22,5 +22,5 @@ reading-init c = (omega arith, rw c.new-statements.ensures none)
 pub reading-preserved : goal.reading-preserved
 reading-preserved c =
     let p = next c.args.tokens.now _ c.reading.taken c.index-rest-4.result c.reading.invariant.0 (slice_from c.args.tokens.now c.reading.taken)
-      (c.begins_with.ensures.0 c.if-not-begins_with.false) c.index-rest-4.is in
+    (c.begins_with.ensures.0 c.if-not-begins_with.false) c.index-rest-4.is in
     (p.0, rw (c.in_ok-push.ensures.ok, c.in_ok-literal.ensures) (add_next c.args.tokens.now c.reading.taken c.reading.statements _ c.reading.invariant.1 p.1))
