@@ -5,3 +5,6 @@ pub mod Turns
 pub mod Holds
 pub mod Kernel
 pub mod Steps
+pub mod Net
+pub mod Answers
+pub mod Can
