@@ -2,21 +2,22 @@
 use Rattle.std.proofs.Common.{◌≡◌, ℕ, List, [], ◌∷◌, ◌++◌, Option, Some, None, refl, sym, ap, ◌∙◌}
 use Rattle.std.specs.Prelude.{IsSome}
 use Rattle.ec_base.specs.Stack.{top_of, below_of}
+use Rattle.ec_base.proofs.Stacks.{top_of_none}
 use Rattle.ec_world.specs.Meaning.{ActivationMeaning}
 use Rattle.ec_world.specs.World.{changed_at, finish_top}
 use Rattle.ec_world.specs.declared.value.Value.{Value}
 use Rattle.ec_world.specs.declared.process.ProcStatus.{ProcStatus}
 use Rattle.ec_world.specs.declared.process.ProcStatus.TheVariants.{Ready}
 use Rattle.ec_world.specs.declared.stop.Effect.TheVariants.{Calls}
-use Rattle.ec_base.proofs.Stacks.{stack_parts, top_of_none}
 
 module _ {A : Type 0} (M : ActivationMeaning A) where
   pub no_top : (xs : List A) (v : Option Value) → None ≡ top_of xs → below_of xs ≡ finish_top M (below_of xs) (top_of xs) v
   no_top xs v e = rw (top_of_none xs (sym e)) refl
 
-  pub called : (xs : List A) (s : ProcStatus) (op own : ℕ) (args : List Value) → s ≡ Ready → IsSome (top_of xs) → Some (record { activations = xs ++ M.begun op own args ∷ []; status = s }) ≡ changed_at M (below_of xs) (top_of xs) (Calls op own args)
-  called xs s op own args r h = rw r (part (top_of xs) h refl)
+  -- the top is done and a new activation lies on it
+  pub called : (xs : List A) (s : ProcStatus) (op own : ℕ) (args : List Value) → s ≡ Ready → IsSome (top_of xs) → Some (record { activations = finish_top M (below_of xs) (top_of xs) None ++ M.begun op own args ∷ []; status = s }) ≡ changed_at M (below_of xs) (top_of xs) (Calls op own args)
+  called xs s op own args r h = rw r (part (top_of xs) h)
     where
-      part : (t : Option A) → IsSome t → top_of xs ≡ t → Some (record { activations = xs ++ M.begun op own args ∷ []; status = Ready }) ≡ changed_at M (below_of xs) t (Calls op own args)
-      part None k e = cc
-      part (Some t) k e = ap (λ ys. Some (record { activations = ys ++ M.begun op own args ∷ []; status = Ready })) (stack_parts xs t e)
+      part : (t : Option A) → IsSome t → Some (record { activations = finish_top M (below_of xs) t None ++ M.begun op own args ∷ []; status = Ready }) ≡ changed_at M (below_of xs) t (Calls op own args)
+      part None k = cc
+      part (Some t) k = refl

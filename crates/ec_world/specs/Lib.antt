@@ -2,3 +2,10 @@ pub mod Values
 pub mod Meaning
 pub mod Effects
 pub mod World
+pub mod Places
+pub mod Group
+pub mod Moves
+pub mod Run
+pub mod Agree
+pub mod Simulation
+pub mod Search

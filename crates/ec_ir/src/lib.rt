@@ -1,0 +1,6 @@
+//! Three-address code with stops: programs, their activations, and what they mean.
+#![tactic(auto)]
+
+pub mod activation;
+pub mod code;
+pub mod program;

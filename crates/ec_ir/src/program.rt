@@ -1,0 +1,43 @@
+//! Programs of three-address code.
+ghost use Rattle.std.specs.Prelude.{◌≡◌};
+
+use crate::code::Parts;
+use std::marker::Model;
+
+/// A program that keeps the facts of `Fine`: every jump leads forward to a place of its operation, every path behind a
+/// stop reaches a stop, and variables, fields and constants have static types.
+#[derive(Drop)]
+pub struct IrProgram {
+    parts: Parts,
+}
+
+impl Model for IrProgram {
+    ghost use Rattle.ec_ir.specs.declared.code.Parts.{Parts};
+    ghost use Rattle.ec_ir.specs.Fine.{Fine};
+
+    ghost Value = { Parts };
+
+    ghost view = { λ p. p.parts };
+
+    ghost invariant = { λ p. Fine p.parts };
+}
+
+impl IrProgram {
+    ghost use Rattle.ec_ir.specs.Fine.{Fine};
+
+    /// A program of these parts.
+    pub fn new(parts: Parts) -> IrProgram
+        requires { Fine parts }
+        ensures { result ≡ parts }
+    {
+        IrProgram { parts }
+    }
+
+    /// The parts, with what the type keeps of them.
+    pub fn parts(&self) -> &Parts
+        ensures parts { result.now ≡ self.now }
+        ensures fine { Fine self.now }
+    {
+        &self.parts
+    }
+}

@@ -1,0 +1,4 @@
+//! From trees to three-address code.
+#![tactic(auto)]
+
+pub mod lower;

@@ -1,0 +1,13 @@
+pub mod Kept
+pub mod Touch
+pub mod Put
+pub mod Procs
+pub mod World
+pub mod Steps
+pub mod Sums
+pub mod Items
+pub mod OneNode
+pub mod Texts
+pub mod Full
+pub mod Ran
+pub mod Create

@@ -1,0 +1,7 @@
+pub mod Store
+pub mod Things
+pub mod Held
+pub mod Shows
+pub mod Worlds
+pub mod Full
+pub mod Items
