@@ -1,6 +1,6 @@
 //! The network: what its callers may ask of it.
-ghost use Rattle.std.specs.Prelude.{◌≡◌, ℕ, ◌+◌, ◌-◌, ◌<◌, ◌^◌, IfOk, OnOk, IsErrOf, IsTrue, Option, Some, None, slice_get, length};
-ghost use Rattle.ec_network.specs.Net.{Net, empty_net, whole_net};
+ghost use Rattle.std.specs.Prelude.{◌≡◌, ℕ, ◌<◌, ◌^◌, false, IfOk, OnOk, IsTrue};
+ghost use Rattle.ec_network.specs.Net.{empty_net};
 
 use crate::cluster::Cluster;
 use crate::image::Images;
@@ -45,6 +45,7 @@ pub struct Network {
 }
 
 impl Model for Network {
+    ghost use Rattle.std.specs.Prelude.{IsTrue};
     ghost use Rattle.ec_network.specs.Net.{Net, WholeShows};
     ghost use Rattle.rv_codegen.specs.Meaning.{rv_meaning};
 
