@@ -1,4 +1,4 @@
-use Rattle.std.proofs.Common.{◌≡◌, ◌∙◌, arith}
+use Rattle.std.proofs.Common.{◌∙◌, arith}
 use Rattle.std.proofs.lemmas.Grind.{common_steps}
 use Rattle.ec_outside.proofs.Fronts.{taken_more}
 use Rattle.ec_outside.proofs.whole.write_whole.Goals as goal
