@@ -1,5 +1,5 @@
 -- Which names share a count.
-use Rattle.std.proofs.Common.{◌≡◌, ◌≢◌, ℕ, List, inl, inr}
+use Rattle.std.proofs.Common.{◌≢◌, ℕ, List, inl, inr}
 use Rattle.std.specs.Prelude.{Contains}
 use Rattle.ec_outside.specs.Fault.{ShareCount}
 
