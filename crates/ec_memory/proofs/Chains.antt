@@ -105,7 +105,7 @@ after-set_other links b x first (suc n) apart =
     let next : slice_index (set links b x) first ≡ slice_index links first = get_or-set_other links b first x 0 ne in
     ap (λ f. after (set links b x) f n) next ∙ after-set_other links b x (slice_index links first) n apart.1
 
-chain-one : (links : List ℕ) (first : ℕ) → chain links first 1 ≡ first ∷ []
+pub chain-one : (links : List ℕ) (first : ℕ) → chain links first 1 ≡ first ∷ []
 unfolding chain
 chain-one links first = refl
 
