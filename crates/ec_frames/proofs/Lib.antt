@@ -1,2 +1,4 @@
+pub mod Closing
+pub mod Placing
 pub mod Rows
 pub mod Writing

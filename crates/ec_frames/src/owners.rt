@@ -86,7 +86,8 @@ impl NodeStore {
             class,
             fixed,
             monitor: None,
-        })
+        })?;
+        Ok(())
     }
 
     /// An owner of one block goes, and its block is free. Takes no memory.
