@@ -1,3 +1,4 @@
+pub mod Naming
 pub mod Closing
 pub mod Placing
 pub mod Rows
