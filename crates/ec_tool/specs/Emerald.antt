@@ -1,5 +1,5 @@
 -- What a call of the program comes to.
-use Rattle.std.specs.Prelude.{◌≡◌, ◌≢◌, ℕ, zero, suc, ◌+◌, ◌<◌, ◌≤◌, ◌⊎◌, Bool, true, false, List, [], ◌∷◌, ◌++◌, map, length, take, Option, Some, None, slice_get, codes}
+use Rattle.std.specs.Prelude.{◌≡◌, ◌≢◌, ℕ, zero, suc, ◌+◌, ◌<◌, ◌≤◌, ◌⊎◌, ◌||◌, Bool, true, false, List, [], ◌∷◌, ◌++◌, map, length, take, Option, Some, None, slice_get, codes}
 use Rattle.ec_ast.specs.declared.Program.{Program}
 use Rattle.ec_world.specs.declared.node.NodeSpec.{NodeSpec}
 use Rattle.ec_world.specs.declared.run.Entry.{Entry}
@@ -8,7 +8,7 @@ use Rattle.ec_world.specs.declared.run.RunEntry.TheVariants.{TurnOf, MoveOf}
 use Rattle.ec_world.specs.declared.run.RunEnd.{RunEnd}
 use Rattle.ec_world.specs.declared.run.RunEnd.TheVariants.{Finished, Stuck, Spent}
 use Rattle.ec_world.specs.declared.process.ProcStatus.{ProcStatus}
-use Rattle.ec_world.specs.declared.process.ProcStatus.TheVariants.{Failed}
+use Rattle.ec_world.specs.declared.process.ProcStatus.TheVariants.{Ready, Entry as AtEntry, Cond, Urgent, Ended, Failed}
 use Rattle.ec_world.specs.declared.world.World.{World}
 use Rattle.ec_world.specs.Group.{Has}
 use Rattle.ec_world.specs.Moves.{OperatorMove}
@@ -30,7 +30,9 @@ use Rattle.ec_network.specs.Net.{Net, Ran, counts_of}
 use Rattle.rv_codegen.specs.Meaning.{rv_meaning}
 use Rattle.ec_tool.specs.declared.status.Status.{Status}
 use Rattle.ec_tool.specs.declared.status.Status.TheVariants as statuses
-use Rattle.ec_tool.specs.Report.{report, load_report, ReportEnd, Ends, IsFull}
+use Rattle.ec_tool.specs.declared.report.ReportEnd.{ReportEnd}
+use Rattle.ec_tool.specs.declared.report.ReportEnd.TheVariants.{Ends, IsFull}
+use Rattle.ec_tool.specs.Report.{report, load_report}
 use Rattle.ec_tool.specs.Inputs.{RunWords, WordsOf, IsSource, NodesOf, EntriesOf, default_budget, usage_line, later_line}
 
 -- ---- the run of a source, and that of its code
@@ -83,10 +85,17 @@ pub data EndsAfter (program : Program) (ir : Parts) (specs : List NodeSpec) (sch
 
 -- ---- the status of an end
 
+abbrev pub has_failed : ProcStatus → Bool
+has_failed Ready = false
+has_failed (AtEntry o) = false
+has_failed (Cond o) = false
+has_failed (Urgent o) = false
+has_failed Ended = false
+has_failed (Failed cause line) = true
+
 abbrev pub any_failed : List ProcStatus → Bool
 any_failed [] = false
-any_failed (Failed cause line ∷ ss) = true
-any_failed (s ∷ ss) = any_failed ss
+any_failed (s ∷ ss) = has_failed s || any_failed ss
 
 abbrev pub finished_status : Bool → Status
 finished_status true = statuses.SomeFailed

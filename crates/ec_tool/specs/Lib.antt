@@ -1,3 +1,4 @@
 pub mod Report
 pub mod Inputs
+pub mod Running
 pub mod Emerald

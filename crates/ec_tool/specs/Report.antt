@@ -1,6 +1,6 @@
 -- The bytes of a report: a world, the places of its objects, the nodes with the instructions that each ran, the entries
 -- done, and the end. Every line ends with a line feed.
-use Rattle.std.specs.Prelude.{ℕ, zero, suc, ◌+◌, Bool, true, false, if◌then◌else◌, List, [], ◌∷◌, ◌++◌, drop, Option, Some, None, slice_get, codes}
+use Rattle.std.specs.Prelude.{◌≡◌, ℕ, zero, suc, ◌+◌, Bool, true, false, if◌then◌else◌, List, [], ◌∷◌, ◌++◌, drop, Option, Some, None, slice_get, codes}
 use Rattle.std.specs.Fmt.{decimal}
 use Rattle.ec_world.specs.declared.node.Kind.{Kind}
 use Rattle.ec_world.specs.declared.node.Kind.TheVariants.{Riscv, Mips}
@@ -12,11 +12,14 @@ use Rattle.ec_world.specs.declared.process.ProcStatus.TheVariants.{Ready, Entry,
 use Rattle.ec_world.specs.declared.run.RunEnd.{RunEnd}
 use Rattle.ec_world.specs.declared.run.RunEnd.TheVariants.{Finished, Stuck, Spent}
 use Rattle.ec_world.specs.declared.world.World.{World}
+use Rattle.ec_world.specs.Effects.{object_at}
 use Rattle.ec_world.specs.Places.{places, place_in}
 use Rattle.ec_world.specs.Run.{statuses_of}
 use Rattle.ec_nodes.specs.declared.room.Part.{Part}
 use Rattle.ec_nodes.specs.declared.room.Part.TheVariants.{Blocks, Text}
 use Rattle.ec_network.specs.Net.{name_of}
+use Rattle.ec_tool.specs.declared.report.ReportEnd.{ReportEnd}
+use Rattle.ec_tool.specs.declared.report.ReportEnd.TheVariants.{Ends, IsFull}
 
 abbrev pub line_feed : List ℕ
 line_feed = 10 ∷ []
@@ -63,6 +66,23 @@ object_lines classes specs at oid [] = []
 object_lines classes specs at oid (o ∷ os) =
     object_line oid (name_of classes o.class) (node_at specs (place_in at oid)) o.fixed ++ object_lines classes specs at (suc oid) os
 
+-- the lines of all objects but those of the nodes, which come first
+abbrev pub lines_of_objects : {A : Type 0} → World A → List NodeSpec → List ℕ
+lines_of_objects w specs = object_lines w.common.classes specs (places w.common.nodes w.common.events) (suc w.common.nodes) (drop w.common.nodes w.common.objects)
+
+-- a text grows by the line of the object of this number where it is there, and stays where it isn't
+abbrev pub PushesObject : {A : Type 0} → World A → List NodeSpec → ℕ → List ℕ → List ℕ → Bool → Type 0
+PushesObject w specs oid old new true =
+    (o : ObjectRec) × (object_at w.common.objects oid ≡ Some o) ×
+    (new ≡ old ++ object_line oid (name_of w.common.classes o.class) (node_at specs (place_in (places w.common.nodes w.common.events) oid)) o.fixed)
+PushesObject w specs oid old new false = (object_at w.common.objects oid ≡ None) × (new ≡ old)
+
+-- with the lines of the objects from number oid on, a text that was written so far is the whole one
+pub record RestOfObjects {A : Type 0} (w : World A) (specs : List NodeSpec) (oid : ℕ) (written whole : List ℕ) : Type 0 where
+  pub before : ℕ
+  pub oid_is : oid ≡ suc before
+  pub rest : written ++ object_lines w.common.classes specs (places w.common.nodes w.common.events) oid (drop before w.common.objects) ≡ whole
+
 -- ---- nodes: `node west mips instructions 412`
 
 abbrev pub kind_text : Kind → List ℕ
@@ -78,11 +98,6 @@ node_lines counts k [] = []
 node_lines counts k (s ∷ ss) = node_line s (counts k) ++ node_lines counts (suc k) ss
 
 -- ---- the end
-
--- how a run came to its end: by itself, or as a node had no room
-pub data ReportEnd : Type 0 where
-  Ends : RunEnd → ReportEnd
-  IsFull : (node : ℕ) (part : Part) (need free : ℕ) → ReportEnd
 
 abbrev pub part_text : Part → List ℕ
 part_text Blocks = codes "blocks"
@@ -105,7 +120,7 @@ report w specs counts turns how =
     w.common.output ++ line_feed
     ++ turns_line turns
     ++ process_lines 0 (statuses_of w)
-    ++ object_lines w.common.classes specs (places w.common.nodes w.common.events) (suc w.common.nodes) (drop w.common.nodes w.common.objects)
+    ++ lines_of_objects w specs
     ++ node_lines counts 0 specs
     ++ end_line specs how
 

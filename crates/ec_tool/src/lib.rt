@@ -1,4 +1,6 @@
 //! The whole program, from files to report.
 #![tactic(auto)]
 
+mod processes;
+pub mod report;
 pub mod status;
