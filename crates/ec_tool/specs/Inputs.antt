@@ -5,6 +5,7 @@ use Rattle.ec_world.specs.declared.node.Kind.TheVariants.{Riscv}
 use Rattle.ec_world.specs.declared.node.NodeSpec.{NodeSpec}
 use Rattle.ec_world.specs.declared.run.Entry.{Entry}
 use Rattle.ec_ast.specs.declared.Program.{Program}
+use Rattle.ec_tool.specs.declared.inputs.FileNames.{FileNames}
 use Rattle.ec_check.specs.Programs.{IsProgram}
 
 -- ---- words
@@ -19,15 +20,24 @@ abbrev pub begins_with_dash : List ℕ → Bool
 begins_with_dash [] = false
 begins_with_dash (c ∷ cs) = bytes_eq (c ∷ []) (45 ∷ [])
 
+-- the second word is `run`, and none of the last three begins with `-`
+abbrev pub is_command : (command source nodes schedule : List ℕ) → Bool
+is_command command source nodes schedule =
+    bytes_eq command (codes "run") && (not (begins_with_dash source) && (not (begins_with_dash nodes) && not (begins_with_dash schedule)))
+
 abbrev pub run_if : Bool → RunWords → Option RunWords
 run_if true words = Some words
 run_if false words = None
 
--- The command, or none: the words are five, the second is `run`, and none of the last three begins with `-`.
+-- The command, or none: the words are five and the command's.
 abbrev pub WordsOf : List (List ℕ) → Option RunWords
 WordsOf (program ∷ command ∷ source ∷ nodes ∷ schedule ∷ []) =
-    run_if (bytes_eq command (codes "run") && (not (begins_with_dash source) && (not (begins_with_dash nodes) && not (begins_with_dash schedule)))) (record { source = source; nodes = nodes; schedule = schedule })
+    run_if (is_command command source nodes schedule) (record { source = source; nodes = nodes; schedule = schedule })
 WordsOf _ = None
+
+-- the names as the program keeps them
+abbrev pub names_in : FileNames → RunWords
+names_in names = record { source = names.source.now; nodes = names.nodes.now; schedule = names.schedule.now }
 
 abbrev pub usage_line : List ℕ
 usage_line = codes "usage: emerald run SOURCE NODES SCHEDULE [--budget N] | check SOURCE | mean SOURCE NODES SCHEDULE [--budget N] | trial N" ++ 10 ∷ []
