@@ -1,1 +1,4 @@
 pub mod Shown
+pub mod Short
+pub mod Lifting
+pub mod Verdicts

@@ -30,6 +30,8 @@ use Rattle.ec_network.specs.Net.{Net, Ran, counts_of}
 use Rattle.rv_codegen.specs.Meaning.{rv_meaning}
 use Rattle.ec_tool.specs.declared.status.Status.{Status}
 use Rattle.ec_tool.specs.declared.status.Status.TheVariants as statuses
+use Rattle.ec_tool.specs.declared.inputs.FileOf.{FileOf}
+use Rattle.ec_tool.specs.declared.inputs.FileOf.TheVariants.{Source, Nodes, Schedule}
 use Rattle.ec_tool.specs.declared.report.ReportEnd.{ReportEnd}
 use Rattle.ec_tool.specs.declared.report.ReportEnd.TheVariants.{Ends, IsFull}
 use Rattle.ec_tool.specs.Report.{report, load_report}
@@ -121,20 +123,15 @@ pub data RunsTo (program : Program) (specs : List NodeSpec) (schedule : List Ent
 -- ---- the call
 
 -- the three files of a run, by the words that name them
-pub data FileOf : Type 0 where
-  SourceFile : FileOf
-  NodesFile : FileOf
-  ScheduleFile : FileOf
-
 abbrev pub name_of_file : RunWords → FileOf → List ℕ
-name_of_file words SourceFile = words.source
-name_of_file words NodesFile = words.nodes
-name_of_file words ScheduleFile = words.schedule
+name_of_file words Source = words.source
+name_of_file words Nodes = words.nodes
+name_of_file words Schedule = words.schedule
 
 abbrev pub fault_line : FileOf → List ℕ
-fault_line SourceFile = codes "read fault source" ++ 10 ∷ []
-fault_line NodesFile = codes "read fault nodes" ++ 10 ∷ []
-fault_line ScheduleFile = codes "read fault schedule" ++ 10 ∷ []
+fault_line Source = codes "read fault source" ++ 10 ∷ []
+fault_line Nodes = codes "read fault nodes" ++ 10 ∷ []
+fault_line Schedule = codes "read fault schedule" ++ 10 ∷ []
 
 -- files are read up to this many bytes
 abbrev pub file_limit : ℕ

@@ -2,3 +2,4 @@ pub mod Report
 pub mod Inputs
 pub mod Running
 pub mod Emerald
+pub mod Steps

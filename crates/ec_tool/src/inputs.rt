@@ -16,6 +16,14 @@ pub struct FileNames<'a> {
     pub schedule: &'a str,
 }
 
+/// The three files of a run.
+#[derive(Clone, Copy, PartialEq, Eq, Debug)]
+pub enum FileOf {
+    Source,
+    Nodes,
+    Schedule,
+}
+
 /// The command that the words of the command line give, the program's own name first.
 pub fn words_of<'a>(words: &[&'a str]) -> Option<FileNames<'a>>
     ensures some { IfSome result (λ names. WordsOf (map (λ word. word.now) words.now) ≡ Some (names_in names)) }
