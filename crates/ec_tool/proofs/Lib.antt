@@ -2,3 +2,4 @@ pub mod Shown
 pub mod Short
 pub mod Lifting
 pub mod Verdicts
+pub mod Promised

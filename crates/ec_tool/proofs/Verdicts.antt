@@ -21,8 +21,9 @@ use Rattle.ec_tool.specs.Emerald.{RunsTo, AreRead, Verdict, Answers, name_of_fil
 use Rattle.ec_tool.specs.Emerald.RunsTo.{LoadIsFull, RanUntil}
 use Rattle.ec_tool.specs.Emerald.Verdict.{NoCommand, ReadFailed, SourceRefused, InputRefused, IsRun}
 use Rattle.ec_tool.specs.Emerald.Answers.{Written, Broken}
-use Rattle.ec_tool.specs.Steps.{IsRunStatus, Judged, IsByFiles, Plain, Comes}
-use Rattle.ec_tool.specs.Steps.IsRunStatus.{Finishes, Fails, Spends, Fills, Sticks}
+use Rattle.ec_tool.specs.Promises.{IsRunStatus}
+use Rattle.ec_tool.specs.Steps.{Judged, IsByFiles, Plain}
+use Rattle.ec_tool.specs.Promises.IsRunStatus.{Finishes, Fails, Spends, Fills, Sticks}
 use Rattle.ec_tool.specs.Steps.Judged.{NoSource, NoInput, Runs}
 use Rattle.ec_tool.specs.Steps.IsByFiles.{RefusesSource, RefusesInput, EndsRun}
 use Rattle.ec_tool.specs.Steps.Plain.{ByWords, ByFault, ByFiles}

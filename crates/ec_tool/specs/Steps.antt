@@ -11,20 +11,13 @@ use Rattle.ec_tool.specs.declared.inputs.FileOf.{FileOf}
 use Rattle.ec_tool.specs.declared.emerald.Unread.{Unread}
 use Rattle.ec_tool.specs.declared.emerald.Unread.TheVariants.{Failed, Memory}
 use Rattle.ec_tool.specs.Inputs.{RunWords, WordsOf, IsSource, NodesOf, EntriesOf, default_budget, usage_line, later_line}
+use Rattle.ec_tool.specs.Promises.{IsRunStatus}
 use Rattle.ec_tool.specs.Emerald.{RunsTo, AreRead, Verdict, Answers, name_of_file, fault_line}
 
 -- what is said where a read met a fault
 abbrev pub WhenFailed : Unread → (FileOf → Type 0) → Type 0
 WhenFailed (Failed file) P = P file
 WhenFailed Memory P = Unit {0}
-
--- the end of a run, by itself or as a node is full
-pub data IsRunStatus : Status → Type 0 where
-  Finishes : IsRunStatus statuses.Finished
-  Fails : IsRunStatus statuses.SomeFailed
-  Spends : IsRunStatus statuses.Spent
-  Fills : IsRunStatus statuses.Full
-  Sticks : IsRunStatus statuses.Stuck
 
 -- the status and the text of files that were read whole
 pub data Judged (source nodes schedule : List ℕ) (net net' : Net) : Status → List ℕ → Type 0 where
@@ -52,3 +45,9 @@ pub record Comes (FilesTold TakenTold : Type 0) (words : List (List ℕ)) (conte
   pub plain : Plain words faults faults' status text
   pub answers : TakenTold → Answers taken taken' count count' status text result
   pub is : (result ≡ status) ⊎ ((result ≡ statuses.WriteFault) × HasRisen count count')
+
+-- what a call comes to: nothing is written where there was no memory
+abbrev pub Came : (FilesTold TakenTold : Type 0) (words : List (List ℕ)) (content : List ℕ → Option (List ℕ)) (faults faults' : List ℕ → ℕ) (net net' : Net) (taken taken' : List ℕ) (count count' : ℕ) (result : Status) → Type 0
+Came FilesTold TakenTold words content faults faults' net net' taken taken' count count' result =
+    ((result ≡ statuses.NoMemory) × (taken' ≡ taken) × (count' ≡ count)) ⊎
+    Comes FilesTold TakenTold words content faults faults' net net' taken taken' count count' result

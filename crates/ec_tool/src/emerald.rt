@@ -1,12 +1,15 @@
 //! The call of the program: the files are read, the source is checked and run, and the text is written at the end.
-ghost use Rattle.std.specs.Prelude.{◌≡◌, ◌⊎◌, ℕ, ◌≤◌, ◌<◌, ◌^◌, List, Option, Some, None, map, length, IfOk, IfErr, IfSome, IfNone, OnOk};
+ghost use Rattle.std.specs.Prelude.{◌≡◌, ◌⊎◌, ℕ, ◌≤◌, ◌<◌, ◌^◌, List, ◌++◌, Option, Some, None, map, length, IfOk, IfErr, IfSome, IfNone, OnOk};
 ghost use Rattle.ec_ast.specs.declared.Program.{Program as AProgram};
 ghost use Rattle.ec_outside.specs.Fault.{HasRisen};
 ghost use Rattle.ec_outside.specs.Whole.{IsWhole};
 ghost use Rattle.ec_network.specs.Net.{empty_net};
 ghost use Rattle.ec_tool.specs.Inputs.{WordsOf, IsSource, names_in};
+ghost use Rattle.ec_tool.specs.declared.status.Status.{Status as AStatus};
 ghost use Rattle.ec_tool.specs.Emerald.{AreRead, Verdict, Answers, file_limit, fault_line, name_of_file};
-ghost use Rattle.ec_tool.specs.Steps.{WhenFailed, Judged, Plain, Comes};
+ghost use Rattle.ec_tool.specs.Inputs.{usage_line, later_line};
+ghost use Rattle.ec_tool.specs.Promises.{IsRunStatus, HasReadFault, IsNoSource, IsNoInput, IsAccepted, HasRun, NoneRisen};
+ghost use Rattle.ec_tool.specs.Steps.{WhenFailed, Judged, Plain, Came};
 
 use crate::answer::{Answer, answer_with};
 use crate::inputs::{FileNames, FileOf, read_nodes, read_schedule, words_of};
@@ -165,4 +168,81 @@ fn write_answer<K: Sink>(sink: &mut K, answer: &Answer) -> Status
         Ok(()) => answer.status,
         Err(_) => Status::WriteFault,
     }
+}
+
+/// The whole call.
+fn call<F: Shelf, K: Sink>(
+    alloc: Global,
+    words: &[&str],
+    shelf: &mut F,
+    sink: &mut K,
+    net: &mut Network,
+) -> Status
+    requires { net.old ≡ empty_net }
+    ensures { Came (F.tells shelf.old) (K.tells sink.old) (map (λ word. word.now) words.now) (F.content shelf.old) (F.faults shelf.old) (F.faults shelf.new) net.old net.new (K.taken sink.old) (K.taken sink.new) (K.faults sink.old) (K.faults sink.new) result }
+{
+    match answer(alloc, words, shelf, net) {
+        Ok(answer) => write_answer(sink, &answer),
+        Err(_) => Status::NoMemory,
+    }
+}
+
+/// The program: reads the files that the words name, runs the source that it finds there on the nodes, and writes one
+/// text at the end. `net` is an empty network; what the run leaves of it stays there. Nothing is written where there
+/// was no memory.
+pub fn emerald<'a, F: Shelf, K: Sink>(
+    alloc: Global,
+    words: &'a [&'a str],
+    shelf: &mut F,
+    sink: &mut K,
+    net: &mut Network,
+) -> Status
+    requires { net.old ≡ empty_net }
+
+    // The status and the text, by cases.
+    ensures answer { F.tells shelf.old → K.tells sink.old →
+        (result ≡ Status.NoMemory) ⊎ ((status : AStatus) × (text : List ℕ) ×
+        Verdict (map (λ word. word.now) words.now) (F.content shelf.old) (F.faults shelf.old) (F.faults shelf.new) net.old net.new status text ×
+        Answers (K.taken sink.old) (K.taken sink.new) (K.faults sink.old) (K.faults sink.new) status text result) }
+
+    // Each status by itself: its cause, and the text that is written.
+    ensures usage { result ≡ Status.Usage → (WordsOf (map (λ word. word.now) words.now) ≡ None) ×
+        (K.tells sink.old → K.taken sink.new ≡ K.taken sink.old ++ usage_line) }
+    ensures no_command { WordsOf (map (λ word. word.now) words.now) ≡ None →
+        (result ≡ Status.Usage) ⊎ ((result ≡ Status.WriteFault) ⊎ (result ≡ Status.NoMemory)) }
+    ensures read_fault { result ≡ Status.ReadFault →
+        (text : List ℕ) × HasReadFault (map (λ word. word.now) words.now) (F.faults shelf.old) (F.faults shelf.new) text ×
+        (K.tells sink.old → K.taken sink.new ≡ K.taken sink.old ++ text) }
+    ensures source_refused { F.tells shelf.old → result ≡ Status.SourceRefused →
+        IsNoSource (map (λ word. word.now) words.now) (F.content shelf.old) × (net.new ≡ net.old) ×
+        (K.tells sink.old → K.taken sink.new ≡ K.taken sink.old ++ later_line) }
+    ensures input_refused { F.tells shelf.old → result ≡ Status.InputRefused →
+        IsNoInput (map (λ word. word.now) words.now) (F.content shelf.old) × (net.new ≡ net.old) ×
+        (K.tells sink.old → K.taken sink.new ≡ K.taken sink.old ++ later_line) }
+    ensures finished { F.tells shelf.old → result ≡ Status.Finished →
+        (text : List ℕ) × HasRun (map (λ word. word.now) words.now) (F.content shelf.old) net.old net.new Status.Finished text ×
+        (K.tells sink.old → K.taken sink.new ≡ K.taken sink.old ++ text) }
+    ensures some_failed { F.tells shelf.old → result ≡ Status.SomeFailed →
+        (text : List ℕ) × HasRun (map (λ word. word.now) words.now) (F.content shelf.old) net.old net.new Status.SomeFailed text ×
+        (K.tells sink.old → K.taken sink.new ≡ K.taken sink.old ++ text) }
+    ensures spent { F.tells shelf.old → result ≡ Status.Spent →
+        (text : List ℕ) × HasRun (map (λ word. word.now) words.now) (F.content shelf.old) net.old net.new Status.Spent text ×
+        (K.tells sink.old → K.taken sink.new ≡ K.taken sink.old ++ text) }
+    ensures full { F.tells shelf.old → result ≡ Status.Full →
+        (text : List ℕ) × HasRun (map (λ word. word.now) words.now) (F.content shelf.old) net.old net.new Status.Full text ×
+        (K.tells sink.old → K.taken sink.new ≡ K.taken sink.old ++ text) }
+    ensures stuck { F.tells shelf.old → result ≡ Status.Stuck →
+        (text : List ℕ) × HasRun (map (λ word. word.now) words.now) (F.content shelf.old) net.old net.new Status.Stuck text ×
+        (K.tells sink.old → K.taken sink.new ≡ K.taken sink.old ++ text) }
+    ensures write_fault { result ≡ Status.WriteFault → HasRisen (K.faults sink.old) (K.faults sink.new) }
+    ensures no_memory { result ≡ Status.NoMemory →
+        (K.taken sink.new ≡ K.taken sink.old) × (K.faults sink.new ≡ K.faults sink.old) }
+
+    // An accepted command is run, where no file and no sink meets a fault and there is memory.
+    ensures complete { F.tells shelf.old → (accepted : IsAccepted (map (λ word. word.now) words.now) (F.content shelf.old)) →
+        NoneRisen accepted.run (F.faults shelf.old) (F.faults shelf.new) →
+        ¬ HasRisen (K.faults sink.old) (K.faults sink.new) →
+        IsRunStatus result ⊎ (result ≡ Status.NoMemory) }
+{
+    call(alloc, words, shelf, sink, net)
 }

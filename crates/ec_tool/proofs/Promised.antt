@@ -1,0 +1,225 @@
+-- What the call promises of each status, from what its steps come to.
+use Rattle.std.proofs.Common.{◌≡◌, ◌⊎◌, inl, inr, ⊎_elim, ℕ, List, [], ◌∷◌, ◌++◌, take, Option, Some, None, refl, sym, ap, subst, ◌∙◌}
+use Rattle.ec_ast.specs.declared.Program.{Program}
+use Rattle.ec_world.specs.declared.node.NodeSpec.{NodeSpec}
+use Rattle.ec_world.specs.declared.run.Entry.{Entry}
+use Rattle.ec_outside.specs.Fault.{HasRisen}
+use Rattle.ec_outside.specs.Whole.{IsWhole}
+use Rattle.ec_network.specs.Net.{Net}
+use Rattle.ec_tool.specs.declared.status.Status.{Status}
+use Rattle.ec_tool.specs.declared.status.Status.TheVariants as statuses
+use Rattle.ec_tool.specs.declared.inputs.FileOf.{FileOf}
+use Rattle.ec_tool.specs.Inputs.{RunWords, WordsOf, IsSource, NodesOf, EntriesOf, default_budget, usage_line, later_line}
+use Rattle.ec_tool.specs.Emerald.{RunsTo, AreRead, Verdict, Answers, name_of_file, fault_line, file_limit}
+use Rattle.ec_tool.specs.Emerald.Verdict.{NoCommand, ReadFailed, SourceRefused, InputRefused, IsRun}
+use Rattle.ec_tool.specs.Emerald.Answers.{Written, Broken}
+use Rattle.ec_tool.specs.Promises.{IsRunStatus, HasReadFault, IsNoSource, IsNoInput, IsAccepted, HasRun, NoneRisen}
+use Rattle.ec_tool.specs.Promises.IsRunStatus.{Finishes, Fails, Spends, Fills, Sticks}
+use Rattle.ec_tool.specs.Steps.{IsByFiles, Plain, Comes, Came}
+use Rattle.ec_tool.specs.Steps.IsByFiles.{RefusesSource, RefusesInput, EndsRun}
+use Rattle.ec_tool.specs.Steps.Plain.{ByWords, ByFault, ByFiles}
+use Rattle.ec_tool.proofs.Verdicts.{run_status}
+
+-- ---- statuses apart
+
+-- a status that neither a fault of the sink nor want of memory gives
+pub record IsVerdict (s : Status) : Type 0 where
+  pub not_fault : s ≡ statuses.WriteFault → ⊥
+  pub not_memory : s ≡ statuses.NoMemory → ⊥
+
+run_is_verdict : {s : Status} → IsRunStatus s → IsVerdict s
+run_is_verdict Finishes = record { not_fault = λ e. cc; not_memory = λ e. cc }
+run_is_verdict Fails = record { not_fault = λ e. cc; not_memory = λ e. cc }
+run_is_verdict Spends = record { not_fault = λ e. cc; not_memory = λ e. cc }
+run_is_verdict Fills = record { not_fault = λ e. cc; not_memory = λ e. cc }
+run_is_verdict Sticks = record { not_fault = λ e. cc; not_memory = λ e. cc }
+
+files_verdict : {s : Status} → IsByFiles s → IsVerdict s
+files_verdict RefusesSource = record { not_fault = λ e. cc; not_memory = λ e. cc }
+files_verdict RefusesInput = record { not_fault = λ e. cc; not_memory = λ e. cc }
+files_verdict (EndsRun s r) = run_is_verdict r
+
+run_is_not : {s : Status} → IsRunStatus s → (s ≡ statuses.Usage → ⊥) × (s ≡ statuses.ReadFault → ⊥) × (s ≡ statuses.SourceRefused → ⊥) × (s ≡ statuses.InputRefused → ⊥)
+run_is_not Finishes = ((λ e. cc), (λ e. cc), (λ e. cc), (λ e. cc))
+run_is_not Fails = ((λ e. cc), (λ e. cc), (λ e. cc), (λ e. cc))
+run_is_not Spends = ((λ e. cc), (λ e. cc), (λ e. cc), (λ e. cc))
+run_is_not Fills = ((λ e. cc), (λ e. cc), (λ e. cc), (λ e. cc))
+run_is_not Sticks = ((λ e. cc), (λ e. cc), (λ e. cc), (λ e. cc))
+
+files_is_not : {s : Status} → IsByFiles s → (s ≡ statuses.Usage → ⊥) × (s ≡ statuses.ReadFault → ⊥)
+files_is_not RefusesSource = ((λ e. cc), (λ e. cc))
+files_is_not RefusesInput = ((λ e. cc), (λ e. cc))
+files_is_not (EndsRun s r) = let n = run_is_not r in (n.0, n.1)
+
+-- ---- what a status says, whether or not the shelf tells its files
+
+module _ (words : List (List ℕ)) (faults faults' : List ℕ → ℕ) where
+  plain_verdict : {s : Status} {t : List ℕ} → Plain words faults faults' s t → IsVerdict s
+  plain_verdict (ByWords w) = record { not_fault = λ e. cc; not_memory = λ e. cc }
+  plain_verdict (ByFault run file w h) = record { not_fault = λ e. cc; not_memory = λ e. cc }
+  plain_verdict (ByFiles run s t w f) = files_verdict f
+
+  plain_usage : {s : Status} {t : List ℕ} → Plain words faults faults' s t → s ≡ statuses.Usage → (WordsOf words ≡ None) × (t ≡ usage_line)
+  plain_usage (ByWords w) e = (w, refl)
+  plain_usage (ByFault run file w h) e = cc
+  plain_usage (ByFiles run s t w f) e = absurd ((files_is_not f).0 e)
+
+  plain_fault : {s : Status} {t : List ℕ} → Plain words faults faults' s t → s ≡ statuses.ReadFault → HasReadFault words faults faults' t
+  plain_fault (ByWords w) e = cc
+  plain_fault (ByFault run file w h) e = record { run = run; file = file; words_are = w; risen = h; line = refl }
+  plain_fault (ByFiles run s t w f) e = absurd ((files_is_not f).1 e)
+
+  plain_none : {s : Status} {t : List ℕ} → Plain words faults faults' s t → WordsOf words ≡ None → s ≡ statuses.Usage
+  plain_none (ByWords w) e = refl
+  plain_none (ByFault run file w h) e = cc
+  plain_none (ByFiles run s t w f) e = cc
+
+-- ---- what a status says where the shelf tells its files
+
+module _ (words : List (List ℕ)) (content : List ℕ → Option (List ℕ)) (faults faults' : List ℕ → ℕ) (net net' : Net) where
+  verdict_source : {s : Status} {t : List ℕ} → Verdict words content faults faults' net net' s t → s ≡ statuses.SourceRefused → IsNoSource words content × (net' ≡ net) × (t ≡ later_line)
+  verdict_source (NoCommand w n) e = cc
+  verdict_source (ReadFailed run file w h n) e = cc
+  verdict_source (SourceRefused run source nodes schedule w r h n) e = (record { run = run; source = source; nodes = nodes; schedule = schedule; words_are = w; are_read = r; none = h }, n, refl)
+  verdict_source (InputRefused run source nodes schedule program w r i h n) e = cc
+  verdict_source (IsRun run source nodes schedule program specs entries s t w r i m k runs) e = absurd ((run_is_not (run_status runs)).2 e)
+
+  verdict_input : {s : Status} {t : List ℕ} → Verdict words content faults faults' net net' s t → s ≡ statuses.InputRefused → IsNoInput words content × (net' ≡ net) × (t ≡ later_line)
+  verdict_input (NoCommand w n) e = cc
+  verdict_input (ReadFailed run file w h n) e = cc
+  verdict_input (SourceRefused run source nodes schedule w r h n) e = cc
+  verdict_input (InputRefused run source nodes schedule program w r i h n) e = (record { run = run; source = source; nodes = nodes; schedule = schedule; program = program; words_are = w; are_read = r; is_source = i; none = h }, n, refl)
+  verdict_input (IsRun run source nodes schedule program specs entries s t w r i m k runs) e = absurd ((run_is_not (run_status runs)).3 e)
+
+  verdict_run : {s : Status} {t : List ℕ} → Verdict words content faults faults' net net' s t → IsRunStatus s → HasRun words content net net' s t
+  verdict_run (NoCommand w n) e = elim e [ ]
+  verdict_run (ReadFailed run file w h n) e = elim e [ ]
+  verdict_run (SourceRefused run source nodes schedule w r h n) e = elim e [ ]
+  verdict_run (InputRefused run source nodes schedule program w r i h n) e = elim e [ ]
+  verdict_run (IsRun run source nodes schedule program specs entries s t w r i m k runs) e =
+      record { accepted = record { run = run; source = source; nodes = nodes; schedule = schedule; program = program; specs = specs; entries = entries; words_are = w; are_read = r; is_source = i; nodes_are = m; entries_are = k }; runs = runs }
+
+  -- a file is read whole in one way
+  same_whole : (file : Option (List ℕ)) (limit : ℕ) (a b : List ℕ) → IsWhole file limit a → IsWhole file limit b → a ≡ b
+  same_whole (Some file) limit a b e f = e ∙ sym f
+  same_whole None limit a b e f = absurd e
+
+  same_words : (run other : RunWords) → WordsOf words ≡ Some run → WordsOf words ≡ Some other → other ≡ run
+  same_words run other e f = cc
+
+  verdict_accepted : {s : Status} {t : List ℕ} → Verdict words content faults faults' net net' s t → (a : IsAccepted words content) → NoneRisen a.run faults faults' → IsRunStatus s
+  verdict_accepted (NoCommand w n) a quiet = let h = a.words_are in cc
+  verdict_accepted (ReadFailed run file w h n) a quiet =
+      let e : run ≡ a.run = same_words a.run run a.words_are w in
+      absurd (quiet file (subst (λ (r : RunWords). HasRisen (faults (name_of_file r file)) (faults' (name_of_file r file))) e h))
+  verdict_accepted (SourceRefused run source nodes schedule w r h n) a quiet =
+      let e : run ≡ a.run = same_words a.run run a.words_are w in
+      let f : source ≡ a.source = same_whole (content a.run.source) file_limit source a.source (subst (λ (k : RunWords). IsWhole (content k.source) file_limit source) e r.source_is) a.are_read.source_is in
+      absurd (h a.program (subst (λ (k : List ℕ). IsSource k a.program) (sym f) a.is_source))
+  verdict_accepted (InputRefused run source nodes schedule program w r i h n) a quiet =
+      let e : run ≡ a.run = same_words a.run run a.words_are w in
+      let f : nodes ≡ a.nodes = same_whole (content a.run.nodes) file_limit nodes a.nodes (subst (λ (k : RunWords). IsWhole (content k.nodes) file_limit nodes) e r.nodes_are) a.are_read.nodes_are in
+      let k : schedule ≡ a.schedule = same_whole (content a.run.schedule) file_limit schedule a.schedule (subst (λ (k : RunWords). IsWhole (content k.schedule) file_limit schedule) e r.schedule_is) a.are_read.schedule_is in
+      let m = a.nodes_are in
+      let l = a.entries_are in
+      absurd (⊎_elim
+      (λ (z : NodesOf nodes ≡ None). let y : None ≡ Some a.specs = sym z ∙ (ap NodesOf f ∙ m) in cc)
+      (λ (z : EntriesOf schedule ≡ None). let y : None ≡ Some a.entries = sym z ∙ (ap EntriesOf k ∙ l) in cc)
+      h)
+  verdict_accepted (IsRun run source nodes schedule program specs entries s t w r i m k runs) a quiet = run_status runs
+
+-- the whole text is written where the sink met no fault
+text_written : {taken taken' text : List ℕ} {count count' : ℕ} {status result : Status} → Answers taken taken' count count' status text result → (result ≡ statuses.WriteFault → ⊥) → taken' ≡ taken ++ text
+text_written (Written e f) n = e
+text_written (Broken e f) n = absurd (n refl)
+
+-- ---- the call
+
+module _ (FilesTold TakenTold : Type 0) (words : List (List ℕ)) (content : List ℕ → Option (List ℕ)) (faults faults' : List ℕ → ℕ) (net net' : Net) (taken taken' : List ℕ) (count count' : ℕ) (result : Status) (came : Came FilesTold TakenTold words content faults faults' net net' taken taken' count count' result) where
+  abbrev Outcome : Type 0
+  Outcome = Comes FilesTold TakenTold words content faults faults' net net' taken taken' count count' result
+
+  -- an outcome whose status is the verdict's, with the whole text written
+  record Told (s : Status) : Type 0 where
+    outcome : Outcome
+    status_is : outcome.status ≡ s
+    written : TakenTold → taken' ≡ taken ++ outcome.text
+
+  told_of : (s : Status) → IsVerdict s → result ≡ s → Told s
+  told_of s v e = ⊎_elim
+      (λ (h : (result ≡ statuses.NoMemory) × (taken' ≡ taken) × (count' ≡ count)). absurd (v.not_memory (sym e ∙ h.0)))
+      (λ (h : Outcome). ⊎_elim
+      (λ (i : result ≡ h.status). record { outcome = h; status_is = sym i ∙ e; written = λ t. text_written (h.answers t) (λ f. v.not_fault (sym e ∙ f)) })
+      (λ (i : (result ≡ statuses.WriteFault) × HasRisen count count'). absurd (v.not_fault (sym e ∙ i.0)))
+      h.is)
+      came
+
+  pub answer_of : FilesTold → TakenTold → (result ≡ statuses.NoMemory) ⊎ ((status : Status) × (text : List ℕ) × Verdict words content faults faults' net net' status text × Answers taken taken' count count' status text result)
+  answer_of f t = ⊎_elim
+      (λ (h : (result ≡ statuses.NoMemory) × (taken' ≡ taken) × (count' ≡ count)). inl h.0)
+      (λ (h : Outcome). inr (h.status, h.text, h.verdict f, h.answers t))
+      came
+
+  pub no_memory_of : result ≡ statuses.NoMemory → (taken' ≡ taken) × (count' ≡ count)
+  no_memory_of e = ⊎_elim
+      (λ (h : (result ≡ statuses.NoMemory) × (taken' ≡ taken) × (count' ≡ count)). (h.1, h.2))
+      (λ (h : Outcome). ⊎_elim
+      (λ (i : result ≡ h.status). absurd ((plain_verdict words faults faults' h.plain).not_memory (sym i ∙ e)))
+      (λ (i : (result ≡ statuses.WriteFault) × HasRisen count count'). absurd (let k : statuses.WriteFault ≡ statuses.NoMemory = sym i.0 ∙ e in cc))
+      h.is)
+      came
+
+  pub write_fault_of : result ≡ statuses.WriteFault → HasRisen count count'
+  write_fault_of e = ⊎_elim
+      (λ (h : (result ≡ statuses.NoMemory) × (taken' ≡ taken) × (count' ≡ count)). absurd (let k : statuses.WriteFault ≡ statuses.NoMemory = sym e ∙ h.0 in cc))
+      (λ (h : Outcome). ⊎_elim
+      (λ (i : result ≡ h.status). absurd ((plain_verdict words faults faults' h.plain).not_fault (sym i ∙ e)))
+      (λ (i : (result ≡ statuses.WriteFault) × HasRisen count count'). i.1)
+      h.is)
+      came
+
+  pub usage_of : result ≡ statuses.Usage → (WordsOf words ≡ None) × (TakenTold → taken' ≡ taken ++ usage_line)
+  usage_of e =
+      let t = told_of statuses.Usage (record { not_fault = λ k. cc; not_memory = λ k. cc }) e in
+      let p = plain_usage words faults faults' t.outcome.plain t.status_is in
+      (p.0, λ k. t.written k ∙ ap (λ (x : List ℕ). taken ++ x) p.1)
+
+  pub no_command_of : WordsOf words ≡ None → (result ≡ statuses.Usage) ⊎ ((result ≡ statuses.WriteFault) ⊎ (result ≡ statuses.NoMemory))
+  no_command_of w = ⊎_elim
+      (λ (h : (result ≡ statuses.NoMemory) × (taken' ≡ taken) × (count' ≡ count)). inr (inr h.0))
+      (λ (h : Outcome). ⊎_elim
+      (λ (i : result ≡ h.status). inl (i ∙ plain_none words faults faults' h.plain w))
+      (λ (i : (result ≡ statuses.WriteFault) × HasRisen count count'). inr (inl i.0))
+      h.is)
+      came
+
+  pub read_fault_of : result ≡ statuses.ReadFault → (text : List ℕ) × HasReadFault words faults faults' text × (TakenTold → taken' ≡ taken ++ text)
+  read_fault_of e =
+      let t = told_of statuses.ReadFault (record { not_fault = λ k. cc; not_memory = λ k. cc }) e in
+      (t.outcome.text, plain_fault words faults faults' t.outcome.plain t.status_is, t.written)
+
+  pub source_refused_of : FilesTold → result ≡ statuses.SourceRefused → IsNoSource words content × (net' ≡ net) × (TakenTold → taken' ≡ taken ++ later_line)
+  source_refused_of f e =
+      let t = told_of statuses.SourceRefused (record { not_fault = λ k. cc; not_memory = λ k. cc }) e in
+      let p = verdict_source words content faults faults' net net' (t.outcome.verdict f) t.status_is in
+      (p.0, p.1, λ k. t.written k ∙ ap (λ (x : List ℕ). taken ++ x) p.2)
+
+  pub input_refused_of : FilesTold → result ≡ statuses.InputRefused → IsNoInput words content × (net' ≡ net) × (TakenTold → taken' ≡ taken ++ later_line)
+  input_refused_of f e =
+      let t = told_of statuses.InputRefused (record { not_fault = λ k. cc; not_memory = λ k. cc }) e in
+      let p = verdict_input words content faults faults' net net' (t.outcome.verdict f) t.status_is in
+      (p.0, p.1, λ k. t.written k ∙ ap (λ (x : List ℕ). taken ++ x) p.2)
+
+  pub ran_of : (s : Status) → IsRunStatus s → FilesTold → result ≡ s → (text : List ℕ) × HasRun words content net net' s text × (TakenTold → taken' ≡ taken ++ text)
+  ran_of s r f e =
+      let t = told_of s (run_is_verdict r) e in
+      (t.outcome.text, verdict_run words content faults faults' net net' (subst (λ (k : Status). Verdict words content faults faults' net net' k t.outcome.text) t.status_is (t.outcome.verdict f)) r, t.written)
+
+  pub complete_of : FilesTold → (a : IsAccepted words content) → NoneRisen a.run faults faults' → ¬ HasRisen count count' → IsRunStatus result ⊎ (result ≡ statuses.NoMemory)
+  complete_of f a quiet calm = ⊎_elim
+      (λ (h : (result ≡ statuses.NoMemory) × (taken' ≡ taken) × (count' ≡ count)). inr h.0)
+      (λ (h : Outcome). ⊎_elim
+      (λ (i : result ≡ h.status). inl (subst (λ (k : Status). IsRunStatus k) (sym i) (verdict_accepted words content faults faults' net net' (h.verdict f) a quiet)))
+      (λ (i : (result ≡ statuses.WriteFault) × HasRisen count count'). absurd (calm i.1))
+      h.is)
+      came
