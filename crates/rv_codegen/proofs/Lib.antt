@@ -1,0 +1,4 @@
+pub mod Literals
+pub mod Loops
+pub mod Pieces
+pub mod Steps

@@ -1,0 +1,4 @@
+pub mod Answered
+pub mod Effects
+pub mod NoMemory
+pub mod OneWord
