@@ -4,5 +4,4 @@ pub mod Pieces
 pub mod Places
 pub mod Programs
 pub mod Runs
-pub mod Steps
 pub mod Whole

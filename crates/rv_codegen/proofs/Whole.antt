@@ -36,10 +36,10 @@ use Rattle.ec_stops.specs.Faithful.{Faithful, Fits, Arrives, LiveStand, HomeOf, 
 use Rattle.ec_target.specs.Code.{word_at, pc_of}
 use Rattle.rv_machine.specs.declared.machine.RvMachine.{RvMachine}
 use Rattle.rv_machine.specs.Machine.{rv_goes, rv_stops, rv_register}
+use Rattle.rv_machine.proofs.Effects.{ecall_stops}
 use Rattle.rv_codegen.specs.Code.{op_words, pieces, before, operation_words, homes_of, program_pieces, operation_code, operation_codes, table_of, HasSlots, HasStops}
 use Rattle.rv_codegen.specs.Meaning.{rv_meaning}
 use Rattle.rv_codegen.proofs.Pieces.{get_append, before-next, before-all, get_map}
-use Rattle.rv_codegen.proofs.Steps.{step_stop}
 use Rattle.rv_codegen.proofs.Literals.{slot_at}
 use Rattle.rv_codegen.proofs.Runs.{Held, Standing, Gets, gets}
 use Rattle.rv_codegen.proofs.Places.{stops_get, words, start, codes, StopAt, first_codes, first_pieces, row_at, stop_is, stop_known, stands_at, stop_stands, stop_within, only_stops, stops_apart, before_size, code_short}
@@ -274,7 +274,7 @@ module _ (program : Parts) (homes : List (List Place)) (fine : Fine program) (sl
           steps = gone.steps;
           last = gone.last;
           memory = gone.memory;
-          native = (gone.leads, step_stop (words program homes) gone.last gone.memory gone.here);
+          native = (gone.leads, ecall_stops (words program homes) gone.last gone.memory gone.here);
           few = (let short = gone.short in omega (arith, short, left, count));
           rests = tt;
           at = stop_is program homes a.operation gone.reached.stop o gone.stop there gone.is ∙ ap Some (sym gone.place);

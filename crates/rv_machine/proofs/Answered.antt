@@ -1,5 +1,5 @@
 -- What a step's answer says of the step.
-use Rattle.std.proofs.Common.{◌≡◌, ◌≢◌, ◌↔◌, ℕ, List, Option, Some, None, sym, ap, ◌∙◌, subst}
+use Rattle.std.proofs.Common.{◌≡◌, ◌≢◌, ◌↔◌, ℕ, List, Some, None, sym, ap, subst}
 use Rattle.rv_machine.specs.Words.{word_of}
 use Rattle.rv_machine.specs.declared.isa.Instr.{Instr}
 use Rattle.ec_base.specs.Bytes.{Bytes}
@@ -10,7 +10,7 @@ use Rattle.ec_target.specs.declared.outcome.Outcome.TheVariants as outcomes
 use Rattle.rv_machine.specs.declared.machine.RvMachine.{RvMachine}
 use Rattle.rv_machine.specs.Machine.{state_of, IsAnswer, rv_goes, rv_stops, rv_traps}
 use Rattle.rv_machine.specs.MachineLaws.{same_state}
-use Rattle.rv_machine.specs.Step.{State, Next, Goes, Stops, Traps, RvStep}
+use Rattle.rv_machine.specs.Step.{Next, Goes, Stops, Traps, RvStep}
 
 -- the answer fits what the step comes to
 pub rv_answers : (code : List ℕ) (m : RvMachine) (b : Bytes) (next : Next) (o : Outcome) (n : RvMachine) (c : Bytes) → RvStep code (state_of m b) next → IsAnswer next (state_of m b) o (state_of n c) → Answers (rv_goes code) (rv_stops code) (rv_traps code) m b o n c

@@ -1,12 +1,12 @@
 -- The effect of one instruction, by what it finds and what it leaves: what a code generator cites.
-use Rattle.std.proofs.Common.{◌≡◌, ◌≢◌, ℕ, ◌+◌, ◌-◌, ◌*◌, ◌%◌, ◌/◌, ◌^◌, ◌<◌, ◌≤◌, Bool, List, length, Option, Some, None, refl, sym, ap, ◌∙◌, subst, arith, cond, true, false, get_or, set, length-set, ⊎_elim, lit<}
+use Rattle.std.proofs.Common.{◌≡◌, ◌≢◌, ℕ, ◌+◌, ◌-◌, ◌*◌, ◌%◌, ◌^◌, ◌<◌, ◌≤◌, List, Some, refl, sym, ap, ◌∙◌, subst, arith, cond, true, false, length-set, ⊎_elim}
 use Rattle.std.specs.Prelude.{slice_index, slice_set, ◌==◌, nat_lt, is_some, IsSome}
 use Rattle.std.proofs.lemmas.Bool.{cases_lt}
 use Rattle.std.proofs.lemmas.Bool.Decides.{nat_tests}
 use Rattle.std.proofs.lemmas.List.{get_or-set_same, get_or-set_other}
 use Rattle.byteorder.specs.Endian.{little_bytes}
 use Rattle.ec_base.specs.Bytes.{Bytes, bytes_from, with_bytes}
-use Rattle.ec_target.specs.Code.{word_at, pc_of}
+use Rattle.ec_target.specs.Code.{word_at}
 use Rattle.ec_target.specs.Runs.{Leads}
 use Rattle.ec_target.proofs.Running.{leads_first, leads_one}
 use Rattle.ec_target.specs.declared.outcome.Cause.TheVariants.{Unaligned}
@@ -17,7 +17,7 @@ use Rattle.rv_machine.specs.declared.isa.Instr.TheVariants.{Lui, Lw, Sw, Addi, E
 use Rattle.rv_machine.specs.declared.machine.RvMachine.{RvMachine}
 use Rattle.rv_machine.specs.Machine.{state_of, rv_goes, rv_stops, rv_register}
 use Rattle.rv_machine.specs.Parts.{high_of, low_of}
-use Rattle.rv_machine.specs.Step.{State, Next, Goes, Stops, Traps, RvStep, listed, does, plus, extended, behind, writes, loads, stores, aligned, word_from}
+use Rattle.rv_machine.specs.Step.{Next, Goes, Traps, listed, does, plus, extended, writes, loads, stores, aligned, word_from}
 use Rattle.rv_machine.specs.Words.{word_of}
 
 -- ---- what an instruction leaves

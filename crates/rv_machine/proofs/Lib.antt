@@ -1,4 +1,3 @@
 pub mod Answered
 pub mod Effects
 pub mod NoMemory
-pub mod OneWord

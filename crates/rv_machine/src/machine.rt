@@ -259,7 +259,7 @@ mod tests {
             to.is_empty()
         }
 
-        #[tactic(auto, using(crate::proofs::NoMemory::nothing_there, ec_base::specs::Bytes::empty_write))]
+        #[tactic(auto, using(crate::proofs::NoMemory::nothing_there, crate::proofs::NoMemory::empty_there, ec_base::specs::Bytes::empty_write))]
         fn store(&mut self, _at: u32, from: &[u8]) -> bool {
             from.is_empty()
         }

@@ -1,9 +1,8 @@
-use Rattle.std.proofs.Common.{◌≡◌, Option, Some, None, refl, ap, sym, ◌∙◌}
+use Rattle.std.proofs.Common.{◌≡◌, Some, refl, ap, sym, ◌∙◌}
 use Rattle.ec_target.specs.Code.{word_at}
 use Rattle.ec_target.specs.declared.outcome.Cause.TheVariants.{Unlisted}
 use Rattle.rv_machine.specs.Machine.{state_of}
 use Rattle.rv_machine.specs.Step.{Traps, unlisted, listed, does}
-use Rattle.rv_machine.specs.Words.{word_of}
 use Rattle.rv_machine.proofs.Answered.{rv_answers, none_of}
 use Rattle.rv_machine.proofs.machine.RvMachineMachine.step.Goals as goal
 

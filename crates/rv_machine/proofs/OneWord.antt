@@ -1,9 +1,0 @@
--- No two instructions have one word.
-use Rattle.std.proofs.Common.{◌≡◌, ℕ, ◌<◌, ◌^◌, arith, refl, subst, ap, sym, ◌∙◌, Option, Some, None, ◌↔◌, ◌≢◌, IfSome, IfNone}
-use Rattle.rv_machine.specs.declared.isa.Instr.{Instr}
-use Rattle.rv_machine.specs.Words.{word_of}
-use Rattle.rv_machine.specs.OneWord.{one_word}
-
-pub exactly : (o : Option Instr) (w : ℕ) → IfSome o (λ i. word_of i ≡ w) → IfNone o ((i : Instr) → word_of i ≢ w) → (i : Instr) → (o ≡ Some i) ↔ (word_of i ≡ w)
-exactly None w some none i = (λ e. (cc), λ e. absurd (none i e))
-exactly (Some j) w some none i = (λ e. let same : j ≡ i = cc in sym (ap word_of same) ∙ some, λ e. ap Some (one_word j i (some ∙ sym e)))
