@@ -66,11 +66,12 @@ literal_puts code f n index m b i old has at low base small few word there =
     let second : m.pc + 4 ≡ pc_of (i + 1) = omega (arith, at) in
     let third : m.pc + 8 ≡ pc_of (i + 2) = omega (arith, at) in
     let address : slot_at f n ≡ plus (rv_register m 8) (extended (112 + 4 * n)) =
-      sym (small_offset (rv_register m 8) (112 + 4 * n) (omega arith) (omega (arith, base)) ∙ omega (arith, base)) in
+    sym (small_offset (rv_register m 8) (112 + 4 * n) (omega arith) (omega (arith, base)) ∙ omega (arith, base)) in
     record {
       last = put m 5 index;
       leads = number_goes code m b x5 x8 high lower offset index (slot_at f n)
-        (ap (word_at code) first ∙ has 0 _ refl) (ap (word_at code) second ∙ has 1 _ refl) (ap (word_at code) third ∙ has 2 _ refl)
-        refl refl word (omega (arith, at, low)) (lit< tt) not_85 address (omega arith) (there_is (bytes_from b (slot_at f n) 4) old there);
+          (ap (word_at code) first ∙ has 0 _ refl) (ap (word_at code) second ∙ has 1 _ refl) (ap (word_at code) third ∙ has 2 _ refl)
+          refl refl word (omega (arith, at, low)) (lit< tt) not_85 address (omega arith) (there_is (bytes_from b (slot_at f n) 4) old there);
       place = place-put m 5 index ∙ omega (arith, at);
-      base = register-put_other m 5 index 8 not_85 }
+      base = register-put_other m 5 index 8 not_85;
+    }

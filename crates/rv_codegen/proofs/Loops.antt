@@ -1,8 +1,8 @@
 -- What loops that write code and tables keep.
-use Rattle.std.proofs.Common.{◌≡◌, ℕ, zero, suc, ◌+◌, ◌-◌, ◌*◌, ◌<◌, ◌≤◌, List, [], ◌∷◌, ◌++◌, length, take, map, Option, Some, None, refl, sym, ap, ◌∙◌, subst, arith, append_assoc, length-append, get_or}
+use Rattle.std.proofs.Common.{◌≡◌, ℕ, zero, suc, ◌+◌, ◌*◌, ◌<◌, ◌≤◌, List, [], ◌∷◌, ◌++◌, length, take, map, Option, Some, None, refl, sym, ap, ◌∙◌, arith, append_assoc, length-append}
 use Rattle.std.specs.Prelude.{slice_get, slice_index}
 use Rattle.std.specs.List.{concat}
-use Rattle.std.proofs.lemmas.List.{map-append, length-map, take_all}
+use Rattle.std.proofs.lemmas.List.{map-append, length-map}
 use Rattle.std.proofs.lemmas.Option.{get_or_from_slice_get}
 use Rattle.ec_base.proofs.Lists.{take_next}
 use Rattle.ec_ir.specs.declared.code.IrOp.{IrOp}
@@ -60,9 +60,8 @@ words_next homes code p op first old new e so_far is =
     is ∙ ap (λ l. l ++ op_words homes op) so_far ∙ append_assoc first (concat (take p ps)) (op_words homes op)
     ∙ ap (λ l. first ++ l) (sym (concat_next ps p (op_words homes op) (get_map (op_words homes) code p op e)))
 
-pub words_end : (homes : List Place) (code : List IrOp) (p : ℕ) (first words : List ℕ) → length code ≤ p → words ≡ first ++ concat (take p (pieces homes code)) → words ≡ first ++ concat (pieces homes code)
-words_end homes code p first words past is =
-    is ∙ ap (λ l. first ++ l) (concat_all (pieces homes code) p (omega (arith, past, length-map code (op_words homes))))
+pub room_for : (homes : List Place) (code : List IrOp) (p : ℕ) (first words : List ℕ) → words ≡ first ++ concat (take p (pieces homes code)) → length words ≤ length first + 3 * p
+room_for homes code p first words is = omega (arith, ap length is, length-append first (concat (take p (pieces homes code))), before_few homes code p)
 
 -- ---- the row of an operation's stops
 
@@ -73,7 +72,7 @@ map_same f g (x ∷ xs) h = ap (λ y. y ∷ map f xs) (h 0 x refl) ∙ ap (λ l.
 pub row_is : (homes : List Place) (o : Operation) (start : ℕ) (places : List ℕ) → StopsWithin o → ((p : ℕ) → p < length o.code → slice_get places p ≡ Some (pc_of (start + before (pieces homes o.code) p))) → map (λ (s : StopRec). slice_index places s.place) o.stops ≡ stop_row start homes o
 row_is homes o start places within are =
     map_same (λ (s : StopRec). slice_index places s.place) (λ (s : StopRec). pc_of (start + before (pieces homes o.code) s.place)) o.stops
-      (λ i s e. get_or_from_slice_get places s.place (pc_of (start + before (pieces homes o.code) s.place)) 0 (are s.place (within i s e)))
+    (λ i s e. get_or_from_slice_get places s.place (pc_of (start + before (pieces homes o.code) s.place)) 0 (are s.place (within i s e)))
 
 pub code_is : (homes : List Place) (o : Operation) (start n : ℕ) (row : List ℕ) → n ≡ length (operation_words homes o) → row ≡ stop_row start homes o → operation_code start homes o ≡ record { words = n; stops = row }
 code_is homes o start n row e f =

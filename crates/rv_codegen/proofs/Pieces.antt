@@ -1,13 +1,13 @@
 -- Pieces one after another: which word of which piece stands at a place.
-use Rattle.std.proofs.Common.{◌≡◌, ℕ, zero, suc, ◌+◌, ◌*◌, ◌<◌, ◌≤◌, ◌⊎◌, List, [], ◌∷◌, ◌++◌, length, take, map, Option, Some, None, refl, sym, ap, ◌∙◌, subst, inl, inr, ⊎_elim, arith, length-append, append_assoc}
+use Rattle.std.proofs.Common.{◌≡◌, ℕ, zero, suc, ◌+◌, ◌<◌, ◌≤◌, ◌⊎◌, List, [], ◌∷◌, ◌++◌, length, take, map, Some, refl, sym, ap, ◌∙◌, inl, inr, ⊎_elim, arith, length-append}
 use Rattle.std.specs.Prelude.{slice_get}
 use Rattle.std.specs.List.{concat}
 use Rattle.std.specs.Option.{option_map}
 use Rattle.std.proofs.lemmas.Bool.{cases_lt}
 use Rattle.std.proofs.lemmas.List.{append-nil, take_all}
 use Rattle.std.proofs.lemmas.List.Folds.{concat-append}
-use Rattle.std.proofs.lemmas.Option.{slice_get-map, slice_get_within}
-use Rattle.ec_base.proofs.Lists.{take_next, get_there}
+use Rattle.std.proofs.lemmas.Option.{slice_get-map}
+use Rattle.ec_base.proofs.Lists.{take_next}
 use Rattle.rv_codegen.specs.Code.{before}
 
 -- ---- items of lists
@@ -34,9 +34,9 @@ pub get_more : {A : Type 0} (xs new : List A) (x : A) (f : ℕ → A) (n : ℕ) 
 get_more {A} xs new x f n is long last each k lt = ⊎_elim
     (λ (below : k < n). ap (λ l. slice_get l k) is ∙ get_front xs (x ∷ []) k (f k) (each k below))
     (λ (from : n ≤ k).
-      let e : k ≡ length xs + 0 = omega arith in
-      let m : n ≡ k = omega arith in
-      ap (λ l. slice_get l k) is ∙ ap (slice_get (xs ++ x ∷ [])) e ∙ get_back xs (x ∷ []) 0 x refl ∙ ap Some (last ∙ ap f m))
+    let e : k ≡ length xs + 0 = omega arith in
+    let m : n ≡ k = omega arith in
+    ap (λ l. slice_get l k) is ∙ ap (slice_get (xs ++ x ∷ [])) e ∙ get_back xs (x ∷ []) 0 x refl ∙ ap Some (last ∙ ap f m))
     (cases_lt k n)
 
 pub get_map : {A B : Type 0} (f : A → B) (xs : List A) (i : ℕ) (x : A) → slice_get xs i ≡ Some x → slice_get (map f xs) i ≡ Some (f x)
@@ -108,9 +108,9 @@ lies [] i w e = cc
 lies (p ∷ ps) i w e = ⊎_elim
     (λ (h : slice_get p i ≡ Some w). record { piece = 0; words = p; place = i; there = refl; is = h; at = omega (arith, before-zero (p ∷ ps)) })
     (λ (h : (k : ℕ) × (i ≡ length p + k) × (slice_get (concat ps) k ≡ Some w)).
-      let r : Lies ps h.0 w = lies ps h.0 w h.2 in
-      let one = length-append p (concat (take r.piece ps)) in
-      record { piece = suc r.piece; words = r.words; place = r.place; there = r.there; is = r.is; at = omega (arith, h.1, r.at, one) })
+    let r : Lies ps h.0 w = lies ps h.0 w h.2 in
+    let one = length-append p (concat (take r.piece ps)) in
+    record { piece = suc r.piece; words = r.words; place = r.place; there = r.there; is = r.is; at = omega (arith, h.1, r.at, one) })
     (get_append p (concat ps) i w e)
 
 -- a place is in one piece alone
@@ -124,7 +124,7 @@ pub one_piece : (ps : List (List ℕ)) (k m : ℕ) (p q : List ℕ) (i j : ℕ) 
 one_piece ps k m p q i j e lt f lt' same = ⊎_elim
     (λ (below : k < m). absurd (below_piece ps k m p i j e lt same below))
     (λ (from : m ≤ k). ⊎_elim
-      (λ (above : m < k). absurd (below_piece ps m k q j i f lt' (sym same) above))
-      (λ (to : k ≤ m). let one : k ≡ m = omega arith in (one, omega (arith, ap (before ps) one, same)))
-      (cases_lt m k))
+    (λ (above : m < k). absurd (below_piece ps m k q j i f lt' (sym same) above))
+    (λ (to : k ≤ m). let one : k ≡ m = omega arith in (one, omega (arith, ap (before ps) one, same)))
+    (cases_lt m k))
     (cases_lt k m)

@@ -1,9 +1,8 @@
 -- Where the words of a program's operations stand, and its stops.
-use Rattle.std.proofs.Common.{◌≡◌, ◌≢◌, ℕ, zero, suc, ◌+◌, ◌*◌, ◌^◌, ◌<◌, ◌≤◌, List, [], ◌∷◌, ◌++◌, length, take, map, Option, Some, None, refl, sym, ap, ◌∙◌, subst, arith, length-append}
-use Rattle.std.specs.Prelude.{slice_get, slice_index}
+use Rattle.std.proofs.Common.{◌≡◌, ℕ, zero, suc, ◌+◌, ◌*◌, ◌<◌, ◌≤◌, List, [], ◌∷◌, length, take, Option, Some, None, refl, sym, ap, ◌∙◌, subst, arith, length-append}
+use Rattle.std.specs.Prelude.{slice_get}
 use Rattle.std.specs.List.{concat}
 use Rattle.std.proofs.lemmas.Option.{slice_get-get_or, get_or_from_slice_get, same_Some}
-use Rattle.std.proofs.lemmas.List.{length-map}
 use Rattle.ec_base.proofs.Lists.{get_within}
 use Rattle.ec_ir.specs.declared.code.IrOp.{IrOp}
 use Rattle.ec_ir.specs.declared.code.IrOp.TheVariants.{Literal, Rest}
@@ -18,8 +17,8 @@ use Rattle.ec_stops.specs.declared.table.OperationCode.{OperationCode}
 use Rattle.ec_stops.specs.Faithful.{row_or_empty, stop_in}
 use Rattle.ec_target.specs.Code.{word_at, pc_of}
 use Rattle.ec_target.proofs.Places.{word_at-pc_of, place_of_word}
-use Rattle.rv_codegen.specs.Code.{literal_words, words_to, op_words, pieces, before, operation_words, homes_of, program_pieces, stop_row, operation_code, operation_codes, table_of}
-use Rattle.rv_codegen.proofs.Pieces.{get_map, map_get, found, Lies, lies, one_piece, before-zero, before-next, before-all}
+use Rattle.rv_codegen.specs.Code.{words_to, op_words, pieces, before, operation_words, homes_of, program_pieces, stop_row, operation_code, operation_codes, table_of}
+use Rattle.rv_codegen.proofs.Pieces.{get_map, map_get, found, lies, one_piece, before-zero, before-next, before-all}
 use Rattle.rv_codegen.proofs.Loops.{operation_few}
 
 -- ---- the pieces of a program
@@ -150,6 +149,12 @@ module _ (program : Parts) (homes : List (List Place)) where
       ap (λ row. slice_get (row_or_empty row) at) (row_at op o e)
       ∙ get_map (λ (r : StopRec). pc_of (start op + before (pieces (homes_of homes op) o.code) r.place)) o.stops at s f
 
+  stop_at_is : (op at : ℕ) (o : Operation) (s : StopRec) (address : ℕ) → operation_at program op ≡ Some o → slice_get o.stops at ≡ Some s → pc_of (start op + before (pieces (homes_of homes op) o.code) s.place) ≡ address → stop_in (table_of homes codes) op at ≡ Some address
+  stop_at_is op at o s address e f is = stop_is op at o s e f ∙ ap Some is
+
+  pub stop_there : (op at : ℕ) (o : Operation) (s : StopRec) → operation_at program op ≡ Some o → slice_get o.stops at ≡ Some s → stop_at program op at ≡ Some s
+  stop_there op at o s e f = ap (λ x. slice_get (stops_of x) at) e ∙ f
+
   pub stop_known : (op at address : ℕ) → stop_in (table_of homes codes) op at ≡ Some address → StopAt op at address
   stop_known op at address e =
       let r = row_get (slice_get (table_of homes codes).stops op) at address e in
@@ -178,26 +183,45 @@ module _ (program : Parts) (homes : List (List Place)) where
         let none : start op + before (pieces (homes_of homes op) o.code) s.place ≡ start op + before (pieces (homes_of homes op) o.code) s.place + 0 = omega arith in
         ap (λ j. word_at words (pc_of j)) none ∙ stands_at op s.place 0 0x00000073 o (Rest at) e (placed op at o s e f) refl
 
+    -- a stop that has an address
+    IsStop : ℕ → Type 0
+    IsStop address = (op : ℕ) × (at : ℕ) × (s : StopRec) × (stop_at program op at ≡ Some s) × (stop_in (table_of homes codes) op at ≡ Some address)
+
+    -- ECALL in the words of operation p of the code of an operation is that of a stop
+    is_stop : (op p k address : ℕ) (o : Operation) (i : IrOp) → operation_at program op ≡ Some o → slice_get o.code p ≡ Some i → slice_get (op_words (homes_of homes op) i) k ≡ Some 0x00000073 → address ≡ pc_of (start op + (before (pieces (homes_of homes op) o.code) p + k)) → IsStop address
+    unfolding IsStop
+    is_stop op p k address o i e f g at =
+        let row = homes_of homes op in
+        let rest = only_rest row i k g in
+        let n = rest.0 in
+        let ok = subst (λ x. FineOp program.literals o p x) rest.1 ((fine.operations op o e).code p i f) in
+        let s = ok.0 in
+        let place : pc_of (start op + before (pieces row o.code) s.place) ≡ address = omega (arith, at, rest.2, ap (before (pieces row o.code)) ok.2) in
+        (op, n, s, stop_there op n o s e ok.1, stop_at_is op n o s address e ok.1 place)
+
+    -- in the words of an operation, too
+    in_operation : (op j address : ℕ) (o : Operation) → operation_at program op ≡ Some o → slice_get (operation_words (homes_of homes op) o) j ≡ Some 0x00000073 → address ≡ pc_of (start op + j) → IsStop address
+    in_operation op j address o e f at =
+        let row = homes_of homes op in
+        let k = lies (pieces row o.code) j 0x00000073 f in
+        let i = map_get (op_words row) o.code k.piece k.words k.there in
+        is_stop op k.piece k.place address o i.0 e i.1 (ap (λ ws. slice_get ws k.place) i.2 ∙ k.is) (omega (arith, at, k.at))
+
+    -- and so in the code
+    in_code : (q address : ℕ) → slice_get words q ≡ Some 0x00000073 → address ≡ pc_of q → IsStop address
+    in_code q address e at =
+        let l = lies (program_pieces homes 0 program.operations) q 0x00000073 e in
+        let o = pieces_get homes 0 program.operations l.piece l.words l.there in
+        let same : l.words ≡ operation_words (homes_of homes l.piece) o.0 =
+        same_Some l.words (operation_words (homes_of homes l.piece) o.0) (sym l.there ∙ first_pieces homes program.operations l.piece o.0 o.1) in
+        in_operation l.piece l.place address o.0 o.1 (ap (λ ws. slice_get ws l.place) (sym same) ∙ l.is) (omega (arith, at, l.at))
+
     -- a stop word is the word of a stop
     pub only_stops : (address : ℕ) → word_at words address ≡ Some 0x00000073 → (op : ℕ) × (at : ℕ) × (s : StopRec) × (stop_at program op at ≡ Some s) × (stop_in (table_of homes codes) op at ≡ Some address)
+    unfolding IsStop
     only_stops address e =
         let w = place_of_word words address 0x00000073 e in
-        let get : slice_get words w.0 ≡ Some 0x00000073 = slice_get-get_or words w.0 0 w.1 ∙ ap Some w.3 in
-        let l = lies (program_pieces homes 0 program.operations) w.0 0x00000073 get in
-        let op = l.piece in
-        let there = pieces_get homes 0 program.operations op l.words l.there in
-        let o = there.0 in
-        let row = homes_of homes op in
-        let same : l.words ≡ operation_words row o = same_Some l.words (operation_words row o) (sym l.there ∙ first_pieces homes program.operations op o there.1) in
-        let k = lies (pieces row o.code) l.place 0x00000073 (ap (λ ws. slice_get ws l.place) (sym same) ∙ l.is) in
-        let i = map_get (op_words row) o.code k.piece k.words k.there in
-        let rest = only_rest row i.0 k.place (ap (λ ws. slice_get ws k.place) i.2 ∙ k.is) in
-        let n = rest.0 in
-        let ok = subst (λ x. FineOp program.literals o k.piece x) rest.1 ((fine.operations op o there.1).code k.piece i.0 i.1) in
-        let s = ok.0 in
-        let found_at : pc_of (start op + before (pieces row o.code) k.piece) ≡ address = omega (arith, w.2, l.at, k.at, rest.2) in
-        let at : pc_of (start op + before (pieces row o.code) s.place) ≡ address = ap (λ p. pc_of (start op + before (pieces row o.code) p)) ok.2 ∙ found_at in
-        (op, n, s, ap (λ x. slice_get (stops_of x) n) there.1 ∙ ok.1, stop_is op n o s there.1 ok.1 ∙ ap Some at)
+        in_code w.0 address (slice_get-get_or words w.0 0 w.1 ∙ ap Some w.3) w.2
 
     -- two stops of one operation at one place
     same_place : (at at' : ℕ) (o : Operation) (s s' : StopRec) → slice_get o.code s.place ≡ Some (Rest at) → slice_get o.code s'.place ≡ Some (Rest at') → s.place ≡ s'.place → at ≡ at'
@@ -211,7 +235,7 @@ module _ (program : Parts) (homes : List (List Place)) where
         let p = placed op at o a e f in
         let q = placed op at' o b e g in
         let both = one_piece (pieces row o.code) a.place b.place (op_words row (Rest at)) (op_words row (Rest at')) 0 0
-          (get_map (op_words row) o.code a.place (Rest at) p) (omega arith) (get_map (op_words row) o.code b.place (Rest at') q) (omega arith) (omega (arith, same)) in
+        (get_map (op_words row) o.code a.place (Rest at) p) (omega arith) (get_map (op_words row) o.code b.place (Rest at') q) (omega arith) (omega (arith, same)) in
         same_place at at' o a b p q both.0
 
     -- a stop's word lies in its operation
@@ -227,14 +251,14 @@ module _ (program : Parts) (homes : List (List Place)) where
         let a = stop_known op at address e in
         let b = stop_known op' at' address f in
         let same : start op + before (pieces (homes_of homes op) a.o.code) a.s.place ≡ start op' + before (pieces (homes_of homes op') b.o.code) b.s.place =
-          (let p = a.is in let q = b.is in omega (arith, p, q)) in
+        (let p = a.is in let q = b.is in omega (arith, p, q)) in
         let both = one_piece (program_pieces homes 0 program.operations) op op' (operation_words (homes_of homes op) a.o) (operation_words (homes_of homes op') b.o)
-          (before (pieces (homes_of homes op) a.o.code) a.s.place) (before (pieces (homes_of homes op') b.o.code) b.s.place)
-          (first_pieces homes program.operations op a.o a.operation) (stop_within op at a.o a.s a.operation a.stop)
-          (first_pieces homes program.operations op' b.o b.operation) (stop_within op' at' b.o b.s b.operation b.stop) same in
+        (before (pieces (homes_of homes op) a.o.code) a.s.place) (before (pieces (homes_of homes op') b.o.code) b.s.place)
+        (first_pieces homes program.operations op a.o a.operation) (stop_within op at a.o a.s a.operation a.stop)
+        (first_pieces homes program.operations op' b.o b.operation) (stop_within op' at' b.o b.s b.operation b.stop) same in
         let one : a.o ≡ b.o = one_of (operation_at program op) (operation_at program op') a.o b.o (ap (operation_at program) both.0) a.operation b.operation in
         let inner : before (pieces (homes_of homes op) a.o.code) a.s.place ≡ before (pieces (homes_of homes op) a.o.code) b.s.place =
-          both.1 ∙ ap (λ j. before (pieces (homes_of homes j) b.o.code) b.s.place) (sym both.0) ∙ ap (λ (x : Operation). before (pieces (homes_of homes op) x.code) b.s.place) (sym one) in
+        both.1 ∙ ap (λ j. before (pieces (homes_of homes j) b.o.code) b.s.place) (sym both.0) ∙ ap (λ (x : Operation). before (pieces (homes_of homes op) x.code) b.s.place) (sym one) in
         (both.0, one_operation op at at' a.s b.s a.o a.operation a.stop (ap (λ (x : Operation). slice_get x.stops at') one ∙ b.stop) inner)
       where
         one_of : (x y : Option Operation) (o p : Operation) → x ≡ y → x ≡ Some o → y ≡ Some p → o ≡ p

@@ -1,5 +1,5 @@
 -- What the loop over the operations of a program keeps, and what it comes to.
-use Rattle.std.proofs.Common.{◌≡◌, ℕ, zero, suc, ◌+◌, ◌*◌, ◌^◌, ◌<◌, ◌≤◌, List, [], ◌∷◌, ◌++◌, length, take, Option, Some, None, refl, sym, ap, ◌∙◌, subst, arith, length-append}
+use Rattle.std.proofs.Common.{◌≡◌, ℕ, suc, ◌+◌, ◌*◌, ◌^◌, ◌<◌, ◌≤◌, List, [], ◌∷◌, ◌++◌, length, take, Some, refl, sym, ap, ◌∙◌, subst, arith}
 use Rattle.std.specs.Prelude.{slice_get}
 use Rattle.std.specs.List.{concat}
 use Rattle.std.proofs.lemmas.List.{take_all}
@@ -30,7 +30,13 @@ length_codes : (homes : List (List Place)) (n start : ℕ) (os : List Operation)
 length_codes homes n start [] = refl
 length_codes homes n start (o ∷ os) = ap suc (length_codes homes (n + 1) (start + length (operation_words (homes_of homes n) o)) os)
 
-module _ (program : Parts) (homes : List (List Place)) (fine : Fine program) (slots : HasSlots (table_of homes []) program) where
+module _ (given program : Parts) (same : program ≡ given) (homes : List (List Place)) (given_fine : Fine given) (given_slots : HasSlots (table_of homes []) given) where
+  fine : Fine program
+  fine = subst Fine (sym same) given_fine
+
+  slots : HasSlots (table_of homes []) program
+  slots = subst (HasSlots (table_of homes [])) (sym same) given_slots
+
   module _ (n : ℕ) (o : Operation) (row : List Place) (there : operation_at program n ≡ Some o) (is : slice_get homes n ≡ Some row) where
     row_is : homes_of homes n ≡ row
     row_is = ap row_or_empty is
@@ -61,11 +67,11 @@ module _ (program : Parts) (homes : List (List Place)) (fine : Fine program) (sl
         ∙ sym (concat_next ps n (operation_words (homes_of homes n) o) (first_pieces homes program.operations n o there))
 
     pub codes_on : (ws : List ℕ) (old new : List OperationCode) (c : OperationCode) → ws ≡ concat (take n (program_pieces homes 0 program.operations)) → old ≡ take n (codes program homes) → new ≡ old ++ c ∷ [] → c ≡ operation_code (length ws) row o → new ≡ take (n + 1) (codes program homes)
-    codes_on ws old new c long so_far now same =
+    codes_on ws old new c long so_far now is_code =
         let all = codes program homes in
         let start = before (program_pieces homes 0 program.operations) n in
         let code : c ≡ operation_code start (homes_of homes n) o =
-          same ∙ ap (λ l. operation_code (length l) row o) long ∙ ap (λ r. operation_code start r o) (sym row_is) in
+        is_code ∙ ap (λ l. operation_code (length l) row o) long ∙ ap (λ r. operation_code start r o) (sym row_is) in
         now ∙ ap (λ l. l ++ c ∷ []) so_far ∙ ap (λ x. take n all ++ x ∷ []) code
         ∙ sym (take_next all n (operation_code start (homes_of homes n) o) (first_codes homes program.operations n o there))
 
@@ -80,13 +86,14 @@ module _ (program : Parts) (homes : List (List Place)) (fine : Fine program) (sl
     abbrev code : List ℕ → List OperationCode → Code
     code x y = record { words = x; operations = y }
 
-    pub end_faithful : Faithful rv_meaning (code ws cs) (table_of homes cs) program
+    pub end_faithful : Faithful rv_meaning (code ws cs) (table_of homes cs) given
     end_faithful =
-        subst (λ x. Faithful rv_meaning (code x cs) (table_of homes cs) program) all_words
-          (subst (λ y. Faithful rv_meaning (code (words program homes) y) (table_of homes y) program) all_codes (faithful program homes fine slots))
+        subst (Faithful rv_meaning (code ws cs) (table_of homes cs)) same
+        (subst (λ x. Faithful rv_meaning (code x cs) (table_of homes cs) program) all_words
+        (subst (λ y. Faithful rv_meaning (code (words program homes) y) (table_of homes y) program) all_codes (faithful program homes fine slots)))
 
     pub end_few : length ws < 2 ^ 26
     end_few = subst (λ x. length x < 2 ^ 26) all_words (words_few program homes fine slots)
 
-    pub end_stops : HasStops (table_of homes cs) program
-    end_stops = subst (λ y. HasStops (table_of homes y) program) all_codes (stops_kept program homes fine slots)
+    pub end_stops : HasStops (table_of homes cs) given
+    end_stops = subst (HasStops (table_of homes cs)) same (subst (λ y. HasStops (table_of homes y) program) all_codes (stops_kept program homes fine slots))

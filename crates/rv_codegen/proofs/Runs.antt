@@ -1,11 +1,9 @@
 -- The code of an operation does what its three-address code does, up to the next stop.
-use Rattle.std.proofs.Common.{◌≡◌, ◌≢◌, ℕ, zero, suc, ◌+◌, ◌*◌, ◌%◌, ◌^◌, ◌<◌, ◌≤◌, ◌⊎◌, List, [], ◌∷◌, ◌++◌, length, drop, map, Option, Some, None, refl, sym, ap, ◌∙◌, subst, arith, inl, inr, ⊎_elim, length-append}
+use Rattle.std.proofs.Common.{◌≡◌, ◌≢◌, ℕ, zero, suc, ◌+◌, ◌^◌, ◌<◌, ◌≤◌, ◌⊎◌, List, [], ◌∷◌, length, drop, Option, Some, refl, sym, ap, ◌∙◌, subst, arith, inl, inr, ⊎_elim, length-append}
 use Rattle.std.specs.Prelude.{slice_get}
 use Rattle.std.specs.List.{concat}
-use Rattle.std.specs.Option.{option_map}
-use Rattle.std.proofs.lemmas.Bool.{cases_lt}
 use Rattle.byteorder.specs.Endian.{little_number, little_bytes}
-use Rattle.ec_base.specs.Bytes.{Bytes, bytes_from, with_bytes, before_rest}
+use Rattle.ec_base.specs.Bytes.{Bytes, with_bytes}
 use Rattle.ec_base.proofs.Lists.{get_within, get_there}
 use Rattle.ec_world.specs.declared.value.Value.{Value}
 use Rattle.ec_world.specs.declared.value.Value.TheVariants.{Str}
@@ -101,8 +99,8 @@ module _ (code : List ℕ) (literals : List (List ℕ)) (homes : List Place) (o 
     frame_kept b n w frame word i lt = ⊎_elim
         (λ (e : i ≡ 28 + n). (w, ap (λ k. word_in little_number (with_bytes b (slot_at f n) (little_bytes 4 w)) (block_word_at f k)) e ∙ written b (slot_at f n) w word))
         (λ (ne : i ≢ 28 + n).
-          let old = frame i lt in
-          (old.0, other_word b (slot_at f n) w (block_word_at f i) (omega arith) (omega arith) (apart i (28 + n) ne) ∙ old.1))
+        let old = frame i lt in
+        (old.0, other_word b (slot_at f n) w (block_word_at f i) (omega arith) (omega arith) (apart i (28 + n) ne) ∙ old.1))
         (same_or_not i (28 + n))
 
     held_same : (b : Bytes) (vs : List Value) (to index : ℕ) (t : List ℕ) → slice_get literals index ≡ Some t → to < length o.variables → index < 2 ^ 32 → Held (with_bytes b (slot_at f to) (little_bytes 4 index)) to (variable (put vs to (text_at (slice_get literals index))) to)
@@ -113,7 +111,9 @@ module _ (code : List ℕ) (literals : List (List ℕ)) (homes : List Place) (o 
           word = record {
             word = index;
             there = written b (slot_at f to) index word;
-            stands = subst (λ v. StandsFor local text v index) e (pool index t is) } }
+            stands = subst (λ v. StandsFor local text v index) e (pool index t is);
+          };
+        }
 
     held_other : (b : Bytes) (vs : List Value) (to index x : ℕ) (v : Value) → x ≢ to → Held b x (variable vs x) → Held (with_bytes b (slot_at f to) (little_bytes 4 index)) x (variable (put vs to v) x)
     held_other b vs to index x v ne h =
@@ -123,7 +123,9 @@ module _ (code : List ℕ) (literals : List (List ℕ)) (homes : List Place) (o 
           word = record {
             word = h.word.word;
             there = other_word b (slot_at f to) index (slot_at f x) (omega arith) (omega arith) (apart (28 + x) (28 + to) no) ∙ h.word.there;
-            stands = subst (λ u. StandsFor local text u h.word.word) (sym (put_other vs to x v ne)) h.word.stands } }
+            stands = subst (λ u. StandsFor local text u h.word.word) (sym (put_other vs to x v ne)) h.word.stands;
+          };
+        }
 
     stands_on : (m n : RvMachine) (b : Bytes) (have : List ℕ) (vs : List Value) (to index : ℕ) (t : List ℕ) → Standing m b have vs → rv_register n 8 ≡ rv_register m 8 → slice_get literals index ≡ Some t → to < length o.variables → index < 2 ^ 32 → Standing n (with_bytes b (slot_at f to) (little_bytes 4 index)) (to ∷ have) (put vs to (text_at (slice_get literals index)))
     stands_on m n b have vs to index t st same is within word =
@@ -132,10 +134,11 @@ module _ (code : List ℕ) (literals : List (List ℕ)) (homes : List Place) (o 
           base = same ∙ st.base;
           frame = frame_kept b to index st.frame word;
           held = λ x h. ⊎_elim
-            (λ (e : x ≡ to). subst (λ y. Held (with_bytes b (slot_at f to) (little_bytes 4 index)) y (variable (put vs to v) y)) (sym e) (held_same b vs to index t is within word))
-            (λ (ne : x ≢ to). held_other b vs to index x v ne
+              (λ (e : x ≡ to). subst (λ y. Held (with_bytes b (slot_at f to) (little_bytes 4 index)) y (variable (put vs to v) y)) (sym e) (held_same b vs to index t is within word))
+              (λ (ne : x ≢ to). held_other b vs to index x v ne
               (⊎_elim (λ (e : x ≡ to). absurd (ne e)) (λ (r : IsIn x have). st.held x r) h))
-            (same_or_not x to) }
+              (same_or_not x to);
+        }
 
     -- ---- up to the next stop
 
@@ -165,7 +168,8 @@ module _ (code : List ℕ) (literals : List (List ℕ)) (homes : List Place) (o 
           here = ap (word_at code) (at ∙ ap pc_of none) ∙ stand p 0 0x00000073 (Rest n) get refl;
           operands = λ x h. st.held x (in_all s.operands have x all.0 h);
           live = λ x h. st.held x (in_all s.live have x all.1 h);
-          others = λ address h. refl }
+          others = λ address h. refl;
+        }
 
     -- behind a literal
     goes_on : (to index p : ℕ) (rest : List IrOp) (vs : List Value) (m : RvMachine) (b : Bytes) → to < length o.variables → (l : Puts code f to index m b (start + before (pieces homes o.code) p)) → Gets l.last (with_bytes b (slot_at f to) (little_bytes 4 index)) rest (put vs to (text_at (slice_get literals index))) → Gets m b (Literal to index ∷ rest) vs
@@ -188,7 +192,8 @@ module _ (code : List ℕ) (literals : List (List ℕ)) (homes : List Place) (o 
           operands = g.operands;
           live = g.live;
           others = λ address h. g.others address h ∙ other_byte b (slot_at f to) index address
-            (⊎_elim (λ (p : address < block_word_at f 28). inl (omega arith)) (λ (q : block_at (suc f) ≤ address). inr (omega arith)) h) }
+              (⊎_elim (λ (p : address < block_word_at f 28). inl (omega arith)) (λ (q : block_at (suc f) ≤ address). inr (omega arith)) h);
+        }
 
     pub gets : (rest : List IrOp) (p : ℕ) (have : List ℕ) (vs : List Value) (m : RvMachine) (b : Bytes) → drop p o.code ≡ rest → Covers o.stops have rest → Standing m b have vs → m.pc ≡ pc_of (start + before (pieces homes o.code) p) → Gets m b rest vs
     gets [] p have vs m b e covers st at = absurd covers
@@ -201,14 +206,14 @@ module _ (code : List ℕ) (literals : List (List ℕ)) (homes : List Place) (o 
         let i = start + before (pieces homes o.code) p in
         let old = st.frame (28 + to) (omega (arith, within, few)) in
         let l = literal_puts code f to index m b i old.0
-          (λ k w h. stand p k w (Literal to index) d.0 (ap (λ ws. slice_get ws k) (literal_is to index within) ∙ h))
-          at (in_code p) st.base small (omega (arith, within, few)) word old.1 in
+        (λ k w h. stand p k w (Literal to index) d.0 (ap (λ ws. slice_get ws k) (literal_is to index within) ∙ h))
+        at (in_code p) st.base small (omega (arith, within, few)) word old.1 in
         let next = before-next (pieces homes o.code) p (op_words homes (Literal to index)) (get_map (op_words homes) o.code p (Literal to index) d.0) in
         let three = ap length (literal_is to index within) in
         let onward : l.last.pc ≡ pc_of (start + before (pieces homes o.code) (p + 1)) = (let q = l.place in omega (arith, q, next, three)) in
         goes_on to index p rest vs m b within l
-          (gets rest (p + 1) (to ∷ have) (put vs to (text_at (slice_get literals index))) l.last (with_bytes b (slot_at f to) (little_bytes 4 index)) d.1 covers
-            (stands_on m l.last b have vs to index there.0 st l.base there.1 within word) onward)
+        (gets rest (p + 1) (to ∷ have) (put vs to (text_at (slice_get literals index))) l.last (with_bytes b (slot_at f to) (little_bytes 4 index)) d.1 covers
+        (stands_on m l.last b have vs to index there.0 st l.base there.1 within word) onward)
     gets (Rest n ∷ rest) p have vs m b e covers st at =
         let d = drop_get o.code p (Rest n) rest e in
         let ok = fine p (Rest n) d.0 in

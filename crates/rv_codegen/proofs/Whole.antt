@@ -1,5 +1,5 @@
 -- The code of a program is faithful to it.
-use Rattle.std.proofs.Common.{◌≡◌, ◌≢◌, ℕ, zero, suc, ◌+◌, ◌*◌, ◌/◌, ◌%◌, ◌^◌, ◌<◌, ◌≤◌, ◌⊎◌, Bool, true, false, List, [], ◌∷◌, ◌++◌, length, drop, map, Option, Some, None, refl, sym, ap, ◌∙◌, subst, arith, inl, inr, ⊎_elim, length-append}
+use Rattle.std.proofs.Common.{◌≡◌, ◌≢◌, ℕ, zero, suc, ◌+◌, ◌/◌, ◌%◌, ◌^◌, ◌<◌, ◌≤◌, ◌⊎◌, Bool, true, false, List, [], ◌∷◌, ◌++◌, length, drop, Option, Some, None, refl, sym, ap, ◌∙◌, subst, arith, inl, inr, ⊎_elim, length-append}
 use Rattle.std.specs.Prelude.{slice_get}
 use Rattle.std.specs.List.{concat}
 use Rattle.std.specs.Option.{option_map}
@@ -8,7 +8,7 @@ use Rattle.std.proofs.lemmas.List.{length-map}
 use Rattle.std.proofs.lemmas.Option.{same_Some}
 use Rattle.byteorder.specs.Endian.{little_number}
 use Rattle.ec_base.specs.Bytes.{Bytes, bytes_from, before_rest}
-use Rattle.ec_base.proofs.Lists.{get_within, get_there}
+use Rattle.ec_base.proofs.Lists.{get_within}
 use Rattle.ec_world.specs.Group.{Has}
 use Rattle.ec_world.specs.declared.value.Value.{Value}
 use Rattle.ec_world.specs.declared.value.ValueType.{ValueType}
@@ -24,25 +24,24 @@ use Rattle.ec_ir.specs.declared.code.StopRec.{StopRec}
 use Rattle.ec_ir.specs.declared.code.Operation.{Operation}
 use Rattle.ec_ir.specs.declared.code.Parts.{Parts}
 use Rattle.ec_ir.specs.declared.activation.IrActivation.{IrActivation}
-use Rattle.ec_ir.specs.Meaning.{variable, walk, Reached, stops_of, code_of, resting, resting_at, behind, settled, stop_at, operation_at, result_live, live_if, live_at, live_variables}
+use Rattle.ec_ir.specs.Meaning.{variable, walk, stops_of, code_of, resting, resting_at, settled, stop_at, operation_at, result_live, live_if, live_at, live_variables}
 use Rattle.ec_ir.specs.Fine.{Fine, FineOperation, FineNew, FineReturn, FineEnd, FineStop, GoesOn, HasCode, AreVariables, IsIn, Covers, one_of}
 use Rattle.ec_memory.specs.Words.{word_in, block_word_at}
 use Rattle.ec_stops.specs.declared.table.Place.{Place}
-use Rattle.ec_stops.specs.declared.table.Place.TheVariants.{Slot, Reg}
+use Rattle.ec_stops.specs.declared.table.Place.TheVariants.{Slot}
 use Rattle.ec_stops.specs.declared.table.Code.{Code}
 use Rattle.ec_stops.specs.declared.table.StopTable.{StopTable}
 use Rattle.ec_stops.specs.Machine.{block_at, in_block, owner_word_at}
-use Rattle.ec_stops.specs.Faithful.{Faithful, Fits, Arrives, LiveStand, HomeOf, HomeStands, WordStands, HasLiterals, OneToOne, LiveTyped, home_in, stop_in, words_if, words_of, first_saved, row_or_empty}
-use Rattle.ec_target.specs.Code.{word_at, pc_of}
+use Rattle.ec_stops.specs.Faithful.{Faithful, Fits, Arrives, LiveStand, HomeOf, HomeStands, WordStands, HasLiterals, words_if, first_saved, row_or_empty}
+use Rattle.ec_target.specs.Code.{pc_of}
 use Rattle.rv_machine.specs.declared.machine.RvMachine.{RvMachine}
-use Rattle.rv_machine.specs.Machine.{rv_goes, rv_stops, rv_register}
 use Rattle.rv_machine.proofs.Effects.{ecall_stops}
-use Rattle.rv_codegen.specs.Code.{op_words, pieces, before, operation_words, homes_of, program_pieces, operation_code, operation_codes, table_of, HasSlots, HasStops}
+use Rattle.rv_codegen.specs.Code.{op_words, pieces, before, operation_words, homes_of, program_pieces, table_of, HasSlots, HasStops}
 use Rattle.rv_codegen.specs.Meaning.{rv_meaning}
 use Rattle.rv_codegen.proofs.Pieces.{get_append, before-next, before-all, get_map}
 use Rattle.rv_codegen.proofs.Literals.{slot_at}
-use Rattle.rv_codegen.proofs.Runs.{Held, Standing, Gets, gets}
-use Rattle.rv_codegen.proofs.Places.{stops_get, words, start, codes, StopAt, first_codes, first_pieces, row_at, stop_is, stop_known, stands_at, stop_stands, stop_within, only_stops, stops_apart, before_size, code_short}
+use Rattle.rv_codegen.proofs.Runs.{Held, Gets, gets}
+use Rattle.rv_codegen.proofs.Places.{stops_get, words, start, codes, first_codes, first_pieces, row_at, stop_is, stop_known, stands_at, stop_stands, stop_within, only_stops, stops_apart, code_short}
 
 -- ---- members of lists
 
@@ -135,8 +134,8 @@ bytes_same m b at (suc n) h =
     let here : at + 0 ≡ at = omega arith in
     let one : m at ≡ b at = subst (λ a. m a ≡ b a) here (h 0 (omega arith)) in
     let rest = bytes_same m b (at + 1) n (λ k lt.
-      let on : at + suc k ≡ at + 1 + k = omega arith in
-      subst (λ a. m a ≡ b a) on (h (suc k) (omega arith))) in
+    let on : at + suc k ≡ at + 1 + k = omega arith in
+    subst (λ a. m a ≡ b a) on (h (suc k) (omega arith))) in
     ap (λ o. before_rest o (bytes_from m (at + 1) n)) one ∙ ap (before_rest (b at)) rest
 
 word_same : (m b : Bytes) (at : ℕ) → ((k : ℕ) → k < 4 → m (at + k) ≡ b (at + k)) → word_in little_number m at ≡ word_in little_number b at
@@ -151,9 +150,9 @@ outside : (f b i at k : ℕ) → b ≢ f → i < 128 → block_word_at b i ≡ a
 outside f b i at k ne lt e small = ⊎_elim
     (λ (below : b < f). inl (omega arith))
     (λ (from : f ≤ b). ⊎_elim
-      (λ (above : f < b). inr (omega arith))
-      (λ (to : b ≤ f). absurd (ne (omega arith)))
-      (cases_lt f b))
+    (λ (above : f < b). inr (omega arith))
+    (λ (to : b ≤ f). absurd (ne (omega arith)))
+    (cases_lt f b))
     (cases_lt b f)
 
 -- ---- the words left behind a stop are words of the operation
@@ -210,7 +209,8 @@ module _ (program : Parts) (homes : List (List Place)) (fine : Fine program) (sl
         let home = fits.live.each x (subst (λ l. Has l x) (sym (live_done program a stop at done come)) (in_has (stop.live ++ one_of stop.into) x h)) in
         record {
           within = within;
-          word = slot_held home.home x (variable a.variables x) (same_Some home.home (Slot x) (sym home.is ∙ slots.each a.operation x o there within)) home.holds }
+          word = slot_held home.home x (variable a.variables x) (same_Some home.home (Slot x) (sym home.is ∙ slots.each a.operation x o there within)) home.holds;
+        }
 
     -- where the code leads
     gone : Gets (words program homes) program.literals row o (start program homes a.operation) f local text s bytes (drop (stop.place + 1) o.code) a.variables
@@ -221,11 +221,11 @@ module _ (program : Parts) (homes : List (List Place)) (fine : Fine program) (sl
         let from : fits.stop ≡ pc_of (b + before ps stop.place) = same_Some fits.stop (pc_of (b + before ps stop.place)) (sym fits.stop_is ∙ place) in
         let next = before-next ps stop.place (op_words row (Rest a.at)) (get_map (op_words row) o.code stop.place (Rest a.at) (good.placed a.at stop is)) in
         gets (words program homes) program.literals row o b f local text good.code (λ x h. slots.each a.operation x o there h) good.few fine.few_literals
-          (in_words a.operation o there) fits.frame_small (λ p k w i e g. stands_at program homes a.operation p k w o i there e g) pool.at
-          (drop (stop.place + 1) o.code) (stop.place + 1) (stop.live ++ one_of stop.into) a.variables s bytes refl
-          (goes_on stop.stop (Covers o.stops (stop.live ++ one_of stop.into) (drop (stop.place + 1) o.code)) code (good.covered a.at stop is))
-          (record { base = fits.frame_base; frame = fits.frame; held = held })
-          (let q = fits.behind in omega (arith, q, from, next))
+        (in_words a.operation o there) fits.frame_small (λ p k w i e g. stands_at program homes a.operation p k w o i there e g) pool.at
+        (drop (stop.place + 1) o.code) (stop.place + 1) (stop.live ++ one_of stop.into) a.variables s bytes refl
+        (goes_on stop.stop (Covers o.stops (stop.live ++ one_of stop.into) (drop (stop.place + 1) o.code)) code (good.covered a.at stop is))
+        (record { base = fits.frame_base; frame = fits.frame; held = held })
+        (let q = fits.behind in omega (arith, q, from, next))
 
     stop_there : stop_at program a.operation gone.reached.stop ≡ Some gone.stop
     stop_there = ap (λ x. slice_get (stops_of x) gone.reached.stop) there ∙ gone.is
@@ -245,14 +245,16 @@ module _ (program : Parts) (homes : List (List Place)) (fine : Fine program) (sl
         record {
           home = Slot x;
           is = slots.each a.operation x o there h.within;
-          holds = ((let lt = h.within in let few = good.few in omega arith), h.word) }
+          holds = ((let lt = h.within in let few = good.few in omega arith), h.word);
+        }
 
     live_stand : LiveStand rv_meaning program table local text f rested gone.last gone.memory
     live_stand = record {
       each = λ x h. ⊎_elim
-        (λ (l : IsIn x gone.stop.operands). home_of x (variable gone.reached.variables x) (gone.operands x l))
-        (λ (r : IsIn x gone.stop.live). home_of x (variable gone.reached.variables x) (gone.live x r))
-        (has_append gone.stop.operands gone.stop.live x (subst (λ l. Has l x) (ap (λ y. live_at y rested) stop_there) h)) }
+          (λ (l : IsIn x gone.stop.operands). home_of x (variable gone.reached.variables x) (gone.operands x l))
+          (λ (r : IsIn x gone.stop.live). home_of x (variable gone.reached.variables x) (gone.live x r))
+          (has_append gone.stop.operands gone.stop.live x (subst (λ l. Has l x) (ap (λ y. live_at y rested) stop_there) h));
+    }
 
     -- a word of the own object is as it was
     own_same : (i address : ℕ) → owner_word_at own i ≡ Some address → word_in little_number gone.memory address ≡ word_in little_number bytes address
@@ -281,7 +283,8 @@ module _ (program : Parts) (homes : List (List Place)) (fine : Fine program) (sl
           live = live_stand;
           own_fields = own_stand;
           others = λ address h. gone.others address
-            (⊎_elim (λ (q : address < block_word_at f first_saved). inl (omega arith)) (λ (q : block_at (suc f) ≤ address). inr q) h) }
+              (⊎_elim (λ (q : address < block_word_at f first_saved). inl (omega arith)) (λ (q : block_at (suc f) ≤ address). inr q) h);
+        }
 
     pub runs : Arrives rv_meaning program table local text made f own (settled program a (Some stop)) fields s bytes
     runs = subst (λ x. Arrives rv_meaning program table local text made f own x fields s bytes) (sym settled_is) arrives
@@ -289,24 +292,26 @@ module _ (program : Parts) (homes : List (List Place)) (fine : Fine program) (sl
   pub faithful : Faithful rv_meaning made table program
   faithful = record {
     stops = λ op at s e.
-      let o = stops_get (operation_at program op) at s e in
-      (pc_of (start program homes op + before (pieces (homes_of homes op) o.0.code) s.place), stop_is program homes op at o.0 s o.1 o.2, stop_stands program homes fine op at o.0 s o.1 o.2);
+        let o = stops_get (operation_at program op) at s e in
+        (pc_of (start program homes op + before (pieces (homes_of homes op) o.0.code) s.place), stop_is program homes op at o.0 s o.1 o.2, stop_stands program homes fine op at o.0 s o.1 o.2);
     only = only_stops program homes fine;
     apart = stops_apart program homes fine;
     known = λ op at address e.
-      let k = stop_known program homes op at address e in
-      (k.s, ap (λ x. slice_get (stops_of x) at) k.operation ∙ k.stop);
+        let k = stop_known program homes op at address e in
+        (k.s, ap (λ x. slice_get (stops_of x) at) k.operation ∙ k.stop);
     runs = λ local text p d f own a stop fields globals s bytes one pool at code done come typed constants fits.
-      let o = stops_get (operation_at program a.operation) a.at stop at in
-      runs local text p d f own a stop fields globals s bytes pool o.0 o.1 o.2 at code done come fits }
+        let o = stops_get (operation_at program a.operation) a.at stop at in
+        runs local text p d f own a stop fields globals s bytes pool o.0 o.1 o.2 at code done come fits;
+  }
 
   -- ---- the table
 
   pub stops_kept : HasStops table program
   stops_kept = record {
     small = λ op at address e.
-      let k = stop_known program homes op at address e in
-      let within = stop_within program homes fine op at k.o k.s k.operation k.stop in
-      let low = in_words op k.o k.operation in
-      omega (arith, k.is, within, low);
-    many = λ op o e. ap (λ row. length (row_or_empty row)) (row_at program homes op o e) ∙ length-map o.stops _ }
+        let k = stop_known program homes op at address e in
+        let within = stop_within program homes fine op at k.o k.s k.operation k.stop in
+        let low = in_words op k.o k.operation in
+        omega (arith, k.is, within, low);
+    many = λ op o e. ap (λ row. length (row_or_empty row)) (row_at program homes op o e) ∙ length-map o.stops _;
+  }

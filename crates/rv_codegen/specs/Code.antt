@@ -1,5 +1,5 @@
 -- The words of three-address code: operation after operation, each from its entry stop on, with one word a stop.
-use Rattle.std.specs.Prelude.{◌≡◌, ℕ, ◌+◌, ◌*◌, ◌<◌, ◌≤◌, ◌^◌, List, [], ◌∷◌, length, map, take, Option, Some, None, slice_get}
+use Rattle.std.specs.Prelude.{◌≡◌, ℕ, ◌+◌, ◌*◌, ◌<◌, ◌^◌, List, [], ◌∷◌, length, map, take, Option, Some, None, slice_get}
 use Rattle.std.specs.List.{concat}
 use Rattle.ec_ir.specs.declared.code.IrOp.{IrOp}
 use Rattle.ec_ir.specs.declared.code.IrOp.TheVariants.{Literal, Rest}
@@ -11,7 +11,6 @@ use Rattle.ec_target.specs.Code.{pc_of}
 use Rattle.ec_stops.specs.declared.table.Place.{Place}
 use Rattle.ec_stops.specs.declared.table.Place.TheVariants.{Slot, Reg}
 use Rattle.ec_stops.specs.declared.table.OperationCode.{OperationCode}
-use Rattle.ec_stops.specs.declared.table.Code.{Code}
 use Rattle.ec_stops.specs.declared.table.StopTable.{StopTable}
 use Rattle.ec_stops.specs.Faithful.{row_or_empty, home_in, stop_in}
 use Rattle.rv_machine.specs.Words.{i_word, s_word, u_word}

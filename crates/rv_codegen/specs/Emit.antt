@@ -1,5 +1,5 @@
 -- When words can be written for code.
-use Rattle.std.specs.Prelude.{◌≡◌, ℕ, ◌<◌, ◌^◌, List, length, Some, slice_get}
+use Rattle.std.specs.Prelude.{◌≡◌, ℕ, ◌<◌, List, length, Some, slice_get}
 use Rattle.ec_ir.specs.declared.code.IrOp.{IrOp}
 use Rattle.ec_ir.specs.declared.code.IrOp.TheVariants.{Literal, Rest}
 use Rattle.ec_ir.specs.declared.code.StopRec.{StopRec}

@@ -81,3 +81,6 @@ fn copy_row(alloc: Global, row: &Seq<u32>) -> Result<Seq<u32>, AllocError>
     }
     Ok(copy)
 }
+
+#[cfg(test)]
+mod tests;

@@ -70,11 +70,7 @@ fn put_code(
 }
 
 /// The addresses of stops, by the addresses of the operations of the code.
-fn stops_at(
-    alloc: Global,
-    places: &Seq<u32>,
-    stops: &Seq<StopRec>,
-) -> Result<Seq<u32>, AllocError>
+fn stops_at(alloc: Global, places: &Seq<u32>, stops: &Seq<StopRec>) -> Result<Seq<u32>, AllocError>
     requires { (i : ℕ) (s : StopRec) → slice_get stops.now i ≡ Some s → s.place < length places.now }
     ensures { IfOk result (λ row. row ≡ map (λ (s : StopRec). slice_index places.now s.place) stops.now) }
 {
@@ -105,14 +101,29 @@ fn put_literal(words: &mut Seq<u32>, slot: u32, index: u32) -> Result<(), AllocE
     ensures { OnOk result (words.new ≡ words.old ++ literal_words slot index) }
 {
     let free = Register { number: FREE };
-    put(words, Instr::Lui { rd: free, high: high_part(index) })?;
-    put(words, Instr::Addi { rd: free, rs1: free, number: low_part(index) })?;
+    put(
+        words,
+        Instr::Lui {
+            rd: free,
+            high: high_part(index),
+        },
+    )?;
+    put(
+        words,
+        Instr::Addi {
+            rd: free,
+            rs1: free,
+            number: low_part(index),
+        },
+    )?;
     put(
         words,
         Instr::Sw {
             rs1: Register { number: FRAME },
             rs2: free,
-            offset: Twelve { bits: SLOTS + 4 * slot },
+            offset: Twelve {
+                bits: SLOTS + 4 * slot,
+            },
         },
     )
 }

@@ -1,4 +1,4 @@
-use Rattle.std.proofs.Common.{subst, sym, ap, List, ℕ}
+use Rattle.std.proofs.Common.{subst, sym}
 use Rattle.ec_stops.specs.Faithful.{Faithful}
 use Rattle.rv_codegen.specs.Meaning.{rv_meaning}
 use Rattle.rv_codegen.proofs.generate.build.Goals as goal

@@ -1,7 +1,6 @@
 use Rattle.std.proofs.Common.{◌≡◌, ℕ, ◌<◌, Some, length}
 use Rattle.std.specs.Prelude.{slice_get}
 use Rattle.ec_ir.specs.declared.code.Operation.{Operation}
-use Rattle.ec_ir.specs.Meaning.{operation_at}
 use Rattle.ec_stops.specs.declared.table.Place.TheVariants.{Slot}
 use Rattle.rv_codegen.specs.Code.{homes_of}
 use Rattle.rv_codegen.proofs.slots.assign.Given as goal
