@@ -134,3 +134,26 @@ fn put(words: &mut Seq<u32>, instr: Instr) -> Result<(), AllocError>
 {
     words.push(encode(instr))
 }
+
+#[cfg(test)]
+mod tests {
+    use super::*;
+    use std::test::Fail;
+
+    #[test]
+    fn literals_as_the_assembler_spells_them(rt: HostRuntime) -> Result<(), Fail> {
+        // lui x5, %hi(index), addi x5, x5, %lo(index), sw x5, 112 + 4 * slot(x8)
+        let cases = [
+            (0, 0, [0x0000_02B7, 0x0002_8293, 0x0654_2823]),
+            (1, 0x001F_FFFF, [0x0020_02B7, 0xFFF2_8293, 0x0654_2A23]),
+            (2, 0x001F_F7FF, [0x001F_F2B7, 0x7FF2_8293, 0x0654_2C23]),
+            (99, 0x0000_0800, [0x0000_12B7, 0x8002_8293, 0x1E54_2E23]),
+        ];
+        for (slot, index, want) in cases {
+            let mut words = Seq::new(rt.alloc());
+            put_literal(&mut words, slot, index)?;
+            assert_eq!(rt; words.as_slice(), want.as_slice());
+        }
+        Ok(())
+    }
+}
