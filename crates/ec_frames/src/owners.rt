@@ -1,6 +1,6 @@
 //! Owners of blocks.
 ghost use Rattle.std.specs.Prelude.{◌≡◌, ◌≤◌, ◌<◌, length, OnOk, IfOk, IfSome, IfNone, Some, None};
-ghost use Rattle.ec_frames.specs.Node.{store_of, row_of, owned_of, Laid};
+ghost use Rattle.ec_frames.specs.Node.{store_of, row_of, owned_of, Laid, SameNode};
 ghost use Rattle.ec_frames.specs.Changes.{Placed, Named, Closed};
 ghost use Rattle.ec_frames.specs.Owners.{FirstBlock, HasBlock, HasOneBlock, StandsAtPlace};
 
@@ -51,6 +51,7 @@ impl NodeStore {
         requires room { 0 < (store_of self.old).free }
         requires short { length given.now ≤ 128 }
         ensures laid { OnOk result (Laid self.new) }
+        ensures same { OnOk result (SameNode self.old self.new) }
         ensures placed { IfOk result (λ b. Placed (store_of self.old) (store_of self.new) key class fixed None given.now b) }
     {
         match self.memory.take(1) {
@@ -77,6 +78,7 @@ impl NodeStore {
         requires laid { Laid self.old }
         requires new { row_of self.old.rows key ≡ None }
         ensures laid { OnOk result (Laid self.new) }
+        ensures same { OnOk result (SameNode self.old self.new) }
         ensures named { OnOk result (Named (store_of self.old) (store_of self.new) key class fixed None) }
     {
         let blocks = Seq::new(self.rows.allocator());
@@ -95,6 +97,7 @@ impl NodeStore {
         requires laid { Laid self.old }
         requires one { HasOneBlock (store_of self.old) key }
         ensures laid { Laid self.new }
+        ensures same { SameNode self.old self.new }
         ensures closed { Closed (store_of self.old) (store_of self.new) key }
     {
         match row_place(&self.rows, key) {

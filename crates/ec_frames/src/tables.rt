@@ -2,7 +2,7 @@
 ghost use Rattle.std.specs.Prelude.{◌≡◌, ◌≢◌, ◌≤◌, ◌<◌, ◌+◌, ◌-◌, ◌^◌, ◌↔◌, ℕ, length, OnOk, IfOk, IfSome, IfNone, IsOk, IsSome, IsTrue, Some, slice_get};
 ghost use Rattle.ec_nodes.specs.Store.{text_bytes};
 ghost use Rattle.ec_nodes.specs.Held.{InPool};
-ghost use Rattle.ec_frames.specs.Node.{store_of, Laid};
+ghost use Rattle.ec_frames.specs.Node.{store_of, Laid, SameNode};
 ghost use Rattle.ec_frames.specs.Changes.{Refers, Interns};
 
 use crate::node::NodeStore;
@@ -15,6 +15,7 @@ impl NodeStore {
     pub fn local_of(&mut self, oid: Oid) -> Result<u32, AllocError>
         requires laid { Laid self.old }
         ensures laid { OnOk result (Laid self.new) }
+        ensures same { OnOk result (SameNode self.old self.new) }
         ensures refers { IfOk result (λ word. Refers (store_of self.old) (store_of self.new) oid word) }
     {
         match oid_place(&self.locals, oid) {
@@ -40,6 +41,7 @@ impl NodeStore {
         requires laid { Laid self.old }
         requires room { (InPool (store_of self.old) text → ⊥) → length text ≤ (store_of self.old).text_free }
         ensures laid { OnOk result (Laid self.new) }
+        ensures same { OnOk result (SameNode self.old self.new) }
         ensures interns { IfOk result (λ place. Interns (store_of self.old) (store_of self.new) text place) }
         ensures at_end { IfOk result (λ place. (InPool (store_of self.old) text → ⊥) → place ≡ length self.old.pool) }
     {
