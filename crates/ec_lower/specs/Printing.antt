@@ -76,6 +76,10 @@ pub record IsPool (literals : List (List ℕ)) : Type 0 where
   pub once : (i j : ℕ) (s : List ℕ) → slice_get literals i ≡ Some s → slice_get literals j ≡ Some s → i ≡ j
   pub empty : slice_get literals 0 ≡ Some []
 
+-- each literal stays at its place
+abbrev pub KeepsTexts : List (List ℕ) → List (List ℕ) → Type 0
+KeepsTexts old new = (k : ℕ) (s : List ℕ) → slice_get old k ≡ Some s → slice_get new k ≡ Some s
+
 -- ---- programs
 
 -- the constructor prints the literals of these numbers
