@@ -3,7 +3,7 @@ ghost use Rattle.std.specs.Prelude.{◌≡◌, ◌≢◌, ℕ, ◌+◌, ◌≤�
 ghost use Rattle.ec_meaning.specs.Meaning.{class_of, classes_of, globals_of};
 ghost use Rattle.ec_lower.specs.Agreement.{Means};
 ghost use Rattle.ec_lower.specs.Short.{IsShort, IsShortIf, IsShortConstant};
-ghost use Rattle.ec_lower.specs.Printing.{stop_of, entry_stop, ending, defining, printing, print_code, print_stops, AreTexts, IsPool, KeepsTexts, IsLowered};
+ghost use Rattle.ec_lower.specs.Printing.{stop_of, entry_stop, ending, defining, printing, print_code, print_stops, IsTextOf, AreTexts, IsPool, KeepsTexts, IsLowered};
 ghost use Rattle.ec_ir.specs.declared.code.IrOp.TheVariants.{Rest};
 
 use ec_ast::{Constant, ObjectConstructor, Program, Statement};
@@ -193,10 +193,23 @@ fn place_literals(
 {
     let mut places = Seq::new(alloc);
     for i in 0..statements.len() {
-        let Statement::Print(literal) = statements.at(i);
-        places.push(place_literal(literals, &literal.text)?)?;
+        places.push(place_statement(literals, statements.at(i))?)?;
     }
     Ok(places)
+}
+
+/// The place of a statement's literal, which is put among the literals where it is new.
+fn place_statement(literals: &mut Seq<Text>, statement: &Statement) -> Result<u32, AllocError>
+    requires few { length literals.old ≤ 2 ^ 20 }
+    requires pool { IsPool literals.old }
+    ensures text { IfOk result (λ k. IsTextOf literals.new k statement.now) }
+    ensures pool { OnOk result (IsPool literals.new) }
+    ensures kept { OnOk result (KeepsTexts literals.old literals.new) }
+    ensures few { OnOk result (length literals.new ≤ length literals.old + 1) }
+{
+    match statement {
+        Statement::Print(literal) => place_literal(literals, &literal.text),
+    }
 }
 
 /// The place of a text among the literals. It is put there where it is new.
