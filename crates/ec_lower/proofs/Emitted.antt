@@ -1,5 +1,5 @@
 -- The code of a source stands behind the entries of its operations.
-use Rattle.std.proofs.Common.{◌≡◌, ℕ, zero, suc, ◌+◌, ◌<◌, List, [], ◌∷◌, drop, Option, Some, None, refl, sym, ap, ◌∙◌, true, false, add-one, arith}
+use Rattle.std.proofs.Common.{◌≡◌, ℕ, zero, suc, ◌+◌, List, [], ◌∷◌, drop, Option, Some, None, refl, sym, ap, true, false, add-one}
 use Rattle.std.specs.Prelude.{slice_get}
 use Rattle.ec_ast.specs.declared.Program.{Program}
 use Rattle.ec_ast.specs.declared.Constant.{Constant}
@@ -15,8 +15,8 @@ use Rattle.ec_ir.specs.declared.code.StopRec.{StopRec}
 use Rattle.ec_ir.specs.declared.code.Operation.{Operation}
 use Rattle.ec_ir.specs.declared.code.Parts.{Parts}
 use Rattle.ec_ir.specs.Meaning.{stops_of, code_of}
-use Rattle.ec_lower.specs.Stands.{IsStop, Stands, code_behind}
-use Rattle.ec_lower.specs.Printing.{stop_of, ending, defining, printing, print_code, print_stops, AreTexts, DoesAll, Prints}
+use Rattle.ec_lower.specs.Stands.{Stands, code_behind}
+use Rattle.ec_lower.specs.Printing.{stop_of, ending, defining, printing, print_code, print_stops, AreTexts, DoesAll}
 use Rattle.ec_lower.proofs.Following.{HasEntries}
 
 module _ {A : Type 0} where
@@ -35,8 +35,7 @@ module _ {A : Type 0} where
 -- the code that prints literals stands where it is, with its stops
 print_stands : (literals : List (List ℕ)) (code : List IrOp) (stops : List StopRec) (n p : ℕ) (ks : List ℕ) (statements : List Statement) → drop p code ≡ print_code n ks → drop n stops ≡ print_stops p ks → AreTexts literals ks statements → Stands literals code stops false (print_code n ks) (block_items statements (Leave ∷ []))
 print_stands literals code stops n p [] [] c s t =
-    let behind : drop (p + 1) code ≡ [] = rw add-one (drop_tail code p _ _ c) in
-    (
+    let behind : drop (p + 1) code ≡ [] = rw add-one (drop_tail code p _ _ c) in (
       n,
       stop_of (Return true) [] None p,
       ap (λ r. Rest n ∷ r) (sym behind),
@@ -45,8 +44,7 @@ print_stands literals code stops n p [] [] c s t =
     )
 print_stands literals code stops n p (k ∷ ks) (PrintStatement l ∷ rest) c s t =
     let next : drop (suc (suc p)) code ≡ print_code (suc n) ks = drop_tail code (suc p) _ _ (drop_tail code p _ _ c) in
-    let behind : drop (suc p + 1) code ≡ print_code (suc n) ks = rw add-one next in
-    (
+    let behind : drop (suc p + 1) code ≡ print_code (suc n) ks = rw add-one next in (
       k,
       n,
       stop_of Print (0 ∷ []) None (suc p),

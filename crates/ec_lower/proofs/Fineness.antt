@@ -1,5 +1,5 @@
 -- The code of a source keeps what a program of three-address code keeps.
-use Rattle.std.proofs.Common.{◌≡◌, ℕ, zero, suc, ◌+◌, ◌*◌, ◌<◌, ◌≤◌, ◌^◌, List, [], ◌∷◌, ◌++◌, drop, length, Option, Some, None, Bool, true, false, refl, sym, ap, ◌∙◌, inl, inr, add-one, arith, subst}
+use Rattle.std.proofs.Common.{◌≡◌, ℕ, zero, suc, ◌+◌, ◌*◌, ◌<◌, ◌≤◌, ◌^◌, List, [], ◌∷◌, ◌++◌, drop, length, Option, Some, None, true, refl, sym, ap, ◌∙◌, inl, add-one, arith, subst}
 use Rattle.std.specs.Prelude.{slice_get}
 use Rattle.ec_base.proofs.Lists.{get_within}
 use Rattle.ec_ast.specs.declared.Constant.{Constant}
@@ -13,12 +13,12 @@ use Rattle.ec_world.specs.declared.stop.Stop.TheVariants.{Entry, New, Return, Pr
 use Rattle.ec_world.proofs.Related.{all-length}
 use Rattle.ec_meaning.specs.Meaning.{class_of, classes_if, globals_if}
 use Rattle.ec_ir.specs.declared.code.IrOp.{IrOp}
-use Rattle.ec_ir.specs.declared.code.IrOp.TheVariants.{Literal, Rest}
+use Rattle.ec_ir.specs.declared.code.IrOp.TheVariants.{Rest}
 use Rattle.ec_ir.specs.declared.code.StopRec.{StopRec}
 use Rattle.ec_ir.specs.declared.code.Operation.{Operation}
 use Rattle.ec_ir.specs.declared.code.Parts.{Parts}
-use Rattle.ec_ir.specs.Fine.{FineStop, GoesOn, FineOp, AreVariables, Covers, CoversStop, one_of, code_size, FineOperation, FineClass, Fine}
-use Rattle.ec_lower.specs.Printing.{stop_of, entry_stop, ending, defining, printing, print_code, print_stops, IsTextOf, AreTexts, DoesAll, Prints, IsPool, IsLowered}
+use Rattle.ec_ir.specs.Fine.{FineStop, GoesOn, FineOp, AreVariables, Covers, one_of, FineOperation, FineClass, Fine}
+use Rattle.ec_lower.specs.Printing.{stop_of, entry_stop, ending, defining, printing, print_code, print_stops, IsTextOf, AreTexts, DoesAll, IsPool, IsLowered}
 use Rattle.ec_lower.specs.Short.{IsShortIf}
 use Rattle.ec_lower.proofs.Emitted.{drop_head, drop_tail}
 
@@ -64,8 +64,7 @@ fine_by classes globals literals op o entry first ops stops few = record {
 fine_ending : (literals : List (List ℕ)) → FineOperation [] [] literals 0 ending
 fine_ending literals =
     fine_by [] [] literals 0 ending refl refl
-    ((entry_stop, refl, refl, omega arith), ((stop_of End [] None 1, refl, refl, tt), tt))
-    (
+    ((entry_stop, refl, refl, omega arith), ((stop_of End [] None 1, refl, refl, tt), tt)) (
       record { one_entry = λ e. refl; placed = refl; fits = (refl, refl); live = tt; covered = (tt, tt) },
       (record { one_entry = λ e. cc; placed = refl; fits = (refl, refl); live = tt; covered = tt }, tt),
     )
@@ -73,15 +72,13 @@ fine_ending literals =
 
 fine_defining : (c : Constant) (literals : List (List ℕ)) → FineOperation (class_of c.value ∷ []) (Reference ∷ []) literals 0 defining
 fine_defining c literals =
-    fine_by (class_of c.value ∷ []) (Reference ∷ []) literals 0 defining refl refl
-    (
+    fine_by (class_of c.value ∷ []) (Reference ∷ []) literals 0 defining refl refl (
       (entry_stop, refl, refl, omega arith),
       (
         (stop_of (New (Made 0)) [] (Some 0) 1, refl, refl, omega arith),
         ((stop_of (Global 0) (0 ∷ []) None 2, refl, refl, omega arith), ((stop_of End [] None 3, refl, refl, tt), tt)),
       ),
-    )
-    (
+    ) (
       record { one_entry = λ e. refl; placed = refl; fits = (refl, refl); live = tt; covered = (tt, tt) },
       (
         record { one_entry = λ e. cc; placed = refl; fits = (class_of c.value, refl, refl, refl, (0, refl, refl)); live = tt; covered = ((inl refl, tt), tt) },
@@ -110,8 +107,7 @@ module _ (classes : List ClassRec) (globals : List ValueType) (literals : List (
       let next = drop_tail o.code (suc p) _ _ behind in
       let stops = drop_tail o.stops n _ _ s in
       let room : suc p < length o.code = get_within o.code (suc p) _ (drop_head o.code (suc p) _ _ behind) in
-      let more = print_there o.code (suc n) (suc (suc p)) ks next in
-      (
+      let more = print_there o.code (suc n) (suc (suc p)) ks next in (
         (bytes, get_within literals k _ t.0, omega arith),
         (
           (stop_of Print (0 ∷ []) None (suc p), drop_head o.stops n _ _ s, refl, omega arith),
@@ -130,8 +126,7 @@ module _ (classes : List ClassRec) (globals : List ValueType) (literals : List (
       let behind = drop_tail o.code p _ _ c in
       let next = drop_tail o.code (suc p) _ _ behind in
       let stops = drop_tail o.stops n _ _ s in
-      let goes : drop (suc p + 1) o.code ≡ print_code (suc n) ks = rw add-one next in
-      (
+      let goes : drop (suc p + 1) o.code ≡ print_code (suc n) ks = rw add-one next in (
         record { one_entry = λ e. cc; placed = drop_head o.code (suc p) _ _ behind; fits = ((bytes, tt), refl); live = tt; covered = rw goes (covers_print o.stops (suc n) (suc (suc p)) ks stops) },
         print_fine (suc n) (suc (suc p)) ks next stops,
       )
@@ -145,8 +140,7 @@ fine_printing classes globals literals ks statements t =
     let o = printing ks in
     let some = print_some 1 ks in
     fine_by classes globals literals 1 o refl refl
-    ((entry_stop, refl, refl, omega arith), print_ops classes globals literals 0 o refl 1 1 ks statements refl refl t)
-    (
+    ((entry_stop, refl, refl, omega arith), print_ops classes globals literals 0 o refl 1 1 ks statements refl refl t) (
       record { one_entry = λ e. refl; placed = refl; fits = (refl, refl); live = tt; covered = covers_print o.stops 1 1 ks refl },
       print_fine classes globals literals 0 o refl 1 1 ks refl refl,
     )

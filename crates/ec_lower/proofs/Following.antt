@@ -1,36 +1,34 @@
 -- The code follows the source: activations on top and activations that wait, related by what they are about to do.
-use Rattle.std.proofs.Common.{◌≡◌, ℕ, zero, suc, ◌+◌, List, [], ◌∷◌, ◌++◌, map, drop, Option, Some, None, Bool, true, false, refl, sym, ap, ◌∙◌, subst}
+use Rattle.std.proofs.Common.{◌≡◌, ℕ, ◌+◌, List, [], ◌∷◌, ◌++◌, map, drop, Option, Some, None, Bool, true, false, refl, sym, ap, ◌∙◌, subst}
 use Rattle.std.specs.Prelude.{slice_get, length, nat_lt, if◌then◌else◌}
-use Rattle.ec_base.specs.Stack.{top_of, below_of}
-use Rattle.ec_base.proofs.Stacks.{top_of-push, below_of-push}
+use Rattle.ec_base.specs.Stack.{below_of}
+use Rattle.ec_base.proofs.Stacks.{top_of-push}
 use Rattle.ec_ast.specs.declared.Program.{Program}
 use Rattle.ec_ast.specs.declared.Statement.TheVariants.{Print as PrintStatement}
 use Rattle.ec_world.specs.declared.value.Value.{Value}
 use Rattle.ec_world.specs.declared.value.Value.TheVariants.{Int, Str, Ref, Nil, Bool as Truth}
 use Rattle.ec_world.specs.declared.class.ClassNo.{ClassNo}
-use Rattle.ec_world.specs.declared.class.ClassNo.TheVariants.{Node, Program as OfProgram, Made}
+use Rattle.ec_world.specs.declared.class.ClassNo.TheVariants.{Made}
 use Rattle.ec_world.specs.declared.class.ClassRec.{ClassRec}
 use Rattle.ec_world.specs.declared.stop.Stop.{Stop}
 use Rattle.ec_world.specs.declared.stop.Stop.TheVariants.{Entry, New, Return, Print as PrintStop, Global, End}
 use Rattle.ec_world.specs.declared.stop.Who.{Who}
-use Rattle.ec_world.specs.declared.stop.Effect.{Effect}
 use Rattle.ec_world.specs.declared.stop.Effect.TheVariants.{GoesOn, Calls, Leaves, Ends}
 use Rattle.ec_world.specs.declared.common.Common.{Common}
 use Rattle.ec_world.specs.Effects.{Acted, effect_of, new_effect, class_at, return_effect, print_effect, global_effect}
 use Rattle.ec_meaning.specs.declared.item.Item.{Item}
 use Rattle.ec_meaning.specs.declared.item.Item.TheVariants.{Do, Evaluate, Construct, Print, Define, Leave, Finish}
 use Rattle.ec_meaning.specs.declared.activation.SourceActivation.{SourceActivation}
-use Rattle.ec_meaning.specs.Meaning.{items_of, behind, behind_if, steps_of, settle, rest_at, hold_if, source_meaning, source_silent, begun, finished}
+use Rattle.ec_meaning.specs.Meaning.{items_of, behind, steps_of, settle, rest_at, hold_if, source_meaning, source_silent, begun, finished}
 use Rattle.ec_meaning.proofs.Settling.{settle-print, settle-construct, settle-define, settle-leave, settle-finish}
 use Rattle.ec_ir.specs.declared.code.IrOp.{IrOp}
-use Rattle.ec_ir.specs.declared.code.IrOp.TheVariants.{Literal, Rest}
 use Rattle.ec_ir.specs.declared.code.StopRec.{StopRec}
 use Rattle.ec_ir.specs.declared.code.Parts.{Parts}
 use Rattle.ec_ir.specs.declared.activation.IrActivation.{IrActivation}
-use Rattle.ec_ir.specs.Meaning.{variable, put, text_at, walk, resting, resting_at, settled, operation_at, stop_at, stops_of, code_of, into_variable, ir_meaning, ir_silent, begun as ir_begun, finished as ir_finished}
+use Rattle.ec_ir.specs.Meaning.{variable, put, walk, resting, resting_at, settled, operation_at, stop_at, stops_of, code_of, into_variable, ir_meaning, ir_silent, begun as ir_begun, finished as ir_finished}
 use Rattle.ec_ir.proofs.Put.{put_same}
-use Rattle.ec_lower.specs.Stands.{IsStop, StopAt, Stands, Holds, code_behind}
-use Rattle.ec_lower.specs.Waiting.{IsSimulation}
+use Rattle.ec_lower.specs.Stands.{IsStop, Stands, Holds, code_behind}
+use Rattle.ec_lower.specs.Waiting.{IsStackSimulation}
 
 -- a pending action that gives a result is a creation, and operations of classes give their object
 abbrev pub Fits : Stop → Bool → Type 0
@@ -252,7 +250,7 @@ module _ (program : Program) (ir : Parts) (entries : HasEntries program ir) wher
     done = λ e. cc;
   }
 
-  pub simulation : IsSimulation source_meaning ir_meaning (source_silent program) (ir_silent ir) (IsOn program ir) (IsBelow program ir)
+  pub simulation : IsStackSimulation source_meaning ir_meaning (source_silent program) (ir_silent ir) (IsOn program ir) (IsBelow program ir)
   simulation = record {
     same_on = λ a b r. record { operation = r.alike.operation; own = r.alike.own; stop = r.alike.stop; pending = r.alike.pending };
     same_below = λ a b r. record { operation = r.alike.operation; own = r.alike.own; stop = r.alike.stop; pending = r.alike.pending };

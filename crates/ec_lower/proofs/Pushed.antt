@@ -1,16 +1,15 @@
 -- Code, stops and literals to which one more is pushed.
-use Rattle.std.proofs.Common.{◌≡◌, ◌≢◌, ℕ, zero, suc, ◌+◌, ◌*◌, ◌<◌, ◌≤◌, List, [], ◌∷◌, ◌++◌, drop, take, length, Option, Some, None, refl, sym, ap, ◌∙◌, true, append_assoc, add-one, add-zero, arith}
+use Rattle.std.proofs.Common.{◌≡◌, ℕ, zero, suc, ◌+◌, ◌*◌, ◌≤◌, List, [], ◌∷◌, ◌++◌, drop, length, Some, None, refl, sym, ap, ◌∙◌, true, append_assoc, arith}
 use Rattle.std.specs.Prelude.{slice_get}
 use Rattle.ec_base.proofs.Lists.{drop_at}
 use Rattle.ec_ast.specs.declared.Statement.{Statement}
 use Rattle.ec_ast.specs.declared.Statement.TheVariants.{Print as PrintStatement}
 use Rattle.ec_world.specs.declared.stop.Stop.TheVariants.{Return, Print}
-use Rattle.ec_world.specs.Agree.{AllTwo}
 use Rattle.ec_world.proofs.Related.{all-map, all-append}
 use Rattle.ec_ir.specs.declared.code.IrOp.{IrOp}
 use Rattle.ec_ir.specs.declared.code.IrOp.TheVariants.{Literal, Rest}
 use Rattle.ec_ir.specs.declared.code.StopRec.{StopRec}
-use Rattle.ec_lower.specs.Printing.{stop_of, print_code, print_stops, IsTextOf, AreTexts, IsPool, KeepsTexts}
+use Rattle.ec_lower.specs.Printing.{stop_of, print_code, print_stops, IsTextOf, AreTexts, KeepsTexts}
 
 drop_past : {A : Type 0} (xs : List A) (i : ℕ) → length xs ≤ i → drop i xs ≡ []
 drop_past [] zero h = refl

@@ -1,5 +1,5 @@
 -- A simulation with activations that wait makes worlds agree after every list of entries, and along every schedule.
-use Rattle.std.proofs.Common.{◌≡◌, ℕ, zero, suc, List, [], ◌∷◌, ◌++◌, length, Option, Some, None, Bool, true, false, refl, sym, ap, ◌∙◌}
+use Rattle.std.proofs.Common.{◌≡◌, ℕ, zero, suc, List, [], ◌∷◌, ◌++◌, Option, Some, None, Bool, true, false, refl, ap}
 use Rattle.std.specs.Prelude.{slice_get}
 use Rattle.ec_base.specs.Stack.{top_of, below_of}
 use Rattle.ec_base.proofs.Stacks.{top_of-push, below_of-push}
@@ -20,29 +20,11 @@ use Rattle.ec_world.specs.World.{stack_if_ready, ready_stack, stack_at, finish_t
 use Rattle.ec_world.specs.Moves.{OperatorMove, moved_unless, is_idle_move}
 use Rattle.ec_world.specs.Agree.{AllTwo, SameRest, AgreeProc, Agree}
 use Rattle.ec_world.specs.Run.{RunState, statuses_of, next_entry, tail_of, last_of, after_entry, after_entries, stepped, step_run, run_after}
-use Rattle.ec_world.proofs.Related.{Maybe, all-append, all-length, all-map, all-set, all-get}
+use Rattle.ec_world.proofs.Related.{Maybe, all-append, all-length, tops, belows, all-map, all-set, all-get}
 use Rattle.ec_world.proofs.Simulation.{statuses_agree}
-use Rattle.ec_lower.specs.Waiting.{IsSimulation, IfThere, Stacked, StackedProc, StackedWorld}
+use Rattle.ec_lower.specs.Waiting.{IsStackSimulation, Stacked, StackedProc, StackedWorld}
 
 module _ {A B : Type 0} (On Below : A → B → Type 0) where
-  tops : (R : A → B → Type 0) (xs : List A) (ys : List B) → AllTwo R xs ys → IfThere R (top_of xs) (top_of ys)
-  tops R [] [] h = tt
-  tops R (x ∷ []) (y ∷ []) h = h.0
-  tops R (x ∷ x' ∷ xs) (y ∷ y' ∷ ys) h = tops R (x' ∷ xs) (y' ∷ ys) h.1
-  tops R (x ∷ []) (y ∷ y' ∷ ys) h = absurd h.1
-  tops R (x ∷ x' ∷ xs) (y ∷ []) h = absurd h.1
-  tops R [] (y ∷ ys) h = absurd h
-  tops R (x ∷ xs) [] h = absurd h
-
-  belows : (R : A → B → Type 0) (xs : List A) (ys : List B) → AllTwo R xs ys → AllTwo R (below_of xs) (below_of ys)
-  belows R [] [] h = tt
-  belows R (x ∷ []) (y ∷ []) h = tt
-  belows R (x ∷ x' ∷ xs) (y ∷ y' ∷ ys) h = (h.0, belows R (x' ∷ xs) (y' ∷ ys) h.1)
-  belows R (x ∷ []) (y ∷ y' ∷ ys) h = absurd h.1
-  belows R (x ∷ x' ∷ xs) (y ∷ []) h = absurd h.1
-  belows R [] (y ∷ ys) h = absurd h
-  belows R (x ∷ xs) [] h = absurd h
-
   -- one more on top
   pub stacked_push : (xs : List A) (ys : List B) (a : A) (b : B) → AllTwo Below xs ys → On a b → Stacked On Below (xs ++ a ∷ []) (ys ++ b ∷ [])
   stacked_push xs ys a b h k = record {
@@ -54,7 +36,7 @@ module _ {A B : Type 0} (On Below : A → B → Type 0) where
   stacked_none = record { below = tt; top = tt }
 
   -- all that lie on a stack
-  stacked_all : (R : A → B → Type 0) → ((a : A) (b : B) → On a b → R a b) → ((a : A) (b : B) → Below a b → R a b) → (xs : List A) (ys : List B) → AllTwo Below (below_of xs) (below_of ys) → IfThere On (top_of xs) (top_of ys) → AllTwo R xs ys
+  stacked_all : (R : A → B → Type 0) → ((a : A) (b : B) → On a b → R a b) → ((a : A) (b : B) → Below a b → R a b) → (xs : List A) (ys : List B) → AllTwo Below (below_of xs) (below_of ys) → Maybe On (top_of xs) (top_of ys) → AllTwo R xs ys
   stacked_all R f g [] [] h k = tt
   stacked_all R f g (x ∷ []) (y ∷ []) h k = (f x y k, tt)
   stacked_all R f g (x ∷ x' ∷ xs) (y ∷ y' ∷ ys) h k = (g x y h.0, stacked_all R f g (x' ∷ xs) (y' ∷ ys) h.1 k)
@@ -85,8 +67,8 @@ module _ {A B : Type 0} (On Below : A → B → Type 0) where
   moves_alike : (w : World A) (v : World B) (o k : ℕ) → StackedWorld On Below w v → StackedWorld On Below (OperatorMove w o k) (OperatorMove v o k)
   moves_alike w v o k h = record { common = ap (λ c. moved_unless c o k (is_idle_move c o k)) h.common; processes = h.processes }
 
-module _ {A B : Type 0} (M : ActivationMeaning A) (N : ActivationMeaning B) (advance : Common → A → Common × A) (advance' : Common → B → Common × B) (On Below : A → B → Type 0) (sim : IsSimulation M N advance advance' On Below) where
-  finish_tops : (xs : List A) (ys : List B) (x : Option A) (y : Option B) (r : Option Value) → AllTwo Below xs ys → IfThere Below x y → ((a : A) (b : B) → Below a b → On (M.finished a r) (N.finished b r)) → Stacked On Below (finish_top M xs x r) (finish_top N ys y r)
+module _ {A B : Type 0} (M : ActivationMeaning A) (N : ActivationMeaning B) (advance : Common → A → Common × A) (advance' : Common → B → Common × B) (On Below : A → B → Type 0) (sim : IsStackSimulation M N advance advance' On Below) where
+  finish_tops : (xs : List A) (ys : List B) (x : Option A) (y : Option B) (r : Option Value) → AllTwo Below xs ys → Maybe Below x y → ((a : A) (b : B) → Below a b → On (M.finished a r) (N.finished b r)) → Stacked On Below (finish_top M xs x r) (finish_top N ys y r)
   finish_tops xs ys None None r h k f = record { below = tt; top = tt }
   finish_tops xs ys (Some a) (Some b) r h k f = stacked_push On Below xs ys (M.finished a r) (N.finished b r) h (f a b k)
   finish_tops xs ys None (Some b) r h k f = absurd k
@@ -102,7 +84,7 @@ module _ {A B : Type 0} (M : ActivationMeaning A) (N : ActivationMeaning B) (adv
       record { status = refl; activations = stacked_push On Below _ _ (M.begun op own args) (N.begun op own args) below (sim.begun op own args) }
   changed_alike w p xs ys a b d (Leaves r) o t h k = record {
     status = refl;
-    activations = finish_tops (below_of xs) (below_of ys) (top_of xs) (top_of ys) r (belows On Below Below xs ys h) (tops On Below Below xs ys h) (λ x y z. sim.leaves a b w.common d (who_of M p xs a) r x y k t o z);
+    activations = finish_tops (below_of xs) (below_of ys) (top_of xs) (top_of ys) r (belows Below xs ys h) (tops Below xs ys h) (λ x y z. sim.leaves a b w.common d (who_of M p xs a) r x y k t o z);
   }
   changed_alike w p xs ys a b d Ends o t h k = record { status = refl; activations = record { below = tt; top = tt } }
 
@@ -124,7 +106,7 @@ module _ {A B : Type 0} (M : ActivationMeaning A) (N : ActivationMeaning B) (adv
       let o = outcomes_alike w v p xs ys a b h k r in
       rw o (acted_alike w v p xs ys a b (outcome_of N v p ys b) o e h k r)
 
-  act_alike : (w : World A) (v : World B) (p : ℕ) (xs : List A) (ys : List B) (x : Option A) (y : Option B) → StackedWorld On Below w v → AllTwo Below xs ys → IfThere On x y → StackedWorld On Below (act_on M w p xs x) (act_on N v p ys y)
+  act_alike : (w : World A) (v : World B) (p : ℕ) (xs : List A) (ys : List B) (x : Option A) (y : Option B) → StackedWorld On Below w v → AllTwo Below xs ys → Maybe On x y → StackedWorld On Below (act_on M w p xs x) (act_on N v p ys y)
   act_alike w v p xs ys None None h k r = h
   act_alike w v p xs ys (Some a) (Some b) h k r =
       let e = (sim.same_on a b r).pending in
@@ -150,7 +132,7 @@ module _ {A B : Type 0} (M : ActivationMeaning A) (N : ActivationMeaning B) (adv
       let s : On (advance w.common a).1 (advance' v.common b).1 = rw h.common (sim.activations v.common a b r e) in
       advanced_alike w v p xs ys (advance w.common a) (advance' v.common b) h k c s
 
-  on_alike : (w : World A) (v : World B) (p : ℕ) (xs : List A) (ys : List B) (x : Option A) (y : Option B) → StackedWorld On Below w v → AllTwo Below xs ys → IfThere On x y → StackedWorld On Below (go_on M advance w p xs x) (go_on N advance' v p ys y)
+  on_alike : (w : World A) (v : World B) (p : ℕ) (xs : List A) (ys : List B) (x : Option A) (y : Option B) → StackedWorld On Below w v → AllTwo Below xs ys → Maybe On x y → StackedWorld On Below (go_on M advance w p xs x) (go_on N advance' v p ys y)
   on_alike w v p xs ys None None h k r = h
   on_alike w v p xs ys (Some a) (Some b) h k r = let e = (sim.same_on a b r).pending in rw e (unless_alike w v p xs ys a b (N.is_pending b) e h k r)
   on_alike w v p xs ys None (Some b) h k r = absurd r

@@ -1,5 +1,5 @@
 -- The code of operations: what evaluates the constant, and what prints literals.
-use Rattle.std.specs.Prelude.{◌≡◌, ℕ, zero, suc, true, List, [], ◌∷◌, ◌≤◌, ◌+◌, ◌^◌, length, Option, Some, None, slice_get}
+use Rattle.std.specs.Prelude.{◌≡◌, ℕ, suc, true, List, [], ◌∷◌, ◌≤◌, ◌+◌, ◌^◌, length, Option, Some, None, slice_get}
 use Rattle.ec_ast.specs.declared.Constant.{Constant}
 use Rattle.ec_ast.specs.declared.Statement.{Statement}
 use Rattle.ec_ast.specs.declared.Statement.TheVariants.{Print as PrintStatement}
@@ -40,10 +40,10 @@ defining = record {
   variables = Reference ∷ [];
   code = Rest 0 ∷ Rest 1 ∷ Rest 2 ∷ Rest 3 ∷ [];
   stops = entry_stop
-  ∷ stop_of (New (Made 0)) [] (Some 0) 1
-  ∷ stop_of (Global 0) (0 ∷ []) None 2
-  ∷ stop_of End [] None 3
-  ∷ [];
+      ∷ stop_of (New (Made 0)) [] (Some 0) 1
+      ∷ stop_of (Global 0) (0 ∷ []) None 2
+      ∷ stop_of End [] None 3
+      ∷ [];
 }
 
 -- ---- the constructor's operation

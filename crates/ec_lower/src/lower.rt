@@ -249,3 +249,6 @@ fn is_same(a: &Text, b: &Text) -> bool
 {
     a.as_slice() == b.as_slice()
 }
+
+#[cfg(test)]
+mod tests;

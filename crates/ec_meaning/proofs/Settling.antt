@@ -1,5 +1,5 @@
 -- Silent steps from the items on which an activation goes on to its next stop.
-use Rattle.std.proofs.Common.{◌≡◌, ℕ, zero, suc, ◌+◌, ◌≤◌, List, [], ◌∷◌, ◌++◌, Option, Some, None, Bool, true, false, refl, sym, ap, ◌∙◌, arith}
+use Rattle.std.proofs.Common.{◌≡◌, ℕ, suc, ◌+◌, List, [], ◌∷◌, Some, true, false, refl, arith}
 use Rattle.ec_base.specs.Stack.{top_of, below_of}
 use Rattle.ec_base.proofs.Stacks.{top_of-push, below_of-push}
 use Rattle.ec_ast.specs.declared.Literal.{Literal}
@@ -7,12 +7,11 @@ use Rattle.ec_ast.specs.declared.Statement.TheVariants.{Print as PrintStatement}
 use Rattle.ec_world.specs.declared.value.Value.{Value}
 use Rattle.ec_world.specs.declared.value.Value.TheVariants.{Str}
 use Rattle.ec_world.specs.declared.class.ClassNo.TheVariants.{Made}
-use Rattle.ec_world.specs.declared.stop.Stop.{Stop}
-use Rattle.ec_world.specs.declared.stop.Stop.TheVariants.{Entry, New, Return, Print as PrintStop, Global, End}
+use Rattle.ec_world.specs.declared.stop.Stop.TheVariants.{New, Return, Print as PrintStop, Global, End}
 use Rattle.ec_meaning.specs.declared.item.Item.{Item}
-use Rattle.ec_meaning.specs.declared.item.Item.TheVariants.{Do, Evaluate, Construct, Print, Define, Leave, Finish}
+use Rattle.ec_meaning.specs.declared.item.Item.TheVariants.{Do, Construct, Define, Leave, Finish}
 use Rattle.ec_meaning.specs.declared.activation.SourceActivation.{SourceActivation}
-use Rattle.ec_meaning.specs.Meaning.{steps_of, settle, settle_by, silent, stop_with, rest_at}
+use Rattle.ec_meaning.specs.Meaning.{steps_of, settle, rest_at}
 
 settle_print : (n : ℕ) (a : SourceActivation) (held : List Value) (l : Literal) (rest : List Item) → settle (suc (suc (suc n))) a held (Do (PrintStatement l) ∷ rest) ≡ rest_at a PrintStop (Str l.text ∷ []) false held rest
 settle_print n a held l rest = rw (top_of-push held (Str l.text), below_of-push held (Str l.text)) refl

@@ -1,4 +1,3 @@
-use Rattle.std.proofs.Common.{◌∙◌, sym}
 use Rattle.ec_lower.proofs.Agreeing.{means}
 use Rattle.ec_lower.proofs.Emitted.{has_entries}
 use Rattle.ec_lower.proofs.Fineness.{fine}
