@@ -1,7 +1,7 @@
 -- What a call leaves of a node's tables is one owner changed.
 use Rattle.std.proofs.Common.{◌≡◌, ◌≢◌, ℕ, zero, suc, ◌+◌, ◌*◌, ◌/◌, ◌%◌, ◌<◌, ◌≤◌, Bool, List, [], ◌∷◌, length, Option, Some, None, refl, sym, ap, ◌∙◌, subst, arith, ◌⊎◌, inl, inr, ⊎_elim}
-use Rattle.std.specs.Prelude.{slice_get}
-use Rattle.ec_base.proofs.Lists.{get_within}
+use Rattle.std.specs.Prelude.{slice_get, slice_set}
+use Rattle.ec_base.proofs.Lists.{get_within, get_set_same, get_set_other}
 use Rattle.ec_world.specs.declared.value.Value.{Value}
 use Rattle.ec_world.specs.declared.class.ClassNo.{ClassNo}
 use Rattle.ec_world.specs.declared.object.MonitorRec.{MonitorRec}
@@ -10,6 +10,7 @@ use Rattle.ec_nodes.specs.declared.key.Key.{Key}
 use Rattle.ec_nodes.specs.Store.{Store, Owned, Stands, StandsAt, Tidy, Grown, KeptRow, word_in, word_of}
 use Rattle.ec_nodes.specs.Things.{Thing, Spells, Shown, Puts, row_size}
 use Rattle.ec_nodes.proofs.Kept.{stands_kept, shown_kept}
+use Rattle.ec_nodes.proofs.Put.{same_or_not}
 use Rattle.ec_frames.specs.Changes.{SameRest, SameTables, WritesWord, Placed, Named, Closed, OnlyTables}
 use Rattle.ec_frames.specs.Changed.{HasValueAt, HasHead, HasValue, DiffersAt}
 use Rattle.ec_frames.specs.Owners.{FirstBlock}
@@ -169,6 +170,46 @@ module _ (s s' : Store) (key : Key) (b i w : ℕ) (t t' : Thing) (writes : Write
     tidy = tables_tidy s s' writes.tables;
     free = (let f = writes.tables.free in let r = row_size_is (s.row key) shown.row shown.there in let n = shown.spells.counted in let m = differs.blocks in omega arith);
   }
+
+-- ---- the two changes of one word
+
+-- a head has changed, where no value has its word
+pub head_differs : (s : Store) (key : Key) (t : Thing) (i w : ℕ) → Shown s key t → i < length t.heads → ((k : ℕ) → t.spot s.kind k ≢ Some i) → DiffersAt s t (record t { heads = slice_set t.heads i w }) i w
+head_differs s key t i w shown within apart = record {
+  blocks = refl;
+  class = refl;
+  fixed = refl;
+  monitor = refl;
+  heads = λ at n e. ⊎_elim
+      (λ (same : at ≡ i).
+      let now : slice_get (slice_set t.heads i w) at ≡ Some w = ap (slice_get (slice_set t.heads i w)) same ∙ get_set_same t.heads i w within in
+      inl (same, cc))
+      (λ (ne : at ≢ i). inr (ne, sym (get_set_other t.heads i at w ne) ∙ e))
+      (same_or_not at i);
+  values = λ k v e.
+      let x = shown.spells.values k v e in
+      (x.0, x.1, inr ((λ same. apart k (x.1 ∙ ap Some same)), record { number = k; there = e; spot = x.1 }));
+}
+
+-- value k has changed, whose word is i, behind all heads and of no other value
+pub value_differs : (s : Store) (key : Key) (t : Thing) (k i w : ℕ) (v : Value) → Shown s key t → k < length t.values → t.spot s.kind k ≡ Some i → length t.heads ≤ i → ((j : ℕ) → t.spot s.kind j ≡ Some i → j ≡ k) → Stands s v w → DiffersAt s t (record t { values = slice_set t.values k v }) i w
+value_differs s key t k i w v shown within spot behind only stands = record {
+  blocks = refl;
+  class = refl;
+  fixed = refl;
+  monitor = refl;
+  heads = λ at n e. let l = get_within t.heads at n e in inr ((λ same. let no : ⊥ = omega arith in no), e);
+  values = λ j u e. ⊎_elim
+      (λ (same : j ≡ k).
+      let now : slice_get (slice_set t.values k v) j ≡ Some v = ap (slice_get (slice_set t.values k v)) same ∙ get_set_same t.values k v within in
+      let is : v ≡ u = cc in
+      (i, ap (t.spot s.kind) same ∙ spot, inl (refl, subst (λ (x : Value). Stands s x w) is stands)))
+      (λ (ne : j ≢ k).
+      let old = sym (get_set_other t.values k j v ne) ∙ e in
+      let x = shown.spells.values j u old in
+      (x.0, x.1, inr ((λ same. ne (only j (x.1 ∙ ap Some same))), record { number = j; there = old; spot = x.1 })))
+      (same_or_not j k);
+}
 
 -- ---- references and texts
 

@@ -120,3 +120,32 @@ fn row_place(rows: &Seq<Row>, key: Key) -> Option<usize>
     }
     None
 }
+
+#[cfg(test)]
+mod tests {
+    use super::*;
+    use ec_world::node::Kind;
+    use std::test::Fail;
+
+    #[test]
+    fn blocks_come_and_go(rt: HostRuntime) -> Result<(), Fail> {
+        let mut node = NodeStore::new(rt.alloc(), Kind::Riscv, 2, 16, 1)?;
+        let frame = Key::Frame { process: 0, depth: 0 };
+        let object = Key::Object(3);
+        let block = node.place(frame, None, false, &[7, 8, 9])?;
+        assert_eq!(rt; node.word(block, 2), 9);
+        node.set_word(block, 2, 0xFFFF_FFFF);
+        assert_eq!(rt; node.word(block, 2), 0xFFFF_FFFF);
+        assert_eq!(rt; node.word(block, 1), 8);
+        node.name(object, Some(ClassNo::Node), true)?;
+        assert_eq!(rt; node.free_blocks(), 1);
+        assert_eq!(rt; node.first_block(frame), block);
+        node.close(frame);
+        assert_eq!(rt; node.free_blocks(), 2);
+        assert!(rt; node.row(frame).is_none());
+        assert!(rt; node.row(object).is_some());
+        let again = node.place(frame, Some(ClassNo::Made(1)), true, &[1])?;
+        assert_eq!(rt; node.word(again, 0), 1);
+        Ok(())
+    }
+}

@@ -124,3 +124,40 @@ fn bytes_in(pool: &Seq<Text>) -> u32
     }
     bytes
 }
+
+#[cfg(test)]
+mod tests {
+    use super::*;
+    use ec_world::node::Kind;
+    use std::test::Fail;
+
+    #[test]
+    fn each_text_stands_once(rt: HostRuntime) -> Result<(), Fail> {
+        let mut node = NodeStore::new(rt.alloc(), Kind::Mips, 0, 16, 0)?;
+        let mut text: Text = Seq::new(rt.alloc());
+        text.push(65)?;
+        text.push(66)?;
+        let mut same: Text = Seq::new(rt.alloc());
+        same.push(65)?;
+        same.push(66)?;
+        let place = node.intern(text)?;
+        assert_eq!(rt; node.text_free(), 14);
+        assert_eq!(rt; node.intern(same)?, place);
+        assert_eq!(rt; node.text_free(), 14);
+        assert_eq!(rt; node.text(place).len(), 2);
+        Ok(())
+    }
+
+    #[test]
+    fn references_begin_at_one(rt: HostRuntime) -> Result<(), Fail> {
+        let mut node = NodeStore::new(rt.alloc(), Kind::Riscv, 0, 0, 2)?;
+        assert_eq!(rt; node.local_of(9)?, 1);
+        assert_eq!(rt; node.local_of(4)?, 2);
+        assert_eq!(rt; node.local_of(9)?, 1);
+        assert_eq!(rt; node.oid_of(2), 4);
+        node.set_global(1, 5);
+        assert_eq!(rt; node.global(1), 5);
+        assert_eq!(rt; node.global(0), 0);
+        Ok(())
+    }
+}
