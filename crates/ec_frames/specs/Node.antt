@@ -57,3 +57,8 @@ pub record Laid (node : NodeStore) : Type 0 where
   pub rows_once : (key : Key) (r : Owned) (i j b : ℕ) → row_of node.rows key ≡ Some r → slice_get r.blocks i ≡ Some b → slice_get r.blocks j ≡ Some b → i ≡ j
   pub rows_out : (key : Key) (r : Owned) (b : ℕ) → row_of node.rows key ≡ Some r → Has r.blocks b → Has node.memory.free b → ⊥
   pub tidy : Tidy (store_of node)
+
+-- a node has as many blocks and constants as before
+pub record SameSize (old new : NodeStore) : Type 0 where
+  pub blocks : new.blocks ≡ old.blocks
+  pub globals : new.globals ≡ old.globals

@@ -1,6 +1,6 @@
 //! Owners of blocks.
 ghost use Rattle.std.specs.Prelude.{◌≡◌, ◌≤◌, ◌<◌, length, OnOk, IfOk, IfSome, IfNone, Some, None};
-ghost use Rattle.ec_frames.specs.Node.{store_of, row_of, owned_of, Laid};
+ghost use Rattle.ec_frames.specs.Node.{store_of, row_of, owned_of, Laid, SameSize};
 ghost use Rattle.ec_frames.specs.Changes.{Placed, Named, Closed};
 ghost use Rattle.ec_frames.specs.Owners.{FirstBlock, HasBlock, HasOneBlock, StandsAtPlace};
 
@@ -52,6 +52,8 @@ impl NodeStore {
         requires short { length given.now ≤ 128 }
         ensures laid { OnOk result (Laid self.new) }
         ensures placed { IfOk result (λ b. Placed (store_of self.old) (store_of self.new) key class fixed None given.now b) }
+        ensures within { IfOk result (λ b. b < self.new.blocks) }
+        ensures size { OnOk result (SameSize self.old self.new) }
     {
         match self.memory.take(1) {
             Some(list) => {
@@ -78,6 +80,7 @@ impl NodeStore {
         requires new { row_of self.old.rows key ≡ None }
         ensures laid { OnOk result (Laid self.new) }
         ensures named { OnOk result (Named (store_of self.old) (store_of self.new) key class fixed None) }
+        ensures size { OnOk result (SameSize self.old self.new) }
     {
         let blocks = Seq::new(self.rows.allocator());
         self.rows.push(Row {
@@ -96,6 +99,7 @@ impl NodeStore {
         requires one { HasOneBlock (store_of self.old) key }
         ensures laid { Laid self.new }
         ensures closed { Closed (store_of self.old) (store_of self.new) key }
+        ensures size { SameSize self.old self.new }
     {
         match row_place(&self.rows, key) {
             Some(i) => {
@@ -128,24 +132,36 @@ mod tests {
     use std::test::Fail;
 
     #[test]
-    fn blocks_come_and_go(rt: HostRuntime) -> Result<(), Fail> {
+    fn words_are_kept(rt: HostRuntime) -> Result<(), Fail> {
         let mut node = NodeStore::new(rt.alloc(), Kind::Riscv, 2, 16, 1)?;
-        let frame = Key::Frame { process: 0, depth: 0 };
-        let object = Key::Object(3);
-        let block = node.place(frame, None, false, &[7, 8, 9])?;
+        let block = node.place(Key::Object(3), None, false, &[7, 8, 9])?;
         assert_eq!(rt; node.word(block, 2), 9);
         node.set_word(block, 2, 0xFFFF_FFFF);
         assert_eq!(rt; node.word(block, 2), 0xFFFF_FFFF);
         assert_eq!(rt; node.word(block, 1), 8);
-        node.name(object, Some(ClassNo::Node), true)?;
-        assert_eq!(rt; node.free_blocks(), 1);
-        assert_eq!(rt; node.first_block(frame), block);
-        node.close(frame);
-        assert_eq!(rt; node.free_blocks(), 2);
-        assert!(rt; node.row(frame).is_none());
-        assert!(rt; node.row(object).is_some());
-        let again = node.place(frame, Some(ClassNo::Made(1)), true, &[1])?;
+        Ok(())
+    }
+
+    #[test]
+    fn blocks_come_and_go(rt: HostRuntime) -> Result<(), Fail> {
+        let mut node = NodeStore::new(rt.alloc(), Kind::Riscv, 1, 16, 1)?;
+        let key = Key::Object(3);
+        let block = node.place(key, None, false, &[7])?;
+        assert_eq!(rt; node.first_block(key), block);
+        assert_eq!(rt; node.free_blocks(), 0);
+        node.close(key);
+        assert!(rt; node.row(key).is_none());
+        let again = node.place(key, Some(ClassNo::Made(1)), true, &[1])?;
         assert_eq!(rt; node.word(again, 0), 1);
+        Ok(())
+    }
+
+    #[test]
+    fn a_node_is_named(rt: HostRuntime) -> Result<(), Fail> {
+        let mut node = NodeStore::new(rt.alloc(), Kind::Mips, 0, 0, 0)?;
+        node.name(Key::Object(1), Some(ClassNo::Node), true)?;
+        assert!(rt; node.row(Key::Object(1)).is_some());
+        assert!(rt; node.row(Key::Object(2)).is_none());
         Ok(())
     }
 }

@@ -2,7 +2,7 @@
 ghost use Rattle.std.specs.Prelude.{◌≡◌, ◌≢◌, ◌≤◌, ◌<◌, ◌+◌, ◌-◌, ◌^◌, ◌↔◌, ℕ, length, OnOk, IfOk, IfSome, IfNone, IsOk, IsSome, IsTrue, Some, slice_get};
 ghost use Rattle.ec_nodes.specs.Store.{text_bytes};
 ghost use Rattle.ec_nodes.specs.Held.{InPool};
-ghost use Rattle.ec_frames.specs.Node.{store_of, Laid};
+ghost use Rattle.ec_frames.specs.Node.{store_of, Laid, SameSize};
 ghost use Rattle.ec_frames.specs.Changes.{Refers, Interns};
 
 use crate::node::NodeStore;
@@ -16,6 +16,7 @@ impl NodeStore {
         requires laid { Laid self.old }
         ensures laid { OnOk result (Laid self.new) }
         ensures refers { IfOk result (λ word. Refers (store_of self.old) (store_of self.new) oid word) }
+        ensures size { OnOk result (SameSize self.old self.new) }
     {
         match oid_place(&self.locals, oid) {
             Some(i) => Ok(place_number(i)? + 1),
@@ -42,6 +43,7 @@ impl NodeStore {
         ensures laid { OnOk result (Laid self.new) }
         ensures interns { IfOk result (λ place. Interns (store_of self.old) (store_of self.new) text place) }
         ensures at_end { IfOk result (λ place. (InPool (store_of self.old) text → ⊥) → place ≡ length self.old.pool) }
+        ensures size { OnOk result (SameSize self.old self.new) }
     {
         match text_place(&self.pool, &text) {
             Some(i) => place_number(i),
@@ -150,11 +152,17 @@ mod tests {
 
     #[test]
     fn references_begin_at_one(rt: HostRuntime) -> Result<(), Fail> {
-        let mut node = NodeStore::new(rt.alloc(), Kind::Riscv, 0, 0, 2)?;
+        let mut node = NodeStore::new(rt.alloc(), Kind::Riscv, 0, 0, 0)?;
         assert_eq!(rt; node.local_of(9)?, 1);
         assert_eq!(rt; node.local_of(4)?, 2);
         assert_eq!(rt; node.local_of(9)?, 1);
         assert_eq!(rt; node.oid_of(2), 4);
+        Ok(())
+    }
+
+    #[test]
+    fn constants_are_kept(rt: HostRuntime) -> Result<(), Fail> {
+        let mut node = NodeStore::new(rt.alloc(), Kind::Riscv, 0, 0, 2)?;
         node.set_global(1, 5);
         assert_eq!(rt; node.global(1), 5);
         assert_eq!(rt; node.global(0), 0);

@@ -2,7 +2,7 @@
 ghost use Rattle.std.specs.Prelude.{◌≡◌, ◌≤◌, ◌<◌, length, Some};
 ghost use Rattle.ec_memory.specs.Store.{IsWhole};
 ghost use Rattle.ec_memory.specs.Words.{block_word_at, global_word_at};
-ghost use Rattle.ec_frames.specs.Node.{store_of, Laid};
+ghost use Rattle.ec_frames.specs.Node.{store_of, Laid, SameSize};
 ghost use Rattle.ec_frames.specs.Changes.{WritesWord, WritesGlobal};
 ghost use Rattle.ec_frames.specs.Words.{Written};
 
@@ -28,6 +28,7 @@ impl NodeStore {
         requires word_in { i < 128 }
         ensures laid { Laid self.new }
         ensures writes { WritesWord (store_of self.old) (store_of self.new) block i w }
+        ensures size { SameSize self.old self.new }
     {
         self.memory.set_word(block_word(block, i), w);
     }
@@ -47,6 +48,7 @@ impl NodeStore {
         requires global_in { i < self.old.globals }
         ensures laid { Laid self.new }
         ensures writes { WritesGlobal (store_of self.old) (store_of self.new) i w }
+        ensures size { SameSize self.old self.new }
     {
         self.memory.set_word(global_word(i), w);
     }
