@@ -1,6 +1,10 @@
 //! Owners of blocks.
 ghost use Rattle.std.specs.Prelude.{◌≡◌, ◌≤◌, ◌<◌, length, OnOk, IfOk, IfSome, IfNone, Some, None};
+<<<<<<< HEAD
 ghost use Rattle.ec_frames.specs.Node.{store_of, row_of, owned_of, Laid, SameNode};
+=======
+ghost use Rattle.ec_frames.specs.Node.{store_of, row_of, owned_of, Laid, SameSize};
+>>>>>>> 662f6e1c19d25053c881b88432647d53c1f68293
 ghost use Rattle.ec_frames.specs.Changes.{Placed, Named, Closed};
 ghost use Rattle.ec_frames.specs.Owners.{FirstBlock, HasBlock, HasOneBlock, StandsAtPlace};
 
@@ -53,6 +57,8 @@ impl NodeStore {
         ensures laid { OnOk result (Laid self.new) }
         ensures same { OnOk result (SameNode self.old self.new) }
         ensures placed { IfOk result (λ b. Placed (store_of self.old) (store_of self.new) key class fixed None given.now b) }
+        ensures within { IfOk result (λ b. b < self.new.blocks) }
+        ensures size { OnOk result (SameSize self.old self.new) }
     {
         match self.memory.take(1) {
             Some(list) => {
@@ -80,6 +86,7 @@ impl NodeStore {
         ensures laid { OnOk result (Laid self.new) }
         ensures same { OnOk result (SameNode self.old self.new) }
         ensures named { OnOk result (Named (store_of self.old) (store_of self.new) key class fixed None) }
+        ensures size { OnOk result (SameSize self.old self.new) }
     {
         let blocks = Seq::new(self.rows.allocator());
         self.rows.push(Row {
@@ -99,6 +106,7 @@ impl NodeStore {
         ensures laid { Laid self.new }
         ensures same { SameNode self.old self.new }
         ensures closed { Closed (store_of self.old) (store_of self.new) key }
+        ensures size { SameSize self.old self.new }
     {
         match row_place(&self.rows, key) {
             Some(i) => {
@@ -122,4 +130,45 @@ fn row_place(rows: &Seq<Row>, key: Key) -> Option<usize>
         }
     }
     None
+}
+
+#[cfg(test)]
+mod tests {
+    use super::*;
+    use ec_world::node::Kind;
+    use std::test::Fail;
+
+    #[test]
+    fn words_are_kept(rt: HostRuntime) -> Result<(), Fail> {
+        let mut node = NodeStore::new(rt.alloc(), Kind::Riscv, 2, 16, 1)?;
+        let block = node.place(Key::Object(3), None, false, &[7, 8, 9])?;
+        assert_eq!(rt; node.word(block, 2), 9);
+        node.set_word(block, 2, 0xFFFF_FFFF);
+        assert_eq!(rt; node.word(block, 2), 0xFFFF_FFFF);
+        assert_eq!(rt; node.word(block, 1), 8);
+        Ok(())
+    }
+
+    #[test]
+    fn blocks_come_and_go(rt: HostRuntime) -> Result<(), Fail> {
+        let mut node = NodeStore::new(rt.alloc(), Kind::Riscv, 1, 16, 1)?;
+        let key = Key::Object(3);
+        let block = node.place(key, None, false, &[7])?;
+        assert_eq!(rt; node.first_block(key), block);
+        assert_eq!(rt; node.free_blocks(), 0);
+        node.close(key);
+        assert!(rt; node.row(key).is_none());
+        let again = node.place(key, Some(ClassNo::Made(1)), true, &[1])?;
+        assert_eq!(rt; node.word(again, 0), 1);
+        Ok(())
+    }
+
+    #[test]
+    fn a_node_is_named(rt: HostRuntime) -> Result<(), Fail> {
+        let mut node = NodeStore::new(rt.alloc(), Kind::Mips, 0, 0, 0)?;
+        node.name(Key::Object(1), Some(ClassNo::Node), true)?;
+        assert!(rt; node.row(Key::Object(1)).is_some());
+        assert!(rt; node.row(Key::Object(2)).is_none());
+        Ok(())
+    }
 }
