@@ -58,7 +58,6 @@ pub record Laid (node : NodeStore) : Type 0 where
   pub rows_out : (key : Key) (r : Owned) (b : ℕ) → row_of node.rows key ≡ Some r → Has r.blocks b → Has node.memory.free b → ⊥
   pub tidy : Tidy (store_of node)
 
-<<<<<<< HEAD
 -- what no call changes of a node: its kind, its sizes, and its count
 pub record SameNode (node node' : NodeStore) : Type 0 where
   pub kind : node'.kind ≡ node.kind
@@ -66,9 +65,3 @@ pub record SameNode (node node' : NodeStore) : Type 0 where
   pub room : node'.room ≡ node.room
   pub globals : node'.globals ≡ node.globals
   pub count : node'.count ≡ node.count
-=======
--- a node has as many blocks and constants as before
-pub record SameSize (old new : NodeStore) : Type 0 where
-  pub blocks : new.blocks ≡ old.blocks
-  pub globals : new.globals ≡ old.globals
->>>>>>> 662f6e1c19d25053c881b88432647d53c1f68293

@@ -1,10 +1,6 @@
 //! Owners of blocks.
 ghost use Rattle.std.specs.Prelude.{◌≡◌, ◌≤◌, ◌<◌, length, OnOk, IfOk, IfSome, IfNone, Some, None};
-<<<<<<< HEAD
 ghost use Rattle.ec_frames.specs.Node.{store_of, row_of, owned_of, Laid, SameNode};
-=======
-ghost use Rattle.ec_frames.specs.Node.{store_of, row_of, owned_of, Laid, SameSize};
->>>>>>> 662f6e1c19d25053c881b88432647d53c1f68293
 ghost use Rattle.ec_frames.specs.Changes.{Placed, Named, Closed};
 ghost use Rattle.ec_frames.specs.Owners.{FirstBlock, HasBlock, HasOneBlock, StandsAtPlace};
 
@@ -58,7 +54,6 @@ impl NodeStore {
         ensures same { OnOk result (SameNode self.old self.new) }
         ensures placed { IfOk result (λ b. Placed (store_of self.old) (store_of self.new) key class fixed None given.now b) }
         ensures within { IfOk result (λ b. b < self.new.blocks) }
-        ensures size { OnOk result (SameSize self.old self.new) }
     {
         match self.memory.take(1) {
             Some(list) => {
@@ -86,7 +81,6 @@ impl NodeStore {
         ensures laid { OnOk result (Laid self.new) }
         ensures same { OnOk result (SameNode self.old self.new) }
         ensures named { OnOk result (Named (store_of self.old) (store_of self.new) key class fixed None) }
-        ensures size { OnOk result (SameSize self.old self.new) }
     {
         let blocks = Seq::new(self.rows.allocator());
         self.rows.push(Row {
@@ -106,7 +100,6 @@ impl NodeStore {
         ensures laid { Laid self.new }
         ensures same { SameNode self.old self.new }
         ensures closed { Closed (store_of self.old) (store_of self.new) key }
-        ensures size { SameSize self.old self.new }
     {
         match row_place(&self.rows, key) {
             Some(i) => {

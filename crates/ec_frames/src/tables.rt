@@ -2,11 +2,7 @@
 ghost use Rattle.std.specs.Prelude.{◌≡◌, ◌≢◌, ◌≤◌, ◌<◌, ◌+◌, ◌-◌, ◌^◌, ◌↔◌, ℕ, length, OnOk, IfOk, IfSome, IfNone, IsOk, IsSome, IsTrue, Some, slice_get};
 ghost use Rattle.ec_nodes.specs.Store.{text_bytes};
 ghost use Rattle.ec_nodes.specs.Held.{InPool};
-<<<<<<< HEAD
 ghost use Rattle.ec_frames.specs.Node.{store_of, Laid, SameNode};
-=======
-ghost use Rattle.ec_frames.specs.Node.{store_of, Laid, SameSize};
->>>>>>> 662f6e1c19d25053c881b88432647d53c1f68293
 ghost use Rattle.ec_frames.specs.Changes.{Refers, Interns};
 
 use crate::node::NodeStore;
@@ -21,7 +17,6 @@ impl NodeStore {
         ensures laid { OnOk result (Laid self.new) }
         ensures same { OnOk result (SameNode self.old self.new) }
         ensures refers { IfOk result (λ word. Refers (store_of self.old) (store_of self.new) oid word) }
-        ensures size { OnOk result (SameSize self.old self.new) }
     {
         match oid_place(&self.locals, oid) {
             Some(i) => Ok(place_number(i)? + 1),
@@ -49,7 +44,6 @@ impl NodeStore {
         ensures same { OnOk result (SameNode self.old self.new) }
         ensures interns { IfOk result (λ place. Interns (store_of self.old) (store_of self.new) text place) }
         ensures at_end { IfOk result (λ place. (InPool (store_of self.old) text → ⊥) → place ≡ length self.old.pool) }
-        ensures size { OnOk result (SameSize self.old self.new) }
     {
         match text_place(&self.pool, &text) {
             Some(i) => place_number(i),

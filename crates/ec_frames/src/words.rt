@@ -2,11 +2,7 @@
 ghost use Rattle.std.specs.Prelude.{◌≡◌, ◌≤◌, ◌<◌, length, Some};
 ghost use Rattle.ec_memory.specs.Store.{IsWhole};
 ghost use Rattle.ec_memory.specs.Words.{block_word_at, global_word_at};
-<<<<<<< HEAD
 ghost use Rattle.ec_frames.specs.Node.{store_of, Laid, SameNode};
-=======
-ghost use Rattle.ec_frames.specs.Node.{store_of, Laid, SameSize};
->>>>>>> 662f6e1c19d25053c881b88432647d53c1f68293
 ghost use Rattle.ec_frames.specs.Changes.{WritesWord, WritesGlobal};
 ghost use Rattle.ec_frames.specs.Words.{Written};
 
@@ -33,7 +29,6 @@ impl NodeStore {
         ensures laid { Laid self.new }
         ensures same { SameNode self.old self.new }
         ensures writes { WritesWord (store_of self.old) (store_of self.new) block i w }
-        ensures size { SameSize self.old self.new }
     {
         self.memory.set_word(block_word(block, i), w);
     }
@@ -54,7 +49,6 @@ impl NodeStore {
         ensures laid { Laid self.new }
         ensures same { SameNode self.old self.new }
         ensures writes { WritesGlobal (store_of self.old) (store_of self.new) i w }
-        ensures size { SameSize self.old self.new }
     {
         self.memory.set_word(global_word(i), w);
     }

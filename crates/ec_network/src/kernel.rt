@@ -187,6 +187,50 @@ impl Cluster {
     }
 }
 
+impl Cluster {
+    /// The action of the stop at which the top frame of a process rests.
+    pub(crate) fn act(&mut self, p: Pid, here: Here) -> Result<Acted, ActError>
+        requires here { IsHere self.old p here }
+        requires can { CanAct self.old p here }
+        ensures acts { IfOk result (λ acted. (stop : StopRec) → stop_at self.old.program here.operation here.at ≡ Some stop → Acts self.old self.new p here stop acted) }
+        ensures full { WhenLacks result (FullHere self.old 0) }
+        ensures unchanged { WhenLacks result (λ need free. self.new ≡ self.old) }
+    {
+        let stop = stop_of(self.program.parts(), here.operation, here.at);
+        let action = stop.stop;
+        let operand = stop.operands.get(0).copied().unwrap_or(0);
+        match action {
+            Stop::Entry => {
+                self.enter(p, here);
+                Ok(Acted::WentOn)
+            }
+            Stop::Print => match self.print(p, here, operand) {
+                Ok(()) => Ok(Acted::WentOn),
+                Err(_error) => Err(ActError::Memory),
+            },
+            Stop::Global { index } => {
+                self.define(p, here, operand, index);
+                Ok(Acted::WentOn)
+            }
+            Stop::New { class } => match class {
+                ClassNo::Made(class) => match self.create(p, here, class) {
+                    Ok(()) => Ok(Acted::Began),
+                    Err(error) => Err(error),
+                },
+                _ => unreachable!(),
+            },
+            Stop::Return { gives_self: _ } => match self.give_back(p, here) {
+                Ok(()) => Ok(Acted::WentOn),
+                Err(_error) => Err(ActError::Memory),
+            },
+            Stop::End => {
+                self.finish(p, here);
+                Ok(Acted::EndedNow)
+            }
+        }
+    }
+}
+
 /// A stop of an operation.
 pub(crate) fn stop_of(program: &Parts, operation: OpNo, at: u32) -> &StopRec
     requires { (stop : StopRec) × (stop_at program.now operation at ≡ Some stop) }
