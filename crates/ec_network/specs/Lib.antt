@@ -5,3 +5,4 @@ pub mod Turns
 pub mod Holds
 pub mod Kernel
 pub mod Steps
+pub mod Full
