@@ -100,15 +100,25 @@ new_typed program op own n = record { each = λ v h. absurd (has_none v (subst (
 
 -- ---- the world
 
-module _ (program : Parts) (w : Worlds) (p : ℕ) (stop : StopRec) (below : List IrActivation) (top : IrActivation) (a : Acting program w p stop below top) (k : ℕ) (class : ClassRec) (class_is : slice_get program.classes k ≡ Some class) (is_new : stop.stop ≡ New (Made k)) (fine_program : Fine program) (fine : FineWorld program w) (home : place w top.own ≡ Some 0) where
+-- process p is about to make an object of class k
+pub record Creation (program : Parts) (w : Worlds) (p : ℕ) (stop : StopRec) (below : List IrActivation) (top : IrActivation) (k : ℕ) : Type 0 where
+  pub acting : Acting program w p stop below top
+  pub class : ClassRec
+  pub class_is : slice_get program.classes k ≡ Some class
+  pub is_new : stop.stop ≡ New (Made k)
+  pub fine_program : Fine program
+  pub fine : FineWorld program w
+  pub home : place w top.own ≡ Some 0
+
+module _ {program : Parts} {w : Worlds} {p : ℕ} {stop : StopRec} {below : List IrActivation} {top : IrActivation} {k : ℕ} (c : Creation program w p stop below top k) where
   abbrev pub new_object : ObjectRec
-  new_object = record { class = Made k; fields = new_fields [] class.fields; fixed = false; monitor = None }
+  new_object = record { class = Made k; fields = new_fields [] c.class.fields; fixed = false; monitor = None }
 
   abbrev pub new_oid : ℕ
   new_oid = suc (length w.common.objects)
 
   abbrev pub new_activation : IrActivation
-  new_activation = begun class.initial (suc (length w.common.objects)) []
+  new_activation = begun c.class.initial (suc (length w.common.objects)) []
 
   abbrev pub new_common : Common
   new_common = record w.common {
@@ -125,34 +135,34 @@ module _ (program : Parts) (w : Worlds) (p : ℕ) (stop : StopRec) (below : List
   abbrev pub created_world : Worlds
   created_world = with_process w new_common p (ready_with ((below ++ done top ∷ []) ++ new_activation ∷ []))
 
-  fine_new : FineStop program.classes program.globals top.operation a.code.operation.variables (New (Made k)) stop.operands stop.into
-  fine_new = subst (λ (s : Stop). FineStop program.classes program.globals top.operation a.code.operation.variables s stop.operands stop.into) is_new a.code.fine
+  fine_new : FineStop program.classes program.globals top.operation c.acting.code.operation.variables (New (Made k)) stop.operands stop.into
+  fine_new = subst (λ (s : Stop). FineStop program.classes program.globals top.operation c.acting.code.operation.variables s stop.operands stop.into) c.is_new c.acting.code.fine
 
   pub created_is : ir_action w p ≡ created_world
   created_is =
-      let stopped : top.stop ≡ New (Made k) = a.stop_same ∙ is_new in
-      let operands : top.operands ≡ [] = a.operands ∙ ap (λ (xs : List ℕ). map (variable top.variables) xs) fine_new.3 in
-      let there : slice_get w.common.classes k ≡ Some class = ap (λ (cs : List ClassRec). slice_get cs k) fine.facts.classes ∙ class_is in
-      action_is w p below top a.is a.flag
+      let stopped : top.stop ≡ New (Made k) = c.acting.stop_same ∙ c.is_new in
+      let operands : top.operands ≡ [] = c.acting.operands ∙ ap (λ (xs : List ℕ). map (variable top.variables) xs) fine_new.3 in
+      let there : slice_get w.common.classes k ≡ Some c.class = ap (λ (cs : List ClassRec). slice_get cs k) c.fine.facts.classes ∙ c.class_is in
+      action_is w p below top c.acting.is c.acting.flag
       ∙ ap (λ (s : Stop). acted ir_meaning w p below top (effect_of w.common (who_of ir_meaning p below top) s top.operands)) stopped
       ∙ ap (λ (vs : List Value). acted ir_meaning w p below top (effect_of w.common (who_of ir_meaning p below top) (New (Made k)) vs)) operands
       ∙ ap (λ (x : Option ClassRec). acted ir_meaning w p below top (new_effect w.common (who_of ir_meaning p below top) (Made k) [] x)) there
 
   pub no_fields : new_object.fields ≡ []
-  no_fields = ap (λ (fs : List FieldRec). new_fields [] fs) (fine_program.classes k class class_is).fields
+  no_fields = ap (λ (fs : List FieldRec). new_fields [] fs) (c.fine_program.classes k c.class c.class_is).fields
 
   pub one_block : blocks_of new_object ≡ 1
   one_block = ap (λ (vs : List Value). Rattle.ec_nodes.specs.Things.class_blocks (Made k) (length vs)) no_fields
 
   there : p < length w.processes
-  there = process_there program w p stop below top a
+  there = process_there program w p stop below top c.acting
 
   -- ---- places
 
   pub places_created : places w.common.nodes new_common.events ≡ places w.common.nodes w.common.events ++ 0 ∷ []
   places_created =
       places_push (first_places w.common.nodes) w.common.events (Created (suc (length w.common.objects)) top.own)
-      ∙ ap (λ (x : Option ℕ). places w.common.nodes w.common.events ++ node_or_first x ∷ []) home
+      ∙ ap (λ (x : Option ℕ). places w.common.nodes w.common.events ++ node_or_first x ∷ []) c.home
 
   pub place_old : (x j : ℕ) → place w x ≡ Some j → place created_world x ≡ Some j
   place_old zero j e = cc
@@ -161,14 +171,14 @@ module _ (program : Parts) (w : Worlds) (p : ℕ) (stop : StopRec) (below : List
   pub place_new : place created_world (suc (length w.common.objects)) ≡ Some 0
   place_new =
       ap (λ (ps : List ℕ). slice_get ps (length w.common.objects)) places_created
-      ∙ ap (λ i. slice_get (places w.common.nodes w.common.events ++ 0 ∷ []) i) (sym fine.facts.placed)
+      ∙ ap (λ i. slice_get (places w.common.nodes w.common.events ++ 0 ∷ []) i) (sym c.fine.facts.placed)
       ∙ get_end (places w.common.nodes w.common.events) 0
 
   -- ---- three things change, one after the other
 
   module _ (live : IrActivation → List Value) (spot : IrActivation → Kind → ℕ → Option ℕ) where
     pub marked_put : WorldPut live spot (place created_world) 0 w marked_world (Frame p (length below)) (Some (frame_thing live spot p (length below) (done top)))
-    marked_put = stepped live spot (place created_world) w w.common (record { objects = refl; globals = refl }) p (ready_with (below ++ top ∷ [])) (ready_with (below ++ done top ∷ [])) a.is (length below) top (done top) 0 (get_end below top) (sym (set_end below top (done top))) refl (place_old top.own 0 home)
+    marked_put = stepped live spot (place created_world) w w.common (record { objects = refl; globals = refl }) p (ready_with (below ++ top ∷ [])) (ready_with (below ++ done top ∷ [])) c.acting.is (length below) top (done top) 0 (get_end below top) (sym (set_end below top (done top))) refl (place_old top.own 0 c.home)
 
     pub object_put : WorldPut live spot (place created_world) 0 marked_world object_world (Object (suc (length w.common.objects))) (Some (object_thing (suc (length w.common.objects)) new_object))
     object_put = made live spot (place created_world) marked_world new_object 0 place_new
@@ -187,7 +197,7 @@ module _ (program : Parts) (w : Worlds) (p : ℕ) (stop : StopRec) (below : List
     no_frame = ap (frame_if live spot p (length (below ++ done top ∷ []))) (activation_is object_world.processes p (length (below ++ done top ∷ [])) (ready_with (below ++ done top ∷ [])) (get_set_same w.processes p (ready_with (below ++ done top ∷ [])) there) ∙ get_past (below ++ done top ∷ []) (length (below ++ done top ∷ [])) (omega arith))
 
     old_frame : things_of live spot w (Frame p (length below)) ≡ Some (frame_thing live spot p (length below) top)
-    old_frame = ap (frame_if live spot p (length below)) (activation_is w.processes p (length below) (ready_with (below ++ top ∷ [])) a.is ∙ get_end below top)
+    old_frame = ap (frame_if live spot p (length below)) (activation_is w.processes p (length below) (ready_with (below ++ top ∷ [])) c.acting.is ∙ get_end below top)
 
     -- two blocks more are held
     pub two_more : Held (place created_world) 0 created_world ≡ Held (place created_world) 0 w + 2
@@ -199,14 +209,14 @@ module _ (program : Parts) (w : Worlds) (p : ℕ) (stop : StopRec) (below : List
 
   -- ---- it is a world between two entries
 
-  frame_new : NewFrame program class.initial
-  frame_new = new_frame program class.initial fine_program (fine_program.classes k class class_is).initial.1
+  frame_new : NewFrame program c.class.initial
+  frame_new = new_frame program c.class.initial c.fine_program (c.fine_program.classes k c.class c.class_is).initial.1
 
   pub new_variables : HasVariables program new_activation
-  new_variables = record { operation = frame_new.operation; is = frame_new.is; few = frame_new.few; typed = new_typed program class.initial (suc (length w.common.objects)) frame_new }
+  new_variables = record { operation = frame_new.operation; is = frame_new.is; few = frame_new.few; typed = new_typed program c.class.initial (suc (length w.common.objects)) frame_new }
 
   pub new_live : live_variables program new_activation ≡ []
-  new_live = nothing_live program class.initial (suc (length w.common.objects)) frame_new
+  new_live = nothing_live program c.class.initial (suc (length w.common.objects)) frame_new
 
   new_pending : IsPending program w.common.nodes (suc (length w.common.objects)) new_activation
   new_pending = record {
@@ -214,7 +224,7 @@ module _ (program : Parts) (w : Worlds) (p : ℕ) (stop : StopRec) (below : List
     rests = record {
       at_is = frame_new.entry_is;
       stop = sym frame_new.stop;
-      own = (let o = a.own.0 in let q = a.own.1 in (omega arith, omega arith));
+      own = (let o = c.acting.own.0 in let q = c.acting.own.1 in (omega arith, omega arith));
       typed = new_variables.typed;
     };
     pending = refl;
@@ -225,17 +235,17 @@ module _ (program : Parts) (w : Worlds) (p : ℕ) (stop : StopRec) (below : List
   caller_waits : IsWaiting program w.common.nodes (length w.common.objects) (done top)
   caller_waits = record {
     at = stop;
-    rests = record { at_is = a.stop_is; stop = a.stop_same; own = a.own; typed = done_typed program top stop a.stop_is a.flag a.into a.typed };
+    rests = record { at_is = c.acting.stop_is; stop = c.acting.stop_same; own = c.acting.own; typed = done_typed program top stop c.acting.stop_is c.acting.flag c.acting.into c.acting.typed };
     done = refl;
-    into = a.into;
-    code = subst (λ (s : Stop). HasCode s) (sym is_new) tt;
+    into = c.acting.into;
+    code = subst (λ (s : Stop). HasCode s) (sym c.is_new) tt;
     result = (let r = fine_new.4 in (r.0, r.1));
   }
 
   created_order : InOrder program w.common.nodes (suc (length w.common.objects)) ((below ++ done top ∷ []) ++ new_activation ∷ [])
   created_order =
-      let one : InOrder program w.common.nodes (length w.common.objects) (below ++ done top ∷ []) = order_last program w.common.nodes (length w.common.objects) below top (done top) refl (order_of program w.common.nodes (length w.common.objects) (below ++ top ∷ []) a.stack) in
-      let initial = (fine_program.classes k class class_is).initial.0 in
+      let one : InOrder program w.common.nodes (length w.common.objects) (below ++ done top ∷ []) = order_last program w.common.nodes (length w.common.objects) below top (done top) refl (order_of program w.common.nodes (length w.common.objects) (below ++ top ∷ []) c.acting.stack) in
+      let initial = (c.fine_program.classes k c.class c.class_is).initial.0 in
       order_push program w.common.nodes (suc (length w.common.objects)) below (done top) new_activation
           (waiting_more program w.common.nodes (length w.common.objects) (suc (length w.common.objects)) (omega arith) (done top) caller_waits)
           (λ e. omega arith)
@@ -243,7 +253,7 @@ module _ (program : Parts) (w : Worlds) (p : ℕ) (stop : StopRec) (below : List
 
   pub created_facts : FineFacts program created_world
   created_facts =
-      let f = fine.facts in
+      let f = c.fine.facts in
       record {
         classes = f.classes;
         globals = f.globals;
@@ -256,22 +266,22 @@ module _ (program : Parts) (w : Worlds) (p : ℕ) (stop : StopRec) (below : List
             (λ (h : (i ≡ length w.common.objects) × (new_object ≡ o)).
             let made_class : Made k ≡ o.class = ap (λ (q : ObjectRec). q.class) h.1 in
             let at = h.0 in
-            let o1 = a.own.0 in
-            let o2 = a.own.1 in
+            let o1 = c.acting.own.0 in
+            let o2 = c.acting.own.1 in
             ((λ (q : o.class ≡ Node). cc), (λ (l : i < w.common.nodes). absurd (omega arith))))
             (end_or w.common.objects new_object i o e);
         fixed = λ i o e. ⊎_elim
             (λ (h : slice_get w.common.objects i ≡ Some o). f.fixed i o h)
             (λ (h : (i ≡ length w.common.objects) × (new_object ≡ o)).
             let at = h.0 in
-            let o1 = a.own.0 in
-            let o2 = a.own.1 in
+            let o1 = c.acting.own.0 in
+            let o2 = c.acting.own.1 in
             ((λ (l : i < w.common.nodes). absurd (omega arith)), (λ (l : w.common.nodes ≤ i). ap (λ (q : ObjectRec). q.fixed) (sym h.1))))
             (end_or w.common.objects new_object i o e);
         events =
-            let own : 0 < top.own = (let o = a.own.0 in omega arith) in
+            let own : 0 < top.own = (let o = c.acting.own.0 in omega arith) in
             let count : length w.common.objects ≡ suc w.common.nodes + made_by w.common.events = omega (arith, f.placed, length-places w.common.nodes w.common.events) in
-            events_push (suc w.common.nodes) (length w.common.objects) w.common.events (Created (suc (length w.common.objects)) top.own) f.events count (refl, own, a.own.1, tt);
+            events_push (suc w.common.nodes) (length w.common.objects) w.common.events (Created (suc (length w.common.objects)) top.own) f.events count (refl, own, c.acting.own.1, tt);
         placed = ap (λ (ps : List ℕ). length ps) places_created ∙ length_end (places w.common.nodes w.common.events) 0 ∙ ap suc f.placed ∙ sym (length_end w.common.objects new_object);
       }
 
@@ -280,7 +290,7 @@ module _ (program : Parts) (w : Worlds) (p : ℕ) (stop : StopRec) (below : List
       let stack = fine_stack program w.common.nodes (suc (length w.common.objects)) (below ++ done top ∷ []) new_activation new_pending created_order in
       let count : suc (length w.common.objects) ≡ length (w.common.objects ++ new_object ∷ []) = sym (length_end w.common.objects new_object) in
       let world : FineWorld program created_world =
-          fine_world program w created_world p (ready_with ((below ++ done top ∷ []) ++ new_activation ∷ [])) refl refl (omega (arith, count)) fine there
+          fine_world program w created_world p (ready_with ((below ++ done top ∷ []) ++ new_activation ∷ [])) refl refl (omega (arith, count)) c.fine there
               (subst (λ (m : ℕ). Rattle.ec_network.specs.Worlds.FineStack program w.common.nodes m ((below ++ done top ∷ []) ++ new_activation ∷ [])) count stack)
               created_facts in
       let now : top_of (stack_at created_world p) ≡ Some new_activation =

@@ -41,7 +41,7 @@ use Rattle.ec_network.proofs.ActionsOrder.{ready_with}
 use Rattle.ec_network.proofs.ActionsTop.{TopAt, node_riscv}
 use Rattle.ec_network.proofs.ActionsAfter.{after_action}
 use Rattle.ec_network.proofs.ActionsMarking.{mark_shows}
-use Rattle.ec_network.proofs.ActionsCreated.{new_object, new_activation, new_common, marked_world, object_world, created_world, created_is, no_fields, one_block, places_created, place_old, object_put, frame_put, no_object, no_frame, new_variables, new_live, created_outcome}
+use Rattle.ec_network.proofs.ActionsCreated.{Creation, new_object, new_activation, new_common, marked_world, object_world, created_world, created_is, no_fields, one_block, places_created, place_old, object_put, frame_put, no_object, no_frame, new_variables, new_live, created_outcome}
 
 -- what isn't in the world has no blocks
 no_row : (live : IrActivation → List Value) (spot : IrActivation → Kind → ℕ → Option ℕ) (nodes : ℕ → Option Store) (w : Worlds) (place : ℕ → Option ℕ) (k : ℕ) (s : Store) (key : Key) → ShowsNodes live spot nodes w place → nodes k ≡ Some s → things_of live spot w key ≡ None → s.row key ≡ None
@@ -69,17 +69,20 @@ module _ {S : Type 0} (M : MachineMeaning S) (net net' : Cluster) (w : Worlds) (
   abbrev spots : IrActivation → Kind → ℕ → Option ℕ
   spots = spot net.program net.images
 
+  abbrev creation : Creation net.program w p stop below top k
+  creation = record { acting = t.acting; class = e.class; class_is = e.class_is; is_new = e.is; fine_program = holds.steady.fine; fine = holds.fine; home = t.home }
+
   abbrev marked : Worlds
-  marked = marked_world net.program w p stop below top t.acting k e.class e.class_is e.is holds.steady.fine holds.fine t.home
+  marked = marked_world creation
 
   abbrev with_object : Worlds
-  with_object = object_world net.program w p stop below top t.acting k e.class e.class_is e.is holds.steady.fine holds.fine t.home
+  with_object = object_world creation
 
   abbrev created : Worlds
-  created = created_world net.program w p stop below top t.acting k e.class e.class_is e.is holds.steady.fine holds.fine t.home
+  created = created_world creation
 
   abbrev fresh : IrActivation
-  fresh = new_activation net.program w p stop below top t.acting k e.class e.class_is e.is holds.steady.fine holds.fine t.home
+  fresh = new_activation creation
 
   abbrev deep : ℕ
   deep = length (below ++ done top ∷ [])
@@ -108,33 +111,33 @@ module _ {S : Type 0} (M : MachineMeaning S) (net net' : Cluster) (w : Worlds) (
   first_shows : ShowsNodes live spots (stores net) w (place created)
   first_shows = replaced live spots (stores net) w (place w) (place created) (λ key x f.
       let z = holds.shows.nodes.things.each key x f in
-      place_old net.program w p stop below top t.acting k e.class e.class_is e.is holds.steady.fine holds.fine t.home x.home z.node z.home ∙ sym z.home) holds.shows.nodes
+      place_old creation x.home z.node z.home ∙ sym z.home) holds.shows.nodes
 
   marked_shows : ShowsNodes live spots (only_node e.one) marked (place created)
   marked_shows =
       mark_shows net.program net.images holds.steady.slots p h.block below top stop (stores net) (only_node e.one) (store_of e.node) e.one w w.common (place created)
           (alone_net net e.node e.becomes.before) (alone_only e.one) first_shows (record { objects = refl; globals = refl })
           t.acting.is t.acting.stop_is t.acting.flag t.acting.into t.variables t.frame riscv
-          (place_old net.program w p stop below top t.acting k e.class e.class_is e.is holds.steady.fine holds.fine t.home top.own 0 t.home) e.marks
+          (place_old creation top.own 0 t.home) e.marks
 
   no_object_row : e.one.row (Object oid) ≡ None
-  no_object_row = no_row live spots (only_node e.one) marked (place created) 0 e.one (Object oid) marked_shows refl (no_object net.program w p stop below top t.acting k e.class e.class_is e.is holds.steady.fine holds.fine t.home live spots)
+  no_object_row = no_row live spots (only_node e.one) marked (place created) 0 e.one (Object oid) marked_shows refl (no_object creation live spots)
 
   no_frame_row : e.two.row (Frame p deep) ≡ None
   no_frame_row =
       let ne : Frame p deep ≢ Object oid = λ q. cc in
       (makes.others (Frame p deep) ne).row
-      ∙ no_row live spots (only_node e.one) marked (place created) 0 e.one (Frame p deep) marked_shows refl (no_frame net.program w p stop below top t.acting k e.class e.class_is e.is holds.steady.fine holds.fine t.home live spots)
+      ∙ no_row live spots (only_node e.one) marked (place created) 0 e.one (Frame p deep) marked_shows refl (no_frame creation live spots)
 
   tidy_two : Tidy e.two
   tidy_two = placed_tidy e.two (store_of e.node') (Frame p deep) None false None (p ∷ deep ∷ e.class.initial ∷ 0 ∷ 1 ∷ oid ∷ []) e.frame_block begins no_frame_row e.becomes.laid.tidy
 
   abbrev object : Thing
-  object = object_thing oid (new_object net.program w p stop below top t.acting k e.class e.class_is e.is holds.steady.fine holds.fine t.home)
+  object = object_thing oid (new_object creation)
 
   no_values : (i : ℕ) (v : Value) → slice_get object.values i ≡ Some v → ⊥
   no_values i v f =
-      let none : slice_get object.values i ≡ None = ap (λ (vs : List Value). slice_get vs i) (no_fields net.program w p stop below top t.acting k e.class e.class_is e.is holds.steady.fine holds.fine t.home) in
+      let none : slice_get object.values i ≡ None = ap (λ (vs : List Value). slice_get vs i) (no_fields creation) in
       cc
 
   object_shown : Shown e.two (Object oid) object
@@ -142,7 +145,7 @@ module _ {S : Type 0} (M : MachineMeaning S) (net net' : Cluster) (w : Worlds) (
     row = record { blocks = e.object_block ∷ []; class = Some (Made k); fixed = false; monitor = None };
     there = makes.row;
     spells = record {
-      counted = sym (one_block net.program w p stop below top t.acting k e.class e.class_is e.is holds.steady.fine holds.fine t.home);
+      counted = sym (one_block creation);
       class = refl;
       fixed = refl;
       monitor = refl;
@@ -155,8 +158,8 @@ module _ {S : Type 0} (M : MachineMeaning S) (net net' : Cluster) (w : Worlds) (
   object_shows = one_changed live spots (place created) (only_node e.one) (only_node e.two) 0 e.one e.two marked with_object (Object oid) (Some object)
       marked_shows
       (alone_put (only_node e.one) (only_node e.two) e.one e.two (alone_only e.one) (alone_only e.two))
-      (placed_puts e.one e.two (Object oid) (Some (Made k)) false None [] e.object_block object makes no_object_row tidy_two (one_block net.program w p stop below top t.acting k e.class e.class_is e.is holds.steady.fine holds.fine t.home) object_shown)
-      (object_put net.program w p stop below top t.acting k e.class e.class_is e.is holds.steady.fine holds.fine t.home live spots)
+      (placed_puts e.one e.two (Object oid) (Some (Made k)) false None [] e.object_block object makes no_object_row tidy_two (one_block creation) object_shown)
+      (object_put creation live spots)
 
   frame_stands_new : FrameStands net.program (store_of e.node') p deep e.frame_block fresh
   frame_stands_new = record {
@@ -167,18 +170,18 @@ module _ {S : Type 0} (M : MachineMeaning S) (net net' : Cluster) (w : Worlds) (
     fixed = refl;
     monitor = refl;
     heads = λ i n f. begins.words i n f;
-    slots = λ x g. absurd (has_none x (subst (λ (xs : List ℕ). Has xs x) (new_live net.program w p stop below top t.acting k e.class e.class_is e.is holds.steady.fine holds.fine t.home) g));
+    slots = λ x g. absurd (has_none x (subst (λ (xs : List ℕ). Has xs x) (new_live creation) g));
   }
 
   created_shows : ShowsNodes live spots (stores net') created (place created)
   created_shows =
       let kind : (store_of e.node').kind ≡ Riscv = begins.rest.kind ∙ makes.rest.kind ∙ e.marks.tables.rest.kind ∙ riscv in
-      let shown = shows_frame net.program net.images holds.steady.slots (store_of e.node') kind p deep e.frame_block fresh (new_variables net.program w p stop below top t.acting k e.class e.class_is e.is holds.steady.fine holds.fine t.home) frame_stands_new in
+      let shown = shows_frame net.program net.images holds.steady.slots (store_of e.node') kind p deep e.frame_block fresh (new_variables creation) frame_stands_new in
       one_changed live spots (place created) (only_node e.two) (stores net') 0 e.two (store_of e.node') with_object created (Frame p deep) (Some (frame_thing live spots p deep fresh))
           object_shows
           (alone_put (only_node e.two) (stores net') e.two (store_of e.node') (alone_only e.two) (alone_net net' e.node' e.becomes.after))
           (placed_puts e.two (store_of e.node') (Frame p deep) None false None (p ∷ deep ∷ e.class.initial ∷ 0 ∷ 1 ∷ oid ∷ []) e.frame_block (frame_thing live spots p deep fresh) begins no_frame_row e.becomes.laid.tidy refl shown)
-          (frame_put net.program w p stop below top t.acting k e.class e.class_is e.is holds.steady.fine holds.fine t.home live spots)
+          (frame_put creation live spots)
 
   depths_are : net'.depths ≡ depths_of created
   depths_are =
@@ -193,8 +196,8 @@ module _ {S : Type 0} (M : MachineMeaning S) (net net' : Cluster) (w : Worlds) (
 
   pub creates_after : AfterAction M net w p net' Began
   creates_after = after_action M net net' w p holds e.node e.node' e.becomes (λ i. begins.rest.text i ∙ makes.rest.text i ∙ e.marks.tables.rest.text i) created refl created_shows Began
-      (created_is net.program w p stop below top t.acting k e.class e.class_is e.is holds.steady.fine holds.fine t.home)
+      (created_is creation)
       statuses_are depths_are
       (e.output ∙ holds.shows.output)
-      (e.places ∙ ap (λ (ps : List ℕ). ps ++ 0 ∷ []) holds.shows.places_are ∙ sym (places_created net.program w p stop below top t.acting k e.class e.class_is e.is holds.steady.fine holds.fine t.home))
-      (created_outcome net.program w p stop below top t.acting k e.class e.class_is e.is holds.steady.fine holds.fine t.home)
+      (e.places ∙ ap (λ (ps : List ℕ). ps ++ 0 ∷ []) holds.shows.places_are ∙ sym (places_created creation))
+      (created_outcome creation)

@@ -19,7 +19,7 @@ use Rattle.ec_ir.specs.declared.code.StopRec.{StopRec}
 use Rattle.ec_ir.specs.declared.code.Parts.{Parts}
 use Rattle.ec_ir.specs.declared.activation.IrActivation.{IrActivation}
 use Rattle.ec_ir.specs.Meaning.{ir_meaning, live_values, live_variables, variable, stop_at}
-use Rattle.ec_ir.specs.Fine.{FineStop}
+use Rattle.ec_ir.specs.Fine.{Fine, FineStop}
 use Rattle.ec_stops.specs.Machine.{MachineMeaning}
 use Rattle.ec_nodes.specs.declared.key.Key.{Key}
 use Rattle.ec_nodes.specs.declared.key.Key.TheVariants.{Object, Frame}
@@ -43,7 +43,7 @@ use Rattle.ec_network.specs.declared.kernel.Acted.TheVariants.{WentOn, Began, En
 use Rattle.ec_network.specs.Shows.{Worlds, Shows, store_if, stores, spot, place}
 use Rattle.ec_network.specs.Room.{Room, Strings, BytesOf, NeedsOf, FullAt, NoneFull, held}
 use Rattle.ec_network.specs.Room.Strings.{InField, InFrame, InConstant}
-use Rattle.ec_network.specs.Worlds.{ir_action, status_of, status_at}
+use Rattle.ec_network.specs.Worlds.{FineWorld, ir_action, status_of, status_at}
 use Rattle.ec_network.specs.Turns.{SameMachines}
 use Rattle.ec_network.specs.Holds.{Holds}
 use Rattle.ec_network.specs.Kernel.{IsHere, FullHere, Acts}
@@ -57,7 +57,7 @@ use Rattle.ec_network.proofs.ActionsOrder.{ready_with}
 use Rattle.ec_network.proofs.ActionsTop.{TopAt, read_top}
 use Rattle.ec_network.proofs.ActionsAfter.{strings_stand}
 use Rattle.ec_network.proofs.ActionsMarking.{process_there}
-use Rattle.ec_network.proofs.ActionsCreated.{new_activation, created_world, created_is, created_facts, place_old, two_more, new_live}
+use Rattle.ec_network.proofs.ActionsCreated.{Creation, new_activation, created_world, created_is, created_facts, place_old, two_more, new_live}
 use Rattle.ec_network.proofs.Actions.{acts_after}
 
 -- ---- none lacks room
@@ -158,6 +158,9 @@ none_full_idle M net w p holds h =
 
 -- ---- a creation without room
 
+abbrev creation_of : (net : Cluster) (w : Worlds) (p : ℕ) (h : Here) (stop : StopRec) (below : List IrActivation) (top : IrActivation) (k : ℕ) (node : NodeStore) → TopAt net w p h stop node below top → (class : ClassRec) → slice_get net.program.classes k ≡ Some class → stop.stop ≡ New (Made k) → Fine net.program → FineWorld net.program w → Creation net.program w p stop below top k
+creation_of net w p h stop below top k node t class class_is is_new program fine = record { acting = t.acting; class = class; class_is = class_is; is_new = is_new; fine_program = program; fine = fine; home = t.home }
+
 module _ {S : Type 0} (M : MachineMeaning S) (net : Cluster) (w : Worlds) (p : ℕ) (h : Here) (stop : StopRec) (holds : Holds M net w) (here : IsHere net p h) (below : List IrActivation) (top : IrActivation) (k : ℕ) (t : TopAt net w p h stop here.node below top) (class : ClassRec) (class_is : slice_get net.program.classes k ≡ Some class) (is_new : stop.stop ≡ New (Made k)) where
   abbrev live : IrActivation → List Value
   live = live_values net.program
@@ -168,11 +171,14 @@ module _ {S : Type 0} (M : MachineMeaning S) (net : Cluster) (w : Worlds) (p : �
   abbrev s : Store
   s = store_of here.node
 
+  abbrev creation : Creation net.program w p stop below top k
+  creation = creation_of net w p h stop below top k here.node t class class_is is_new holds.steady.fine holds.fine
+
   abbrev created : Worlds
-  created = created_world net.program w p stop below top t.acting k class class_is is_new holds.steady.fine holds.fine t.home
+  created = created_world creation
 
   abbrev fresh : IrActivation
-  fresh = new_activation net.program w p stop below top t.acting k class class_is is_new holds.steady.fine holds.fine t.home
+  fresh = new_activation creation
 
   there : p < length w.processes
   there = process_there net.program w p stop below top t.acting
@@ -194,7 +200,7 @@ module _ {S : Type 0} (M : MachineMeaning S) (net : Cluster) (w : Worlds) (p : �
 
   fresh_text : (text : List ℕ) → Has (live_values net.program fresh) (Str text) → ⊥
   fresh_text text g =
-      let none : live_values net.program fresh ≡ [] = ap (λ (xs : List ℕ). map (variable []) xs) (new_live net.program w p stop below top t.acting k class class_is is_new holds.steady.fine holds.fine t.home) in
+      let none : live_values net.program fresh ≡ [] = ap (λ (xs : List ℕ). map (variable []) xs) (new_live creation) in
       has_none (Str text) (subst (λ (vs : List Value). Has vs (Str text)) none g)
 
   top_text : (d : ℕ) (a : IrActivation) (text : List ℕ) → slice_get ((below ++ done top ∷ []) ++ fresh ∷ []) d ≡ Some a → Has (live_values net.program a) (Str text) → InPool (store_of here.node) text
@@ -208,7 +214,7 @@ module _ {S : Type 0} (M : MachineMeaning S) (net : Cluster) (w : Worlds) (p : �
 
   created_text : (text : List ℕ) → Strings net.program created 0 text → InPool (store_of here.node) text
   created_text text (InField i o e at g) =
-      let none = (created_facts net.program w p stop below top t.acting k class class_is is_new holds.steady.fine holds.fine t.home).objects i o e in
+      let none = (created_facts creation).objects i o e in
       absurd (has_none (Str text) (subst (λ (vs : List Value). Has vs (Str text)) none.0 g))
   created_text text (InFrame q d a e at g) = ⊎_elim
       (λ (same : q ≡ p).
@@ -224,10 +230,10 @@ module _ {S : Type 0} (M : MachineMeaning S) (net : Cluster) (w : Worlds) (p : �
   held_more =
       let moved : ShowsNodes live spots (stores net) w (place created) = replaced live spots (stores net) w (place w) (place created) (λ key x f.
           let z = holds.shows.nodes.things.each key x f in
-          place_old net.program w p stop below top t.acting k class class_is is_new holds.steady.fine holds.fine t.home x.home z.node z.home ∙ sym z.home) holds.shows.nodes in
+          place_old creation x.home z.node z.home ∙ sym z.home) holds.shows.nodes in
       let one = moved.held 0 (store_of here.node) there_is in
       let two = holds.shows.nodes.held 0 (store_of here.node) there_is in
-      let more = two_more net.program w p stop below top t.acting k class class_is is_new holds.steady.fine holds.fine t.home live spots in
+      let more = two_more creation live spots in
       omega (arith, one, two, more)
 
   pool_is : (text : List ℕ) → Has here.node.pool text ↔ Pools net 0 text
@@ -269,8 +275,9 @@ full_here M net w p h stop k node need free holds ready here stop_is is_new full
     let t = read_top M net w p h stop holds here stop_is here.node here.one ready in
     let a = t.2.acting in
     let fine : FineStop net.program.classes net.program.globals t.1.operation a.code.operation.variables (New (Made k)) stop.operands stop.into = subst (λ (x : Stop). FineStop net.program.classes net.program.globals t.1.operation a.code.operation.variables x stop.operands stop.into) is_new a.code.fine in
-    let is = created_is net.program w p stop t.0 t.1 a k fine.0 fine.1 is_new holds.steady.fine holds.fine t.2.home in
+    let c : Creation net.program w p stop t.0 t.1 k = creation_of net w p h stop t.0 t.1 k here.node t.2 fine.0 fine.1 is_new holds.steady.fine holds.fine in
+    let is = created_is c in
     let base = creation_full M net w p h stop holds here t.0 t.1 k t.2 fine.0 fine.1 is_new free (full.2 here.node here.one) full.3 in
     subst (λ (v : Worlds). FullAt (rooms net) (held w) (held v) (Pools net) (Strings net.program v) node Blocks need free) (sym is)
-        (subst (λ (n : ℕ). FullAt (rooms net) (held w) (held (created_world net.program w p stop t.0 t.1 a k fine.0 fine.1 is_new holds.steady.fine holds.fine t.2.home)) (Pools net) (Strings net.program (created_world net.program w p stop t.0 t.1 a k fine.0 fine.1 is_new holds.steady.fine holds.fine t.2.home)) n Blocks need free) (sym full.0)
-            (subst (λ (m : ℕ). FullAt (rooms net) (held w) (held (created_world net.program w p stop t.0 t.1 a k fine.0 fine.1 is_new holds.steady.fine holds.fine t.2.home)) (Pools net) (Strings net.program (created_world net.program w p stop t.0 t.1 a k fine.0 fine.1 is_new holds.steady.fine holds.fine t.2.home)) 0 Blocks m free) (sym full.1) base))
+        (subst (λ (n : ℕ). FullAt (rooms net) (held w) (held (created_world c)) (Pools net) (Strings net.program (created_world c)) n Blocks need free) (sym full.0)
+            (subst (λ (m : ℕ). FullAt (rooms net) (held w) (held (created_world c)) (Pools net) (Strings net.program (created_world c)) 0 Blocks m free) (sym full.1) base))
