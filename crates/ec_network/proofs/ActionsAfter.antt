@@ -61,7 +61,7 @@ module _ (net : Cluster) (w : Worlds) (shows : Shows net w) (k : ℕ) (s : Store
 
 -- ---- after a change of the one node
 
-module _ {S : Type 0} (M : MachineMeaning S) (net net' : Cluster) (w : Worlds) (p : ℕ) (holds : Holds M net w) (node node' : NodeStore) (b : Becomes net net' node node') where
+module _ {S : Type 0} (M : MachineMeaning S) {net net' : Cluster} {w : Worlds} (p : ℕ) (holds : Holds M net w) {node node' : NodeStore} (b : Becomes net net' node node') where
   machines_after : SameMachines net net'
   machines_after = record {
     program = b.program;

@@ -155,7 +155,7 @@ module _ {program : Parts} {w : Worlds} {p : ℕ} {stop : StopRec} {below : List
   one_block = ap (λ (vs : List Value). Rattle.ec_nodes.specs.Things.class_blocks (Made k) (length vs)) no_fields
 
   there : p < length w.processes
-  there = process_there program w p stop below top c.acting
+  there = process_there c.acting
 
   -- ---- places
 

@@ -195,7 +195,7 @@ module _ {S : Type 0} (M : MachineMeaning S) (net net' : Cluster) (w : Worlds) (
   statuses_are = e.statuses ∙ holds.shows.statuses ∙ sym (map_set_same (λ (q : Proc IrActivation). q.status) w.processes p (ready_with (below ++ top ∷ [])) (ready_with ((below ++ done top ∷ []) ++ fresh ∷ [])) t.acting.is refl)
 
   pub creates_after : AfterAction M net w p net' Began
-  creates_after = after_action M net net' w p holds e.node e.node' e.becomes (λ i. begins.rest.text i ∙ makes.rest.text i ∙ e.marks.tables.rest.text i) created refl created_shows Began
+  creates_after = after_action M p holds e.becomes (λ i. begins.rest.text i ∙ makes.rest.text i ∙ e.marks.tables.rest.text i) created refl created_shows Began
       (created_is creation)
       statuses_are depths_are
       (e.output ∙ holds.shows.output)

@@ -171,13 +171,13 @@ defines_after M net net' w p h stop below top index holds e t =
     let a = t.acting in
     let v : Value = variable top.variables e.operand in
     let fine : FineStop net.program.classes net.program.globals top.operation a.code.operation.variables (Global index) stop.operands stop.into = subst (λ (s : Stop). FineStop net.program.classes net.program.globals top.operation a.code.operation.variables s stop.operands stop.into) e.is a.code.fine in
-    let typed : HasType fine.0.0 v = operand_typed net.program w p stop below top a e.operand e.operands fine.0.0 fine.0.2 in
-    let stands : Stands (store_of e.node) v e.word = operand_stands net.program w p stop below top a e.operand e.operands (store_of e.node) (length below) h.block e.word t.frame e.word_is in
+    let typed : HasType fine.0.0 v = operand_typed a e.operand e.operands fine.0.0 fine.0.2 in
+    let stands : Stands (store_of e.node) v e.word = operand_stands a e.operand e.operands (store_of e.node) (length below) h.block e.word t.frame e.word_is in
     let inside : index < length w.common.globals = omega (arith, get_within net.program.globals index fine.0.0 fine.0.1, typed_length net.program.globals w.common.globals holds.fine.facts.globals) in
     let laid : Laid e.node = holds.shows.laid 0 e.node (ap (λ (ns : List NodeStore). slice_get ns 0) e.becomes.before) in
     let w1 : Worlds = constant_world w index v in
     let w' : Worlds = with_process w1 w1.common p (ready_with (below ++ done top ∷ [])) in
-    let operands : top.operands ≡ v ∷ [] = one_operand net.program w p stop below top a e.operand e.operands in
+    let operands : top.operands ≡ v ∷ [] = one_operand a e.operand e.operands in
     let stopped : top.stop ≡ Global index = a.stop_same ∙ e.is in
     let is : ir_action w p ≡ w' =
         action_is w p below top a.is a.flag
@@ -197,9 +197,9 @@ defines_after M net net' w p h stop below top index holds e t =
         mark_shows net.program net.images holds.steady.slots p h.block below top stop (only_node e.middle) (stores net') e.middle (store_of e.node') w1 w1.common (place w)
             (alone_only e.middle) (alone_net net' e.node' e.becomes.after) middle (record { objects = refl; globals = refl })
             a.is a.stop_is a.flag a.into t.variables frame riscv t.home e.marks in
-    after_action M net net' w p holds e.node e.node' e.becomes (λ i. e.marks.tables.rest.text i ∙ e.sets.text i) w' refl shows WentOn is
+    after_action M p holds e.becomes (λ i. e.marks.tables.rest.text i ∙ e.sets.text i) w' refl shows WentOn is
         (e.processes.statuses ∙ statuses_stay net w p below top (done top) holds.shows a.is w1.common)
         (e.processes.depths ∙ depths_stay net w p below top (done top) holds.shows a.is w1.common)
         (e.output ∙ holds.shows.output)
         (e.places ∙ holds.shows.places_are)
-        (went_on net.program w p stop below top a w' holds.fine refl refl refl (subst (λ (s : Stop). HasCode s) (sym e.is) tt) fine.1 (defined_facts net.program w index fine.0.0 v p (ready_with (below ++ done top ∷ [])) fine.0.1 typed holds.fine.facts))
+        (went_on a w' holds.fine refl refl refl (subst (λ (s : Stop). HasCode s) (sym e.is) tt) fine.1 (defined_facts net.program w index fine.0.0 v p (ready_with (below ++ done top ∷ [])) fine.0.1 typed holds.fine.facts))

@@ -52,9 +52,9 @@ enters_after M net net' w p h stop below top holds e t =
             (alone_net net e.node e.becomes.before) (alone_net net' e.node' e.becomes.after) holds.shows.nodes (record { objects = refl; globals = refl })
             a.is a.stop_is a.flag a.into t.variables t.frame (node_riscv M net w p holds e.node e.becomes.before) t.home e.marks in
     let fine : FineStop net.program.classes net.program.globals top.operation a.code.operation.variables Entry stop.operands stop.into = subst (λ (s : Stop). FineStop net.program.classes net.program.globals top.operation a.code.operation.variables s stop.operands stop.into) e.is a.code.fine in
-    after_action M net net' w p holds e.node e.node' e.becomes e.marks.tables.rest.text w' refl shows WentOn is
+    after_action M p holds e.becomes e.marks.tables.rest.text w' refl shows WentOn is
         (e.processes.statuses ∙ statuses_stay net w p below top (done top) holds.shows a.is w.common)
         (e.processes.depths ∙ depths_stay net w p below top (done top) holds.shows a.is w.common)
         (e.output ∙ holds.shows.output)
         (e.places ∙ holds.shows.places_are)
-        (went_on net.program w p stop below top a w' holds.fine refl refl refl (subst (λ (s : Stop). HasCode s) (sym e.is) tt) fine.1 (same_facts net.program w p (ready_with (below ++ done top ∷ [])) holds.fine.facts))
+        (went_on a w' holds.fine refl refl refl (subst (λ (s : Stop). HasCode s) (sym e.is) tt) fine.1 (same_facts net.program w p (ready_with (below ++ done top ∷ [])) holds.fine.facts))

@@ -61,13 +61,13 @@ finishes_after M net net' w p h stop below top holds e t =
             (alone_put (stores net) (stores net') (store_of e.node) (store_of e.node') (alone_net net e.node e.becomes.before) (alone_net net' e.node' e.becomes.after))
             (closed_puts (store_of e.node) (store_of e.node) (store_of e.node') (Frame p 0) t.frame.row h.block (tables_self (store_of e.node)) e.closes row t.frame.blocks e.becomes.laid.tidy)
             (left (live_values net.program) (spot net.program net.images) (place w) w w.common (record { objects = refl; globals = refl }) p (ready_with (top ∷ [])) ended process top 0 refl t.home) in
-    let there : p < length w.processes = process_there net.program w p stop below top a in
+    let there : p < length w.processes = process_there a in
     let now : status_at w' p ≡ Some Ended = ap (λ (x : Option (Proc IrActivation)). status_of x) (get_set_same w.processes p ended there) in
     let outcome : Outcome net.program w' p EndedNow = (
       fine_world net.program w w' p ended refl refl (omega arith) holds.fine there refl (same_facts net.program w p ended holds.fine.facts),
       λ r. cc,
     ) in
-    after_action M net net' w p holds e.node e.node' e.becomes e.closes.rest.text w' refl shows EndedNow is
+    after_action M p holds e.becomes e.closes.rest.text w' refl shows EndedNow is
         (e.statuses ∙ ap (λ (ss : List Rattle.ec_world.specs.declared.process.ProcStatus.ProcStatus). slice_set ss p Ended) holds.shows.statuses ∙ sym (map_set (λ (q : Proc IrActivation). q.status) w.processes p ended))
         (e.depths ∙ ap (λ (ds : List ℕ). slice_set ds p 0) holds.shows.depths ∙ sym (map_set (λ (q : Proc IrActivation). length q.activations) w.processes p ended))
         (e.output ∙ holds.shows.output)

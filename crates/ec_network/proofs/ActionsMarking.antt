@@ -70,7 +70,7 @@ module _ (net : Cluster) (w : Worlds) (p : ℕ) (below : List IrActivation) (top
   pub depths_stay : (c : Common) → net.depths ≡ depths_of (with_process w c p (ready_with (below ++ a ∷ [])))
   depths_stay c = shows.depths ∙ sym (map_set_same (λ (q : Proc IrActivation). length q.activations) w.processes p (ready_with (below ++ top ∷ [])) (ready_with (below ++ a ∷ [])) is (length_end below a ∙ sym (length_end below top)))
 
-module _ (program : Parts) (w : Worlds) (p : ℕ) (stop : StopRec) (below : List IrActivation) (top : IrActivation) (a : Acting program w p stop below top) where
+module _ {program : Parts} {w : Worlds} {p : ℕ} {stop : StopRec} {below : List IrActivation} {top : IrActivation} (a : Acting program w p stop below top) where
   pub process_there : p < length w.processes
   process_there = get_within w.processes p (ready_with (below ++ top ∷ [])) a.is
 

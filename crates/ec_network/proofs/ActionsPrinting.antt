@@ -63,10 +63,10 @@ prints_after M net net' w p h stop below top holds e t =
     let c : Common = printed w.common e.text in
     let w' : Worlds = with_process w c p (ready_with (below ++ done top ∷ [])) in
     let fine : FineStop net.program.classes net.program.globals top.operation a.code.operation.variables Print stop.operands stop.into = subst (λ (s : Stop). FineStop net.program.classes net.program.globals top.operation a.code.operation.variables s stop.operands stop.into) e.is a.code.fine in
-    let typed : HasType Bytes (variable top.variables e.operand) = operand_typed net.program w p stop below top a e.operand e.operands Bytes fine.0 in
-    let stands : Stands (store_of e.node) (variable top.variables e.operand) e.word = operand_stands net.program w p stop below top a e.operand e.operands (store_of e.node) (length below) h.block e.word t.frame e.word_is in
+    let typed : HasType Bytes (variable top.variables e.operand) = operand_typed a e.operand e.operands Bytes fine.0 in
+    let stands : Stands (store_of e.node) (variable top.variables e.operand) e.word = operand_stands a e.operand e.operands (store_of e.node) (length below) h.block e.word t.frame e.word_is in
     let value : variable top.variables e.operand ≡ Str e.text = text_value (store_of e.node).local (store_of e.node).text (variable top.variables e.operand) e.word e.text typed stands e.text_is in
-    let operands : top.operands ≡ Str e.text ∷ [] = one_operand net.program w p stop below top a e.operand e.operands ∙ ap (λ (v : Value). v ∷ []) value in
+    let operands : top.operands ≡ Str e.text ∷ [] = one_operand a e.operand e.operands ∙ ap (λ (v : Value). v ∷ []) value in
     let stopped : top.stop ≡ Print = a.stop_same ∙ e.is in
     let is : ir_action w p ≡ w' =
         action_is w p below top a.is a.flag
@@ -76,9 +76,9 @@ prints_after M net net' w p h stop below top holds e t =
         mark_shows net.program net.images holds.steady.slots p h.block below top stop (stores net) (stores net') (store_of e.node) (store_of e.node') w c (place w)
             (alone_net net e.node e.becomes.before) (alone_net net' e.node' e.becomes.after) holds.shows.nodes (record { objects = refl; globals = refl })
             a.is a.stop_is a.flag a.into t.variables t.frame (node_riscv M net w p holds e.node e.becomes.before) t.home e.marks in
-    after_action M net net' w p holds e.node e.node' e.becomes e.marks.tables.rest.text w' refl shows WentOn is
+    after_action M p holds e.becomes e.marks.tables.rest.text w' refl shows WentOn is
         (e.processes.statuses ∙ statuses_stay net w p below top (done top) holds.shows a.is c)
         (e.processes.depths ∙ depths_stay net w p below top (done top) holds.shows a.is c)
         (e.output ∙ ap (λ (out : List ℕ). out ++ e.text) holds.shows.output)
         (e.places ∙ holds.shows.places_are)
-        (went_on net.program w p stop below top a w' holds.fine refl refl refl (subst (λ (s : Stop). HasCode s) (sym e.is) tt) fine.1 (printed_facts net.program w e.text p (ready_with (below ++ done top ∷ [])) holds.fine.facts))
+        (went_on a w' holds.fine refl refl refl (subst (λ (s : Stop). HasCode s) (sym e.is) tt) fine.1 (printed_facts net.program w e.text p (ready_with (below ++ done top ∷ [])) holds.fine.facts))

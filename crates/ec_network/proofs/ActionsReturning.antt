@@ -170,7 +170,7 @@ module _ {S : Type 0} (M : MachineMeaning S) (net net' : Cluster) (w : Worlds) (
       (left (live_values net.program) (spot net.program net.images) (place w) w w.common (record { objects = refl; globals = refl }) p (ready_with ((lower ++ c ∷ []) ++ top ∷ [])) (ready_with (lower ++ c ∷ [])) t.acting.is top 0 refl t.home)
 
   there : p < length w.processes
-  there = process_there net.program w p stop (lower ++ c ∷ []) top t.acting
+  there = process_there t.acting
 
   popped_is : slice_get popped.processes p ≡ Some (ready_with (lower ++ c ∷ []))
   popped_is = get_set_same w.processes p (ready_with (lower ++ c ∷ [])) there
@@ -254,7 +254,7 @@ module _ {S : Type 0} (M : MachineMeaning S) (net net' : Cluster) (w : Worlds) (
   statuses_are = e.statuses ∙ holds.shows.statuses ∙ sym (map_set_same (λ (q : Proc IrActivation). q.status) w.processes p (ready_with ((lower ++ c ∷ []) ++ top ∷ [])) (ready_with (lower ++ given ∷ [])) t.acting.is refl)
 
   returns_at : AfterAction M net w p net' WentOn
-  returns_at = after_action M net net' w p holds e.node e.node' e.becomes (λ i. e.writes.tables.rest.text i ∙ e.closes.rest.text i ∙ e.refers.texts i) returned refl returned_shows WentOn returned_is
+  returns_at = after_action M p holds e.becomes (λ i. e.writes.tables.rest.text i ∙ e.closes.rest.text i ∙ e.refers.texts i) returned refl returned_shows WentOn returned_is
       statuses_are depths_are (e.output ∙ holds.shows.output) (e.places ∙ holds.shows.places_are) outcome
 
 -- a list that isn't empty, parted at its end

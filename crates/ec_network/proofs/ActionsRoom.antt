@@ -181,7 +181,7 @@ module _ {S : Type 0} (M : MachineMeaning S) (net : Cluster) (w : Worlds) (p : â
   fresh = new_activation creation
 
   there : p < length w.processes
-  there = process_there net.program w p stop below top t.acting
+  there = process_there t.acting
 
   there_is : stores net 0 â‰¡ Some (store_of here.node)
   there_is = (alone_net net here.node here.one).here
