@@ -26,25 +26,26 @@ use Rattle.ec_ir.specs.declared.code.StopRec.{StopRec}
 use Rattle.ec_ir.specs.declared.code.Operation.{Operation}
 use Rattle.ec_ir.specs.declared.code.Parts.{Parts}
 use Rattle.ec_ir.specs.declared.activation.IrActivation.{IrActivation}
-use Rattle.ec_ir.specs.Meaning.{ir_meaning, begun, live_variables, live_values, stop_at, stops_of, variable}
+use Rattle.ec_ir.specs.Meaning.{ir_meaning, begun, live_variables, live_values, stop_at, stops_of, variable, live_at}
 use Rattle.ec_ir.specs.Fine.{HasCode, Fine, FineStop, FineNew}
 use Rattle.ec_stops.specs.Faithful.{LiveTyped}
 use Rattle.ec_nodes.specs.declared.key.Key.TheVariants.{Object, Frame}
-use Rattle.ec_nodes.specs.Things.{things_of, object_thing, frame_thing, frame_if, object_if, size_of, blocks_of}
+use Rattle.ec_nodes.specs.Things.{things_of, object_thing, frame_thing, frame_if, object_if, size_of, blocks_of, class_blocks}
 use Rattle.ec_nodes.specs.Held.{Held}
 use Rattle.ec_nodes.specs.Worlds.{WorldPut}
 use Rattle.ec_nodes.proofs.Procs.{activation_is, get_end, get_past}
 use Rattle.ec_nodes.proofs.Steps.{with_process, stepped, called}
 use Rattle.ec_nodes.proofs.Create.{made}
 use Rattle.ec_network.specs.Shows.{Worlds, place}
-use Rattle.ec_network.specs.Worlds.{ir_action, RestsAt, IsPending, IsWaiting, FineFacts, FineWorld}
+use Rattle.ec_network.specs.Worlds.{ir_action, RestsAt, IsPending, IsWaiting, FineFacts, FineWorld, FineStack}
 use Rattle.ec_network.specs.Steps.{Outcome}
 use Rattle.ec_network.specs.declared.kernel.Acted.TheVariants.{Began}
-use Rattle.ec_network.proofs.ActionsLists.{length_end, get_left, end_or, set_end, set_twice, has_none}
+use Rattle.ec_network.proofs.ActionsLists.{length_end, get_left, end_or, set_end, set_twice}
 use Rattle.ec_network.proofs.ActionsFrames.{done, done_typed, HasVariables}
 use Rattle.ec_network.proofs.ActionsOrder.{ready_with, InOrder, order_of, order_last, order_push, order_more, fine_stack, fine_world, waiting_more}
 use Rattle.ec_network.proofs.ActionsTop.{Acting, action_is}
 use Rattle.ec_network.proofs.ActionsMarking.{process_there}
+use Rattle.ec_world.proofs.Members.{has_none}
 
 -- ---- one event more
 
@@ -91,7 +92,7 @@ new_frame program op fine below =
 
 pub nothing_live : (program : Parts) (op own : ℕ) → NewFrame program op → live_variables program (begun op own []) ≡ []
 nothing_live program op own n =
-    ap (λ (x : Option StopRec). Rattle.ec_ir.specs.Meaning.live_at x (begun op own [])) n.entry_is
+    ap (λ (x : Option StopRec). live_at x (begun op own [])) n.entry_is
     ∙ ap (λ (xs : List ℕ). xs ++ n.entry.live) n.operands
     ∙ n.live
 
@@ -152,7 +153,7 @@ module _ {program : Parts} {w : Worlds} {p : ℕ} {stop : StopRec} {below : List
   no_fields = ap (λ (fs : List FieldRec). new_fields [] fs) (c.fine_program.classes k c.class c.class_is).fields
 
   pub one_block : blocks_of new_object ≡ 1
-  one_block = ap (λ (vs : List Value). Rattle.ec_nodes.specs.Things.class_blocks (Made k) (length vs)) no_fields
+  one_block = ap (λ (vs : List Value). class_blocks (Made k) (length vs)) no_fields
 
   there : p < length w.processes
   there = process_there c.acting
@@ -291,7 +292,7 @@ module _ {program : Parts} {w : Worlds} {p : ℕ} {stop : StopRec} {below : List
       let count : suc (length w.common.objects) ≡ length (w.common.objects ++ new_object ∷ []) = sym (length_end w.common.objects new_object) in
       let world : FineWorld program created_world =
           fine_world program w created_world p (ready_with ((below ++ done top ∷ []) ++ new_activation ∷ [])) refl refl (omega (arith, count)) c.fine there
-              (subst (λ (m : ℕ). Rattle.ec_network.specs.Worlds.FineStack program w.common.nodes m ((below ++ done top ∷ []) ++ new_activation ∷ [])) count stack)
+              (subst (λ (m : ℕ). FineStack program w.common.nodes m ((below ++ done top ∷ []) ++ new_activation ∷ [])) count stack)
               created_facts in
       let now : top_of (stack_at created_world p) ≡ Some new_activation =
           ap (λ (x : Option (Proc IrActivation)). top_of (ready_stack x)) (get_set_same w.processes p (ready_with ((below ++ done top ∷ []) ++ new_activation ∷ [])) there)

@@ -34,7 +34,7 @@ use Rattle.ec_network.specs.Worlds.{ir_action}
 use Rattle.ec_network.specs.Holds.{Holds}
 use Rattle.ec_network.specs.Kernel.{Creates}
 use Rattle.ec_network.specs.Steps.{AfterAction}
-use Rattle.ec_network.proofs.ActionsLists.{length_end, map_set, map_set_same, has_none}
+use Rattle.ec_network.proofs.ActionsLists.{length_end, map_set, map_set_same}
 use Rattle.ec_network.proofs.ActionsStores.{only_node, alone_only, alone_net, alone_put, placed_puts}
 use Rattle.ec_network.proofs.ActionsFrames.{done, FrameStands, shows_frame}
 use Rattle.ec_network.proofs.ActionsOrder.{ready_with}
@@ -42,6 +42,7 @@ use Rattle.ec_network.proofs.ActionsTop.{TopAt, node_riscv}
 use Rattle.ec_network.proofs.ActionsAfter.{after_action}
 use Rattle.ec_network.proofs.ActionsMarking.{mark_shows}
 use Rattle.ec_network.proofs.ActionsCreated.{Creation, new_object, new_activation, new_common, marked_world, object_world, created_world, created_is, no_fields, one_block, places_created, place_old, object_put, frame_put, no_object, no_frame, new_variables, new_live, created_outcome}
+use Rattle.ec_world.proofs.Members.{has_none}
 
 -- what isn't in the world has no blocks
 no_row : (live : IrActivation → List Value) (spot : IrActivation → Kind → ℕ → Option ℕ) (nodes : ℕ → Option Store) (w : Worlds) (place : ℕ → Option ℕ) (k : ℕ) (s : Store) (key : Key) → ShowsNodes live spot nodes w place → nodes k ≡ Some s → things_of live spot w key ≡ None → s.row key ≡ None

@@ -47,6 +47,7 @@ use Rattle.ec_network.proofs.ActionsOrder.{ready_with}
 use Rattle.ec_network.proofs.ActionsTop.{TopAt, action_is, node_riscv}
 use Rattle.ec_network.proofs.ActionsAfter.{after_action}
 use Rattle.ec_network.proofs.ActionsMarking.{frame_at, mark_shows, statuses_stay, depths_stay, went_on, one_operand, operand_typed, operand_stands}
+use Rattle.ec_world.specs.declared.node.Kind.TheVariants.{Riscv}
 
 -- ---- constants of their types
 
@@ -189,7 +190,7 @@ defines_after M net net' w p h stop below top index holds e t =
             (λ key r b f k. let few = laid.few_blocks in let l = laid.rows_in key r b f k in omega arith)
             (live_values net.program) (spot net.program net.images) (stores net) (only_node e.middle) w (place w) v
             (alone_net net e.node e.becomes.before) (alone_only e.middle) inside stands holds.shows.nodes in
-    let riscv : e.middle.kind ≡ Rattle.ec_world.specs.declared.node.Kind.TheVariants.Riscv = e.sets.kind ∙ node_riscv M net w p holds e.node e.becomes.before in
+    let riscv : e.middle.kind ≡ Riscv = e.sets.kind ∙ node_riscv M net w p holds e.node e.becomes.before in
     let frame : FrameStands net.program e.middle p (length below) h.block top =
         frame_at net.program net.images (only_node e.middle) e.middle w1 (place w) p (length below) h.block (below ++ top ∷ []) top t.frame.row holds.steady.slots riscv middle (alone_only e.middle) t.variables a.is (get_end below top)
             (e.sets.rows (Frame p (length below)) ∙ t.frame.there) t.frame.blocks in

@@ -28,9 +28,10 @@ use Rattle.ec_network.proofs.ActionsOrder.{ready_with}
 use Rattle.ec_network.proofs.ActionsTop.{TopAt, action_is, node_riscv}
 use Rattle.ec_network.proofs.ActionsAfter.{after_action}
 use Rattle.ec_network.proofs.ActionsMarking.{mark_shows, statuses_stay, depths_stay, went_on}
+use Rattle.ec_world.specs.declared.process.Proc.{Proc}
 
 -- what is told of a world but for its processes
-pub same_facts : (program : Parts) (w : Worlds) (p : ℕ) (proc : Rattle.ec_world.specs.declared.process.Proc.Proc IrActivation) → FineFacts program w → FineFacts program (with_process w w.common p proc)
+pub same_facts : (program : Parts) (w : Worlds) (p : ℕ) (proc : Proc IrActivation) → FineFacts program w → FineFacts program (with_process w w.common p proc)
 same_facts program w p proc f = record {
   classes = f.classes;
   globals = f.globals;

@@ -37,6 +37,7 @@ use Rattle.ec_network.proofs.ActionsTop.{TopAt, action_is}
 use Rattle.ec_network.proofs.ActionsAfter.{after_action}
 use Rattle.ec_network.proofs.ActionsMarking.{process_there}
 use Rattle.ec_network.proofs.ActionsEntering.{same_facts}
+use Rattle.ec_world.specs.declared.process.ProcStatus.{ProcStatus}
 
 abbrev ended : Proc IrActivation
 ended = record { activations = []; status = Ended }
@@ -68,7 +69,7 @@ finishes_after M net net' w p h stop below top holds e t =
       λ r. cc,
     ) in
     after_action M p holds e.becomes e.closes.rest.text w' refl shows EndedNow is
-        (e.statuses ∙ ap (λ (ss : List Rattle.ec_world.specs.declared.process.ProcStatus.ProcStatus). slice_set ss p Ended) holds.shows.statuses ∙ sym (map_set (λ (q : Proc IrActivation). q.status) w.processes p ended))
+        (e.statuses ∙ ap (λ (ss : List ProcStatus). slice_set ss p Ended) holds.shows.statuses ∙ sym (map_set (λ (q : Proc IrActivation). q.status) w.processes p ended))
         (e.depths ∙ ap (λ (ds : List ℕ). slice_set ds p 0) holds.shows.depths ∙ sym (map_set (λ (q : Proc IrActivation). length q.activations) w.processes p ended))
         (e.output ∙ holds.shows.output)
         (e.places ∙ holds.shows.places_are)

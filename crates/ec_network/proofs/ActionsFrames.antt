@@ -26,8 +26,9 @@ use Rattle.ec_frames.specs.Changes.{WritesWord}
 use Rattle.ec_network.specs.declared.image.Images.{Images}
 use Rattle.ec_network.specs.Shows.{spot, image_of, home_of, word_if}
 use Rattle.ec_network.specs.Holds.{HasSlots}
-use Rattle.ec_network.proofs.ActionsLists.{get_map, get_map_back, has_right, append_none, has_end_or, has_left}
+use Rattle.ec_network.proofs.ActionsLists.{get_map, get_map_back, append_none, has_end_or}
 use Rattle.ec_network.proofs.ActionsStores.{word_of_one, same_grown}
+use Rattle.ec_world.proofs.Members.{has_front, has_back}
 
 -- ---- live variables, by what the action has come to
 
@@ -62,11 +63,11 @@ module _ (program : Parts) (a : IrActivation) (stop : StopRec) (is : stop_at pro
   pub done_live : a.pending ≡ true → a.into ≡ stop.into → (x : ℕ) → Has (live_variables program (done a)) x → Has (live_variables program a) x
   done_live e f x h =
       let g : Has stop.live x = subst (λ (xs : List ℕ). Has xs x) (live_done f) h in
-      subst (λ (xs : List ℕ). Has xs x) (sym (live_pending e)) (has_right stop.operands stop.live x g)
+      subst (λ (xs : List ℕ). Has xs x) (sym (live_pending e)) (has_back x stop.operands stop.live g)
 
   -- an operand is live
   pub operand_live : a.pending ≡ true → (x : ℕ) → Has stop.operands x → Has (live_variables program a) x
-  operand_live e x h = subst (λ (xs : List ℕ). Has xs x) (sym (live_pending e)) (has_left stop.operands stop.live x h)
+  operand_live e x h = subst (λ (xs : List ℕ). Has xs x) (sym (live_pending e)) (has_front x stop.operands stop.live h)
 
   pub done_typed : a.pending ≡ true → a.into ≡ stop.into → LiveTyped program a → LiveTyped program (done a)
   done_typed e f t = record { each = λ x h. t.each x (done_live e f x h) }

@@ -33,16 +33,6 @@ module _ {A : Type 0} where
   set_end [] x y = refl
   set_end (z ∷ zs) x y = ap (λ r. z ∷ r) (set_end zs x y)
 
-  pub has_left : (xs ys : List A) (x : A) → Has xs x → Has (xs ++ ys) x
-  has_left xs ys x h = record { at = h.at; is = get_left xs ys h.at x h.is }
-
-  pub has_right : (xs ys : List A) (x : A) → Has ys x → Has (xs ++ ys) x
-  has_right [] ys x h = h
-  has_right (z ∷ zs) ys x h = let t = has_right zs ys x h in record { at = suc t.at; is = t.is }
-
-  pub has_none : (x : A) → Has {A = A} [] x → ⊥
-  has_none x h = cc (h.is)
-
   -- an item of a list that ends with one
   pub has_end_or : (xs : List A) (y x : A) → Has (xs ++ y ∷ []) x → Has xs x ⊎ (y ≡ x)
   has_end_or xs y x h = ⊎_elim

@@ -13,7 +13,7 @@ use Rattle.ec_ir.specs.declared.code.StopRec.{StopRec}
 use Rattle.ec_ir.specs.declared.code.Operation.{Operation}
 use Rattle.ec_ir.specs.declared.code.Parts.{Parts}
 use Rattle.ec_ir.specs.declared.activation.IrActivation.{IrActivation}
-use Rattle.ec_ir.specs.Meaning.{live_values, live_variables, variable, types_of}
+use Rattle.ec_ir.specs.Meaning.{live_values, live_variables, variable, types_of, stop_at}
 use Rattle.ec_ir.specs.Fine.{HasCode, HasType, HaveTypes}
 use Rattle.ec_stops.specs.Faithful.{first_slot}
 use Rattle.ec_nodes.specs.declared.key.Key.TheVariants.{Frame}
@@ -31,7 +31,7 @@ use Rattle.ec_network.specs.declared.cluster.Cluster.{Cluster}
 use Rattle.ec_network.specs.declared.kernel.Here.{Here}
 use Rattle.ec_network.specs.Shows.{Worlds, Shows, spot, depths_of}
 use Rattle.ec_network.specs.Worlds.{FineFacts, FineWorld}
-use Rattle.ec_network.specs.Steps.{IsDone, FineMiddle}
+use Rattle.ec_network.specs.Steps.{IsDone, FineMiddle, MiddleStack}
 use Rattle.ec_network.specs.Holds.{HasSlots}
 use Rattle.ec_network.specs.Kernel.{pending_head}
 use Rattle.ec_network.proofs.ActionsLists.{length_end, set_end, map_set_same}
@@ -49,7 +49,7 @@ frame_at program images nodes s w place p d b xs a row slots riscv shows alone v
 
 module _ (program : Parts) (images : Images) (slots : HasSlots program images.rv.table) (p b : ℕ) (below : List IrActivation) (top : IrActivation) (stop : StopRec) where
   -- the nodes show the world in which the top's action is done
-  pub mark_shows : (nodes nodes' : ℕ → Option Store) (s s' : Store) (w : Worlds) (c : Common) (place : ℕ → Option ℕ) → IsAlone nodes s → IsAlone nodes' s' → ShowsNodes (live_values program) (spot program images) nodes w place → SameStore w.common c → slice_get w.processes p ≡ Some (ready_with (below ++ top ∷ [])) → Rattle.ec_ir.specs.Meaning.stop_at program top.operation top.at ≡ Some stop → top.pending ≡ true → top.into ≡ stop.into → HasVariables program top → FrameStands program s p (length below) b top → s.kind ≡ Riscv → place top.own ≡ Some 0 → WritesWord s s' b pending_head 0 → ShowsNodes (live_values program) (spot program images) nodes' (with_process w c p (ready_with (below ++ done top ∷ []))) place
+  pub mark_shows : (nodes nodes' : ℕ → Option Store) (s s' : Store) (w : Worlds) (c : Common) (place : ℕ → Option ℕ) → IsAlone nodes s → IsAlone nodes' s' → ShowsNodes (live_values program) (spot program images) nodes w place → SameStore w.common c → slice_get w.processes p ≡ Some (ready_with (below ++ top ∷ [])) → stop_at program top.operation top.at ≡ Some stop → top.pending ≡ true → top.into ≡ stop.into → HasVariables program top → FrameStands program s p (length below) b top → s.kind ≡ Riscv → place top.own ≡ Some 0 → WritesWord s s' b pending_head 0 → ShowsNodes (live_values program) (spot program images) nodes' (with_process w c p (ready_with (below ++ done top ∷ []))) place
   mark_shows nodes nodes' s s' w c place alone alone' shows same is stop_is flag into v frame riscv home writes =
       let live : IrActivation → List Value = live_values program in
       let d : ℕ = length below in
@@ -87,7 +87,7 @@ module _ {program : Parts} {w : Worlds} {p : ℕ} {stop : StopRec} {below : List
       let order : InOrder program w.common.nodes (length w.common.objects) (below ++ done top ∷ []) = order_last program w.common.nodes (length w.common.objects) below top (done top) refl (order_of program w.common.nodes (length w.common.objects) (below ++ top ∷ []) a.stack) in
       let stack = middle_stack program w.common.nodes (length w.common.objects) below (done top) is_done order in
       fine_middle program w w' p (ready_with (below ++ done top ∷ [])) now nodes (omega (arith, objects)) fine process_there refl
-          (subst (λ (n : ℕ). Rattle.ec_network.specs.Steps.MiddleStack program n (length w'.common.objects) (below ++ done top ∷ [])) (sym nodes) (subst (λ (m : ℕ). Rattle.ec_network.specs.Steps.MiddleStack program w.common.nodes m (below ++ done top ∷ [])) (sym objects) stack))
+          (subst (λ (n : ℕ). MiddleStack program n (length w'.common.objects) (below ++ done top ∷ [])) (sym nodes) (subst (λ (m : ℕ). MiddleStack program w.common.nodes m (below ++ done top ∷ [])) (sym objects) stack))
           facts
 
   -- ---- one operand

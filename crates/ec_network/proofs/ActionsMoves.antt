@@ -1,7 +1,7 @@
 -- A move by the operator on one node: an event, and each object stays where it is.
 use Rattle.std.proofs.Common.{◌≡◌, ◌≢◌, ℕ, zero, suc, ◌+◌, ◌<◌, ◌≤◌, Bool, true, false, List, [], ◌∷◌, ◌++◌, length, Option, Some, None, refl, sym, ap, ◌∙◌, subst, arith, ◌⊎◌, inl, inr, ⊎_elim}
 use Rattle.std.proofs.lemmas.Bool.Decides.{nat_tests}
-use Rattle.std.specs.Prelude.{slice_get, ◌↔◌, ◌||◌, not, nat_lt}
+use Rattle.std.specs.Prelude.{slice_get, ◌↔◌, ◌||◌, not, nat_lt, IsSome}
 use Rattle.ec_base.proofs.Lists.{get_within}
 use Rattle.ec_world.specs.declared.value.Value.{Value}
 use Rattle.ec_world.specs.declared.event.Event.{Event}
@@ -10,10 +10,12 @@ use Rattle.ec_world.specs.declared.object.ObjectRec.{ObjectRec}
 use Rattle.ec_world.specs.declared.common.Common.{Common}
 use Rattle.ec_world.specs.declared.node.Kind.{Kind}
 use Rattle.ec_world.specs.Effects.{object_at}
-use Rattle.ec_world.specs.Group.{Has, group_of, any_fixed, rounds, spread, mark_all, wanted, none_marked, marked_from}
+use Rattle.ec_world.specs.Group.{Has, InGroup, group_of, any_fixed}
+use Rattle.ec_world.specs.Group.InGroup.{Itself, Linked}
 use Rattle.ec_world.specs.Moves.{OperatorMove, is_idle_move, is_there, moved_unless}
 use Rattle.ec_world.specs.Places.{places, place_in, AreThere, AreEvents}
-use Rattle.ec_world.proofs.Members.{has_marked}
+use Rattle.ec_world.proofs.Members.{has_first, has_later, object_within}
+use Rattle.ec_world.proofs.Rounds.{group_of_is}
 use Rattle.ec_world.proofs.Placement.{made_by, length-places, place_on_one}
 use Rattle.ec_ir.specs.declared.activation.IrActivation.{IrActivation}
 use Rattle.ec_ir.specs.Meaning.{live_values}
@@ -36,37 +38,6 @@ use Rattle.ec_network.proofs.ActionsTop.{one_node}
 use Rattle.ec_network.proofs.ActionsAfter.{strings_stand}
 use Rattle.ec_network.proofs.ActionsCreated.{events_push}
 
--- ---- a group's members are there
-
-length-mark_all : (names : List ℕ) (oid : ℕ) (ms : List Bool) → length (mark_all names oid ms) ≡ length ms
-length-mark_all names oid [] = refl
-length-mark_all names oid (m ∷ ms) = ap suc (length-mark_all names (suc oid) ms)
-
-length-rounds : (c : Common) (n : ℕ) (ms : List Bool) → length (rounds c n ms) ≡ length ms
-unfolding rounds
-length-rounds c zero ms = refl
-length-rounds c (suc n) ms = length-rounds c n (spread c ms) ∙ length-mark_all (wanted c 1 ms) 1 ms
-
-length-none_marked : (os : List ObjectRec) → length (none_marked os) ≡ length os
-length-none_marked [] = refl
-length-none_marked (o ∷ os) = ap suc (length-none_marked os)
-
-all_there : (count : ℕ) (ms : List ℕ) → ((m : ℕ) → Has ms m → (0 < m) × (m ≤ count)) → AreThere count ms
-all_there count [] h = tt
-all_there count (m ∷ ms) h =
-    let first = h m (record { at = zero; is = refl }) in
-    (first.0, first.1, all_there count ms (λ x g. h x (record { at = suc g.at; is = g.is })))
-
-group_there : (c : Common) (x : ℕ) → AreThere (length c.objects) (group_of c x)
-group_there c x = all_there (length c.objects) (group_of c x) (λ m h.
-    let start : List Bool = mark_all (x ∷ []) 1 (none_marked c.objects) in
-    let marks : List Bool = rounds c (length c.objects) start in
-    let z = has_marked 1 marks m h in
-    let below : z.at < length marks = get_within marks z.at true z.is in
-    let count : length marks ≡ length c.objects = length-rounds c (length c.objects) start ∙ length-mark_all (x ∷ []) 1 (none_marked c.objects) ∙ length-none_marked c.objects in
-    let number = z.number in
-    (omega arith, omega (arith, below, count)))
-
 -- ---- a move that isn't idle
 
 neither : (a b : Bool) → (a || b) ≡ false → (a ≡ false) × (b ≡ false)
@@ -80,11 +51,38 @@ not_false false e = cc
 below_of_test : (k n : ℕ) → nat_lt k n ≡ true → k < n
 below_of_test k n e = grind (arith, nat_tests)
 
-goes_there : (c : Common) (o k : ℕ) → is_idle_move c o k ≡ false → k < c.nodes
+object_there : (x : Option ObjectRec) → is_there x ≡ true → IsSome x
+object_there None e = cc
+object_there (Some o) e = refl
+
+-- the node and the object are there
+pub record GoesThere (c : Common) (o k : ℕ) : Type 0 where
+  pub node : k < c.nodes
+  pub object : (0 < o) × (o ≤ length c.objects)
+
+goes_there : (c : Common) (o k : ℕ) → is_idle_move c o k ≡ false → GoesThere c o k
 goes_there c o k e =
     let x = neither (not (is_there (object_at c.objects o))) (not (nat_lt k c.nodes) || any_fixed c (group_of c o)) e in
     let y = neither (not (nat_lt k c.nodes)) (any_fixed c (group_of c o)) x.1 in
-    below_of_test k c.nodes (not_false (nat_lt k c.nodes) y.0)
+    record {
+      node = below_of_test k c.nodes (not_false (nat_lt k c.nodes) y.0);
+      object = object_within c.objects o (object_there (object_at c.objects o) (not_false (is_there (object_at c.objects o)) x.0));
+    }
+
+-- ---- a group's members are there
+
+member_there : (c : Common) (o m : ℕ) → (0 < o) × (o ≤ length c.objects) → InGroup c o m → (0 < m) × (m ≤ length c.objects)
+member_there c o m h (Itself) = h
+member_there c o m h (Linked y z g has some) = object_within c.objects m some
+
+all_there : (count : ℕ) (ms : List ℕ) → ((m : ℕ) → Has ms m → (0 < m) × (m ≤ count)) → AreThere count ms
+all_there count [] h = tt
+all_there count (m ∷ ms) h =
+    let first = h m (has_first m ms) in
+    (first.0, first.1, all_there count ms (λ x g. h x (has_later m x ms g)))
+
+group_there : (c : Common) (o : ℕ) → (0 < o) × (o ≤ length c.objects) → AreThere (length c.objects) (group_of c o)
+group_there c o h = all_there (length c.objects) (group_of c o) (λ m g. member_there c o m h (((group_of_is c o h.0 h.1).each m).0 g))
 
 -- ---- on one node
 
@@ -170,10 +168,10 @@ module _ {S : Type 0} (M : MachineMeaning S) (net : Cluster) (w : Worlds) (holds
           let same : places w.common.nodes events ≡ places w.common.nodes w.common.events =
               subst (λ n. length (places n events) ≡ length (places n w.common.events) → places n events ≡ places n w.common.events) (sym one) (λ l. places_same events w.common.events l) count in
           let objects : length w.common.objects ≡ suc w.common.nodes + made_by w.common.events = omega (arith, holds.fine.facts.placed, length-places w.common.nodes w.common.events) in
-          let there : k < w.common.nodes = goes_there w.common o k e in
+          let there = goes_there w.common o k e in
           let are : AreEvents (suc w.common.nodes) events =
               events_push (suc w.common.nodes) (length w.common.objects) w.common.events (Moved (group_of w.common o) (suc k)) holds.fine.facts.events objects
-                  (group_there w.common o, omega arith, omega (arith, objects, there), tt) in
+                  (group_there w.common o there.object, omega arith, omega (arith, objects, there.node), tt) in
           eventful_holds events same are
 
   -- so nothing changed is the move

@@ -15,7 +15,7 @@ use Rattle.ec_ir.specs.declared.activation.IrActivation.{IrActivation}
 use Rattle.ec_ir.specs.Meaning.{ir_meaning, live_values, variable}
 use Rattle.ec_ir.specs.Fine.{HasCode, HasType, FineStop}
 use Rattle.ec_stops.specs.Machine.{MachineMeaning}
-use Rattle.ec_nodes.specs.Store.{Stands}
+use Rattle.ec_nodes.specs.Store.{Stands, StandsFor}
 use Rattle.ec_nodes.specs.Shows.{ShowsNodes}
 use Rattle.ec_nodes.proofs.Steps.{with_process}
 use Rattle.ec_frames.specs.declared.node.NodeStore.{NodeStore}
@@ -50,7 +50,7 @@ printed_facts program w text p proc f = record {
 }
 
 -- a value of this type is a text, here that of its word
-text_value : (local : ℕ → Option ℕ) (texts : ℕ → Option (List ℕ)) (v : Value) (word : ℕ) (text : List ℕ) → HasType Bytes v → Rattle.ec_nodes.specs.Store.StandsFor local texts v word → texts word ≡ Some text → v ≡ Str text
+text_value : (local : ℕ → Option ℕ) (texts : ℕ → Option (List ℕ)) (v : Value) (word : ℕ) (text : List ℕ) → HasType Bytes v → StandsFor local texts v word → texts word ≡ Some text → v ≡ Str text
 text_value local texts (Int z) word text t s e = absurd t
 text_value local texts (Truth b) word text t s e = absurd t
 text_value local texts (Ref o) word text t s e = absurd t

@@ -50,7 +50,7 @@ use Rattle.ec_network.specs.Kernel.{IsHere, FullHere, Acts}
 use Rattle.ec_network.specs.Kernel.Acts.{Entering, Printing, Defining, Creating, Returning, Finishing}
 use Rattle.ec_network.specs.Steps.{AfterAction}
 use Rattle.ec_network.specs.Full.{room_of, rooms, pool_if, Pools}
-use Rattle.ec_network.proofs.ActionsLists.{get_left, end_or, get_map_back, has_none}
+use Rattle.ec_network.proofs.ActionsLists.{get_left, end_or, get_map_back}
 use Rattle.ec_network.proofs.ActionsStores.{alone_net, alone_is, shown_here}
 use Rattle.ec_network.proofs.ActionsFrames.{done, done_live}
 use Rattle.ec_network.proofs.ActionsOrder.{ready_with}
@@ -59,6 +59,7 @@ use Rattle.ec_network.proofs.ActionsAfter.{strings_stand}
 use Rattle.ec_network.proofs.ActionsMarking.{process_there}
 use Rattle.ec_network.proofs.ActionsCreated.{Creation, new_activation, created_world, created_is, created_facts, place_old, two_more, new_live}
 use Rattle.ec_network.proofs.Actions.{acts_after}
+use Rattle.ec_world.proofs.Members.{has_none}
 
 -- ---- none lacks room
 

@@ -34,6 +34,7 @@ use Rattle.ec_network.proofs.ActionsLists.{length_end, get_map}
 use Rattle.ec_network.proofs.ActionsStores.{IsAlone, alone_net, shown_here}
 use Rattle.ec_network.proofs.ActionsFrames.{HasVariables, FrameStands, frame_stands}
 use Rattle.ec_network.proofs.ActionsOrder.{ready_with}
+use Rattle.ec_world.specs.declared.node.Kind.TheVariants.{Riscv}
 
 -- ---- a Ready process
 
@@ -138,7 +139,7 @@ place_there program w oid one facts some below =
         (let l = facts.placed in omega arith)
 
 module _ {S : Type 0} (M : MachineMeaning S) (net : Cluster) (w : Worlds) (p : ℕ) (holds : Holds M net w) (node : NodeStore) (one : net.nodes ≡ node ∷ []) where
-  pub node_riscv : (store_of node).kind ≡ Rattle.ec_world.specs.declared.node.Kind.TheVariants.Riscv
+  pub node_riscv : (store_of node).kind ≡ Riscv
   node_riscv = let same : holds.steady.node ≡ node = cc (holds.steady.one) in ap (λ (n : NodeStore). n.kind) (sym same) ∙ holds.steady.riscv
 
   -- the frame of an activation of p
