@@ -1,7 +1,6 @@
 -- A network whose one node has changed, and the world that it then shows.
-use Rattle.std.proofs.Common.{◌≡◌, ◌≢◌, ℕ, zero, suc, ◌+◌, ◌<◌, ◌≤◌, List, [], ◌∷◌, ◌++◌, length, Option, Some, None, refl, sym, ap, ◌∙◌, subst, arith, ◌⊎◌, inl, inr, ⊎_elim}
+use Rattle.std.proofs.Common.{◌≡◌, ℕ, zero, suc, List, [], ◌∷◌, length, Some, refl, sym, ap, ◌∙◌, subst, ◌⊎◌, inl, ⊎_elim}
 use Rattle.std.specs.Prelude.{slice_get, ◌↔◌}
-use Rattle.ec_world.specs.declared.value.Value.{Value}
 use Rattle.ec_world.specs.declared.value.Value.TheVariants.{Str}
 use Rattle.ec_world.specs.Group.{Has}
 use Rattle.ec_world.specs.Places.{places}
@@ -10,7 +9,6 @@ use Rattle.ec_ir.specs.declared.code.Parts.{Parts}
 use Rattle.ec_ir.specs.Meaning.{live_values}
 use Rattle.ec_ir.specs.Fine.{Fine}
 use Rattle.ec_stops.specs.Machine.{MachineMeaning}
-use Rattle.ec_stops.specs.Faithful.{HasLiterals}
 use Rattle.ec_nodes.specs.declared.key.Key.{Key}
 use Rattle.ec_nodes.specs.declared.key.Key.TheVariants.{Object, Frame}
 use Rattle.ec_nodes.specs.Store.{Store}
@@ -27,11 +25,11 @@ use Rattle.ec_network.specs.Shows.{Worlds, Shows, stores, spot, place, depths_of
 use Rattle.ec_network.specs.Room.{Strings}
 use Rattle.ec_network.specs.Room.Strings.{InField, InFrame, InConstant}
 use Rattle.ec_network.specs.Worlds.{ir_action}
-use Rattle.ec_network.specs.Turns.{SameMachine, SameMachines, SameCounts, SamePools, Middle, FaithfulImages}
+use Rattle.ec_network.specs.Turns.{SameMachines, SameCounts, SamePools, FaithfulImages}
 use Rattle.ec_network.specs.Holds.{HasSlots, SmallCode, Steady, Holds}
 use Rattle.ec_network.specs.Kernel.{Becomes}
 use Rattle.ec_network.specs.Steps.{Outcome, AfterAction}
-use Rattle.ec_network.proofs.ActionsStores.{IsAlone, alone_net, alone_is}
+use Rattle.ec_network.proofs.ActionsStores.{alone_net, alone_is}
 use Rattle.ec_network.proofs.ActionsTop.{one_node, node_riscv}
 
 -- ---- the one node
@@ -113,8 +111,7 @@ module _ {S : Type 0} (M : MachineMeaning S) {net net' : Cluster} {w : Worlds} (
         each k s s' text e e' =
             let old : s ≡ store_of node = (alone_is (stores net) (store_of node) (alone_net net node b.before) k s e).1 in
             let new : s' ≡ store_of node' = (alone_is (stores net') (store_of node') (alone_net net' node' b.after) k s' e').1 in
-            let same : (i : ℕ) → s'.text i ≡ s.text i = λ i. ap (λ (x : Store). x.text i) new ∙ texts i ∙ ap (λ (x : Store). x.text i) (sym old) in
-            (
+            let same : (i : ℕ) → s'.text i ≡ s.text i = λ i. ap (λ (x : Store). x.text i) new ∙ texts i ∙ ap (λ (x : Store). x.text i) (sym old) in (
               λ h. inl (h.0, sym (same h.0) ∙ h.1),
               λ h. ⊎_elim
                   (λ (g : InPool s text). (g.0, same g.0 ∙ g.1))

@@ -1,6 +1,6 @@
 -- The world after a creation: one object more, at the place of its maker, and an activation of its operation 0.
-use Rattle.std.proofs.Common.{◌≡◌, ◌≢◌, ℕ, zero, suc, ◌+◌, ◌<◌, ◌≤◌, Bool, true, false, List, [], ◌∷◌, ◌++◌, length, Option, Some, None, refl, sym, ap, ◌∙◌, subst, arith, ◌⊎◌, inl, inr, ⊎_elim}
-use Rattle.std.specs.Prelude.{slice_get, slice_set, map, nat_lt}
+use Rattle.std.proofs.Common.{◌≡◌, ℕ, zero, suc, ◌+◌, ◌<◌, ◌≤◌, false, List, [], ◌∷◌, ◌++◌, length, Option, Some, None, refl, sym, ap, ◌∙◌, subst, arith, ⊎_elim}
+use Rattle.std.specs.Prelude.{slice_get, map}
 use Rattle.ec_base.specs.Stack.{top_of}
 use Rattle.ec_base.proofs.Lists.{get_set_same, get_there}
 use Rattle.ec_base.proofs.Stacks.{top_of-push}
@@ -19,25 +19,25 @@ use Rattle.ec_world.specs.declared.process.Proc.{Proc}
 use Rattle.ec_world.specs.Group.{Has}
 use Rattle.ec_world.specs.Values.{new_fields}
 use Rattle.ec_world.specs.World.{acted, who_of, stack_at, ready_stack}
-use Rattle.ec_world.specs.Effects.{effect_of, new_effect, class_at}
-use Rattle.ec_world.specs.Places.{places, places_after, place_in, placed, moved, node_or_first, first_places, AreEvents}
+use Rattle.ec_world.specs.Effects.{effect_of, new_effect}
+use Rattle.ec_world.specs.Places.{places, places_after, placed, node_or_first, first_places, AreEvents}
 use Rattle.ec_world.proofs.Placement.{made_by, length-places}
 use Rattle.ec_ir.specs.declared.code.StopRec.{StopRec}
 use Rattle.ec_ir.specs.declared.code.Operation.{Operation}
 use Rattle.ec_ir.specs.declared.code.Parts.{Parts}
 use Rattle.ec_ir.specs.declared.activation.IrActivation.{IrActivation}
-use Rattle.ec_ir.specs.Meaning.{ir_meaning, begun, live_variables, live_values, stop_at, stops_of, variable, live_at}
-use Rattle.ec_ir.specs.Fine.{HasCode, Fine, FineStop, FineNew}
+use Rattle.ec_ir.specs.Meaning.{ir_meaning, begun, live_variables, stop_at, stops_of, variable, live_at}
+use Rattle.ec_ir.specs.Fine.{HasCode, Fine, FineStop}
 use Rattle.ec_stops.specs.Faithful.{LiveTyped}
 use Rattle.ec_nodes.specs.declared.key.Key.TheVariants.{Object, Frame}
-use Rattle.ec_nodes.specs.Things.{things_of, object_thing, frame_thing, frame_if, object_if, size_of, blocks_of, class_blocks}
+use Rattle.ec_nodes.specs.Things.{things_of, object_thing, frame_thing, frame_if, object_if, blocks_of, class_blocks}
 use Rattle.ec_nodes.specs.Held.{Held}
 use Rattle.ec_nodes.specs.Worlds.{WorldPut}
 use Rattle.ec_nodes.proofs.Procs.{activation_is, get_end, get_past}
 use Rattle.ec_nodes.proofs.Steps.{with_process, stepped, called}
 use Rattle.ec_nodes.proofs.Create.{made}
 use Rattle.ec_network.specs.Shows.{Worlds, place}
-use Rattle.ec_network.specs.Worlds.{ir_action, RestsAt, IsPending, IsWaiting, FineFacts, FineWorld, FineStack}
+use Rattle.ec_network.specs.Worlds.{ir_action, IsPending, IsWaiting, FineFacts, FineWorld, FineStack}
 use Rattle.ec_network.specs.Steps.{Outcome}
 use Rattle.ec_network.specs.declared.kernel.Acted.TheVariants.{Began}
 use Rattle.ec_network.proofs.ActionsLists.{length_end, get_left, end_or, set_end, set_twice}
@@ -187,8 +187,8 @@ module _ {program : Parts} {w : Worlds} {p : ℕ} {stop : StopRec} {below : List
     pub frame_put : WorldPut live spot (place created_world) 0 object_world created_world (Frame p (length (below ++ done top ∷ []))) (Some (frame_thing live spot p (length (below ++ done top ∷ [])) new_activation))
     frame_put =
         subst (λ (ps : List (Proc IrActivation)). WorldPut live spot (place created_world) 0 object_world (record { common = new_common; processes = ps }) (Frame p (length (below ++ done top ∷ []))) (Some (frame_thing live spot p (length (below ++ done top ∷ [])) new_activation)))
-            (set_twice w.processes p (ready_with (below ++ done top ∷ [])) (ready_with ((below ++ done top ∷ []) ++ new_activation ∷ [])))
-            (called live spot (place created_world) object_world new_common (record { objects = refl; globals = refl }) p (ready_with (below ++ done top ∷ [])) (ready_with ((below ++ done top ∷ []) ++ new_activation ∷ [])) (get_set_same w.processes p (ready_with (below ++ done top ∷ [])) there) new_activation 0 refl place_new)
+        (set_twice w.processes p (ready_with (below ++ done top ∷ [])) (ready_with ((below ++ done top ∷ []) ++ new_activation ∷ [])))
+        (called live spot (place created_world) object_world new_common (record { objects = refl; globals = refl }) p (ready_with (below ++ done top ∷ [])) (ready_with ((below ++ done top ∷ []) ++ new_activation ∷ [])) (get_set_same w.processes p (ready_with (below ++ done top ∷ [])) there) new_activation 0 refl place_new)
 
     -- neither the object nor its activation was there
     pub no_object : things_of live spot marked_world (Object (suc (length w.common.objects))) ≡ None
@@ -248,9 +248,9 @@ module _ {program : Parts} {w : Worlds} {p : ℕ} {stop : StopRec} {below : List
       let one : InOrder program w.common.nodes (length w.common.objects) (below ++ done top ∷ []) = order_last program w.common.nodes (length w.common.objects) below top (done top) refl (order_of program w.common.nodes (length w.common.objects) (below ++ top ∷ []) c.acting.stack) in
       let initial = (c.fine_program.classes k c.class c.class_is).initial.0 in
       order_push program w.common.nodes (suc (length w.common.objects)) below (done top) new_activation
-          (waiting_more program w.common.nodes (length w.common.objects) (suc (length w.common.objects)) (omega arith) (done top) caller_waits)
-          (λ e. omega arith)
-          (order_more program w.common.nodes (length w.common.objects) (suc (length w.common.objects)) (omega arith) (below ++ done top ∷ []) one)
+      (waiting_more program w.common.nodes (length w.common.objects) (suc (length w.common.objects)) (omega arith) (done top) caller_waits)
+      (λ e. omega arith)
+      (order_more program w.common.nodes (length w.common.objects) (suc (length w.common.objects)) (omega arith) (below ++ done top ∷ []) one)
 
   pub created_facts : FineFacts program created_world
   created_facts =
@@ -291,10 +291,10 @@ module _ {program : Parts} {w : Worlds} {p : ℕ} {stop : StopRec} {below : List
       let stack = fine_stack program w.common.nodes (suc (length w.common.objects)) (below ++ done top ∷ []) new_activation new_pending created_order in
       let count : suc (length w.common.objects) ≡ length (w.common.objects ++ new_object ∷ []) = sym (length_end w.common.objects new_object) in
       let world : FineWorld program created_world =
-          fine_world program w created_world p (ready_with ((below ++ done top ∷ []) ++ new_activation ∷ [])) refl refl (omega (arith, count)) c.fine there
-              (subst (λ (m : ℕ). FineStack program w.common.nodes m ((below ++ done top ∷ []) ++ new_activation ∷ [])) count stack)
-              created_facts in
+      fine_world program w created_world p (ready_with ((below ++ done top ∷ []) ++ new_activation ∷ [])) refl refl (omega (arith, count)) c.fine there
+      (subst (λ (m : ℕ). FineStack program w.common.nodes m ((below ++ done top ∷ []) ++ new_activation ∷ [])) count stack)
+      created_facts in
       let now : top_of (stack_at created_world p) ≡ Some new_activation =
-          ap (λ (x : Option (Proc IrActivation)). top_of (ready_stack x)) (get_set_same w.processes p (ready_with ((below ++ done top ∷ []) ++ new_activation ∷ [])) there)
-          ∙ top_of-push (below ++ done top ∷ []) new_activation in
+      ap (λ (x : Option (Proc IrActivation)). top_of (ready_stack x)) (get_set_same w.processes p (ready_with ((below ++ done top ∷ []) ++ new_activation ∷ [])) there)
+      ∙ top_of-push (below ++ done top ∷ []) new_activation in
       (world, (new_activation, now, refl))

@@ -1,6 +1,6 @@
 -- The creation of an object.
-use Rattle.std.proofs.Common.{◌≡◌, ◌≢◌, ℕ, zero, suc, ◌+◌, ◌<◌, ◌≤◌, Bool, true, false, List, [], ◌∷◌, ◌++◌, length, Option, Some, None, refl, sym, ap, ◌∙◌, subst, arith, ◌⊎◌, inl, inr, ⊎_elim}
-use Rattle.std.specs.Prelude.{slice_get, slice_set, map}
+use Rattle.std.proofs.Common.{◌≡◌, ◌≢◌, ℕ, suc, Bool, false, List, [], ◌∷◌, ◌++◌, length, Option, Some, None, refl, sym, ap, ◌∙◌, subst}
+use Rattle.std.specs.Prelude.{slice_get, slice_set}
 use Rattle.ec_world.specs.declared.value.Value.{Value}
 use Rattle.ec_world.specs.declared.class.ClassNo.{ClassNo}
 use Rattle.ec_world.specs.declared.class.ClassNo.TheVariants.{Made}
@@ -9,28 +9,24 @@ use Rattle.ec_world.specs.declared.node.Kind.{Kind}
 use Rattle.ec_world.specs.declared.node.Kind.TheVariants.{Riscv}
 use Rattle.ec_world.specs.declared.process.Proc.{Proc}
 use Rattle.ec_world.specs.Group.{Has}
-use Rattle.ec_world.specs.Places.{places}
 use Rattle.ec_world.specs.Run.{statuses_of}
 use Rattle.ec_ir.specs.declared.code.StopRec.{StopRec}
 use Rattle.ec_ir.specs.declared.activation.IrActivation.{IrActivation}
-use Rattle.ec_ir.specs.Meaning.{live_values, live_variables}
+use Rattle.ec_ir.specs.Meaning.{live_values}
 use Rattle.ec_stops.specs.Machine.{MachineMeaning}
 use Rattle.ec_nodes.specs.declared.key.Key.{Key}
 use Rattle.ec_nodes.specs.declared.key.Key.TheVariants.{Object, Frame}
 use Rattle.ec_nodes.specs.Store.{Store, Owned, Tidy}
-use Rattle.ec_nodes.specs.Things.{Thing, Shown, things_of, object_thing, frame_thing, blocks_of}
+use Rattle.ec_nodes.specs.Things.{Thing, Shown, things_of, object_thing, frame_thing}
 use Rattle.ec_nodes.specs.Shows.{ShowsNodes}
 use Rattle.ec_nodes.proofs.World.{one_changed}
-use Rattle.ec_nodes.proofs.Steps.{with_process}
 use Rattle.ec_nodes.proofs.Create.{replaced}
-use Rattle.ec_frames.specs.declared.node.NodeStore.{NodeStore}
 use Rattle.ec_frames.specs.Node.{store_of}
 use Rattle.ec_frames.specs.Changes.{Placed}
 use Rattle.ec_network.specs.declared.cluster.Cluster.{Cluster}
 use Rattle.ec_network.specs.declared.kernel.Here.{Here}
 use Rattle.ec_network.specs.declared.kernel.Acted.TheVariants.{Began}
 use Rattle.ec_network.specs.Shows.{Worlds, stores, spot, place, depths_of}
-use Rattle.ec_network.specs.Worlds.{ir_action}
 use Rattle.ec_network.specs.Holds.{Holds}
 use Rattle.ec_network.specs.Kernel.{Creates}
 use Rattle.ec_network.specs.Steps.{AfterAction}
@@ -41,7 +37,7 @@ use Rattle.ec_network.proofs.ActionsOrder.{ready_with}
 use Rattle.ec_network.proofs.ActionsTop.{TopAt, node_riscv}
 use Rattle.ec_network.proofs.ActionsAfter.{after_action}
 use Rattle.ec_network.proofs.ActionsMarking.{mark_shows}
-use Rattle.ec_network.proofs.ActionsCreated.{Creation, new_object, new_activation, new_common, marked_world, object_world, created_world, created_is, no_fields, one_block, places_created, place_old, object_put, frame_put, no_object, no_frame, new_variables, new_live, created_outcome}
+use Rattle.ec_network.proofs.ActionsCreated.{Creation, new_object, new_activation, marked_world, object_world, created_world, created_is, no_fields, one_block, places_created, place_old, object_put, frame_put, no_object, no_frame, new_variables, new_live, created_outcome}
 use Rattle.ec_world.proofs.Members.{has_none}
 
 -- what isn't in the world has no blocks
@@ -103,7 +99,7 @@ module _ {S : Type 0} (M : MachineMeaning S) (net net' : Cluster) (w : Worlds) (
   begins : Placed e.two (store_of e.node') (Frame p deep) None false None (p ∷ deep ∷ e.class.initial ∷ 0 ∷ 1 ∷ oid ∷ []) e.frame_block
   begins =
       subst (λ (d : ℕ). Placed e.two (store_of e.node') (Frame p d) None false None (p ∷ d ∷ e.class.initial ∷ 0 ∷ 1 ∷ oid ∷ []) e.frame_block) deep_is
-          (subst (λ (o : ℕ). Placed e.two (store_of e.node') (Frame p (suc h.depth)) None false None (p ∷ suc h.depth ∷ e.class.initial ∷ 0 ∷ 1 ∷ o ∷ []) e.frame_block) oid_is e.begins)
+      (subst (λ (o : ℕ). Placed e.two (store_of e.node') (Frame p (suc h.depth)) None false None (p ∷ suc h.depth ∷ e.class.initial ∷ 0 ∷ 1 ∷ o ∷ []) e.frame_block) oid_is e.begins)
 
   riscv : (store_of e.node).kind ≡ Riscv
   riscv = node_riscv M net w p holds e.node e.becomes.before
@@ -117,9 +113,9 @@ module _ {S : Type 0} (M : MachineMeaning S) (net net' : Cluster) (w : Worlds) (
   marked_shows : ShowsNodes live spots (only_node e.one) marked (place created)
   marked_shows =
       mark_shows net.program net.images holds.steady.slots p h.block below top stop (stores net) (only_node e.one) (store_of e.node) e.one w w.common (place created)
-          (alone_net net e.node e.becomes.before) (alone_only e.one) first_shows (record { objects = refl; globals = refl })
-          t.acting.is t.acting.stop_is t.acting.flag t.acting.into t.variables t.frame riscv
-          (place_old creation top.own 0 t.home) e.marks
+      (alone_net net e.node e.becomes.before) (alone_only e.one) first_shows (record { objects = refl; globals = refl })
+      t.acting.is t.acting.stop_is t.acting.flag t.acting.into t.variables t.frame riscv
+      (place_old creation top.own 0 t.home) e.marks
 
   no_object_row : e.one.row (Object oid) ≡ None
   no_object_row = no_row live spots (only_node e.one) marked (place created) 0 e.one (Object oid) marked_shows refl (no_object creation live spots)
@@ -179,10 +175,10 @@ module _ {S : Type 0} (M : MachineMeaning S) (net net' : Cluster) (w : Worlds) (
       let kind : (store_of e.node').kind ≡ Riscv = begins.rest.kind ∙ makes.rest.kind ∙ e.marks.tables.rest.kind ∙ riscv in
       let shown = shows_frame net.program net.images holds.steady.slots (store_of e.node') kind p deep e.frame_block fresh (new_variables creation) frame_stands_new in
       one_changed live spots (place created) (only_node e.two) (stores net') 0 e.two (store_of e.node') with_object created (Frame p deep) (Some (frame_thing live spots p deep fresh))
-          object_shows
-          (alone_put (only_node e.two) (stores net') e.two (store_of e.node') (alone_only e.two) (alone_net net' e.node' e.becomes.after))
-          (placed_puts e.two (store_of e.node') (Frame p deep) None false None (p ∷ deep ∷ e.class.initial ∷ 0 ∷ 1 ∷ oid ∷ []) e.frame_block (frame_thing live spots p deep fresh) begins no_frame_row e.becomes.laid.tidy refl shown)
-          (frame_put creation live spots)
+      object_shows
+      (alone_put (only_node e.two) (stores net') e.two (store_of e.node') (alone_only e.two) (alone_net net' e.node' e.becomes.after))
+      (placed_puts e.two (store_of e.node') (Frame p deep) None false None (p ∷ deep ∷ e.class.initial ∷ 0 ∷ 1 ∷ oid ∷ []) e.frame_block (frame_thing live spots p deep fresh) begins no_frame_row e.becomes.laid.tidy refl shown)
+      (frame_put creation live spots)
 
   depths_are : net'.depths ≡ depths_of created
   depths_are =

@@ -1,5 +1,5 @@
 -- A global constant gets its value.
-use Rattle.std.proofs.Common.{◌≡◌, ◌≢◌, ℕ, zero, suc, ◌+◌, ◌<◌, ◌≤◌, Bool, true, false, List, [], ◌∷◌, ◌++◌, length, Option, Some, None, refl, sym, ap, ◌∙◌, subst, arith, ◌⊎◌, inl, inr, ⊎_elim}
+use Rattle.std.proofs.Common.{◌≡◌, ◌≢◌, ℕ, zero, suc, ◌+◌, ◌<◌, Bool, true, List, [], ◌∷◌, ◌++◌, length, Option, Some, None, refl, sym, ap, ◌∙◌, subst, arith, ⊎_elim}
 use Rattle.std.proofs.lemmas.Bool.Decides.{nat_tests}
 use Rattle.std.specs.Prelude.{slice_get, slice_set, nat_lt, if◌then◌else◌}
 use Rattle.ec_base.proofs.Lists.{get_set_same, get_set_other, get_within}
@@ -18,7 +18,7 @@ use Rattle.ec_ir.specs.declared.code.StopRec.{StopRec}
 use Rattle.ec_ir.specs.declared.code.Parts.{Parts}
 use Rattle.ec_ir.specs.declared.activation.IrActivation.{IrActivation}
 use Rattle.ec_ir.specs.Meaning.{ir_meaning, live_values, variable}
-use Rattle.ec_ir.specs.Fine.{HasCode, HasType, Typed, HaveTypes, FineStop}
+use Rattle.ec_ir.specs.Fine.{HasCode, HasType, Typed, FineStop}
 use Rattle.ec_stops.specs.Machine.{MachineMeaning}
 use Rattle.ec_nodes.specs.declared.key.Key.{Key}
 use Rattle.ec_nodes.specs.declared.key.Key.TheVariants.{Object, Frame}
@@ -36,7 +36,7 @@ use Rattle.ec_frames.specs.Changes.{WritesGlobal}
 use Rattle.ec_network.specs.declared.cluster.Cluster.{Cluster}
 use Rattle.ec_network.specs.declared.kernel.Here.{Here}
 use Rattle.ec_network.specs.declared.kernel.Acted.TheVariants.{WentOn}
-use Rattle.ec_network.specs.Shows.{Worlds, Shows, stores, spot, place}
+use Rattle.ec_network.specs.Shows.{Worlds, stores, spot, place}
 use Rattle.ec_network.specs.Worlds.{ir_action, FineFacts}
 use Rattle.ec_network.specs.Holds.{Holds}
 use Rattle.ec_network.specs.Kernel.{Defines}
@@ -181,26 +181,26 @@ defines_after M net net' w p h stop below top index holds e t =
     let operands : top.operands ≡ v ∷ [] = one_operand a e.operand e.operands in
     let stopped : top.stop ≡ Global index = a.stop_same ∙ e.is in
     let is : ir_action w p ≡ w' =
-        action_is w p below top a.is a.flag
-        ∙ ap (λ (s : Stop). acted ir_meaning w p below top (effect_of w.common (who_of ir_meaning p below top) s top.operands)) stopped
-        ∙ ap (λ (vs : List Value). acted ir_meaning w p below top (effect_of w.common (who_of ir_meaning p below top) (Global index) vs)) operands
-        ∙ ap (λ (b : Bool). acted ir_meaning w p below top (if b then Some (set_constant w.common index v, GoesOn None) else None)) (below_true index (length w.common.globals) inside) in
+    action_is w p below top a.is a.flag
+    ∙ ap (λ (s : Stop). acted ir_meaning w p below top (effect_of w.common (who_of ir_meaning p below top) s top.operands)) stopped
+    ∙ ap (λ (vs : List Value). acted ir_meaning w p below top (effect_of w.common (who_of ir_meaning p below top) (Global index) vs)) operands
+    ∙ ap (λ (b : Bool). acted ir_meaning w p below top (if b then Some (set_constant w.common index v, GoesOn None) else None)) (below_true index (length w.common.globals) inside) in
     let middle : ShowsNodes (live_values net.program) (spot net.program net.images) (only_node e.middle) w1 (place w) =
-        constant_shows (store_of e.node) e.middle index e.word e.sets
-            (λ key r b f k. let few = laid.few_blocks in let l = laid.rows_in key r b f k in omega arith)
-            (live_values net.program) (spot net.program net.images) (stores net) (only_node e.middle) w (place w) v
-            (alone_net net e.node e.becomes.before) (alone_only e.middle) inside stands holds.shows.nodes in
+    constant_shows (store_of e.node) e.middle index e.word e.sets
+    (λ key r b f k. let few = laid.few_blocks in let l = laid.rows_in key r b f k in omega arith)
+    (live_values net.program) (spot net.program net.images) (stores net) (only_node e.middle) w (place w) v
+    (alone_net net e.node e.becomes.before) (alone_only e.middle) inside stands holds.shows.nodes in
     let riscv : e.middle.kind ≡ Riscv = e.sets.kind ∙ node_riscv M net w p holds e.node e.becomes.before in
     let frame : FrameStands net.program e.middle p (length below) h.block top =
-        frame_at net.program net.images (only_node e.middle) e.middle w1 (place w) p (length below) h.block (below ++ top ∷ []) top t.frame.row holds.steady.slots riscv middle (alone_only e.middle) t.variables a.is (get_end below top)
-            (e.sets.rows (Frame p (length below)) ∙ t.frame.there) t.frame.blocks in
+    frame_at net.program net.images (only_node e.middle) e.middle w1 (place w) p (length below) h.block (below ++ top ∷ []) top t.frame.row holds.steady.slots riscv middle (alone_only e.middle) t.variables a.is (get_end below top)
+    (e.sets.rows (Frame p (length below)) ∙ t.frame.there) t.frame.blocks in
     let shows : ShowsNodes (live_values net.program) (spot net.program net.images) (stores net') w' (place w) =
-        mark_shows net.program net.images holds.steady.slots p h.block below top stop (only_node e.middle) (stores net') e.middle (store_of e.node') w1 w1.common (place w)
-            (alone_only e.middle) (alone_net net' e.node' e.becomes.after) middle (record { objects = refl; globals = refl })
-            a.is a.stop_is a.flag a.into t.variables frame riscv t.home e.marks in
+    mark_shows net.program net.images holds.steady.slots p h.block below top stop (only_node e.middle) (stores net') e.middle (store_of e.node') w1 w1.common (place w)
+    (alone_only e.middle) (alone_net net' e.node' e.becomes.after) middle (record { objects = refl; globals = refl })
+    a.is a.stop_is a.flag a.into t.variables frame riscv t.home e.marks in
     after_action M p holds e.becomes (λ i. e.marks.tables.rest.text i ∙ e.sets.text i) w' refl shows WentOn is
-        (e.processes.statuses ∙ statuses_stay net w p below top (done top) holds.shows a.is w1.common)
-        (e.processes.depths ∙ depths_stay net w p below top (done top) holds.shows a.is w1.common)
-        (e.output ∙ holds.shows.output)
-        (e.places ∙ holds.shows.places_are)
-        (went_on a w' holds.fine refl refl refl (subst (λ (s : Stop). HasCode s) (sym e.is) tt) fine.1 (defined_facts net.program w index fine.0.0 v p (ready_with (below ++ done top ∷ [])) fine.0.1 typed holds.fine.facts))
+    (e.processes.statuses ∙ statuses_stay net w p below top (done top) holds.shows a.is w1.common)
+    (e.processes.depths ∙ depths_stay net w p below top (done top) holds.shows a.is w1.common)
+    (e.output ∙ holds.shows.output)
+    (e.places ∙ holds.shows.places_are)
+    (went_on a w' holds.fine refl refl refl (subst (λ (s : Stop). HasCode s) (sym e.is) tt) fine.1 (defined_facts net.program w index fine.0.0 v p (ready_with (below ++ done top ∷ [])) fine.0.1 typed holds.fine.facts))

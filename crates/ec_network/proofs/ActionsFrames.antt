@@ -1,30 +1,26 @@
 -- The frame of an activation, told of the words of its one block: headings first, and each live variable in its slot.
 use Rattle.std.proofs.Common.{◌≡◌, ◌≢◌, ℕ, zero, suc, ◌+◌, ◌<◌, ◌≤◌, Bool, true, false, List, [], ◌∷◌, ◌++◌, length, Option, Some, None, refl, sym, ap, ◌∙◌, subst, arith, ◌⊎◌, inl, inr, ⊎_elim}
-use Rattle.std.specs.Prelude.{slice_get, map, if◌then◌else◌}
+use Rattle.std.specs.Prelude.{slice_get, if◌then◌else◌}
 use Rattle.ec_base.proofs.Lists.{get_within}
 use Rattle.ec_world.specs.declared.value.Value.{Value}
-use Rattle.ec_world.specs.declared.value.ValueType.{ValueType}
-use Rattle.ec_world.specs.declared.node.Kind.{Kind}
 use Rattle.ec_world.specs.declared.node.Kind.TheVariants.{Riscv}
 use Rattle.ec_world.specs.Group.{Has}
 use Rattle.ec_ir.specs.declared.code.StopRec.{StopRec}
 use Rattle.ec_ir.specs.declared.code.Parts.{Parts}
 use Rattle.ec_ir.specs.declared.code.Operation.{Operation}
 use Rattle.ec_ir.specs.declared.activation.IrActivation.{IrActivation}
-use Rattle.ec_ir.specs.Meaning.{stop_at, operation_at, types_of, variable, put, live_at, live_if, live_variables, live_values, result_live, finished}
+use Rattle.ec_ir.specs.Meaning.{stop_at, types_of, variable, put, live_at, live_if, live_variables, live_values, result_live}
 use Rattle.ec_ir.proofs.Put.{put_same, put_other}
-use Rattle.ec_stops.specs.declared.table.Place.{Place}
 use Rattle.ec_stops.specs.declared.table.Place.TheVariants.{Slot}
 use Rattle.ec_stops.specs.Faithful.{LiveTyped, first_slot, home_in}
-use Rattle.ec_nodes.specs.declared.key.Key.{Key}
 use Rattle.ec_nodes.specs.declared.key.Key.TheVariants.{Frame}
-use Rattle.ec_nodes.specs.Store.{Store, Owned, Stands, StandsAt, word_of}
+use Rattle.ec_nodes.specs.Store.{Store, Owned, Stands, word_of}
 use Rattle.ec_nodes.specs.Things.{Shown, Spells, frame_thing}
 use Rattle.ec_nodes.proofs.Kept.{stands_kept}
 use Rattle.ec_nodes.proofs.Put.{same_or_not}
 use Rattle.ec_frames.specs.Changes.{WritesWord}
 use Rattle.ec_network.specs.declared.image.Images.{Images}
-use Rattle.ec_network.specs.Shows.{spot, image_of, home_of, word_if}
+use Rattle.ec_network.specs.Shows.{spot, home_of, word_if}
 use Rattle.ec_network.specs.Holds.{HasSlots}
 use Rattle.ec_network.proofs.ActionsLists.{get_map, get_map_back, append_none, has_end_or}
 use Rattle.ec_network.proofs.ActionsStores.{word_of_one, same_grown}
@@ -176,8 +172,7 @@ module _ (program : Parts) (images : Images) (slots : HasSlots program images.rv
           let h : Has (live_variables program a) z.0 = record { at = i; is = z.1 } in
           let below = live_below program a v z.0 h in
           let few = v.few in
-          let slot = f.slots z.0 h in
-          (
+          let slot = f.slots z.0 h in (
             first_slot + z.0,
             slot_spot i z.0 z.1,
             record {

@@ -1,5 +1,5 @@
 -- The action of the top activation is done: its frame says so, and code goes on behind its stop.
-use Rattle.std.proofs.Common.{◌≡◌, ◌≢◌, ℕ, zero, suc, ◌+◌, ◌<◌, ◌≤◌, Bool, true, false, List, [], ◌∷◌, ◌++◌, length, Option, Some, None, refl, sym, ap, ◌∙◌, subst, arith}
+use Rattle.std.proofs.Common.{◌≡◌, ℕ, ◌+◌, ◌<◌, true, List, [], ◌∷◌, ◌++◌, length, Option, Some, None, refl, sym, ap, ◌∙◌, subst, arith}
 use Rattle.std.specs.Prelude.{slice_get, slice_set, map}
 use Rattle.ec_base.proofs.Lists.{get_within}
 use Rattle.ec_world.specs.declared.value.Value.{Value}
@@ -17,18 +17,15 @@ use Rattle.ec_ir.specs.Meaning.{live_values, live_variables, variable, types_of,
 use Rattle.ec_ir.specs.Fine.{HasCode, HasType, HaveTypes}
 use Rattle.ec_stops.specs.Faithful.{first_slot}
 use Rattle.ec_nodes.specs.declared.key.Key.TheVariants.{Frame}
-use Rattle.ec_nodes.specs.Store.{Store, Owned, Stands, Tidy}
+use Rattle.ec_nodes.specs.Store.{Store, Owned, Stands}
 use Rattle.ec_nodes.specs.Things.{frame_thing, frame_if}
 use Rattle.ec_nodes.specs.Shows.{ShowsNodes}
 use Rattle.ec_nodes.proofs.Procs.{activation_is, get_end}
 use Rattle.ec_nodes.proofs.World.{one_changed}
 use Rattle.ec_nodes.proofs.Steps.{SameStore, with_process, stepped}
-use Rattle.ec_frames.specs.declared.node.NodeStore.{NodeStore}
-use Rattle.ec_frames.specs.Node.{store_of}
 use Rattle.ec_frames.specs.Changes.{WritesWord}
 use Rattle.ec_network.specs.declared.image.Images.{Images}
 use Rattle.ec_network.specs.declared.cluster.Cluster.{Cluster}
-use Rattle.ec_network.specs.declared.kernel.Here.{Here}
 use Rattle.ec_network.specs.Shows.{Worlds, Shows, spot, depths_of}
 use Rattle.ec_network.specs.Worlds.{FineFacts, FineWorld}
 use Rattle.ec_network.specs.Steps.{IsDone, FineMiddle, MiddleStack}
@@ -38,14 +35,14 @@ use Rattle.ec_network.proofs.ActionsLists.{length_end, set_end, map_set_same}
 use Rattle.ec_network.proofs.ActionsStores.{IsAlone, alone_put, shown_here, writes_puts}
 use Rattle.ec_network.proofs.ActionsFrames.{done, done_typed, operand_live, HasVariables, FrameStands, frame_stands, shows_frame, marked_frame}
 use Rattle.ec_network.proofs.ActionsOrder.{ready_with, InOrder, order_of, order_last, middle_stack, fine_middle}
-use Rattle.ec_network.proofs.ActionsTop.{Acting, TopAt}
+use Rattle.ec_network.proofs.ActionsTop.{Acting}
 
 -- the frame of an activation on the one node, in whatever world it shows
 pub frame_at : (program : Parts) (images : Images) (nodes : ℕ → Option Store) (s : Store) (w : Worlds) (place : ℕ → Option ℕ) (p d b : ℕ) (xs : List IrActivation) (a : IrActivation) (row : Owned) → HasSlots program images.rv.table → s.kind ≡ Riscv → ShowsNodes (live_values program) (spot program images) nodes w place → IsAlone nodes s → HasVariables program a → slice_get w.processes p ≡ Some (ready_with xs) → slice_get xs d ≡ Some a → s.row (Frame p d) ≡ Some row → row.blocks ≡ b ∷ [] → FrameStands program s p d b a
 frame_at program images nodes s w place p d b xs a row slots riscv shows alone v is at row_is block =
     frame_stands program images slots s riscv p d b a v row row_is block
-        (shown_here (live_values program) (spot program images) nodes w place s shows alone (Frame p d) (frame_thing (live_values program) (spot program images) p d a)
-            (ap (frame_if (live_values program) (spot program images) p d) (activation_is w.processes p d (ready_with xs) is ∙ at)))
+    (shown_here (live_values program) (spot program images) nodes w place s shows alone (Frame p d) (frame_thing (live_values program) (spot program images) p d a)
+    (ap (frame_if (live_values program) (spot program images) p d) (activation_is w.processes p d (ready_with xs) is ∙ at)))
 
 module _ (program : Parts) (images : Images) (slots : HasSlots program images.rv.table) (p b : ℕ) (below : List IrActivation) (top : IrActivation) (stop : StopRec) where
   -- the nodes show the world in which the top's action is done
@@ -57,10 +54,10 @@ module _ (program : Parts) (images : Images) (slots : HasSlots program images.rv
       let v' : HasVariables program (done top) = record { operation = v.operation; is = v.is; few = v.few; typed = done_typed program top stop stop_is flag into v.typed } in
       let shown = shows_frame program images slots s' (writes.tables.rest.kind ∙ riscv) p (length below) b (done top) v' frame' in
       one_changed (live_values program) (spot program images) place nodes nodes' 0 s s' w (with_process w c p (ready_with (below ++ done top ∷ []))) (Frame p (length below)) (Some (frame_thing (live_values program) (spot program images) p (length below) (done top)))
-          shows
-          (alone_put nodes nodes' s s' alone alone')
-          (writes_puts s s' (Frame p (length below)) frame.row b 4 0 writes frame.there frame.blocks (shows.tidy 0 s alone.here) (frame_thing (live_values program) (spot program images) p (length below) (done top)) refl shown)
-          (stepped (live_values program) (spot program images) place w c same p (ready_with (below ++ top ∷ [])) (ready_with (below ++ done top ∷ [])) is (length below) top (done top) 0 (get_end below top) (sym (set_end below top (done top))) refl home)
+      shows
+      (alone_put nodes nodes' s s' alone alone')
+      (writes_puts s s' (Frame p (length below)) frame.row b 4 0 writes frame.there frame.blocks (shows.tidy 0 s alone.here) (frame_thing (live_values program) (spot program images) p (length below) (done top)) refl shown)
+      (stepped (live_values program) (spot program images) place w c same p (ready_with (below ++ top ∷ [])) (ready_with (below ++ done top ∷ [])) is (length below) top (done top) 0 (get_end below top) (sym (set_end below top (done top))) refl home)
 
 -- what the network tells of processes stays
 module _ (net : Cluster) (w : Worlds) (p : ℕ) (below : List IrActivation) (top a : IrActivation) (shows : Shows net w) (is : slice_get w.processes p ≡ Some (ready_with (below ++ top ∷ []))) where
@@ -87,8 +84,8 @@ module _ {program : Parts} {w : Worlds} {p : ℕ} {stop : StopRec} {below : List
       let order : InOrder program w.common.nodes (length w.common.objects) (below ++ done top ∷ []) = order_last program w.common.nodes (length w.common.objects) below top (done top) refl (order_of program w.common.nodes (length w.common.objects) (below ++ top ∷ []) a.stack) in
       let stack = middle_stack program w.common.nodes (length w.common.objects) below (done top) is_done order in
       fine_middle program w w' p (ready_with (below ++ done top ∷ [])) now nodes (omega (arith, objects)) fine process_there refl
-          (subst (λ (n : ℕ). MiddleStack program n (length w'.common.objects) (below ++ done top ∷ [])) (sym nodes) (subst (λ (m : ℕ). MiddleStack program w.common.nodes m (below ++ done top ∷ [])) (sym objects) stack))
-          facts
+      (subst (λ (n : ℕ). MiddleStack program n (length w'.common.objects) (below ++ done top ∷ [])) (sym nodes) (subst (λ (m : ℕ). MiddleStack program w.common.nodes m (below ++ done top ∷ [])) (sym objects) stack))
+      facts
 
   -- ---- one operand
 

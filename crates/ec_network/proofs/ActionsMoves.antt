@@ -1,8 +1,7 @@
 -- A move by the operator on one node: an event, and each object stays where it is.
-use Rattle.std.proofs.Common.{◌≡◌, ◌≢◌, ℕ, zero, suc, ◌+◌, ◌<◌, ◌≤◌, Bool, true, false, List, [], ◌∷◌, ◌++◌, length, Option, Some, None, refl, sym, ap, ◌∙◌, subst, arith, ◌⊎◌, inl, inr, ⊎_elim}
+use Rattle.std.proofs.Common.{◌≡◌, ℕ, suc, ◌+◌, ◌<◌, ◌≤◌, Bool, true, false, List, [], ◌∷◌, ◌++◌, length, Option, Some, None, refl, sym, ap, ◌∙◌, subst, arith, inl, ⊎_elim}
 use Rattle.std.proofs.lemmas.Bool.Decides.{nat_tests}
-use Rattle.std.specs.Prelude.{slice_get, ◌↔◌, ◌||◌, not, nat_lt, IsSome}
-use Rattle.ec_base.proofs.Lists.{get_within}
+use Rattle.std.specs.Prelude.{slice_get, ◌||◌, not, nat_lt, IsSome}
 use Rattle.ec_world.specs.declared.value.Value.{Value}
 use Rattle.ec_world.specs.declared.event.Event.{Event}
 use Rattle.ec_world.specs.declared.event.Event.TheVariants.{Created, Moved}
@@ -30,8 +29,8 @@ use Rattle.ec_frames.specs.declared.node.NodeStore.{NodeStore}
 use Rattle.ec_network.specs.declared.cluster.Cluster.{Cluster}
 use Rattle.ec_network.specs.Shows.{Worlds, Shows, stores, spot, place}
 use Rattle.ec_network.specs.Room.{Strings}
-use Rattle.ec_network.specs.Worlds.{FineFacts, FineWorld}
-use Rattle.ec_network.specs.Turns.{SameMachines, SameCounts, SamePools, MoveOf}
+use Rattle.ec_network.specs.Worlds.{FineWorld}
+use Rattle.ec_network.specs.Turns.{MoveOf}
 use Rattle.ec_network.specs.Holds.{Holds}
 use Rattle.ec_network.proofs.ActionsLists.{same_items}
 use Rattle.ec_network.proofs.ActionsTop.{one_node}
@@ -164,14 +163,14 @@ module _ {S : Type 0} (M : MachineMeaning S) (net : Cluster) (w : Worlds) (holds
       by_idle false e =
           let events : List Event = w.common.events ++ Moved (group_of w.common o) (suc k) ∷ [] in
           let count : length (places w.common.nodes events) ≡ length (places w.common.nodes w.common.events) =
-              length-places w.common.nodes events ∙ ap (λ n. w.common.nodes + 1 + n) (made_push w.common.events (group_of w.common o) (suc k)) ∙ sym (length-places w.common.nodes w.common.events) in
+          length-places w.common.nodes events ∙ ap (λ n. w.common.nodes + 1 + n) (made_push w.common.events (group_of w.common o) (suc k)) ∙ sym (length-places w.common.nodes w.common.events) in
           let same : places w.common.nodes events ≡ places w.common.nodes w.common.events =
-              subst (λ n. length (places n events) ≡ length (places n w.common.events) → places n events ≡ places n w.common.events) (sym one) (λ l. places_same events w.common.events l) count in
+          subst (λ n. length (places n events) ≡ length (places n w.common.events) → places n events ≡ places n w.common.events) (sym one) (λ l. places_same events w.common.events l) count in
           let objects : length w.common.objects ≡ suc w.common.nodes + made_by w.common.events = omega (arith, holds.fine.facts.placed, length-places w.common.nodes w.common.events) in
           let there = goes_there w.common o k e in
           let are : AreEvents (suc w.common.nodes) events =
-              events_push (suc w.common.nodes) (length w.common.objects) w.common.events (Moved (group_of w.common o) (suc k)) holds.fine.facts.events objects
-                  (group_there w.common o there.object, omega arith, omega (arith, objects, there.node), tt) in
+          events_push (suc w.common.nodes) (length w.common.objects) w.common.events (Moved (group_of w.common o) (suc k)) holds.fine.facts.events objects
+          (group_there w.common o there.object, omega arith, omega (arith, objects, there.node), tt) in
           eventful_holds events same are
 
   -- so nothing changed is the move
@@ -189,8 +188,7 @@ module _ {S : Type 0} (M : MachineMeaning S) (net : Cluster) (w : Worlds) (holds
         shows = after.shows;
         pools = record {
           each = λ j s t text e f.
-              let same : t ≡ s = cc in
-              (
+              let same : t ≡ s = cc in (
                 λ h. inl (subst (λ (x : Store). InPool x text) same h),
                 λ h. subst (λ (x : Store). InPool x text) (sym same) (⊎_elim
                     (λ (g : InPool s text). g)

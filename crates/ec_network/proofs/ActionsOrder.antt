@@ -1,7 +1,6 @@
 -- Activations of one process, and worlds in which one process has changed.
-use Rattle.std.proofs.Common.{◌≡◌, ◌≢◌, ℕ, zero, suc, ◌+◌, ◌<◌, ◌≤◌, Bool, true, false, List, [], ◌∷◌, ◌++◌, length, Option, Some, None, refl, sym, ap, ◌∙◌, subst, arith, ◌⊎◌, inl, inr, ⊎_elim}
-use Rattle.std.specs.Prelude.{slice_get, slice_set, map}
-use Rattle.ec_base.specs.Stack.{top_of, below_of}
+use Rattle.std.proofs.Common.{◌≡◌, ◌≢◌, ℕ, suc, ◌<◌, ◌≤◌, List, [], ◌∷◌, ◌++◌, length, Some, sym, ap, ◌∙◌, subst, arith, ⊎_elim}
+use Rattle.std.specs.Prelude.{slice_get, slice_set}
 use Rattle.ec_base.proofs.Lists.{get_set_same, get_set_other, get_within, get_there}
 use Rattle.ec_base.proofs.Stacks.{top_of-push}
 use Rattle.ec_world.specs.declared.process.ProcStatus.{ProcStatus}
@@ -10,8 +9,6 @@ use Rattle.ec_world.specs.declared.process.Proc.{Proc}
 use Rattle.ec_ir.specs.declared.code.StopRec.{StopRec}
 use Rattle.ec_ir.specs.declared.code.Parts.{Parts}
 use Rattle.ec_ir.specs.declared.activation.IrActivation.{IrActivation}
-use Rattle.ec_ir.specs.Meaning.{stop_at}
-use Rattle.ec_ir.specs.Fine.{HasCode}
 use Rattle.ec_nodes.proofs.Procs.{get_end}
 use Rattle.ec_nodes.proofs.Put.{same_or_not}
 use Rattle.ec_network.specs.Shows.{Worlds}
@@ -73,8 +70,8 @@ module _ (program : Parts) (nodes objects : ℕ) where
   pub order_below : (xs : List IrActivation) (y z : IrActivation) → InOrder program nodes objects ((xs ++ y ∷ []) ++ z ∷ []) → IsWaiting program nodes objects y
   order_below xs y z f =
       f.waiting (length xs) y z
-          (get_left (xs ++ y ∷ []) (z ∷ []) (length xs) y (get_end xs y))
-          (ap (λ i. slice_get ((xs ++ y ∷ []) ++ z ∷ []) i) (sym (length_end xs y)) ∙ get_end (xs ++ y ∷ []) z)
+      (get_left (xs ++ y ∷ []) (z ∷ []) (length xs) y (get_end xs y))
+      (ap (λ i. slice_get ((xs ++ y ∷ []) ++ z ∷ []) i) (sym (length_end xs y)) ∙ get_end (xs ++ y ∷ []) z)
 
   -- the top has changed
   pub order_last : (xs : List IrActivation) (y z : IrActivation) → z.operation ≡ y.operation → InOrder program nodes objects (xs ++ y ∷ []) → InOrder program nodes objects (xs ++ z ∷ [])
@@ -173,7 +170,7 @@ module _ (program : Parts) (w w' : Worlds) (p : ℕ) (proc : Proc IrActivation) 
       let before : slice_get w.processes q ≡ Some x = sym (get_set_other w.processes p q proc ne) ∙ ap (λ (ps : List (Proc IrActivation)). slice_get ps q) (sym now) ∙ e in
       let f = fine.each q x before in
       subst (λ n. FineProcess program n (length w'.common.objects) x.status x.activations) (sym nodes)
-          (process_more program w.common.nodes (length w.common.objects) (length w'.common.objects) objects x.status x.activations f)
+      (process_more program w.common.nodes (length w.common.objects) (length w'.common.objects) objects x.status x.activations f)
 
   now_is : p < length w.processes → slice_get w'.processes p ≡ Some proc
   now_is h = ap (λ (ps : List (Proc IrActivation)). slice_get ps p) now ∙ get_set_same w.processes p proc h

@@ -1,5 +1,5 @@
 -- Output.
-use Rattle.std.proofs.Common.{◌≡◌, ◌≢◌, ℕ, zero, suc, ◌+◌, ◌<◌, ◌≤◌, List, [], ◌∷◌, ◌++◌, length, Option, Some, None, refl, sym, ap, ◌∙◌, subst, arith}
+use Rattle.std.proofs.Common.{◌≡◌, ℕ, List, [], ◌∷◌, ◌++◌, length, Option, Some, refl, sym, ap, ◌∙◌, subst}
 use Rattle.ec_world.specs.declared.value.Value.{Value}
 use Rattle.ec_world.specs.declared.value.Value.TheVariants.{Int, Str, Ref, Nil, Bool as Truth}
 use Rattle.ec_world.specs.declared.value.ValueType.TheVariants.{Bytes}
@@ -18,7 +18,6 @@ use Rattle.ec_stops.specs.Machine.{MachineMeaning}
 use Rattle.ec_nodes.specs.Store.{Stands, StandsFor}
 use Rattle.ec_nodes.specs.Shows.{ShowsNodes}
 use Rattle.ec_nodes.proofs.Steps.{with_process}
-use Rattle.ec_frames.specs.declared.node.NodeStore.{NodeStore}
 use Rattle.ec_frames.specs.Node.{store_of}
 use Rattle.ec_network.specs.declared.cluster.Cluster.{Cluster}
 use Rattle.ec_network.specs.declared.kernel.Here.{Here}
@@ -69,16 +68,16 @@ prints_after M net net' w p h stop below top holds e t =
     let operands : top.operands ≡ Str e.text ∷ [] = one_operand a e.operand e.operands ∙ ap (λ (v : Value). v ∷ []) value in
     let stopped : top.stop ≡ Print = a.stop_same ∙ e.is in
     let is : ir_action w p ≡ w' =
-        action_is w p below top a.is a.flag
-        ∙ ap (λ (s : Stop). acted ir_meaning w p below top (effect_of w.common (who_of ir_meaning p below top) s top.operands)) stopped
-        ∙ ap (λ (vs : List Value). acted ir_meaning w p below top (effect_of w.common (who_of ir_meaning p below top) Print vs)) operands in
+    action_is w p below top a.is a.flag
+    ∙ ap (λ (s : Stop). acted ir_meaning w p below top (effect_of w.common (who_of ir_meaning p below top) s top.operands)) stopped
+    ∙ ap (λ (vs : List Value). acted ir_meaning w p below top (effect_of w.common (who_of ir_meaning p below top) Print vs)) operands in
     let shows : ShowsNodes (live_values net.program) (spot net.program net.images) (stores net') w' (place w) =
-        mark_shows net.program net.images holds.steady.slots p h.block below top stop (stores net) (stores net') (store_of e.node) (store_of e.node') w c (place w)
-            (alone_net net e.node e.becomes.before) (alone_net net' e.node' e.becomes.after) holds.shows.nodes (record { objects = refl; globals = refl })
-            a.is a.stop_is a.flag a.into t.variables t.frame (node_riscv M net w p holds e.node e.becomes.before) t.home e.marks in
+    mark_shows net.program net.images holds.steady.slots p h.block below top stop (stores net) (stores net') (store_of e.node) (store_of e.node') w c (place w)
+    (alone_net net e.node e.becomes.before) (alone_net net' e.node' e.becomes.after) holds.shows.nodes (record { objects = refl; globals = refl })
+    a.is a.stop_is a.flag a.into t.variables t.frame (node_riscv M net w p holds e.node e.becomes.before) t.home e.marks in
     after_action M p holds e.becomes e.marks.tables.rest.text w' refl shows WentOn is
-        (e.processes.statuses ∙ statuses_stay net w p below top (done top) holds.shows a.is c)
-        (e.processes.depths ∙ depths_stay net w p below top (done top) holds.shows a.is c)
-        (e.output ∙ ap (λ (out : List ℕ). out ++ e.text) holds.shows.output)
-        (e.places ∙ holds.shows.places_are)
-        (went_on a w' holds.fine refl refl refl (subst (λ (s : Stop). HasCode s) (sym e.is) tt) fine.1 (printed_facts net.program w e.text p (ready_with (below ++ done top ∷ [])) holds.fine.facts))
+    (e.processes.statuses ∙ statuses_stay net w p below top (done top) holds.shows a.is c)
+    (e.processes.depths ∙ depths_stay net w p below top (done top) holds.shows a.is c)
+    (e.output ∙ ap (λ (out : List ℕ). out ++ e.text) holds.shows.output)
+    (e.places ∙ holds.shows.places_are)
+    (went_on a w' holds.fine refl refl refl (subst (λ (s : Stop). HasCode s) (sym e.is) tt) fine.1 (printed_facts net.program w e.text p (ready_with (below ++ done top ∷ [])) holds.fine.facts))

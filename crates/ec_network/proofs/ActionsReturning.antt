@@ -1,7 +1,7 @@
 -- The end of operation 0 of a class: its frame goes, and the frame below gets a reference to the object.
-use Rattle.std.proofs.Common.{◌≡◌, ◌≢◌, ℕ, zero, suc, ◌+◌, ◌<◌, ◌≤◌, Bool, true, false, List, [], ◌∷◌, ◌++◌, length, Option, Some, None, refl, sym, ap, ◌∙◌, subst, arith, ◌⊎◌, inl, inr, ⊎_elim}
+use Rattle.std.proofs.Common.{◌≡◌, ◌≢◌, ℕ, zero, suc, ◌+◌, ◌<◌, true, false, List, [], ◌∷◌, ◌++◌, length, Option, Some, None, refl, sym, ap, ◌∙◌, subst, arith, ⊎_elim}
 use Rattle.std.specs.Prelude.{slice_get, slice_set, map}
-use Rattle.ec_base.specs.Stack.{top_of, below_of}
+use Rattle.ec_base.specs.Stack.{top_of}
 use Rattle.ec_base.proofs.Lists.{get_set_same, get_within}
 use Rattle.ec_base.proofs.Stacks.{top_of-push, below_of-push}
 use Rattle.ec_world.specs.declared.value.Value.{Value}
@@ -22,20 +22,18 @@ use Rattle.ec_ir.specs.declared.code.StopRec.{StopRec}
 use Rattle.ec_ir.specs.declared.code.Operation.{Operation}
 use Rattle.ec_ir.specs.declared.code.Parts.{Parts}
 use Rattle.ec_ir.specs.declared.activation.IrActivation.{IrActivation}
-use Rattle.ec_ir.specs.Meaning.{ir_meaning, live_values, live_variables, variable, put, types_of, operation_at, stop_at, into_variable, finished}
+use Rattle.ec_ir.specs.Meaning.{ir_meaning, live_values, live_variables, variable, put, types_of, operation_at, stop_at, into_variable}
 use Rattle.ec_ir.specs.Fine.{HasCode, HasType, FineStop, FineReturn}
 use Rattle.ec_ir.proofs.Put.{put_same, put_other}
 use Rattle.ec_stops.specs.Machine.{MachineMeaning}
 use Rattle.ec_stops.specs.Faithful.{LiveTyped, first_slot}
-use Rattle.ec_nodes.specs.declared.key.Key.{Key}
 use Rattle.ec_nodes.specs.declared.key.Key.TheVariants.{Frame}
-use Rattle.ec_nodes.specs.Store.{Store, Owned, Tidy}
-use Rattle.ec_nodes.specs.Things.{Puts, frame_thing}
+use Rattle.ec_nodes.specs.Store.{Tidy}
+use Rattle.ec_nodes.specs.Things.{frame_thing}
 use Rattle.ec_nodes.specs.Shows.{ShowsNodes}
 use Rattle.ec_nodes.proofs.Procs.{get_end}
 use Rattle.ec_nodes.proofs.World.{one_changed}
 use Rattle.ec_nodes.proofs.Steps.{with_process, left, stepped}
-use Rattle.ec_frames.specs.declared.node.NodeStore.{NodeStore}
 use Rattle.ec_frames.specs.Node.{store_of}
 use Rattle.ec_frames.specs.Changes.{Closed}
 use Rattle.ec_network.specs.declared.cluster.Cluster.{Cluster}
@@ -47,10 +45,10 @@ use Rattle.ec_network.specs.Holds.{Holds}
 use Rattle.ec_network.specs.Kernel.{Returns}
 use Rattle.ec_network.specs.Steps.{IsDone, FineMiddle, AfterAction}
 use Rattle.ec_network.proofs.ActionsLists.{length_end, get_left, set_end, set_twice, map_set, map_set_same}
-use Rattle.ec_network.proofs.ActionsStores.{IsAlone, only_node, alone_only, alone_net, alone_put, same_tidy, closed_puts, writes_puts}
+use Rattle.ec_network.proofs.ActionsStores.{only_node, alone_only, alone_net, alone_put, same_tidy, closed_puts, writes_puts}
 use Rattle.ec_network.proofs.ActionsFrames.{with_result, result_or, HasVariables, FrameStands, shows_frame, given_frame}
 use Rattle.ec_network.proofs.ActionsOrder.{ready_with, InOrder, order_of, order_pop, order_below, order_last, middle_stack, fine_middle}
-use Rattle.ec_network.proofs.ActionsTop.{TopAt, Acting, OperationOf, operation_of, action_is, node_riscv, place_there, one_node, shown_at}
+use Rattle.ec_network.proofs.ActionsTop.{TopAt, OperationOf, operation_of, action_is, node_riscv, place_there, one_node, shown_at}
 use Rattle.ec_network.proofs.ActionsAfter.{after_action}
 use Rattle.ec_network.proofs.ActionsMarking.{frame_at, process_there}
 use Rattle.ec_network.proofs.ActionsEntering.{same_facts}
@@ -205,11 +203,11 @@ module _ {S : Type 0} (M : MachineMeaning S) (net net' : Cluster) (w : Worlds) (
   returned_shows =
       let shown = shows_frame net.program net.images holds.steady.slots (store_of e.node') (e.writes.tables.rest.kind ∙ two_riscv) p (length lower) e.f given given_variables frame_given in
       let end : ShowsNodes (live_values net.program) (spot net.program net.images) (stores net') (with_process popped w.common p (ready_with (lower ++ given ∷ []))) (place w) =
-          one_changed (live_values net.program) (spot net.program net.images) (place w) (only_node e.two) (stores net') 0 e.two (store_of e.node') popped (with_process popped w.common p (ready_with (lower ++ given ∷ []))) (Frame p (length lower)) (Some (frame_thing (live_values net.program) (spot net.program net.images) p (length lower) given))
-              popped_shows
-              (alone_put (only_node e.two) (stores net') e.two (store_of e.node') (alone_only e.two) (alone_net net' e.node' e.becomes.after))
-              (writes_puts e.two (store_of e.node') (Frame p (length lower)) e.row e.f (first_slot + e.x) e.local e.writes row_two e.block (popped_shows.tidy 0 e.two refl) (frame_thing (live_values net.program) (spot net.program net.images) p (length lower) given) refl shown)
-              (stepped (live_values net.program) (spot net.program net.images) (place w) popped w.common (record { objects = refl; globals = refl }) p (ready_with (lower ++ c ∷ [])) (ready_with (lower ++ given ∷ [])) popped_is (length lower) c given 0 (get_end lower c) (sym (set_end lower c given)) refl home_below) in
+      one_changed (live_values net.program) (spot net.program net.images) (place w) (only_node e.two) (stores net') 0 e.two (store_of e.node') popped (with_process popped w.common p (ready_with (lower ++ given ∷ []))) (Frame p (length lower)) (Some (frame_thing (live_values net.program) (spot net.program net.images) p (length lower) given))
+      popped_shows
+      (alone_put (only_node e.two) (stores net') e.two (store_of e.node') (alone_only e.two) (alone_net net' e.node' e.becomes.after))
+      (writes_puts e.two (store_of e.node') (Frame p (length lower)) e.row e.f (first_slot + e.x) e.local e.writes row_two e.block (popped_shows.tidy 0 e.two refl) (frame_thing (live_values net.program) (spot net.program net.images) p (length lower) given) refl shown)
+      (stepped (live_values net.program) (spot net.program net.images) (place w) popped w.common (record { objects = refl; globals = refl }) p (ready_with (lower ++ c ∷ [])) (ready_with (lower ++ given ∷ [])) popped_is (length lower) c given 0 (get_end lower c) (sym (set_end lower c given)) refl home_below) in
       subst (λ (ps : List (Proc IrActivation)). ShowsNodes (live_values net.program) (spot net.program net.images) (stores net') (record { common = w.common; processes = ps }) (place w)) (set_twice w.processes p (ready_with (lower ++ c ∷ [])) (ready_with (lower ++ given ∷ []))) end
 
   -- ---- the world
@@ -236,11 +234,11 @@ module _ {S : Type 0} (M : MachineMeaning S) (net net' : Cluster) (w : Worlds) (
         given = refl;
       } in
       let rest : InOrder net.program w.common.nodes (length w.common.objects) (lower ++ given ∷ []) =
-          order_last net.program w.common.nodes (length w.common.objects) lower c given refl
-              (order_pop net.program w.common.nodes (length w.common.objects) (lower ++ c ∷ []) top order) in
+      order_last net.program w.common.nodes (length w.common.objects) lower c given refl
+      (order_pop net.program w.common.nodes (length w.common.objects) (lower ++ c ∷ []) top order) in
       fine_middle net.program w returned p (ready_with (lower ++ given ∷ [])) refl refl (omega arith) holds.fine there refl
-          (middle_stack net.program w.common.nodes (length w.common.objects) lower given is_done rest)
-          (same_facts net.program w p (ready_with (lower ++ given ∷ [])) holds.fine.facts)
+      (middle_stack net.program w.common.nodes (length w.common.objects) lower given is_done rest)
+      (same_facts net.program w p (ready_with (lower ++ given ∷ [])) holds.fine.facts)
 
   depths_are : net'.depths ≡ depths_of returned
   depths_are =

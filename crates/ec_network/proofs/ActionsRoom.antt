@@ -1,6 +1,6 @@
 -- Room for an action: a creation holds two blocks more, any other action none more, and no action has new texts.
-use Rattle.std.proofs.Common.{◌≡◌, ◌≢◌, ℕ, zero, suc, ◌+◌, ◌-◌, ◌<◌, ◌≤◌, Bool, true, false, List, [], ◌∷◌, ◌++◌, length, Option, Some, None, refl, sym, ap, ◌∙◌, subst, arith, ◌⊎◌, inl, inr, ⊎_elim}
-use Rattle.std.specs.Prelude.{slice_get, slice_set, map, ◌↔◌}
+use Rattle.std.proofs.Common.{◌≡◌, ◌≢◌, ℕ, zero, ◌+◌, ◌-◌, ◌<◌, ◌≤◌, List, [], ◌∷◌, ◌++◌, length, Option, Some, None, refl, sym, ap, ◌∙◌, subst, arith, inr, ⊎_elim}
+use Rattle.std.specs.Prelude.{slice_get, map, ◌↔◌}
 use Rattle.ec_base.specs.Stack.{top_of, below_of}
 use Rattle.ec_base.proofs.Lists.{get_there, get_within}
 use Rattle.ec_world.specs.declared.value.Value.{Value}
@@ -14,34 +14,32 @@ use Rattle.ec_world.specs.declared.process.ProcStatus.TheVariants.{Ready, Entry 
 use Rattle.ec_world.specs.declared.process.Proc.{Proc}
 use Rattle.ec_world.specs.declared.node.Kind.{Kind}
 use Rattle.ec_world.specs.Group.{Has}
-use Rattle.ec_world.specs.World.{act_on, ready_stack, stack_if_ready, stack_at}
+use Rattle.ec_world.specs.World.{act_on, ready_stack, stack_if_ready}
 use Rattle.ec_ir.specs.declared.code.StopRec.{StopRec}
-use Rattle.ec_ir.specs.declared.code.Parts.{Parts}
 use Rattle.ec_ir.specs.declared.activation.IrActivation.{IrActivation}
 use Rattle.ec_ir.specs.Meaning.{ir_meaning, live_values, live_variables, variable, stop_at}
 use Rattle.ec_ir.specs.Fine.{Fine, FineStop}
 use Rattle.ec_stops.specs.Machine.{MachineMeaning}
-use Rattle.ec_nodes.specs.declared.key.Key.{Key}
-use Rattle.ec_nodes.specs.declared.key.Key.TheVariants.{Object, Frame}
+use Rattle.ec_nodes.specs.declared.key.Key.TheVariants.{Frame}
 use Rattle.ec_nodes.specs.declared.room.Needs.{Needs}
 use Rattle.ec_nodes.specs.declared.room.Part.{Part}
 use Rattle.ec_nodes.specs.declared.room.Part.TheVariants.{Blocks, Text}
 use Rattle.ec_nodes.specs.Store.{Store, Stands, text_bytes}
-use Rattle.ec_nodes.specs.Things.{things_of, frame_thing, frame_if, activation_at}
-use Rattle.ec_nodes.specs.Held.{Held, InPool, Distinct, Lacks}
+use Rattle.ec_nodes.specs.Things.{frame_thing, frame_if, activation_at}
+use Rattle.ec_nodes.specs.Held.{InPool, Lacks}
 use Rattle.ec_nodes.specs.Shows.{ShowsNodes}
 use Rattle.ec_nodes.proofs.Procs.{activation_here, activation_there, activation_is}
 use Rattle.ec_nodes.proofs.Put.{same_or_not}
 use Rattle.ec_nodes.proofs.Create.{replaced}
 use Rattle.ec_nodes.proofs.Texts.{shown_text}
 use Rattle.ec_frames.specs.declared.node.NodeStore.{NodeStore}
-use Rattle.ec_frames.specs.Node.{store_of, Laid}
+use Rattle.ec_frames.specs.Node.{store_of}
 use Rattle.ec_network.specs.declared.cluster.Cluster.{Cluster}
 use Rattle.ec_network.specs.declared.kernel.Here.{Here}
 use Rattle.ec_network.specs.declared.kernel.Acted.{Acted}
 use Rattle.ec_network.specs.declared.kernel.Acted.TheVariants.{WentOn, Began, EndedNow}
 use Rattle.ec_network.specs.Shows.{Worlds, Shows, store_if, stores, spot, place}
-use Rattle.ec_network.specs.Room.{Room, Strings, BytesOf, NeedsOf, FullAt, NoneFull, held}
+use Rattle.ec_network.specs.Room.{Room, Strings, BytesOf, FullAt, NoneFull, held}
 use Rattle.ec_network.specs.Room.Strings.{InField, InFrame, InConstant}
 use Rattle.ec_network.specs.Worlds.{FineWorld, ir_action, status_of, status_at}
 use Rattle.ec_network.specs.Turns.{SameMachines}
@@ -96,7 +94,7 @@ module _ (net net' : Cluster) (w w' : Worlds) (shows : Shows net w) (after : Sho
           let node' = get_there net'.nodes k (omega (arith, l, same.counted)) in
           let fits = fits_at k node node'.0 e node'.1 in
           let none = no_bytes (λ text. Strings net.program w' k text × (Pools net k text → ⊥)) f.needs.bytes f.are.bytes
-              (λ text h. h.1 (pool_here net k (store_of node) text (ap store_if e) (pools k (store_of node) text (ap store_if e) h.0))) in
+          (λ text h. h.1 (pool_here net k (store_of node) text (ap store_if e) (pools k (store_of node) text (ap store_if e) h.0))) in
           lacks_nothing part f.needs need free (omega (arith, fits, blocks, f.are.blocks, f.are.free_blocks)) none f.lacks
 
 -- ---- the actions
@@ -124,10 +122,10 @@ module _ {S : Type 0} (M : MachineMeaning S) (net net' : Cluster) (w : Worlds) (
       let a : AfterAction M net w p net' acted = acts_after M net net' w p h stop holds ready here stop_is acted acts in
       let t = keeps_texts net net' p h stop acted acts in
       none_lacks net net' w (ir_action w p) holds.shows a.middle.shows a.middle.machines (λ k s text e g.
-          let at = alone_is (stores net) (store_of t.node) (alone_net net t.node t.before) k s e in
-          let new : stores net' k ≡ Some (store_of t.node') = ap (stores net') at.0 ∙ (alone_net net' t.node' t.after).here in
-          let there : InPool (store_of t.node') text = (a.pools.each k s (store_of t.node') text e new).1 (inr g) in
-          subst (λ (x : Store). InPool x text) (sym at.1) (there.0, sym (t.same there.0) ∙ there.1))
+      let at = alone_is (stores net) (store_of t.node) (alone_net net t.node t.before) k s e in
+      let new : stores net' k ≡ Some (store_of t.node') = ap (stores net') at.0 ∙ (alone_net net' t.node' t.after).here in
+      let there : InPool (store_of t.node') text = (a.pools.each k s (store_of t.node') text e new).1 (inr g) in
+      subst (λ (x : Store). InPool x text) (sym at.1) (there.0, sym (t.same there.0) ∙ there.1))
 
 -- ---- a process that isn't Ready
 
@@ -150,12 +148,12 @@ idle_action w p h = ap (λ (xs : List IrActivation). act_on ir_meaning w p (belo
 pub none_full_idle : {S : Type 0} (M : MachineMeaning S) (net : Cluster) (w : Worlds) (p : ℕ) → Holds M net w → status_at w p ≢ Some Ready → NoneFull (rooms net) (held w) (held (ir_action w p)) (Pools net) (Strings net.program (ir_action w p))
 none_full_idle M net w p holds h =
     subst (λ (v : Worlds). NoneFull (rooms net) (held w) (held v) (Pools net) (Strings net.program v)) (sym (idle_action w p h))
-        (none_lacks net net w w holds.shows holds.shows (record {
-          program = refl;
-          images = refl;
-          counted = refl;
-          each = λ j x y e f. let same : y ≡ x = cc in record { kind = ap (λ (n : NodeStore). n.kind) same; blocks = ap (λ (n : NodeStore). n.blocks) same; room = ap (λ (n : NodeStore). n.room) same };
-        }) (λ k s text e g. strings_stand net w holds.shows k s text e g))
+    (none_lacks net net w w holds.shows holds.shows (record {
+      program = refl;
+      images = refl;
+      counted = refl;
+      each = λ j x y e f. let same : y ≡ x = cc in record { kind = ap (λ (n : NodeStore). n.kind) same; blocks = ap (λ (n : NodeStore). n.blocks) same; room = ap (λ (n : NodeStore). n.room) same };
+    }) (λ k s text e g. strings_stand net w holds.shows k s text e g))
 
 -- ---- a creation without room
 
@@ -191,7 +189,7 @@ module _ {S : Type 0} (M : MachineMeaning S) (net : Cluster) (w : Worlds) (p : �
   old_text : (q d : ℕ) (a : IrActivation) (text : List ℕ) → activation_at w.processes q d ≡ Some a → Has (live_values net.program a) (Str text) → InPool (store_of here.node) text
   old_text q d a text e g =
       shown_text (store_of here.node) (Frame q d) (frame_thing live spots q d a) text
-          (shown_here live spots (stores net) w (place w) (store_of here.node) holds.shows.nodes (alone_net net here.node here.one) (Frame q d) (frame_thing live spots q d a) (ap (frame_if live spots q d) e)) g
+      (shown_here live spots (stores net) w (place w) (store_of here.node) holds.shows.nodes (alone_net net here.node here.one) (Frame q d) (frame_thing live spots q d a) (ap (frame_if live spots q d) e)) g
 
   done_text : (text : List ℕ) → Has (live_values net.program (done top)) (Str text) → InPool (store_of here.node) text
   done_text text g =
@@ -220,7 +218,7 @@ module _ {S : Type 0} (M : MachineMeaning S) (net : Cluster) (w : Worlds) (p : �
   created_text text (InFrame q d a e at g) = ⊎_elim
       (λ (same : q ≡ p).
       let mine : slice_get ((below ++ done top ∷ []) ++ fresh ∷ []) d ≡ Some a =
-          sym (activation_here w.processes p d (ready_with ((below ++ done top ∷ []) ++ fresh ∷ [])) there) ∙ ap (λ i. activation_at created.processes i d) (sym same) ∙ e in
+      sym (activation_here w.processes p d (ready_with ((below ++ done top ∷ []) ++ fresh ∷ [])) there) ∙ ap (λ i. activation_at created.processes i d) (sym same) ∙ e in
       top_text d a text mine g)
       (λ (ne : q ≢ p). old_text q d a text (sym (activation_there w.processes p q d (ready_with ((below ++ done top ∷ []) ++ fresh ∷ [])) ne) ∙ e) g)
       (same_or_not q p)
@@ -230,8 +228,8 @@ module _ {S : Type 0} (M : MachineMeaning S) (net : Cluster) (w : Worlds) (p : �
   held_more : held created 0 ≡ held w 0 + 2
   held_more =
       let moved : ShowsNodes live spots (stores net) w (place created) = replaced live spots (stores net) w (place w) (place created) (λ key x f.
-          let z = holds.shows.nodes.things.each key x f in
-          place_old creation x.home z.node z.home ∙ sym z.home) holds.shows.nodes in
+      let z = holds.shows.nodes.things.each key x f in
+      place_old creation x.home z.node z.home ∙ sym z.home) holds.shows.nodes in
       let one = moved.held 0 (store_of here.node) there_is in
       let two = holds.shows.nodes.held 0 (store_of here.node) there_is in
       let more = two_more creation live spots in
@@ -280,5 +278,5 @@ full_here M net w p h stop k node need free holds ready here stop_is is_new full
     let is = created_is c in
     let base = creation_full M net w p h stop holds here t.0 t.1 k t.2 fine.0 fine.1 is_new free (full.2 here.node here.one) full.3 in
     subst (λ (v : Worlds). FullAt (rooms net) (held w) (held v) (Pools net) (Strings net.program v) node Blocks need free) (sym is)
-        (subst (λ (n : ℕ). FullAt (rooms net) (held w) (held (created_world c)) (Pools net) (Strings net.program (created_world c)) n Blocks need free) (sym full.0)
-            (subst (λ (m : ℕ). FullAt (rooms net) (held w) (held (created_world c)) (Pools net) (Strings net.program (created_world c)) 0 Blocks m free) (sym full.1) base))
+    (subst (λ (n : ℕ). FullAt (rooms net) (held w) (held (created_world c)) (Pools net) (Strings net.program (created_world c)) n Blocks need free) (sym full.0)
+    (subst (λ (m : ℕ). FullAt (rooms net) (held w) (held (created_world c)) (Pools net) (Strings net.program (created_world c)) 0 Blocks m free) (sym full.1) base))

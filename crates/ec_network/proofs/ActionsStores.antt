@@ -1,16 +1,15 @@
 -- What one change of a store is to the one owner that it touches, on a node that is alone.
-use Rattle.std.proofs.Common.{◌≡◌, ◌≢◌, ℕ, zero, suc, ◌+◌, ◌/◌, ◌%◌, ◌<◌, ◌≤◌, Bool, List, [], ◌∷◌, ◌++◌, length, Option, Some, None, refl, sym, ap, ◌∙◌, subst, arith, ◌⊎◌, inl, inr, ⊎_elim}
+use Rattle.std.proofs.Common.{◌≡◌, ◌≢◌, ℕ, zero, suc, ◌/◌, ◌%◌, ◌<◌, Bool, List, [], ◌∷◌, length, Option, Some, None, refl, sym, ap, ◌∙◌, subst, arith, inl, ⊎_elim}
 use Rattle.std.specs.Prelude.{slice_get}
 use Rattle.ec_world.specs.declared.class.ClassNo.{ClassNo}
 use Rattle.ec_world.specs.declared.object.MonitorRec.{MonitorRec}
 use Rattle.ec_world.specs.declared.value.Value.{Value}
 use Rattle.ec_world.specs.declared.node.Kind.{Kind}
 use Rattle.ec_world.specs.declared.world.World.{World}
-use Rattle.ec_world.specs.Group.{Has}
 use Rattle.ec_ir.specs.declared.activation.IrActivation.{IrActivation}
 use Rattle.ec_nodes.specs.declared.key.Key.{Key}
 use Rattle.ec_nodes.specs.Store.{Store, Owned, Grown, KeptRow, Tidy, word_in, word_of}
-use Rattle.ec_nodes.specs.Things.{Thing, Shown, Puts, NodePut, things_of, size_of, row_size}
+use Rattle.ec_nodes.specs.Things.{Thing, Shown, Puts, NodePut, things_of, row_size}
 use Rattle.ec_nodes.specs.Shows.{ShowsNodes}
 use Rattle.ec_nodes.proofs.Put.{same_or_not}
 use Rattle.ec_frames.specs.declared.node.NodeStore.{NodeStore}
@@ -97,8 +96,8 @@ module _ (s s' : Store) (key : Key) (row : Owned) (b i n : ℕ) (writes : Writes
     row = writes.tables.rows other;
     words = λ r c j e h l.
         let off : c ≢ b = λ same.
-            let mine : slice_get row.blocks 0 ≡ Some c = ap (λ (bs : List ℕ). slice_get bs 0) block ∙ ap Some (sym same) in
-            ne (tidy.apart other key r row c e row_is h (record { at = 0; is = mine })) in
+        let mine : slice_get row.blocks 0 ≡ Some c = ap (λ (bs : List ℕ). slice_get bs 0) block ∙ ap Some (sym same) in
+        ne (tidy.apart other key r row c e row_is h (record { at = 0; is = mine })) in
         writes.others c j l (inl off);
   }
 

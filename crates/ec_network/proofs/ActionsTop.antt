@@ -1,8 +1,7 @@
 -- What a network that holds keeps of a Ready process: its activations, the stop of the top one, and the frame of that.
-use Rattle.std.proofs.Common.{◌≡◌, ◌≢◌, ℕ, zero, suc, ◌+◌, ◌<◌, ◌≤◌, Bool, true, false, List, [], ◌∷◌, ◌++◌, length, Option, Some, None, refl, sym, ap, ◌∙◌, subst, arith, ◌⊎◌, inl, inr, ⊎_elim}
-use Rattle.std.specs.Prelude.{slice_get, slice_set, map}
+use Rattle.std.proofs.Common.{◌≡◌, ℕ, suc, ◌<◌, ◌≤◌, Bool, true, List, [], ◌∷◌, ◌++◌, length, Option, Some, None, refl, sym, ap, ◌∙◌, subst, arith}
+use Rattle.std.specs.Prelude.{slice_get, map}
 use Rattle.ec_base.specs.Stack.{top_of, below_of}
-use Rattle.ec_base.proofs.Lists.{get_within}
 use Rattle.ec_base.proofs.Stacks.{top_of-push, below_of-push, stack_parts, top_of_none}
 use Rattle.ec_world.specs.declared.process.ProcStatus.{ProcStatus}
 use Rattle.ec_world.specs.declared.process.ProcStatus.TheVariants.{Ready}
@@ -19,19 +18,19 @@ use Rattle.ec_ir.specs.Fine.{Fine, FineStop}
 use Rattle.ec_stops.specs.Machine.{MachineMeaning}
 use Rattle.ec_stops.specs.Faithful.{LiveTyped}
 use Rattle.ec_nodes.specs.declared.key.Key.TheVariants.{Frame}
-use Rattle.ec_nodes.specs.Store.{Store, Owned}
-use Rattle.ec_nodes.specs.Things.{Shown, frame_thing, frame_if, activation_at}
+use Rattle.ec_nodes.specs.Store.{Owned}
+use Rattle.ec_nodes.specs.Things.{Shown, frame_thing, frame_if}
 use Rattle.ec_nodes.proofs.Procs.{activation_is, get_end}
 use Rattle.ec_frames.specs.declared.node.NodeStore.{NodeStore}
-use Rattle.ec_frames.specs.Node.{store_of, Laid}
+use Rattle.ec_frames.specs.Node.{store_of}
 use Rattle.ec_network.specs.declared.cluster.Cluster.{Cluster}
 use Rattle.ec_network.specs.declared.kernel.Here.{Here}
 use Rattle.ec_network.specs.Shows.{Worlds, Shows, stores, spot, place}
-use Rattle.ec_network.specs.Worlds.{RestsAt, IsPending, IsWaiting, FineStack, FineProcess, FineFacts, FineWorld, status_of, status_at, ir_action}
-use Rattle.ec_network.specs.Holds.{Steady, Holds}
+use Rattle.ec_network.specs.Worlds.{FineStack, FineProcess, FineFacts, FineWorld, status_of, status_at, ir_action}
+use Rattle.ec_network.specs.Holds.{Holds}
 use Rattle.ec_network.specs.Kernel.{IsHere}
 use Rattle.ec_network.proofs.ActionsLists.{length_end, get_map}
-use Rattle.ec_network.proofs.ActionsStores.{IsAlone, alone_net, shown_here}
+use Rattle.ec_network.proofs.ActionsStores.{alone_net, shown_here}
 use Rattle.ec_network.proofs.ActionsFrames.{HasVariables, FrameStands, frame_stands}
 use Rattle.ec_network.proofs.ActionsOrder.{ready_with}
 use Rattle.ec_world.specs.declared.node.Kind.TheVariants.{Riscv}
@@ -135,8 +134,8 @@ one_node net w node shows one = sym shows.counted ∙ ap (λ (ns : List NodeStor
 pub place_there : (program : Parts) (w : Worlds) (oid : ℕ) → w.common.nodes ≡ 1 → FineFacts program w → 0 < oid → oid ≤ length w.common.objects → place w oid ≡ Some 0
 place_there program w oid one facts some below =
     subst (λ (n : ℕ). oid ≤ length (places n w.common.events) → place_in (places n w.common.events) oid ≡ Some 0) (sym one)
-        (λ l. place_on_one w.common.events oid some l)
-        (let l = facts.placed in omega arith)
+    (λ l. place_on_one w.common.events oid some l)
+    (let l = facts.placed in omega arith)
 
 module _ {S : Type 0} (M : MachineMeaning S) (net : Cluster) (w : Worlds) (p : ℕ) (holds : Holds M net w) (node : NodeStore) (one : net.nodes ≡ node ∷ []) where
   pub node_riscv : (store_of node).kind ≡ Riscv
@@ -146,7 +145,7 @@ module _ {S : Type 0} (M : MachineMeaning S) (net : Cluster) (w : Worlds) (p : �
   pub shown_frame : (xs : List IrActivation) (d : ℕ) (a : IrActivation) → slice_get w.processes p ≡ Some (ready_with xs) → slice_get xs d ≡ Some a → Shown (store_of node) (Frame p d) (frame_thing (live_values net.program) (spot net.program net.images) p d a)
   shown_frame xs d a is at =
       shown_here (live_values net.program) (spot net.program net.images) (stores net) w (place w) (store_of node) holds.shows.nodes (alone_net net node one) (Frame p d) (frame_thing (live_values net.program) (spot net.program net.images) p d a)
-          (ap (frame_if (live_values net.program) (spot net.program net.images) p d) (activation_is w.processes p d (ready_with xs) is ∙ at))
+      (ap (frame_if (live_values net.program) (spot net.program net.images) p d) (activation_is w.processes p d (ready_with xs) is ∙ at))
 
   pub shown_at : (xs : List IrActivation) (d : ℕ) (a : IrActivation) (b : ℕ) (row : Owned) (v : HasVariables net.program a) → slice_get w.processes p ≡ Some (ready_with xs) → slice_get xs d ≡ Some a → (store_of node).row (Frame p d) ≡ Some row → row.blocks ≡ b ∷ [] → FrameStands net.program (store_of node) p d b a
   shown_at xs d a b row v is at row_is block = frame_stands net.program net.images holds.steady.slots (store_of node) node_riscv p d b a v row row_is block (shown_frame xs d a is at)
