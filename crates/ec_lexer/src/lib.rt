@@ -5,7 +5,7 @@ ghost use Rattle.std.specs.Prelude.{◌≡◌, ◌+◌, ◌-◌, ◌^◌, ◌<�
 ghost use Rattle.ec_lexer.specs.Tokens.{HasTokens, kind_of, token, unescaped_byte, unescaped_bytes, word_kind};
 ghost use Rattle.ec_lexer.specs.declared.token.Token.{Token as AToken};
 
-pub mod lexeme;
+mod lexeme;
 pub mod token;
 
 use ec_ast::{Span, Text};

@@ -6,3 +6,6 @@ pub mod Holds
 pub mod Kernel
 pub mod Steps
 pub mod Full
+pub mod Net
+pub mod Answers
+pub mod Can

@@ -4,3 +4,4 @@
 mod cluster;
 mod kernel;
 pub mod image;
+pub mod network;

@@ -1,5 +1,5 @@
 -- Counts of faults: a count is a number from 0 to 2^64 - 1 that never falls.
-use Rattle.std.specs.Prelude.{◌≡◌, ℕ, ◌+◌, ◌-◌, ◌^◌, ◌<◌, ◌⊎◌, List, Option, Some, None, Contains, position, slice_index}
+use Rattle.std.specs.Prelude.{◌≡◌, ℕ, ◌-◌, ◌^◌, ◌<◌, ◌⊎◌, List, Option, Some, None, Contains, position, slice_index}
 use Rattle.std.specs.Str.{bytes_eq}
 
 -- the count rose, or it stands at the top, where no count rises any more

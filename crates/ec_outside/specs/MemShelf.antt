@@ -1,5 +1,5 @@
 -- A shelf in memory: its files, and which of its calls fail.
-use Rattle.std.specs.Prelude.{◌≡◌, ℕ, ◌+◌, ◌-◌, ◌^◌, ◌⊎◌, min, map, List, [], ◌∷◌, Option, Some, None, IsNone, Contains, if◌then◌else◌}
+use Rattle.std.specs.Prelude.{ℕ, ◌+◌, ◌-◌, ◌^◌, ◌⊎◌, min, map, List, [], ◌∷◌, Option, Some, None, IsNone, Contains, if◌then◌else◌}
 use Rattle.std.specs.Str.{bytes_eq}
 use Rattle.ec_outside.specs.Fault.{Tally}
 use Rattle.ec_outside.specs.declared.mem_shelf.MemFile.{MemFile}

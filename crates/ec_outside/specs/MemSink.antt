@@ -1,5 +1,5 @@
 -- A sink in memory: the bytes it holds, and which of its calls fail.
-use Rattle.std.specs.Prelude.{◌≡◌, ℕ, ◌+◌, ◌-◌, ◌^◌, ◌<◌, ◌⊎◌, min, List, length, Contains}
+use Rattle.std.specs.Prelude.{◌≡◌, ℕ, ◌<◌, ◌⊎◌, List, length, Contains}
 use Rattle.ec_outside.specs.MemShelf.{next_call}
 
 -- the bytes taken, the most bytes that a call moves, the numbers of the calls that are to fail, the number of

@@ -1,5 +1,5 @@
 //! Faults, and the counts of them by the names that were asked for.
-ghost use Rattle.std.specs.Prelude.{◌≡◌, ℕ, List, ◌≤◌, length, map, position, IfOk};
+ghost use Rattle.std.specs.Prelude.{◌≡◌, ℕ, ◌+◌, ◌-◌, ◌^◌, List, ◌≤◌, min, length, map, position, IfOk};
 ghost use Rattle.std.specs.Str.{bytes_eq};
 ghost use Rattle.ec_outside.specs.Fault.{HasRisen, ShareCount, count_of, place_of};
 
@@ -57,10 +57,21 @@ impl<'a> Counts<'a> {
         place_among(&self.names, name)
     }
 
+    /// The faults so far that a name shares a count of.
+    pub fn of(&self, name: &str) -> u64
+        ensures { result ≡ count_of self.now name.now }
+    {
+        match self.place(name) {
+            Some(i) => self.counts[i],
+            None => self.others,
+        }
+    }
+
     /// One fault more of a name; a count that stands at 2^64 - 1 stays there.
     pub fn raise(&mut self, name: &str)
         ensures names { self.new.names ≡ self.old.names }
         ensures risen { HasRisen (count_of self.old name.now) (count_of self.new name.now) }
+        ensures by_one { count_of self.new name.now ≡ min (count_of self.old name.now + 1) (2 ^ 64 - 1) }
         ensures others { (other : List ℕ) → ¬ ShareCount self.old.names name.now other →
             count_of self.new other ≡ count_of self.old other }
         ensures never_falls { (other : List ℕ) → count_of self.old other ≤ count_of self.new other }

@@ -7,8 +7,8 @@ ghost use Rattle.ec_outside.specs.SharedCounts.{count_of-shared};
 use crate::fault::{Counts, Failed};
 use crate::shelf::Shelf;
 use std::alloc::{AllocError, Global};
-use std::marker::Model;
 use std::io::{Read, Seek, SeekFrom};
+use std::marker::Model;
 use std::rt::Files;
 use std::{fs, io};
 
@@ -63,6 +63,13 @@ impl<'a, R: Files> FileShelf<'a, R> {
             files,
             counts: Counts::new(alloc, names)?,
         })
+    }
+
+    /// The count of faults that speaks for a name.
+    pub fn faults(&self, name: &str) -> u64
+        ensures { result ≡ count_of self.now name.now }
+    {
+        self.counts.of(name)
     }
 }
 

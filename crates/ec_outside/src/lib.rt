@@ -8,4 +8,6 @@ pub mod mem_sink;
 pub mod out_sink;
 pub mod shelf;
 pub mod sink;
+#[cfg(test)]
+mod tests;
 pub mod whole;

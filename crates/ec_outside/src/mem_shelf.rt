@@ -87,7 +87,6 @@ impl<'a> Shelf for MemShelf<'a> {
 }
 
 impl<'a> MemShelf<'a> {
-
     /// A shelf of these files that has had no call. It moves at most `piece` bytes in a call, and fails the
     /// calls whose numbers, from 1, are in `failing`. Its kept names are those of its files.
     pub fn new(
@@ -112,6 +111,13 @@ impl<'a> MemShelf<'a> {
             calls: 0,
             counts: Counts::new(alloc, names)?,
         })
+    }
+
+    /// The count of faults that speaks for a name.
+    pub fn faults(&self, name: &str) -> u64
+        ensures { result ≡ count_of self.now.counts name.now }
+    {
+        self.counts.of(name)
     }
 
     /// What the file of a name holds, where there is one and the call under way isn't listed.

@@ -115,4 +115,11 @@ impl<'a> MemSink<'a> {
     {
         self.taken.as_slice()
     }
+
+    /// The count of faults.
+    pub fn faults(&self) -> u64
+        ensures { result ≡ self.now.faults }
+    {
+        self.faults
+    }
 }

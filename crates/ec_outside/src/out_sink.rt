@@ -47,4 +47,11 @@ impl<P: Print> OutSink<P> {
     {
         OutSink { out, faults: 0 }
     }
+
+    /// The count of faults.
+    pub fn faults(&self) -> u64
+        ensures { result ≡ self.now }
+    {
+        self.faults
+    }
 }

@@ -7,7 +7,7 @@ ghost use Rattle.ec_parser.specs.Grammar.{HasTree};
 ghost use Rattle.ec_parser.specs.Reading.{Begins, ReadsStatements, literal_of, name_of, text_of};
 ghost use Rattle.ec_parser.specs.declared.TheConstants.{PRINT};
 
-pub mod symbol;
+mod symbol;
 
 use ec_ast::{Constant, Literal, Name, ObjectConstructor, Program, Statement, Text};
 use ec_base::list::Seq;
@@ -16,7 +16,7 @@ use std::alloc::{AllocError, Global};
 use symbol::{Symbol, begins_with};
 
 /// How a constant of an object begins: `const ID <- object ID initially`
-pub const CONSTANT_BEGIN: [Symbol; 6] = [
+const CONSTANT_BEGIN: [Symbol; 6] = [
     Symbol::Word(Reserved::Const),
     Symbol::Name,
     Symbol::Arrow,
@@ -26,7 +26,7 @@ pub const CONSTANT_BEGIN: [Symbol; 6] = [
 ];
 
 /// `stdout . PUTSTRING [ STRING ]`
-pub const PRINT: [Symbol; 6] = [
+const PRINT: [Symbol; 6] = [
     Symbol::Word(Reserved::Stdout),
     Symbol::Dot,
     Symbol::Putstring,
@@ -36,7 +36,7 @@ pub const PRINT: [Symbol; 6] = [
 ];
 
 /// How a constant of an object ends: `end initially end ID`
-pub const CONSTANT_END: [Symbol; 4] = [
+const CONSTANT_END: [Symbol; 4] = [
     Symbol::Word(Reserved::End),
     Symbol::Word(Reserved::Initially),
     Symbol::Word(Reserved::End),

@@ -23,7 +23,7 @@ pub enum Symbol {
 }
 
 /// The word, in any case, that prints.
-pub const PUTSTRING: &[u8] = b"putstring";
+const PUTSTRING: &[u8] = b"putstring";
 
 /// Whether tokens begin with these symbols.
 pub fn begins_with(mut tokens: &[Token], mut symbols: &[Symbol]) -> bool

@@ -5,7 +5,7 @@ use Rattle.ec_world.specs.declared.world.World.{World}
 use Rattle.ec_world.specs.declared.run.Entry.{Entry}
 use Rattle.ec_world.specs.declared.run.RunEntry.{RunEntry}
 use Rattle.ec_world.specs.Meaning.{ActivationMeaning}
-use Rattle.ec_world.specs.Run.{RunState, statuses_of, next_entry, after_entry, after_entries, stepped, step_run, run_after}
+use Rattle.ec_world.specs.Run.{RunState, statuses_of, next_entry, after_entry, after_entries, stepped, run_after}
 
 module _ {A : Type 0} (M : ActivationMeaning A) (advance : Common → A → Common × A) where
   -- the entries of one list, and then those of another

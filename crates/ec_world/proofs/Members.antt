@@ -1,11 +1,11 @@
 -- Members of lists, rising lists, and the numbers of what is marked.
-use Rattle.std.proofs.Common.{◌≡◌, ℕ, zero, suc, ◌+◌, ◌-◌, ◌<◌, ◌≤◌, ◌⊎◌, inl, inr, ⊎_elim, ◌↔◌, Bool, true, false, List, [], ◌∷◌, ◌++◌, length, Option, Some, None, refl, sym, ap, ◌∙◌, arith}
+use Rattle.std.proofs.Common.{◌≡◌, ℕ, zero, suc, ◌+◌, ◌<◌, ◌≤◌, ◌⊎◌, inl, inr, ⊎_elim, Bool, true, false, List, [], ◌∷◌, ◌++◌, length, Option, Some, None, refl, arith}
 use Rattle.std.specs.Prelude.{slice_get, IsSome}
 use Rattle.ec_base.proofs.Lists.{get_within, get_there}
 use Rattle.ec_world.specs.declared.object.ObjectRec.{ObjectRec}
 use Rattle.ec_world.specs.declared.common.Common.{Common}
 use Rattle.ec_world.specs.Effects.{object_at}
-use Rattle.ec_world.specs.Group.{Has, InGroup, IsRising, IsGroup, MarksGroup, mark_at, marked_from}
+use Rattle.ec_world.specs.Group.{Has, IsRising, IsGroup, MarksGroup, mark_at, marked_from}
 
 module _ {A : Type 0} where
   pub has_none : (x : A) → Has [] x → ⊥
@@ -30,9 +30,9 @@ module _ {A : Type 0} where
   pub has_front : (x : A) (xs ys : List A) → Has xs x → Has (xs ++ ys) x
   has_front x [] ys h = absurd (has_none x h)
   has_front x (z ∷ xs) ys h = ⊎_elim
-    (λ (e : x ≡ z). rw e (has_first z (xs ++ ys)))
-    (λ (k : Has xs x). has_later z x (xs ++ ys) (has_front x xs ys k))
-    (has_parts z x xs h)
+      (λ (e : x ≡ z). rw e (has_first z (xs ++ ys)))
+      (λ (k : Has xs x). has_later z x (xs ++ ys) (has_front x xs ys k))
+      (has_parts z x xs h)
 
   pub has_back : (x : A) (xs ys : List A) → Has ys x → Has (xs ++ ys) x
   has_back x [] ys h = h
@@ -41,9 +41,9 @@ module _ {A : Type 0} where
   pub has_either : (x : A) (xs ys : List A) → Has (xs ++ ys) x → Has xs x ⊎ Has ys x
   has_either x [] ys h = inr h
   has_either x (z ∷ xs) ys h = ⊎_elim
-    (λ (e : x ≡ z). inl (rw e (has_first z xs)))
-    (λ (k : Has (xs ++ ys) x). ⊎_elim (λ (f : Has xs x). inl (has_later z x xs f)) (λ (b : Has ys x). inr b) (has_either x xs ys k))
-    (has_parts z x (xs ++ ys) h)
+      (λ (e : x ≡ z). inl (rw e (has_first z xs)))
+      (λ (k : Has (xs ++ ys) x). ⊎_elim (λ (f : Has xs x). inl (has_later z x xs f)) (λ (b : Has ys x). inr b) (has_either x xs ys k))
+      (has_parts z x (xs ++ ys) h)
 
 -- ---- rising lists
 
@@ -58,9 +58,9 @@ rising_tail x (y ∷ ys) r = r.1
 pub rising_above : (x : ℕ) (ys : List ℕ) → IsRising (x ∷ ys) → (y : ℕ) → Has ys y → x < y
 rising_above x [] r y h = absurd (has_none y h)
 rising_above x (z ∷ ys) r y h = ⊎_elim
-  (λ (e : y ≡ z). let l : x < z = r.0 in omega arith)
-  (λ (k : Has ys y). let l : x < z = r.0 in let m : z < y = rising_above z ys r.1 y k in omega arith)
-  (has_parts z y ys h)
+    (λ (e : y ≡ z). let l : x < z = r.0 in omega arith)
+    (λ (k : Has ys y). let l : x < z = r.0 in let m : z < y = rising_above z ys r.1 y k in omega arith)
+    (has_parts z y ys h)
 
 -- rising lists with the same members are equal
 pub rising_same : (xs ys : List ℕ) → IsRising xs → IsRising ys → ((y : ℕ) → Has xs y → Has ys y) → ((y : ℕ) → Has ys y → Has xs y) → xs ≡ ys
@@ -72,15 +72,15 @@ rising_same (x ∷ xs) (y ∷ ys) r s f g =
     let up : x ≤ y = ⊎_elim (λ (e : y ≡ x). omega arith) (λ (k : Has xs y). let l = rising_above x xs r y k in omega arith) (has_parts x y xs (g y (has_first y ys))) in
     let e : x ≡ y = omega arith in
     let tails : xs ≡ ys = rising_same xs ys (rising_tail x xs r) (rising_tail y ys s)
-      (λ z k. ⊎_elim (λ (q : z ≡ y). let l = rising_above x xs r z k in absurd (omega arith)) (λ (m : Has ys z). m) (has_parts y z ys (f z (has_later x z xs k))))
-      (λ z k. ⊎_elim (λ (q : z ≡ x). let l = rising_above y ys s z k in absurd (omega arith)) (λ (m : Has xs z). m) (has_parts x z xs (g z (has_later y z ys k)))) in
+    (λ z k. ⊎_elim (λ (q : z ≡ y). let l = rising_above x xs r z k in absurd (omega arith)) (λ (m : Has ys z). m) (has_parts y z ys (f z (has_later x z xs k))))
+    (λ z k. ⊎_elim (λ (q : z ≡ x). let l = rising_above y ys s z k in absurd (omega arith)) (λ (m : Has xs z). m) (has_parts x z xs (g z (has_later y z ys k)))) in
     cc
 
 -- a group is one list
 pub group_same : (c : Common) (x : ℕ) (xs ys : List ℕ) → IsGroup c x xs → IsGroup c x ys → xs ≡ ys
 group_same c x xs ys g h = rising_same xs ys g.rising h.rising
-  (λ y k. (h.each y).1 ((g.each y).0 k))
-  (λ y k. (g.each y).1 ((h.each y).0 k))
+    (λ y k. (h.each y).1 ((g.each y).0 k))
+    (λ y k. (g.each y).1 ((h.each y).0 k))
 
 -- ---- the numbers of what is marked
 
@@ -106,9 +106,9 @@ marked_later oid m ms y k = record { at = suc k.at; number = (let e = k.number i
 pub has_marked : (oid : ℕ) (ms : List Bool) (y : ℕ) → Has (marked_from oid ms) y → MarkedAs oid ms y
 has_marked oid [] y h = absurd (has_none y h)
 has_marked oid (true ∷ ms) y h = ⊎_elim
-  (λ (e : y ≡ oid). record { at = 0; number = omega arith; is = refl })
-  (λ (k : Has (marked_from (suc oid) ms) y). marked_later oid true ms y (has_marked (suc oid) ms y k))
-  (has_parts oid y (marked_from (suc oid) ms) h)
+    (λ (e : y ≡ oid). record { at = 0; number = omega arith; is = refl })
+    (λ (k : Has (marked_from (suc oid) ms) y). marked_later oid true ms y (has_marked (suc oid) ms y k))
+    (has_parts oid y (marked_from (suc oid) ms) h)
 has_marked oid (false ∷ ms) y h = marked_later oid false ms y (has_marked (suc oid) ms y h)
 
 marked_above : (oid : ℕ) (ms : List Bool) (y : ℕ) → Has (marked_from (suc oid) ms) y → oid < y

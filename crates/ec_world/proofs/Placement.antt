@@ -1,8 +1,8 @@
 -- Places after events, one event at a time.
-use Rattle.std.proofs.Common.{◌≡◌, ℕ, zero, suc, ◌+◌, ◌-◌, ◌<◌, ◌≤◌, List, [], ◌∷◌, ◌++◌, length, drop, get_or, Option, Some, None, refl, sym, ap, ◌∙◌, arith, add-one}
+use Rattle.std.proofs.Common.{◌≡◌, ℕ, zero, suc, ◌+◌, ◌-◌, ◌<◌, ◌≤◌, List, [], ◌∷◌, ◌++◌, length, drop, Some, refl, ap, ◌∙◌, arith, add-one}
 use Rattle.std.proofs.lemmas.List.{drop_all}
 use Rattle.std.specs.Prelude.{slice_get, slice_set}
-use Rattle.ec_base.proofs.Lists.{length_set, get_there, drop_at}
+use Rattle.ec_base.proofs.Lists.{length_set, drop_at}
 use Rattle.ec_world.specs.declared.event.Event.{Event}
 use Rattle.ec_world.specs.declared.event.Event.TheVariants.{Created, Moved}
 use Rattle.ec_world.specs.Places.{numbers_from, first_places, place_in, node_or_first, moved, placed, places_after, places, AreThere, AreEvents}

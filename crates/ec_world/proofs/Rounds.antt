@@ -1,5 +1,5 @@
 -- As many rounds of marking as there are objects reach the whole group.
-use Rattle.std.proofs.Common.{◌≡◌, ℕ, zero, suc, ◌+◌, ◌-◌, ◌<◌, ◌≤◌, ◌⊎◌, inl, inr, ⊎_elim, ◌↔◌, Bool, true, false, ◌||◌, List, [], ◌∷◌, ◌++◌, length, Option, Some, None, refl, sym, ap, ◌∙◌, subst, arith}
+use Rattle.std.proofs.Common.{◌≡◌, ℕ, zero, suc, ◌+◌, ◌<◌, ◌≤◌, ◌⊎◌, inl, inr, ⊎_elim, Bool, true, false, ◌||◌, List, [], ◌∷◌, length, Option, Some, None, refl, sym, ap, ◌∙◌, arith}
 use Rattle.std.specs.Prelude.{slice_get, IsSome, ◌==◌}
 use Rattle.std.proofs.lemmas.Grind.{common_steps}
 use Rattle.ec_base.proofs.Lists.{get_within, get_there}
@@ -25,9 +25,9 @@ is_in_step y x xs false e h = inr h
 is_in_has : (y : ℕ) (xs : List ℕ) → is_in y xs ≡ true → Has xs y
 is_in_has y [] h = cc
 is_in_has y (x ∷ xs) h = ⊎_elim
-  (λ (e : y ≡ x). rw e (has_first x xs))
-  (λ (k : is_in y xs ≡ true). has_later x y xs (is_in_has y xs k))
-  (is_in_step y x xs (x == y) refl h)
+    (λ (e : y ≡ x). rw e (has_first x xs))
+    (λ (k : is_in y xs ≡ true). has_later x y xs (is_in_has y xs k))
+    (is_in_step y x xs (x == y) refl h)
 
 or_right : (a b : Bool) → b ≡ true → (a || b) ≡ true
 or_right true b e = refl
@@ -47,9 +47,9 @@ same_number x = grind (arith, common_steps)
 has_is_in : (y : ℕ) (xs : List ℕ) → Has xs y → is_in y xs ≡ true
 has_is_in y [] h = absurd (has_none y h)
 has_is_in y (x ∷ xs) h = ⊎_elim
-  (λ (e : y ≡ x). or_left (x == y) (is_in y xs) (rw e (same_number x)))
-  (λ (k : Has xs y). or_right (x == y) (is_in y xs) (has_is_in y xs k))
-  (has_parts x y xs h)
+    (λ (e : y ≡ x). or_left (x == y) (is_in y xs) (rw e (same_number x)))
+    (λ (k : Has xs y). or_right (x == y) (is_in y xs) (has_is_in y xs k))
+    (has_parts x y xs h)
 
 -- ---- marking names
 
@@ -91,9 +91,9 @@ marks_old names ms (suc i) e =
     let r : (g.0 || is_in (1 + i) names) ≡ true = cc in
     let z : 1 + i ≡ suc i = omega arith in
     ⊎_elim
-      (λ (t : g.0 ≡ true). inl (g.1 ∙ ap Some t))
-      (λ (n : is_in (1 + i) names ≡ true). inr (let h = is_in_has (1 + i) names n in rw z at h))
-      (or_parts g.0 (is_in (1 + i) names) r)
+    (λ (t : g.0 ≡ true). inl (g.1 ∙ ap Some t))
+    (λ (n : is_in (1 + i) names ≡ true). inr (let h = is_in_has (1 + i) names n in rw z at h))
+    (or_parts g.0 (is_in (1 + i) names) r)
 
 -- ---- what marked objects are attached to
 
@@ -110,9 +110,9 @@ wants_later c oid m ms z k =
 wanted_from : (c : Common) (oid : ℕ) (ms : List Bool) (z : ℕ) → Has (wanted c oid ms) z → Wants c oid ms z
 wanted_from c oid [] z h = absurd (has_none z h)
 wanted_from c oid (true ∷ ms) z h = ⊎_elim
-  (λ (k : Has (links_of c oid) z). let e : oid + 0 ≡ oid = omega arith in record { at = 0; marked = refl; linked = rw e k })
-  (λ (k : Has (wanted c (suc oid) ms) z). wants_later c oid true ms z (wanted_from c (suc oid) ms z k))
-  (has_either z (links_of c oid) (wanted c (suc oid) ms) h)
+    (λ (k : Has (links_of c oid) z). let e : oid + 0 ≡ oid = omega arith in record { at = 0; marked = refl; linked = rw e k })
+    (λ (k : Has (wanted c (suc oid) ms) z). wants_later c oid true ms z (wanted_from c (suc oid) ms z k))
+    (has_either z (links_of c oid) (wanted c (suc oid) ms) h)
 wanted_from c oid (false ∷ ms) z h = wants_later c oid false ms z (wanted_from c (suc oid) ms z h)
 
 wanted_has : (c : Common) (oid : ℕ) (ms : List Bool) (i z : ℕ) → slice_get ms i ≡ Some true → Has (links_of c (oid + i)) z → Has (wanted c oid ms) z
@@ -158,9 +158,9 @@ spread_some : (c : Common) (x : ℕ) (ms : List Bool) → MarksSome c x ms → M
 spread_some c x ms m = record {
   one_each = length-mark_all (wanted c 1 ms) 1 ms ∙ m.one_each;
   sound = λ y e.
-    let w = mark_within (spread c ms) y true e in
-    let n = length-mark_all (wanted c 1 ms) 1 ms in
-    ⊎_elim (λ (o : mark_at ms y ≡ Some true). m.sound y o) (λ (h : Has (wanted c 1 ms) y). spread_new c x ms m y (let l = w.1 in omega arith) w.0 h) (marks_old (wanted c 1 ms) ms y e);
+      let w = mark_within (spread c ms) y true e in
+      let n = length-mark_all (wanted c 1 ms) 1 ms in
+      ⊎_elim (λ (o : mark_at ms y ≡ Some true). m.sound y o) (λ (h : Has (wanted c 1 ms) y). spread_new c x ms m y (let l = w.1 in omega arith) w.0 h) (marks_old (wanted c 1 ms) ms y e);
   start = marks_kept (wanted c 1 ms) ms x m.start;
 }
 
@@ -200,17 +200,17 @@ mark_all_falls : (names : List ℕ) (oid : ℕ) (ms : List Bool) → (mark_all n
 unfolding unmarked
 mark_all_falls names oid [] = inl refl
 mark_all_falls names oid (true ∷ ms) = ⊎_elim
-  (λ (e : mark_all names (suc oid) ms ≡ ms). inl (ap (λ r. true ∷ r) e))
-  (λ (h : unmarked (mark_all names (suc oid) ms) < unmarked ms). inr h)
-  (mark_all_falls names (suc oid) ms)
+    (λ (e : mark_all names (suc oid) ms ≡ ms). inl (ap (λ r. true ∷ r) e))
+    (λ (h : unmarked (mark_all names (suc oid) ms) < unmarked ms). inr h)
+    (mark_all_falls names (suc oid) ms)
 mark_all_falls names oid (false ∷ ms) = part (is_in oid names) (mark_all_less names (suc oid) ms) (mark_all_falls names (suc oid) ms)
   where
     part : (b : Bool) → unmarked (mark_all names (suc oid) ms) ≤ unmarked ms → (mark_all names (suc oid) ms ≡ ms) ⊎ (unmarked (mark_all names (suc oid) ms) < unmarked ms) → (b ∷ mark_all names (suc oid) ms ≡ false ∷ ms) ⊎ (unmarked (b ∷ mark_all names (suc oid) ms) < unmarked (false ∷ ms))
     part true l h = inr (omega arith)
     part false l h = ⊎_elim
-      (λ (e : mark_all names (suc oid) ms ≡ ms). inl (ap (λ r. false ∷ r) e))
-      (λ (k : unmarked (mark_all names (suc oid) ms) < unmarked ms). inr (omega arith))
-      h
+        (λ (e : mark_all names (suc oid) ms ≡ ms). inl (ap (λ r. false ∷ r) e))
+        (λ (k : unmarked (mark_all names (suc oid) ms) < unmarked ms). inr (omega arith))
+        h
 
 rounds_still : (c : Common) (n : ℕ) (ms : List Bool) → spread c ms ≡ ms → rounds c n ms ≡ ms
 unfolding rounds
@@ -220,13 +220,13 @@ rounds_still c (suc n) ms e = ap (rounds c n) e ∙ rounds_still c n ms e
 rounds_fixed : (c : Common) (n : ℕ) (ms : List Bool) → unmarked ms ≤ n → spread c (rounds c n ms) ≡ rounds c n ms
 unfolding rounds
 rounds_fixed c zero ms l = ⊎_elim
-  (λ (e : spread c ms ≡ ms). e)
-  (λ (h : unmarked (spread c ms) < unmarked ms). absurd (omega arith))
-  (mark_all_falls (wanted c 1 ms) 1 ms)
+    (λ (e : spread c ms ≡ ms). e)
+    (λ (h : unmarked (spread c ms) < unmarked ms). absurd (omega arith))
+    (mark_all_falls (wanted c 1 ms) 1 ms)
 rounds_fixed c (suc n) ms l = ⊎_elim
-  (λ (e : spread c ms ≡ ms). let s = rounds_still c n ms e in rw (e, s) e)
-  (λ (h : unmarked (spread c ms) < unmarked ms). rounds_fixed c n (spread c ms) (omega arith))
-  (mark_all_falls (wanted c 1 ms) 1 ms)
+    (λ (e : spread c ms ≡ ms). let s = rounds_still c n ms e in rw (e, s) e)
+    (λ (h : unmarked (spread c ms) < unmarked ms). rounds_fixed c n (spread c ms) (omega arith))
+    (mark_all_falls (wanted c 1 ms) 1 ms)
 
 rounds_some : (c : Common) (x n : ℕ) (ms : List Bool) → MarksSome c x ms → MarksSome c x (rounds c n ms)
 unfolding rounds
@@ -257,9 +257,9 @@ first_marks c x p l =
     record {
       one_each = length-mark_all (x ∷ []) 1 (none_marked c.objects) ∙ n;
       sound = λ y e. ⊎_elim
-        (λ (o : mark_at (none_marked c.objects) y ≡ Some true). absurd (none_marked-mark c.objects y o))
-        (λ (h : Has (x ∷ []) y). (let s = has_one x y h in rw s Itself))
-        (marks_old (x ∷ []) (none_marked c.objects) y e);
+          (λ (o : mark_at (none_marked c.objects) y ≡ Some true). absurd (none_marked-mark c.objects y o))
+          (λ (h : Has (x ∷ []) y). (let s = has_one x y h in rw s Itself))
+          (marks_old (x ∷ []) (none_marked c.objects) y e);
       start = marks_named (x ∷ []) (none_marked c.objects) x (has_first x []) p (omega arith);
     }
 
@@ -271,7 +271,7 @@ group_of_is c x p l =
     let some = rounds_some c x (length c.objects) ms m in
     let few : unmarked ms ≤ length c.objects = (let u = unmarked_within ms in let n = m.one_each in omega arith) in
     marked_group c x (rounds c (length c.objects) ms)
-      (closed_group c x (rounds c (length c.objects) ms) some (fixed_closed c (rounds c (length c.objects) ms) some.one_each (rounds_fixed c (length c.objects) ms few)))
+    (closed_group c x (rounds c (length c.objects) ms) some (fixed_closed c (rounds c (length c.objects) ms) some.one_each (rounds_fixed c (length c.objects) ms few)))
 
 -- any list that is the group is that list
 pub group_of_same : (c : Common) (x : ℕ) (xs : List ℕ) → 0 < x → x ≤ length c.objects → IsGroup c x xs → xs ≡ group_of c x
@@ -284,7 +284,6 @@ group_of_alone c x none p l = sym (group_of_same c x (x ∷ []) p l (record { ri
     only : (y : ℕ) → InGroup c x y → Has (x ∷ []) y
     only y Itself = has_first x []
     only _ (Linked y z g h i) = let e = none y in absurd (has_none z (rw e at h))
-
 
 -- a class none of whose fields is attached
 pub record HasNoAttached (k : ClassRec) : Type 0 where

@@ -1,9 +1,9 @@
 -- A search along attached fields finds the whole group.
-use Rattle.std.proofs.Common.{◌≡◌, ◌≢◌, ℕ, zero, suc, ◌+◌, ◌-◌, ◌<◌, ◌≤◌, min, ◌⊎◌, inl, inr, ⊎_elim, Bool, true, false, List, [], ◌∷◌, ◌++◌, length, drop, replicate, Option, Some, None, refl, sym, ap, ◌∙◌, arith, append_assoc, length-append, if◌then◌else◌}
+use Rattle.std.proofs.Common.{◌≡◌, ℕ, zero, suc, ◌+◌, ◌-◌, ◌<◌, ◌≤◌, min, ◌⊎◌, inl, inr, ⊎_elim, Bool, true, false, List, [], ◌∷◌, ◌++◌, length, drop, replicate, Option, Some, None, refl, sym, ap, ◌∙◌, arith, append_assoc, length-append, if◌then◌else◌}
 use Rattle.std.specs.Prelude.{slice_get, slice_set, IsSome}
 use Rattle.std.proofs.lemmas.List.{append-nil, drop_all}
 use Rattle.ec_base.specs.Stack.{top_of, below_of}
-use Rattle.ec_base.proofs.Lists.{length_set, get_there, get_within, drop_at}
+use Rattle.ec_base.proofs.Lists.{length_set, get_there, drop_at}
 use Rattle.ec_base.proofs.Stacks.{stack_parts, top_of_none}
 use Rattle.ec_world.specs.declared.value.Value.{Value}
 use Rattle.ec_world.specs.declared.value.Value.TheVariants.{Int, Str, Ref, Nil, Bool as Truth}
@@ -15,7 +15,7 @@ use Rattle.ec_world.specs.Group.{Has, InGroup, MarksGroup, link_of, links_in, li
 use Rattle.ec_world.specs.Group.InGroup.{Itself, Linked}
 use Rattle.ec_world.specs.Search.{found_if, found, all_found}
 use Rattle.ec_world.proofs.Members.{has_none, has_first, has_parts, has_one, has_front, has_back, has_either, object_within, within_object, mark_within}
-use Rattle.ec_world.proofs.Rounds.{MarksSome, IsClosed, closed_group, unmarked}
+use Rattle.ec_world.proofs.Rounds.{MarksSome, closed_group, unmarked}
 
 -- ---- the links in fields, one by one
 
@@ -140,25 +140,25 @@ one_found c x y z s f g e =
       some = record {
         one_each = length_set s.marks (z - 1) true ∙ f.some.one_each;
         sound = λ v m. ⊎_elim
-          (λ (q : v ≡ z). rw q (g (within_object c.objects z w.0 (let n = f.some.one_each in let l = w.1 in omega arith))))
-          (λ (k : mark_at s.marks v ≡ Some true). f.some.sound v k)
-          (mark_old s.marks z v w.0 m);
+            (λ (q : v ≡ z). rw q (g (within_object c.objects z w.0 (let n = f.some.one_each in let l = w.1 in omega arith))))
+            (λ (k : mark_at s.marks v ≡ Some true). f.some.sound v k)
+            (mark_old s.marks z v w.0 m);
         start = mark_kept s.marks z x f.some.start;
       };
       pending = λ v h. ⊎_elim
-        (λ (k : Has s.todo v). mark_kept s.marks z v (f.pending v k))
-        (λ (k : Has (z ∷ []) v). (let q = has_one z v k in rw q (mark_same s.marks z false e)))
-        (has_either v s.todo (z ∷ []) h);
+          (λ (k : Has s.todo v). mark_kept s.marks z v (f.pending v k))
+          (λ (k : Has (z ∷ []) v). (let q = has_one z v k in rw q (mark_same s.marks z false e)))
+          (has_either v s.todo (z ∷ []) h);
       closed = λ v m. ⊎_elim
-        (λ (q : v ≡ z). inl (inl (rw q (has_back z s.todo (z ∷ []) (has_first z [])))))
-        (λ (k : mark_at s.marks v ≡ Some true). ⊎_elim
+          (λ (q : v ≡ z). inl (inl (rw q (has_back z s.todo (z ∷ []) (has_first z [])))))
+          (λ (k : mark_at s.marks v ≡ Some true). ⊎_elim
           (λ (o : Has s.todo v ⊎ LinksMarked c s.marks v). inl (⊎_elim
-            (λ (t : Has s.todo v). inl (has_front v s.todo (z ∷ []) t))
-            (λ (l : LinksMarked c s.marks v). inr (links_kept c s.marks z v l))
-            o))
+          (λ (t : Has s.todo v). inl (has_front v s.todo (z ∷ []) t))
+          (λ (l : LinksMarked c s.marks v). inr (links_kept c s.marks z v l))
+          o))
           (λ (q : v ≡ y). inr q)
           (f.closed v k))
-        (mark_old s.marks z v w.0 m);
+          (mark_old s.marks z v w.0 m);
     }
 
 found_following : (c : Common) (x y z : ℕ) (s : Search) → IsFollowing c x y s → (IsSome (object_at c.objects z) → InGroup c x z) → IsFollowing c x y (found s z)
@@ -204,9 +204,9 @@ all_kept (z ∷ zs) s w h = all_kept zs (found s z) w (found_kept s z w h)
 all_marks : (zs : List ℕ) (s : Search) (w : ℕ) → Has zs w → 0 < w → w ≤ length s.marks → mark_at (all_found s zs).marks w ≡ Some true
 all_marks [] s w h p l = absurd (has_none w h)
 all_marks (z ∷ zs) s w h p l = ⊎_elim
-  (λ (q : w ≡ z). all_kept zs (found s z) w (let z' : z ≡ w = sym q in rw z' (found_marks s w p l)))
-  (λ (k : Has zs w). all_marks zs (found s z) w k p (let n = found_length s z in omega arith))
-  (has_parts z w zs h)
+    (λ (q : w ≡ z). all_kept zs (found s z) w (let z' : z ≡ w = sym q in rw z' (found_marks s w p l)))
+    (λ (k : Has zs w). all_marks zs (found s z) w k p (let n = found_length s z in omega arith))
+    (has_parts z w zs h)
 
 -- the search goes on with what lies on top
 pub next_search : (c : Common) (x y : ℕ) (s : Search) → IsSearch c x s → top_of s.todo ≡ Some y → IsSearch c x (all_found (record { marks = s.marks; todo = below_of s.todo }) (links_of c y))
@@ -219,12 +219,12 @@ next_search c x y s h e =
       some = h.some;
       pending = λ w k. h.pending w (rw parts (has_front w (below_of s.todo) (y ∷ []) k));
       closed = λ w m. ⊎_elim
-        (λ (k : Has s.todo w). ⊎_elim
+          (λ (k : Has s.todo w). ⊎_elim
           (λ (b : Has (below_of s.todo) w). inl (inl b))
           (λ (t : Has (y ∷ []) w). inr (has_one y w t))
           (has_either w (below_of s.todo) (y ∷ []) (rw parts at k)))
-        (λ (l : LinksMarked c s.marks w). inl (inr l))
-        (h.closed w m);
+          (λ (l : LinksMarked c s.marks w). inl (inr l))
+          (h.closed w m);
     } in
     let after : IsFollowing c x y (all_found rest (links_of c y)) = all_following c x y (links_of c y) rest begun (λ z k i. Linked y z member k i) in
     let own : LinksMarked c (all_found rest (links_of c y)).marks y = record {
@@ -234,19 +234,21 @@ next_search c x y s h e =
       some = after.some;
       pending = after.pending;
       closed = λ w m. ⊎_elim
-        (λ (o : Has (all_found rest (links_of c y)).todo w ⊎ LinksMarked c (all_found rest (links_of c y)).marks w). o)
-        (λ (q : w ≡ y). inr (rw q own))
-        (after.closed w m);
+          (λ (o : Has (all_found rest (links_of c y)).todo w ⊎ LinksMarked c (all_found rest (links_of c y)).marks w). o)
+          (λ (q : w ≡ y). inr (rw q own))
+          (after.closed w m);
     }
 
 -- a search with nothing still to be followed has found the group
 pub search_done : (c : Common) (x : ℕ) (s : Search) → IsSearch c x s → None ≡ top_of s.todo → MarksGroup c x s.marks
 search_done c x s h e =
     let none = top_of_none s.todo (sym e) in
-    closed_group c x s.marks h.some (record { links = λ y z m k i. ⊎_elim
-      (λ (t : Has s.todo y). absurd (has_none y (rw none at t)))
-      (λ (l : LinksMarked c s.marks y). l.each z k i)
-      (h.closed y m) })
+    closed_group c x s.marks h.some (record {
+      links = λ y z m k i. ⊎_elim
+          (λ (t : Has s.todo y). absurd (has_none y (rw none at t)))
+          (λ (l : LinksMarked c s.marks y). l.each z k i)
+          (h.closed y m);
+    })
 
 -- ---- how a search begins
 
@@ -279,16 +281,16 @@ first_found c x p l =
       some = record {
         one_each = length_set (replicate n false) (x - 1) true ∙ unset-length n;
         sound = λ y m. ⊎_elim
-          (λ (q : y ≡ x). rw q Itself)
-          (λ (k : mark_at (replicate n false) y ≡ Some true). absurd (unset-mark n y k))
-          (mark_old (replicate n false) x y p m);
+            (λ (q : y ≡ x). rw q Itself)
+            (λ (k : mark_at (replicate n false) y ≡ Some true). absurd (unset-mark n y k))
+            (mark_old (replicate n false) x y p m);
         start = mark_same (replicate n false) x false (unset-first n x p l);
       };
       pending = λ y h. (let q = has_one x y h in rw q (mark_same (replicate n false) x false (unset-first n x p l)));
       closed = λ y m. ⊎_elim
-        (λ (q : y ≡ x). inl (rw q (has_first x [])))
-        (λ (k : mark_at (replicate n false) y ≡ Some true). absurd (unset-mark n y k))
-        (mark_old (replicate n false) x y p m);
+          (λ (q : y ≡ x). inl (rw q (has_first x [])))
+          (λ (k : mark_at (replicate n false) y ≡ Some true). absurd (unset-mark n y k))
+          (mark_old (replicate n false) x y p m);
     }
 
 pub first_search : (c : Common) (x : ℕ) → 0 < x → x ≤ length c.objects → IsSearch c x (found (record { marks = replicate (length c.objects) false; todo = [] }) x)

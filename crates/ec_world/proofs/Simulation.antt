@@ -1,5 +1,5 @@
 -- A simulation of activations makes worlds agree after every list of entries, and whole runs agree too.
-use Rattle.std.proofs.Common.{◌≡◌, ◌<◌, ℕ, zero, suc, List, [], ◌∷◌, ◌++◌, map, length, nat_le, Option, Some, None, Bool, true, false, refl, sym, ap, ◌∙◌}
+use Rattle.std.proofs.Common.{◌≡◌, ℕ, zero, suc, List, [], ◌∷◌, ◌++◌, map, Option, Some, None, Bool, true, false, refl, sym, ap, ◌∙◌}
 use Rattle.std.specs.Prelude.{slice_get}
 use Rattle.ec_world.specs.declared.value.Value.{Value}
 use Rattle.ec_world.specs.declared.process.ProcStatus.{ProcStatus}
@@ -16,10 +16,10 @@ use Rattle.ec_world.specs.declared.run.RunEnd.{RunEnd}
 use Rattle.ec_base.specs.Stack.{top_of, below_of}
 use Rattle.ec_world.specs.Meaning.{ActivationMeaning}
 use Rattle.ec_world.specs.Effects.{Acted}
-use Rattle.ec_world.specs.World.{stack_if_ready, ready_stack, stack_at, finish_top, changed, acted, outcome_of, act_if_pending, act_on, Action, advanced, go_on_unless, go_on, GoOn, Turn}
+use Rattle.ec_world.specs.World.{stack_if_ready, ready_stack, stack_at, finish_top, changed, acted, outcome_of, act_if_pending, act_on, Action, advanced, go_on_unless, go_on, Turn}
 use Rattle.ec_world.specs.Moves.{OperatorMove, moved_unless, is_idle_move}
 use Rattle.ec_world.specs.Agree.{AllTwo, SameRest, AgreeProc, AgreeBy, Agree}
-use Rattle.ec_world.specs.Run.{RunState, statuses_of, next_entry, tail_of, last_of, end_by, end_of, after_entry, after_entries, stepped, step_run, run_start, run_after, expanded, Reaches, Run}
+use Rattle.ec_world.specs.Run.{RunState, statuses_of, next_entry, tail_of, last_of, end_of, after_entry, after_entries, stepped, step_run, run_after, Reaches, Run}
 use Rattle.ec_world.specs.Simulation.{IsSimulation, AgreeRun}
 use Rattle.ec_world.proofs.Related.{Maybe, all-append, all-length, tops, belows, all-map, all-set, all-get}
 

@@ -1,5 +1,5 @@
 //! The group of an object: what moves with it.
-ghost use Rattle.std.specs.Prelude.{◌≡◌, ◌+◌, ◌<◌, ◌≤◌, ◌^◌, IfOk, OnOk, List, [], ◌∷◌, false, length, replicate};
+ghost use Rattle.std.specs.Prelude.{◌≡◌, ◌<◌, ◌≤◌, ◌^◌, IfOk, OnOk, [], length};
 ghost use Rattle.ec_world.specs.Group.{IsGroup, MarksGroup, group_of, link_of, links_in, links_of, marked_from};
 
 use crate::activation::Activation;

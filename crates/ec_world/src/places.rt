@@ -1,5 +1,5 @@
 //! Where objects lie after events.
-ghost use Rattle.std.specs.Prelude.{◌≡◌, ◌+◌, ◌<◌, ◌≤◌, IfOk, OnOk, length, List, [], ◌∷◌};
+ghost use Rattle.std.specs.Prelude.{◌≡◌, ◌+◌, ◌<◌, ◌≤◌, IfOk, OnOk, length, [], ◌∷◌};
 ghost use Rattle.ec_world.specs.Places.{AreEvents, AreThere, first_places, moved, placed, places};
 
 use crate::event::Event;

@@ -1,11 +1,10 @@
 use Rattle.std.proofs.Common.{◌≡◌, ℕ, List, Some, None, subst, sym, ◌∙◌, Option}
-use Rattle.std.specs.Prelude.{IfSome, IfNone, slice_get}
+use Rattle.std.specs.Prelude.{IfSome, IfNone}
 use Rattle.ec_ast.specs.declared.Program.{Program}
 use Rattle.ec_lexer.specs.declared.token.Token.{Token}
 use Rattle.ec_lexer.specs.Tokens.{HasTokens}
 use Rattle.ec_parser.specs.Grammar.{HasTree}
 use Rattle.ec_check.proofs.Programs.{tree_of, faulty}
-use Rattle.ec_check.specs.Programs.{IsProgram}
 use Rattle.ec_check.proofs.accepted.Goals as goal
 
 has_tokens : (text : List ℕ) (found : Option (List Token)) (tokens : List Token) → IfSome found (HasTokens text) → found ≡ Some tokens → HasTokens text tokens

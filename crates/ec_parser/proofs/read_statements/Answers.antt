@@ -1,5 +1,4 @@
-use Rattle.std.proofs.Common.{◌≡◌, ℕ, ◌+◌, ◌-◌, ◌≤◌, List, length, take, drop, get_or, sym, subst, arith, length-drop}
-use Rattle.ec_ast.specs.declared.Statement.{Statement}
+use Rattle.std.proofs.Common.{◌≡◌, ℕ, ◌+◌, ◌-◌, ◌≤◌, List, length, take, drop, get_or, subst, arith, length-drop}
 use Rattle.ec_ast.specs.declared.Statement.TheVariants.{Print}
 use Rattle.ec_lexer.specs.declared.token.Token.{Token}
 use Rattle.ec_parser.specs.Grammar.{IsStatement, none}

@@ -1,5 +1,5 @@
 //! A group on a cycle of attached fields.
-ghost use Rattle.std.specs.Prelude.{◌≡◌, IfOk, OnOk, length, true, false};
+ghost use Rattle.std.specs.Prelude.{true, false};
 ghost use Rattle.ec_world.specs.declared.stop.Stop.TheVariants.{Entry};
 
 use super::*;
@@ -19,17 +19,15 @@ struct Still {
 }
 
 impl Activation for Still {
-    ghost meaning = {
-        record {
-            operation = λ a. a.operation;
-            own = λ a. a.own;
-            stop = λ a. Entry;
-            operands = λ a. a.args;
-            is_pending = λ a. a.pending;
-            begun = λ op own args. record { operation = op; own = own; args = args; pending = true };
-            finished = λ a given. record a { pending = false };
-        }
-    };
+    ghost meaning = { record {
+      operation = λ a. a.operation;
+      own = λ a. a.own;
+      stop = λ a. Entry;
+      operands = λ a. a.args;
+      is_pending = λ a. a.pending;
+      begun = λ op own args. record { operation = op; own = own; args = args; pending = true };
+      finished = λ a given. record a { pending = false };
+    } };
 
     fn operation(&self) -> OpNo {
         self.operation
@@ -95,8 +93,7 @@ fn two_attached(alloc: Global) -> Result<World<Still>, AllocError> {
         initial: 2,
         fields: Seq::new(alloc),
     };
-    let objects = vec![
-        in alloc;
+    let objects = vec![in alloc;
         object(alloc, ClassNo::Node, None)?,
         object(alloc, ClassNo::Node, None)?,
         object(alloc, ClassNo::Program, None)?,
@@ -128,4 +125,3 @@ fn cycle_is_one_group(rt: HostRuntime) -> Result<(), Fail> {
     assert_eq!(rt; group(&world, 6)?.as_slice(), [6].as_slice());
     Ok(())
 }
-

@@ -1,4 +1,4 @@
-use Rattle.std.proofs.Common.{◌≡◌, ℕ, ◌<◌, ◌≤◌, List, [], ◌∷◌, length, slice_index, refl, sym, ◌∙◌, arith, rules}
+use Rattle.std.proofs.Common.{◌≡◌, ℕ, ◌≤◌, List, [], ◌∷◌, length, slice_index, refl, ◌∙◌, arith}
 use Rattle.ec_lexer.specs.declared.lexeme.Lexeme.TheVariants.{End}
 use Rattle.ec_lexer.specs.Lexemes.{begins, begins_by}
 use Rattle.ec_lexer.proofs.lexeme.begins.Goals as goal

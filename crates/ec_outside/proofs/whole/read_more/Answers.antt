@@ -1,4 +1,4 @@
-use Rattle.std.proofs.Common.{◌≡◌, ◌∙◌, sym, arith, rules}
+use Rattle.std.proofs.Common.{◌∙◌, arith, rules}
 use Rattle.std.proofs.lemmas.Grind.{common_steps}
 use Rattle.ec_outside.proofs.Fronts.{front_more, whole_at_limit}
 use Rattle.ec_outside.proofs.whole.read_more.Goals as goal

@@ -1,4 +1,4 @@
-use Rattle.std.proofs.Common.{◌≡◌, ◌∙◌, ap, subst, List, ℕ}
+use Rattle.std.proofs.Common.{◌∙◌, ap, subst, List, ℕ}
 use Rattle.ec_outside.specs.Fault.{ShareCount}
 use Rattle.ec_outside.proofs.whole.read_whole.Goals as goal
 

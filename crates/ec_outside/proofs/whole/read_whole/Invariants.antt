@@ -10,7 +10,8 @@ invariant-loop-bytes g l = record {
   tells : g.F.Shelf.tells l.initial.shelf → g.F.Shelf.tells l.shelf;
   content : g.F.Shelf.content l.shelf ≡ g.F.Shelf.content l.initial.shelf;
   kept : g.F.Shelf.kept l.shelf ≡ g.F.Shelf.kept l.initial.shelf;
-  faults : g.F.Shelf.faults l.shelf ≡ g.F.Shelf.faults l.initial.shelf }
+  faults : g.F.Shelf.faults l.shelf ≡ g.F.Shelf.faults l.initial.shelf;
+}
 
 abbrev pub decreases-loop-bytes : goal.decreases-loop-bytes
 decreases-loop-bytes g l = l.limit - vec_len l.bytes

@@ -7,7 +7,8 @@ invariant-loop-at g l = record {
   within : l.at ≤ length l.text;
   taken : g.K.Sink.tells l.initial.sink → g.K.Sink.taken l.sink ≡ g.K.Sink.taken l.initial.sink ++ take l.at l.text;
   tells : g.K.Sink.tells l.initial.sink → g.K.Sink.tells l.sink;
-  faults : g.K.Sink.faults l.sink ≡ g.K.Sink.faults l.initial.sink }
+  faults : g.K.Sink.faults l.sink ≡ g.K.Sink.faults l.initial.sink;
+}
 
 abbrev pub decreases-loop-at : goal.decreases-loop-at
 decreases-loop-at g l = length l.text - l.at

@@ -1,7 +1,6 @@
-use Rattle.std.proofs.Common.{◌∙◌, ◌≡◌, ℕ, List, arith}
-use Rattle.std.specs.Prelude.{IfOk, length}
+use Rattle.std.proofs.Common.{◌∙◌}
 use Rattle.std.proofs.lemmas.Result.{IfOk-weaker}
-use Rattle.ec_world.specs.Group.{IsGroup, group_of, marked_from}
+use Rattle.ec_world.specs.Group.{marked_from}
 use Rattle.ec_world.proofs.Members.{marked_group}
 use Rattle.ec_world.proofs.Rounds.{group_of_same}
 use Rattle.ec_world.proofs.group.group.Goals as goal

@@ -7,7 +7,7 @@ use Rattle.ec_world.proofs.group.marked.Goals.{then-at+in_ok-push, else-at}
 
 pub loop-i-preserved : goal.loop-i-preserved
 loop-i-preserved c = elim c.if-at.branch [
-    then-at+in_ok-push w ↦
+  | then-at+in_ok-push w ↦
       let at : slice_get c.args.marks.now c.loop-i.i ≡ Some true = cc (c.at.ensures, w.if-at.true) in
       let items : c.if-at.oids.items ≡ c.loop-i.oids.items ++ (c.loop-i.i + 1) ∷ [] = cc (w.oids-is, w.in_ok-push.ensures.items) in
       marked_next c.loop-i.oids.items c.if-at.oids.items c.args.marks.now c.loop-i.i at items ∙ c.loop-i.invariant
@@ -17,4 +17,4 @@ loop-i-preserved c = elim c.if-at.branch [
       ap (λ (xs : List ℕ). xs ++ marked_from (c.loop-i.i + 1 + 1) (drop (c.loop-i.i + 1) c.args.marks.now)) items
       ∙ unmarked_next c.loop-i.oids.items c.args.marks.now c.loop-i.i at
       ∙ c.loop-i.invariant
-  ]
+]

@@ -1,5 +1,4 @@
 use Rattle.std.proofs.Common.{◌≡◌, ◌++◌, ◌∷◌, [], sym, ◌∙◌, ap}
-use Rattle.ec_world.specs.Places.{numbers_from}
 use Rattle.ec_world.proofs.Placement.{numbers_from-next}
 use Rattle.ec_world.proofs.places.first_placement.Goals as goal
 

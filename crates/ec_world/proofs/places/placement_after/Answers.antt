@@ -1,5 +1,4 @@
-use Rattle.std.proofs.Common.{arith, ◌∙◌, sym, ap, refl, ◌≡◌, drop, length, Some}
-use Rattle.std.specs.Prelude.{slice_get}
+use Rattle.std.proofs.Common.{◌∙◌, ap, refl}
 use Rattle.std.proofs.lemmas.Option.{slice_get_read}
 use Rattle.ec_world.specs.Places.{places_after}
 use Rattle.ec_world.proofs.Placement.{events_start, placed_next, placed_first, places_after_next}

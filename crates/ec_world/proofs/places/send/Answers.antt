@@ -1,6 +1,6 @@
 use Rattle.std.proofs.Common.{arith, ◌∙◌, sym}
 use Rattle.ec_base.proofs.Lists.{length_set}
-use Rattle.ec_world.proofs.Placement.{there_next, moved_next, there_over, moved_over}
+use Rattle.ec_world.proofs.Placement.{there_next, moved_next, there_over}
 use Rattle.ec_world.proofs.places.send.Goals as goal
 
 pub overflow_sub-oid : goal.overflow_sub-oid

@@ -1,4 +1,4 @@
-use Rattle.std.proofs.Common.{◌≡◌, ◌∙◌, sym, ap, map}
+use Rattle.std.proofs.Common.{◌∙◌, ap, map}
 use Rattle.ec_outside.proofs.Places.{place_of-texts}
 use Rattle.ec_outside.proofs.fault.Counts.place.Goals as goal
 

@@ -1,4 +1,4 @@
-use Rattle.std.proofs.Common.{◌≡◌, ◌∙◌, sym}
+use Rattle.std.proofs.Common.{◌∙◌, sym}
 use Rattle.ec_outside.proofs.Places.{count_of-kept_raised, count_of-other_raised}
 use Rattle.ec_outside.proofs.fault.Counts.raise.Goals as goal
 

@@ -1,4 +1,4 @@
-use Rattle.std.proofs.Common.{◌≡◌, ◌∙◌, ap, subst}
+use Rattle.std.proofs.Common.{◌∙◌, ap, subst}
 use Rattle.ec_outside.specs.Fault.{Tally, ShareCount, count_of}
 use Rattle.ec_outside.proofs.file_shelf.FileShelfShelf.read_at.Goals as goal
 

@@ -1,4 +1,4 @@
-use Rattle.std.proofs.Common.{◌≡◌, ◌∙◌, map, ap}
+use Rattle.std.proofs.Common.{◌∙◌, map, ap}
 use Rattle.ec_outside.proofs.Files.{map-names}
 use Rattle.ec_outside.proofs.mem_shelf.MemShelf.new.Goals as goal
 

@@ -1,4 +1,4 @@
-use Rattle.std.proofs.Common.{◌≡◌, ◌∙◌, ap, subst}
+use Rattle.std.proofs.Common.{◌∙◌, ap, subst}
 use Rattle.ec_outside.specs.Fault.{ShareCount, count_of}
 use Rattle.ec_outside.specs.MemShelf.{MemShelfState}
 use Rattle.ec_outside.proofs.mem_shelf.MemShelfShelf.read_at.Goals as goal

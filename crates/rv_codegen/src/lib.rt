@@ -1,0 +1,2 @@
+//! RISC-V code.
+#![tactic(auto)]
