@@ -5,6 +5,7 @@ pub mod Turns
 pub mod Holds
 pub mod Kernel
 pub mod Steps
+pub mod Full
 pub mod Net
 pub mod Answers
 pub mod Can
