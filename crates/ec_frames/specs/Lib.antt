@@ -1,2 +1,4 @@
 pub mod Node
 pub mod Changes
+pub mod Owners
+pub mod Words
