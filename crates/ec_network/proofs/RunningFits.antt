@@ -29,6 +29,7 @@ use Rattle.ec_network.specs.Holds.{Steady}
 use Rattle.ec_network.proofs.ActionsStores.{alone_net}
 use Rattle.ec_network.proofs.ActionsFrames.{heads_of, live_below}
 use Rattle.ec_network.proofs.RunningTop.{TopDone, OwnHere}
+use Rattle.ec_network.proofs.RunningWalk.{settled_operation}
 
 -- the machine is behind the stop of the frame at block f, with the own object in block b
 pub record StandsBehind {S : Type 0} (M : MachineMeaning S) (s : S) (address f b : ℕ) : Type 0 where
@@ -110,3 +111,11 @@ module _ {S : Type 0} (M : MachineMeaning S) (net : Cluster) (w : Worlds) (p : �
     arrives_here s address is stands =
         steady.faithful.rv.runs (store_of node).local (store_of node).text p h.depth h.block own.row.blocks top t.done.at own.object.fields w.common.globals s (store_byte node.memory)
             one_to_one literals_here t.done.rests.at_is t.done.code t.done.done t.done.rests.typed facts.globals (fits_here s address is stands)
+
+    -- in few steps
+    pub halts_here : (traps : Trapping S) → IsOneWay (M.goes net.images.rv.code.words) → AreApart (M.goes net.images.rv.code.words) (M.stops net.images.rv.code.words) traps → words_of net.images.rv.code h.operation < 2 ^ 32 → (s : S) (address : ℕ) → stop_in net.images.rv.table h.operation h.at ≡ Some address → StandsBehind M s address h.block own.block → Halts (M.goes net.images.rv.code.words) s (store_byte node.memory)
+    halts_here traps one_way apart small s address is stands =
+        let arrives = arrives_here s address is stands in
+        let same : words_of net.images.rv.code (settled net.program top (Some t.done.at)).operation ≡ words_of net.images.rv.code h.operation = ap (words_of net.images.rv.code) (settled_operation net.program w.common.nodes (length w.common.objects) top t.done steady.fine ∙ sym t.operation) in
+        let few = arrives.few in
+        native_halts (M.goes net.images.rv.code.words) (M.stops net.images.rv.code.words) traps one_way apart s (store_byte node.memory) arrives.steps arrives.last arrives.memory arrives.native (omega (arith, few, same, small))
