@@ -162,3 +162,29 @@ own_here net w node (suc i) shows facts one laid above below =
       blocks = b.1;
       small = laid.rows_in (Object (suc i)) shown.row b.0 shown.there (record { at = 0; is = ap (λ (bs : List ℕ). slice_get bs 0) b.1 });
     }
+
+pub own_of_done : (net : Cluster) (w : Worlds) (p : ℕ) (h : Here) (node : NodeStore) (below : List IrActivation) (top : IrActivation) → Shows net w → FineFacts net.program w → net.nodes ≡ node ∷ [] → TopDone net w p h node below top → OwnHere w node top.own
+own_of_done net w p h node below top shows facts one t = own_here net w node top.own shows facts one t.laid t.done.rests.own.0 t.done.rests.own.1
+
+-- ---- together
+
+-- the network shows w, in which `top` of process p goes on, on its own object
+pub record GoingOn {S : Type 0} (M : MachineMeaning S) (net : Cluster) (w : Worlds) (p : ℕ) (h : Here) (node : NodeStore) (below : List IrActivation) (top : IrActivation) : Type 0 where
+  pub steady : Steady M net
+  pub shows : Shows net w
+  pub middle : FineMiddle net.program w p
+  pub one : net.nodes ≡ node ∷ []
+  pub at : TopDone net w p h node below top
+  pub own : OwnHere w node top.own
+
+pub going_on : {S : Type 0} (M : MachineMeaning S) (net : Cluster) (w : Worlds) (p : ℕ) (h : Here) (node : NodeStore) → Steady M net → Shows net w → FineMiddle net.program w p → IsHere net p h → net.nodes ≡ node ∷ [] → (below : List IrActivation) × (top : IrActivation) × GoingOn M net w p h node below top
+going_on M net w p h node steady shows middle here one =
+    let t = top_is M net w p h node steady shows middle here one in
+    (t.0, t.1, record {
+      steady = steady;
+      shows = shows;
+      middle = middle;
+      one = one;
+      at = t.2;
+      own = own_of_done net w p h node t.0 t.1 shows middle.facts one t.2;
+    })

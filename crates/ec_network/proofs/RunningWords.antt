@@ -23,7 +23,7 @@ use Rattle.ec_network.specs.Worlds.{FineFacts, IsPending}
 use Rattle.ec_network.specs.Holds.{Steady}
 use Rattle.ec_network.proofs.ActionsFrames.{HasVariables}
 use Rattle.ec_network.proofs.RunningWalk.{settled_operation, settled_own, settled_pending}
-use Rattle.ec_network.proofs.RunningTop.{TopDone, OwnHere}
+use Rattle.ec_network.proofs.RunningTop.{GoingOn}
 use Rattle.ec_network.proofs.RunningFits.{StandsBehind, arrives_here}
 
 -- ---- words whose bytes are the same
@@ -68,50 +68,50 @@ module _ (number : ℕ → List ℕ → ℕ) (f : ℕ) (m m' : Bytes) (only : On
 
 -- ---- the end of the run
 
-module _ {S : Type 0} (M : MachineMeaning S) (net : Cluster) (w : Worlds) (p : ℕ) (h : Here) (node : NodeStore) (below : List IrActivation) (top : IrActivation) (steady : Steady M net) (shows : Shows net w) (facts : FineFacts net.program w) (one : net.nodes ≡ node ∷ []) (t : TopDone net w p h node below top) where
+module _ {S : Type 0} (M : MachineMeaning S) (net : Cluster) (w : Worlds) (p : ℕ) (h : Here) (node : NodeStore) (below : List IrActivation) (top : IrActivation) (now : GoingOn M net w p h node below top) where
   -- the activation at the stop that code leads to
   abbrev pub next : IrActivation
-  next = settled net.program top (Some t.done.at)
+  next = settled net.program top (Some now.at.done.at)
 
   pub next_operation : next.operation ≡ top.operation
-  next_operation = settled_operation net.program w.common.nodes (length w.common.objects) top t.done steady.fine
+  next_operation = settled_operation net.program w.common.nodes (length w.common.objects) top now.at.done now.steady.fine
 
   pub next_own : next.own ≡ top.own
-  next_own = settled_own net.program w.common.nodes (length w.common.objects) top t.done steady.fine
+  next_own = settled_own net.program w.common.nodes (length w.common.objects) top now.at.done now.steady.fine
 
   pub next_pending : IsPending net.program w.common.nodes (length w.common.objects) next
-  next_pending = settled_pending net.program w.common.nodes (length w.common.objects) top t.done steady.fine
+  next_pending = settled_pending net.program w.common.nodes (length w.common.objects) top now.at.done now.steady.fine
 
   pub next_variables : HasVariables net.program next
   next_variables = record {
-    operation = t.variables.operation;
-    is = ap (slice_get net.program.operations) next_operation ∙ t.variables.is;
-    few = t.variables.few;
+    operation = now.at.variables.operation;
+    is = ap (slice_get net.program.operations) next_operation ∙ now.at.variables.is;
+    few = now.at.variables.few;
     typed = next_pending.rests.typed;
   }
 
   -- a run has ended at state `to` with this memory, at the next activation's stop
-  pub record Ended (k : ℕ) (to : S) (memory : Bytes) : Type 0 where
+  pub record EndsAt (k : ℕ) (to : S) (memory : Bytes) : Type 0 where
     pub few : k ≤ suc (words_of net.images.rv.code h.operation)
     pub at : stop_in net.images.rv.table h.operation next.at ≡ Some (M.place to)
     pub live : LiveStand M net.program net.images.rv.table (store_of node).local (store_of node).text h.block next to memory
     pub only : OnlyFrame h.block (store_byte node.memory) memory
 
-  module _ (number : M.number ≡ little_number) (own : OwnHere w node top.own) (traps : Trapping S) (one_way : IsOneWay (M.goes net.images.rv.code.words)) (apart : AreApart (M.goes net.images.rv.code.words) (M.stops net.images.rv.code.words) traps) where
+  module _ (number : M.number ≡ little_number) (traps : Trapping S) (one_way : IsOneWay (M.goes net.images.rv.code.words)) (apart : AreApart (M.goes net.images.rv.code.words) (M.stops net.images.rv.code.words) traps) where
     -- each run to a stop from behind the top's stop ends so
-    pub run_ends : (s : S) (address : ℕ) → stop_in net.images.rv.table h.operation h.at ≡ Some address → StandsBehind M s address h.block own.block → (k : ℕ) (to : S) (memory : Bytes) → Native (M.goes net.images.rv.code.words) (M.stops net.images.rv.code.words) s (store_byte node.memory) k to memory → Ended k to memory
+    pub run_ends : (s : S) (address : ℕ) → stop_in net.images.rv.table h.operation h.at ≡ Some address → StandsBehind M s address h.block now.own.block → (k : ℕ) (to : S) (memory : Bytes) → Native (M.goes net.images.rv.code.words) (M.stops net.images.rv.code.words) s (store_byte node.memory) k to memory → EndsAt k to memory
     run_ends s address is stands k to memory native =
-        let r = arrives_here M net w p h node below top steady shows facts one t number own s address is stands in
+        let r = arrives_here M net w p h node below top now number s address is stands in
         let same = one_native (M.goes net.images.rv.code.words) (M.stops net.images.rv.code.words) traps one_way apart s (store_byte node.memory) r.steps k r.last r.memory to memory r.native native in
-        let operation : next.operation ≡ h.operation = next_operation ∙ sym t.operation in
-        let ended : Ended r.steps r.last r.memory = record {
+        let operation : next.operation ≡ h.operation = next_operation ∙ sym now.at.operation in
+        let ended : EndsAt r.steps r.last r.memory = record {
           few = (let few = r.few in let words : words_of net.images.rv.code next.operation ≡ words_of net.images.rv.code h.operation = ap (words_of net.images.rv.code) operation in omega (arith, few, words));
           at = ap (λ op. stop_in net.images.rv.table op next.at) (sym operation) ∙ r.at;
           live = r.live;
           only = record { others = r.others };
         } in
-        subst (λ (c : Bytes). Ended k to c) same.2 (subst (λ (x : S). Ended k x r.memory) same.1 (subst (λ (n : ℕ). Ended n r.last r.memory) same.0 ended))
+        subst (λ (c : Bytes). EndsAt k to c) same.2 (subst (λ (x : S). EndsAt k x r.memory) same.1 (subst (λ (n : ℕ). EndsAt n r.last r.memory) same.0 ended))
 
   -- the stop of this address is the next activation's
-  pub stop_reached : (k : ℕ) (to : S) (memory : Bytes) (at : ℕ) → Ended k to memory → stop_in net.images.rv.table h.operation at ≡ Some (M.place to) → at ≡ next.at
-  stop_reached k to memory at e is = (steady.faithful.rv.apart h.operation at h.operation next.at (M.place to) is e.at).1
+  pub stop_reached : (k : ℕ) (to : S) (memory : Bytes) (at : ℕ) → EndsAt k to memory → stop_in net.images.rv.table h.operation at ≡ Some (M.place to) → at ≡ next.at
+  stop_reached k to memory at e is = (now.steady.faithful.rv.apart h.operation at h.operation next.at (M.place to) is e.at).1
