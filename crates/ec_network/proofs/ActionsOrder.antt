@@ -29,7 +29,7 @@ module _ (program : Parts) (nodes n m : ℕ) (more : n ≤ m) where
   rests_more : (a : IrActivation) (at : StopRec) → RestsAt program nodes n a at → RestsAt program nodes m a at
   rests_more a at r = record { at_is = r.at_is; stop = r.stop; own = (r.own.0, (let h = r.own.1 in omega arith)); typed = r.typed }
 
-  waiting_more : (a : IrActivation) → IsWaiting program nodes n a → IsWaiting program nodes m a
+  pub waiting_more : (a : IrActivation) → IsWaiting program nodes n a → IsWaiting program nodes m a
   waiting_more a w = record { at = w.at; rests = rests_more a w.at w.rests; done = w.done; into = w.into; code = w.code; result = w.result }
 
   pending_more : (a : IrActivation) → IsPending program nodes n a → IsPending program nodes m a

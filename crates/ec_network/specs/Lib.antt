@@ -8,3 +8,4 @@ pub mod Steps
 pub mod Net
 pub mod Answers
 pub mod Can
+pub mod Full
