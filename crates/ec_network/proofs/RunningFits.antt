@@ -26,20 +26,13 @@ use Rattle.ec_network.specs.declared.cluster.Cluster.{Cluster}
 use Rattle.ec_network.specs.declared.kernel.Here.{Here}
 use Rattle.ec_network.specs.Shows.{Worlds, Shows, stores}
 use Rattle.ec_network.specs.Worlds.{FineFacts}
-use Rattle.ec_network.specs.Holds.{Steady}
+use Rattle.ec_network.specs.Running.{StandsBehind}
 use Rattle.ec_network.proofs.ActionsStores.{alone_net}
 use Rattle.ec_network.proofs.ActionsFrames.{heads_of, live_below}
 use Rattle.ec_network.proofs.RunningTop.{GoingOn}
 use Rattle.ec_network.proofs.RunningWalk.{settled_operation}
 
--- the machine is behind the stop of the frame at block f, with the own object in block b
-pub record StandsBehind {S : Type 0} (M : MachineMeaning S) (s : S) (address f b : ℕ) : Type 0 where
-  pub rests : M.rests s
-  pub behind : M.place s ≡ address + 4
-  pub frame_base : M.register s M.frame_base ≡ block_at f
-  pub own_base : M.register s M.own_base ≡ block_at b
-
--- it is, once both registers and the place are set
+-- a machine is behind a stop, once both registers and the place are set
 pub stands_behind : {S : Type 0} (M : MachineMeaning S) (beside : S → List ℕ) (first second third last : S) (address f b : ℕ) → 0 < M.frame_base → 0 < M.own_base → M.frame_base ≢ M.own_base → SetsRegister M.register M.place M.rests beside first second M.frame_base (block_at f) → SetsRegister M.register M.place M.rests beside second third M.own_base (block_at b) → SetsPlace M.register M.place M.rests beside third last (address + 4) → StandsBehind M last address f b
 stands_behind M beside first second third last address f b frame own two sets_frame sets_own sets_place = record {
   rests = sets_place.now_rests;

@@ -21,21 +21,8 @@ use Rattle.ec_frames.specs.Changes.{WritesWord}
 use Rattle.ec_network.specs.Turns.{Landed}
 use Rattle.ec_network.specs.Holds.{HasSlots}
 use Rattle.ec_network.specs.Kernel.{stop_head, pending_head}
+use Rattle.ec_network.specs.Running.{RanTo}
 use Rattle.ec_network.proofs.ActionsFrames.{HasVariables, live_below}
-
--- node' is `node` after a machine has left this memory, and the frame at block f has been marked pending at this stop
-pub record RanTo (node node' : NodeStore) (memory : Bytes) (f at steps : ℕ) : Type 0 where
-  -- the node when the machine has run, and what it is after the first heading is written
-  pub ran : NodeStore
-  pub lists : SameLists node.memory ran.memory
-  pub bytes : store_byte ran.memory ≡ memory
-  pub between : Store
-  pub stop : WritesWord (store_of ran) between f stop_head at
-  pub pending : WritesWord between (store_of node') f pending_head 1
-  pub rows : node'.rows ≡ node.rows
-  pub locals : node'.locals ≡ node.locals
-  pub pool : node'.pool ≡ node.pool
-  pub count : node'.count ≡ node.count + steps
 
 module _ (node node' : NodeStore) (memory : Bytes) (f at steps : ℕ) (r : RanTo node node' memory f at steps) where
   -- every other word is as the machine has left it

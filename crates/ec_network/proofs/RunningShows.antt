@@ -44,24 +44,10 @@ use Rattle.ec_network.proofs.ActionsOrder.{ready_with, InOrder, order_last, fine
 use Rattle.ec_network.proofs.ActionsMarking.{statuses_stay, depths_stay}
 use Rattle.ec_network.proofs.ActionsAfter.{node_at}
 use Rattle.ec_network.proofs.RunningTop.{GoingOn, steady_riscv}
-use Rattle.ec_network.proofs.RunningFits.{StandsBehind, fits_here}
+use Rattle.ec_network.specs.Running.{StandsBehind, Continues}
+use Rattle.ec_network.proofs.RunningFits.{fits_here}
 use Rattle.ec_network.proofs.RunningWords.{EndsAt, next, next_operation, next_own, next_pending, next_variables}
 use Rattle.ec_network.proofs.RunningFrame.{run_puts}
-
--- the one node has run, and nothing else has changed
-pub record Continues (net net' : Cluster) (node node' : NodeStore) : Type 0 where
-  pub after : net'.nodes ≡ node' ∷ []
-  pub laid : Laid node'
-  pub program : net'.program ≡ net.program
-  pub images : net'.images ≡ net.images
-  pub kind : node'.kind ≡ node.kind
-  pub blocks : node'.blocks ≡ node.blocks
-  pub room : node'.room ≡ node.room
-  pub globals : node'.globals ≡ node.globals
-  pub statuses : net'.statuses ≡ net.statuses
-  pub depths : net'.depths ≡ net.depths
-  pub output : net'.output ≡ net.output
-  pub places : net'.places ≡ net.places
 
 module _ {S : Type 0} (M : MachineMeaning S) (net : Cluster) (w : Worlds) (p : ℕ) (h : Here) (node : NodeStore) (below : List IrActivation) (top : IrActivation) (now : GoingOn M net w p h node below top) where
   abbrev after : IrActivation

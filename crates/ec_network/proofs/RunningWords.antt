@@ -20,11 +20,11 @@ use Rattle.ec_network.specs.declared.cluster.Cluster.{Cluster}
 use Rattle.ec_network.specs.declared.kernel.Here.{Here}
 use Rattle.ec_network.specs.Shows.{Worlds, Shows}
 use Rattle.ec_network.specs.Worlds.{FineFacts, IsPending}
-use Rattle.ec_network.specs.Holds.{Steady}
+use Rattle.ec_network.specs.Running.{StandsBehind}
 use Rattle.ec_network.proofs.ActionsFrames.{HasVariables}
 use Rattle.ec_network.proofs.RunningWalk.{settled_operation, settled_own, settled_pending}
 use Rattle.ec_network.proofs.RunningTop.{GoingOn}
-use Rattle.ec_network.proofs.RunningFits.{StandsBehind, arrives_here}
+use Rattle.ec_network.proofs.RunningFits.{arrives_here}
 
 -- ---- words whose bytes are the same
 

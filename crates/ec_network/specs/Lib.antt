@@ -9,3 +9,4 @@ pub mod Net
 pub mod Answers
 pub mod Can
 pub mod Full
+pub mod Running
