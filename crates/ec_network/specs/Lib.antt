@@ -9,3 +9,8 @@ pub mod Full
 pub mod Net
 pub mod Answers
 pub mod Can
+pub mod Net
+pub mod Answers
+pub mod Can
+pub mod Full
+pub mod Running
