@@ -9,8 +9,4 @@ pub mod Full
 pub mod Net
 pub mod Answers
 pub mod Can
-pub mod Net
-pub mod Answers
-pub mod Can
-pub mod Full
 pub mod Running
