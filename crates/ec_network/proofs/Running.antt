@@ -1,6 +1,6 @@
 -- Code behind the stop of the top frame: the machine comes to the next stop, and the network then shows the world of the
 -- turn.
-use Rattle.std.proofs.Common.{◌≡◌, ◌≢◌, ℕ, zero, suc, ◌+◌, ◌^◌, ◌<◌, ◌≤◌, false, List, [], ◌∷◌, ◌++◌, length, Option, Some, None, refl, sym, ap, ◌∙◌, subst, arith}
+use Rattle.std.proofs.Common.{◌≡◌, ℕ, zero, suc, ◌+◌, ◌^◌, ◌<◌, ◌≤◌, false, List, [], ◌∷◌, length, Some, sym, ap, ◌∙◌, subst, arith}
 use Rattle.std.specs.Prelude.{slice_get}
 use Rattle.ec_base.specs.Bytes.{Bytes}
 use Rattle.ec_base.specs.Stack.{top_of, below_of}
@@ -9,8 +9,11 @@ use Rattle.ec_ir.specs.declared.code.Parts.{Parts}
 use Rattle.ec_ir.specs.declared.activation.IrActivation.{IrActivation}
 use Rattle.ec_ir.specs.Meaning.{ir_meaning, ir_silent}
 use Rattle.ec_memory.specs.Store.{store_byte}
-use Rattle.ec_target.specs.Runs.{Native, Leads, IsEnd, Trapping}
+use Rattle.ec_target.specs.declared.outcome.Trap.{Trap}
+use Rattle.ec_target.specs.Runs.{Leads, Trapping}
 use Rattle.ec_target.proofs.Running.{one_end}
+use Rattle.ec_stops.specs.declared.table.Code.{Code}
+use Rattle.ec_stops.specs.declared.table.StopTable.{StopTable}
 use Rattle.ec_stops.specs.Machine.{MachineMeaning}
 use Rattle.ec_stops.specs.Faithful.{stop_in, words_of}
 use Rattle.ec_nodes.specs.declared.key.Key.TheVariants.{Object}
@@ -20,9 +23,9 @@ use Rattle.ec_frames.specs.Owners.{FirstBlock}
 use Rattle.ec_network.specs.declared.cluster.Cluster.{Cluster}
 use Rattle.ec_network.specs.declared.kernel.Here.{Here}
 use Rattle.ec_network.specs.declared.kernel.Acted.TheVariants.{WentOn}
-use Rattle.ec_network.specs.Shows.{Worlds, Shows}
+use Rattle.ec_network.specs.Shows.{Worlds}
 use Rattle.ec_network.specs.Worlds.{ir_action, ir_turn}
-use Rattle.ec_network.specs.Turns.{SameCounts, SamePools, Landed, GoesOn, StepsTo, TurnOf}
+use Rattle.ec_network.specs.Turns.{SamePools, Landed, GoesOn, TurnOf}
 use Rattle.ec_network.specs.Turns.StepsTo.{Runs}
 use Rattle.ec_network.specs.Holds.{Holds}
 use Rattle.ec_network.specs.Kernel.{IsHere}
@@ -35,6 +38,11 @@ use Rattle.ec_network.proofs.RunningFits.{stop_here, behind_small, own_block, ow
 use Rattle.ec_network.proofs.RunningLanded.{landed}
 use Rattle.ec_network.proofs.RunningWords.{EndsAt, next, next_operation, next_variables, run_ends, stop_reached}
 use Rattle.ec_network.proofs.RunningShows.{top_here, top_lands, holds_after, went_on, pools_run}
+
+-- a machine that comes to a stop traps nowhere on the way
+pub no_trap : {S : Type 0} (M : MachineMeaning S) (traps : Trapping S) (code : Code) (table : StopTable) (op : ℕ) (s : S) (bytes : Bytes) → HasLaws M code.words traps → ComesToStop M code table op s bytes → (k : ℕ) (to : S) (memory : Bytes) (trap : Trap) → Leads (M.goes code.words) s bytes k to memory → traps to memory trap → ⊥
+no_trap M traps code table op s bytes laws comes k to memory trap leads trapped =
+    laws.apart.no_stop to memory trap trapped (comes.ends k to memory leads (λ u d st. laws.apart.trap_stays to memory trap u d trapped st))
 
 module _ {S : Type 0} (M : MachineMeaning S) (traps : Trapping S) (net : Cluster) (laws : HasLaws M net.images.rv.code.words traps) (w : Worlds) (p : ℕ) (h : Here) (node : NodeStore) (below : List IrActivation) (top : IrActivation) (now : GoingOn M net w p h node below top) where
   first_is : (b : ℕ) → FirstBlock (store_of node) (Object h.own) b → b ≡ now.own.block
@@ -94,10 +102,10 @@ module _ {S : Type 0} (M : MachineMeaning S) (traps : Trapping S) (net net' : Cl
       let ends : EndsAt M net w p h g.node below top now steps g.to g.memory = run_ends M net w p h g.node below top now laws.number traps laws.one_way laws.apart g.from g.address g.stop_is stands steps g.to g.memory g.native in
       let operation : (next M net w p h g.node below top now).operation ≡ h.operation = next_operation M net w p h g.node below top now ∙ sym now.at.operation in
       let at_is : stop_in net.images.rv.table (next M net w p h g.node below top now).operation (next M net w p h g.node below top now).at ≡ Some (M.place g.to) =
-          ap (λ op. stop_in net.images.rv.table op (next M net w p h g.node below top now).at) operation ∙ ends.at in
+      ap (λ op. stop_in net.images.rv.table op (next M net w p h g.node below top now).at) operation ∙ ends.at in
       let has_landed : Landed M net.program net.images.rv.table h.block (next M net w p h g.node below top now) g.to g.memory steps g.node g.node' =
-          landed g.node g.node' g.memory h.block g.at steps g.ran M laws.number net.program net.images.rv.table now.steady.slots (next M net w p h g.node below top now) (next_variables M net w p h g.node below top now)
-              (stop_reached M net w p h g.node below top now steps g.to g.memory g.at ends g.at_is) g.to at_is in
+      landed g.node g.node' g.memory h.block g.at steps g.ran M laws.number net.program net.images.rv.table now.steady.slots (next M net w p h g.node below top now) (next_variables M net w p h g.node below top now)
+      (stop_reached M net w p h g.node below top now steps g.to g.memory g.at ends g.at_is) g.to at_is in
       record {
         before = top;
         after = next M net w p h g.node below top now;
