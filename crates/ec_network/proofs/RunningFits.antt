@@ -1,12 +1,12 @@
 -- A machine that is put behind the stop of the top activation fits it, and code goes on to its next stop.
-use Rattle.std.proofs.Common.{◌≡◌, ◌≢◌, ℕ, zero, suc, ◌+◌, ◌^◌, ◌<◌, ◌≤◌, Bool, true, false, List, [], ◌∷◌, ◌++◌, length, Option, Some, None, refl, sym, ap, ◌∙◌, subst, arith}
+use Rattle.std.proofs.Common.{◌≡◌, ◌≢◌, ℕ, ◌+◌, ◌^◌, ◌<◌, Bool, false, List, [], ◌∷◌, length, Some, sym, ap, ◌∙◌, subst, arith}
 use Rattle.std.specs.Prelude.{slice_get, if◌then◌else◌}
 use Rattle.byteorder.specs.Endian.{little_number}
 use Rattle.ec_base.specs.Bytes.{Bytes}
 use Rattle.ec_world.specs.declared.value.Value.{Value}
 use Rattle.ec_world.specs.Group.{Has}
 use Rattle.ec_ir.specs.declared.activation.IrActivation.{IrActivation}
-use Rattle.ec_ir.specs.Meaning.{variable, live_variables, settled}
+use Rattle.ec_ir.specs.Meaning.{settled}
 use Rattle.ec_memory.specs.Store.{store_byte}
 use Rattle.ec_memory.specs.Words.{block_word_at, word_in}
 use Rattle.ec_memory.proofs.Words.{word_there}
@@ -16,16 +16,14 @@ use Rattle.ec_target.specs.declared.outcome.Trap.{Trap}
 use Rattle.ec_target.proofs.Running.{native_halts, native_no_trap}
 use Rattle.ec_stops.specs.declared.table.Place.TheVariants.{Slot}
 use Rattle.ec_stops.specs.Machine.{MachineMeaning, block_at, owner_word_at}
-use Rattle.ec_stops.specs.Faithful.{Fits, Arrives, LiveStand, HomeOf, WordStands, OneToOne, HasLiterals, stop_in, words_of, first_slot}
-use Rattle.ec_nodes.specs.declared.key.Key.{Key}
+use Rattle.ec_stops.specs.Faithful.{Fits, Arrives, LiveStand, WordStands, OneToOne, HasLiterals, stop_in, words_of, first_slot}
 use Rattle.ec_nodes.specs.declared.key.Key.TheVariants.{Object, Frame}
 use Rattle.ec_nodes.specs.Store.{Owned}
 use Rattle.ec_frames.specs.declared.node.NodeStore.{NodeStore}
-use Rattle.ec_frames.specs.Node.{store_of, Laid}
+use Rattle.ec_frames.specs.Node.{store_of}
 use Rattle.ec_network.specs.declared.cluster.Cluster.{Cluster}
 use Rattle.ec_network.specs.declared.kernel.Here.{Here}
-use Rattle.ec_network.specs.Shows.{Worlds, Shows, stores}
-use Rattle.ec_network.specs.Worlds.{FineFacts}
+use Rattle.ec_network.specs.Shows.{Worlds}
 use Rattle.ec_network.specs.Running.{StandsBehind}
 use Rattle.ec_network.proofs.ActionsStores.{alone_net}
 use Rattle.ec_network.proofs.ActionsFrames.{heads_of, live_below}
@@ -129,7 +127,11 @@ module _ {S : Type 0} (M : MachineMeaning S) (net : Cluster) (w : Worlds) (p : �
     pub arrives_here : (s : S) (address : ℕ) → stop_in net.images.rv.table h.operation h.at ≡ Some address → StandsBehind M s address h.block now.own.block → Arrives M net.program net.images.rv.table (store_of node).local (store_of node).text net.images.rv.code h.block now.own.row.blocks (settled net.program top (Some now.at.done.at)) now.own.object.fields s (store_byte node.memory)
     arrives_here s address is stands =
         now.steady.faithful.rv.runs (store_of node).local (store_of node).text p h.depth h.block now.own.row.blocks top now.at.done.at now.own.object.fields w.common.globals s (store_byte node.memory)
+<<<<<<< HEAD
             one_to_one literals_here now.at.done.rests.at_is now.at.done.code now.at.done.done now.at.done.given now.at.done.rests.typed now.middle.facts.globals (fits_here s address is stands)
+=======
+        one_to_one literals_here now.at.done.rests.at_is now.at.done.code now.at.done.done now.at.done.rests.typed now.middle.facts.globals (fits_here s address is stands)
+>>>>>>> d117a653ff77cb1986f922f162873e6ca4564336
 
     -- in few steps
     pub halts_here : (traps : Trapping S) → IsOneWay (M.goes net.images.rv.code.words) → AreApart (M.goes net.images.rv.code.words) (M.stops net.images.rv.code.words) traps → words_of net.images.rv.code h.operation < 2 ^ 32 → (s : S) (address : ℕ) → stop_in net.images.rv.table h.operation h.at ≡ Some address → StandsBehind M s address h.block now.own.block → Halts (M.goes net.images.rv.code.words) s (store_byte node.memory)

@@ -1,23 +1,16 @@
 -- A native run and the two headings that are written behind it make the node that has landed at a stop.
-use Rattle.std.proofs.Common.{◌≡◌, ◌≢◌, ℕ, zero, suc, ◌+◌, ◌^◌, ◌<◌, ◌≤◌, List, [], ◌∷◌, length, Option, Some, None, refl, sym, ap, ◌∙◌, subst, arith, ◌⊎◌, inl, inr}
-use Rattle.std.specs.Prelude.{slice_get}
+use Rattle.std.proofs.Common.{◌≡◌, ◌≢◌, ℕ, ◌<◌, List, length, Some, sym, ap, ◌∙◌, arith, ◌⊎◌, inl, inr}
 use Rattle.byteorder.specs.Endian.{little_number}
 use Rattle.ec_base.specs.Bytes.{Bytes}
-use Rattle.ec_world.specs.Group.{Has}
 use Rattle.ec_ir.specs.declared.code.Parts.{Parts}
 use Rattle.ec_ir.specs.declared.activation.IrActivation.{IrActivation}
-use Rattle.ec_ir.specs.Meaning.{live_variables}
-use Rattle.ec_memory.specs.Store.{store_byte, SameLists}
 use Rattle.ec_memory.specs.Words.{block_word_at, global_word_at, word_in}
-use Rattle.ec_stops.specs.declared.table.Place.{Place}
-use Rattle.ec_stops.specs.declared.table.Place.TheVariants.{Slot, Reg}
+use Rattle.ec_stops.specs.declared.table.Place.TheVariants.{Slot}
 use Rattle.ec_stops.specs.declared.table.StopTable.{StopTable}
 use Rattle.ec_stops.specs.Machine.{MachineMeaning}
-use Rattle.ec_stops.specs.Faithful.{home_in, stop_in, first_slot, first_saved}
-use Rattle.ec_nodes.specs.Store.{Store}
+use Rattle.ec_stops.specs.Faithful.{home_in, stop_in}
 use Rattle.ec_frames.specs.declared.node.NodeStore.{NodeStore}
 use Rattle.ec_frames.specs.Node.{store_of}
-use Rattle.ec_frames.specs.Changes.{WritesWord}
 use Rattle.ec_network.specs.Turns.{Landed}
 use Rattle.ec_network.specs.Holds.{HasSlots}
 use Rattle.ec_network.specs.Kernel.{stop_head, pending_head}

@@ -1,24 +1,23 @@
 -- A network whose top activation has landed at its next stop shows the world after the code behind the stop.
-use Rattle.std.proofs.Common.{◌≡◌, ◌≢◌, ℕ, zero, suc, ◌+◌, ◌<◌, ◌≤◌, Bool, true, false, List, [], ◌∷◌, ◌++◌, length, Option, Some, None, refl, sym, ap, ◌∙◌, subst, arith, ◌⊎◌, inl, inr, ⊎_elim}
-use Rattle.std.specs.Prelude.{slice_get, slice_set, ◌↔◌}
+use Rattle.std.proofs.Common.{◌≡◌, ◌≢◌, ℕ, zero, suc, ◌<◌, Bool, List, [], ◌∷◌, ◌++◌, length, Option, Some, refl, sym, ap, ◌∙◌, subst, arith, ◌⊎◌, ⊎_elim}
+use Rattle.std.specs.Prelude.{slice_get, ◌↔◌}
 use Rattle.byteorder.specs.Endian.{little_number}
 use Rattle.ec_base.specs.Bytes.{Bytes}
 use Rattle.ec_base.specs.Stack.{top_of, below_of}
 use Rattle.ec_base.proofs.Lists.{get_set_same, get_set_other, get_within}
 use Rattle.ec_base.proofs.Stacks.{top_of-push, below_of-push}
 use Rattle.ec_world.specs.declared.node.Kind.{Kind}
-use Rattle.ec_world.specs.declared.node.Kind.TheVariants.{Riscv}
 use Rattle.ec_world.specs.declared.process.Proc.{Proc}
-use Rattle.ec_world.specs.World.{stack_at, ready_stack, GoOn, go_on, go_on_unless, advanced}
+use Rattle.ec_world.specs.World.{stack_at, ready_stack, GoOn, go_on, go_on_unless}
 use Rattle.ec_ir.specs.declared.code.StopRec.{StopRec}
 use Rattle.ec_ir.specs.declared.code.Parts.{Parts}
 use Rattle.ec_ir.specs.declared.activation.IrActivation.{IrActivation}
-use Rattle.ec_ir.specs.Meaning.{ir_meaning, ir_silent, live_values, settled, stop_at}
+use Rattle.ec_ir.specs.Meaning.{ir_meaning, ir_silent, live_values, settled}
 use Rattle.ec_ir.specs.Fine.{Fine}
 use Rattle.ec_memory.specs.Store.{store_byte}
 use Rattle.ec_target.specs.Runs.{Native}
 use Rattle.ec_stops.specs.Machine.{MachineMeaning}
-use Rattle.ec_stops.specs.Faithful.{HasLiterals, stop_in, words_of}
+use Rattle.ec_stops.specs.Faithful.{stop_in, words_of}
 use Rattle.ec_nodes.specs.declared.key.Key.TheVariants.{Frame}
 use Rattle.ec_nodes.specs.Store.{Store, Owned}
 use Rattle.ec_nodes.specs.Things.{frame_thing}
@@ -35,18 +34,18 @@ use Rattle.ec_network.specs.declared.image.Images.{Images}
 use Rattle.ec_network.specs.declared.kernel.Here.{Here}
 use Rattle.ec_network.specs.Shows.{Worlds, Shows, stores, spot, place}
 use Rattle.ec_network.specs.Room.{Strings}
-use Rattle.ec_network.specs.Worlds.{FineProcess, FineStack, FineFacts, FineWorld, IsPending}
+use Rattle.ec_network.specs.Worlds.{FineProcess, FineStack, FineFacts, FineWorld}
 use Rattle.ec_network.specs.Turns.{SameMachines, SamePools, FaithfulImages, Landed, RunsAt, RunsOn, GoesOn}
 use Rattle.ec_network.specs.Holds.{HasSlots, SmallCode, Steady, Holds}
 use Rattle.ec_network.proofs.ActionsLists.{set_end}
 use Rattle.ec_network.proofs.ActionsStores.{alone_net, alone_put, alone_is}
-use Rattle.ec_network.proofs.ActionsOrder.{ready_with, InOrder, order_last, fine_stack}
+use Rattle.ec_network.proofs.ActionsOrder.{ready_with, order_last, fine_stack}
 use Rattle.ec_network.proofs.ActionsMarking.{statuses_stay, depths_stay}
 use Rattle.ec_network.proofs.ActionsAfter.{node_at}
 use Rattle.ec_network.proofs.RunningTop.{GoingOn, steady_riscv}
 use Rattle.ec_network.specs.Running.{StandsBehind, Continues}
 use Rattle.ec_network.proofs.RunningFits.{fits_here}
-use Rattle.ec_network.proofs.RunningWords.{EndsAt, next, next_operation, next_own, next_pending, next_variables}
+use Rattle.ec_network.proofs.RunningWords.{EndsAt, next, next_operation, next_own, next_pending}
 use Rattle.ec_network.proofs.RunningFrame.{run_puts}
 
 module _ {S : Type 0} (M : MachineMeaning S) (net : Cluster) (w : Worlds) (p : ℕ) (h : Here) (node : NodeStore) (below : List IrActivation) (top : IrActivation) (now : GoingOn M net w p h node below top) where
@@ -89,7 +88,7 @@ module _ {S : Type 0} (M : MachineMeaning S) (net : Cluster) (w : Worlds) (p : �
   stack_after : FineStack net.program w.common.nodes (length w.common.objects) (below ++ after ∷ [])
   stack_after =
       fine_stack net.program w.common.nodes (length w.common.objects) below after (next_pending M net w p h node below top now)
-          (order_last net.program w.common.nodes (length w.common.objects) below top after (next_operation M net w p h node below top now) now.at.order)
+      (order_last net.program w.common.nodes (length w.common.objects) below top after (next_operation M net w p h node below top now) now.at.order)
 
   facts_after : FineFacts net.program w'
   facts_after = record {
@@ -163,8 +162,7 @@ module _ {S : Type 0} (M : MachineMeaning S) (net : Cluster) (w : Worlds) (p : �
           each k s s' text e e' =
               let z = alone_is (stores net') (store_of node') (alone_net net' node' c.after) k s' e' in
               let old : stores net k ≡ Some (store_of node) = ap (stores net) z.0 ∙ (alone_net net node now.one).here in
-              let both = pools.each k s (store_of node) text e old in
-              (
+              let both = pools.each k s (store_of node) text e old in (
                 λ g. both.0 (g.0, sym (same_text g.0) ∙ ap (λ (x : Store). x.text g.0) (sym z.1) ∙ g.1),
                 λ g. let b = both.1 g in (b.0, ap (λ (x : Store). x.text b.0) z.1 ∙ same_text b.0 ∙ b.1),
               )
@@ -173,10 +171,10 @@ module _ {S : Type 0} (M : MachineMeaning S) (net : Cluster) (w : Worlds) (p : �
       nodes_after : ShowsNodes (live_values net.program) (spot net.program net.images) (stores net') w' (place w)
       nodes_after =
           one_changed (live_values net.program) (spot net.program net.images) (place w) (stores net) (stores net') 0 (store_of node) (store_of node') w w' (Frame p (length below)) (Some (frame_thing (live_values net.program) (spot net.program net.images) p (length below) after))
-              now.shows.nodes
-              (alone_put (stores net) (stores net') (store_of node) (store_of node') (alone_net net node now.one) (alone_net net' node' c.after))
-              (run_puts M net w p h node below top now number k to memory ends node' landed c.kind c.blocks c.laid)
-              (stepped (live_values net.program) (spot net.program net.images) (place w) w w.common (record { objects = refl; globals = refl }) p (ready_with (below ++ top ∷ [])) (ready_with (below ++ after ∷ [])) now.at.is (length below) top after 0 (get_end below top) (sym (set_end below top after)) (next_own M net w p h node below top now) now.at.home)
+          now.shows.nodes
+          (alone_put (stores net) (stores net') (store_of node) (store_of node') (alone_net net node now.one) (alone_net net' node' c.after))
+          (run_puts M net w p h node below top now number k to memory ends node' landed c.kind c.blocks c.laid)
+          (stepped (live_values net.program) (spot net.program net.images) (place w) w w.common (record { objects = refl; globals = refl }) p (ready_with (below ++ top ∷ [])) (ready_with (below ++ after ∷ [])) now.at.is (length below) top after 0 (get_end below top) (sym (set_end below top after)) (next_own M net w p h node below top now) now.at.home)
 
       shows_run : Shows net' w'
       shows_run = record {

@@ -1,25 +1,23 @@
 -- What a network in the middle of a turn keeps of the process that goes on: its top activation, the frame of that, and
 -- its own object.
-use Rattle.std.proofs.Common.{◌≡◌, ◌≢◌, ℕ, zero, suc, ◌+◌, ◌<◌, ◌≤◌, Bool, true, false, List, [], ◌∷◌, ◌++◌, length, Option, Some, None, refl, sym, ap, ◌∙◌, subst, arith, ◌⊎◌, inl, inr, ⊎_elim}
-use Rattle.std.specs.Prelude.{slice_get, map}
-use Rattle.ec_base.specs.Stack.{top_of, below_of}
+use Rattle.std.proofs.Common.{◌≡◌, ◌≢◌, ℕ, zero, suc, ◌<◌, ◌≤◌, List, [], ◌∷◌, ◌++◌, length, Some, refl, sym, ap, ◌∙◌, subst, arith}
+use Rattle.std.specs.Prelude.{slice_get}
+use Rattle.ec_base.specs.Stack.{below_of}
 use Rattle.ec_base.proofs.Lists.{get_there}
-use Rattle.ec_base.proofs.Stacks.{top_of-push, stack_parts}
+use Rattle.ec_base.proofs.Stacks.{stack_parts}
 use Rattle.ec_world.specs.declared.node.Kind.TheVariants.{Riscv}
 use Rattle.ec_world.specs.declared.class.ClassNo.{ClassNo}
 use Rattle.ec_world.specs.declared.class.ClassNo.TheVariants.{Node, Program, Made}
 use Rattle.ec_world.specs.declared.object.ObjectRec.{ObjectRec}
 use Rattle.ec_world.specs.declared.process.ProcStatus.{ProcStatus}
-use Rattle.ec_world.specs.declared.process.ProcStatus.TheVariants.{Ready}
 use Rattle.ec_world.specs.declared.process.Proc.{Proc}
 use Rattle.ec_world.specs.Effects.{object_at}
-use Rattle.ec_world.specs.Group.{Has}
 use Rattle.ec_ir.specs.declared.activation.IrActivation.{IrActivation}
 use Rattle.ec_ir.specs.Meaning.{live_values}
 use Rattle.ec_stops.specs.Machine.{MachineMeaning}
 use Rattle.ec_nodes.specs.declared.key.Key.TheVariants.{Object, Frame}
-use Rattle.ec_nodes.specs.Store.{Store, Owned}
-use Rattle.ec_nodes.specs.Things.{blocks_of, class_blocks, object_if, object_thing}
+use Rattle.ec_nodes.specs.Store.{Owned}
+use Rattle.ec_nodes.specs.Things.{class_blocks, object_if, object_thing}
 use Rattle.ec_nodes.proofs.Procs.{get_end}
 use Rattle.ec_frames.specs.declared.node.NodeStore.{NodeStore}
 use Rattle.ec_frames.specs.Node.{store_of, Laid}
@@ -27,7 +25,7 @@ use Rattle.ec_network.specs.declared.cluster.Cluster.{Cluster}
 use Rattle.ec_network.specs.declared.kernel.Here.{Here}
 use Rattle.ec_network.specs.Shows.{Worlds, Shows, stores, spot, place}
 use Rattle.ec_network.specs.Worlds.{FineFacts}
-use Rattle.ec_network.specs.Steps.{IsDone, MiddleStack, FineMiddle}
+use Rattle.ec_network.specs.Steps.{IsDone, FineMiddle}
 use Rattle.ec_network.specs.Holds.{Steady}
 use Rattle.ec_network.specs.Kernel.{IsHere}
 use Rattle.ec_network.proofs.ActionsLists.{length_end, get_map}
@@ -82,7 +80,7 @@ module _ {S : Type 0} (M : MachineMeaning S) (net : Cluster) (w : Worlds) (p : �
     frame_is : FrameStands net.program (store_of node) p (length below) h.block top
     frame_is =
         frame_at net.program net.images (stores net) (store_of node) w (place w) p (length below) h.block (below ++ top ∷ []) top here.row
-            steady.slots (steady_riscv M net node steady one) shows.nodes (alone_net net node one) variables_of is (get_end below top) row_is here.block
+        steady.slots (steady_riscv M net node steady one) shows.nodes (alone_net net node one) variables_of is (get_end below top) row_is here.block
 
     read_done : TopDone net w p h node below top
     read_done = record {
@@ -109,8 +107,7 @@ module _ {S : Type 0} (M : MachineMeaning S) (net : Cluster) (w : Worlds) (p : �
       let stack = middle.stack in
       let parts : xs ≡ below_of xs ++ stack.top ∷ [] = stack_parts xs stack.top stack.top_is in
       let is : slice_get w.processes p ≡ Some (ready_with xs) = middle.is ∙ ap (λ (s : ProcStatus). Some (record { activations = xs; status = s })) middle.ready in
-      let order : InOrder net.program w.common.nodes (length w.common.objects) xs = record { bottom = stack.bottom; upper = stack.upper; waiting = stack.waiting } in
-      (
+      let order : InOrder net.program w.common.nodes (length w.common.objects) xs = record { bottom = stack.bottom; upper = stack.upper; waiting = stack.waiting } in (
         below_of xs,
         stack.top,
         read_done (below_of xs) stack.top
@@ -179,12 +176,15 @@ pub record GoingOn {S : Type 0} (M : MachineMeaning S) (net : Cluster) (w : Worl
 
 pub going_on : {S : Type 0} (M : MachineMeaning S) (net : Cluster) (w : Worlds) (p : ℕ) (h : Here) (node : NodeStore) → Steady M net → Shows net w → FineMiddle net.program w p → IsHere net p h → net.nodes ≡ node ∷ [] → (below : List IrActivation) × (top : IrActivation) × GoingOn M net w p h node below top
 going_on M net w p h node steady shows middle here one =
-    let t = top_is M net w p h node steady shows middle here one in
-    (t.0, t.1, record {
-      steady = steady;
-      shows = shows;
-      middle = middle;
-      one = one;
-      at = t.2;
-      own = own_of_done net w p h node t.0 t.1 shows middle.facts one t.2;
-    })
+    let t = top_is M net w p h node steady shows middle here one in (
+      t.0,
+      t.1,
+      record {
+        steady = steady;
+        shows = shows;
+        middle = middle;
+        one = one;
+        at = t.2;
+        own = own_of_done net w p h node t.0 t.1 shows middle.facts one t.2;
+      },
+    )

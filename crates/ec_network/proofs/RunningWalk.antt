@@ -1,6 +1,6 @@
 -- Code behind a stop whose action is done: it reaches a stop, and each variable that is read there is of its type.
-use Rattle.std.proofs.Common.{◌≡◌, ◌≢◌, ℕ, zero, suc, ◌+◌, ◌<◌, ◌≤◌, Bool, true, false, List, [], ◌∷◌, ◌++◌, length, drop, Option, Some, None, refl, sym, ap, ◌∙◌, subst, arith, ◌⊎◌, inl, inr, ⊎_elim}
-use Rattle.std.specs.Prelude.{slice_get, map}
+use Rattle.std.proofs.Common.{◌≡◌, ◌≢◌, ℕ, zero, suc, ◌+◌, ◌<◌, Bool, List, [], ◌∷◌, ◌++◌, length, drop, Option, Some, None, refl, sym, ap, ◌∙◌, subst, ◌⊎◌, inl, inr, ⊎_elim}
+use Rattle.std.specs.Prelude.{slice_get}
 use Rattle.ec_base.proofs.Lists.{get_there}
 use Rattle.ec_world.specs.declared.value.Value.{Value}
 use Rattle.ec_world.specs.declared.value.ValueType.{ValueType}
@@ -14,12 +14,11 @@ use Rattle.ec_ir.specs.declared.code.StopRec.{StopRec}
 use Rattle.ec_ir.specs.declared.code.Operation.{Operation}
 use Rattle.ec_ir.specs.declared.code.Parts.{Parts}
 use Rattle.ec_ir.specs.declared.activation.IrActivation.{IrActivation}
-use Rattle.ec_ir.specs.Meaning.{Reached, walk, put, text_at, variable, stop_at, stops_of, code_of, types_of, operation_at, behind, settled, resting, resting_at, live_at, live_if, live_variables, result_live}
-use Rattle.ec_ir.specs.Fine.{Fine, FineOp, FineOperation, HasType, HasCode, GoesOn, IsIn, AllIn, Covers, CoversStop, one_of}
+use Rattle.ec_ir.specs.Meaning.{Reached, walk, put, text_at, variable, stop_at, stops_of, code_of, types_of, settled, resting, resting_at, live_at, live_if, live_variables, result_live}
+use Rattle.ec_ir.specs.Fine.{Fine, FineOp, HasType, HasCode, GoesOn, IsIn, AllIn, Covers, CoversStop, one_of}
 use Rattle.ec_ir.proofs.Put.{put_same, put_other}
-use Rattle.ec_stops.specs.Faithful.{LiveTyped}
 use Rattle.ec_nodes.proofs.Put.{same_or_not}
-use Rattle.ec_network.specs.Worlds.{RestsAt, IsPending}
+use Rattle.ec_network.specs.Worlds.{IsPending}
 use Rattle.ec_network.specs.Steps.{IsDone}
 use Rattle.ec_network.proofs.ActionsFrames.{live_pending}
 
@@ -147,12 +146,12 @@ module _ (program : Parts) (nodes objects : ℕ) (a : IrActivation) (d : IsDone 
           let f = fine.operations a.operation o e in
           let covers : Covers o.stops (d.at.live ++ one_of d.at.into) (drop (d.at.place + 1) o.code) = goes_on d.at.stop (Covers o.stops (d.at.live ++ one_of d.at.into) (drop (d.at.place + 1) o.code)) d.code (f.covered a.at d.at there) in
           let typed : (v : ℕ) → IsIn v (d.at.live ++ one_of d.at.into) → TypedAt o.variables a.variables v = λ v h.
-              let g : Has (live_variables program a) v = subst (λ (xs : List ℕ). Has xs v) (sym live_given) (has_of (d.at.live ++ one_of d.at.into) v h) in
-              let t = d.rests.typed.each v g in
-              (t.0, ap (λ (q : Option Operation). slice_get (types_of q) v) (sym e) ∙ t.1, t.2) in
+          let g : Has (live_variables program a) v = subst (λ (xs : List ℕ). Has xs v) (sym live_given) (has_of (d.at.live ++ one_of d.at.into) v h) in
+          let t = d.rests.typed.each v g in
+          (t.0, ap (λ (q : Option Operation). slice_get (types_of q) v) (sym e) ∙ t.1, t.2) in
           let each : (i : ℕ) (op : IrOp) → slice_get (drop (d.at.place + 1) o.code) i ≡ Some op → WritesText program.literals o.variables op = λ i op g.
-              let j = had_before (d.at.place + 1) o.code i op g in
-              writes_text program.literals o j.0 op (f.code j.0 op j.1) in
+          let j = had_before (d.at.place + 1) o.code i op g in
+          writes_text program.literals o j.0 op (f.code j.0 op j.1) in
           let r = reaches program.literals o.variables o.stops (drop (d.at.place + 1) o.code) a.variables (d.at.live ++ one_of d.at.into) each covers typed in
           record {
             operation = o;

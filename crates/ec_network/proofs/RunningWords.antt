@@ -1,13 +1,12 @@
 -- Where a native run from behind the top's stop ends, and which words it has left alone.
-use Rattle.std.proofs.Common.{◌≡◌, ◌≢◌, ℕ, zero, suc, ◌+◌, ◌*◌, ◌<◌, ◌≤◌, List, [], ◌∷◌, ◌++◌, length, Option, Some, None, refl, sym, ap, ◌∙◌, subst, arith, ◌⊎◌, inl, inr, ⊎_elim}
+use Rattle.std.proofs.Common.{◌≡◌, ◌≢◌, ℕ, zero, suc, ◌+◌, ◌<◌, ◌≤◌, List, length, Some, refl, sym, ap, ◌∙◌, subst, arith, ◌⊎◌, inl, inr, ⊎_elim}
 use Rattle.std.specs.Prelude.{slice_get}
 use Rattle.std.specs.Option.{option_map}
 use Rattle.std.proofs.lemmas.Bool.{cases_lt}
 use Rattle.byteorder.specs.Endian.{little_number}
 use Rattle.ec_base.specs.Bytes.{Bytes, bytes_from, before_rest}
-use Rattle.ec_world.specs.Group.{Has}
 use Rattle.ec_ir.specs.declared.activation.IrActivation.{IrActivation}
-use Rattle.ec_ir.specs.Meaning.{settled, variable, live_variables}
+use Rattle.ec_ir.specs.Meaning.{settled}
 use Rattle.ec_memory.specs.Store.{store_byte}
 use Rattle.ec_memory.specs.Words.{block_word_at, global_word_at, word_in}
 use Rattle.ec_target.specs.Runs.{Trapping, Native, IsOneWay, AreApart}
@@ -18,8 +17,8 @@ use Rattle.ec_frames.specs.declared.node.NodeStore.{NodeStore}
 use Rattle.ec_frames.specs.Node.{store_of}
 use Rattle.ec_network.specs.declared.cluster.Cluster.{Cluster}
 use Rattle.ec_network.specs.declared.kernel.Here.{Here}
-use Rattle.ec_network.specs.Shows.{Worlds, Shows}
-use Rattle.ec_network.specs.Worlds.{FineFacts, IsPending}
+use Rattle.ec_network.specs.Shows.{Worlds}
+use Rattle.ec_network.specs.Worlds.{IsPending}
 use Rattle.ec_network.specs.Running.{StandsBehind}
 use Rattle.ec_network.proofs.ActionsFrames.{HasVariables}
 use Rattle.ec_network.proofs.RunningWalk.{settled_operation, settled_own, settled_pending}
