@@ -65,3 +65,9 @@ pub record SameNode (node node' : NodeStore) : Type 0 where
   pub room : node'.room ≡ node.room
   pub globals : node'.globals ≡ node.globals
   pub count : node'.count ≡ node.count
+
+-- only the memory has changed: owners, local references and texts are the same
+pub record OnlyMemory (node node' : NodeStore) : Type 0 where
+  pub rows : node'.rows ≡ node.rows
+  pub locals : node'.locals ≡ node.locals
+  pub pool : node'.pool ≡ node.pool

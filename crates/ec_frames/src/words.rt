@@ -2,7 +2,7 @@
 ghost use Rattle.std.specs.Prelude.{◌≡◌, ◌≤◌, ◌<◌, length, Some};
 ghost use Rattle.ec_memory.specs.Store.{IsWhole};
 ghost use Rattle.ec_memory.specs.Words.{block_word_at, global_word_at};
-ghost use Rattle.ec_frames.specs.Node.{store_of, Laid, SameNode};
+ghost use Rattle.ec_frames.specs.Node.{store_of, Laid, SameNode, OnlyMemory};
 ghost use Rattle.ec_frames.specs.Changes.{WritesWord, WritesGlobal};
 ghost use Rattle.ec_frames.specs.Words.{Written};
 
@@ -29,6 +29,7 @@ impl NodeStore {
         ensures laid { Laid self.new }
         ensures same { SameNode self.old self.new }
         ensures writes { WritesWord (store_of self.old) (store_of self.new) block i w }
+        ensures memory { OnlyMemory self.old self.new }
     {
         self.memory.set_word(block_word(block, i), w);
     }

@@ -142,7 +142,7 @@ module _ {S : Type 0} (M : MachineMeaning S) (net : Cluster) (w : Worlds) (p : �
             fine = subst (λ (q : Parts). Fine q) (sym c.program) s.fine;
             faithful = subst (λ (q : Parts). FaithfulImages M q net'.images) (sym c.program) (subst (λ (i : Images). FaithfulImages M net.program i) (sym c.images) s.faithful);
             slots = subst (λ (q : Parts). HasSlots q net'.images.rv.table) (sym c.program) (subst (λ (i : Images). HasSlots net.program i.rv.table) (sym c.images) s.slots);
-            small = subst (λ (i : Images). SmallCode i.rv.table i.rv.code.words) (sym c.images) s.small;
+            small = subst (λ (i : Images). SmallCode i.rv.table i.rv.code) (sym c.images) s.small;
             node = node';
             one = c.after;
             riscv = c.kind ∙ steady_riscv M net node s now.one;

@@ -38,7 +38,7 @@ whole_net c = record { loaded = Some c; whole = true }
 pub record AreBuilt {S : Type 0} (M : MachineMeaning S) (program : Parts) (images : Images) : Type 0 where
   pub faithful : FaithfulImages M program images
   pub slots : HasSlots program images.rv.table
-  pub small : SmallCode images.rv.table images.rv.code.words
+  pub small : SmallCode images.rv.table images.rv.code
 
 -- one node of the kind that there is so far, of a size that a node can have
 pub record IsOneNode (specs : List NodeSpec) : Type 0 where
