@@ -1,6 +1,7 @@
 //! A small list that contracts see as a list.
 ghost use Rattle.std.specs.Prelude.{◌≡◌, ◌+◌, ◌<◌, ◌≤◌, ◌↔◌, List, [], ◌∷◌, ◌++◌, length, IfOk, OnOk, OnErr, IfSome, IfNone, IsSome, IsTrue, slice_get, slice_set};
 ghost use Rattle.std.specs.Borrow.{sem};
+ghost use Rattle.std.specs.List.{remove};
 ghost use Rattle.ec_base.specs.Stack.{top_of, below_of};
 
 use std::alloc::{AllocError, Global};
@@ -138,5 +139,13 @@ impl<T> Seq<T> {
         ensures { self.new ≡ slice_set self.old i item }
     {
         self.items[i] = item;
+    }
+    /// The item at a place that there is, taken out; those behind it come one forward.
+    pub fn remove(&mut self, i: usize) -> T
+        requires { i < length self.old }
+        ensures there { slice_get self.old i ≡ Some result }
+        ensures rest { self.new ≡ remove self.old i }
+    {
+        self.items.remove(i)
     }
 }

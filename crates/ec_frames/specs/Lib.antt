@@ -1,2 +1,5 @@
+pub mod Changed
 pub mod Node
 pub mod Changes
+pub mod Owners
+pub mod Words

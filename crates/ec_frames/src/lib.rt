@@ -2,3 +2,6 @@
 #![tactic(auto)]
 
 pub mod node;
+mod owners;
+mod tables;
+mod words;

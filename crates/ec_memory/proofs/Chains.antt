@@ -105,7 +105,7 @@ after-set_other links b x first (suc n) apart =
     let next : slice_index (set links b x) first ≡ slice_index links first = get_or-set_other links b first x 0 ne in
     ap (λ f. after (set links b x) f n) next ∙ after-set_other links b x (slice_index links first) n apart.1
 
-chain-one : (links : List ℕ) (first : ℕ) → chain links first 1 ≡ first ∷ []
+pub chain-one : (links : List ℕ) (first : ℕ) → chain links first 1 ≡ first ∷ []
 unfolding chain
 chain-one links first = refl
 
@@ -134,7 +134,7 @@ module _ (links : List ℕ) (first n head free last : ℕ) (is : last ≡ after 
       ∙ ap (λ b. chain links first (n + 1) ++ chain new b free) on
       ∙ ap (λ l. chain links first (n + 1) ++ l) (chain-set_other links last head head free behind)
 
-all_both : (P : ℕ → Type 0) (xs ys : List ℕ) → AllByRecursion P xs → AllByRecursion P ys → AllByRecursion P (xs ++ ys)
+pub all_both : (P : ℕ → Type 0) (xs ys : List ℕ) → AllByRecursion P xs → AllByRecursion P ys → AllByRecursion P (xs ++ ys)
 all_both P [] ys h k = k
 all_both P (x ∷ xs) ys h k = (h.0, all_both P xs ys h.1 k)
 
@@ -170,6 +170,7 @@ module _ (blocks globals links : List ℕ) (head free first count last : ℕ) (w
   pub gives : Gives (record { blocks = blocks; globals = globals; links = links; free = chain links head free }) (record { blocks = blocks; globals = globals; links = set links last head; free = chain (set links last head) first (free + count) }) first count
   gives = record {
     free = all_links;
+    sized = length-set links last head;
     links = λ b other. get_or-set_other links last b head 0 (λ e. apart_on_way links b first count (count - 1) other (omega arith) (e ∙ is));
     blocks = refl;
     globals = refl;

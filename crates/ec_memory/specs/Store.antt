@@ -77,6 +77,7 @@ pub record Takes (old new : Store) (first n : ℕ) : Type 0 where
 -- a list of n blocks becomes free, and nothing else changes, also no link of another block
 pub record Gives (old new : Store) (first n : ℕ) : Type 0 where
   pub free : new.free ≡ chain old.links first n ++ old.free
+  pub sized : length new.links ≡ length old.links
   pub links : (b : ℕ) → IsApart b (chain old.links first n) → slice_index new.links b ≡ slice_index old.links b
   pub blocks : new.blocks ≡ old.blocks
   pub globals : new.globals ≡ old.globals

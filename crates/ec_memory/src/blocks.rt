@@ -4,7 +4,7 @@ ghost use Rattle.std.specs.Prelude.{◌≡◌, ◌+◌, ◌++◌, ◌≤◌, ◌
 ghost use Rattle.std.specs.List.{AllByRecursion};
 ghost use Rattle.ec_base.specs.Bytes.{with_bytes};
 ghost use Rattle.ec_memory.specs.Words.{HasWord, word_in};
-ghost use Rattle.ec_memory.specs.Store.{SameLists, same_lists, same_lists_on, store_byte, chain, after, AreApart, Takes, Gives, IsRising, IsNew};
+ghost use Rattle.ec_memory.specs.Store.{SameLists, same_lists, same_lists_on, store_byte, chain, after, AreApart, Takes, Gives, IsRising, IsNew, IsWhole};
 
 use crate::region::{read_from, write_to};
 use byteorder::ByteOrder;
@@ -54,7 +54,8 @@ impl<O: ByteOrder> Blocks<O> {
     pub fn new(alloc: Global, blocks: u32, globals: u32) -> Result<Blocks<O>, AllocError>
         requires few_blocks { blocks ≤ 65536 }
         requires few_globals { globals ≤ 1048576 }
-        ensures { IfOk result (λ new. IsNew new blocks globals) }
+        ensures new { IfOk result (λ new. IsNew new blocks globals) }
+        ensures whole { IfOk result (λ new. IsWhole new) }
     {
         let links = rising(alloc, blocks)?;
         Ok(Blocks {

@@ -1,3 +1,12 @@
 pub mod Shows
 pub mod Room
 pub mod Worlds
+pub mod Turns
+pub mod Holds
+pub mod Kernel
+pub mod Steps
+pub mod Full
+pub mod Net
+pub mod Answers
+pub mod Can
+pub mod Running

@@ -2,4 +2,6 @@
 #![tactic(auto)]
 
 mod cluster;
+mod kernel;
 pub mod image;
+pub mod network;

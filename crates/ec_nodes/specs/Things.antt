@@ -61,7 +61,7 @@ module _ (live : IrActivation → List Value) (spot : IrActivation → Kind → 
     class = None;
     fixed = false;
     monitor = None;
-    heads = p ∷ d ∷ a.operation ∷ a.at ∷ (if a.pending then 1 else 0) ∷ [];
+    heads = p ∷ d ∷ a.operation ∷ a.at ∷ (if a.pending then 1 else 0) ∷ a.own ∷ [];
     values = live a;
     spot = spot a;
   }

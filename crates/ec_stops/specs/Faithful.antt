@@ -103,7 +103,7 @@ module _ {S : Type 0} (M : MachineMeaning S) (program : Parts) (table : StopTabl
     pub own_base : (b : ℕ) → slice_get own 0 ≡ Some b → M.register s M.own_base ≡ block_at b
     pub apart : Has own f → ⊥
     pub frame : (i : ℕ) → i < 128 → (w : ℕ) × (word_in M.number bytes (block_word_at f i) ≡ Some w)
-    pub heads : (i n : ℕ) → slice_get (p ∷ d ∷ a.operation ∷ a.at ∷ 0 ∷ []) i ≡ Some n → word_in M.number bytes (block_word_at f i) ≡ Some n
+    pub heads : (i n : ℕ) → slice_get (p ∷ d ∷ a.operation ∷ a.at ∷ 0 ∷ a.own ∷ []) i ≡ Some n → word_in M.number bytes (block_word_at f i) ≡ Some n
     pub live : LiveStand f a s bytes
     pub own_fields : (i : ℕ) (v : Value) → slice_get fields i ≡ Some v → (at : ℕ) × (owner_word_at own i ≡ Some at) × WordStands M.number local text bytes at v
     pub constants : (i : ℕ) (v : Value) → slice_get globals i ≡ Some v → WordStands M.number local text bytes (global_word_at i) v

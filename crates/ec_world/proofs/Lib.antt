@@ -1,2 +1,10 @@
 pub mod Changes
 pub mod Defaults
+pub mod Related
+pub mod Simulation
+pub mod Entries
+pub mod FirstTrue
+pub mod Placement
+pub mod Members
+pub mod Rounds
+pub mod Searching

@@ -1,5 +1,5 @@
 -- The group of an object: what moves with it (Jul, Levy, Hutchinson, Black 1988: attachment).
-use Rattle.std.specs.Prelude.{◌≡◌, ℕ, zero, suc, ◌+◌, ◌==◌, ◌<◌, ◌||◌, ◌&&◌, ◌↔◌, Bool, true, false, if◌then◌else◌, List, [], ◌∷◌, ◌++◌, length, Option, Some, None, slice_get}
+use Rattle.std.specs.Prelude.{◌≡◌, ℕ, zero, suc, ◌==◌, ◌<◌, ◌||◌, ◌↔◌, Bool, true, false, if◌then◌else◌, List, [], ◌∷◌, ◌++◌, length, Option, Some, None, IsSome, slice_get}
 use Rattle.ec_world.specs.declared.value.Value.{Value}
 use Rattle.ec_world.specs.declared.value.Value.TheVariants.{Int, Str, Ref, Nil, Bool as Truth}
 use Rattle.ec_world.specs.declared.class.FieldRec.{FieldRec}
@@ -38,10 +38,11 @@ links_if classes (Some o) = links_in (fields_if (class_at classes o.class)) o.fi
 abbrev pub links_of : Common → ℕ → List ℕ
 links_of c oid = links_if c.classes (object_at c.objects oid)
 
--- the least set with x that is closed under attached fields that aren't nil
+-- the least set with x that is closed under attached fields that aren't nil; a field that names no object that is there
+-- leads to none
 pub data InGroup (c : Common) (x : ℕ) : ℕ → Type 0 where
   Itself : InGroup c x x
-  Linked : (y z : ℕ) → InGroup c x y → Has (links_of c y) z → InGroup c x z
+  Linked : (y z : ℕ) → InGroup c x y → Has (links_of c y) z → IsSome (object_at c.objects z) → InGroup c x z
 
 -- each item is below the next
 abbrev pub IsRising : List ℕ → Type 0
@@ -53,6 +54,16 @@ IsRising (x ∷ y ∷ ys) = (x < y) × IsRising (y ∷ ys)
 pub record IsGroup (c : Common) (x : ℕ) (members : List ℕ) : Type 0 where
   pub rising : IsRising members
   pub each : (y : ℕ) → Has members y ↔ InGroup c x y
+
+-- the mark of an object; numbers begin at 1
+abbrev pub mark_at : List Bool → ℕ → Option Bool
+mark_at marks zero = None
+mark_at marks (suc i) = slice_get marks i
+
+-- one mark an object, set for the members of x's group and for no other
+pub record MarksGroup (c : Common) (x : ℕ) (marks : List Bool) : Type 0 where
+  pub one_each : length marks ≡ length c.objects
+  pub each : (y : ℕ) → (mark_at marks y ≡ Some true) ↔ InGroup c x y
 
 -- the group as a list, by marks: one mark an object, and each round marks what marked objects are attached to
 abbrev pub is_in : ℕ → List ℕ → Bool

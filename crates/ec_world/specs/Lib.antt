@@ -7,3 +7,5 @@ pub mod Group
 pub mod Moves
 pub mod Run
 pub mod Agree
+pub mod Simulation
+pub mod Search

@@ -8,7 +8,7 @@ pub returns-then-count-eq0 : goal.returns-then-count-eq0
 returns-then-count-eq0 g c =
     let s = c.args.self.now in
     let none : chain s.links c.args.list.first c.args.list.count ≡ [] = ap (chain s.links c.args.list.first) c.if-count-eq0.true ∙ chain-none s.links c.args.list.first in
-    record { free = sym (ap (λ l. l ++ s.free) none); links = λ b h. refl; blocks = refl; globals = refl }
+    record { free = sym (ap (λ l. l ++ s.free) none); sized = refl; links = λ b h. refl; blocks = refl; globals = refl }
 
 pub after-last-requires : goal.after-last-requires
 after-last-requires g c =

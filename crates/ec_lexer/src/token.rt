@@ -1,0 +1,168 @@
+//! Tokens, and the table of reserved words.
+ghost use Rattle.std.specs.Prelude.{◌≡◌, map};
+ghost use Rattle.std.specs.Str.{str_eq_ignore_ascii_case};
+ghost use Rattle.ec_lexer.specs.Lexemes.{lookup, reserved};
+
+use ec_ast::{Span, Text};
+
+/// A token, and where it stands in the text.
+#[derive(Drop)]
+pub struct Token {
+    pub kind: TokenKind,
+    pub at: Span,
+}
+
+/// What a token is.
+#[derive(Drop)]
+pub enum TokenKind {
+    /// A reserved word, in whatever case it is written.
+    Reserved(Reserved),
+    /// A word that isn't reserved, as it is written.
+    Name(Text),
+    /// The bytes of a string literal, with the escapes replaced.
+    Literal(Text),
+    /// `<-`
+    Arrow,
+    /// `.`
+    Dot,
+    /// `[`
+    OpenBracket,
+    /// `]`
+    CloseBracket,
+}
+
+/// A reserved word.
+#[derive(Clone, Copy, Debug, PartialEq, Eq)]
+pub enum Reserved {
+    And,
+    Any,
+    As,
+    Assert,
+    At,
+    Attached,
+    Boolean,
+    Class,
+    Condition,
+    Const,
+    Else,
+    Elseif,
+    End,
+    Exit,
+    Export,
+    Failure,
+    False,
+    Fix,
+    Function,
+    If,
+    Immutable,
+    Initially,
+    Integer,
+    Isfixed,
+    Loop,
+    Monitor,
+    Move,
+    Nil,
+    Node,
+    Object,
+    Of,
+    Operation,
+    Or,
+    Process,
+    Refix,
+    Return,
+    Self_,
+    Signal,
+    Stdout,
+    String,
+    Then,
+    To,
+    True,
+    Typeobject,
+    Unfix,
+    Var,
+    Vector,
+    View,
+    Visit,
+    Wait,
+    When,
+}
+
+/// The spelling of each reserved word. Case isn't significant.
+pub const RESERVED: [(&[u8], Reserved); 51] = [
+    (b"and", Reserved::And),
+    (b"any", Reserved::Any),
+    (b"as", Reserved::As),
+    (b"assert", Reserved::Assert),
+    (b"at", Reserved::At),
+    (b"attached", Reserved::Attached),
+    (b"boolean", Reserved::Boolean),
+    (b"class", Reserved::Class),
+    (b"condition", Reserved::Condition),
+    (b"const", Reserved::Const),
+    (b"else", Reserved::Else),
+    (b"elseif", Reserved::Elseif),
+    (b"end", Reserved::End),
+    (b"exit", Reserved::Exit),
+    (b"export", Reserved::Export),
+    (b"failure", Reserved::Failure),
+    (b"false", Reserved::False),
+    (b"fix", Reserved::Fix),
+    (b"function", Reserved::Function),
+    (b"if", Reserved::If),
+    (b"immutable", Reserved::Immutable),
+    (b"initially", Reserved::Initially),
+    (b"integer", Reserved::Integer),
+    (b"isfixed", Reserved::Isfixed),
+    (b"loop", Reserved::Loop),
+    (b"monitor", Reserved::Monitor),
+    (b"move", Reserved::Move),
+    (b"nil", Reserved::Nil),
+    (b"node", Reserved::Node),
+    (b"object", Reserved::Object),
+    (b"of", Reserved::Of),
+    (b"operation", Reserved::Operation),
+    (b"or", Reserved::Or),
+    (b"process", Reserved::Process),
+    (b"refix", Reserved::Refix),
+    (b"return", Reserved::Return),
+    (b"self", Reserved::Self_),
+    (b"signal", Reserved::Signal),
+    (b"stdout", Reserved::Stdout),
+    (b"string", Reserved::String),
+    (b"then", Reserved::Then),
+    (b"to", Reserved::To),
+    (b"true", Reserved::True),
+    (b"typeobject", Reserved::Typeobject),
+    (b"unfix", Reserved::Unfix),
+    (b"var", Reserved::Var),
+    (b"vector", Reserved::Vector),
+    (b"view", Reserved::View),
+    (b"visit", Reserved::Visit),
+    (b"wait", Reserved::Wait),
+    (b"when", Reserved::When),
+];
+
+/// The reserved word that is spelled so, if there is one.
+pub fn reserved_word(word: &[u8]) -> Option<Reserved>
+    ensures { result ≡ reserved word.now }
+{
+    find(&RESERVED, word)
+}
+
+fn find(mut table: &[(&[u8], Reserved)], word: &[u8]) -> Option<Reserved>
+    ensures { result ≡ lookup (map (λ row. (row.0.now, row.1)) table.entry.now) word.now }
+{
+    while let [row, rest @ ..] = table {
+        if is_same_word(row.0, word) {
+            return Some(row.1);
+        }
+        table = rest;
+    }
+    None
+}
+
+fn is_same_word(a: &[u8], b: &[u8]) -> bool
+    ensures { result ≡ str_eq_ignore_ascii_case a.now b.now }
+{
+    a.eq_ignore_ascii_case(b)
+}

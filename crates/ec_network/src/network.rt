@@ -1,0 +1,136 @@
+//! The network: what its callers may ask of it.
+ghost use Rattle.std.specs.Prelude.{◌≡◌, ℕ, ◌<◌, ◌^◌, false, IfOk, OnOk, IsTrue};
+ghost use Rattle.ec_network.specs.Net.{empty_net};
+
+use crate::cluster::Cluster;
+use crate::image::Images;
+use ec_ir::program::IrProgram;
+use ec_nodes::room::Part;
+use ec_world::node::NodeSpec;
+use ec_world::process::ProcStatus;
+use ec_world::value::{NodeNo, Oid, Pid, Text};
+use std::alloc::Global;
+use std::marker::Model;
+
+/// What a call did: nothing, the load, a turn of so many instructions, or a move by the operator.
+#[derive(Clone, Copy, PartialEq, Eq, Debug)]
+pub enum Did {
+    Idle,
+    Acted { steps: u64 },
+    Moved,
+    Loaded,
+}
+
+/// Why a call was refused.
+#[derive(Clone, Copy, PartialEq, Eq, Debug)]
+pub enum NetError {
+    /// A node has no room for the entry: the least such node, blocks before text, with what the entry needs there and
+    /// what was free before it (blocks, or bytes of text). The network is as before the call.
+    Full {
+        node: NodeNo,
+        part: Part,
+        need: u64,
+        free: u64,
+    },
+    /// There was no memory. The network isn't whole any more.
+    Memory,
+}
+
+/// Nodes that run a program, all of whose code between stops is their own machines'.
+#[derive(Drop)]
+pub struct Network {
+    cluster: Option<Cluster>,
+    whole: bool,
+    alloc: Global,
+}
+
+impl Model for Network {
+    ghost use Rattle.std.specs.Prelude.{IsTrue};
+    ghost use Rattle.ec_network.specs.Net.{Net, WholeShows};
+    ghost use Rattle.rv_codegen.specs.Meaning.{rv_meaning};
+
+    ghost Value = { Net };
+
+    ghost view = { λ n. record { loaded = n.cluster; whole = n.whole } };
+
+    ghost invariant = { λ n. IsTrue n.whole → WholeShows rv_meaning n.cluster };
+}
+
+impl Network {
+    ghost use Rattle.ec_network.specs.Net.{AreBuilt, IsOneNode, EntryFull, count_of, counts_of, name_if, fixed_if};
+    ghost use Rattle.ec_network.specs.Answers.{CanNumber, WhenFull, WhenMemory, LoadAnswer, TurnAnswer, MoveAnswer, ForShown, steps_of};
+    ghost use Rattle.ec_network.specs.Shows.{place};
+    ghost use Rattle.ec_network.specs.Turns.{LoadFull};
+    ghost use Rattle.ec_network.specs.Worlds.{ir_action};
+    ghost use Rattle.ec_world.specs.Moves.{OperatorMove};
+    ghost use Rattle.ec_world.specs.Effects.{object_at};
+    ghost use Rattle.ec_world.specs.Run.{statuses_of};
+    ghost use Rattle.rv_codegen.specs.Meaning.{rv_meaning};
+
+    /// A network in which nothing is loaded. It takes no memory.
+    pub fn empty(alloc: Global) -> Network
+        ensures { result ≡ empty_net }
+    {
+        Network {
+            cluster: None,
+            whole: false,
+            alloc,
+        }
+    }
+
+    /// Whether a program is loaded and no call since has met want of memory.
+    pub fn is_whole(&self) -> bool
+        ensures { result ≡ self.now.whole }
+    {
+        self.whole
+    }
+
+    /// Loads a program with its images onto nodes: of one RISC-V node so far.
+    pub fn load(
+        &mut self,
+        program: IrProgram,
+        images: Images,
+        specs: &[NodeSpec],
+    ) -> Result<Did, NetError>
+        requires empty { self.old ≡ empty_net }
+        requires built { AreBuilt rv_meaning program images }
+        requires nodes { IsOneNode specs.now }
+        ensures loaded { IfOk result (λ did. did ≡ Did.Loaded) }
+        ensures shows { OnOk result (LoadAnswer rv_meaning program specs.now self.new) }
+        ensures full { WhenFull result (LoadFull program specs.now) }
+        ensures unchanged { WhenFull result (λ node part need free. self.new ≡ self.old) }
+        ensures not_whole { WhenMemory result (self.new.whole ≡ false) }
+    {
+        self.whole = false;
+        Err(NetError::Memory)
+    }
+
+    /// A turn of a process: the action of its stop, then machine code up to the next stop. It takes at most as many
+    /// instructions as the operation has words of code, plus one.
+    pub fn turn(&mut self, p: Pid) -> Result<Did, NetError>
+        requires whole { IsTrue self.old.whole }
+        requires counts { (k : ℕ) → counts_of self.old k < 2 ^ 63 }
+        requires numbers { CanNumber self.old }
+        ensures turn { IfOk result (λ did. ForShown rv_meaning self.old (λ c w. TurnAnswer rv_meaning c w p self.new did)) }
+        ensures few { IfOk result (λ did. steps_of did < 2 ^ 32) }
+        ensures full { WhenFull result (λ node part need free. ForShown rv_meaning self.old (λ c w. EntryFull c w (ir_action w p) node part need free)) }
+        ensures unchanged { WhenFull result (λ node part need free. self.new ≡ self.old) }
+        ensures not_whole { WhenMemory result (self.new.whole ≡ false) }
+    {
+        self.whole = false;
+        Err(NetError::Memory)
+    }
+
+    /// A move of an object's group to a node by the operator. It is idle where the object or the node isn't there, or a
+    /// member of the group is fixed.
+    pub fn operator_move(&mut self, o: Oid, k: NodeNo) -> Result<Did, NetError>
+        requires whole { IsTrue self.old.whole }
+        ensures moved { IfOk result (λ did. ForShown rv_meaning self.old (λ c w. MoveAnswer rv_meaning c w o k self.new did)) }
+        ensures full { WhenFull result (λ node part need free. ForShown rv_meaning self.old (λ c w. EntryFull c w (OperatorMove w o k) node part need free)) }
+        ensures unchanged { WhenFull result (λ node part need free. self.new ≡ self.old) }
+        ensures not_whole { WhenMemory result (self.new.whole ≡ false) }
+    {
+        self.whole = false;
+        Err(NetError::Memory)
+    }
+}

@@ -1,0 +1,3 @@
+pub mod Statements
+pub mod Symbols
+pub mod Trees

@@ -1,0 +1,153 @@
+-- What a call of the program comes to.
+use Rattle.std.specs.Prelude.{◌≡◌, ◌≢◌, ℕ, zero, suc, ◌+◌, ◌<◌, ◌≤◌, ◌⊎◌, Bool, true, false, List, [], ◌∷◌, ◌++◌, map, length, take, Option, Some, None, slice_get, codes}
+use Rattle.ec_ast.specs.declared.Program.{Program}
+use Rattle.ec_world.specs.declared.node.NodeSpec.{NodeSpec}
+use Rattle.ec_world.specs.declared.run.Entry.{Entry}
+use Rattle.ec_world.specs.declared.run.RunEntry.{RunEntry}
+use Rattle.ec_world.specs.declared.run.RunEntry.TheVariants.{TurnOf, MoveOf}
+use Rattle.ec_world.specs.declared.run.RunEnd.{RunEnd}
+use Rattle.ec_world.specs.declared.run.RunEnd.TheVariants.{Finished, Stuck, Spent}
+use Rattle.ec_world.specs.declared.process.ProcStatus.{ProcStatus}
+use Rattle.ec_world.specs.declared.process.ProcStatus.TheVariants.{Failed}
+use Rattle.ec_world.specs.declared.world.World.{World}
+use Rattle.ec_world.specs.Group.{Has}
+use Rattle.ec_world.specs.Moves.{OperatorMove}
+use Rattle.ec_world.specs.Run.{RunState, Reaches, Run, end_of, next_entry, statuses_of, run_after}
+use Rattle.ec_meaning.specs.declared.activation.SourceActivation.{SourceActivation}
+use Rattle.ec_meaning.specs.Meaning.{source_meaning, source_silent, source_start}
+use Rattle.ec_ir.specs.declared.code.Parts.{Parts}
+use Rattle.ec_ir.specs.declared.activation.IrActivation.{IrActivation}
+use Rattle.ec_ir.specs.Meaning.{ir_meaning, ir_silent, ir_start}
+use Rattle.ec_lower.specs.Agreement.{Means}
+use Rattle.ec_nodes.specs.declared.room.Part.{Part}
+use Rattle.ec_outside.specs.Fault.{HasRisen}
+use Rattle.ec_outside.specs.Whole.{IsWhole, GrowsByFront}
+use Rattle.ec_network.specs.Shows.{Worlds}
+use Rattle.ec_network.specs.Room.{FullAt, Strings, FirstTexts, held}
+use Rattle.ec_network.specs.Worlds.{ir_action}
+use Rattle.ec_network.specs.Turns.{rooms_of, LoadFull}
+use Rattle.ec_network.specs.Net.{Net, Ran, counts_of}
+use Rattle.rv_codegen.specs.Meaning.{rv_meaning}
+use Rattle.ec_tool.specs.declared.status.Status.{Status}
+use Rattle.ec_tool.specs.declared.status.Status.TheVariants as statuses
+use Rattle.ec_tool.specs.Report.{report, load_report, ReportEnd, Ends, IsFull}
+use Rattle.ec_tool.specs.Inputs.{RunWords, WordsOf, IsSource, NodesOf, EntriesOf, default_budget, usage_line, later_line}
+
+-- ---- the run of a source, and that of its code
+
+abbrev pub SourceRun : Type 0
+SourceRun = RunState SourceActivation
+
+abbrev pub source_run : Program → ℕ → List Entry → ℕ → SourceRun
+source_run program n schedule k = run_after source_meaning (source_silent program) (source_start program n) schedule k
+
+abbrev pub ir_run : Parts → ℕ → List Entry → ℕ → RunState IrActivation
+ir_run ir n schedule k = run_after ir_meaning (ir_silent ir) (ir_start ir n) schedule k
+
+-- the world after the action of an entry: of a turn before the code behind the stop, and of a move after it
+abbrev pub after_action : Worlds → RunEntry → Worlds
+after_action w (TurnOf p) = ir_action w p
+after_action w (MoveOf o k) = OperatorMove w o k
+
+abbrev pub action_if : Worlds → Option RunEntry → Worlds
+action_if w None = w
+action_if w (Some e) = after_action w e
+
+-- the world after the action of the entry that follows k entries
+abbrev pub next_action : Parts → ℕ → List Entry → ℕ → Worlds
+next_action ir n schedule k =
+    let s = ir_run ir n schedule k in
+    action_if s.world (next_entry s.left (statuses_of s.world) s.last)
+
+-- the texts of the pool of a node after k entries: the literals and the strings of the first world, and the strings of
+-- the world after each action
+unfoldable pub PoolAfter : Parts → ℕ → List Entry → ℕ → ℕ → List ℕ → Type 0
+PoolAfter ir n schedule zero node text = FirstTexts ir (ir_start ir n) node text
+PoolAfter ir n schedule (suc k) node text = PoolAfter ir n schedule k node text ⊎ Strings ir (next_action ir n schedule k) node text
+
+-- the entry that follows k entries finds no room at a node
+abbrev pub NextFull : Parts → List NodeSpec → List Entry → ℕ → ℕ → Part → ℕ → ℕ → Type 0
+NextFull ir specs schedule k =
+    let n = length specs in
+    FullAt (rooms_of specs) (held (ir_run ir n schedule k).world) (held (next_action ir n schedule k)) (PoolAfter ir n schedule k) (Strings ir (next_action ir n schedule k))
+
+-- no entry before the k-th found a node full
+abbrev pub NoneFullBefore : Parts → List NodeSpec → List Entry → ℕ → Type 0
+NoneFullBefore ir specs schedule k = (j : ℕ) → j < k → (node need free : ℕ) (part : Part) → NextFull ir specs schedule j node part need free → ⊥
+
+-- how the run of a source comes to its end: it has ended after k entries, or the next one finds a node full while fewer
+-- are done than the budget and there is more to do
+pub data EndsAfter (program : Program) (ir : Parts) (specs : List NodeSpec) (schedule : List Entry) (budget k : ℕ) : ReportEnd → Type 0 where
+  ByItself : (how : RunEnd) → Run source_meaning (source_silent program) (source_start program (length specs)) schedule budget k (source_run program (length specs) schedule k) how → EndsAfter program ir specs schedule budget k (Ends how)
+  AsFull : (node need free : ℕ) (part : Part) → Reaches source_meaning (source_silent program) (source_start program (length specs)) schedule budget k (source_run program (length specs) schedule k) → end_of budget (source_run program (length specs) schedule k) ≡ None → NextFull ir specs schedule k node part need free → EndsAfter program ir specs schedule budget k (IsFull node part need free)
+
+-- ---- the status of an end
+
+abbrev pub any_failed : List ProcStatus → Bool
+any_failed [] = false
+any_failed (Failed cause line ∷ ss) = true
+any_failed (s ∷ ss) = any_failed ss
+
+abbrev pub finished_status : Bool → Status
+finished_status true = statuses.SomeFailed
+finished_status false = statuses.Finished
+
+abbrev pub status_of : List ProcStatus → ReportEnd → Status
+status_of ss (Ends Finished) = finished_status (any_failed ss)
+status_of ss (Ends Stuck) = statuses.Stuck
+status_of ss (Ends Spent) = statuses.Spent
+status_of ss (IsFull node part need free) = statuses.Full
+
+-- ---- a run on the network
+
+-- What is said of the run of an accepted source on nodes along a schedule: its status and its text. The text is the report
+-- of the run of the source's meaning, with the counts of the network; and turns of the network's own machine code lead
+-- along the same entries from the empty network to the one at the end.
+pub data RunsTo (program : Program) (specs : List NodeSpec) (schedule : List Entry) (budget : ℕ) (net net' : Net) : Status → List ℕ → Type 0 where
+  -- the load finds no room
+  LoadIsFull : (ir : Parts) (node need free : ℕ) (part : Part) → Means program ir → LoadFull ir specs node part need free → Ran rv_meaning ir specs net [] net' → RunsTo program specs schedule budget net net' statuses.Full (load_report specs (IsFull node part need free))
+  -- the load finds room, and so does each entry that is done
+  RanUntil : (ir : Parts) (k : ℕ) (how : ReportEnd) → Means program ir → ((node need free : ℕ) (part : Part) → LoadFull ir specs node part need free → ⊥) → NoneFullBefore ir specs schedule k → EndsAfter program ir specs schedule budget k how → Ran rv_meaning ir specs net (source_run program (length specs) schedule k).done net' → RunsTo program specs schedule budget net net' (status_of (statuses_of (source_run program (length specs) schedule k).world) how) (report (source_run program (length specs) schedule k).world specs (counts_of net') k how)
+
+-- ---- the call
+
+-- the three files of a run, by the words that name them
+pub data FileOf : Type 0 where
+  SourceFile : FileOf
+  NodesFile : FileOf
+  ScheduleFile : FileOf
+
+abbrev pub name_of_file : RunWords → FileOf → List ℕ
+name_of_file words SourceFile = words.source
+name_of_file words NodesFile = words.nodes
+name_of_file words ScheduleFile = words.schedule
+
+abbrev pub fault_line : FileOf → List ℕ
+fault_line SourceFile = codes "read fault source" ++ 10 ∷ []
+fault_line NodesFile = codes "read fault nodes" ++ 10 ∷ []
+fault_line ScheduleFile = codes "read fault schedule" ++ 10 ∷ []
+
+-- files are read up to this many bytes
+abbrev pub file_limit : ℕ
+file_limit = 1048577
+
+-- the three files were read whole
+pub record AreRead (content : List ℕ → Option (List ℕ)) (words : RunWords) (source nodes schedule : List ℕ) : Type 0 where
+  pub source_is : IsWhole (content words.source) file_limit source
+  pub nodes_are : IsWhole (content words.nodes) file_limit nodes
+  pub schedule_is : IsWhole (content words.schedule) file_limit schedule
+
+-- What a call comes to before anything is written: its status and its text, by the words, what the shelf tells, the counts
+-- of its faults before and after, and the network before and after. One case a row of the answers, each where no earlier
+-- one came.
+pub data Verdict (words : List (List ℕ)) (content : List ℕ → Option (List ℕ)) (faults faults' : List ℕ → ℕ) (net net' : Net) : Status → List ℕ → Type 0 where
+  NoCommand : WordsOf words ≡ None → net' ≡ net → Verdict words content faults faults' net net' statuses.Usage usage_line
+  ReadFailed : (run : RunWords) (file : FileOf) → WordsOf words ≡ Some run → HasRisen (faults (name_of_file run file)) (faults' (name_of_file run file)) → net' ≡ net → Verdict words content faults faults' net net' statuses.ReadFault (fault_line file)
+  SourceRefused : (run : RunWords) (source nodes schedule : List ℕ) → WordsOf words ≡ Some run → AreRead content run source nodes schedule → ((program : Program) → IsSource source program → ⊥) → net' ≡ net → Verdict words content faults faults' net net' statuses.SourceRefused later_line
+  InputRefused : (run : RunWords) (source nodes schedule : List ℕ) (program : Program) → WordsOf words ≡ Some run → AreRead content run source nodes schedule → IsSource source program → (NodesOf nodes ≡ None) ⊎ (EntriesOf schedule ≡ None) → net' ≡ net → Verdict words content faults faults' net net' statuses.InputRefused later_line
+  IsRun : (run : RunWords) (source nodes schedule : List ℕ) (program : Program) (specs : List NodeSpec) (entries : List Entry) (status : Status) (text : List ℕ) → WordsOf words ≡ Some run → AreRead content run source nodes schedule → IsSource source program → NodesOf nodes ≡ Some specs → EntriesOf schedule ≡ Some entries → RunsTo program specs entries default_budget net net' status text → Verdict words content faults faults' net net' status text
+
+-- what the call answers of a verdict: the status and the whole text written, or a fault of the sink and a front of it
+pub data Answers (taken taken' : List ℕ) (faults faults' : ℕ) (status : Status) (text : List ℕ) : Status → Type 0 where
+  Written : taken' ≡ taken ++ text → faults' ≡ faults → Answers taken taken' faults faults' status text status
+  Broken : GrowsByFront taken taken' text → HasRisen faults faults' → Answers taken taken' faults faults' status text statuses.WriteFault

@@ -1,0 +1,4 @@
+//! The whole program, from files to report.
+#![tactic(auto)]
+
+pub mod status;
