@@ -1,5 +1,5 @@
 -- A program of one object that prints hi keeps what programs keep.
-use Rattle.std.proofs.Common.{◌≡◌, ℕ, zero, suc, ◌+◌, List, [], ◌∷◌, Some, None, true, refl, sym, ap, ◌∙◌, subst, lit<, lit≤, inl}
+use Rattle.std.proofs.Common.{◌≡◌, ℕ, zero, suc, ◌+◌, List, [], ◌∷◌, ◌++◌, drop, Some, None, true, refl, sym, ap, ◌∙◌, subst, lit<, lit≤, inl}
 use Rattle.std.specs.Prelude.{slice_get}
 use Rattle.std.proofs.lemmas.Option.{same_Some}
 use Rattle.ec_world.specs.declared.value.ValueType.{ValueType}
@@ -13,7 +13,6 @@ use Rattle.ec_ir.specs.declared.code.StopRec.{StopRec}
 use Rattle.ec_ir.specs.declared.code.Operation.{Operation}
 use Rattle.ec_ir.specs.declared.code.Parts.{Parts}
 use Rattle.ec_ir.specs.Fine.{Fine, FineClass, FineOperation, FineOp, FineStop, AreVariables, Covers, GoesOn, one_of}
-use Rattle.std.proofs.Common.{◌++◌, drop}
 
 -- ---- each item of a list
 
