@@ -1,26 +1,25 @@
 -- A new owner, with a free block or none.
-use Rattle.std.proofs.Common.{◌≡◌, ◌≢◌, ℕ, zero, suc, ◌+◌, ◌*◌, ◌<◌, ◌≤◌, Bool, List, [], ◌∷◌, ◌++◌, length, Option, Some, None, refl, sym, ap, ◌∙◌, subst, arith, ◌⊎◌, inl, inr, ⊎_elim}
+use Rattle.std.proofs.Common.{◌≡◌, ◌≢◌, ℕ, zero, suc, ◌<◌, ◌≤◌, Bool, List, [], ◌∷◌, ◌++◌, length, Option, Some, None, refl, sym, ap, ◌∙◌, subst, arith, ◌⊎◌, inl, inr, ⊎_elim}
 use Rattle.std.specs.Prelude.{slice_get}
-use Rattle.std.specs.List.{AllByRecursion}
 use Rattle.byteorder.specs.Endian.{little_number}
 use Rattle.ec_base.proofs.Lists.{get_within}
 use Rattle.ec_world.specs.Group.{Has}
 use Rattle.ec_world.specs.declared.class.ClassNo.{ClassNo}
-use Rattle.ec_memory.specs.Store.{Store as Memory, IsWhole, SameLists, Takes, AreApart, IsApart, chain, store_byte}
+use Rattle.ec_memory.specs.Store.{Store as Memory, IsWhole, Takes, AreApart, store_byte}
 use Rattle.ec_memory.specs.Words.{block_word_at, global_word_at, word_in}
 use Rattle.ec_memory.proofs.Chains.{chain-one}
 use Rattle.ec_memory.proofs.Words.{word_there}
 use Rattle.ec_memory.proofs.Places.{block_word_there, block_word_even, global_word_even, same_block_word, block_global_apart, taken_bytes}
 use Rattle.ec_memory.proofs.Whole.{whole_same, whole_taken}
 use Rattle.ec_nodes.specs.declared.key.Key.{Key}
-use Rattle.ec_nodes.specs.Store.{Owned, Tidy, KeptRow}
+use Rattle.ec_nodes.specs.Store.{Owned, Tidy}
 use Rattle.ec_nodes.proofs.Put.{key_or_not}
 use Rattle.ec_frames.specs.declared.node.Row.{Row}
 use Rattle.ec_frames.specs.declared.node.NodeStore.{NodeStore}
 use Rattle.ec_frames.specs.Node.{store_of, row_of, owned_of, Laid}
-use Rattle.ec_frames.specs.Changes.{SameRest, Placed, Named}
+use Rattle.ec_frames.specs.Changes.{Placed, Named}
 use Rattle.ec_frames.specs.Words.{Written, word_at}
-use Rattle.ec_frames.proofs.Rows.{row_push_same, row_push_other, once_push, all_has, only_one, first_or}
+use Rattle.ec_frames.proofs.Rows.{row_push_same, row_push_other, once_push, all_has, only_one}
 
 -- ---- one row more, whose blocks were free, over a memory whose free blocks are fewer
 

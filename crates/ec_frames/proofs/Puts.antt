@@ -1,5 +1,5 @@
 -- What a call leaves of a node's tables is one owner changed.
-use Rattle.std.proofs.Common.{◌≡◌, ◌≢◌, ℕ, zero, suc, ◌+◌, ◌*◌, ◌/◌, ◌%◌, ◌<◌, ◌≤◌, Bool, List, [], ◌∷◌, length, Option, Some, None, refl, sym, ap, ◌∙◌, subst, arith, ◌⊎◌, inl, inr, ⊎_elim}
+use Rattle.std.proofs.Common.{◌≡◌, ◌≢◌, ℕ, zero, suc, ◌/◌, ◌%◌, ◌<◌, ◌≤◌, Bool, List, [], ◌∷◌, length, Option, Some, None, refl, sym, ap, ◌∙◌, subst, arith, ◌⊎◌, inl, inr, ⊎_elim}
 use Rattle.std.specs.Prelude.{slice_get, slice_set}
 use Rattle.ec_base.proofs.Lists.{get_within, get_set_same, get_set_other}
 use Rattle.ec_world.specs.declared.value.Value.{Value}
@@ -8,7 +8,7 @@ use Rattle.ec_world.specs.declared.object.MonitorRec.{MonitorRec}
 use Rattle.ec_world.specs.Group.{Has}
 use Rattle.ec_nodes.specs.declared.key.Key.{Key}
 use Rattle.ec_nodes.specs.Store.{Store, Owned, Stands, StandsAt, Tidy, Grown, KeptRow, word_in, word_of}
-use Rattle.ec_nodes.specs.Things.{Thing, Spells, Shown, Puts, row_size}
+use Rattle.ec_nodes.specs.Things.{Thing, Shown, Puts, row_size}
 use Rattle.ec_nodes.proofs.Kept.{stands_kept, shown_kept}
 use Rattle.ec_nodes.proofs.Put.{same_or_not}
 use Rattle.ec_frames.specs.Changes.{SameRest, SameTables, WritesWord, Placed, Named, Closed, OnlyTables}

@@ -1,5 +1,5 @@
 -- A node whose bytes or whose count alone has changed, as by a native run.
-use Rattle.std.proofs.Common.{◌≡◌, ℕ, ◌*◌, ◌<◌, ◌≤◌, List, length, Option, Some, refl, sym, ap, ◌∙◌, subst}
+use Rattle.std.proofs.Common.{◌≡◌, ℕ, ◌<◌, List, length, Some, refl, ap, ◌∙◌, subst}
 use Rattle.ec_world.specs.Group.{Has}
 use Rattle.ec_memory.specs.Store.{Store as Memory, SameLists}
 use Rattle.ec_memory.specs.Words.{block_word_at, global_word_at}

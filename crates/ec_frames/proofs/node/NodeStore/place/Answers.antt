@@ -1,4 +1,4 @@
-use Rattle.std.proofs.Common.{◌≡◌, ◌<◌, ◌++◌, [], ◌∷◌, List, ℕ, length, sym, ap, ◌∙◌, subst, arith}
+use Rattle.std.proofs.Common.{◌<◌, ◌++◌, [], ◌∷◌, List, ℕ, length, sym, ap, ◌∙◌, subst}
 use Rattle.ec_memory.proofs.Whole.{whole_taken}
 use Rattle.ec_frames.proofs.Placing.{placed, laid_placed, placed_within, taken_in}
 use Rattle.ec_frames.proofs.node.NodeStore.place.Goals as goal
