@@ -1,3 +1,4 @@
+pub mod Few
 pub mod Hello
 pub mod Literals
 pub mod Loops

@@ -1,5 +1,5 @@
 -- Where the words of a program's operations stand, and its stops.
-use Rattle.std.proofs.Common.{◌≡◌, ℕ, zero, suc, ◌+◌, ◌*◌, ◌<◌, ◌≤◌, List, [], ◌∷◌, length, take, Option, Some, None, refl, sym, ap, ◌∙◌, subst, arith, length-append}
+use Rattle.std.proofs.Common.{◌≡◌, ℕ, zero, suc, ◌+◌, ◌*◌, ◌<◌, ◌≤◌, List, [], ◌∷◌, length, take, map, Option, Some, None, refl, sym, ap, ◌∙◌, subst, arith, length-append}
 use Rattle.std.specs.Prelude.{slice_get}
 use Rattle.std.specs.List.{concat}
 use Rattle.std.proofs.lemmas.Option.{slice_get-get_or, get_or_from_slice_get, same_Some}
@@ -74,6 +74,20 @@ codes_get homes n start [] k c e = cc
 codes_get homes n start (x ∷ os) zero c e = (x, refl)
 codes_get homes n start (x ∷ os) (suc k) c e = codes_get homes (n + 1) (start + length (operation_words (homes_of homes n) x)) os k c e
 
+-- where there is no operation, nothing is said of one
+pub no_code : (homes : List (List Place)) (os : List Operation) (k : ℕ) → slice_get os k ≡ None → slice_get (operation_codes homes 0 0 os) k ≡ None
+no_code homes os k e = none_codes homes 0 0 os k e
+  where
+    none_codes : (homes : List (List Place)) (n start : ℕ) (os : List Operation) (k : ℕ) → slice_get os k ≡ None → slice_get (operation_codes homes n start os) k ≡ None
+    none_codes homes n start [] k e = refl
+    none_codes homes n start (x ∷ os) zero e = cc
+    none_codes homes n start (x ∷ os) (suc k) e = none_codes homes (n + 1) (start + length (operation_words (homes_of homes n) x)) os k e
+
+none_map : {A B : Type 0} (f : A → B) (xs : List A) (k : ℕ) → slice_get xs k ≡ None → slice_get (map f xs) k ≡ None
+none_map f [] k e = refl
+none_map f (x ∷ xs) zero e = cc
+none_map f (x ∷ xs) (suc k) e = none_map f xs k e
+
 -- ---- how long the code is
 
 pub before_size : (homes : List (List Place)) (n : ℕ) (os : List Operation) (k : ℕ) (o : Operation) → slice_get os k ≡ Some o → before (program_pieces homes n os) k + 3 * length o.code ≤ 3 * code_size os
@@ -143,6 +157,9 @@ module _ (program : Parts) (homes : List (List Place)) where
 
   pub row_at : (op : ℕ) (o : Operation) → operation_at program op ≡ Some o → slice_get (table_of homes codes).stops op ≡ Some (stop_row (start op) (homes_of homes op) o)
   row_at op o e = get_map (λ (c : OperationCode). c.stops) codes op (operation_code (start op) (homes_of homes op) o) (first_codes homes program.operations op o e)
+
+  pub no_row : (op : ℕ) → operation_at program op ≡ None → slice_get (table_of homes codes).stops op ≡ None
+  no_row op e = none_map (λ (c : OperationCode). c.stops) codes op (no_code homes program.operations op e)
 
   pub stop_is : (op at : ℕ) (o : Operation) (s : StopRec) → operation_at program op ≡ Some o → slice_get o.stops at ≡ Some s → stop_in (table_of homes codes) op at ≡ Some (pc_of (start op + before (pieces (homes_of homes op) o.code) s.place))
   stop_is op at o s e f =

@@ -15,12 +15,12 @@ use Rattle.ec_stops.specs.declared.table.Place.{Place}
 use Rattle.ec_stops.specs.declared.table.OperationCode.{OperationCode}
 use Rattle.ec_stops.specs.declared.table.Code.{Code}
 use Rattle.ec_stops.specs.Faithful.{Faithful, row_or_empty}
-use Rattle.rv_codegen.specs.Code.{before, operation_words, homes_of, program_pieces, operation_code, operation_codes, table_of, HasSlots, HasStops}
+use Rattle.rv_codegen.specs.Code.{before, operation_words, homes_of, program_pieces, operation_code, operation_codes, table_of, HasSlots, HasStops, SmallCode}
 use Rattle.rv_codegen.specs.Emit.{CanPut, CanPutAll, StopsWithin}
 use Rattle.rv_codegen.specs.Meaning.{rv_meaning}
 use Rattle.rv_codegen.proofs.Pieces.{concat_next, concat_all}
 use Rattle.rv_codegen.proofs.Places.{words, codes, first_codes, first_pieces, before_size}
-use Rattle.rv_codegen.proofs.Whole.{words_few, faithful, stops_kept}
+use Rattle.rv_codegen.proofs.Whole.{small, faithful, stops_kept}
 
 length_pieces : (homes : List (List Place)) (n : ℕ) (os : List Operation) → length (program_pieces homes n os) ≡ length os
 length_pieces homes n [] = refl
@@ -92,8 +92,10 @@ module _ (given program : Parts) (same : program ≡ given) (homes : List (List 
         (subst (λ x. Faithful rv_meaning (code x cs) (table_of homes cs) program) all_words
         (subst (λ y. Faithful rv_meaning (code (words program homes) y) (table_of homes y) program) all_codes (faithful program homes fine slots)))
 
-    pub end_few : length ws < 2 ^ 26
-    end_few = subst (λ x. length x < 2 ^ 26) all_words (words_few program homes fine slots)
+    pub end_small : SmallCode (table_of homes cs) (code ws cs)
+    end_small =
+        subst (λ x. SmallCode (table_of homes cs) (code x cs)) all_words
+        (subst (λ y. SmallCode (table_of homes y) (code (words program homes) y)) all_codes (small program homes fine slots))
 
     pub end_stops : HasStops (table_of homes cs) given
     end_stops = subst (HasStops (table_of homes cs)) same (subst (λ y. HasStops (table_of homes y) program) all_codes (stops_kept program homes fine slots))

@@ -32,16 +32,17 @@ use Rattle.ec_stops.specs.declared.table.Place.TheVariants.{Slot}
 use Rattle.ec_stops.specs.declared.table.Code.{Code}
 use Rattle.ec_stops.specs.declared.table.StopTable.{StopTable}
 use Rattle.ec_stops.specs.Machine.{block_at, in_block, owner_word_at}
-use Rattle.ec_stops.specs.Faithful.{Faithful, Fits, Arrives, LiveStand, HomeOf, HomeStands, WordStands, HasLiterals, words_if, first_saved, row_or_empty}
+use Rattle.ec_stops.specs.Faithful.{Faithful, Fits, Arrives, LiveStand, HomeOf, HomeStands, WordStands, HasLiterals, words_if, words_of, first_saved, row_or_empty}
 use Rattle.ec_target.specs.Code.{pc_of}
 use Rattle.rv_machine.specs.declared.machine.RvMachine.{RvMachine}
 use Rattle.rv_machine.proofs.Effects.{ecall_stops}
-use Rattle.rv_codegen.specs.Code.{op_words, pieces, before, operation_words, homes_of, program_pieces, table_of, HasSlots, HasStops}
+use Rattle.rv_codegen.specs.Code.{op_words, pieces, before, operation_words, homes_of, program_pieces, table_of, HasSlots, HasStops, SmallCode}
 use Rattle.rv_codegen.specs.Meaning.{rv_meaning}
 use Rattle.rv_codegen.proofs.Pieces.{get_append, before-next, before-all, get_map}
 use Rattle.rv_codegen.proofs.Literals.{slot_at}
 use Rattle.rv_codegen.proofs.Runs.{Held, Gets, gets}
-use Rattle.rv_codegen.proofs.Places.{stops_get, words, start, codes, first_codes, first_pieces, row_at, stop_is, stop_known, stands_at, stop_stands, stop_within, only_stops, stops_apart, code_short}
+use Rattle.rv_codegen.proofs.Places.{stops_get, words, start, codes, first_codes, first_pieces, row_at, stop_is, stop_known, stands_at, stop_stands, stop_within, only_stops, stops_apart, code_short, before_size, no_code, no_row}
+use Rattle.rv_codegen.proofs.Few.{few_stops}
 
 -- ---- members of lists
 
@@ -307,11 +308,37 @@ module _ (program : Parts) (homes : List (List Place)) (fine : Fine program) (sl
   -- ---- the table
 
   pub stops_kept : HasStops table program
-  stops_kept = record {
-    small = λ op at address e.
+  stops_kept = record { many = λ op o e. ap (λ row. length (row_or_empty row)) (row_at program homes op o e) ∙ length-map o.stops _ }
+
+  -- no operation is long, and none has many stops
+  row_few : (op : ℕ) (found : Option Operation) → operation_at program op ≡ found → length (row_or_empty (slice_get table.stops op)) < 2 ^ 32
+  row_few op (Some o) e =
+      let many = stops_kept.many op o e in
+      let few = few_stops program.classes program.globals program.literals op o (fine.operations op o e) in
+      let size = before_size homes 0 program.operations op o e in
+      let short = fine.short in
+      omega (arith, many, few, size, short)
+  row_few op None e =
+      let none = ap (λ row. length (row_or_empty row)) (no_row program homes op e) in
+      omega (arith, none)
+
+  operation_few : (op : ℕ) (found : Option Operation) → operation_at program op ≡ found → words_of made op < 2 ^ 26
+  operation_few op (Some o) e =
+      let count = ap words_if (first_codes homes program.operations op o e) in
+      let low = in_words op o e in
+      omega (arith, count, low)
+  operation_few op None e =
+      let none = ap words_if (no_code homes program.operations op e) in
+      omega (arith, none)
+
+  pub small : SmallCode table made
+  small = record {
+    stops = λ op at address e.
         let k = stop_known program homes op at address e in
         let within = stop_within program homes fine op at k.o k.s k.operation k.stop in
         let low = in_words op k.o k.operation in
         omega (arith, k.is, within, low);
-    many = λ op o e. ap (λ row. length (row_or_empty row)) (row_at program homes op o e) ∙ length-map o.stops _;
+    rows_few = λ op. row_few op (operation_at program op) refl;
+    words_few = words_few;
+    operations_few = λ op. operation_few op (operation_at program op) refl;
   }

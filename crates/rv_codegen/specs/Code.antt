@@ -11,8 +11,9 @@ use Rattle.ec_target.specs.Code.{pc_of}
 use Rattle.ec_stops.specs.declared.table.Place.{Place}
 use Rattle.ec_stops.specs.declared.table.Place.TheVariants.{Slot, Reg}
 use Rattle.ec_stops.specs.declared.table.OperationCode.{OperationCode}
+use Rattle.ec_stops.specs.declared.table.Code.{Code}
 use Rattle.ec_stops.specs.declared.table.StopTable.{StopTable}
-use Rattle.ec_stops.specs.Faithful.{row_or_empty, home_in, stop_in}
+use Rattle.ec_stops.specs.Faithful.{row_or_empty, home_in, stop_in, words_of}
 use Rattle.rv_machine.specs.Words.{i_word, s_word, u_word}
 use Rattle.rv_machine.specs.Parts.{high_of, low_of}
 
@@ -81,7 +82,14 @@ pub record HasSlots (table : StopTable) (program : Parts) : Type 0 where
   pub rows : length table.homes ≡ length program.operations
   pub each : (op x : ℕ) (o : Operation) → operation_at program op ≡ Some o → x < length o.variables → home_in table op x ≡ Some (Slot x)
 
--- the addresses of stops are numbers of 32 bits, as many for each operation as it has stops
+-- each operation has as many addresses as stops
 pub record HasStops (table : StopTable) (program : Parts) : Type 0 where
-  pub small : (op at address : ℕ) → stop_in table op at ≡ Some address → address < 2 ^ 32
   pub many : (op : ℕ) (o : Operation) → operation_at program op ≡ Some o → length (row_or_empty (slice_get table.stops op)) ≡ length o.stops
+
+-- the addresses of stops and of the words behind them, and the numbers of stops, are numbers of 32 bits; the code ends
+-- below the blocks
+pub record SmallCode (table : StopTable) (code : Code) : Type 0 where
+  pub stops : (op at address : ℕ) → stop_in table op at ≡ Some address → address + 4 < 2 ^ 32
+  pub rows_few : (op : ℕ) → length (row_or_empty (slice_get table.stops op)) < 2 ^ 32
+  pub words_few : length code.words < 2 ^ 26
+  pub operations_few : (op : ℕ) → words_of code op < 2 ^ 26

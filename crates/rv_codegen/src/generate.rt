@@ -1,8 +1,8 @@
 //! RISC-V code for a program.
-ghost use Rattle.std.specs.Prelude.{◌≡◌, ℕ, ◌<◌, ◌^◌, [], IfOk, length, map};
+ghost use Rattle.std.specs.Prelude.{◌≡◌, [], IfOk, map};
 ghost use Rattle.ec_stops.specs.declared.table.OperationCode.{OperationCode};
 ghost use Rattle.ec_stops.specs.Faithful.{Faithful};
-ghost use Rattle.rv_codegen.specs.Code.{table_of, HasSlots, HasStops};
+ghost use Rattle.rv_codegen.specs.Code.{table_of, HasSlots, HasStops, SmallCode};
 ghost use Rattle.rv_codegen.specs.Meaning.{rv_meaning};
 
 use crate::operation::put_operation;
@@ -29,7 +29,7 @@ pub struct Built {
 pub fn build(alloc: Global, program: &IrProgram) -> Result<Built, AllocError>
     ensures faithful { IfOk result (λ built. Faithful rv_meaning built.code built.table program.now) }
     ensures slots { IfOk result (λ built. HasSlots built.table program.now) }
-    ensures few { IfOk result (λ built. length built.code.words < 2 ^ 26) }
+    ensures small { IfOk result (λ built. SmallCode built.table built.code) }
     ensures stops { IfOk result (λ built. HasStops built.table program.now) }
 {
     let homes = assign(alloc, program, REGISTERS, SLOTS)?.homes;
@@ -45,7 +45,7 @@ pub fn build(alloc: Global, program: &IrProgram) -> Result<Built, AllocError>
 pub fn generate(alloc: Global, program: &IrProgram, homes: &Homes) -> Result<Code, AllocError>
     requires { HasSlots (table_of homes.now []) program.now }
     ensures faithful { IfOk result (λ code. Faithful rv_meaning code (table_of homes.now code.operations) program.now) }
-    ensures few { IfOk result (λ code. length code.words < 2 ^ 26) }
+    ensures small { IfOk result (λ code. SmallCode (table_of homes.now code.operations) code) }
     ensures stops { IfOk result (λ code. HasStops (table_of homes.now code.operations) program.now) }
 {
     let operations = &program.parts().operations;

@@ -1,5 +1,5 @@
 use Rattle.std.proofs.Common.{◌≤◌, length, arith}
-use Rattle.rv_codegen.proofs.Programs.{can_put, stops_within, room, words_on, codes_on, end_faithful, end_few, end_stops}
+use Rattle.rv_codegen.proofs.Programs.{can_put, stops_within, room, words_on, codes_on, end_faithful, end_small, end_stops}
 use Rattle.rv_codegen.proofs.generate.generate.Goals as goal
 
 pub put_operation-requires-clause-slots : goal.put_operation-requires-clause-slots
@@ -28,10 +28,10 @@ returns-clause-faithful c =
     end_faithful c.args.program.now c.parts.result.now c.parts.ensures.parts c.args.homes.now c.parts.ensures.fine c.requires
     c.loop-n.n c.loop-n.words c.loop-n.codes past c.loop-n.invariant.words c.loop-n.invariant.codes
 
-pub returns-clause-few : goal.returns-clause-few
-returns-clause-few c =
+pub returns-clause-small : goal.returns-clause-small
+returns-clause-small c =
     let past : length c.parts.result.now.operations ≤ c.loop-n.n = omega arith in
-    end_few c.args.program.now c.parts.result.now c.parts.ensures.parts c.args.homes.now c.parts.ensures.fine c.requires
+    end_small c.args.program.now c.parts.result.now c.parts.ensures.parts c.args.homes.now c.parts.ensures.fine c.requires
     c.loop-n.n c.loop-n.words c.loop-n.codes past c.loop-n.invariant.words c.loop-n.invariant.codes
 
 pub returns-clause-stops : goal.returns-clause-stops
