@@ -26,7 +26,8 @@ use Rattle.ec_network.specs.Room.{Strings}
 use Rattle.ec_network.specs.Room.Strings.{InField, InFrame, InConstant}
 use Rattle.ec_network.specs.Worlds.{ir_action}
 use Rattle.ec_network.specs.Turns.{SameMachines, SameCounts, SamePools, FaithfulImages}
-use Rattle.ec_network.specs.Holds.{HasSlots, SmallCode, Steady, Holds}
+use Rattle.rv_codegen.specs.Code.{SmallCode}
+use Rattle.ec_network.specs.Holds.{HasSlots, Steady, Holds}
 use Rattle.ec_network.specs.Kernel.{Becomes}
 use Rattle.ec_network.specs.Steps.{Outcome, AfterAction}
 use Rattle.ec_network.proofs.ActionsStores.{alone_net, alone_is}
@@ -92,7 +93,7 @@ module _ {S : Type 0} (M : MachineMeaning S) {net net' : Cluster} {w : Worlds} (
           fine = subst (λ (q : Parts). Fine q) (sym b.program) s.fine;
           faithful = subst (λ (q : Parts). FaithfulImages M q net'.images) (sym b.program) (subst (λ (i : Images). FaithfulImages M net.program i) (sym b.images) s.faithful);
           slots = subst (λ (q : Parts). HasSlots q net'.images.rv.table) (sym b.program) (subst (λ (i : Images). HasSlots net.program i.rv.table) (sym b.images) s.slots);
-          small = subst (λ (i : Images). SmallCode i.rv.table i.rv.code.words) (sym b.images) s.small;
+          small = subst (λ (i : Images). SmallCode i.rv.table i.rv.code) (sym b.images) s.small;
           node = node';
           one = b.after;
           riscv = b.kind ∙ node_riscv M net w p holds node b.before;

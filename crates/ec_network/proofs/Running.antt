@@ -62,6 +62,8 @@ module _ {S : Type 0} (M : MachineMeaning S) (traps : Trapping S) (net : Cluster
         address = stop.0;
         stop_is = stop.1;
         small = behind_small M net w p h node below top now stop.0 stop.1;
+        rows_few = now.steady.small.rows_few h.operation;
+        words_few = now.steady.small.operations_few h.operation;
         own = (now.own.block, record { row = own.0; there = own.1; first = own.2 });
         comes = comes stop.0 stop.1;
       }

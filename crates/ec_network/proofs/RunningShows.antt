@@ -36,7 +36,8 @@ use Rattle.ec_network.specs.Shows.{Worlds, Shows, stores, spot, place}
 use Rattle.ec_network.specs.Room.{Strings}
 use Rattle.ec_network.specs.Worlds.{FineProcess, FineStack, FineFacts, FineWorld}
 use Rattle.ec_network.specs.Turns.{SameMachines, SamePools, FaithfulImages, Landed, RunsAt, RunsOn, GoesOn}
-use Rattle.ec_network.specs.Holds.{HasSlots, SmallCode, Steady, Holds}
+use Rattle.rv_codegen.specs.Code.{SmallCode}
+use Rattle.ec_network.specs.Holds.{HasSlots, Steady, Holds}
 use Rattle.ec_network.proofs.ActionsLists.{set_end}
 use Rattle.ec_network.proofs.ActionsStores.{alone_net, alone_put, alone_is}
 use Rattle.ec_network.proofs.ActionsOrder.{ready_with, order_last, fine_stack}

@@ -9,6 +9,7 @@ use Rattle.ec_stops.specs.declared.table.Code.{Code}
 use Rattle.ec_stops.specs.declared.table.StopTable.{StopTable}
 use Rattle.ec_stops.specs.Machine.{MachineMeaning}
 use Rattle.ec_stops.specs.Faithful.{HasLiterals, home_in, stop_in, words_of}
+use Rattle.rv_codegen.specs.Code.{SmallCode}
 use Rattle.ec_frames.specs.declared.node.NodeStore.{NodeStore}
 use Rattle.ec_frames.specs.Node.{store_of}
 use Rattle.ec_network.specs.declared.cluster.Cluster.{Cluster}
@@ -19,12 +20,6 @@ use Rattle.ec_network.specs.Turns.{FaithfulImages}
 -- so far each variable of an operation has the slot of its number
 pub record HasSlots (program : Parts) (table : StopTable) : Type 0 where
   pub each : (op x : ℕ) (o : Operation) → slice_get program.operations op ≡ Some o → x < length o.variables → home_in table op x ≡ Some (Slot x)
-
--- the addresses of stops and of the words behind them are addresses; the code ends below the blocks
-pub record SmallCode (table : StopTable) (code : Code) : Type 0 where
-  pub stops : (op at address : ℕ) → stop_in table op at ≡ Some address → address + 4 < 2 ^ 32
-  pub words_few : length code.words < 2 ^ 26
-  pub operations_few : (op : ℕ) → words_of code op < 2 ^ 26
 
 module _ {S : Type 0} (M : MachineMeaning S) where
   -- what no entry changes; one node of one kind so far

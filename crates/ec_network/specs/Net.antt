@@ -22,7 +22,8 @@ use Rattle.ec_network.specs.Shows.{Worlds, stores}
 use Rattle.ec_network.specs.Room.{Strings, FullAt, NoneFull, held}
 use Rattle.ec_network.specs.Full.{rooms, Pools}
 use Rattle.ec_network.specs.Turns.{FaithfulImages, IsLoaded, LoadFull, Along}
-use Rattle.ec_network.specs.Holds.{Holds, HasSlots, SmallCode}
+use Rattle.rv_codegen.specs.Code.{SmallCode}
+use Rattle.ec_network.specs.Holds.{Holds, HasSlots}
 
 pub record Net : Type 0 where
   pub loaded : Option Cluster

@@ -1,5 +1,5 @@
 -- What the kernel needs to run the code behind the stop of the top frame, and what it leaves.
-use Rattle.std.specs.Prelude.{◌≡◌, ℕ, suc, ◌+◌, ◌^◌, ◌<◌, ◌≤◌, List, [], ◌∷◌, Some}
+use Rattle.std.specs.Prelude.{◌≡◌, ℕ, suc, ◌+◌, ◌^◌, ◌<◌, ◌≤◌, List, [], ◌∷◌, length, Some, slice_get}
 use Rattle.byteorder.specs.Endian.{little_number}
 use Rattle.ec_base.specs.Bytes.{Bytes}
 use Rattle.ec_memory.specs.Store.{store_byte, SameLists}
@@ -7,7 +7,7 @@ use Rattle.ec_target.specs.Runs.{Native, Leads, Halts, IsEnd, Trapping, IsOneWay
 use Rattle.ec_stops.specs.declared.table.Code.{Code}
 use Rattle.ec_stops.specs.declared.table.StopTable.{StopTable}
 use Rattle.ec_stops.specs.Machine.{MachineMeaning, block_at}
-use Rattle.ec_stops.specs.Faithful.{stop_in, words_of}
+use Rattle.ec_stops.specs.Faithful.{row_or_empty, stop_in, words_of}
 use Rattle.ec_nodes.specs.declared.key.Key.TheVariants.{Object}
 use Rattle.ec_nodes.specs.Store.{Store}
 use Rattle.ec_frames.specs.declared.node.NodeStore.{NodeStore}
@@ -49,6 +49,8 @@ pub record CanGoOn {S : Type 0} (M : MachineMeaning S) (net : Cluster) (h : Here
   pub address : ℕ
   pub stop_is : stop_in net.images.rv.table h.operation h.at ≡ Some address
   pub small : address + 4 < 2 ^ 32
+  pub rows_few : length (row_or_empty (slice_get net.images.rv.table.stops h.operation)) < 2 ^ 32
+  pub words_few : words_of net.images.rv.code h.operation < 2 ^ 26
   pub own : HasBlock (store_of node) (Object h.own)
   pub comes : (b : ℕ) (s : S) → FirstBlock (store_of node) (Object h.own) b → StandsBehind M s address h.block b → ComesToStop M net.images.rv.code net.images.rv.table h.operation s (store_byte node.memory)
 

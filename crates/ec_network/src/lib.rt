@@ -3,5 +3,6 @@
 
 mod cluster;
 mod kernel;
+mod native;
 pub mod image;
 pub mod network;
