@@ -85,12 +85,20 @@ frame_found net w p d node xs a shows one is at =
 
 -- ---- the top frame
 
+-- the top frame is this activation's
+pub record HereOf (net : Cluster) (p : ℕ) (top : IrActivation) : Type 0 where
+  pub here : Here
+  pub is : IsHere net p here
+  pub operation : here.operation ≡ top.operation
+  pub at : here.at ≡ top.at
+
 -- where process p has these activations, its top frame is the last one's
-pub here_at : {S : Type 0} (M : MachineMeaning S) (net : Cluster) (w : Worlds) (p : ℕ) (below : List IrActivation) (top : IrActivation) → Steady M net → Shows net w → slice_get w.processes p ≡ Some (ready_with (below ++ top ∷ [])) → (h : Here) × IsHere net p h
+pub here_at : {S : Type 0} (M : MachineMeaning S) (net : Cluster) (w : Worlds) (p : ℕ) (below : List IrActivation) (top : IrActivation) → Steady M net → Shows net w → slice_get w.processes p ≡ Some (ready_with (below ++ top ∷ [])) → HereOf net p top
 here_at M net w p below top steady shows is =
-    let f = frame_found net w p (length below) steady.node (below ++ top ∷ []) top shows steady.one is (get_end below top) in (
-      record { depth = length below; block = f.block; operation = top.operation; at = top.at; own = top.own },
-      record {
+    let f = frame_found net w p (length below) steady.node (below ++ top ∷ []) top shows steady.one is (get_end below top) in
+    record {
+      here = record { depth = length below; block = f.block; operation = top.operation; at = top.at; own = top.own };
+      is = record {
         node = steady.node;
         one = steady.one;
         laid = laid_one net w steady.node shows steady.one;
@@ -105,14 +113,17 @@ here_at M net w p below top steady shows is =
         operation = f.heads 2 top.operation refl;
         at = f.heads 3 top.at refl;
         own = f.heads 5 top.own refl;
-      },
-    )
+      };
+      operation = refl;
+      at = refl;
+    }
 
 -- between two turns
 pub here_exists : {S : Type 0} (M : MachineMeaning S) (net : Cluster) (w : Worlds) (p : ℕ) → Holds M net w → status_at w p ≡ Some Ready → (h : Here) × IsHere net p h
 here_exists M net w p holds ready =
     let r = ready_top net.program w p holds.fine ready in
-    here_at M net w p r.below r.top holds.steady holds.shows r.is
+    let h = here_at M net w p r.below r.top holds.steady holds.shows r.is in
+    (h.here, h.is)
 
 -- in the middle of a turn
 pub here_middle : {S : Type 0} (M : MachineMeaning S) (net : Cluster) (w : Worlds) (p : ℕ) → Shows net w → FineMiddle net.program w p → Steady M net → (h : Here) × IsHere net p h
@@ -121,7 +132,8 @@ here_middle M net w p shows middle steady =
     let stack = middle.stack in
     let parts : xs ≡ below_of xs ++ stack.top ∷ [] = stack_parts xs stack.top stack.top_is in
     let is : slice_get w.processes p ≡ Some (ready_with xs) = middle.is ∙ ap (λ (s : ProcStatus). Some (record { activations = xs; status = s })) middle.ready in
-    here_at M net w p (below_of xs) stack.top steady shows (is ∙ ap (λ (ys : List IrActivation). Some (ready_with ys)) parts)
+    let h = here_at M net w p (below_of xs) stack.top steady shows (is ∙ ap (λ (ys : List IrActivation). Some (ready_with ys)) parts) in
+    (h.here, h.is)
 
 -- ---- there is one top frame alone
 
@@ -142,8 +154,8 @@ same_here net p h g x y =
     let blocks : h.block ∷ [] ≡ g.block ∷ [] = sym x.block ∙ ap (λ (r : Owned). r.blocks) row ∙ y.block in
     let block : h.block ≡ g.block = cc in
     let word : (i m n : ℕ) → (store_of x.node).word h.block i ≡ Some m → (store_of y.node).word g.block i ≡ Some n → m ≡ n = λ i m n e f.
-        let there : (store_of y.node).word g.block i ≡ Some m = ap (λ (b : ℕ). (store_of y.node).word b i) (sym block) ∙ ap (λ (s : NodeStore). (store_of s).word h.block i) (sym node) ∙ e in
-        cc in
+    let there : (store_of y.node).word g.block i ≡ Some m = ap (λ (b : ℕ). (store_of y.node).word b i) (sym block) ∙ ap (λ (s : NodeStore). (store_of s).word h.block i) (sym node) ∙ e in
+    cc in
     record {
       depth = depth;
       block = block;

@@ -2,6 +2,6 @@
 #![tactic(auto)]
 
 mod cluster;
-mod kernel;
 pub mod image;
+mod kernel;
 pub mod network;
