@@ -129,7 +129,7 @@ module _ {S : Type 0} (M : MachineMeaning S) (net : Cluster) (w : Worlds) (p : �
     pub arrives_here : (s : S) (address : ℕ) → stop_in net.images.rv.table h.operation h.at ≡ Some address → StandsBehind M s address h.block now.own.block → Arrives M net.program net.images.rv.table (store_of node).local (store_of node).text net.images.rv.code h.block now.own.row.blocks (settled net.program top (Some now.at.done.at)) now.own.object.fields s (store_byte node.memory)
     arrives_here s address is stands =
         now.steady.faithful.rv.runs (store_of node).local (store_of node).text p h.depth h.block now.own.row.blocks top now.at.done.at now.own.object.fields w.common.globals s (store_byte node.memory)
-        one_to_one literals_here now.at.done.rests.at_is now.at.done.code now.at.done.done now.at.done.given now.at.done.rests.typed now.middle.facts.globals (fits_here s address is stands)
+            one_to_one literals_here now.at.done.rests.at_is now.at.done.code now.at.done.done now.at.done.given now.at.done.rests.typed now.middle.facts.globals (fits_here s address is stands)
 
     -- in few steps
     pub halts_here : (traps : Trapping S) → IsOneWay (M.goes net.images.rv.code.words) → AreApart (M.goes net.images.rv.code.words) (M.stops net.images.rv.code.words) traps → words_of net.images.rv.code h.operation < 2 ^ 32 → (s : S) (address : ℕ) → stop_in net.images.rv.table h.operation h.at ≡ Some address → StandsBehind M s address h.block now.own.block → Halts (M.goes net.images.rv.code.words) s (store_byte node.memory)

@@ -73,8 +73,8 @@ module _ {S : Type 0} (M : MachineMeaning S) (net : Cluster) (w : Worlds) (p : �
         (λ (second : i ≢ 4).
         let short : i < 6 = get_within (heads_of p (length below) after) i n e in
         let before : slice_get (heads_of p (length below) top) i ≡ Some n =
-        head_of_two p (length below) top.operation top.at (if top.pending then 1 else 0) top.own after.operation after.at (if after.pending then 1 else 0) after.own i n
-        (next_operation M net w p h node below top now) (next_own M net w p h node below top now) first second e in
+            head_of_two p (length below) top.operation top.at (if top.pending then 1 else 0) top.own after.operation after.at (if after.pending then 1 else 0) after.own i n
+                (next_operation M net w p h node below top now) (next_own M net w p h node below top now) first second e in
         landed.other_heads i (omega arith) first second
         ∙ left_alone (block_word_at h.block i) n (head_same M.number h.block (store_byte node.memory) memory ends.only i (omega arith)) (now.at.frame.heads i n before))
         (same_or_not i 4))
@@ -89,7 +89,7 @@ module _ {S : Type 0} (M : MachineMeaning S) (net : Cluster) (w : Worlds) (p : �
         let slot : home_in net.images.rv.table after.operation x ≡ Some (Slot x) = now.steady.slots.each after.operation x v.operation v.is low in
         let same : z.home ≡ Slot x = cc (z.is) in
         let holds : HomeStands M net.program net.images.rv.table (store_of node).local (store_of node).text h.block to memory (Slot x) (variable after.variables x) =
-        subst (λ (hm : Place). HomeStands M net.program net.images.rv.table (store_of node).local (store_of node).text h.block to memory hm (variable after.variables x)) same z.holds in
+            subst (λ (hm : Place). HomeStands M net.program net.images.rv.table (store_of node).local (store_of node).text h.block to memory hm (variable after.variables x)) same z.holds in
         record {
           word = holds.1.word;
           there = landed.slots (first_slot + x) (omega arith) (omega arith) ∙ holds.1.there;
@@ -116,8 +116,8 @@ module _ {S : Type 0} (M : MachineMeaning S) (net : Cluster) (w : Worlds) (p : �
           let low : b < node.blocks = now.at.laid.rows_in other r b is has in
           let few = now.at.laid.few_blocks in
           let off : b ≢ h.block = λ same.
-          let mine : Has now.at.frame.row.blocks b = record { at = 0; is = ap (λ (bs : List ℕ). slice_get bs 0) now.at.frame.blocks ∙ ap Some (sym same) } in
-          ne (now.at.laid.tidy.apart other (Frame p (length below)) r now.at.frame.row b is now.at.frame.there has mine) in
+              let mine : Has now.at.frame.row.blocks b = record { at = 0; is = ap (λ (bs : List ℕ). slice_get bs 0) now.at.frame.blocks ∙ ap Some (sym same) } in
+              ne (now.at.laid.tidy.apart other (Frame p (length below)) r now.at.frame.row b is now.at.frame.there has mine) in
           landed.others b i (omega arith) l off
           ∙ block_same M.number h.block (store_byte node.memory) memory ends.only b i l off
           ∙ ap (λ (f : ℕ → List ℕ → ℕ). word_in f (store_byte node.memory) (block_word_at b i)) number;

@@ -89,7 +89,7 @@ module _ {S : Type 0} (M : MachineMeaning S) (net : Cluster) (w : Worlds) (p : �
   stack_after : FineStack net.program w.common.nodes (length w.common.objects) (below ++ after ∷ [])
   stack_after =
       fine_stack net.program w.common.nodes (length w.common.objects) below after (next_pending M net w p h node below top now)
-      (order_last net.program w.common.nodes (length w.common.objects) below top after (next_operation M net w p h node below top now) now.at.order)
+          (order_last net.program w.common.nodes (length w.common.objects) below top after (next_operation M net w p h node below top now) now.at.order)
 
   facts_after : FineFacts net.program w'
   facts_after = record {
@@ -163,7 +163,8 @@ module _ {S : Type 0} (M : MachineMeaning S) (net : Cluster) (w : Worlds) (p : �
           each k s s' text e e' =
               let z = alone_is (stores net') (store_of node') (alone_net net' node' c.after) k s' e' in
               let old : stores net k ≡ Some (store_of node) = ap (stores net) z.0 ∙ (alone_net net node now.one).here in
-              let both = pools.each k s (store_of node) text e old in (
+              let both = pools.each k s (store_of node) text e old in
+              (
                 λ g. both.0 (g.0, sym (same_text g.0) ∙ ap (λ (x : Store). x.text g.0) (sym z.1) ∙ g.1),
                 λ g. let b = both.1 g in (b.0, ap (λ (x : Store). x.text b.0) z.1 ∙ same_text b.0 ∙ b.1),
               )
@@ -172,10 +173,10 @@ module _ {S : Type 0} (M : MachineMeaning S) (net : Cluster) (w : Worlds) (p : �
       nodes_after : ShowsNodes (live_values net.program) (spot net.program net.images) (stores net') w' (place w)
       nodes_after =
           one_changed (live_values net.program) (spot net.program net.images) (place w) (stores net) (stores net') 0 (store_of node) (store_of node') w w' (Frame p (length below)) (Some (frame_thing (live_values net.program) (spot net.program net.images) p (length below) after))
-          now.shows.nodes
-          (alone_put (stores net) (stores net') (store_of node) (store_of node') (alone_net net node now.one) (alone_net net' node' c.after))
-          (run_puts M net w p h node below top now number k to memory ends node' landed c.kind c.blocks c.laid)
-          (stepped (live_values net.program) (spot net.program net.images) (place w) w w.common (record { objects = refl; globals = refl }) p (ready_with (below ++ top ∷ [])) (ready_with (below ++ after ∷ [])) now.at.is (length below) top after 0 (get_end below top) (sym (set_end below top after)) (next_own M net w p h node below top now) now.at.home)
+              now.shows.nodes
+              (alone_put (stores net) (stores net') (store_of node) (store_of node') (alone_net net node now.one) (alone_net net' node' c.after))
+              (run_puts M net w p h node below top now number k to memory ends node' landed c.kind c.blocks c.laid)
+              (stepped (live_values net.program) (spot net.program net.images) (place w) w w.common (record { objects = refl; globals = refl }) p (ready_with (below ++ top ∷ [])) (ready_with (below ++ after ∷ [])) now.at.is (length below) top after 0 (get_end below top) (sym (set_end below top after)) (next_own M net w p h node below top now) now.at.home)
 
       shows_run : Shows net' w'
       shows_run = record {

@@ -82,7 +82,7 @@ module _ {S : Type 0} (M : MachineMeaning S) (net : Cluster) (w : Worlds) (p : �
     frame_is : FrameStands net.program (store_of node) p (length below) h.block top
     frame_is =
         frame_at net.program net.images (stores net) (store_of node) w (place w) p (length below) h.block (below ++ top ∷ []) top here.row
-        steady.slots (steady_riscv M net node steady one) shows.nodes (alone_net net node one) variables_of is (get_end below top) row_is here.block
+            steady.slots (steady_riscv M net node steady one) shows.nodes (alone_net net node one) variables_of is (get_end below top) row_is here.block
 
     read_done : TopDone net w p h node below top
     read_done = record {
@@ -109,7 +109,8 @@ module _ {S : Type 0} (M : MachineMeaning S) (net : Cluster) (w : Worlds) (p : �
       let stack = middle.stack in
       let parts : xs ≡ below_of xs ++ stack.top ∷ [] = stack_parts xs stack.top stack.top_is in
       let is : slice_get w.processes p ≡ Some (ready_with xs) = middle.is ∙ ap (λ (s : ProcStatus). Some (record { activations = xs; status = s })) middle.ready in
-      let order : InOrder net.program w.common.nodes (length w.common.objects) xs = record { bottom = stack.bottom; upper = stack.upper; waiting = stack.waiting } in (
+      let order : InOrder net.program w.common.nodes (length w.common.objects) xs = record { bottom = stack.bottom; upper = stack.upper; waiting = stack.waiting } in
+      (
         below_of xs,
         stack.top,
         read_done (below_of xs) stack.top
@@ -178,15 +179,12 @@ pub record GoingOn {S : Type 0} (M : MachineMeaning S) (net : Cluster) (w : Worl
 
 pub going_on : {S : Type 0} (M : MachineMeaning S) (net : Cluster) (w : Worlds) (p : ℕ) (h : Here) (node : NodeStore) → Steady M net → Shows net w → FineMiddle net.program w p → IsHere net p h → net.nodes ≡ node ∷ [] → (below : List IrActivation) × (top : IrActivation) × GoingOn M net w p h node below top
 going_on M net w p h node steady shows middle here one =
-    let t = top_is M net w p h node steady shows middle here one in (
-      t.0,
-      t.1,
-      record {
-        steady = steady;
-        shows = shows;
-        middle = middle;
-        one = one;
-        at = t.2;
-        own = own_of_done net w p h node t.0 t.1 shows middle.facts one t.2;
-      },
-    )
+    let t = top_is M net w p h node steady shows middle here one in
+    (t.0, t.1, record {
+      steady = steady;
+      shows = shows;
+      middle = middle;
+      one = one;
+      at = t.2;
+      own = own_of_done net w p h node t.0 t.1 shows middle.facts one t.2;
+    })

@@ -147,12 +147,12 @@ module _ (program : Parts) (nodes objects : ℕ) (a : IrActivation) (d : IsDone 
           let f = fine.operations a.operation o e in
           let covers : Covers o.stops (d.at.live ++ one_of d.at.into) (drop (d.at.place + 1) o.code) = goes_on d.at.stop (Covers o.stops (d.at.live ++ one_of d.at.into) (drop (d.at.place + 1) o.code)) d.code (f.covered a.at d.at there) in
           let typed : (v : ℕ) → IsIn v (d.at.live ++ one_of d.at.into) → TypedAt o.variables a.variables v = λ v h.
-          let g : Has (live_variables program a) v = subst (λ (xs : List ℕ). Has xs v) (sym live_given) (has_of (d.at.live ++ one_of d.at.into) v h) in
-          let t = d.rests.typed.each v g in
-          (t.0, ap (λ (q : Option Operation). slice_get (types_of q) v) (sym e) ∙ t.1, t.2) in
+              let g : Has (live_variables program a) v = subst (λ (xs : List ℕ). Has xs v) (sym live_given) (has_of (d.at.live ++ one_of d.at.into) v h) in
+              let t = d.rests.typed.each v g in
+              (t.0, ap (λ (q : Option Operation). slice_get (types_of q) v) (sym e) ∙ t.1, t.2) in
           let each : (i : ℕ) (op : IrOp) → slice_get (drop (d.at.place + 1) o.code) i ≡ Some op → WritesText program.literals o.variables op = λ i op g.
-          let j = had_before (d.at.place + 1) o.code i op g in
-          writes_text program.literals o j.0 op (f.code j.0 op j.1) in
+              let j = had_before (d.at.place + 1) o.code i op g in
+              writes_text program.literals o j.0 op (f.code j.0 op j.1) in
           let r = reaches program.literals o.variables o.stops (drop (d.at.place + 1) o.code) a.variables (d.at.live ++ one_of d.at.into) each covers typed in
           record {
             operation = o;

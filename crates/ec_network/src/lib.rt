@@ -2,6 +2,7 @@
 #![tactic(auto)]
 
 mod cluster;
-pub mod image;
 mod kernel;
+pub mod image;
 pub mod network;
+mod readers;
