@@ -11,3 +11,4 @@ pub mod Answers
 pub mod Can
 pub mod Running
 pub mod Native
+pub mod Readers

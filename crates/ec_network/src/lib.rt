@@ -6,3 +6,4 @@ mod kernel;
 mod native;
 pub mod image;
 pub mod network;
+mod readers;
