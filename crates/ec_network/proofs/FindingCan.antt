@@ -1,6 +1,6 @@
 -- The kernel finds what it needs for the action of a Ready process.
-use Rattle.std.proofs.Common.{◌≡◌, ◌≢◌, ℕ, zero, suc, ◌+◌, ◌-◌, ◌^◌, ◌<◌, ◌≤◌, ◌==◌, Bool, true, false, List, [], ◌∷◌, ◌++◌, length, Option, Some, None, refl, sym, ap, ◌∙◌, subst, arith, ⊎_elim}
-use Rattle.std.specs.Prelude.{slice_get, map, if◌then◌else◌}
+use Rattle.std.proofs.Common.{◌≡◌, ℕ, zero, suc, ◌+◌, ◌-◌, ◌^◌, ◌<◌, ◌≤◌, ◌==◌, Bool, true, false, List, [], ◌∷◌, ◌++◌, length, Option, Some, None, refl, sym, ap, ◌∙◌, subst, arith, ⊎_elim}
+use Rattle.std.specs.Prelude.{slice_get, if◌then◌else◌}
 use Rattle.std.proofs.lemmas.Grind.{common_steps}
 use Rattle.ec_base.specs.Stack.{top_of, below_of}
 use Rattle.ec_base.proofs.Lists.{get_within, get_there}
@@ -8,40 +8,35 @@ use Rattle.ec_base.proofs.Stacks.{top_of-push, top_of_none, stack_parts}
 use Rattle.ec_world.specs.declared.value.Value.{Value}
 use Rattle.ec_world.specs.declared.value.Value.TheVariants.{Int, Str, Ref, Nil, Bool as Truth}
 use Rattle.ec_world.specs.declared.value.ValueType.{ValueType}
-use Rattle.ec_world.specs.declared.value.ValueType.TheVariants.{Integer, Boolean, Bytes, Reference}
+use Rattle.ec_world.specs.declared.value.ValueType.TheVariants.{Bytes, Reference}
 use Rattle.ec_world.specs.declared.class.ClassNo.{ClassNo}
 use Rattle.ec_world.specs.declared.class.ClassNo.TheVariants.{Node, Program, Made}
 use Rattle.ec_world.specs.declared.class.ClassRec.{ClassRec}
-use Rattle.ec_world.specs.declared.object.ObjectRec.{ObjectRec}
 use Rattle.ec_world.specs.declared.stop.Stop.{Stop}
 use Rattle.ec_world.specs.declared.stop.Stop.TheVariants.{Entry, New, Return, Print, Global, End}
-use Rattle.ec_world.specs.declared.process.ProcStatus.{ProcStatus}
 use Rattle.ec_world.specs.declared.process.ProcStatus.TheVariants.{Ready}
-use Rattle.ec_world.specs.declared.process.Proc.{Proc}
 use Rattle.ec_world.specs.Group.{Has}
 use Rattle.ec_ir.specs.declared.code.StopRec.{StopRec}
-use Rattle.ec_ir.specs.declared.code.Parts.{Parts}
 use Rattle.ec_ir.specs.declared.code.Operation.{Operation}
 use Rattle.ec_ir.specs.declared.activation.IrActivation.{IrActivation}
 use Rattle.ec_ir.specs.Meaning.{stop_at, types_of, variable, live_values}
 use Rattle.ec_ir.specs.Fine.{HasType, HaveTypes, FineStop, FineNew, FineReturn, FineEnd, HasCode}
 use Rattle.ec_stops.specs.Machine.{MachineMeaning}
-use Rattle.ec_stops.specs.Faithful.{first_slot}
 use Rattle.ec_nodes.specs.declared.key.Key.{Key}
 use Rattle.ec_nodes.specs.declared.key.Key.TheVariants.{Object, Frame}
-use Rattle.ec_nodes.specs.Store.{Store, Owned, Stands}
-use Rattle.ec_nodes.specs.Things.{Thing, things_of, object_if, frame_if}
+use Rattle.ec_nodes.specs.Store.{Owned, Stands}
+use Rattle.ec_nodes.specs.Things.{things_of, object_if, frame_if}
 use Rattle.ec_nodes.specs.Held.{total, if_at, frame_weight, process_weight}
 use Rattle.ec_nodes.proofs.Procs.{activation_is, get_end, get_past}
 use Rattle.ec_frames.specs.declared.node.NodeStore.{NodeStore}
 use Rattle.ec_frames.specs.Node.{store_of}
 use Rattle.ec_network.specs.declared.cluster.Cluster.{Cluster}
 use Rattle.ec_network.specs.declared.kernel.Here.{Here}
-use Rattle.ec_network.specs.Shows.{Worlds, Shows, stores, spot, place}
-use Rattle.ec_network.specs.Worlds.{FineStack, FineFacts, RestsAt, IsWaiting, status_at}
+use Rattle.ec_network.specs.Shows.{Worlds, Shows, spot, place}
+use Rattle.ec_network.specs.Worlds.{FineStack, RestsAt, status_at}
 use Rattle.ec_network.specs.Holds.{Holds}
 use Rattle.ec_network.specs.Kernel.{IsHere}
-use Rattle.ec_network.specs.Can.{CanReadSlot, CanDefineFrom, CanPrint, CanDefine, CanCreate, CanReturn, CanMake, CanLeave, CanDo, CanAct}
+use Rattle.ec_network.specs.Can.{CanPrint, CanDefine, CanCreate, CanReturn, CanMake, CanLeave, CanDo, CanAct}
 use Rattle.ec_network.proofs.ActionsLists.{length_end, end_or, get_left}
 use Rattle.ec_network.proofs.ActionsStores.{alone_net}
 use Rattle.ec_network.proofs.ActionsFrames.{operand_live}

@@ -1,7 +1,7 @@
 -- The frame of each activation is there, and so the top frame of a process that goes on.
-use Rattle.std.proofs.Common.{◌≡◌, ℕ, zero, suc, ◌+◌, ◌<◌, ◌≤◌, List, [], ◌∷◌, ◌++◌, length, Option, Some, None, refl, sym, ap, ◌∙◌, arith}
+use Rattle.std.proofs.Common.{◌≡◌, ℕ, zero, suc, ◌<◌, List, [], ◌∷◌, ◌++◌, length, Some, refl, sym, ap, ◌∙◌, arith}
 use Rattle.std.specs.Prelude.{slice_get, map}
-use Rattle.ec_base.specs.Stack.{top_of, below_of}
+use Rattle.ec_base.specs.Stack.{below_of}
 use Rattle.ec_base.proofs.Lists.{get_within}
 use Rattle.ec_base.proofs.Stacks.{stack_parts}
 use Rattle.ec_world.specs.declared.process.ProcStatus.{ProcStatus}
