@@ -1,10 +1,10 @@
 -- An owner of one block goes.
-use Rattle.std.proofs.Common.{◌≡◌, ◌≢◌, ℕ, zero, suc, ◌+◌, ◌<◌, ◌≤◌, List, [], ◌∷◌, ◌++◌, length, Option, Some, None, refl, sym, ap, ◌∙◌, subst, arith, ◌⊎◌, inl, inr, ⊎_elim}
+use Rattle.std.proofs.Common.{◌≡◌, ◌≢◌, ℕ, ◌+◌, ◌<◌, ◌≤◌, List, [], ◌∷◌, ◌++◌, length, Some, None, refl, sym, ap, ◌∙◌, subst, arith, ⊎_elim}
 use Rattle.std.specs.Prelude.{slice_get}
 use Rattle.std.specs.List.{AllByRecursion, remove}
 use Rattle.byteorder.specs.Endian.{little_number}
 use Rattle.ec_world.specs.Group.{Has}
-use Rattle.ec_memory.specs.Store.{Store as Memory, IsWhole, Gives, AreApart, IsApart, chain, store_byte}
+use Rattle.ec_memory.specs.Store.{Store as Memory, Gives, AreApart, chain, store_byte}
 use Rattle.ec_memory.specs.Words.{block_word_at, global_word_at, word_in}
 use Rattle.ec_memory.proofs.Chains.{chain-one}
 use Rattle.ec_memory.proofs.Places.{given_bytes}
@@ -16,7 +16,7 @@ use Rattle.ec_frames.specs.declared.node.Row.{Row}
 use Rattle.ec_frames.specs.declared.node.NodeStore.{NodeStore}
 use Rattle.ec_frames.specs.Node.{store_of, row_of, owned_of, Laid}
 use Rattle.ec_frames.specs.Changes.{Closed}
-use Rattle.ec_frames.specs.Owners.{FirstBlock, HasBlock, HasOneBlock, StandsAtPlace}
+use Rattle.ec_frames.specs.Owners.{FirstBlock, HasOneBlock, StandsAtPlace}
 use Rattle.ec_frames.proofs.Rows.{row_removed, row_removed_other, once_removed, all_from, first_or, one_item}
 
 -- ---- the first block of an owner

@@ -1,5 +1,5 @@
 -- Local references and texts, found or made.
-use Rattle.std.proofs.Common.{◌≡◌, ◌≢◌, ℕ, zero, suc, ◌+◌, ◌-◌, ◌<◌, ◌≤◌, List, [], ◌∷◌, ◌++◌, length, Option, Some, None, refl, sym, ap, ◌∙◌, subst, arith, ◌⊎◌, inl, inr, ⊎_elim}
+use Rattle.std.proofs.Common.{◌≡◌, ◌≢◌, ℕ, zero, suc, ◌+◌, ◌-◌, ◌≤◌, List, [], ◌∷◌, ◌++◌, length, Some, refl, sym, ap, ◌∙◌, subst, arith, inl, inr, ⊎_elim}
 use Rattle.std.specs.Prelude.{slice_get}
 use Rattle.ec_nodes.specs.Store.{text_bytes}
 use Rattle.ec_nodes.specs.Held.{InPool}
@@ -61,7 +61,7 @@ module _ (node : NodeStore) (oid place : ℕ) (locals' : List ℕ) (new : (i : �
       count = refl;
     };
     is = (let w : place + 1 ≡ suc (length node.locals) = omega arith in
-      ap (local_in locals') w ∙ ap (λ (ls : List ℕ). slice_get ls (length node.locals)) is ∙ get_end node.locals oid);
+        ap (local_in locals') w ∙ ap (λ (ls : List ℕ). slice_get ls (length node.locals)) is ∙ get_end node.locals oid);
     texts = λ j. refl;
     text_free = refl;
   }
@@ -130,13 +130,13 @@ module _ (node : NodeStore) (text : List ℕ) (place : ℕ) (pool' : List (List 
     is = ap (slice_get pool') n ∙ new_there;
     texts = λ other. (
       (λ h. ⊎_elim
-      (λ (old : slice_get node.pool h.0 ≡ Some other). inl (h.0, old))
-      (λ (here : (h.0 ≡ length node.pool) × (other ≡ text)). inr here.1)
-      (end_or node.pool text h.0 other (ap (λ (ts : List (List ℕ)). slice_get ts h.0) (sym is) ∙ h.1))),
+          (λ (old : slice_get node.pool h.0 ≡ Some other). inl (h.0, old))
+          (λ (here : (h.0 ≡ length node.pool) × (other ≡ text)). inr here.1)
+          (end_or node.pool text h.0 other (ap (λ (ts : List (List ℕ)). slice_get ts h.0) (sym is) ∙ h.1))),
       (λ h. ⊎_elim
-      (λ (old : InPool (store_of node) other). (old.0, text_there old.0 other old.1))
-      (λ (same : other ≡ text). (length node.pool, new_there ∙ ap Some (sym same)))
-      h),
+          (λ (old : InPool (store_of node) other). (old.0, text_there old.0 other old.1))
+          (λ (same : other ≡ text). (length node.pool, new_there ∙ ap Some (sym same)))
+          h),
     );
     locals = λ j. refl;
     kept = λ h. absurd (not_in_pool h);

@@ -1,26 +1,25 @@
 -- A new owner, with a free block or none.
-use Rattle.std.proofs.Common.{◌≡◌, ◌≢◌, ℕ, zero, suc, ◌+◌, ◌*◌, ◌<◌, ◌≤◌, Bool, List, [], ◌∷◌, ◌++◌, length, Option, Some, None, refl, sym, ap, ◌∙◌, subst, arith, ◌⊎◌, inl, inr, ⊎_elim}
+use Rattle.std.proofs.Common.{◌≡◌, ◌≢◌, ℕ, zero, suc, ◌<◌, ◌≤◌, Bool, List, [], ◌∷◌, ◌++◌, length, Option, Some, None, refl, sym, ap, ◌∙◌, subst, arith, ◌⊎◌, inl, inr, ⊎_elim}
 use Rattle.std.specs.Prelude.{slice_get}
-use Rattle.std.specs.List.{AllByRecursion}
 use Rattle.byteorder.specs.Endian.{little_number}
 use Rattle.ec_base.proofs.Lists.{get_within}
 use Rattle.ec_world.specs.Group.{Has}
 use Rattle.ec_world.specs.declared.class.ClassNo.{ClassNo}
-use Rattle.ec_memory.specs.Store.{Store as Memory, IsWhole, SameLists, Takes, AreApart, IsApart, chain, store_byte}
+use Rattle.ec_memory.specs.Store.{Store as Memory, IsWhole, Takes, AreApart, store_byte}
 use Rattle.ec_memory.specs.Words.{block_word_at, global_word_at, word_in}
 use Rattle.ec_memory.proofs.Chains.{chain-one}
 use Rattle.ec_memory.proofs.Words.{word_there}
 use Rattle.ec_memory.proofs.Places.{block_word_there, block_word_even, global_word_even, same_block_word, block_global_apart, taken_bytes}
 use Rattle.ec_memory.proofs.Whole.{whole_same, whole_taken}
 use Rattle.ec_nodes.specs.declared.key.Key.{Key}
-use Rattle.ec_nodes.specs.Store.{Owned, Tidy, KeptRow}
+use Rattle.ec_nodes.specs.Store.{Owned, Tidy}
 use Rattle.ec_nodes.proofs.Put.{key_or_not}
 use Rattle.ec_frames.specs.declared.node.Row.{Row}
 use Rattle.ec_frames.specs.declared.node.NodeStore.{NodeStore}
 use Rattle.ec_frames.specs.Node.{store_of, row_of, owned_of, Laid}
-use Rattle.ec_frames.specs.Changes.{SameRest, Placed, Named}
+use Rattle.ec_frames.specs.Changes.{Placed, Named}
 use Rattle.ec_frames.specs.Words.{Written, word_at}
-use Rattle.ec_frames.proofs.Rows.{row_push_same, row_push_other, once_push, all_has, only_one, first_or}
+use Rattle.ec_frames.proofs.Rows.{row_push_same, row_push_other, once_push, all_has, only_one}
 
 -- ---- one row more, whose blocks were free, over a memory whose free blocks are fewer
 
@@ -147,8 +146,8 @@ module _ (node : NodeStore) (key : Key) (class : Option ClassNo) (fixed : Bool) 
   was_free : Has node.memory.free b
   was_free = taken_was_free node.memory taken b takes laid.whole
 
-  within : b < node.blocks
-  within = (let l = laid.blocks in let n = taken_in node.memory taken b takes laid.whole in omega arith)
+  pub placed_within : b < node.blocks
+  placed_within = (let l = laid.blocks in let n = taken_in node.memory taken b takes laid.whole in omega arith)
 
   free_after : (c : ℕ) → Has m.free c → Has taken.free c
   free_after c h = subst (λ (l : List ℕ). Has l c) written.lists.free h
@@ -157,7 +156,7 @@ module _ (node : NodeStore) (key : Key) (class : Option ClassNo) (fixed : Bool) 
   laid_placed = laid_row node m placed_row rows' laid new rows_is
       (λ c h. subst (λ x. Has node.memory.free x) (sym (its c h)) was_free)
       whole_after links_after (written.lists.globals ∙ ap (λ (l : List ℕ). length l) takes.globals)
-      (λ c h. subst (λ x. x < node.blocks) (sym (its c h)) within)
+      (λ c h. subst (λ x. x < node.blocks) (sym (its c h)) placed_within)
       (λ i j c e f. let x = at_front i c e in let y = at_front j c f in x ∙ sym y)
       (λ c h. still_was_free node.memory taken b takes laid.whole c (free_after c h))
       (λ c h f. taken_not_free node.memory taken b takes laid.whole (subst (λ x. Has taken.free x) (its c h) (free_after c f)))
@@ -178,9 +177,9 @@ module _ (node : NodeStore) (key : Key) (class : Option ClassNo) (fixed : Bool) 
   pub placed : Placed (store_of node) (store_of (record node { memory = m; rows = rows' })) key class fixed None given b
   placed = record {
     row = row_here node m placed_row rows' laid new rows_is ∙ ap (λ (l : List ℕ). Some (record { blocks = l; class = class; fixed = fixed; monitor = None })) one;
-    small = (let w = within in let f = laid.few_blocks in omega arith);
+    small = (let w = placed_within in let f = laid.few_blocks in omega arith);
     words = λ i n e. written.inside i n (get_within given i n e) e;
-    there = λ i l. word_there little_number (store_byte m) (block_word_at b i) (block_word_there m whole_after b i (let w = within in let n = laid.blocks in let k = links_after in omega arith) l);
+    there = λ i l. word_there little_number (store_byte m) (block_word_at b i) (block_word_there m whole_after b i (let w = placed_within in let n = laid.blocks in let k = links_after in omega arith) l);
     others = λ other ne. record {
       row = row_there node m placed_row rows' laid new rows_is other ne;
       words = λ r c i e h l. other_word c i (λ same. laid.rows_out other r c e h (subst (λ x. Has node.memory.free x) (sym same) was_free)) l;
@@ -188,7 +187,7 @@ module _ (node : NodeStore) (key : Key) (class : Option ClassNo) (fixed : Bool) 
     rest = record {
       kind = refl;
       global = λ i.
-          written.outside (global_word_at i) (global_word_even i) (λ j h e. let w = within in let f = laid.few_blocks in block_global_apart b j i (omega arith) (omega arith) (sym e))
+          written.outside (global_word_at i) (global_word_even i) (λ j h e. let w = placed_within in let f = laid.few_blocks in block_global_apart b j i (omega arith) (omega arith) (sym e))
           ∙ ap (λ bytes. word_in little_number bytes (global_word_at i)) (taken_bytes node.memory taken b 1 takes);
       local = λ i. refl;
       text = λ i. refl;

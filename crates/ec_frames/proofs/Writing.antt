@@ -1,5 +1,5 @@
 -- One word is written, and a node stays as it should.
-use Rattle.std.proofs.Common.{◌≡◌, ◌≢◌, ℕ, zero, suc, ◌+◌, ◌*◌, ◌%◌, ◌^◌, ◌<◌, ◌≤◌, List, [], ◌∷◌, ◌++◌, length, Option, Some, None, refl, sym, ap, ◌∙◌, subst, arith, ◌⊎◌, inl, inr, ⊎_elim}
+use Rattle.std.proofs.Common.{◌≡◌, ◌≢◌, ℕ, zero, suc, ◌+◌, ◌%◌, ◌^◌, ◌<◌, ◌≤◌, List, [], length, Some, None, refl, sym, ap, ◌∙◌, subst, arith, ⊎_elim}
 use Rattle.std.specs.Prelude.{slice_get}
 use Rattle.byteorder.specs.Endian.{little_number, little_bytes}
 use Rattle.byteorder.specs.Numbers.{little_number-reads_back, length-bytes_low_first}
@@ -8,36 +8,13 @@ use Rattle.ec_memory.specs.Store.{Store as Memory, IsWhole, IsNew, SameLists, sa
 use Rattle.ec_memory.specs.Words.{HasWord, block_word_at, global_word_at, word_in}
 use Rattle.ec_memory.proofs.Words.{word_written, word_other}
 use Rattle.ec_memory.proofs.Places.{block_word_there, global_word_there, block_word_even, global_word_even, same_block_word, block_global_apart, same_global_word, new_global_word, little_zeros}
-use Rattle.ec_memory.proofs.Whole.{whole_same}
-use Rattle.ec_nodes.specs.declared.key.Key.{Key}
 use Rattle.ec_nodes.specs.Store.{text_bytes}
 use Rattle.ec_nodes.proofs.Put.{same_or_not}
-use Rattle.ec_world.specs.Group.{Has}
 use Rattle.ec_frames.specs.declared.node.NodeStore.{NodeStore}
 use Rattle.ec_frames.specs.Node.{store_of, row_of, local_in, Laid}
-use Rattle.ec_frames.specs.Changes.{SameRest, SameTables, IsFresh, WritesWord, WritesGlobal}
+use Rattle.ec_frames.specs.Changes.{IsFresh, WritesWord, WritesGlobal}
 use Rattle.ec_frames.specs.Words.{Written, word_at}
-
--- ---- a node whose memory alone is another one, with other bytes
-
-abbrev pub with_memory : NodeStore → Memory → NodeStore
-with_memory node m = record node { memory = m }
-
-pub laid_memory : (node : NodeStore) (m : Memory) → Laid node → SameLists node.memory m → Laid (with_memory node m)
-laid_memory node m laid same = record {
-  whole = whole_same node.memory m laid.whole same;
-  blocks = ap (λ (l : List ℕ). length l) same.links ∙ laid.blocks;
-  few_blocks = laid.few_blocks;
-  globals = same.globals ∙ laid.globals;
-  few_globals = laid.few_globals;
-  room = laid.room;
-  texts_fit = laid.texts_fit;
-  once = laid.once;
-  rows_in = laid.rows_in;
-  rows_once = laid.rows_once;
-  rows_out = λ key r b e h f. laid.rows_out key r b e h (subst (λ (l : List ℕ). Has l b) same.free f);
-  tidy = record { apart = laid.tidy.apart; nil = laid.tidy.nil; locals = laid.tidy.locals; texts = laid.tidy.texts };
-}
+use Rattle.ec_frames.proofs.Ran.{with_memory}
 
 -- ---- one word
 

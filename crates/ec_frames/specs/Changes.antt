@@ -4,7 +4,7 @@ use Rattle.ec_world.specs.declared.class.ClassNo.{ClassNo}
 use Rattle.ec_world.specs.declared.object.MonitorRec.{MonitorRec}
 use Rattle.ec_world.specs.declared.node.Kind.{Kind}
 use Rattle.ec_nodes.specs.declared.key.Key.{Key}
-use Rattle.ec_nodes.specs.Store.{Store, Owned, Grown, KeptRow}
+use Rattle.ec_nodes.specs.Store.{Store, Grown, KeptRow}
 use Rattle.ec_nodes.specs.Held.{InPool}
 
 -- all but words, rows and what is free

@@ -1,3 +1,4 @@
+pub mod Changed
 pub mod Node
 pub mod Changes
 pub mod Owners

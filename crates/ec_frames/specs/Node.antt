@@ -1,5 +1,5 @@
 -- A node's tables as functions, and what they keep by themselves.
-use Rattle.std.specs.Prelude.{◌≡◌, ℕ, zero, suc, ◌+◌, ◌-◌, ◌*◌, ◌^◌, ◌<◌, ◌≤◌, ◌==◌, ◌&&◌, Bool, true, false, List, [], ◌∷◌, length, Option, Some, None, slice_get, if◌then◌else◌}
+use Rattle.std.specs.Prelude.{◌≡◌, ℕ, zero, suc, ◌-◌, ◌*◌, ◌^◌, ◌<◌, ◌≤◌, ◌==◌, ◌&&◌, Bool, false, List, [], ◌∷◌, length, Option, Some, None, slice_get, if◌then◌else◌}
 use Rattle.byteorder.specs.Endian.{little_number}
 use Rattle.ec_world.specs.Group.{Has}
 use Rattle.ec_memory.specs.Store.{store_byte, IsWhole}
@@ -57,3 +57,17 @@ pub record Laid (node : NodeStore) : Type 0 where
   pub rows_once : (key : Key) (r : Owned) (i j b : ℕ) → row_of node.rows key ≡ Some r → slice_get r.blocks i ≡ Some b → slice_get r.blocks j ≡ Some b → i ≡ j
   pub rows_out : (key : Key) (r : Owned) (b : ℕ) → row_of node.rows key ≡ Some r → Has r.blocks b → Has node.memory.free b → ⊥
   pub tidy : Tidy (store_of node)
+
+-- what no call changes of a node: its kind, its sizes, and its count
+pub record SameNode (node node' : NodeStore) : Type 0 where
+  pub kind : node'.kind ≡ node.kind
+  pub blocks : node'.blocks ≡ node.blocks
+  pub room : node'.room ≡ node.room
+  pub globals : node'.globals ≡ node.globals
+  pub count : node'.count ≡ node.count
+
+-- only the memory has changed: owners, local references and texts are the same
+pub record OnlyMemory (node node' : NodeStore) : Type 0 where
+  pub rows : node'.rows ≡ node.rows
+  pub locals : node'.locals ≡ node.locals
+  pub pool : node'.pool ≡ node.pool

@@ -1,5 +1,5 @@
 -- What calls ask of an owner's blocks, and what a search among owners finds.
-use Rattle.std.specs.Prelude.{◌≡◌, ℕ, List, length, Option, Some, slice_get}
+use Rattle.std.specs.Prelude.{◌≡◌, ℕ, List, length, Some, slice_get}
 use Rattle.ec_nodes.specs.declared.key.Key.{Key}
 use Rattle.ec_nodes.specs.Store.{Store, Owned}
 use Rattle.ec_frames.specs.declared.node.Row.{Row}

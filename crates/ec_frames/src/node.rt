@@ -54,6 +54,7 @@ impl NodeStore {
         requires few_globals { globals ≤ 1048576 }
         ensures laid { IfOk result (λ new. Laid new) }
         ensures fresh { IfOk result (λ new. IsFresh (store_of new) kind blocks room globals) }
+        ensures size { IfOk result (λ new. (new.blocks ≡ blocks) × (new.globals ≡ globals)) }
     {
         Ok(NodeStore {
             kind,

@@ -1,6 +1,6 @@
 //! Owners of blocks.
 ghost use Rattle.std.specs.Prelude.{◌≡◌, ◌≤◌, ◌<◌, length, OnOk, IfOk, IfSome, IfNone, Some, None};
-ghost use Rattle.ec_frames.specs.Node.{store_of, row_of, owned_of, Laid};
+ghost use Rattle.ec_frames.specs.Node.{store_of, row_of, owned_of, Laid, SameNode};
 ghost use Rattle.ec_frames.specs.Changes.{Placed, Named, Closed};
 ghost use Rattle.ec_frames.specs.Owners.{FirstBlock, HasBlock, HasOneBlock, StandsAtPlace};
 
@@ -51,7 +51,9 @@ impl NodeStore {
         requires room { 0 < (store_of self.old).free }
         requires short { length given.now ≤ 128 }
         ensures laid { OnOk result (Laid self.new) }
+        ensures same { OnOk result (SameNode self.old self.new) }
         ensures placed { IfOk result (λ b. Placed (store_of self.old) (store_of self.new) key class fixed None given.now b) }
+        ensures within { IfOk result (λ b. b < self.new.blocks) }
     {
         match self.memory.take(1) {
             Some(list) => {
@@ -77,6 +79,7 @@ impl NodeStore {
         requires laid { Laid self.old }
         requires new { row_of self.old.rows key ≡ None }
         ensures laid { OnOk result (Laid self.new) }
+        ensures same { OnOk result (SameNode self.old self.new) }
         ensures named { OnOk result (Named (store_of self.old) (store_of self.new) key class fixed None) }
     {
         let blocks = Seq::new(self.rows.allocator());
@@ -95,6 +98,7 @@ impl NodeStore {
         requires laid { Laid self.old }
         requires one { HasOneBlock (store_of self.old) key }
         ensures laid { Laid self.new }
+        ensures same { SameNode self.old self.new }
         ensures closed { Closed (store_of self.old) (store_of self.new) key }
     {
         match row_place(&self.rows, key) {
@@ -119,4 +123,45 @@ fn row_place(rows: &Seq<Row>, key: Key) -> Option<usize>
         }
     }
     None
+}
+
+#[cfg(test)]
+mod tests {
+    use super::*;
+    use ec_world::node::Kind;
+    use std::test::Fail;
+
+    #[test]
+    fn words_are_kept(rt: HostRuntime) -> Result<(), Fail> {
+        let mut node = NodeStore::new(rt.alloc(), Kind::Riscv, 2, 16, 1)?;
+        let block = node.place(Key::Object(3), None, false, &[7, 8, 9])?;
+        assert_eq!(rt; node.word(block, 2), 9);
+        node.set_word(block, 2, 0xFFFF_FFFF);
+        assert_eq!(rt; node.word(block, 2), 0xFFFF_FFFF);
+        assert_eq!(rt; node.word(block, 1), 8);
+        Ok(())
+    }
+
+    #[test]
+    fn blocks_come_and_go(rt: HostRuntime) -> Result<(), Fail> {
+        let mut node = NodeStore::new(rt.alloc(), Kind::Riscv, 1, 16, 1)?;
+        let key = Key::Object(3);
+        let block = node.place(key, None, false, &[7])?;
+        assert_eq!(rt; node.first_block(key), block);
+        assert_eq!(rt; node.free_blocks(), 0);
+        node.close(key);
+        assert!(rt; node.row(key).is_none());
+        let again = node.place(key, Some(ClassNo::Made(1)), true, &[1])?;
+        assert_eq!(rt; node.word(again, 0), 1);
+        Ok(())
+    }
+
+    #[test]
+    fn a_node_is_named(rt: HostRuntime) -> Result<(), Fail> {
+        let mut node = NodeStore::new(rt.alloc(), Kind::Mips, 0, 0, 0)?;
+        node.name(Key::Object(1), Some(ClassNo::Node), true)?;
+        assert!(rt; node.row(Key::Object(1)).is_some());
+        assert!(rt; node.row(Key::Object(2)).is_none());
+        Ok(())
+    }
 }

@@ -2,7 +2,7 @@
 ghost use Rattle.std.specs.Prelude.{◌≡◌, ◌≢◌, ◌≤◌, ◌<◌, ◌+◌, ◌-◌, ◌^◌, ◌↔◌, ℕ, length, OnOk, IfOk, IfSome, IfNone, IsOk, IsSome, IsTrue, Some, slice_get};
 ghost use Rattle.ec_nodes.specs.Store.{text_bytes};
 ghost use Rattle.ec_nodes.specs.Held.{InPool};
-ghost use Rattle.ec_frames.specs.Node.{store_of, Laid};
+ghost use Rattle.ec_frames.specs.Node.{store_of, Laid, SameNode};
 ghost use Rattle.ec_frames.specs.Changes.{Refers, Interns};
 
 use crate::node::NodeStore;
@@ -15,6 +15,7 @@ impl NodeStore {
     pub fn local_of(&mut self, oid: Oid) -> Result<u32, AllocError>
         requires laid { Laid self.old }
         ensures laid { OnOk result (Laid self.new) }
+        ensures same { OnOk result (SameNode self.old self.new) }
         ensures refers { IfOk result (λ word. Refers (store_of self.old) (store_of self.new) oid word) }
     {
         match oid_place(&self.locals, oid) {
@@ -40,6 +41,7 @@ impl NodeStore {
         requires laid { Laid self.old }
         requires room { (InPool (store_of self.old) text → ⊥) → length text ≤ (store_of self.old).text_free }
         ensures laid { OnOk result (Laid self.new) }
+        ensures same { OnOk result (SameNode self.old self.new) }
         ensures interns { IfOk result (λ place. Interns (store_of self.old) (store_of self.new) text place) }
         ensures at_end { IfOk result (λ place. (InPool (store_of self.old) text → ⊥) → place ≡ length self.old.pool) }
     {
@@ -123,4 +125,47 @@ fn bytes_in(pool: &Seq<Text>) -> u32
         bytes += pool.at(i).len() as u32;
     }
     bytes
+}
+
+#[cfg(test)]
+mod tests {
+    use super::*;
+    use ec_world::node::Kind;
+    use std::test::Fail;
+
+    #[test]
+    fn each_text_stands_once(rt: HostRuntime) -> Result<(), Fail> {
+        let mut node = NodeStore::new(rt.alloc(), Kind::Mips, 0, 16, 0)?;
+        let mut text: Text = Seq::new(rt.alloc());
+        text.push(65)?;
+        text.push(66)?;
+        let mut same: Text = Seq::new(rt.alloc());
+        same.push(65)?;
+        same.push(66)?;
+        let place = node.intern(text)?;
+        assert_eq!(rt; node.text_free(), 14);
+        assert_eq!(rt; node.intern(same)?, place);
+        assert_eq!(rt; node.text_free(), 14);
+        assert_eq!(rt; node.text(place).len(), 2);
+        Ok(())
+    }
+
+    #[test]
+    fn references_begin_at_one(rt: HostRuntime) -> Result<(), Fail> {
+        let mut node = NodeStore::new(rt.alloc(), Kind::Riscv, 0, 0, 0)?;
+        assert_eq!(rt; node.local_of(9)?, 1);
+        assert_eq!(rt; node.local_of(4)?, 2);
+        assert_eq!(rt; node.local_of(9)?, 1);
+        assert_eq!(rt; node.oid_of(2), 4);
+        Ok(())
+    }
+
+    #[test]
+    fn constants_are_kept(rt: HostRuntime) -> Result<(), Fail> {
+        let mut node = NodeStore::new(rt.alloc(), Kind::Riscv, 0, 0, 2)?;
+        node.set_global(1, 5);
+        assert_eq!(rt; node.global(1), 5);
+        assert_eq!(rt; node.global(0), 0);
+        Ok(())
+    }
 }

@@ -2,7 +2,7 @@
 ghost use Rattle.std.specs.Prelude.{◌≡◌, ◌≤◌, ◌<◌, length, Some};
 ghost use Rattle.ec_memory.specs.Store.{IsWhole};
 ghost use Rattle.ec_memory.specs.Words.{block_word_at, global_word_at};
-ghost use Rattle.ec_frames.specs.Node.{store_of, Laid};
+ghost use Rattle.ec_frames.specs.Node.{store_of, Laid, SameNode, OnlyMemory};
 ghost use Rattle.ec_frames.specs.Changes.{WritesWord, WritesGlobal};
 ghost use Rattle.ec_frames.specs.Words.{Written};
 
@@ -27,7 +27,9 @@ impl NodeStore {
         requires block_in { block < self.old.blocks }
         requires word_in { i < 128 }
         ensures laid { Laid self.new }
+        ensures same { SameNode self.old self.new }
         ensures writes { WritesWord (store_of self.old) (store_of self.new) block i w }
+        ensures memory { OnlyMemory self.old self.new }
     {
         self.memory.set_word(block_word(block, i), w);
     }
@@ -46,6 +48,7 @@ impl NodeStore {
         requires laid { Laid self.old }
         requires global_in { i < self.old.globals }
         ensures laid { Laid self.new }
+        ensures same { SameNode self.old self.new }
         ensures writes { WritesGlobal (store_of self.old) (store_of self.new) i w }
     {
         self.memory.set_word(global_word(i), w);

@@ -1,5 +1,5 @@
 -- What the kernel needs to find at the top frame of a process for the action of its stop.
-use Rattle.std.specs.Prelude.{◌≡◌, ℕ, suc, ◌+◌, ◌-◌, ◌<◌, ◌^◌, Bool, true, false, List, [], ◌∷◌, length, Option, Some, None, slice_get}
+use Rattle.std.specs.Prelude.{◌≡◌, ℕ, suc, ◌+◌, ◌-◌, ◌<◌, ◌^◌, ◌≤◌, Bool, true, false, List, [], ◌∷◌, length, Option, Some, None, slice_get, Result, Ok, Err}
 use Rattle.ec_world.specs.declared.class.ClassNo.{ClassNo}
 use Rattle.ec_world.specs.declared.class.ClassNo.TheVariants.{Node, Program, Made}
 use Rattle.ec_world.specs.declared.stop.Stop.{Stop}
@@ -13,25 +13,42 @@ use Rattle.ec_frames.specs.declared.node.NodeStore.{NodeStore}
 use Rattle.ec_frames.specs.Node.{store_of, row_of}
 use Rattle.ec_network.specs.declared.cluster.Cluster.{Cluster}
 use Rattle.ec_network.specs.declared.kernel.Here.{Here}
+use Rattle.ec_network.specs.declared.kernel.ActError.{ActError}
+use Rattle.ec_network.specs.declared.kernel.ActError.TheVariants.{Full, Memory}
 
-module _ (net : Cluster) (node : NodeStore) (p : ℕ) (h : Here) (s : StopRec) where
-  -- the one operand's slot holds a place of the pool
+-- the slot of variable x of the frame holds a place of the pool
+pub record CanReadSlot (net : Cluster) (h : Here) (x : ℕ) : Type 0 where
+  pub node : NodeStore
+  pub one : net.nodes ≡ node ∷ []
+  pub slot : x < 100
+  pub word : ℕ
+  pub word_is : (store_of node).word h.block (first_slot + x) ≡ Some word
+  pub within : word < length node.pool
+
+-- variable x has a slot, and the constant is there
+pub record CanDefineFrom (net : Cluster) (x index : ℕ) : Type 0 where
+  pub node : NodeStore
+  pub one : net.nodes ≡ node ∷ []
+  pub slot : x < 100
+  pub within : index < node.globals
+
+module _ (net : Cluster) (p : ℕ) (h : Here) (s : StopRec) where
+  -- the one operand can be printed
   pub record CanPrint : Type 0 where
     pub operand : ℕ
     pub operands : s.operands ≡ operand ∷ []
-    pub slot : operand < 100
-    pub word : ℕ
-    pub word_is : (store_of node).word h.block (first_slot + operand) ≡ Some word
-    pub within : word < length node.pool
+    pub can : CanReadSlot net h operand
 
+  -- the one operand can become the constant
   pub record CanDefine (index : ℕ) : Type 0 where
     pub operand : ℕ
     pub operands : s.operands ≡ operand ∷ []
-    pub slot : operand < 100
-    pub within : index < node.globals
+    pub can : CanDefineFrom net operand index
 
   -- the class is there, and neither the next object nor the next frame
   pub record CanCreate (k : ℕ) : Type 0 where
+    pub node : NodeStore
+    pub one : net.nodes ≡ node ∷ []
     pub class : k < length net.program.classes
     pub no_object : row_of node.rows (Object (suc (length net.places))) ≡ None
     pub no_frame : row_of node.rows (Frame p (suc h.depth)) ≡ None
@@ -40,6 +57,8 @@ module _ (net : Cluster) (node : NodeStore) (p : ℕ) (h : Here) (s : StopRec) w
 
   -- the frame below waits for a result in a slot
   pub record CanReturn : Type 0 where
+    pub node : NodeStore
+    pub one : net.nodes ≡ node ∷ []
     pub depth : ℕ
     pub depth_is : h.depth ≡ suc depth
     pub row : Owned
@@ -76,9 +95,19 @@ module _ (net : Cluster) (node : NodeStore) (p : ℕ) (h : Here) (s : StopRec) w
   CanDo End = h.depth ≡ 0
 
 pub record CanAct (net : Cluster) (p : ℕ) (h : Here) : Type 0 where
-  pub node : NodeStore
-  pub one : net.nodes ≡ node ∷ []
   pub stop : StopRec
   pub is : stop_at net.program h.operation h.at ≡ Some stop
   pub process : p < length net.statuses
-  pub can : CanDo net node p h stop stop.stop
+  pub can : CanDo net p h stop stop.stop
+
+-- the node has so many free blocks
+pub record HasRoom (net : Cluster) (n : ℕ) : Type 0 where
+  pub node : NodeStore
+  pub one : net.nodes ≡ node ∷ []
+  pub free : n ≤ (store_of node).free
+
+-- what is said where an action finds no room
+abbrev pub WhenLacks : {T : Type 0} → Result T ActError → (ℕ → ℕ → Type 0) → Type 0
+WhenLacks (Ok x) P = Unit {0}
+WhenLacks (Err Memory) P = Unit {0}
+WhenLacks (Err (Full need free)) P = P need free

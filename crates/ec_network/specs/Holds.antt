@@ -5,9 +5,11 @@ use Rattle.ec_ir.specs.declared.code.Parts.{Parts}
 use Rattle.ec_ir.specs.declared.code.Operation.{Operation}
 use Rattle.ec_ir.specs.Fine.{Fine}
 use Rattle.ec_stops.specs.declared.table.Place.TheVariants.{Slot}
+use Rattle.ec_stops.specs.declared.table.Code.{Code}
 use Rattle.ec_stops.specs.declared.table.StopTable.{StopTable}
 use Rattle.ec_stops.specs.Machine.{MachineMeaning}
-use Rattle.ec_stops.specs.Faithful.{HasLiterals, home_in, stop_in}
+use Rattle.ec_stops.specs.Faithful.{HasLiterals, home_in, stop_in, words_of}
+use Rattle.rv_codegen.specs.Code.{SmallCode}
 use Rattle.ec_frames.specs.declared.node.NodeStore.{NodeStore}
 use Rattle.ec_frames.specs.Node.{store_of}
 use Rattle.ec_network.specs.declared.cluster.Cluster.{Cluster}
@@ -19,18 +21,13 @@ use Rattle.ec_network.specs.Turns.{FaithfulImages}
 pub record HasSlots (program : Parts) (table : StopTable) : Type 0 where
   pub each : (op x : ℕ) (o : Operation) → slice_get program.operations op ≡ Some o → x < length o.variables → home_in table op x ≡ Some (Slot x)
 
--- the addresses of stops, and the code behind them, are addresses
-pub record SmallCode (table : StopTable) (words : List ℕ) : Type 0 where
-  pub stops : (op at address : ℕ) → stop_in table op at ≡ Some address → address + 4 < 2 ^ 32
-  pub words_few : length words < 2 ^ 26
-
 module _ {S : Type 0} (M : MachineMeaning S) where
   -- what no entry changes; one node of one kind so far
   pub record Steady (net : Cluster) : Type 0 where
     pub fine : Fine net.program
     pub faithful : FaithfulImages M net.program net.images
     pub slots : HasSlots net.program net.images.rv.table
-    pub small : SmallCode net.images.rv.table net.images.rv.code.words
+    pub small : SmallCode net.images.rv.table net.images.rv.code
     pub node : NodeStore
     pub one : net.nodes ≡ node ∷ []
     pub riscv : node.kind ≡ Riscv

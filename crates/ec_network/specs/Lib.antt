@@ -5,6 +5,10 @@ pub mod Turns
 pub mod Holds
 pub mod Kernel
 pub mod Steps
+pub mod Full
 pub mod Net
 pub mod Answers
 pub mod Can
+pub mod Running
+pub mod Native
+pub mod Readers

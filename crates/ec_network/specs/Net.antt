@@ -19,9 +19,11 @@ use Rattle.ec_stops.specs.Machine.{MachineMeaning}
 use Rattle.ec_network.specs.declared.image.Images.{Images}
 use Rattle.ec_network.specs.declared.cluster.Cluster.{Cluster}
 use Rattle.ec_network.specs.Shows.{Worlds, stores}
-use Rattle.ec_network.specs.Room.{Room, Strings, FullAt, NoneFull, held}
+use Rattle.ec_network.specs.Room.{Strings, FullAt, NoneFull, held}
+use Rattle.ec_network.specs.Full.{rooms, Pools}
 use Rattle.ec_network.specs.Turns.{FaithfulImages, IsLoaded, LoadFull, Along}
-use Rattle.ec_network.specs.Holds.{Holds, HasSlots, SmallCode}
+use Rattle.rv_codegen.specs.Code.{SmallCode}
+use Rattle.ec_network.specs.Holds.{Holds, HasSlots}
 
 pub record Net : Type 0 where
   pub loaded : Option Cluster
@@ -37,7 +39,7 @@ whole_net c = record { loaded = Some c; whole = true }
 pub record AreBuilt {S : Type 0} (M : MachineMeaning S) (program : Parts) (images : Images) : Type 0 where
   pub faithful : FaithfulImages M program images
   pub slots : HasSlots program images.rv.table
-  pub small : SmallCode images.rv.table images.rv.code.words
+  pub small : SmallCode images.rv.table images.rv.code
 
 -- one node of the kind that there is so far, of a size that a node can have
 pub record IsOneNode (specs : List NodeSpec) : Type 0 where
@@ -95,27 +97,13 @@ counts_of net k = counts_if net.loaded k
 
 -- ---- room
 
-abbrev pub room_if : Option NodeStore → Option Room
-room_if None = None
-room_if (Some node) = Some (record { blocks = node.blocks; text = node.room })
-
--- the room that each node of a network has
-abbrev pub rooms : Cluster → ℕ → Option Room
-rooms c k = room_if (slice_get c.nodes k)
-
--- a text is in the pool of node k
-pub record PoolHas (c : Cluster) (k : ℕ) (text : List ℕ) : Type 0 where
-  pub node : NodeStore
-  pub there : slice_get c.nodes k ≡ Some node
-  pub has : InPool (store_of node) text
-
 -- the action of an entry of the network finds no room at node k
 abbrev pub EntryFull : Cluster → Worlds → Worlds → ℕ → Part → ℕ → ℕ → Type 0
-EntryFull c w after = FullAt (rooms c) (held w) (held after) (PoolHas c) (Strings c.program after)
+EntryFull c w after = FullAt (rooms c) (held w) (held after) (Pools c) (Strings c.program after)
 
 -- it finds room at each node
 abbrev pub EntryFits : Cluster → Worlds → Worlds → Type 0
-EntryFits c w after = NoneFull (rooms c) (held w) (held after) (PoolHas c) (Strings c.program after)
+EntryFits c w after = NoneFull (rooms c) (held w) (held after) (Pools c) (Strings c.program after)
 
 -- ---- whole runs
 

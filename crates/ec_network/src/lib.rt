@@ -3,5 +3,7 @@
 
 mod cluster;
 mod kernel;
+mod native;
 pub mod image;
 pub mod network;
+mod readers;

@@ -130,7 +130,85 @@ impl Network {
         ensures unchanged { WhenFull result (λ node part need free. self.new ≡ self.old) }
         ensures not_whole { WhenMemory result (self.new.whole ≡ false) }
     {
-        self.whole = false;
-        Err(NetError::Memory)
+        if self.loaded().is_idle_move(o, k) {
+            Ok(Did::Idle)
+        } else {
+            Ok(Did::Moved)
+        }
+    }
+}
+
+impl Network {
+    ghost use Rattle.std.specs.Prelude.{IfSome, IfNone, Some, None, slice_get};
+    ghost use Rattle.ec_network.specs.Net.{WholeShows, counts_of, name_if, fixed_if};
+    ghost use Rattle.ec_network.specs.Answers.{ForShown};
+    ghost use Rattle.ec_network.specs.Shows.{place};
+    ghost use Rattle.ec_network.specs.Worlds.{status_at};
+    ghost use Rattle.ec_world.specs.Effects.{object_at};
+    ghost use Rattle.ec_world.specs.Run.{statuses_of};
+    ghost use Rattle.rv_codegen.specs.Meaning.{rv_meaning};
+
+    /// What has been printed.
+    pub fn output(&self) -> &Text
+        requires whole { IsTrue self.now.whole }
+        ensures { ForShown rv_meaning self.now (λ c w. result.now ≡ w.common.output) }
+    {
+        self.loaded().output()
+    }
+
+    /// What a process may do, where it is there.
+    pub fn process(&self, p: Pid) -> Option<ProcStatus>
+        requires whole { IsTrue self.now.whole }
+        ensures listed { ForShown rv_meaning self.now (λ c w. result ≡ slice_get (statuses_of w) p) }
+        ensures is { ForShown rv_meaning self.now (λ c w. result ≡ status_at w p) }
+    {
+        self.loaded().status(p)
+    }
+
+    /// The name of an object's class, where the object is there.
+    pub fn class_name(&self, o: Oid) -> Option<&[u8]>
+        requires whole { IsTrue self.now.whole }
+        ensures some { IfSome result (λ name. ForShown rv_meaning self.now (λ c w. name_if w.common.classes (object_at w.common.objects o) ≡ Some name.now)) }
+        ensures none { IfNone result (ForShown rv_meaning self.now (λ c w. object_at w.common.objects o ≡ None)) }
+    {
+        self.loaded().class_name(o)
+    }
+
+    /// Whether an object is fixed, where it is there.
+    pub fn is_fixed(&self, o: Oid) -> Option<bool>
+        requires whole { IsTrue self.now.whole }
+        ensures { ForShown rv_meaning self.now (λ c w. result ≡ fixed_if (object_at w.common.objects o)) }
+    {
+        self.loaded().is_fixed(o)
+    }
+
+    /// The node at which an object is, where it is there.
+    pub fn place(&self, o: Oid) -> Option<NodeNo>
+        requires whole { IsTrue self.now.whole }
+        ensures { ForShown rv_meaning self.now (λ c w. result ≡ place w o) }
+    {
+        self.loaded().place(o)
+    }
+
+    /// How many instructions a node has run; 0 where it isn't there or nothing is loaded.
+    pub fn counts(&self, k: NodeNo) -> u64
+        ensures { result ≡ counts_of self.now k }
+    {
+        match &self.cluster {
+            Some(cluster) => cluster.count(k),
+            None => 0,
+        }
+    }
+
+    /// What a whole network has loaded.
+    fn loaded(&self) -> &Cluster
+        requires whole { IsTrue self.now.whole }
+        ensures is { self.now.loaded ≡ Some result.now }
+        ensures shows { WholeShows rv_meaning (Some result.now) }
+    {
+        match &self.cluster {
+            Some(cluster) => cluster,
+            None => unreachable!(),
+        }
     }
 }

@@ -129,10 +129,11 @@ pub record Faithful {S : Type 0} (M : MachineMeaning S) (code : Code) (table : S
   pub apart : (op at op' at' address : ℕ) → stop_in table op at ≡ Some address → stop_in table op' at' ≡ Some address → (op ≡ op') × (at ≡ at')
   -- the table speaks of the program's operations and stops alone
   pub known : (op at address : ℕ) → stop_in table op at ≡ Some address → (s : StopRec) × (stop_at program op at ≡ Some s)
-  -- from every state that fits just behind a stop, the code does what silent steps do
+  -- from every state that fits just behind a stop whose action is done, with its result come, the code does what silent
+  -- steps do
   pub runs : (local : ℕ → Option ℕ) (text : ℕ → Option (List ℕ)) (p d f : ℕ) (own : List ℕ) (a : IrActivation) (stop : StopRec) (fields globals : List Value) (s : S) (bytes : Bytes) →
       OneToOne local text → HasLiterals program text →
       stop_at program a.operation a.at ≡ Some stop → HasCode stop.stop →
-      a.pending ≡ false → LiveTyped program a → Typed program.globals globals →
+      a.pending ≡ false → a.into ≡ None → LiveTyped program a → Typed program.globals globals →
       Fits M program table local text p d f own a fields globals s bytes →
       Arrives M program table local text code f own (settled program a (Some stop)) fields s bytes

@@ -1,0 +1,9 @@
+pub mod Few
+pub mod Hello
+pub mod Literals
+pub mod Loops
+pub mod Pieces
+pub mod Places
+pub mod Programs
+pub mod Runs
+pub mod Whole

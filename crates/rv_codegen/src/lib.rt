@@ -1,2 +1,6 @@
-//! RISC-V code.
+//! RISC-V code for three-address code, with its stop table.
 #![tactic(auto)]
+
+pub mod generate;
+mod operation;
+pub mod slots;

@@ -1,6 +1,6 @@
-use Rattle.std.proofs.Common.{◌≡◌, ◌<◌, ◌++◌, [], ◌∷◌, List, ℕ, length, sym, ap, ◌∙◌, subst, arith}
+use Rattle.std.proofs.Common.{◌<◌, ◌++◌, [], ◌∷◌, List, ℕ, length, sym, ap, ◌∙◌, subst}
 use Rattle.ec_memory.proofs.Whole.{whole_taken}
-use Rattle.ec_frames.proofs.Placing.{placed, laid_placed, taken_in}
+use Rattle.ec_frames.proofs.Placing.{placed, laid_placed, placed_within, taken_in}
 use Rattle.ec_frames.proofs.node.NodeStore.place.Goals as goal
 
 pub write_words-requires-clause-whole : goal.write_words-requires-clause-whole
@@ -22,3 +22,9 @@ returns-clause-placed c =
     let b = c.in-Some.list.first in
     let one = c.in_ok-push-in-Some.ensures.ok ∙ ap (λ (l : List ℕ). l ++ b ∷ []) c.new-blocks.ensures in
     placed c.args.self.now c.args.key c.args.class c.args.fixed c.args.given.now c.push.new.self b c.take.new.self c.write_words.new.memory c.push-in-Some.new.self c.requires.laid c.requires.new c.requires.short c.in-Some.ensures.taken.1 one c.in_ok-push-in-Some-2.ensures.ok c.write_words.ensures
+
+pub returns-clause-within : goal.returns-clause-within
+returns-clause-within c =
+    let b = c.in-Some.list.first in
+    let one = c.in_ok-push-in-Some.ensures.ok ∙ ap (λ (l : List ℕ). l ++ b ∷ []) c.new-blocks.ensures in
+    placed_within c.args.self.now c.args.key c.args.class c.args.fixed c.args.given.now c.push.new.self b c.take.new.self c.write_words.new.memory c.push-in-Some.new.self c.requires.laid c.requires.new c.requires.short c.in-Some.ensures.taken.1 one c.in_ok-push-in-Some-2.ensures.ok c.write_words.ensures

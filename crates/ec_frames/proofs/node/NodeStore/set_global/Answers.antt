@@ -1,8 +1,9 @@
-use Rattle.std.proofs.Common.{◌≡◌, ap, ◌∙◌, arith}
+use Rattle.std.proofs.Common.{ap, ◌∙◌, arith}
 use Rattle.byteorder.specs.Endian.{little_bytes}
 use Rattle.ec_base.specs.Bytes.{with_bytes}
 use Rattle.ec_memory.specs.Store.{store_byte}
-use Rattle.ec_frames.proofs.Writing.{has_global_word, laid_memory, writes_global}
+use Rattle.ec_frames.proofs.Ran.{laid_memory}
+use Rattle.ec_frames.proofs.Writing.{has_global_word, writes_global}
 use Rattle.ec_frames.proofs.node.NodeStore.set_global.Goals as goal
 
 pub set_word-requires : goal.set_word-requires
