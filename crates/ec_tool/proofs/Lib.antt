@@ -3,3 +3,8 @@ pub mod Short
 pub mod Lifting
 pub mod Verdicts
 pub mod Promised
+pub mod Choosing
+pub mod Growth
+pub mod Rooms
+pub mod Following
+pub mod Ending

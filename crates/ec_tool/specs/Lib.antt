@@ -1,6 +1,6 @@
 pub mod Report
 pub mod Inputs
-pub mod Running
 pub mod Emerald
 pub mod Promises
 pub mod Steps
+pub mod Running

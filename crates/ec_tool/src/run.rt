@@ -1,15 +1,48 @@
-//! The run of an accepted source.
-ghost use Rattle.std.specs.Prelude.{◌≡◌, [], IfOk};
+//! The run of an accepted source: its code is built and loaded, and each Ready process has its turn, up to the end.
+ghost use Rattle.std.specs.Prelude.{◌≡◌, ℕ, ◌-◌, ◌<◌, ◌≤◌, ◌^◌, [], List, Option, Some, None, map, length, IfOk};
+ghost use Rattle.ec_world.specs.Run.{statuses_of, is_ready};
 ghost use Rattle.ec_lower.specs.Short.{IsShort};
-ghost use Rattle.ec_network.specs.Net.{IsOneNode, empty_net};
+ghost use Rattle.ec_network.specs.Answers.{CanNumber, ForShown};
+ghost use Rattle.ec_network.specs.Net.{AreBuilt, IsOneNode, empty_net, counts_of};
+ghost use Rattle.rv_codegen.specs.Meaning.{rv_meaning};
 ghost use Rattle.ec_tool.specs.Inputs.{default_budget};
-ghost use Rattle.ec_tool.specs.Emerald.{RunsTo};
+ghost use Rattle.ec_tool.specs.Report.{report, load_report};
+ghost use Rattle.ec_tool.specs.Emerald.{RunsTo, status_of};
+ghost use Rattle.ec_tool.specs.Running.{IsShown, IsStep, IsFullEnd, Follows, IsAfter, IsEnded, IsReported};
 
 use crate::answer::Answer;
+use crate::processes::{any_failed, are_over, ready_ones, statuses_in};
+use crate::report::{ReportEnd, load_report, report};
+use crate::status::Status;
 use ec_ast::Program;
-use ec_network::network::Network;
+use ec_ir::program::IrProgram;
+use ec_lower::lower::lower;
+use ec_network::image::{Image, Images};
+use ec_network::network::{NetError, Network};
 use ec_world::node::NodeSpec;
+use ec_world::process::ProcStatus;
+use ec_world::robin::next_ready;
+use ec_world::run::RunEnd;
+use ec_world::value::Pid;
+use rv_codegen::generate::build;
 use std::alloc::{AllocError, Global};
+
+/// How many entries a run does at most.
+const BUDGET: u64 = 1_000_000;
+
+/// What comes next in a run: its end, or a turn of a process.
+#[derive(Clone, Copy)]
+pub(crate) enum Step {
+    Stops(RunEnd),
+    Turns(Pid),
+}
+
+/// How many entries a run has done, and how it came to its end.
+#[derive(Clone, Copy)]
+struct Ended {
+    done: u64,
+    end: ReportEnd,
+}
 
 /// Runs a program on nodes, each Ready process in turn, and reports the end.
 pub(crate) fn run(
@@ -23,5 +56,170 @@ pub(crate) fn run(
     requires empty { net.old ≡ empty_net }
     ensures { IfOk result (λ answer. RunsTo program.now specs.now [] default_budget net.old net.new answer.status answer.text.items) }
 {
-    Err(AllocError)
+    let ir = lower(alloc, program)?;
+    let images = build_images(alloc, &ir)?;
+    match net.load(ir, images, specs) {
+        Ok(_) => run_loaded(alloc, specs, net),
+        Err(error) => {
+            let end = full_end(error)?;
+            answer_full(alloc, specs, net, end)
+        }
+    }
+}
+
+/// The code of a program for each kind of node.
+fn build_images(alloc: Global, ir: &IrProgram) -> Result<Images, AllocError>
+    ensures { IfOk result (AreBuilt rv_meaning ir.now) }
+{
+    let built = build(alloc, ir)?;
+    Ok(Images {
+        rv: Image {
+            code: built.code,
+            table: built.table,
+        },
+    })
+}
+
+/// The answer where the load found no room.
+fn answer_full(
+    alloc: Global,
+    specs: &[NodeSpec],
+    net: &Network,
+    end: ReportEnd,
+) -> Result<Answer, AllocError>
+    requires empty { net.now ≡ empty_net }
+    requires nodes { IsOneNode specs.now }
+    ensures status { IfOk result (λ answer. answer.status ≡ Status.Full) }
+    ensures text { IfOk result (λ answer. answer.text.items ≡ load_report specs.now end) }
+{
+    Ok(Answer {
+        status: Status::Full,
+        text: load_report(alloc, net, specs, end)?,
+    })
+}
+
+/// Runs what was just loaded, and reports the end.
+fn run_loaded(alloc: Global, specs: &[NodeSpec], net: &mut Network) -> Result<Answer, AllocError>
+    requires loaded { Follows specs.now net.old 0 net.old }
+    requires nodes { IsOneNode specs.now }
+    ensures { IfOk result (λ answer. IsReported specs.now net.old net.new answer.status answer.text.items) }
+{
+    let ended = run_entries(alloc, specs, net)?;
+    answer_end(alloc, specs, net, ended.done, ended.end)
+}
+
+/// Does entries up to the end.
+fn run_entries(alloc: Global, specs: &[NodeSpec], net: &mut Network) -> Result<Ended, AllocError>
+    requires loaded { Follows specs.now net.old 0 net.old }
+    requires nodes { IsOneNode specs.now }
+    ensures { IfOk result (λ ended. IsEnded specs.now net.old ended.done ended.end net.new) }
+{
+    let mut done = 0;
+    let mut last = None;
+    'entries: loop {
+        match next_step(alloc, net, done, last)? {
+            Step::Stops(how) => {
+                let end = ReportEnd::Ends(how);
+                return Ok(Ended { done, end });
+            }
+            Step::Turns(p) => match net.turn(p) {
+                Ok(_) => {
+                    done += 1;
+                    last = Some(p);
+                }
+                Err(error) => {
+                    let end = full_end(error)?;
+                    return Ok(Ended { done, end });
+                }
+            },
+        }
+    }
+}
+
+/// The end of a run where the network refused a call as a node was full.
+fn full_end(error: NetError) -> Result<ReportEnd, AllocError>
+    ensures { IfOk result (IsFullEnd error) }
+{
+    match error {
+        NetError::Full {
+            node,
+            part,
+            need,
+            free,
+        } => Ok(ReportEnd::IsFull {
+            node,
+            part,
+            need,
+            free,
+        }),
+        NetError::Memory => Err(AllocError),
+    }
+}
+
+/// What comes next, after so many entries.
+fn next_step(alloc: Global, net: &Network, done: u64, last: Option<Pid>) -> Result<Step, AllocError>
+    requires shown { IsShown net.now }
+    requires numbers { CanNumber net.now }
+    ensures { IfOk result (λ step. ForShown rv_meaning net.now (λ c w. IsStep (statuses_of w) done last step)) }
+{
+    let statuses = statuses_in(alloc, net)?;
+    let ready = ready_ones(alloc, &statuses)?;
+    Ok(step_of(&statuses, &ready, done, last))
+}
+
+/// What comes next, by the statuses of the processes, the marks of the Ready ones, the entries done and the last turn.
+fn step_of(statuses: &[ProcStatus], ready: &[bool], done: u64, last: Option<Pid>) -> Step
+    requires marks { ready.now ≡ map is_ready statuses.now }
+    requires few { length ready.now ≤ 2 ^ 32 }
+    ensures { IsStep statuses.now done last result }
+{
+    if are_over(statuses) {
+        return Step::Stops(RunEnd::Finished);
+    }
+    let Some(p) = next_ready(ready, last) else {
+        return Step::Stops(RunEnd::Stuck);
+    };
+    if done >= BUDGET {
+        return Step::Stops(RunEnd::Spent);
+    }
+    Step::Turns(p)
+}
+
+/// The status and the report of a run that has come to its end.
+fn answer_end(
+    alloc: Global,
+    specs: &[NodeSpec],
+    net: &Network,
+    done: u64,
+    end: ReportEnd,
+) -> Result<Answer, AllocError>
+    requires shown { IsShown net.now }
+    requires numbers { CanNumber net.now }
+    requires nodes { ForShown rv_meaning net.now (λ c w. w.common.nodes ≡ length specs.now) }
+    requires few { length specs.now < 2 ^ 32 - 1 }
+    ensures status { IfOk result (λ answer. ForShown rv_meaning net.now (λ c w. answer.status ≡ status_of (statuses_of w) end)) }
+    ensures text { IfOk result (λ answer. ForShown rv_meaning net.now (λ c w. answer.text.items ≡ report w specs.now (counts_of net.now) done end)) }
+{
+    let statuses = statuses_in(alloc, net)?;
+    let text = report(alloc, net, specs, &statuses, done, end)?;
+    let status = status_after(&statuses, end);
+    Ok(Answer { status, text })
+}
+
+/// The status of an end.
+fn status_after(statuses: &[ProcStatus], end: ReportEnd) -> Status
+    ensures { result ≡ status_of statuses.now end }
+{
+    match end {
+        ReportEnd::Ends(RunEnd::Finished) => {
+            if any_failed(statuses) {
+                Status::SomeFailed
+            } else {
+                Status::Finished
+            }
+        }
+        ReportEnd::Ends(RunEnd::Stuck) => Status::Stuck,
+        ReportEnd::Ends(RunEnd::Spent) => Status::Spent,
+        ReportEnd::IsFull { .. } => Status::Full,
+    }
 }
