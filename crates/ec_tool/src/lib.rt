@@ -8,3 +8,5 @@ mod processes;
 pub mod report;
 mod run;
 pub mod status;
+#[cfg(test)]
+mod tests;

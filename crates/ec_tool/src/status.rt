@@ -1,4 +1,6 @@
 //! How the program ends.
+ghost use Rattle.std.specs.Prelude.{◌≡◌};
+ghost use Rattle.ec_tool.specs.Status.{code_of};
 
 /// The status with which the program ends.
 #[derive(Clone, Copy, PartialEq, Eq, Debug)]
@@ -25,4 +27,25 @@ pub enum Status {
     WriteFault,
     /// 10: there was no memory.
     NoMemory,
+}
+
+impl Status {
+    /// The number with which the process ends.
+    pub fn code(self) -> u8
+        ensures { result ≡ code_of self }
+    {
+        match self {
+            Status::Finished => 0,
+            Status::SomeFailed => 1,
+            Status::Usage => 2,
+            Status::SourceRefused => 3,
+            Status::InputRefused => 4,
+            Status::Spent => 5,
+            Status::Full => 6,
+            Status::Stuck => 7,
+            Status::ReadFault => 8,
+            Status::WriteFault => 9,
+            Status::NoMemory => 10,
+        }
+    }
 }
