@@ -12,3 +12,4 @@ pub mod Can
 pub mod Running
 pub mod Native
 pub mod Readers
+pub mod Turning

@@ -7,3 +7,4 @@ mod native;
 pub mod image;
 pub mod network;
 mod readers;
+mod turning;
