@@ -10,3 +10,4 @@ pub mod Net
 pub mod Answers
 pub mod Can
 pub mod Running
+pub mod Load

@@ -3,5 +3,6 @@
 
 mod cluster;
 mod kernel;
+mod load;
 pub mod image;
 pub mod network;
