@@ -1,9 +1,8 @@
 -- The network after the load.
-use Rattle.std.proofs.Common.{◌≡◌, ℕ, zero, suc, List, [], ◌∷◌, length, Option, Some, None, refl, sym, ap, ◌∙◌, subst, get_or}
-use Rattle.std.specs.Prelude.{slice_get, ◌↔◌}
+use Rattle.std.proofs.Common.{◌≡◌, ℕ, zero, suc, List, [], ◌∷◌, length, Some, refl, sym, ap, ◌∙◌, subst, get_or}
+use Rattle.std.specs.Prelude.{slice_get}
 use Rattle.ec_world.specs.declared.node.NodeSpec.{NodeSpec}
 use Rattle.ec_world.specs.declared.node.Kind.TheVariants.{Riscv}
-use Rattle.ec_world.specs.Group.{Has}
 use Rattle.ec_ir.specs.declared.code.Parts.{Parts}
 use Rattle.ec_ir.specs.Meaning.{ir_start}
 use Rattle.ec_ir.specs.Fine.{Fine}

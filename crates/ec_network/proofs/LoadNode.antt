@@ -1,12 +1,11 @@
 -- The first node, call by call.
-use Rattle.std.proofs.Common.{◌≡◌, ◌≢◌, ℕ, zero, suc, ◌+◌, ◌<◌, ◌≤◌, List, [], ◌∷◌, length, Some, None, refl, sym, ap, ◌∙◌, subst, arith}
+use Rattle.std.proofs.Common.{◌≡◌, ℕ, List, [], length, Some, None, sym, ap, ◌∙◌, subst}
 use Rattle.std.specs.Prelude.{slice_get}
 use Rattle.ec_world.specs.declared.node.NodeSpec.{NodeSpec}
-use Rattle.ec_world.specs.Group.{Has}
 use Rattle.ec_ir.specs.declared.code.Parts.{Parts}
 use Rattle.ec_ir.specs.Fine.{Fine}
 use Rattle.ec_nodes.specs.declared.key.Key.{Key}
-use Rattle.ec_nodes.specs.Store.{Store, Grown, text_bytes}
+use Rattle.ec_nodes.specs.Store.{Store, Grown}
 use Rattle.ec_nodes.specs.Held.{InPool, Distinct}
 use Rattle.ec_nodes.proofs.World.{global_kept}
 use Rattle.ec_frames.specs.declared.node.NodeStore.{NodeStore}

@@ -1,8 +1,6 @@
 -- Room for the load.
-use Rattle.std.proofs.Common.{◌≡◌, ℕ, zero, suc, ◌+◌, ◌-◌, ◌<◌, ◌≤◌, List, [], ◌∷◌, length, Option, Some, None, refl, sym, ap, ◌∙◌, subst, arith, inl, inr}
-use Rattle.std.specs.Prelude.{slice_get, ◌↔◌}
+use Rattle.std.proofs.Common.{◌≡◌, ℕ, zero, suc, ◌+◌, ◌≤◌, List, [], ◌∷◌, length, refl, sym, ap, subst, arith, inr}
 use Rattle.ec_world.specs.declared.node.NodeSpec.{NodeSpec}
-use Rattle.ec_world.specs.Group.{Has}
 use Rattle.ec_world.proofs.Members.{has_none}
 use Rattle.ec_ir.specs.declared.code.Parts.{Parts}
 use Rattle.ec_ir.specs.Meaning.{ir_start}
@@ -13,8 +11,8 @@ use Rattle.ec_nodes.specs.declared.room.Part.TheVariants.{Blocks, Text}
 use Rattle.ec_nodes.specs.Store.{text_bytes}
 use Rattle.ec_nodes.specs.Held.{Lacks, Fits}
 use Rattle.ec_nodes.proofs.Sums.{summed, summed_le}
-use Rattle.ec_network.specs.Room.{Room, BytesOf, FullAt, NoneFull, nothing, NoTexts, FirstTexts, held}
-use Rattle.ec_network.specs.Turns.{room_if, rooms_of, LoadFull}
+use Rattle.ec_network.specs.Room.{Room, BytesOf, NoneFull, nothing, NoTexts, FirstTexts, held}
+use Rattle.ec_network.specs.Turns.{rooms_of, LoadFull}
 use Rattle.ec_network.proofs.LoadNode.{literals_once}
 use Rattle.ec_network.proofs.LoadWorld.{held_first, texts_are}
 

@@ -1,5 +1,5 @@
 -- Texts that come into a pool in order, and those that a node has at first.
-use Rattle.std.proofs.Common.{◌≡◌, ℕ, zero, suc, ◌+◌, ◌-◌, ◌<◌, ◌≤◌, List, [], ◌∷◌, ◌++◌, length, take, drop, Some, None, refl, sym, ap, ◌∙◌, subst, arith, ◌⊎◌, inl, inr, ⊎_elim}
+use Rattle.std.proofs.Common.{◌≡◌, ℕ, zero, suc, ◌+◌, ◌<◌, ◌≤◌, List, [], ◌∷◌, ◌++◌, length, take, drop, Some, None, refl, sym, ap, ◌∙◌, arith, ⊎_elim}
 use Rattle.std.specs.Prelude.{slice_get}
 use Rattle.ec_base.proofs.Lists.{drop_at, take_next}
 use Rattle.ec_world.specs.Group.{Has}
@@ -8,7 +8,7 @@ use Rattle.ec_nodes.specs.Store.{Store, Tidy, text_bytes}
 use Rattle.ec_nodes.specs.Held.{InPool, Distinct}
 use Rattle.ec_nodes.proofs.Procs.{get_end}
 use Rattle.ec_frames.specs.declared.node.NodeStore.{NodeStore}
-use Rattle.ec_frames.specs.Node.{store_of, SameNode}
+use Rattle.ec_frames.specs.Node.{store_of}
 use Rattle.ec_frames.specs.Changes.{IsFresh, OnlyTables, Interns}
 use Rattle.ec_network.proofs.ActionsLists.{get_left, end_or}
 

@@ -1,7 +1,6 @@
 -- The first world: it is one between two entries, and its texts are literals.
-use Rattle.std.proofs.Common.{◌≡◌, ◌≢◌, ℕ, zero, suc, ◌+◌, ◌<◌, ◌≤◌, List, [], ◌∷◌, length, Option, Some, None, refl, sym, ap, ◌∙◌, subst, arith, inl, inr, ⊎_elim, ◌⊎◌}
+use Rattle.std.proofs.Common.{◌≡◌, ℕ, zero, suc, ◌<◌, ◌≤◌, List, [], ◌∷◌, Some, None, refl, sym, ap, ◌∙◌, subst, arith, inl, inr, ⊎_elim, ◌⊎◌}
 use Rattle.std.specs.Prelude.{slice_get, map, ◌↔◌}
-use Rattle.ec_base.specs.Stack.{top_of}
 use Rattle.ec_world.specs.declared.value.Value.{Value}
 use Rattle.ec_world.specs.declared.value.Value.TheVariants.{Str}
 use Rattle.ec_world.specs.declared.value.ValueType.{ValueType}
@@ -19,7 +18,6 @@ use Rattle.ec_ir.specs.declared.activation.IrActivation.{IrActivation}
 use Rattle.ec_ir.specs.Meaning.{ir_start, begun, live_values, variable}
 use Rattle.ec_ir.specs.Fine.{Fine, Typed}
 use Rattle.ec_nodes.specs.Things.{activation_at}
-use Rattle.ec_network.specs.Shows.{Worlds}
 use Rattle.ec_network.specs.Room.{Strings, FirstTexts, held}
 use Rattle.ec_network.specs.Room.Strings.{InField, InFrame, InConstant}
 use Rattle.ec_network.specs.Worlds.{IsPending, FineStack, FineProcess, FineFacts, FineWorld}

@@ -35,9 +35,10 @@ pub(crate) enum LoadError {
 }
 
 /// How many blocks the first world takes: one for the program's object and one for the activation on it.
-const FIRST: u64 = 2;
+const FIRST_BLOCKS: u64 = 2;
 
-/// Loads a program with its images onto one node.
+/// Loads a program with its images onto one node. Its literals, of which it needs the bytes, have fewer than 2^64: else
+/// it answers that there was no memory.
 pub(crate) fn load(
     alloc: Global,
     program: IrProgram,
@@ -52,12 +53,11 @@ pub(crate) fn load(
     ensures full { WhenLoadFull result (LoadFull program specs.now 0) }
 {
     let spec = &specs[0];
-    let bytes = match bytes_in(&program.parts().literals) {
-        Some(bytes) => bytes,
-        None => return Err(LoadError::Memory),
+    let Some(bytes) = bytes_in(&program.parts().literals) else {
+        return Err(LoadError::Memory);
     };
     let needs = Needs {
-        blocks: FIRST,
+        blocks: FIRST_BLOCKS,
         free_blocks: u64::from(spec.blocks),
         bytes,
         free_bytes: u64::from(spec.text),

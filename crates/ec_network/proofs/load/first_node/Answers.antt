@@ -1,4 +1,3 @@
-use Rattle.std.proofs.Common.{◌≡◌, ℕ, ◌+◌, ◌≤◌, List, length, Some, ap, ◌∙◌, subst, sym, arith, refl}
 use Rattle.ec_network.proofs.LoadTexts.{no_texts}
 use Rattle.ec_network.proofs.LoadNode.{first_node}
 use Rattle.ec_network.proofs.load.first_node.Goals as goal

@@ -1,7 +1,6 @@
-use Rattle.std.proofs.Common.{◌≡◌, ℕ, ◌+◌, ◌≤◌, List, length, take, Some, ap, ◌∙◌, subst, sym, arith, refl}
+use Rattle.std.proofs.Common.{◌≡◌, take, Some, ap, ◌∙◌, sym, arith}
 use Rattle.std.specs.Prelude.{slice_get}
 use Rattle.ec_nodes.specs.Store.{text_bytes}
-use Rattle.ec_frames.specs.Node.{store_of}
 use Rattle.ec_network.proofs.Nodes.{same_twice}
 use Rattle.ec_network.proofs.LoadTexts.{room_left, next_pool, only_twice}
 use Rattle.ec_network.proofs.load.intern_all.Goals as goal

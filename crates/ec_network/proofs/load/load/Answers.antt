@@ -1,4 +1,4 @@
-use Rattle.std.proofs.Common.{◌≡◌, ℕ, List, [], ◌∷◌, length, ap, ◌∙◌, sym, subst, refl}
+use Rattle.std.proofs.Common.{◌≡◌, List, [], ◌∷◌, length, ap, ◌∙◌, sym, subst, refl}
 use Rattle.ec_world.specs.declared.node.NodeSpec.{NodeSpec}
 use Rattle.ec_ir.specs.declared.code.Parts.{Parts}
 use Rattle.ec_ir.specs.Meaning.{ir_start}
@@ -37,4 +37,4 @@ returns-in-Ok-clause-fits c =
     let spec = spec_is c.args.specs.now c.requires.nodes.spec c.index-specs-0.result c.requires.nodes.one c.index-specs-0.is in
     let one : c.args.specs.now ≡ c.index-specs-0.result ∷ [] = c.requires.nodes.one ∙ ap (λ (s : NodeSpec). s ∷ []) (sym spec) in
     subst (λ (ss : List NodeSpec). NoneFull (rooms_of ss) nothing (held (ir_start c.args.program (length ss))) NoTexts (FirstTexts c.args.program (ir_start c.args.program (length ss)))) (sym one)
-    (load_fits c.args.program c.parts.ensures.fine c.index-specs-0.result _ (record { blocks = refl; free_blocks = c.from.ensures; bytes = c.in-Some.ensures ∙ ap (λ (p : Parts). text_bytes p.literals) c.parts.ensures.parts; free_bytes = c.from-2.ensures }) c.in_default.ensures.none)
+    (load_fits c.args.program c.parts.ensures.fine c.index-specs-0.result _ (record { blocks = refl; free_blocks = c.from.ensures; bytes = c.in-Some.ensures ∙ ap (λ (p : Parts). text_bytes p.literals) c.parts.ensures.parts; free_bytes = c.from-2.ensures }) c.in_default-lack_at.ensures.none)

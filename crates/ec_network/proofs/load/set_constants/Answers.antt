@@ -1,4 +1,4 @@
-use Rattle.std.proofs.Common.{◌≡◌, ℕ, ◌≤◌, List, length, ap, ◌∙◌, subst, arith, refl}
+use Rattle.std.proofs.Common.{◌≡◌, ℕ, length, ◌∙◌, subst, arith, refl}
 use Rattle.ec_frames.specs.Node.{store_of}
 use Rattle.ec_network.specs.Load.{HasConstants}
 use Rattle.ec_network.proofs.Nodes.{same_twice}
