@@ -13,3 +13,4 @@ pub mod Running
 pub mod Native
 pub mod Readers
 pub mod Turning
+pub mod Load

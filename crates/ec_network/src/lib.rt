@@ -4,6 +4,7 @@
 mod cluster;
 mod kernel;
 mod native;
+mod load;
 pub mod image;
 pub mod network;
 mod readers;

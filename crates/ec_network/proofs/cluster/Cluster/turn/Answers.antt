@@ -1,3 +1,5 @@
+use Rattle.std.proofs.Common.{ℕ}
+use Rattle.ec_network.specs.declared.kernel.Acted.{Acted}
 use Rattle.ec_network.proofs.TurningOn.{first_here, can, refused, turn_began, turn_ended, second_here, second_counts, second_can, turn_went, turn_short}
 use Rattle.ec_network.proofs.cluster.Cluster.turn.Goals as goal
 
@@ -45,4 +47,4 @@ returns-in-Ok-EndedNow-clause-turned c = λ w holds.
     c.act.new.self c.in-Ok-EndedNow.field-0 c.in-Ok-EndedNow.ensures.acts c.in-Ok-EndedNow.field-0-is
 
 pub returns-in-Err-clause-full : goal.returns-in-Err-clause-full
-returns-in-Err-clause-full c = refused _ _ c.args.self.now c.args.p c.here-here.result c.in-Err.error c.requires.ready c.here-here.ensures c.requires.objects c.in-Err.ensures.full c.in-Err.ensures.only_new
+returns-in-Err-clause-full c = refused Acted ℕ c.args.self.now c.args.p c.here-here.result c.in-Err.error c.requires.ready c.here-here.ensures c.requires.objects c.in-Err.ensures.full c.in-Err.ensures.only_new
