@@ -1,6 +1,7 @@
 -- A turn of a process that is Ready: its action, and the code behind the stop where that is done.
-use Rattle.std.proofs.Common.{◌≡◌, ◌≢◌, ℕ, zero, suc, ◌+◌, ◌<◌, ◌^◌, true, List, [], ◌∷◌, Option, Some, None, refl, sym, ap, ◌∙◌, subst, arith}
+use Rattle.std.proofs.Common.{◌≡◌, ◌≢◌, ℕ, zero, suc, ◌+◌, ◌<◌, ◌^◌, ◌⊎◌, inl, ⊎_elim, Bool, true, List, [], ◌∷◌, Option, Some, None, refl, sym, ap, ◌∙◌, subst, arith}
 use Rattle.std.specs.Prelude.{◌-◌, length, slice_get, Err}
+use Rattle.std.proofs.lemmas.Option.{same_Some}
 use Rattle.ec_base.specs.Stack.{top_of, below_of}
 use Rattle.ec_world.specs.declared.process.ProcStatus.TheVariants.{Ready}
 use Rattle.ec_world.specs.World.{stack_at, GoOn, go_on, go_on_unless}
@@ -21,19 +22,24 @@ use Rattle.ec_network.specs.declared.kernel.Acted.TheVariants.{WentOn, Began, En
 use Rattle.ec_network.specs.declared.kernel.ActError.{ActError}
 use Rattle.ec_network.specs.declared.kernel.ActError.TheVariants.{Full, Memory}
 use Rattle.ec_network.specs.Shows.{Worlds}
+use Rattle.ec_network.specs.Room.{Strings}
+use Rattle.ec_nodes.specs.Store.{Store}
+use Rattle.ec_nodes.specs.Held.{InPool}
 use Rattle.ec_network.specs.Worlds.{FineWorld, ir_action, ir_turn, status_at}
 use Rattle.ec_network.specs.Steps.{FineMiddle, AfterAction}
-use Rattle.ec_network.specs.Turns.{TurnOf}
-use Rattle.ec_network.specs.Turns.StepsTo.{Rests, Waits}
+use Rattle.ec_network.specs.Turns.{TurnOf, SamePools}
+use Rattle.ec_network.specs.Turns.StepsTo.{Idles, Rests, Waits}
 use Rattle.ec_network.specs.Holds.{Holds, Steady}
 use Rattle.ec_network.specs.Kernel.{IsHere, Acts, FullHere}
 use Rattle.ec_network.specs.Can.{CanAct, CreatesAt, WhenLacks}
-use Rattle.ec_network.specs.Net.{count_if, count_of, EntryFull}
-use Rattle.ec_network.specs.Answers.{on_first}
+use Rattle.ec_network.specs.Net.{Net, whole_net, count_if, count_of, EntryFull}
+use Rattle.ec_network.specs.Answers.{on_first, TurnAnswer, ForShown}
+use Rattle.ec_network.specs.declared.network.Did.TheVariants.{Idle, Acted as Done}
 use Rattle.ec_network.specs.Running.{HasLaws, CanGoOn, HasGoneOn}
 use Rattle.ec_network.specs.Turning.{Turned}
 use Rattle.ec_network.proofs.Actions.{acts_after}
-use Rattle.ec_network.proofs.ActionsRoom.{idle_stack, none_full, full_here}
+use Rattle.ec_network.proofs.ActionsRoom.{idle_stack, idle_action, none_full, none_full_idle, full_here}
+use Rattle.ec_network.proofs.ActionsAfter.{strings_stand}
 use Rattle.ec_network.proofs.FindingHere.{here_exists, here_middle, status_shown}
 use Rattle.ec_network.proofs.FindingCan.{can_act}
 use Rattle.ec_network.proofs.MachineLaws.{rv_laws}
@@ -183,3 +189,69 @@ refused T U net p h Memory status here few full creates = tt
 refused T U net p h (Full need free) status here few full creates = λ w holds.
     let c = can net w p holds status h here few in
     full_here rv_meaning net w p h c.stop creates.class 0 need free holds (sym (status_shown net w p holds.shows) ∙ status) here c.is (creates.is c.stop c.is) full
+
+-- ---- what a turn answers
+
+-- a process that isn't Ready does nothing
+module _ {S : Type 0} (M : MachineMeaning S) (net : Cluster) (w : Worlds) (p : ℕ) (holds : Holds M net w) (idle : status_at w p ≢ Some Ready) where
+  no_turn : ir_turn net.program w p ≡ w
+  no_turn = ap (λ (v : Worlds). GoOn ir_meaning (ir_silent net.program) v p) (idle_action w p idle) ∙ rests_on net.program w p idle
+
+  same_pools : SamePools net net w
+  same_pools = record {
+    each = λ j s t text e f.
+        let same : t ≡ s = cc in (
+          λ h. inl (subst (λ (x : Store). InPool x text) same h),
+          λ h. subst (λ (x : Store). InPool x text) (sym same) (⊎_elim
+              (λ (g : InPool s text). g)
+              (λ (g : Strings net.program w j text). strings_stand net w holds.shows j s text e g)
+              h)
+        );
+  }
+
+  pub idle_turn : TurnAnswer M net w p (whole_net net) Idle
+  idle_turn = record {
+    after = net;
+    is = refl;
+    turn = record { steps = Idles idle refl holds.shows; pools = subst (λ (v : Worlds). SamePools net net v) (sym (idle_action w p idle)) same_pools };
+    holds = subst (λ (v : Worlds). Holds M net v) (sym no_turn) holds;
+    fits = none_full_idle M net w p holds idle;
+    counts = counts;
+    idle = (λ e. idle, λ h. refl);
+  }
+    where
+      counts : (k : ℕ) → count_of net k ≡ count_of net k + on_first k 0
+      counts zero = omega arith
+      counts (suc k) = omega arith
+
+-- of each world that a network shows
+module _ (net net' : Net) (shown : Cluster) (p : ℕ) (whole : net.whole ≡ true) (loaded : net.loaded ≡ Some shown) where
+  is_whole : (n : Net) (c : Cluster) → n.loaded ≡ Some c → n.whole ≡ true → n ≡ whole_net c
+  is_whole n c e f = by_parts n.loaded n.whole e f
+    where
+      by_parts : (x : Option Cluster) (b : Bool) → x ≡ Some c → b ≡ true → record { loaded = x; whole = b } ≡ whole_net c
+      by_parts x b g h = cc
+
+  same_shown : (c : Cluster) → net.loaded ≡ Some c → shown ≡ c
+  same_shown c e = same_Some shown c (sym loaded ∙ e)
+
+  pub answer_rests : net' ≡ net → ((slice_get shown.statuses p ≡ Some Ready) → ⊥) → ForShown rv_meaning net (λ c w. TurnAnswer rv_meaning c w p net' Idle)
+  answer_rests same rests = λ c w e holds.
+      let is = same_shown c e in
+      let idle : status_at w p ≢ Some Ready = λ s. rests (ap (λ (x : Cluster). slice_get x.statuses p) is ∙ status_shown c w p holds.shows ∙ s) in
+      subst (λ (n : Net). TurnAnswer rv_meaning c w p n Idle) (sym (same ∙ is_whole net c e whole)) (idle_turn rv_meaning c w p holds idle)
+
+  pub answer_turned : (after : Cluster) (steps : ℕ) → net'.loaded ≡ Some after → net'.whole ≡ true → slice_get shown.statuses p ≡ Some Ready → ((w : Worlds) → Holds rv_meaning shown w → Turned rv_meaning shown w p after steps) → ForShown rv_meaning net (λ c w. TurnAnswer rv_meaning c w p net' (Done steps))
+  answer_turned after steps new new_whole status turned = λ c w e holds.
+      let is = same_shown c e in
+      let t = subst (λ (x : Cluster). Holds rv_meaning x w → Turned rv_meaning x w p after steps) is (turned w) holds in
+      let ready : status_at w p ≡ Some Ready = sym (status_shown c w p holds.shows) ∙ ap (λ (x : Cluster). slice_get x.statuses p) (sym is) ∙ status in
+      record {
+        after = after;
+        is = is_whole net' after new new_whole;
+        turn = t.turn;
+        holds = t.holds;
+        fits = t.fits;
+        counts = t.counts;
+        idle = (λ e. cc, λ h. absurd (h ready));
+      }
