@@ -1,5 +1,5 @@
 //! The load of a program onto its nodes.
-ghost use Rattle.std.specs.Prelude.{◌≡◌, ◌<◌, ◌≤◌, ◌^◌, ℕ, List, [], length, IfOk, OnOk, IfSome, Some, None, slice_get};
+ghost use Rattle.std.specs.Prelude.{◌≡◌, ◌<◌, ◌≤◌, ◌^◌, ℕ, List, [], length, IfOk, OnOk, IfSome, IfNone, Some, None, slice_get};
 ghost use Rattle.ec_frames.specs.Changes.{OnlyTables};
 ghost use Rattle.ec_frames.specs.Node.{store_of, row_of, Laid, SameNode};
 ghost use Rattle.ec_ir.specs.Fine.{Fine};
@@ -37,8 +37,8 @@ pub(crate) enum LoadError {
 /// How many blocks the first world takes: one for the program's object and one for the activation on it.
 const FIRST_BLOCKS: u64 = 2;
 
-/// Loads a program with its images onto one node. Its literals, of which it needs the bytes, have fewer than 2^64: else
-/// it answers that there was no memory.
+/// Loads a program with its images onto one node. Literals of 2^64 bytes or more, which no memory
+/// has, are want of memory too.
 pub(crate) fn load(
     alloc: Global,
     program: IrProgram,
@@ -77,7 +77,8 @@ pub(crate) fn load(
 
 /// How many bytes the texts have, where that is a number of 64 bits.
 fn bytes_in(texts: &Seq<Text>) -> Option<u64>
-    ensures { IfSome result (λ bytes. bytes ≡ text_bytes texts.now) }
+    ensures some { IfSome result (λ bytes. bytes ≡ text_bytes texts.now) }
+    ensures none { IfNone result (2 ^ 64 ≤ text_bytes texts.now) }
 {
     let mut bytes: u64 = 0;
     for i in 0..texts.len() {

@@ -16,7 +16,7 @@ returns-in-Some-lack_at-clause-full c =
     let spec = spec_is c.args.specs.now c.requires.nodes.spec c.index-specs-0.result c.requires.nodes.one c.index-specs-0.is in
     let one : c.args.specs.now ≡ c.index-specs-0.result ∷ [] = c.requires.nodes.one ∙ ap (λ (s : NodeSpec). s ∷ []) (sym spec) in
     subst (λ (ss : List NodeSpec). LoadFull c.args.program ss 0 c.in-Some-lack_at.lack.part c.in-Some-lack_at.lack.need c.in-Some-lack_at.lack.free) (sym one)
-    (load_full c.args.program c.parts.ensures.fine c.index-specs-0.result _ (record { blocks = refl; free_blocks = c.from.ensures; bytes = c.in-Some.ensures ∙ ap (λ (p : Parts). text_bytes p.literals) c.parts.ensures.parts; free_bytes = c.from-2.ensures }) c.in-Some-lack_at.lack.part c.in-Some-lack_at.lack.need c.in-Some-lack_at.lack.free c.in-Some-lack_at.ensures.some.1)
+    (load_full c.args.program c.parts.ensures.fine c.index-specs-0.result _ (record { blocks = refl; free_blocks = c.from.ensures; bytes = c.in-Some.ensures.some ∙ ap (λ (p : Parts). text_bytes p.literals) c.parts.ensures.parts; free_bytes = c.from-2.ensures }) c.in-Some-lack_at.lack.part c.in-Some-lack_at.lack.need c.in-Some-lack_at.lack.free c.in-Some-lack_at.ensures.some.1)
 
 pub returns-in-Ok-clause-loaded : goal.returns-in-Ok-clause-loaded
 returns-in-Ok-clause-loaded c =
@@ -37,4 +37,4 @@ returns-in-Ok-clause-fits c =
     let spec = spec_is c.args.specs.now c.requires.nodes.spec c.index-specs-0.result c.requires.nodes.one c.index-specs-0.is in
     let one : c.args.specs.now ≡ c.index-specs-0.result ∷ [] = c.requires.nodes.one ∙ ap (λ (s : NodeSpec). s ∷ []) (sym spec) in
     subst (λ (ss : List NodeSpec). NoneFull (rooms_of ss) nothing (held (ir_start c.args.program (length ss))) NoTexts (FirstTexts c.args.program (ir_start c.args.program (length ss)))) (sym one)
-    (load_fits c.args.program c.parts.ensures.fine c.index-specs-0.result _ (record { blocks = refl; free_blocks = c.from.ensures; bytes = c.in-Some.ensures ∙ ap (λ (p : Parts). text_bytes p.literals) c.parts.ensures.parts; free_bytes = c.from-2.ensures }) c.in_default-lack_at.ensures.none)
+    (load_fits c.args.program c.parts.ensures.fine c.index-specs-0.result _ (record { blocks = refl; free_blocks = c.from.ensures; bytes = c.in-Some.ensures.some ∙ ap (λ (p : Parts). text_bytes p.literals) c.parts.ensures.parts; free_bytes = c.from-2.ensures }) c.in_default-lack_at.ensures.none)
