@@ -1,6 +1,6 @@
 -- The top of a list and what lies below it.
 use Rattle.std.proofs.Common.{◌≡◌, ℕ, suc, ◌-◌, ◌<◌, List, [], ◌∷◌, ◌++◌, length, Option, Some, None, refl, sym, ap, ◌∙◌, arith, get_or}
-use Rattle.std.specs.Prelude.{slice_get, IsSome, ◌↔◌}
+use Rattle.std.specs.Prelude.{IsSome, ◌↔◌}
 use Rattle.std.specs.Option.{option_to_list}
 use Rattle.ec_base.specs.Stack.{top_of, below_of}
 

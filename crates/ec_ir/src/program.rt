@@ -4,8 +4,8 @@ ghost use Rattle.std.specs.Prelude.{◌≡◌};
 use crate::code::Parts;
 use std::marker::Model;
 
-/// A program that keeps the facts of `Fine`: every jump leads forward to a place of its operation, every path behind a
-/// stop reaches a stop, and variables, fields and constants have static types.
+/// A program that keeps the facts of `Fine`: code behind a stop reaches a stop, operands and results have the static
+/// types of their variables, live lists cover what is read, and the whole is small.
 #[derive(Drop)]
 pub struct IrProgram {
     parts: Parts,

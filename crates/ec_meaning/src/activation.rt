@@ -48,7 +48,12 @@ impl Activation for SourceActivation {
         self.pending
     }
 
-    fn begin(alloc: Global, op: OpNo, own: Oid, args: Values) -> Result<SourceActivation, AllocError> {
+    fn begin(
+        alloc: Global,
+        op: OpNo,
+        own: Oid,
+        args: Values,
+    ) -> Result<SourceActivation, AllocError> {
         Ok(SourceActivation {
             operation: op,
             own,

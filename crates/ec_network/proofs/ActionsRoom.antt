@@ -129,7 +129,7 @@ module _ {S : Type 0} (M : MachineMeaning S) (net net' : Cluster) (w : Worlds) (
 
 -- ---- a process that isn't Ready
 
-idle_stack : (x : Option (Proc IrActivation)) → status_of x ≢ Some Ready → ready_stack x ≡ []
+pub idle_stack : (x : Option (Proc IrActivation)) → status_of x ≢ Some Ready → ready_stack x ≡ []
 idle_stack None h = refl
 idle_stack (Some proc) h = by_status proc.status h
   where

@@ -1,6 +1,6 @@
 -- Code behind the stop of the top frame: the machine comes to the next stop, and the network then shows the world of the
 -- turn.
-use Rattle.std.proofs.Common.{◌≡◌, ℕ, zero, suc, ◌+◌, ◌^◌, ◌<◌, ◌≤◌, false, List, [], ◌∷◌, length, Some, sym, ap, ◌∙◌, subst, arith}
+use Rattle.std.proofs.Common.{◌≡◌, ℕ, zero, suc, ◌+◌, ◌^◌, ◌<◌, ◌≤◌, false, List, [], ◌∷◌, length, Some, refl, sym, ap, ◌∙◌, subst, arith}
 use Rattle.std.specs.Prelude.{slice_get}
 use Rattle.ec_base.specs.Bytes.{Bytes}
 use Rattle.ec_base.specs.Stack.{top_of, below_of}
@@ -156,6 +156,12 @@ module _ {S : Type 0} (M : MachineMeaning S) (traps : Trapping S) (net m : Clust
       steps = Runs m gone.before gone.after acted.middle gone.top gone.done (ap (λ (v : Worlds). top_of (stack_at v p)) (sym turn_is) ∙ gone.lands) gone.goes turn_holds.shows;
       pools = gone.pools net (ir_action w p) acted.pools;
     }
+
+    pub turn_few : ((op : ℕ) → words_of m.images.rv.code op < 2 ^ 26) → steps < 2 ^ 32
+    turn_few small =
+        let few = gone.few gone.before.operation refl in
+        let low = small gone.before.operation in
+        omega (arith, few, low)
 
     pub turn_counts : (node : NodeStore) → net.nodes ≡ node ∷ [] → (k : ℕ) → count_of net' k ≡ count_of net k + on_first k steps
     turn_counts node one zero =

@@ -111,3 +111,8 @@ abbrev pub WhenLacks : {T : Type 0} → Result T ActError → (ℕ → ℕ → T
 WhenLacks (Ok x) P = Unit {0}
 WhenLacks (Err Memory) P = Unit {0}
 WhenLacks (Err (Full need free)) P = P need free
+
+-- the stop is the creation of an object of a class
+pub record CreatesAt (net : Cluster) (h : Here) : Type 0 where
+  pub class : ℕ
+  pub is : (stop : StopRec) → stop_at net.program h.operation h.at ≡ Some stop → stop.stop ≡ New (Made class)

@@ -12,3 +12,5 @@ pub mod Can
 pub mod Running
 pub mod Native
 pub mod Readers
+pub mod Turning
+pub mod Load

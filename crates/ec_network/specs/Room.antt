@@ -70,5 +70,3 @@ NoTexts k text = ⊥
 
 abbrev pub FirstTexts : Parts → Worlds → ℕ → List ℕ → Type 0
 FirstTexts program w k text = Has program.literals text ⊎ Strings program w k text
-
--- ---- pools along a run: what was there, and the strings of the world after each action

@@ -4,7 +4,7 @@ ghost use Rattle.ec_ir.specs.declared.code.StopRec.{StopRec};
 ghost use Rattle.ec_ir.specs.Meaning.{stop_at};
 ghost use Rattle.ec_world.specs.declared.class.ClassNo.TheVariants.{Made};
 ghost use Rattle.ec_network.specs.Kernel.{IsHere, Enters, Prints, Defines, Creates, Returns, Finishes, Acts, FullHere};
-ghost use Rattle.ec_network.specs.Can.{CanAct, CanReadSlot, CanDefineFrom, CanCreate, CanReturn, HasRoom, WhenLacks};
+ghost use Rattle.ec_network.specs.Can.{CanAct, CanReadSlot, CanDefineFrom, CanCreate, CanReturn, HasRoom, CreatesAt, WhenLacks};
 
 use crate::cluster::Cluster;
 use ec_ir::code::{Parts, StopRec};
@@ -194,6 +194,7 @@ impl Cluster {
         requires can { CanAct self.old p here }
         ensures acts { IfOk result (λ acted. (stop : StopRec) → stop_at self.old.program here.operation here.at ≡ Some stop → Acts self.old self.new p here stop acted) }
         ensures full { WhenLacks result (FullHere self.old 0) }
+        ensures only_new { WhenLacks result (λ need free. CreatesAt self.old here) }
         ensures unchanged { WhenLacks result (λ need free. self.new ≡ self.old) }
     {
         let stop = stop_of(self.program.parts(), here.operation, here.at);

@@ -4,6 +4,8 @@
 mod cluster;
 mod kernel;
 mod native;
+mod load;
 pub mod image;
 pub mod network;
 mod readers;
+mod turning;

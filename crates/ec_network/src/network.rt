@@ -4,6 +4,8 @@ ghost use Rattle.ec_network.specs.Net.{empty_net};
 
 use crate::cluster::Cluster;
 use crate::image::Images;
+use crate::kernel::ActError;
+use crate::load::{LoadError, load};
 use ec_ir::program::IrProgram;
 use ec_nodes::room::Part;
 use ec_world::node::NodeSpec;
@@ -101,8 +103,20 @@ impl Network {
         ensures unchanged { WhenFull result (λ node part need free. self.new ≡ self.old) }
         ensures not_whole { WhenMemory result (self.new.whole ≡ false) }
     {
-        self.whole = false;
-        Err(NetError::Memory)
+        match load(self.alloc, program, images, specs) {
+            Ok(cluster) => {
+                self.cluster = Some(cluster);
+                self.whole = true;
+                Ok(Did::Loaded)
+            }
+            Err(LoadError::Full { part, need, free }) => Err(NetError::Full {
+                node: 0,
+                part,
+                need,
+                free,
+            }),
+            Err(LoadError::Memory) => Err(NetError::Memory),
+        }
     }
 
     /// A turn of a process: the action of its stop, then machine code up to the next stop. It takes at most as many
@@ -117,8 +131,25 @@ impl Network {
         ensures unchanged { WhenFull result (λ node part need free. self.new ≡ self.old) }
         ensures not_whole { WhenMemory result (self.new.whole ≡ false) }
     {
-        self.whole = false;
-        Err(NetError::Memory)
+        let Some(cluster) = &mut self.cluster else {
+            unreachable!()
+        };
+        if !cluster.is_ready(p) {
+            return Ok(Did::Idle);
+        }
+        match cluster.turn(p) {
+            Ok(steps) => Ok(Did::Acted { steps }),
+            Err(ActError::Full { need, free }) => Err(NetError::Full {
+                node: 0,
+                part: Part::Blocks,
+                need,
+                free,
+            }),
+            Err(ActError::Memory) => {
+                self.whole = false;
+                Err(NetError::Memory)
+            }
+        }
     }
 
     /// A move of an object's group to a node by the operator. It is idle where the object or the node isn't there, or a

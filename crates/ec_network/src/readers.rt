@@ -1,5 +1,6 @@
 //! What a report reads of a network.
-ghost use Rattle.std.specs.Prelude.{◌≡◌, IfSome, IfNone, Some, None, slice_get};
+ghost use Rattle.std.specs.Prelude.{◌≡◌, ◌↔◌, IsTrue, IfSome, IfNone, Some, None, slice_get};
+ghost use Rattle.ec_world.specs.declared.process.ProcStatus.TheVariants.{Ready};
 ghost use Rattle.ec_world.specs.Effects.{object_at};
 ghost use Rattle.ec_world.specs.Moves.{is_idle_move};
 ghost use Rattle.ec_world.specs.Run.{statuses_of};
@@ -24,6 +25,16 @@ impl Cluster {
         ensures is { (w : Worlds) → Holds rv_meaning self.now w → result ≡ status_at w p }
     {
         self.statuses.get(p as usize).copied()
+    }
+
+    /// Whether a process is there and Ready.
+    pub(crate) fn is_ready(&self, p: Pid) -> bool
+        ensures { IsTrue result ↔ (slice_get self.now.statuses p ≡ Some Ready) }
+    {
+        match self.statuses.get(p as usize) {
+            Some(ProcStatus::Ready) => true,
+            _ => false,
+        }
     }
 
     /// The name of an object's class, where the object is there.

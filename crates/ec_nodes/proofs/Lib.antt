@@ -8,6 +8,5 @@ pub mod Sums
 pub mod Items
 pub mod OneNode
 pub mod Texts
-pub mod Full
 pub mod Ran
 pub mod Create

@@ -3,5 +3,4 @@ pub mod Things
 pub mod Held
 pub mod Shows
 pub mod Worlds
-pub mod Full
 pub mod Items

@@ -20,6 +20,7 @@ defaults_over values fields i h = ap (λ x. values ++ field_defaults x) (drop_ov
     drop_over [] (suc i) h = refl
     drop_over (x ∷ xs) zero h = absurd (omega arith)
     drop_over (x ∷ xs) (suc i) h = drop_over xs i (omega arith)
+
     no_more : (xs : List Value) → xs ++ [] ≡ xs
     no_more [] = refl
     no_more (x ∷ xs) = ap (λ r. x ∷ r) (no_more xs)

@@ -1,5 +1,5 @@
 -- A move by the operator: an event, or nothing.
-use Rattle.std.specs.Prelude.{ℕ, suc, ◌+◌, Bool, true, false, ◌||◌, not, List, [], ◌∷◌, ◌++◌, Option, Some, None, nat_lt, if◌then◌else◌}
+use Rattle.std.specs.Prelude.{ℕ, suc, Bool, true, false, ◌||◌, not, [], ◌∷◌, ◌++◌, Option, Some, None, nat_lt}
 use Rattle.ec_world.specs.declared.event.Event.TheVariants.{Moved}
 use Rattle.ec_world.specs.declared.object.ObjectRec.{ObjectRec}
 use Rattle.ec_world.specs.declared.common.Common.{Common}

@@ -1,6 +1,6 @@
 -- Values, and the value that a variable, a field or a constant has at first (Emerald report: 0, false, the empty string, nil).
 use lib.IntN.{pos}
-use Rattle.std.specs.Prelude.{List, [], ◌∷◌, map, false, ◌++◌, drop, length}
+use Rattle.std.specs.Prelude.{List, [], map, false, ◌++◌, drop, length}
 use Rattle.ec_world.specs.declared.value.Value.{Value}
 use Rattle.ec_world.specs.declared.value.Value.TheVariants.{Int, Str, Nil, Bool as Truth}
 use Rattle.ec_world.specs.declared.value.ValueType.{ValueType}

@@ -86,8 +86,8 @@ pub record HasSlots (table : StopTable) (program : Parts) : Type 0 where
 pub record HasStops (table : StopTable) (program : Parts) : Type 0 where
   pub many : (op : ℕ) (o : Operation) → operation_at program op ≡ Some o → length (row_or_empty (slice_get table.stops op)) ≡ length o.stops
 
--- the addresses of stops and of the words behind them, and the numbers of stops, are numbers of 32 bits; the code ends
--- below the blocks
+-- the addresses of stops and of the words behind them, and the numbers of stops, are numbers of 32 bits; the code has
+-- fewer than 2^26 words
 pub record SmallCode (table : StopTable) (code : Code) : Type 0 where
   pub stops : (op at address : ℕ) → stop_in table op at ≡ Some address → address + 4 < 2 ^ 32
   pub rows_few : (op : ℕ) → length (row_or_empty (slice_get table.stops op)) < 2 ^ 32

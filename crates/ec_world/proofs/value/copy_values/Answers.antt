@@ -1,4 +1,4 @@
-use Rattle.std.proofs.Common.{arith, sym}
+use Rattle.std.proofs.Common.{arith}
 use Rattle.std.proofs.lemmas.Grind.{common_steps}
 use Rattle.ec_base.proofs.Lists.{take_next}
 use Rattle.ec_world.proofs.value.copy_values.Goals as goal
