@@ -13,6 +13,7 @@ use ec_world::process::ProcStatus;
 use ec_world::value::{NodeNo, Oid, Pid, Text};
 use std::alloc::Global;
 use std::marker::Model;
+use thiserror::Error;
 
 /// What a call did: nothing, the load, a turn of so many instructions, or a move by the operator.
 #[derive(Clone, Copy, PartialEq, Eq, Debug)]
@@ -24,10 +25,11 @@ pub enum Did {
 }
 
 /// Why a call was refused.
-#[derive(Clone, Copy, PartialEq, Eq, Debug)]
+#[derive(Clone, Copy, PartialEq, Eq, Debug, Error)]
 pub enum NetError {
     /// A node has no room for the entry: the least such node, blocks before text, with what the entry needs there and
     /// what was free before it (blocks, or bytes of text). The network is as before the call.
+    #[error("node {node} is full: it needs {need} {unit}, and {free} are free", unit = unit_of(.part))]
     Full {
         node: NodeNo,
         part: Part,
@@ -35,7 +37,16 @@ pub enum NetError {
         free: u64,
     },
     /// There was no memory. The network isn't whole any more.
+    #[error("there was no memory")]
     Memory,
+}
+
+/// What a part of a node is counted in.
+fn unit_of(part: &Part) -> &'static str {
+    match part {
+        Part::Blocks => "blocks",
+        Part::Text => "bytes of text",
+    }
 }
 
 /// Nodes that run a program, all of whose code between stops is their own machines'.
