@@ -6,6 +6,7 @@ use crate::status::Status;
 use ec_network::network::Network;
 use ec_outside::mem_shelf::{MemFile, MemShelf};
 use ec_outside::mem_sink::MemSink;
+use std::alloc::{AllocError, Global};
 
 /// A program that prints `hi`.
 const HELLO: &[u8] =
@@ -40,24 +41,21 @@ const REPORT: &[u8] =
 /// Whether the call with these words ends with this status and this text, where the shelf moves `piece` bytes in a call
 /// and fails its calls of these numbers, and so does the sink with 4 bytes.
 fn answers(
-    rt: &HostRuntime,
+    alloc: Global,
     words: &[&str],
     piece: usize,
     shelf_fails: &[u64],
     sink_fails: &[u64],
     status: Status,
     text: &[u8],
-) -> bool
+) -> Result<bool, AllocError>
     requires { 0 < piece }
 {
-    let mut shelf = MemShelf::new(rt.alloc(), &FILES, piece, shelf_fails).expect(
-        rt,
-        "there is memory",
-    );
-    let mut sink = MemSink::new(rt.alloc(), 4, sink_fails).expect(rt, "there is memory");
-    let mut net = Network::empty(rt.alloc());
-    let ends = emerald(rt.alloc(), words, &mut shelf, &mut sink, &mut net);
-    ends == status && sink.taken() == text
+    let mut shelf = MemShelf::new(alloc, &FILES, piece, shelf_fails)?;
+    let mut sink = MemSink::new(alloc, 4, sink_fails)?;
+    let mut net = Network::empty(alloc);
+    let ends = emerald(alloc, words, &mut shelf, &mut sink, &mut net);
+    Ok(ends == status && sink.taken() == text)
 }
 
 #[test]
@@ -77,7 +75,7 @@ fn answers_by_cases(rt: HostRuntime) {
     ];
     for (words, status, text) in cases {
         assert!(rt;
-            answers(&rt, words, 100, &[], &[], status, text),
+            answers(rt.alloc(), words, 100, &[], &[], status, text) == Ok(true),
             "{status:?}"
         );
     }
@@ -93,7 +91,7 @@ fn meets_a_fault_at_each_read(rt: HostRuntime) {
             _ => (Status::Finished, REPORT),
         };
         assert!(rt;
-            answers(&rt, &WORDS, 1, &[j], &[], status, text),
+            answers(rt.alloc(), &WORDS, 1, &[j], &[], status, text) == Ok(true),
             "read {j} fails"
         );
     }
@@ -106,9 +104,9 @@ fn meets_a_fault_at_each_put(rt: HostRuntime) {
         let text = &REPORT[..4 * (j - 1)];
         let fails = [j as u64];
         assert!(rt;
-            answers(&rt, &WORDS, 100, &[], &fails, Status::WriteFault, text),
+            answers(rt.alloc(), &WORDS, 100, &[], &fails, Status::WriteFault, text) == Ok(true),
             "put {j} fails"
         );
     }
-    assert!(rt; answers(&rt, &WORDS, 1, &[92], &[1], Status::WriteFault, b""));
+    assert!(rt; answers(rt.alloc(), &WORDS, 1, &[92], &[1], Status::WriteFault, b"") == Ok(true));
 }
