@@ -205,7 +205,7 @@ module _ {S : Type 0} (M : MachineMeaning S) (net : Cluster) (w : Worlds) (p : �
           λ h. subst (λ (x : Store). InPool x text) (sym same) (⊎_elim
               (λ (g : InPool s text). g)
               (λ (g : Strings net.program w j text). strings_stand net w holds.shows j s text e g)
-              h)
+              h),
         );
   }
 
