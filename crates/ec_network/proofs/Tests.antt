@@ -1,5 +1,5 @@
 -- What the functions of the tests need: images that were built, and a network with few of anything.
-use Rattle.std.proofs.Common.{◌≡◌, ℕ, zero, suc, ◌<◌, ◌≤◌, ◌-◌, ◌^◌, List, length, Option, Some, None, sym, ◌∙◌, subst, lit<, arith}
+use Rattle.std.proofs.Common.{◌≡◌, ℕ, zero, suc, ◌<◌, ◌-◌, ◌^◌, length, Option, Some, None, sym, ◌∙◌, subst, lit<, arith}
 use Rattle.std.specs.Prelude.{slice_get}
 use Rattle.std.proofs.lemmas.Option.{same_Some, slice_get_past}
 use Rattle.ec_ir.specs.declared.code.Parts.{Parts}
