@@ -1,5 +1,5 @@
 -- What the kernel's calls on a node come to.
-use Rattle.std.proofs.Common.{◌≡◌, ℕ, zero, suc, ◌+◌, ◌-◌, Bool, true, false, List, [], ◌∷◌, ◌++◌, length, Option, Some, None, refl, sym, ap, ◌∙◌, arith, subst}
+use Rattle.std.proofs.Common.{◌≡◌, ℕ, suc, ◌+◌, true, false, [], ◌∷◌, ◌++◌, length, Some, None, sym, ap, ◌∙◌}
 use Rattle.std.specs.Prelude.{slice_get, slice_set}
 use Rattle.ec_world.specs.declared.class.ClassNo.TheVariants.{Made}
 use Rattle.ec_world.specs.declared.class.ClassRec.{ClassRec}
@@ -8,14 +8,14 @@ use Rattle.ec_ir.specs.declared.code.StopRec.{StopRec}
 use Rattle.ec_ir.specs.Meaning.{stop_at}
 use Rattle.ec_stops.specs.Faithful.{first_slot}
 use Rattle.ec_nodes.specs.declared.key.Key.TheVariants.{Object, Frame}
-use Rattle.ec_nodes.specs.Store.{Store, Owned}
+use Rattle.ec_nodes.specs.Store.{Store}
 use Rattle.ec_frames.specs.declared.node.NodeStore.{NodeStore}
 use Rattle.ec_frames.specs.Node.{store_of}
 use Rattle.ec_frames.specs.Changes.{WritesWord, Placed, Closed, Refers}
 use Rattle.ec_frames.specs.Owners.{FirstBlock}
 use Rattle.ec_network.specs.declared.cluster.Cluster.{Cluster}
 use Rattle.ec_network.specs.declared.kernel.Here.{Here}
-use Rattle.ec_network.specs.Kernel.{IsHere, Becomes, Creates, Returns, pending_head}
+use Rattle.ec_network.specs.Kernel.{Becomes, Creates, Returns, pending_head}
 use Rattle.ec_network.specs.Can.{CanReturn}
 use Rattle.ec_network.proofs.Nodes.{first_is}
 

@@ -1,5 +1,5 @@
 -- What a move by the operator answers: nothing changes, and it always finds room.
-use Rattle.std.proofs.Common.{◌≡◌, ℕ, Bool, true, false, Option, Some, refl, sym, ap, subst}
+use Rattle.std.proofs.Common.{◌≡◌, ℕ, Bool, true, false, Option, Some, refl, sym, subst}
 use Rattle.ec_world.specs.Moves.{OperatorMove, is_idle_move}
 use Rattle.ec_stops.specs.Machine.{MachineMeaning}
 use Rattle.ec_network.specs.declared.cluster.Cluster.{Cluster}

@@ -4,7 +4,7 @@ use Rattle.std.specs.Prelude.{slice_get, slice_set}
 use Rattle.ec_nodes.specs.declared.key.Key.{Key}
 use Rattle.ec_nodes.specs.Store.{Store, Owned}
 use Rattle.ec_frames.specs.declared.node.NodeStore.{NodeStore}
-use Rattle.ec_frames.specs.Node.{store_of, Laid, SameNode}
+use Rattle.ec_frames.specs.Node.{Laid, SameNode}
 use Rattle.ec_frames.specs.Owners.{FirstBlock, HasBlock, HasOneBlock}
 use Rattle.ec_network.specs.declared.cluster.Cluster.{Cluster}
 use Rattle.ec_network.specs.Kernel.{Becomes}

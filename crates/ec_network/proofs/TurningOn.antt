@@ -1,5 +1,5 @@
 -- A turn of a process that is Ready: its action, and the code behind the stop where that is done.
-use Rattle.std.proofs.Common.{◌≡◌, ◌≢◌, ℕ, zero, suc, ◌+◌, ◌<◌, ◌^◌, ◌⊎◌, inl, ⊎_elim, Bool, true, List, [], ◌∷◌, Option, Some, None, refl, sym, ap, ◌∙◌, subst, arith}
+use Rattle.std.proofs.Common.{◌≡◌, ◌≢◌, ℕ, zero, suc, ◌+◌, ◌<◌, ◌^◌, inl, ⊎_elim, Bool, true, List, Option, Some, refl, sym, ap, ◌∙◌, subst, arith}
 use Rattle.std.specs.Prelude.{◌-◌, length, slice_get, Err}
 use Rattle.std.proofs.lemmas.Option.{same_Some}
 use Rattle.ec_base.specs.Stack.{top_of, below_of}
@@ -27,9 +27,9 @@ use Rattle.ec_nodes.specs.Store.{Store}
 use Rattle.ec_nodes.specs.Held.{InPool}
 use Rattle.ec_network.specs.Worlds.{FineWorld, ir_action, ir_turn, status_at}
 use Rattle.ec_network.specs.Steps.{FineMiddle, AfterAction}
-use Rattle.ec_network.specs.Turns.{TurnOf, SamePools}
+use Rattle.ec_network.specs.Turns.{SamePools}
 use Rattle.ec_network.specs.Turns.StepsTo.{Idles, Rests, Waits}
-use Rattle.ec_network.specs.Holds.{Holds, Steady}
+use Rattle.ec_network.specs.Holds.{Holds}
 use Rattle.ec_network.specs.Kernel.{IsHere, Acts, FullHere}
 use Rattle.ec_network.specs.Can.{CanAct, CreatesAt, WhenLacks}
 use Rattle.ec_network.specs.Net.{Net, whole_net, count_if, count_of, EntryFull}
@@ -205,7 +205,7 @@ module _ {S : Type 0} (M : MachineMeaning S) (net : Cluster) (w : Worlds) (p : �
           λ h. subst (λ (x : Store). InPool x text) (sym same) (⊎_elim
               (λ (g : InPool s text). g)
               (λ (g : Strings net.program w j text). strings_stand net w holds.shows j s text e g)
-              h)
+              h),
         );
   }
 

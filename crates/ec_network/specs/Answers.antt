@@ -1,27 +1,23 @@
 -- What the calls of a network answer and leave.
-use Rattle.std.specs.Prelude.{◌≡◌, ◌≢◌, ℕ, zero, suc, ◌+◌, ◌<◌, ◌≤◌, ◌^◌, ◌↔◌, ◌-◌, Bool, true, false, List, length, Option, Some, None, slice_get, Result, Ok, Err}
+use Rattle.std.specs.Prelude.{◌≡◌, ◌≢◌, ℕ, zero, suc, ◌+◌, ◌<◌, ◌^◌, ◌↔◌, ◌-◌, true, List, length, Some, Result, Ok, Err}
 use Rattle.ec_world.specs.declared.node.NodeSpec.{NodeSpec}
-use Rattle.ec_world.specs.declared.object.ObjectRec.{ObjectRec}
-use Rattle.ec_world.specs.declared.process.ProcStatus.{ProcStatus}
 use Rattle.ec_world.specs.declared.process.ProcStatus.TheVariants.{Ready}
-use Rattle.ec_world.specs.Effects.{object_at}
 use Rattle.ec_world.specs.Moves.{OperatorMove, is_idle_move}
 use Rattle.ec_ir.specs.declared.code.Parts.{Parts}
 use Rattle.ec_ir.specs.Meaning.{ir_start}
 use Rattle.ec_nodes.specs.declared.room.Part.{Part}
 use Rattle.ec_stops.specs.Machine.{MachineMeaning}
-use Rattle.ec_network.specs.declared.image.Images.{Images}
 use Rattle.ec_network.specs.declared.cluster.Cluster.{Cluster}
 use Rattle.ec_network.specs.declared.network.Did.{Did}
 use Rattle.ec_network.specs.declared.network.Did.TheVariants.{Idle, Acted, Moved, Loaded}
 use Rattle.ec_network.specs.declared.network.NetError.{NetError}
 use Rattle.ec_network.specs.declared.network.NetError.TheVariants.{Full, Memory}
 use Rattle.ec_network.specs.Shows.{Worlds}
-use Rattle.ec_network.specs.Room.{NoneFull, FullAt, nothing, NoTexts, FirstTexts, held}
+use Rattle.ec_network.specs.Room.{NoneFull, nothing, NoTexts, FirstTexts, held}
 use Rattle.ec_network.specs.Worlds.{ir_action, ir_turn, status_at}
-use Rattle.ec_network.specs.Turns.{TurnOf, MoveOf, IsLoaded, LoadFull, rooms_of}
+use Rattle.ec_network.specs.Turns.{TurnOf, MoveOf, IsLoaded, rooms_of}
 use Rattle.ec_network.specs.Holds.{Holds}
-use Rattle.ec_network.specs.Net.{Net, whole_net, count_of, EntryFull, EntryFits}
+use Rattle.ec_network.specs.Net.{Net, whole_net, count_of, EntryFits}
 
 -- how many instructions a call ran
 abbrev pub steps_of : Did → ℕ

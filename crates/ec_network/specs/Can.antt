@@ -1,5 +1,5 @@
 -- What the kernel needs to find at the top frame of a process for the action of its stop.
-use Rattle.std.specs.Prelude.{◌≡◌, ℕ, suc, ◌+◌, ◌-◌, ◌<◌, ◌^◌, ◌≤◌, Bool, true, false, List, [], ◌∷◌, length, Option, Some, None, slice_get, Result, Ok, Err}
+use Rattle.std.specs.Prelude.{◌≡◌, ℕ, suc, ◌+◌, ◌-◌, ◌<◌, ◌^◌, ◌≤◌, Bool, true, false, [], ◌∷◌, length, Some, None, Result, Ok, Err}
 use Rattle.ec_world.specs.declared.class.ClassNo.{ClassNo}
 use Rattle.ec_world.specs.declared.class.ClassNo.TheVariants.{Node, Program, Made}
 use Rattle.ec_world.specs.declared.stop.Stop.{Stop}
@@ -8,7 +8,7 @@ use Rattle.ec_ir.specs.declared.code.StopRec.{StopRec}
 use Rattle.ec_ir.specs.Meaning.{stop_at}
 use Rattle.ec_stops.specs.Faithful.{first_slot}
 use Rattle.ec_nodes.specs.declared.key.Key.TheVariants.{Object, Frame}
-use Rattle.ec_nodes.specs.Store.{Store, Owned}
+use Rattle.ec_nodes.specs.Store.{Owned}
 use Rattle.ec_frames.specs.declared.node.NodeStore.{NodeStore}
 use Rattle.ec_frames.specs.Node.{store_of, row_of}
 use Rattle.ec_network.specs.declared.cluster.Cluster.{Cluster}

@@ -1,14 +1,13 @@
 -- What a network keeps between two entries.
-use Rattle.std.specs.Prelude.{◌≡◌, ℕ, ◌+◌, ◌<◌, ◌≤◌, ◌^◌, List, [], ◌∷◌, length, Option, Some, None, slice_get}
+use Rattle.std.specs.Prelude.{◌≡◌, ℕ, ◌<◌, [], ◌∷◌, length, Some, slice_get}
 use Rattle.ec_world.specs.declared.node.Kind.TheVariants.{Riscv}
 use Rattle.ec_ir.specs.declared.code.Parts.{Parts}
 use Rattle.ec_ir.specs.declared.code.Operation.{Operation}
 use Rattle.ec_ir.specs.Fine.{Fine}
 use Rattle.ec_stops.specs.declared.table.Place.TheVariants.{Slot}
-use Rattle.ec_stops.specs.declared.table.Code.{Code}
 use Rattle.ec_stops.specs.declared.table.StopTable.{StopTable}
 use Rattle.ec_stops.specs.Machine.{MachineMeaning}
-use Rattle.ec_stops.specs.Faithful.{HasLiterals, home_in, stop_in, words_of}
+use Rattle.ec_stops.specs.Faithful.{HasLiterals, home_in}
 use Rattle.rv_codegen.specs.Code.{SmallCode}
 use Rattle.ec_frames.specs.declared.node.NodeStore.{NodeStore}
 use Rattle.ec_frames.specs.Node.{store_of}

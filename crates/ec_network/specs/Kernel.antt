@@ -1,5 +1,5 @@
 -- What the kernel does for the action of a stop, told of the node's tables and words.
-use Rattle.std.specs.Prelude.{◌≡◌, ℕ, suc, ◌+◌, ◌-◌, ◌<◌, ◌≤◌, Bool, true, false, List, [], ◌∷◌, ◌++◌, length, Option, Some, None, slice_get, slice_set}
+use Rattle.std.specs.Prelude.{◌≡◌, ℕ, suc, ◌+◌, ◌<◌, true, false, List, [], ◌∷◌, ◌++◌, length, Some, None, slice_get, slice_set}
 use Rattle.ec_world.specs.declared.class.ClassNo.TheVariants.{Made}
 use Rattle.ec_world.specs.declared.class.ClassRec.{ClassRec}
 use Rattle.ec_world.specs.declared.stop.Stop.TheVariants.{Entry, New, Return, Print, Global, End}

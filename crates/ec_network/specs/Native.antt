@@ -1,11 +1,11 @@
 -- A machine's run on one node, up to the next stop.
-use Rattle.std.specs.Prelude.{◌≡◌, ℕ, ◌<◌, ◌^◌, Option, Some}
+use Rattle.std.specs.Prelude.{◌≡◌, ℕ, Some}
 use Rattle.ec_base.specs.Bytes.{Bytes}
 use Rattle.ec_memory.specs.Store.{store_byte}
 use Rattle.ec_target.specs.Runs.{Native}
 use Rattle.ec_stops.specs.Faithful.{stop_in}
 use Rattle.ec_frames.specs.declared.node.NodeStore.{NodeStore}
-use Rattle.ec_frames.specs.Node.{Laid, SameNode}
+use Rattle.ec_frames.specs.Node.{Laid}
 use Rattle.rv_machine.specs.declared.machine.RvMachine.{RvMachine}
 use Rattle.rv_codegen.specs.Meaning.{rv_meaning}
 use Rattle.ec_network.specs.declared.image.Image.{Image}

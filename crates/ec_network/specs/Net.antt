@@ -1,6 +1,5 @@
 -- What a network is to its callers: what is loaded, and whether it is whole. Of an empty one nothing is loaded.
-use Rattle.std.specs.Prelude.{◌≡◌, ◌≢◌, ℕ, suc, ◌+◌, ◌<◌, ◌≤◌, ◌^◌, ◌⊎◌, Bool, true, false, List, [], ◌∷◌, length, Option, Some, None, slice_get, Result, Ok, Err}
-use Rattle.ec_world.specs.declared.value.Value.{Value}
+use Rattle.std.specs.Prelude.{◌≡◌, ℕ, ◌≤◌, ◌^◌, Bool, true, false, List, [], ◌∷◌, length, Option, Some, None, slice_get}
 use Rattle.ec_world.specs.declared.node.NodeSpec.{NodeSpec}
 use Rattle.ec_world.specs.declared.node.Kind.TheVariants.{Riscv}
 use Rattle.ec_world.specs.declared.class.ClassNo.{ClassNo}
@@ -8,17 +7,14 @@ use Rattle.ec_world.specs.declared.class.ClassNo.TheVariants.{Node, Program, Mad
 use Rattle.ec_world.specs.declared.class.ClassRec.{ClassRec}
 use Rattle.ec_world.specs.declared.object.ObjectRec.{ObjectRec}
 use Rattle.ec_world.specs.declared.run.RunEntry.{RunEntry}
-use Rattle.ec_world.specs.Effects.{object_at}
 use Rattle.ec_ir.specs.declared.code.Parts.{Parts}
 use Rattle.ec_ir.specs.Meaning.{ir_start}
 use Rattle.ec_nodes.specs.declared.room.Part.{Part}
-use Rattle.ec_nodes.specs.Held.{InPool}
 use Rattle.ec_frames.specs.declared.node.NodeStore.{NodeStore}
-use Rattle.ec_frames.specs.Node.{store_of}
 use Rattle.ec_stops.specs.Machine.{MachineMeaning}
 use Rattle.ec_network.specs.declared.image.Images.{Images}
 use Rattle.ec_network.specs.declared.cluster.Cluster.{Cluster}
-use Rattle.ec_network.specs.Shows.{Worlds, stores}
+use Rattle.ec_network.specs.Shows.{Worlds}
 use Rattle.ec_network.specs.Room.{Strings, FullAt, NoneFull, held}
 use Rattle.ec_network.specs.Full.{rooms, Pools}
 use Rattle.ec_network.specs.Turns.{FaithfulImages, IsLoaded, LoadFull, Along}

@@ -1,8 +1,6 @@
 -- Room on a node, and when an entry finds none.
-use Rattle.std.specs.Prelude.{◌≡◌, ℕ, suc, ◌+◌, ◌-◌, ◌<◌, ◌≤◌, ◌⊎◌, ◌↔◌, List, [], ◌∷◌, length, Option, Some, None, slice_get}
-use Rattle.ec_world.specs.declared.value.Value.{Value}
+use Rattle.std.specs.Prelude.{◌≡◌, ℕ, suc, ◌-◌, ◌<◌, ◌⊎◌, ◌↔◌, List, Option, Some, slice_get}
 use Rattle.ec_world.specs.declared.value.Value.TheVariants.{Str}
-use Rattle.ec_world.specs.declared.world.World.{World}
 use Rattle.ec_world.specs.Group.{Has}
 use Rattle.ec_ir.specs.declared.code.Parts.{Parts}
 use Rattle.ec_ir.specs.declared.activation.IrActivation.{IrActivation}

@@ -1,13 +1,7 @@
 -- When a network shows a world.
-use Rattle.std.specs.Prelude.{◌≡◌, ◌≢◌, ℕ, suc, ◌+◌, ◌*◌, ◌<◌, ◌≤◌, ◌^◌, Bool, true, false, List, [], ◌∷◌, map, length, Option, Some, None, slice_get}
-use Rattle.ec_base.specs.Stack.{top_of}
-use Rattle.ec_world.specs.declared.value.Value.{Value}
-use Rattle.ec_world.specs.declared.value.ValueType.{ValueType}
+use Rattle.std.specs.Prelude.{◌≡◌, ℕ, List, map, length, Option, Some, None, slice_get}
 use Rattle.ec_world.specs.declared.node.Kind.{Kind}
 use Rattle.ec_world.specs.declared.node.Kind.TheVariants.{Riscv, Mips}
-use Rattle.ec_world.specs.declared.process.ProcStatus.{ProcStatus}
-use Rattle.ec_world.specs.declared.process.ProcStatus.TheVariants.{Ready, Entry as AtEntry, Cond, Urgent, Ended, Failed}
-use Rattle.ec_world.specs.declared.process.Proc.{Proc}
 use Rattle.ec_world.specs.declared.world.World.{World}
 use Rattle.ec_world.specs.Places.{places, place_in}
 use Rattle.ec_world.specs.Run.{statuses_of}
@@ -15,7 +9,6 @@ use Rattle.ec_ir.specs.declared.code.Parts.{Parts}
 use Rattle.ec_ir.specs.declared.activation.IrActivation.{IrActivation}
 use Rattle.ec_ir.specs.Meaning.{live_values, live_variables}
 use Rattle.ec_stops.specs.declared.table.Place.{Place}
-use Rattle.ec_stops.specs.declared.table.StopTable.{StopTable}
 use Rattle.ec_stops.specs.Faithful.{home_in, home_word}
 use Rattle.ec_nodes.specs.Store.{Store}
 use Rattle.ec_nodes.specs.Shows.{ShowsNodes}

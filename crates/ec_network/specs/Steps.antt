@@ -1,15 +1,12 @@
 -- What holds of a network in the middle of a turn, after the action and before the code behind it.
-use Rattle.std.specs.Prelude.{◌≡◌, ◌≢◌, ℕ, suc, ◌+◌, ◌<◌, Bool, true, false, List, length, Option, Some, None, slice_get}
+use Rattle.std.specs.Prelude.{◌≡◌, ◌≢◌, ℕ, suc, true, false, List, length, Some, None, slice_get}
 use Rattle.ec_base.specs.Stack.{top_of}
-use Rattle.ec_world.specs.declared.object.ObjectRec.{ObjectRec}
-use Rattle.ec_world.specs.declared.class.ClassNo.TheVariants.{Node}
 use Rattle.ec_world.specs.declared.process.ProcStatus.TheVariants.{Ready}
 use Rattle.ec_world.specs.declared.process.Proc.{Proc}
-use Rattle.ec_world.specs.World.{stack_at, GoOn}
+use Rattle.ec_world.specs.World.{stack_at}
 use Rattle.ec_ir.specs.declared.code.StopRec.{StopRec}
 use Rattle.ec_ir.specs.declared.code.Parts.{Parts}
 use Rattle.ec_ir.specs.declared.activation.IrActivation.{IrActivation}
-use Rattle.ec_ir.specs.Meaning.{ir_meaning, ir_silent}
 use Rattle.ec_ir.specs.Fine.{HasCode}
 use Rattle.ec_stops.specs.Machine.{MachineMeaning}
 use Rattle.ec_network.specs.declared.cluster.Cluster.{Cluster}

@@ -1,10 +1,8 @@
 -- What a turn, a move by the operator and a whole run of a network are, over the machine of the one kind that there is
 -- so far.
-use Rattle.std.specs.Prelude.{◌≡◌, ◌≢◌, ℕ, zero, suc, ◌+◌, ◌<◌, ◌≤◌, ◌⊎◌, ◌↔◌, Bool, true, false, List, [], ◌∷◌, ◌++◌, length, Option, Some, None, slice_get}
-use Rattle.byteorder.specs.Endian.{little_number}
+use Rattle.std.specs.Prelude.{◌≡◌, ◌≢◌, ℕ, suc, ◌+◌, ◌<◌, ◌≤◌, ◌⊎◌, ◌↔◌, true, false, List, [], ◌∷◌, length, Option, Some, None, slice_get}
 use Rattle.ec_base.specs.Bytes.{Bytes}
 use Rattle.ec_base.specs.Stack.{top_of, below_of}
-use Rattle.ec_world.specs.declared.value.Value.{Value}
 use Rattle.ec_world.specs.declared.node.Kind.{Kind}
 use Rattle.ec_world.specs.declared.node.Kind.TheVariants.{Riscv, Mips}
 use Rattle.ec_world.specs.declared.node.NodeSpec.{NodeSpec}
@@ -16,10 +14,10 @@ use Rattle.ec_world.specs.Effects.{object_at}
 use Rattle.ec_world.specs.Group.{Has}
 use Rattle.ec_world.specs.World.{stack_at}
 use Rattle.ec_world.specs.Moves.{OperatorMove}
-use Rattle.ec_world.specs.Run.{after_entry, after_entries}
+use Rattle.ec_world.specs.Run.{after_entry}
 use Rattle.ec_ir.specs.declared.code.Parts.{Parts}
 use Rattle.ec_ir.specs.declared.activation.IrActivation.{IrActivation}
-use Rattle.ec_ir.specs.Meaning.{ir_meaning, ir_silent, ir_start, live_variables, stop_at, settled}
+use Rattle.ec_ir.specs.Meaning.{ir_meaning, ir_silent, ir_start, live_variables}
 use Rattle.ec_memory.specs.Store.{store_byte}
 use Rattle.ec_memory.specs.Words.{block_word_at, global_word_at, word_in}
 use Rattle.ec_target.specs.Runs.{Native}
@@ -35,7 +33,7 @@ use Rattle.ec_frames.specs.Node.{store_of}
 use Rattle.ec_network.specs.declared.image.Image.{Image}
 use Rattle.ec_network.specs.declared.image.Images.{Images}
 use Rattle.ec_network.specs.declared.cluster.Cluster.{Cluster}
-use Rattle.ec_network.specs.Shows.{Worlds, Shows, stores, place, image_of}
+use Rattle.ec_network.specs.Shows.{Worlds, Shows, stores, place}
 use Rattle.ec_network.specs.Room.{Room, Strings, FirstTexts, FullAt, NoTexts, nothing, held}
 use Rattle.ec_network.specs.Worlds.{ir_action, ir_turn, status_at}
 

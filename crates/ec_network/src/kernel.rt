@@ -237,5 +237,9 @@ pub(crate) fn stop_of(program: &Parts, operation: OpNo, at: u32) -> &StopRec
     requires { (stop : StopRec) × (stop_at program.now operation at ≡ Some stop) }
     ensures { stop_at program.now operation at ≡ Some result.now }
 {
-    program.operations.at(operation as usize).stops.at(at as usize)
+    program
+        .operations
+        .at(operation as usize)
+        .stops
+        .at(at as usize)
 }

@@ -2,10 +2,10 @@
 #![tactic(auto)]
 
 mod cluster;
-mod kernel;
-mod native;
-mod load;
 pub mod image;
+mod kernel;
+mod load;
+mod native;
 pub mod network;
 mod readers;
 mod turning;

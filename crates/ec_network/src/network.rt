@@ -1,5 +1,5 @@
 //! The network: what its callers may ask of it.
-ghost use Rattle.std.specs.Prelude.{◌≡◌, ℕ, ◌<◌, ◌^◌, false, IfOk, OnOk, IsTrue};
+ghost use Rattle.std.specs.Prelude.{◌≡◌, ℕ, ◌<◌, ◌^◌, false, codes, IfOk, OnOk, IsTrue};
 ghost use Rattle.ec_network.specs.Net.{empty_net};
 
 use crate::cluster::Cluster;
@@ -42,7 +42,10 @@ pub enum NetError {
 }
 
 /// What a part of a node is counted in.
-fn unit_of(part: &Part) -> &'static str {
+fn unit_of(part: &Part) -> &'static str
+    ensures blocks { part.now ≡ Part.Blocks → result.now ≡ codes "blocks" }
+    ensures text { part.now ≡ Part.Text → result.now ≡ codes "bytes of text" }
+{
     match part {
         Part::Blocks => "blocks",
         Part::Text => "bytes of text",
@@ -254,3 +257,6 @@ impl Network {
         }
     }
 }
+
+#[cfg(test)]
+mod tests;

@@ -1,7 +1,6 @@
-use Rattle.std.proofs.Common.{◌≡◌, ℕ, ◌+◌, List, sym, ap, ◌∙◌, refl, subst, arith}
+use Rattle.std.proofs.Common.{ℕ, ◌+◌, List, sym, ◌∙◌, refl, subst, arith}
 use Rattle.ec_target.specs.Runs.{Halts, Leads}
 use Rattle.ec_memory.specs.Store.{store_byte}
-use Rattle.ec_frames.specs.declared.node.NodeStore.{NodeStore}
 use Rattle.ec_frames.specs.Node.{store_of}
 use Rattle.ec_frames.proofs.Ran.{laid_run, after_run}
 use Rattle.rv_machine.specs.Machine.{rv_goes, rv_traps}

@@ -1,5 +1,4 @@
-use Rattle.std.proofs.Common.{refl, arith, ◌≡◌, Some, sym, ap, ◌∙◌, suc, ◌-◌}
-use Rattle.std.specs.Prelude.{slice_get}
+use Rattle.std.proofs.Common.{refl, arith, ◌≡◌, sym, ◌∙◌, ◌-◌}
 use Rattle.ec_frames.specs.Node.{store_of}
 use Rattle.ec_network.specs.Can.{CanReturn}
 use Rattle.ec_network.proofs.Nodes.{becomes_one, same_twice, the_node}

@@ -1,10 +1,7 @@
-use Rattle.std.proofs.Common.{◌≡◌, ℕ, List, [], ◌∷◌, refl, sym, ap, ◌∙◌, subst}
+use Rattle.std.proofs.Common.{◌≡◌, List, [], ◌∷◌, refl, ap, ◌∙◌}
 use Rattle.std.specs.Prelude.{slice_set}
 use Rattle.ec_nodes.specs.declared.key.Key.TheVariants.{Object}
 use Rattle.ec_frames.specs.declared.node.NodeStore.{NodeStore}
-use Rattle.ec_frames.specs.Node.{store_of}
-use Rattle.ec_frames.specs.Owners.{FirstBlock}
-use Rattle.ec_memory.specs.Store.{store_byte}
 use Rattle.ec_network.proofs.MachineLaws.{one_is, same_first, stop_get, comes_here}
 use Rattle.ec_network.proofs.cluster.Cluster.go_on.Goals as goal
 

@@ -1,7 +1,4 @@
-use Rattle.std.proofs.Common.{arith, sym, ap, ◌∙◌, ◌≡◌, suc, ◌-◌, Some}
-use Rattle.std.specs.Prelude.{slice_get}
-use Rattle.ec_frames.specs.Node.{store_of}
-use Rattle.ec_nodes.specs.declared.key.Key.TheVariants.{Frame}
+use Rattle.std.proofs.Common.{arith, ◌≡◌, suc, ◌-◌}
 use Rattle.ec_network.proofs.Nodes.{the_node, owns_block}
 use Rattle.ec_network.proofs.cluster.Cluster.here.Goals as goal
 

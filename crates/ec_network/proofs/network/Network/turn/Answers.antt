@@ -1,6 +1,6 @@
-use Rattle.std.proofs.Common.{◌≡◌, ℕ, ◌<◌, ◌^◌, Option, Some, true, refl, sym, ap, ◌∙◌, subst}
+use Rattle.std.proofs.Common.{◌≡◌, ◌<◌, ◌^◌, Option, Some, refl, sym, ap, ◌∙◌, subst}
 use Rattle.ec_network.specs.declared.cluster.Cluster.{Cluster}
-use Rattle.ec_network.specs.Net.{Net, counts_if, counts_of}
+use Rattle.ec_network.specs.Net.{Net, counts_if}
 use Rattle.ec_network.proofs.TurningOn.{answer_rests, answer_turned}
 use Rattle.ec_network.proofs.network.Network.turn.Goals as goal
 
