@@ -1,5 +1,5 @@
 -- From the run of code on a network to the run of the source: their worlds differ in activations alone.
-use Rattle.std.proofs.Common.{◌≡◌, ℕ, suc, ◌<◌, List, [], ◌++◌, length, drop, nat_le, Option, Some, None, Result, Ok, Err, refl, sym, ap, subst, ◌∙◌}
+use Rattle.std.proofs.Common.{◌≡◌, ℕ, suc, ◌<◌, List, [], ◌++◌, length, drop, nat_le, Some, None, Err, refl, sym, ap, subst, ◌∙◌}
 use Rattle.ec_ast.specs.declared.Program.{Program}
 use Rattle.ec_world.specs.declared.common.Common.{Common}
 use Rattle.ec_world.specs.declared.node.NodeSpec.{NodeSpec}
@@ -17,8 +17,8 @@ use Rattle.ec_ir.specs.declared.activation.IrActivation.{IrActivation}
 use Rattle.ec_ir.specs.Meaning.{ir_meaning, ir_start}
 use Rattle.ec_lower.specs.Agreement.{Means, SameRun}
 use Rattle.ec_nodes.specs.declared.room.Part.{Part}
-use Rattle.ec_network.specs.Turns.{IsLoaded, LoadFull, Along}
-use Rattle.ec_network.specs.Net.{Net, Ran, empty_net, whole_net, counts_of}
+use Rattle.ec_network.specs.Turns.{LoadFull, Along}
+use Rattle.ec_network.specs.Net.{Net, empty_net, whole_net, counts_of}
 use Rattle.ec_network.specs.Net.Ran.{Refused, Loaded}
 use Rattle.ec_network.specs.declared.cluster.Cluster.{Cluster}
 use Rattle.ec_network.specs.declared.network.NetError.{NetError}
@@ -26,15 +26,15 @@ use Rattle.ec_network.specs.declared.network.NetError.TheVariants.{Full, Memory}
 use Rattle.ec_network.specs.Answers.{WhenFull, LoadAnswer}
 use Rattle.rv_codegen.specs.Meaning.{rv_meaning}
 use Rattle.ec_tool.specs.declared.report.ReportEnd.{ReportEnd}
-use Rattle.ec_tool.specs.declared.report.ReportEnd.TheVariants.{Ends, IsFull}
+use Rattle.ec_tool.specs.declared.report.ReportEnd.TheVariants.{IsFull}
 use Rattle.ec_tool.specs.declared.status.Status.{Status}
 use Rattle.ec_tool.specs.declared.status.Status.TheVariants as statuses
 use Rattle.ec_tool.specs.Inputs.{default_budget}
-use Rattle.ec_tool.specs.Report.{report, load_report, turns_line, process_lines, object_lines, lines_of_objects, node_lines, end_line, line_feed}
-use Rattle.ec_tool.specs.Emerald.{ir_run, source_run, EndsAfter, RunsTo, status_of, NextFull}
+use Rattle.ec_tool.specs.Report.{report, load_report, turns_line, process_lines, object_lines, node_lines, end_line, line_feed}
+use Rattle.ec_tool.specs.Emerald.{ir_run, source_run, EndsAfter, RunsTo, status_of}
 use Rattle.ec_tool.specs.Emerald.EndsAfter.{ByItself, AsFull}
 use Rattle.ec_tool.specs.Emerald.RunsTo.{LoadIsFull, RanUntil}
-use Rattle.ec_tool.specs.Running.{Follows, EndsAt, StopsItself, StopsFull, IsFullEnd, IsEnded, IsReported}
+use Rattle.ec_tool.specs.Running.{Follows, EndsAt, StopsItself, StopsFull, IsFullEnd, IsReported}
 
 abbrev text_of : Common → List ProcStatus → List NodeSpec → (ℕ → ℕ) → ℕ → ReportEnd → List ℕ
 text_of c ss specs counts turns how =

@@ -1,12 +1,10 @@
 -- A network follows the run: at the load, and from one turn to the next.
-use Rattle.std.proofs.Common.{◌≡◌, ◌⊎◌, inl, inr, ⊎_elim, ℕ, zero, suc, ◌+◌, ◌*◌, ◌^◌, ◌<◌, ◌≤◌, Bool, true, false, List, [], ◌∷◌, ◌++◌, map, length, replicate, get_or, below_none, below_more, Option, Some, None, Result, Ok, Err, refl, sym, ap, subst, ◌∙◌, arith, length-append, add-one}
+use Rattle.std.proofs.Common.{◌≡◌, ◌⊎◌, inl, inr, ⊎_elim, ℕ, zero, suc, ◌+◌, ◌*◌, ◌^◌, ◌<◌, ◌≤◌, List, [], ◌∷◌, ◌++◌, length, replicate, get_or, below_none, below_more, Option, Some, None, Err, refl, sym, ap, subst, ◌∙◌, arith, length-append, add-one}
 use Rattle.std.specs.Prelude.{slice_get, ◌↔◌, nat_le}
 use Rattle.std.proofs.lemmas.List.{length-replicate}
 use Rattle.std.proofs.lemmas.Option.{slice_get_past, slice_get_cases}
 use Rattle.ec_base.proofs.Lists.{get_there, get_within}
 use Rattle.ec_world.specs.declared.node.NodeSpec.{NodeSpec}
-use Rattle.ec_world.specs.declared.object.ObjectRec.{ObjectRec}
-use Rattle.ec_world.specs.declared.process.ProcStatus.{ProcStatus}
 use Rattle.ec_world.specs.declared.run.RunEntry.{RunEntry}
 use Rattle.ec_world.specs.declared.run.RunEntry.TheVariants.{TurnOf as ATurn}
 use Rattle.ec_world.specs.declared.run.RunEnd.{RunEnd}
@@ -26,9 +24,9 @@ use Rattle.ec_network.specs.Shows.{Worlds, stores, store_if}
 use Rattle.ec_network.specs.Room.{Room, Strings, FullAt, held}
 use Rattle.ec_network.specs.Worlds.{ir_action, ir_turn}
 use Rattle.ec_network.specs.Holds.{Holds}
-use Rattle.ec_network.specs.Turns.{SameMachine, SameMachines, SamePools, StepsTo, Idles, Rests, Waits, Runs, TurnOf, EntryOf, Along, FirstNode, IsLoaded, rooms_of, room_if as spec_room}
+use Rattle.ec_network.specs.Turns.{SameMachines, StepsTo, Idles, Rests, Waits, Runs, EntryOf, Along, IsLoaded, rooms_of, room_if as spec_room}
 use Rattle.ec_network.specs.Full.{room_of, rooms, pool_if, Pools}
-use Rattle.ec_network.specs.Net.{Net, whole_net, count_of, count_if, EntryFull, EntryFits}
+use Rattle.ec_network.specs.Net.{Net, count_of, count_if, EntryFull, EntryFits}
 use Rattle.ec_network.specs.declared.network.NetError.{NetError}
 use Rattle.ec_network.specs.declared.network.NetError.TheVariants.{Full, Memory}
 use Rattle.ec_network.specs.Answers.{WhenFull, ForShown, LoadAnswer, TurnAnswer, steps_of, on_first}
@@ -37,8 +35,8 @@ use Rattle.ec_tool.specs.declared.report.ReportEnd.{ReportEnd}
 use Rattle.ec_tool.specs.declared.report.ReportEnd.TheVariants.{Ends, IsFull}
 use Rattle.ec_tool.specs.declared.run.Step.TheVariants.{Stops, Turns}
 use Rattle.ec_tool.specs.Inputs.{default_budget}
-use Rattle.ec_tool.specs.Emerald.{ir_run, action_if, next_action, PoolAfter, NextFull, NoneFullBefore}
-use Rattle.ec_tool.specs.Running.{IsStep, Follows, IsAfter, EndsAt, StopsItself, StopsFull, IsFullEnd, IsEnded}
+use Rattle.ec_tool.specs.Emerald.{ir_run, action_if, next_action, PoolAfter, NextFull}
+use Rattle.ec_tool.specs.Running.{IsStep, Follows, IsAfter, StopsItself, StopsFull, IsFullEnd, IsEnded}
 use Rattle.ec_tool.proofs.Growth.{GrowsByOne, turn_grows}
 use Rattle.ec_tool.proofs.Rooms.{full_along}
 

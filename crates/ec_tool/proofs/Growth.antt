@@ -1,6 +1,6 @@
 -- What an entry adds to a world: at most one object, and no process.
-use Rattle.std.proofs.Common.{◌≡◌, ℕ, zero, suc, ◌+◌, ◌<◌, ◌≤◌, Bool, true, false, List, [], ◌∷◌, ◌++◌, length, Option, Some, None, refl, sym, ap, ◌∙◌, arith, length-append}
-use Rattle.std.specs.Prelude.{slice_get, slice_set, nat_lt, if◌then◌else◌}
+use Rattle.std.proofs.Common.{◌≡◌, ℕ, suc, ◌≤◌, Bool, true, false, List, [], ◌∷◌, length, Option, Some, None, refl, ◌∙◌, arith, length-append}
+use Rattle.std.specs.Prelude.{slice_set, nat_lt, if◌then◌else◌}
 use Rattle.ec_base.specs.Stack.{top_of, below_of}
 use Rattle.ec_base.proofs.Lists.{length_set}
 use Rattle.ec_world.specs.declared.value.Value.{Value}
@@ -9,13 +9,12 @@ use Rattle.ec_world.specs.declared.class.ClassNo.{ClassNo}
 use Rattle.ec_world.specs.declared.class.ClassRec.{ClassRec}
 use Rattle.ec_world.specs.declared.object.ObjectRec.{ObjectRec}
 use Rattle.ec_world.specs.declared.common.Common.{Common}
-use Rattle.ec_world.specs.declared.process.Proc.{Proc}
 use Rattle.ec_world.specs.declared.stop.Stop.{Stop}
 use Rattle.ec_world.specs.declared.stop.Stop.TheVariants.{Entry, New, Return, Print, Global, End}
 use Rattle.ec_world.specs.declared.stop.Who.{Who}
 use Rattle.ec_world.specs.declared.stop.Effect.{Effect}
 use Rattle.ec_world.specs.Effects.{Acted, class_at, new_effect, return_effect, print_effect, global_effect, effect_of}
-use Rattle.ec_world.specs.World.{stack_at, who_of, acted, outcome_of, act_if_pending, act_on, Action, advanced, go_on_unless, go_on, GoOn, Turn}
+use Rattle.ec_world.specs.World.{stack_at, who_of, acted, outcome_of, act_if_pending, act_on, go_on_unless, go_on}
 use Rattle.ec_ir.specs.declared.code.Parts.{Parts}
 use Rattle.ec_ir.specs.declared.activation.IrActivation.{IrActivation}
 use Rattle.ec_ir.specs.Meaning.{ir_meaning, ir_silent}

@@ -1,5 +1,5 @@
 -- A node that is full of one account of its rooms and texts is full of an equal one.
-use Rattle.std.proofs.Common.{◌≡◌, ℕ, ◌<◌, List, Option, Some, None, refl, sym, ◌∙◌}
+use Rattle.std.proofs.Common.{◌≡◌, ℕ, List, Option, Some, sym, ◌∙◌}
 use Rattle.std.specs.Prelude.{◌↔◌}
 use Rattle.ec_nodes.specs.declared.room.Part.{Part}
 use Rattle.ec_nodes.specs.declared.room.Needs.{Needs}

@@ -1,23 +1,21 @@
 -- A short text is that of a program with few statements: each token takes a byte, and each statement a token.
-use Rattle.std.proofs.Common.{◌≡◌, ℕ, zero, suc, ◌+◌, ◌-◌, ◌^◌, ◌<◌, ◌≤◌, Bool, true, false, ◌||◌, cond, List, [], ◌∷◌, ◌++◌, length, drop, Option, Some, None, refl, sym, ap, ◌∙◌, arith, length-append, length-drop}
+use Rattle.std.proofs.Common.{◌≡◌, ℕ, ◌+◌, ◌^◌, ◌≤◌, Bool, true, false, cond, List, [], ◌∷◌, length, refl, arith, length-append, length-drop}
 use Rattle.std.specs.Prelude.{◌==◌, ◌&&◌, if◌then◌else◌, slice_index}
 use Rattle.std.specs.List.{prefix_len}
 use Rattle.std.proofs.lemmas.Grind.{common_steps}
 use Rattle.ec_ast.specs.declared.Program.{Program}
-use Rattle.ec_ast.specs.declared.Constant.{Constant}
 use Rattle.ec_ast.specs.declared.ObjectConstructor.{ObjectConstructor}
 use Rattle.ec_ast.specs.declared.Statement.{Statement}
 use Rattle.ec_lexer.specs.declared.lexeme.Class.TheVariants as class
 use Rattle.ec_lexer.specs.declared.lexeme.Form.{Form}
 use Rattle.ec_lexer.specs.declared.lexeme.Form.TheVariants as form
 use Rattle.ec_lexer.specs.declared.lexeme.Lexeme.{Lexeme}
-use Rattle.ec_lexer.specs.declared.lexeme.Lexeme.TheVariants.{End, Separator, Token, Nothing}
+use Rattle.ec_lexer.specs.declared.lexeme.Lexeme.TheVariants.{Separator, Token, Nothing}
 use Rattle.ec_lexer.specs.declared.token.Token.{Token as AToken}
 use Rattle.ec_lexer.specs.Lexemes.{Bytes, begins, begins_by, begins_word, is_in, is_blank, is_plain, is_escape, comment, word, string, symbol}
-use Rattle.ec_lexer.specs.Tokens.{HasTokens, HasTokensFrom, ended, separated, taken}
-use Rattle.ec_parser.specs.Grammar.{IsStatement, print, AreStatements, none, more, IsObject, object, IsConstant, constant, HasTree, empty, with_constant}
+use Rattle.ec_lexer.specs.Tokens.{HasTokensFrom, ended, separated, taken}
+use Rattle.ec_parser.specs.Grammar.{print, AreStatements, none, more, IsObject, object, constant, HasTree, empty, with_constant}
 use Rattle.ec_lower.specs.Short.{IsShort}
-use Rattle.ec_check.specs.Programs.{IsProgram}
 use Rattle.ec_tool.specs.Inputs.{IsSource}
 
 -- ---- a token takes a byte

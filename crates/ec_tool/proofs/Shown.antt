@@ -1,5 +1,5 @@
 -- What holds of a network that shows a world.
-use Rattle.std.proofs.Common.{◌≡◌, ℕ, zero, suc, ◌+◌, ◌-◌, ◌^◌, ◌<◌, ◌≤◌, Bool, true, false, List, [], ◌∷◌, ◌++◌, length, take, drop, Option, Some, None, Fits, w32, refl, sym, ap, ◌∙◌, arith, append_assoc, append-nil, add-one}
+use Rattle.std.proofs.Common.{◌≡◌, ℕ, zero, suc, ◌+◌, ◌-◌, ◌^◌, ◌<◌, ◌≤◌, true, false, List, [], ◌∷◌, ◌++◌, length, take, drop, Some, None, Fits, w32, refl, sym, ap, ◌∙◌, arith, append_assoc, append-nil, add-one}
 use Rattle.std.proofs.lemmas.List.{take_all, drop_all}
 use Rattle.ec_world.specs.declared.class.ClassRec.{ClassRec}
 use Rattle.ec_world.specs.declared.node.NodeSpec.{NodeSpec}
@@ -17,7 +17,7 @@ use Rattle.ec_network.specs.Holds.{Holds}
 use Rattle.ec_network.specs.Answers.{CanNumber}
 use Rattle.ec_network.specs.Net.{Net, name_of}
 use Rattle.rv_codegen.specs.Meaning.{rv_meaning}
-use Rattle.ec_tool.specs.Report.{object_line, node_at, lines_of_objects, object_lines, RestOfObjects, PushesObject}
+use Rattle.ec_tool.specs.Report.{object_line, node_at, object_lines, RestOfObjects, PushesObject}
 
 module _ (net : Net) (c : Cluster) (w : Worlds) (loaded : net.loaded ≡ Some c) (holds : Holds rv_meaning c w) (can : CanNumber net) where
   pub few_processes : length (statuses_of w) < 2 ^ 32 - 1

@@ -1,14 +1,12 @@
 -- From what the steps of a call come to, to what the call promises of each status.
-use Rattle.std.proofs.Common.{◌≡◌, ◌⊎◌, inl, inr, ℕ, ◌+◌, ◌≤◌, Bool, true, false, List, [], ◌∷◌, ◌++◌, length, Option, Some, None, lit≤, refl, sym, ap, ◌∙◌}
+use Rattle.std.proofs.Common.{◌≡◌, ◌⊎◌, ℕ, Bool, true, false, List, [], ◌∷◌, length, Option, Some, None, lit≤, refl}
 use Rattle.ec_ast.specs.declared.Program.{Program}
 use Rattle.ec_world.specs.declared.node.NodeSpec.{NodeSpec}
-use Rattle.ec_world.specs.declared.node.Kind.TheVariants.{Riscv}
 use Rattle.ec_world.specs.declared.run.Entry.{Entry}
 use Rattle.ec_world.specs.declared.run.RunEnd.TheVariants.{Finished, Stuck, Spent}
 use Rattle.ec_world.specs.declared.process.ProcStatus.{ProcStatus}
 use Rattle.ec_world.specs.Run.{statuses_of}
 use Rattle.ec_outside.specs.Fault.{HasRisen}
-use Rattle.ec_outside.specs.Whole.{IsWhole}
 use Rattle.ec_network.specs.Net.{Net, IsOneNode}
 use Rattle.ec_tool.specs.declared.status.Status.{Status}
 use Rattle.ec_tool.specs.declared.status.Status.TheVariants as statuses
@@ -17,12 +15,11 @@ use Rattle.ec_tool.specs.declared.report.ReportEnd.{ReportEnd}
 use Rattle.ec_tool.specs.declared.report.ReportEnd.TheVariants.{Ends, IsFull}
 use Rattle.std.specs.Str.{bytes_eq}
 use Rattle.ec_tool.specs.Inputs.{RunWords, WordsOf, IsSource, NodesOf, EntriesOf, nodes_if, one_node, one_node_file, default_budget, usage_line, later_line}
-use Rattle.ec_tool.specs.Emerald.{RunsTo, AreRead, Verdict, Answers, name_of_file, fault_line, any_failed, finished_status, status_of, source_run}
+use Rattle.ec_tool.specs.Emerald.{RunsTo, AreRead, Verdict, name_of_file, fault_line, any_failed, finished_status, status_of, source_run}
 use Rattle.ec_tool.specs.Emerald.RunsTo.{LoadIsFull, RanUntil}
 use Rattle.ec_tool.specs.Emerald.Verdict.{NoCommand, ReadFailed, SourceRefused, InputRefused, IsRun}
-use Rattle.ec_tool.specs.Emerald.Answers.{Written, Broken}
 use Rattle.ec_tool.specs.Promises.{IsRunStatus}
-use Rattle.ec_tool.specs.Steps.{Judged, IsByFiles, Plain}
+use Rattle.ec_tool.specs.Steps.{Judged, Plain}
 use Rattle.ec_tool.specs.Promises.IsRunStatus.{Finishes, Fails, Spends, Fills, Sticks}
 use Rattle.ec_tool.specs.Steps.Judged.{NoSource, NoInput, Runs}
 use Rattle.ec_tool.specs.Steps.IsByFiles.{RefusesSource, RefusesInput, EndsRun}

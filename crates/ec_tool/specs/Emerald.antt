@@ -1,5 +1,5 @@
 -- What a call of the program comes to.
-use Rattle.std.specs.Prelude.{◌≡◌, ◌≢◌, ℕ, zero, suc, ◌+◌, ◌<◌, ◌≤◌, ◌⊎◌, ◌||◌, Bool, true, false, List, [], ◌∷◌, ◌++◌, map, length, take, Option, Some, None, slice_get, codes}
+use Rattle.std.specs.Prelude.{◌≡◌, ℕ, zero, suc, ◌<◌, ◌⊎◌, ◌||◌, Bool, true, false, List, [], ◌∷◌, ◌++◌, length, Option, Some, None, codes}
 use Rattle.ec_ast.specs.declared.Program.{Program}
 use Rattle.ec_world.specs.declared.node.NodeSpec.{NodeSpec}
 use Rattle.ec_world.specs.declared.run.Entry.{Entry}
@@ -9,8 +9,6 @@ use Rattle.ec_world.specs.declared.run.RunEnd.{RunEnd}
 use Rattle.ec_world.specs.declared.run.RunEnd.TheVariants.{Finished, Stuck, Spent}
 use Rattle.ec_world.specs.declared.process.ProcStatus.{ProcStatus}
 use Rattle.ec_world.specs.declared.process.ProcStatus.TheVariants.{Ready, Entry as AtEntry, Cond, Urgent, Ended, Failed}
-use Rattle.ec_world.specs.declared.world.World.{World}
-use Rattle.ec_world.specs.Group.{Has}
 use Rattle.ec_world.specs.Moves.{OperatorMove}
 use Rattle.ec_world.specs.Run.{RunState, Reaches, Run, end_of, next_entry, statuses_of, run_after}
 use Rattle.ec_meaning.specs.declared.activation.SourceActivation.{SourceActivation}

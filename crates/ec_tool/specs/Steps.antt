@@ -12,7 +12,7 @@ use Rattle.ec_tool.specs.declared.emerald.Unread.{Unread}
 use Rattle.ec_tool.specs.declared.emerald.Unread.TheVariants.{Failed, Memory}
 use Rattle.ec_tool.specs.Inputs.{RunWords, WordsOf, IsSource, NodesOf, EntriesOf, default_budget, usage_line, later_line}
 use Rattle.ec_tool.specs.Promises.{IsRunStatus}
-use Rattle.ec_tool.specs.Emerald.{RunsTo, AreRead, Verdict, Answers, name_of_file, fault_line}
+use Rattle.ec_tool.specs.Emerald.{RunsTo, Verdict, Answers, name_of_file, fault_line}
 
 -- what is said where a read met a fault
 abbrev pub WhenFailed : Unread → (FileOf → Type 0) → Type 0

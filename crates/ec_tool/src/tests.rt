@@ -104,7 +104,15 @@ fn meets_a_fault_at_each_put(rt: HostRuntime) {
         let text = &REPORT[..4 * (j - 1)];
         let fails = [j as u64];
         assert!(rt;
-            answers(rt.alloc(), &WORDS, 100, &[], &fails, Status::WriteFault, text) == Ok(true),
+            answers(
+                rt.alloc(),
+                &WORDS,
+                100,
+                &[],
+                &fails,
+                Status::WriteFault,
+                text
+            ) == Ok(true),
             "put {j} fails"
         );
     }

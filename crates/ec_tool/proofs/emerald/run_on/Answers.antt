@@ -1,4 +1,4 @@
-use Rattle.std.proofs.Common.{◌≡◌, inl, inr, refl, [], Some}
+use Rattle.std.proofs.Common.{◌≡◌, inl, inr, refl, []}
 use Rattle.ec_tool.specs.declared.answer.Answer.{Answer}
 use Rattle.ec_tool.specs.declared.status.Status.TheVariants as statuses
 use Rattle.ec_tool.specs.Inputs.{later_line, default_budget}

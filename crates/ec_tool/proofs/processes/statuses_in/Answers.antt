@@ -1,4 +1,4 @@
-use Rattle.std.proofs.Common.{◌≡◌, sym, ◌∙◌}
+use Rattle.std.proofs.Common.{sym, ◌∙◌}
 use Rattle.ec_world.specs.Run.{statuses_of}
 use Rattle.ec_tool.proofs.Shown.{status_next, statuses_all}
 use Rattle.ec_tool.proofs.processes.statuses_in.Goals as goal

@@ -1,5 +1,5 @@
-use Rattle.std.proofs.Common.{◌≡◌, ◌++◌}
-use Rattle.ec_tool.specs.Report.{lines_of_objects, PushesObject}
+use Rattle.std.proofs.Common.{◌++◌}
+use Rattle.ec_tool.specs.Report.{lines_of_objects}
 use Rattle.ec_tool.proofs.Shown.{rest_next, rest_done}
 use Rattle.ec_tool.proofs.report.push_objects.Goals as goal
 

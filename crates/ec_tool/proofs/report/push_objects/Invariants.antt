@@ -1,4 +1,4 @@
-use Rattle.std.proofs.Common.{◌≡◌, ◌++◌, ◌-◌, ◌^◌, suc, drop}
+use Rattle.std.proofs.Common.{◌++◌, ◌-◌, ◌^◌}
 use Rattle.ec_network.specs.Answers.{ForShown}
 use Rattle.rv_codegen.specs.Meaning.{rv_meaning}
 use Rattle.ec_tool.specs.Report.{lines_of_objects, RestOfObjects}

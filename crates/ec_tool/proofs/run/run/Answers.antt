@@ -1,7 +1,6 @@
-use Rattle.std.proofs.Common.{◌≡◌, [], sym, ◌∙◌}
+use Rattle.std.proofs.Common.{◌≡◌, []}
 use Rattle.ec_tool.specs.declared.answer.Answer.{Answer}
 use Rattle.ec_tool.specs.declared.status.Status.TheVariants as statuses
-use Rattle.ec_tool.specs.declared.report.ReportEnd.TheVariants.{IsFull}
 use Rattle.ec_tool.specs.Inputs.{default_budget}
 use Rattle.ec_tool.specs.Report.{load_report}
 use Rattle.ec_tool.specs.Emerald.{RunsTo}

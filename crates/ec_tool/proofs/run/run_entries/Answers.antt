@@ -1,8 +1,6 @@
-use Rattle.std.proofs.Common.{◌≡◌, [], length, ap}
-use Rattle.ec_network.specs.declared.cluster.Cluster.{Cluster}
+use Rattle.std.proofs.Common.{[], length, ap}
 use Rattle.ec_network.specs.Net.{Net}
 use Rattle.ec_tool.specs.Emerald.{ir_run}
-use Rattle.ec_tool.specs.Running.{IsAfter}
 use Rattle.ec_tool.proofs.Following.{after_load, ended_by_itself, ended_refused, after_next}
 use Rattle.ec_tool.proofs.run.run_entries.Goals as goal
 

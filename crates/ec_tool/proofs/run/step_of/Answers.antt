@@ -1,6 +1,6 @@
-use Rattle.std.proofs.Common.{◌≡◌, map, sym, ap, ◌∙◌}
-use Rattle.std.proofs.Common.{◌<◌, ◌≤◌, arith, List, Bool, Option, ℕ}
-use Rattle.ec_world.specs.Run.{is_ready, next_ready_of}
+use Rattle.std.proofs.Common.{sym, ap, ◌∙◌}
+use Rattle.std.proofs.Common.{arith, List, Bool}
+use Rattle.ec_world.specs.Run.{next_ready_of}
 use Rattle.ec_tool.proofs.Choosing.{step_finished, step_stuck, step_spent, step_turn}
 use Rattle.ec_tool.proofs.run.step_of.Goals as goal
 
