@@ -71,7 +71,7 @@ goes_there c o k e =
 -- ---- a group's members are there
 
 member_there : (c : Common) (o m : ℕ) → (0 < o) × (o ≤ length c.objects) → InGroup c o m → (0 < m) × (m ≤ length c.objects)
-member_there c o m h (Itself) = h
+member_there c o m h (Itself there) = h
 member_there c o m h (Linked y z g has some) = object_within c.objects m some
 
 all_there : (count : ℕ) (ms : List ℕ) → ((m : ℕ) → Has ms m → (0 < m) × (m ≤ count)) → AreThere count ms
@@ -81,7 +81,7 @@ all_there count (m ∷ ms) h =
     (first.0, first.1, all_there count ms (λ x g. h x (has_later m x ms g)))
 
 group_there : (c : Common) (o : ℕ) → (0 < o) × (o ≤ length c.objects) → AreThere (length c.objects) (group_of c o)
-group_there c o h = all_there (length c.objects) (group_of c o) (λ m g. member_there c o m h (((group_of_is c o h.0 h.1).each m).0 g))
+group_there c o h = all_there (length c.objects) (group_of c o) (λ m g. member_there c o m h (((group_of_is c o).each m).0 g))
 
 -- ---- on one node
 
