@@ -1,5 +1,5 @@
 //! What a world has beside its processes, and what a stop's action does to it.
-ghost use Rattle.std.specs.Prelude.{◌≡◌, ◌+◌, ◌-◌, ◌<◌, ◌^◌, IfOk, OnOk, ◌++◌, drop, IsSome, length, slice_get};
+ghost use Rattle.std.specs.Prelude.{◌≡◌, IfOk, OnOk, ◌++◌, drop, IsSome};
 ghost use Rattle.ec_world.specs.declared.common.Common.{Common};
 ghost use Rattle.ec_world.specs.Values.{field_defaults};
 ghost use Rattle.ec_world.specs.Effects.{effect_of, class_at, print_effect, global_effect, return_effect, new_effect};
