@@ -16,8 +16,8 @@ use rv_isa::field::{Register, Twelve};
 use rv_isa::instr::{Instr, Load, Store};
 
 impl RvMachine {
-    /// Does one instruction.
-    pub fn execute<M: Memory>(&mut self, memory: &mut M, instr: Instr) -> Outcome
+    // Does one instruction.
+    pub(crate) fn execute<M: Memory>(&mut self, memory: &mut M, instr: Instr) -> Outcome
         ensures answer { IsAnswer (does instr (state_of self.old (M.byte_at memory.old))) (state_of self.old (M.byte_at memory.old)) result (state_of self.new (M.byte_at memory.new)) }
         ensures rest { M.alike memory.old memory.new }
     {
@@ -140,8 +140,8 @@ impl RvMachine {
         Outcome::Went
     }
 
-    /// A trap at this place.
-    pub fn trap(&self, cause: Cause) -> Outcome
+    // A trap at this place.
+    pub(crate) fn trap(&self, cause: Cause) -> Outcome
         ensures { result ≡ Outcome.Trap (record { cause = cause; pc = self.now.pc }) }
     {
         Outcome::Trap(Trap { cause, pc: self.pc })
@@ -154,8 +154,8 @@ impl RvMachine {
         self.read(register).wrapping_add(extended(12, offset.bits))
     }
 
-    /// What a register holds; register 0 reads zero.
-    pub fn read(&self, register: Register) -> u32
+    // What a register holds; register 0 reads zero.
+    pub(crate) fn read(&self, register: Register) -> u32
         ensures { result ≡ register_of self.now.registers register.number }
     {
         if register.number == 0 {
@@ -165,8 +165,8 @@ impl RvMachine {
         }
     }
 
-    /// Sets a register; a write to register 0 is lost.
-    pub fn write(&mut self, register: Register, value: u32)
+    // Sets a register; a write to register 0 is lost.
+    pub(crate) fn write(&mut self, register: Register, value: u32)
         ensures registers { self.new.registers ≡ with_register self.old.registers register.number value }
         ensures place { self.new.pc ≡ self.old.pc }
     {
