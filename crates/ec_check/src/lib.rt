@@ -1,7 +1,7 @@
 //! The static rules, and which texts are programs.
 #![tactic(auto)]
 
-ghost use Rattle.std.specs.Prelude.{◌≡◌, ◌^◌, ◌<◌, length, slice_get, IfOk, IfSome, IfNone};
+ghost use Rattle.std.specs.Prelude.{◌≡◌, slice_get, IfOk, IfSome, IfNone};
 ghost use Rattle.std.specs.Str.{str_eq_ignore_ascii_case};
 ghost use Rattle.ec_ast.specs.declared.Program.{Program as AProgram};
 ghost use Rattle.ec_check.specs.Faults.{StaticFaults, object_faults};
@@ -26,10 +26,9 @@ pub struct StaticFault {
     pub at: Span,
 }
 
-/// The program whose text of less than 2^32 bytes this is, or None where it is the text of none:
-/// it has no tokens, these have no tree, or the tree breaks a static rule. An error is want of memory.
+/// The program whose text this is, or None where it is the text of none: it has no tokens, these have no tree,
+/// or the tree breaks a static rule. An error is want of memory.
 pub fn accepted(alloc: Global, text: &[u8]) -> Result<Option<Program>, AllocError>
-    requires { length text.now < 2 ^ 32 }
     ensures program { IfOk result (λ found. IfSome found (IsProgram text.now)) }
     ensures none { IfOk result (λ found. IfNone found ((program : AProgram) → IsProgram text.now program → ⊥)) }
 {

@@ -1,6 +1,4 @@
 //! Texts that are programs and texts that are none, with what their trees have.
-ghost use Rattle.std.specs.Prelude.{length, ◌<◌, ◌^◌};
-
 use super::*;
 use ec_ast::{Literal, Name, Statement};
 use std::process::Abort;
@@ -10,9 +8,7 @@ const HELLO: &[u8] =
     b"const main <- object main\n  initially\n    stdout.putstring[\"hi\"]\n  end initially\nend main\n";
 
 /// Whether the text is a program's.
-fn is_program(alloc: Global, text: &[u8]) -> Result<bool, AllocError>
-    requires { length text.now < 2 ^ 32 }
-{
+fn is_program(alloc: Global, text: &[u8]) -> Result<bool, AllocError> {
     Ok(accepted(alloc, text)?.is_some())
 }
 
@@ -92,6 +88,15 @@ fn these_are_none(rt: HostRuntime) -> Result<(), Fail> {
     for text in texts {
         assert!(rt; !is_program(rt.alloc(), text)?);
     }
+    Ok(())
+}
+
+#[test]
+fn a_text_has_1048576_bytes_at_most(rt: HostRuntime) -> Result<(), Fail> {
+    let mut blanks = vec![in rt.alloc(); b' '; 1_048_576]?;
+    assert!(rt; is_program(rt.alloc(), &blanks)?);
+    blanks.push(b' ')?;
+    assert!(rt; !is_program(rt.alloc(), &blanks)?);
     Ok(())
 }
 

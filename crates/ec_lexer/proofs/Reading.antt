@@ -1,10 +1,10 @@
 -- What is known of a text that has been read up to a place; a text has its tokens in one way only.
-use Rattle.std.proofs.Common.{◌≡◌, ℕ, ◌+◌, List, [], ◌∷◌, ◌++◌, take, drop, refl, sym, ◌∙◌, ap, subst, append_assoc, append-nil}
+use Rattle.std.proofs.Common.{◌≡◌, ℕ, ◌≤◌, ◌+◌, List, [], ◌∷◌, ◌++◌, length, take, drop, refl, sym, ◌∙◌, ap, subst, append_assoc, append-nil}
 use Rattle.ec_lexer.specs.declared.lexeme.Form.{Form}
 use Rattle.ec_lexer.specs.declared.token.Token.{Token as AToken}
 use Rattle.ec_lexer.specs.declared.lexeme.Lexeme.TheVariants.{End, Separator, Token, Nothing}
 use Rattle.ec_lexer.specs.Lexemes.{Bytes, begins}
-use Rattle.ec_lexer.specs.Tokens.{token, HasTokens, HasTokensFrom, ended, separated, taken}
+use Rattle.ec_lexer.specs.Tokens.{token, text_limit, HasTokens, HasTokensFrom, ended, separated, taken}
 
 of_separator : {at : ℕ} {z : Bytes} {ts : List AToken} → (n : ℕ) → begins z ≡ Separator n → HasTokensFrom at z ts → HasTokensFrom (at + n) (drop n z) ts
 of_separator n e (ended f) = cc
@@ -39,7 +39,7 @@ same_tokens_from {at} {z} (taken {n = n} {form = form} e r) us d =
 
 -- a text has at most one list of tokens
 pub same_tokens : (text : Bytes) (ts us : List AToken) → HasTokens text ts → HasTokens text us → ts ≡ us
-same_tokens text ts us a b = same_tokens_from a us b
+same_tokens text ts us a b = same_tokens_from a.has us b.has
 
 -- the text's tokens are these, and then those of what is left from this place on
 pub record Sofar (z : Bytes) (at : ℕ) (ts : List AToken) : Type 0 where
@@ -66,8 +66,8 @@ module _ (z : Bytes) (at : ℕ) (ts : List AToken) (s : Sofar z at ts) (n : ℕ)
   }
 
 module _ (z : Bytes) (at : ℕ) (ts : List AToken) (s : Sofar z at ts) where
-  pub whole : begins (drop at z) ≡ End → HasTokens z ts
-  whole e = subst (λ x. HasTokens z x) (append-nil ts) (s.back [] (ended e))
+  pub whole : begins (drop at z) ≡ End → length z ≤ text_limit → HasTokens z ts
+  whole e short = record { short = short; has = subst (λ x. HasTokensFrom 0 z x) (append-nil ts) (s.back [] (ended e)) }
 
   pub no_tokens : begins (drop at z) ≡ Nothing → (us : List AToken) → HasTokens z us → ⊥
-  no_tokens e us d = of_nothing e (s.forth us d).2
+  no_tokens e us d = of_nothing e (s.forth us d.has).2

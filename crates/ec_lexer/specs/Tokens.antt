@@ -1,5 +1,5 @@
 -- The tokens of a text.
-use Rattle.std.specs.Prelude.{◌≡◌, ℕ, ◌+◌, ◌-◌, ◌==◌, if◌then◌else◌, List, [], ◌∷◌, length, take, drop, Option, Some, None}
+use Rattle.std.specs.Prelude.{◌≡◌, ℕ, ◌≤◌, ◌+◌, ◌-◌, ◌==◌, if◌then◌else◌, List, [], ◌∷◌, length, take, drop, Option, Some, None}
 use Rattle.ec_lexer.specs.declared.lexeme.Form.{Form}
 use Rattle.ec_lexer.specs.declared.lexeme.Form.TheVariants as form
 use Rattle.ec_lexer.specs.declared.lexeme.Lexeme.TheVariants.{End, Separator, Token}
@@ -48,6 +48,11 @@ pub data HasTokensFrom : ℕ → Bytes → List AToken → Type 0 where
   taken : {at n : ℕ} {rest : Bytes} {form : Form} {tokens : List AToken} →
       begins rest ≡ Token form n → HasTokensFrom (at + n) (drop n rest) tokens → HasTokensFrom at rest (token form at (take n rest) ∷ tokens)
 
--- the text has these tokens
-abbrev pub HasTokens : Bytes → List AToken → Type 0
-HasTokens text tokens = HasTokensFrom 0 text tokens
+-- the most bytes that a text has
+abbrev pub text_limit : ℕ
+text_limit = 1048576
+
+-- the text is no longer than a text may be, and has these tokens
+pub record HasTokens (text : Bytes) (tokens : List AToken) : Type 0 where
+  pub short : length text ≤ text_limit
+  pub has : HasTokensFrom 0 text tokens

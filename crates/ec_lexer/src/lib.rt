@@ -14,13 +14,18 @@ use lexeme::{Form, Lexeme, begins};
 use std::alloc::{AllocError, Global};
 use token::{Token, TokenKind, reserved_word};
 
-/// The tokens of a text of less than 2^32 bytes, or None where it has none.
+/// The most bytes that a text has.
+const TEXT_LIMIT: usize = 1_048_576;
+
+/// The tokens of a text, or None where it has none: it is longer than a text may be, or some byte begins no token.
 /// An error is want of memory.
 pub fn lex(alloc: Global, text: &[u8]) -> Result<Option<Seq<Token>>, AllocError>
-    requires { length text.now < 2 ^ 32 }
     ensures found { IfOk result (λ found. IfSome found (HasTokens text.now)) }
     ensures none { IfOk result (λ found. IfNone found ((tokens : List AToken) → HasTokens text.now tokens → ⊥)) }
 {
+    if text.len() > TEXT_LIMIT {
+        return Ok(None);
+    }
     let mut found = Seq::new(alloc);
     let mut at = 0;
     'reading: loop {

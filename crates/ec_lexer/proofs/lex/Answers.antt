@@ -13,7 +13,7 @@ begun : (z : List ℕ) (at : ℕ) (x : Lexeme) → x ≡ begins (take (length z 
 begun z at x e = sym (e ∙ ap begins (rest_is z at))
 
 pub returns-in-End-clause-found : goal.returns-in-End-clause-found
-returns-in-End-clause-found c = whole _ _ _ c.reading.invariant.1 (begun c.args.text.now c.reading.at _ c.begins.ensures.value ∙ c.in-End.is)
+returns-in-End-clause-found c = whole _ _ _ c.reading.invariant.1 (begun c.args.text.now c.reading.at _ c.begins.ensures.value ∙ c.in-End.is) (omega (arith, c.if-text-gt-TEXT_LIMIT.false))
 
 pub reading-preserved-in-Separator : goal.reading-preserved-in-Separator
 reading-preserved-in-Separator c =
