@@ -27,7 +27,7 @@ use Rattle.ec_nodes.specs.Held.{InPool}
 use Rattle.ec_nodes.specs.Shows.{ShowsNodes}
 use Rattle.ec_frames.specs.declared.node.NodeStore.{NodeStore}
 use Rattle.ec_network.specs.declared.cluster.Cluster.{Cluster}
-use Rattle.ec_network.specs.Shows.{Worlds, Shows, stores, spot, place}
+use Rattle.ec_network.specs.Shows.{IrWorld, Shows, stores, spot, place}
 use Rattle.ec_network.specs.Room.{Strings}
 use Rattle.ec_network.specs.Worlds.{FineWorld}
 use Rattle.ec_network.specs.Turns.{MoveOf}
@@ -97,13 +97,13 @@ made_push [] ms target = refl
 made_push (Created oid maker ∷ es) ms target = ap suc (made_push es ms target)
 made_push (Moved qs t ∷ es) ms target = made_push es ms target
 
-module _ {S : Type 0} (M : MachineMeaning S) (net : Cluster) (w : Worlds) (holds : Holds M net w) where
+module _ {S : Type 0} (M : MachineMeaning S) (net : Cluster) (w : IrWorld) (holds : Holds M net w) where
   one : w.common.nodes ≡ 1
   one = one_node net w holds.steady.node holds.shows holds.steady.one
 
   -- a world with other events, and the same places
   module _ (events : List Event) (same : places w.common.nodes events ≡ places w.common.nodes w.common.events) (are : AreEvents (suc w.common.nodes) events) where
-    abbrev eventful : Worlds
+    abbrev eventful : IrWorld
     eventful = record w { common = record w.common { events = events } }
 
     eventful_shows : Shows net eventful
@@ -146,6 +146,7 @@ module _ {S : Type 0} (M : MachineMeaning S) (net : Cluster) (w : Worlds) (holds
             objects = f.objects;
             node_objects = f.node_objects;
             fixed = f.fixed;
+            made = f.made;
             events = are;
             placed = ap (λ (ps : List ℕ). length ps) same ∙ f.placed;
           };
