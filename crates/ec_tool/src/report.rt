@@ -10,14 +10,15 @@ ghost use Rattle.rv_codegen.specs.Meaning.{rv_meaning};
 ghost use Rattle.ec_world.specs.declared.node.NodeSpec.{NodeSpec as ANodeSpec};
 ghost use Rattle.ec_tool.specs.declared.report.ReportEnd.TheVariants.{Ends, IsFull};
 ghost use Rattle.ec_tool.specs.Running.{IsShown};
-ghost use Rattle.ec_tool.specs.Report.{line_feed, status_text, process_line, process_lines, name_if, node_at, fixed_text, object_line, kind_text, node_line, node_lines, part_text, end_line, turns_line, report, load_report, PushesObject, lines_of_objects};
+ghost use Rattle.ec_tool.specs.Report.{line_feed, status_text, process_line, process_lines, name_if, node_at, fixed_text, object_line, kind_text, node_line, node_lines, part_text, end_line, turns_line, report, load_report, lines_of_objects};
+ghost use Rattle.ec_tool.specs.ObjectLines.{PushesObject};
 
 use ec_network::network::Network;
 use ec_nodes::room::Part;
 use ec_world::node::{Kind, NodeSpec};
 use ec_world::process::ProcStatus;
 use ec_world::run::RunEnd;
-use ec_world::value::{NodeNo, Oid};
+use ec_world::value::{NodeNo, Oid, Text};
 use std::alloc::{AllocError, Global};
 
 /// How a run came to its end: by itself, or as a node had no room for what an entry needs there (blocks, or bytes of
@@ -251,7 +252,7 @@ fn push_object_line(
     alloc: Global,
     specs: &[NodeSpec],
     oid: Oid,
-    class: &[u8],
+    class: &Text,
     place: Option<NodeNo>,
     fixed: bool,
     out: &mut Vec<u8>,
@@ -261,7 +262,7 @@ fn push_object_line(
     out.extend_from_slice(b"object ")?;
     push_number(alloc, oid.into(), out)?;
     out.extend_from_slice(b" ")?;
-    out.extend_from_slice(class)?;
+    out.extend_from_slice(class.as_slice())?;
     push_where(specs, place, fixed, out)?;
     out.push(b'\n')?;
     Ok(())
