@@ -36,7 +36,7 @@ use Rattle.ec_tool.specs.declared.report.ReportEnd.TheVariants.{Ends, IsFull}
 use Rattle.ec_tool.specs.declared.run.Step.TheVariants.{Stops, Turns}
 use Rattle.ec_tool.specs.Inputs.{default_budget}
 use Rattle.ec_tool.specs.Emerald.{ir_run, action_if, next_action, PoolAfter, NextFull}
-use Rattle.ec_tool.specs.Running.{IsStep, Follows, IsAfter, StopsItself, StopsFull, IsFullEnd, IsEnded}
+use Rattle.ec_tool.specs.Running.{IsShown, IsStep, Follows, IsAfter, StopsItself, StopsFull, IsFullEnd, IsEnded}
 use Rattle.ec_tool.proofs.Growth.{GrowsByOne, turn_grows}
 use Rattle.ec_tool.proofs.Rooms.{full_along}
 
@@ -165,6 +165,17 @@ strings_same : (P P' : Parts) (v v' : IrWorld) → P ≡ P' → v ≡ v' → (j 
 strings_same P P' v v' e h j text = rw (e, h) ((λ x. x), (λ x. x))
 
 -- ---- the turn that comes next
+
+-- a network that follows is whole, and shows a world
+pub follows_shown : (specs : List NodeSpec) (old : Net) (k : ℕ) (net : Net) → Follows specs old k net → IsShown net
+follows_shown specs old k net f =
+    record {
+      cluster = f.now;
+      world = (ir_run f.start.program (length specs) [] k).world;
+      loaded = ap (λ (n : Net). n.loaded) f.is;
+      whole = ap (λ (n : Net). n.whole) f.is;
+      holds = f.holds;
+    }
 
 module _ (specs : List NodeSpec) (old : Net) (k : ℕ) (last : Option ℕ) (net : Net) (a : IsAfter specs old k last net) where
   abbrev f : Follows specs old k net
