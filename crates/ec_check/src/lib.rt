@@ -1,13 +1,14 @@
 //! The static rules, and which texts are programs.
 #![tactic(auto)]
 
-ghost use Rattle.std.specs.Prelude.{◌≡◌, ◌^◌, ◌<◌, length, slice_get, IfOk, IfSome, IfNone};
+ghost use Rattle.std.specs.Prelude.{◌≡◌, slice_get, IfOk, IfSome, IfNone};
 ghost use Rattle.std.specs.Str.{str_eq_ignore_ascii_case};
 ghost use Rattle.ec_ast.specs.declared.Program.{Program as AProgram};
 ghost use Rattle.ec_check.specs.Faults.{StaticFaults, object_faults};
 ghost use Rattle.ec_check.specs.Programs.{IsProgram};
 
 use ec_ast::{ObjectConstructor, Program, Span};
+use ec_lexer::error::LexError;
 use ec_lexer::lex;
 use ec_parser::parse;
 use std::alloc::{AllocError, Global};
@@ -26,16 +27,16 @@ pub struct StaticFault {
     pub at: Span,
 }
 
-/// The program whose text of less than 2^32 bytes this is, or None where it is the text of none:
-/// it has no tokens, these have no tree, or the tree breaks a static rule. An error is want of memory.
+/// The program whose text this is, or None where it is the text of none: it has no tokens, these have no tree,
+/// or the tree breaks a static rule. An error is want of memory.
 pub fn accepted(alloc: Global, text: &[u8]) -> Result<Option<Program>, AllocError>
-    requires { length text.now < 2 ^ 32 }
     ensures program { IfOk result (λ found. IfSome found (IsProgram text.now)) }
     ensures none { IfOk result (λ found. IfNone found ((program : AProgram) → IsProgram text.now program → ⊥)) }
 {
-    match lex(alloc, text)? {
-        None => Ok(None),
-        Some(tokens) => match parse(alloc, tokens.as_slice())? {
+    match lex(alloc, text) {
+        Err(LexError::Memory) => Err(AllocError),
+        Err(LexError::Refused { .. }) => Ok(None),
+        Ok(tokens) => match parse(alloc, tokens.as_slice())? {
             None => Ok(None),
             Some(program) => match first_fault(&program) {
                 Some(_) => Ok(None),

@@ -1,6 +1,4 @@
 //! Texts that are programs and texts that are none, with what their trees have.
-ghost use Rattle.std.specs.Prelude.{length, ◌<◌, ◌^◌};
-
 use super::*;
 use ec_ast::{Literal, Name, Statement};
 use std::process::Abort;
@@ -10,9 +8,7 @@ const HELLO: &[u8] =
     b"const main <- object main\n  initially\n    stdout.putstring[\"hi\"]\n  end initially\nend main\n";
 
 /// Whether the text is a program's.
-fn is_program(alloc: Global, text: &[u8]) -> Result<bool, AllocError>
-    requires { length text.now < 2 ^ 32 }
-{
+fn is_program(alloc: Global, text: &[u8]) -> Result<bool, AllocError> {
     Ok(accepted(alloc, text)?.is_some())
 }
 
@@ -110,8 +106,7 @@ fn another_end_name_is_a_fault_there(rt: HostRuntime) -> Result<(), Fail> {
     let tokens = lex(
         rt.alloc(),
         b"const a <- object b initially end initially end a",
-    )?
-    .ok_or("no tokens")?;
+    )?;
     let program = parse(rt.alloc(), tokens.as_slice())?.ok_or("no tree")?;
     let fault = first_fault(&program).ok_or("no fault")?;
     assert_eq!(rt; fault.rule, Rule::E3);
