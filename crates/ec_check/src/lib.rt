@@ -8,6 +8,7 @@ ghost use Rattle.ec_check.specs.Faults.{StaticFaults, object_faults};
 ghost use Rattle.ec_check.specs.Programs.{IsProgram};
 
 use ec_ast::{ObjectConstructor, Program, Span};
+use ec_lexer::error::LexError;
 use ec_lexer::lex;
 use ec_parser::parse;
 use std::alloc::{AllocError, Global};
@@ -32,9 +33,10 @@ pub fn accepted(alloc: Global, text: &[u8]) -> Result<Option<Program>, AllocErro
     ensures program { IfOk result (λ found. IfSome found (IsProgram text.now)) }
     ensures none { IfOk result (λ found. IfNone found ((program : AProgram) → IsProgram text.now program → ⊥)) }
 {
-    match lex(alloc, text)? {
-        None => Ok(None),
-        Some(tokens) => match parse(alloc, tokens.as_slice())? {
+    match lex(alloc, text) {
+        Err(LexError::Memory) => Err(AllocError),
+        Err(LexError::Refused { .. }) => Ok(None),
+        Ok(tokens) => match parse(alloc, tokens.as_slice())? {
             None => Ok(None),
             Some(program) => match first_fault(&program) {
                 Some(_) => Ok(None),

@@ -92,15 +92,6 @@ fn these_are_none(rt: HostRuntime) -> Result<(), Fail> {
 }
 
 #[test]
-fn a_text_has_1048576_bytes_at_most(rt: HostRuntime) -> Result<(), Fail> {
-    let mut blanks = vec![in rt.alloc(); b' '; 1_048_576]?;
-    assert!(rt; is_program(rt.alloc(), &blanks)?);
-    blanks.push(b' ')?;
-    assert!(rt; !is_program(rt.alloc(), &blanks)?);
-    Ok(())
-}
-
-#[test]
 fn escapes_stand_for_bytes(rt: HostRuntime) -> Result<(), Fail> {
     let text =
         b"const a <- object a initially stdout.putstring[\"<\\n\\t\\\\\\\">\"] end initially end a";
@@ -115,8 +106,7 @@ fn another_end_name_is_a_fault_there(rt: HostRuntime) -> Result<(), Fail> {
     let tokens = lex(
         rt.alloc(),
         b"const a <- object b initially end initially end a",
-    )?
-    .ok_or("no tokens")?;
+    )?;
     let program = parse(rt.alloc(), tokens.as_slice())?.ok_or("no tree")?;
     let fault = first_fault(&program).ok_or("no fault")?;
     assert_eq!(rt; fault.rule, Rule::E3);

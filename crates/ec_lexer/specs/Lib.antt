@@ -1,2 +1,4 @@
+pub mod Faults
 pub mod Lexemes
 pub mod Tokens
+pub mod Words

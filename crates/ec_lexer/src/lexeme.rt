@@ -1,24 +1,24 @@
 //! What a text begins with.
-ghost use Rattle.std.specs.Prelude.{◌≡◌, ◌≢◌, ◌<◌, ◌≤◌, ◌+◌, ◌^◌, length, slice_index, true, false};
+ghost use Rattle.std.specs.Prelude.{◌≡◌, ◌≢◌, ◌<◌, ◌≤◌, ◌+◌, ◌^◌, length, slice_index, IfSome, true, false};
+ghost use Rattle.std.specs.Char.{is_ascii_digit};
 ghost use Rattle.std.specs.List.{prefix_len};
+ghost use Rattle.ec_lexer.specs.Words as words;
 ghost use Rattle.ec_lexer.specs.Lexemes as spec;
+
+use crate::error::LexFault;
+use crate::token::{Reserved, Symbol, reserved_word, symbol_of};
 
 /// The form of a token.
 #[derive(Clone, Copy, Debug, PartialEq, Eq)]
 pub enum Form {
-    Word,
+    Reserved(Reserved),
+    Name,
+    Integer(u32),
     Literal,
-    /// `<-`
-    Arrow,
-    /// `.`
-    Dot,
-    /// `[`
-    OpenBracket,
-    /// `]`
-    CloseBracket,
+    Symbol(Symbol),
 }
 
-/// What a text begins with. A length counts bytes from the text's front.
+/// What a text begins with. A length or a place counts bytes from the text's front.
 #[derive(Clone, Copy, Debug, PartialEq, Eq)]
 pub enum Lexeme {
     /// The text is empty.
@@ -27,8 +27,8 @@ pub enum Lexeme {
     Separator(usize),
     /// A token of this form and length.
     Token(Form, usize),
-    /// Neither.
-    Nothing,
+    /// A fault at this place.
+    Fault(LexFault, usize),
 }
 
 /// A class of bytes of which the longest run is taken.
@@ -36,11 +36,19 @@ pub enum Lexeme {
 pub enum Class {
     /// A letter, a digit or `_`.
     Word,
+    /// A digit.
+    Digit,
     /// Anything but a line feed.
     Line,
 }
 
-/// What a text of less than 2^32 bytes begins with.
+/// The greatest integer that a text can have.
+const GREATEST: u64 = 2_147_483_647;
+
+/// How many bytes the longest symbols have.
+const LONGEST_SYMBOL: usize = 3;
+
+/// What a text begins with.
 pub fn begins(text: &[u8]) -> Lexeme
     requires { length text.now < 2 ^ 32 }
     ensures value { result ≡ spec.begins text.now }
@@ -65,6 +73,8 @@ fn begins_by_first(text: &[u8]) -> Lexeme
         comment(text)
     } else if begins_word(first) {
         word(text)
+    } else if first.is_ascii_digit() {
+        integer(text)
     } else if first == b'"' {
         string(&text[1..])
     } else {
@@ -73,13 +83,13 @@ fn begins_by_first(text: &[u8]) -> Lexeme
 }
 
 fn is_blank(b: u8) -> bool
-    ensures { result ≡ spec.is_blank b }
+    ensures { result ≡ words.is_blank b }
 {
     b == b' ' || b == b'\t' || b == b'\r' || b == b'\n'
 }
 
 fn begins_word(b: u8) -> bool
-    ensures { result ≡ spec.begins_word b }
+    ensures { result ≡ words.begins_word b }
 {
     b.is_ascii_alphabetic() || b == b'_'
 }
@@ -96,18 +106,58 @@ fn comment(text: &[u8]) -> Lexeme
 
 /// The word that a text begins with.
 fn word(text: &[u8]) -> Lexeme
-    requires { spec.begins_word (slice_index text.now 0) ≡ true }
+    requires { words.begins_word (slice_index text.now 0) ≡ true }
     ensures value { result ≡ spec.word text.now }
     ensures within { spec.Takes result (length text.now) }
 {
-    Lexeme::Token(Form::Word, run(Class::Word, text))
+    let end = run(Class::Word, text);
+    Lexeme::Token(word_form(&text[..end]), end)
+}
+
+/// A word is reserved, or a name.
+fn word_form(word: &[u8]) -> Form
+    ensures { result ≡ spec.word_form (words.reserved word.now) }
+{
+    match reserved_word(word) {
+        Some(reserved) => Form::Reserved(reserved),
+        None => Form::Name,
+    }
+}
+
+/// The integer that a text begins with.
+fn integer(text: &[u8]) -> Lexeme
+    requires { is_ascii_digit (slice_index text.now 0) ≡ true }
+    ensures value { result ≡ spec.integer text.now }
+    ensures within { spec.Takes result (length text.now) }
+{
+    let end = run(Class::Digit, text);
+    match number_of(&text[..end]) {
+        Some(number) => Lexeme::Token(Form::Integer(number), end),
+        None => Lexeme::Fault(LexFault::LargeInteger, 0),
+    }
+}
+
+/// The number that digits say, or None where it is over 2147483647.
+fn number_of(digits: &[u8]) -> Option<u32>
+    ensures small { IfSome result (λ n. (n ≡ words.number_of digits.now) × (n ≤ words.greatest)) }
+    ensures large { result ≡ None → words.greatest < words.number_of digits.now }
+{
+    let mut number = 0u32;
+    for digit in digits {
+        let more = u64::from(number) * 10 + u64::from(digit.saturating_sub(b'0'));
+        if more > GREATEST {
+            return None;
+        }
+        number = more as u32;
+    }
+    Some(number)
 }
 
 /// How many bytes of a class a text begins with.
 fn run(class: Class, text: &[u8]) -> usize
-    ensures value { result ≡ prefix_len (spec.is_in class) text.now }
+    ensures value { result ≡ prefix_len (words.is_in class) text.now }
     ensures within { result ≤ length text.now }
-    ensures some { spec.is_in class (slice_index text.now 0) ≡ true → 0 < length text.now → 0 < result }
+    ensures some { words.is_in class (slice_index text.now 0) ≡ true → 0 < length text.now → 0 < result }
 {
     let mut end = 0;
     while end < text.len() && is_in(class, text[end]) {
@@ -117,10 +167,11 @@ fn run(class: Class, text: &[u8]) -> usize
 }
 
 fn is_in(class: Class, b: u8) -> bool
-    ensures { result ≡ spec.is_in class b }
+    ensures { result ≡ words.is_in class b }
 {
     match class {
         Class::Word => b.is_ascii_alphanumeric() || b == b'_',
+        Class::Digit => b.is_ascii_digit(),
         Class::Line => b != b'\n',
     }
 }
@@ -134,9 +185,12 @@ fn string(mut left: &[u8]) -> Lexeme
     let mut is_escaped = false;
     let mut at = 1;
     while let [b, rest @ ..] = left {
+        if *b == b'\n' {
+            return Lexeme::Fault(LexFault::UnclosedString, 0);
+        }
         if is_escaped {
             if !is_escape(*b) {
-                return Lexeme::Nothing;
+                return Lexeme::Fault(LexFault::UnknownEscape, at - 1);
             }
             is_escaped = false;
         } else if *b == b'"' {
@@ -144,41 +198,39 @@ fn string(mut left: &[u8]) -> Lexeme
         } else if *b == b'\\' {
             is_escaped = true;
         } else if !is_plain(*b) {
-            return Lexeme::Nothing;
+            return Lexeme::Fault(LexFault::StrayByte, at);
         }
         at += 1;
         left = rest;
     }
-    Lexeme::Nothing
+    Lexeme::Fault(LexFault::UnclosedString, 0)
 }
 
 fn is_escape(b: u8) -> bool
-    ensures { result ≡ spec.is_escape b }
+    ensures { result ≡ words.is_escape b }
 {
     b == b'n' || b == b't' || b == b'\\' || b == b'"'
 }
 
 fn is_plain(b: u8) -> bool
-    ensures { result ≡ spec.is_plain b }
+    ensures { result ≡ words.is_plain b }
 {
-    32 <= b && b <= 126
+    32 <= b && b <= 126 && b != b'"' && b != b'\\'
 }
 
-/// The symbol that a text begins with.
+/// The longest symbol that a text begins with.
 fn symbol(text: &[u8]) -> Lexeme
-    requires { 1 ≤ length text.now }
-    ensures value { result ≡ spec.symbol (slice_index text.now 0) (slice_index text.now 1) }
+    ensures value { result ≡ spec.symbol text.now }
     ensures within { spec.Takes result (length text.now) }
 {
-    let first = byte(text, 0);
-    let second = byte(text, 1);
-    match first {
-        b'<' if second == b'-' => Lexeme::Token(Form::Arrow, 2),
-        b'.' => Lexeme::Token(Form::Dot, 1),
-        b'[' => Lexeme::Token(Form::OpenBracket, 1),
-        b']' => Lexeme::Token(Form::CloseBracket, 1),
-        _ => Lexeme::Nothing,
+    let mut end = text.len().min(LONGEST_SYMBOL);
+    while end > 0 {
+        if let Some(symbol) = symbol_of(&text[..end]) {
+            return Lexeme::Token(Form::Symbol(symbol), end);
+        }
+        end -= 1;
     }
+    Lexeme::Fault(LexFault::StrayByte, 0)
 }
 
 /// The byte at a place, or 0 where there is none.

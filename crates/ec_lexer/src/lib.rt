@@ -1,44 +1,67 @@
 //! The tokens of a text.
 #![tactic(auto)]
 
-ghost use Rattle.std.specs.Prelude.{◌≡◌, ◌+◌, ◌-◌, ◌^◌, ◌<◌, ◌≤◌, List, length, take, drop, IfOk, IfSome, IfNone};
-ghost use Rattle.ec_lexer.specs.Tokens.{HasTokens, kind_of, token, unescaped_byte, unescaped_bytes, word_kind};
+ghost use Rattle.std.specs.Prelude.{◌⊎◌, ◌≡◌, ◌+◌, ◌-◌, ◌^◌, ◌<◌, ◌≤◌, ℕ, List, length, take, drop, IfOk, IfErr, MatchResult};
+ghost use Rattle.ec_lexer.specs.Faults.{HasFault, IsCause};
+ghost use Rattle.ec_lexer.specs.Lexemes as spec;
+ghost use Rattle.ec_lexer.specs.Tokens.{HasTokens, token as token_of};
+ghost use Rattle.ec_lexer.specs.Words as words;
+ghost use Rattle.ec_lexer.specs.declared.error.LexFault.{LexFault as AFault};
 ghost use Rattle.ec_lexer.specs.declared.token.Token.{Token as AToken};
 
+pub mod error;
 mod lexeme;
 pub mod token;
 
 use ec_ast::{Span, Text};
 use ec_base::list::Seq;
+use error::{LexError, LexFault};
 use lexeme::{Form, Lexeme, begins};
 use std::alloc::{AllocError, Global};
-use token::{Token, TokenKind, reserved_word};
+use token::{Token, TokenKind};
 
-/// The most bytes that a text has.
-const TEXT_LIMIT: usize = 1_048_576;
+/// How many bytes a text has at most.
+pub const LONGEST_TEXT: usize = 1_048_576;
 
-/// The tokens of a text, or None where it has none: it is longer than a text may be, or some byte begins no token.
-/// An error is want of memory.
-pub fn lex(alloc: Global, text: &[u8]) -> Result<Option<Seq<Token>>, AllocError>
-    ensures found { IfOk result (λ found. IfSome found (HasTokens text.now)) }
-    ensures none { IfOk result (λ found. IfNone found ((tokens : List AToken) → HasTokens text.now tokens → ⊥)) }
+/// The tokens of a text.
+///
+/// `Refused` comes exactly where the text has none: as `TextTooLong` where it has over 1,048,576 bytes, and
+/// else as its first fault.
+pub fn lex(alloc: Global, text: &[u8]) -> Result<Seq<Token>, LexError>
+    ensures tokens { IfOk result (HasTokens text.now) }
+    ensures cause { IfErr result (IsCause text.now) }
+
+    // No other tokens, no tokens beside a fault, and no other fault.
+    ensures only_tokens { (tokens : List AToken) → HasTokens text.now tokens →
+        MatchResult result (λ found. found ≡ tokens) (λ error. error ≡ LexError.Memory) }
+    ensures only_fault { (place : ℕ) (kind : AFault) → HasFault text.now place kind →
+        MatchResult result (λ _. ⊥) (λ error. (error ≡ LexError.Refused place kind) ⊎ (error ≡ LexError.Memory)) }
 {
-    if text.len() > TEXT_LIMIT {
-        return Ok(None);
+    if text.len() > LONGEST_TEXT {
+        return Err(LexError::Refused {
+            at: LONGEST_TEXT as u32,
+            kind: LexFault::TextTooLong,
+        });
     }
     let mut found = Seq::new(alloc);
     let mut at = 0;
     'reading: loop {
         let rest = &text[at..];
         match begins(rest) {
-            Lexeme::End => return Ok(Some(found)),
+            Lexeme::End => return Ok(found),
             Lexeme::Separator(n) => at += n,
             Lexeme::Token(form, n) => {
                 let token = make_token(alloc, form, at, &rest[..n])?;
                 found.push(token)?;
                 at += n;
             }
-            Lexeme::Nothing => return Ok(None),
+            Lexeme::Fault(kind, n) => {
+                let place = at + n;
+                return Err(LexError::Refused {
+                    at: place as u32,
+                    kind,
+                });
+            }
         }
     }
 }
@@ -46,7 +69,7 @@ pub fn lex(alloc: Global, text: &[u8]) -> Result<Option<Seq<Token>>, AllocError>
 /// The token of this form whose bytes stand at a place of the text.
 fn make_token(alloc: Global, form: Form, at: usize, bytes: &[u8]) -> Result<Token, AllocError>
     requires { at + length bytes.now < 2 ^ 32 }
-    ensures { IfOk result (λ made. made ≡ token form at bytes.now) }
+    ensures { IfOk result (λ made. made ≡ token_of (spec.kind_of form bytes.now) at (length bytes.now)) }
 {
     let kind = make_kind(alloc, form, bytes)?;
     let end = at + bytes.len();
@@ -61,31 +84,20 @@ fn make_token(alloc: Global, form: Form, at: usize, bytes: &[u8]) -> Result<Toke
 
 /// What a token of this form and these bytes is.
 fn make_kind(alloc: Global, form: Form, bytes: &[u8]) -> Result<TokenKind, AllocError>
-    ensures { IfOk result (λ kind. kind ≡ kind_of form bytes.now) }
+    ensures { IfOk result (λ kind. kind ≡ spec.kind_of form bytes.now) }
 {
     match form {
-        Form::Word => make_word(alloc, bytes),
+        Form::Reserved(word) => Ok(TokenKind::Reserved(word)),
+        Form::Name => Ok(TokenKind::Name(Seq::from_vec(Vec::from_slice(alloc, bytes)?))),
+        Form::Integer(number) => Ok(TokenKind::Integer(number)),
         Form::Literal => Ok(TokenKind::Literal(unescaped(alloc, bytes)?)),
-        Form::Arrow => Ok(TokenKind::Arrow),
-        Form::Dot => Ok(TokenKind::Dot),
-        Form::OpenBracket => Ok(TokenKind::OpenBracket),
-        Form::CloseBracket => Ok(TokenKind::CloseBracket),
-    }
-}
-
-/// What a word is: reserved, or a name.
-fn make_word(alloc: Global, word: &[u8]) -> Result<TokenKind, AllocError>
-    ensures { IfOk result (λ kind. kind ≡ word_kind word.now) }
-{
-    match reserved_word(word) {
-        Some(reserved) => Ok(TokenKind::Reserved(reserved)),
-        None => Ok(TokenKind::Name(Seq::from_vec(Vec::from_slice(alloc, word)?))),
+        Form::Symbol(symbol) => Ok(TokenKind::Symbol(symbol)),
     }
 }
 
 /// The bytes that a string literal stands for; its quotes are the first and the last of what is given.
 fn unescaped(alloc: Global, literal: &[u8]) -> Result<Text, AllocError>
-    ensures { IfOk result (λ text. text ≡ unescaped_bytes (take (length literal.now - 2) (drop 1 literal.now))) }
+    ensures { IfOk result (λ text. text ≡ spec.unescaped (take (length literal.now - 2) (drop 1 literal.now))) }
 {
     let mut text = Seq::new(alloc);
     if literal.len() < 2 {
@@ -96,7 +108,7 @@ fn unescaped(alloc: Global, literal: &[u8]) -> Result<Text, AllocError>
         match left {
             [] => return Ok(text),
             [b'\\', b, rest @ ..] => {
-                text.push(escaped(*b))?;
+                text.push(unescaped_byte(*b))?;
                 left = rest;
             }
             [b, rest @ ..] => {
@@ -108,8 +120,8 @@ fn unescaped(alloc: Global, literal: &[u8]) -> Result<Text, AllocError>
 }
 
 /// The byte that a backslash and this byte stand for.
-fn escaped(b: u8) -> u8
-    ensures { result ≡ unescaped_byte b }
+fn unescaped_byte(b: u8) -> u8
+    ensures { result ≡ words.unescaped_byte b }
 {
     match b {
         b'n' => b'\n',
@@ -117,3 +129,6 @@ fn escaped(b: u8) -> u8
         _ => b,
     }
 }
+
+#[cfg(test)]
+mod tests;

@@ -1,7 +1,7 @@
-//! Tokens, and the table of reserved words.
+//! Tokens, and the tables of reserved words and of symbols.
 ghost use Rattle.std.specs.Prelude.{◌≡◌, map};
-ghost use Rattle.std.specs.Str.{str_eq_ignore_ascii_case};
-ghost use Rattle.ec_lexer.specs.Lexemes.{lookup, reserved};
+ghost use Rattle.std.specs.Str.{bytes_eq, str_eq_ignore_ascii_case};
+ghost use Rattle.ec_lexer.specs.Words as spec;
 
 use ec_ast::{Span, Text};
 
@@ -19,16 +19,12 @@ pub enum TokenKind {
     Reserved(Reserved),
     /// A word that isn't reserved, as it is written.
     Name(Text),
+    /// The number that a run of digits says, at most 2147483647.
+    Integer(u32),
     /// The bytes of a string literal, with the escapes replaced.
     Literal(Text),
-    /// `<-`
-    Arrow,
-    /// `.`
-    Dot,
-    /// `[`
-    OpenBracket,
-    /// `]`
-    CloseBracket,
+    /// A symbol.
+    Symbol(Symbol),
 }
 
 /// A reserved word.
@@ -142,15 +138,96 @@ pub const RESERVED: [(&[u8], Reserved); 51] = [
     (b"when", Reserved::When),
 ];
 
-/// The reserved word that is spelled so, if there is one.
-pub fn reserved_word(word: &[u8]) -> Option<Reserved>
-    ensures { result ≡ reserved word.now }
-{
-    find(&RESERVED, word)
+/// A symbol.
+#[derive(Clone, Copy, Debug, PartialEq, Eq)]
+pub enum Symbol {
+    /// `<-`
+    LeftArrow,
+    /// `->`
+    RightArrow,
+    /// `(`
+    OpenParenthesis,
+    /// `)`
+    CloseParenthesis,
+    /// `[`
+    OpenBracket,
+    /// `]`
+    CloseBracket,
+    /// `,`
+    Comma,
+    /// `:`
+    Colon,
+    /// `.`
+    Dot,
+    /// `+`
+    Plus,
+    /// `-`
+    Minus,
+    /// `*`
+    Star,
+    /// `/`
+    Slash,
+    /// `#`
+    Hash,
+    /// `||`
+    DoubleBar,
+    /// `==`
+    DoubleEqual,
+    /// `!==`
+    BangDoubleEqual,
+    /// `=`
+    Equal,
+    /// `!=`
+    BangEqual,
+    /// `<`
+    Less,
+    /// `<=`
+    LessEqual,
+    /// `>`
+    Greater,
+    /// `>=`
+    GreaterEqual,
+    /// `!`
+    Bang,
 }
 
-fn find(mut table: &[(&[u8], Reserved)], word: &[u8]) -> Option<Reserved>
-    ensures { result ≡ lookup (map (λ row. (row.0.now, row.1)) table.entry.now) word.now }
+/// The spelling of each symbol.
+pub const SYMBOLS: [(&[u8], Symbol); 24] = [
+    (b"<-", Symbol::LeftArrow),
+    (b"->", Symbol::RightArrow),
+    (b"(", Symbol::OpenParenthesis),
+    (b")", Symbol::CloseParenthesis),
+    (b"[", Symbol::OpenBracket),
+    (b"]", Symbol::CloseBracket),
+    (b",", Symbol::Comma),
+    (b":", Symbol::Colon),
+    (b".", Symbol::Dot),
+    (b"+", Symbol::Plus),
+    (b"-", Symbol::Minus),
+    (b"*", Symbol::Star),
+    (b"/", Symbol::Slash),
+    (b"#", Symbol::Hash),
+    (b"||", Symbol::DoubleBar),
+    (b"==", Symbol::DoubleEqual),
+    (b"!==", Symbol::BangDoubleEqual),
+    (b"=", Symbol::Equal),
+    (b"!=", Symbol::BangEqual),
+    (b"<", Symbol::Less),
+    (b"<=", Symbol::LessEqual),
+    (b">", Symbol::Greater),
+    (b">=", Symbol::GreaterEqual),
+    (b"!", Symbol::Bang),
+];
+
+/// The reserved word that is spelled so but for case, if there is one.
+pub fn reserved_word(word: &[u8]) -> Option<Reserved>
+    ensures { result ≡ spec.reserved word.now }
+{
+    find_word(&RESERVED, word)
+}
+
+fn find_word(mut table: &[(&[u8], Reserved)], word: &[u8]) -> Option<Reserved>
+    ensures { result ≡ spec.lookup_word (map (λ row. (row.0.now, row.1)) table.entry.now) word.now }
 {
     while let [row, rest @ ..] = table {
         if is_same_word(row.0, word) {
@@ -165,4 +242,29 @@ fn is_same_word(a: &[u8], b: &[u8]) -> bool
     ensures { result ≡ str_eq_ignore_ascii_case a.now b.now }
 {
     a.eq_ignore_ascii_case(b)
+}
+
+/// The symbol that is spelled so, if there is one.
+pub fn symbol_of(bytes: &[u8]) -> Option<Symbol>
+    ensures { result ≡ spec.symbol_of bytes.now }
+{
+    find_symbol(&SYMBOLS, bytes)
+}
+
+fn find_symbol(mut table: &[(&[u8], Symbol)], bytes: &[u8]) -> Option<Symbol>
+    ensures { result ≡ spec.lookup_symbol (map (λ row. (row.0.now, row.1)) table.entry.now) bytes.now }
+{
+    while let [row, rest @ ..] = table {
+        if is_same(row.0, bytes) {
+            return Some(row.1);
+        }
+        table = rest;
+    }
+    None
+}
+
+fn is_same(a: &[u8], b: &[u8]) -> bool
+    ensures { result ≡ bytes_eq a.now b.now }
+{
+    a == b
 }

@@ -1,3 +1,3 @@
 pub mod Statements
-pub mod Symbols
+pub mod Terminals
 pub mod Trees

@@ -5,23 +5,27 @@ use Rattle.ec_ast.specs.declared.Span.{Span}
 use Rattle.ec_ast.specs.declared.Statement.{Statement}
 use Rattle.ec_ast.specs.declared.Statement.TheVariants.{Print}
 use Rattle.ec_lexer.specs.declared.token.Reserved.TheVariants.{Stdout}
+use Rattle.ec_lexer.specs.declared.token.Symbol.TheVariants.{Dot, OpenBracket, CloseBracket}
 use Rattle.ec_lexer.specs.declared.token.Token.{Token}
 use Rattle.ec_lexer.specs.declared.token.TokenKind.{TokenKind}
-use Rattle.ec_lexer.specs.declared.token.TokenKind.TheVariants.{Reserved, Name, Literal, Dot, OpenBracket, CloseBracket}
-use Rattle.ec_parser.specs.Grammar.{mark, string, IsStatement, print, AreStatements, none, more, SpellsPutstring}
+use Rattle.ec_lexer.specs.declared.token.TokenKind.TheVariants.{Reserved, Name, Literal, Symbol}
+use Rattle.ec_parser.specs.Grammar.{string, IsStatement, print, AreStatements, none, more, SpellsPutstring}
 use Rattle.ec_parser.specs.Reading.{Begins, literal_of, text_of}
 use Rattle.ec_parser.specs.declared.TheConstants.{PRINT}
-use Rattle.ec_parser.proofs.Symbols.{of_word, of_dot, of_putstring, of_open_bracket, of_literal, of_close_bracket}
+use Rattle.ec_parser.proofs.Terminals.{of_word, of_symbol, of_putstring, of_literal}
+
+abbrev pub placed : TokenKind → Span → Token
+placed kind at = record { kind = kind; at = at }
 
 print_by : (a b c d e f : TokenKind) (sa sb sc sd se sf : Span) (w text : List ℕ) →
-    a ≡ Reserved Stdout → b ≡ Dot → c ≡ Name w → SpellsPutstring w → d ≡ OpenBracket → e ≡ Literal (text_of e) → f ≡ CloseBracket →
+    a ≡ Reserved Stdout → b ≡ Symbol Dot → c ≡ Name w → SpellsPutstring w → d ≡ Symbol OpenBracket → e ≡ Literal (text_of e) → f ≡ Symbol CloseBracket →
     text ≡ text_of e →
-    IsStatement (mark a sa ∷ mark b sb ∷ mark c sc ∷ mark d sd ∷ mark e se ∷ mark f sf ∷ []) (Print (record { text = text; at = se }))
+    IsStatement (placed a sa ∷ placed b sb ∷ placed c sc ∷ placed d sd ∷ placed e se ∷ placed f sf ∷ []) (Print (record { text = text; at = se }))
 print_by a b c d e f sa sb sc sd se sf w text ea eb ec p ed ee ef et =
-    let made : IsStatement (mark (Reserved Stdout) sa ∷ mark Dot sb ∷ mark (Name w) sc ∷ mark OpenBracket sd ∷ mark (Literal (text_of e)) se ∷ mark CloseBracket sf ∷ []) (Print (record { text = text_of e; at = se })) = print p in
-    let tokens : (mark (Reserved Stdout) sa ∷ mark Dot sb ∷ mark (Name w) sc ∷ mark OpenBracket sd ∷ mark (Literal (text_of e)) se ∷ mark CloseBracket sf ∷ []) ≡ (mark a sa ∷ mark b sb ∷ mark c sc ∷ mark d sd ∷ mark e se ∷ mark f sf ∷ []) = cc in
+    let made : IsStatement (placed (Reserved Stdout) sa ∷ placed (Symbol Dot) sb ∷ placed (Name w) sc ∷ placed (Symbol OpenBracket) sd ∷ placed (Literal (text_of e)) se ∷ placed (Symbol CloseBracket) sf ∷ []) (Print (record { text = text_of e; at = se })) = print p in
+    let tokens : (placed (Reserved Stdout) sa ∷ placed (Symbol Dot) sb ∷ placed (Name w) sc ∷ placed (Symbol OpenBracket) sd ∷ placed (Literal (text_of e)) se ∷ placed (Symbol CloseBracket) sf ∷ []) ≡ (placed a sa ∷ placed b sb ∷ placed c sc ∷ placed d sd ∷ placed e se ∷ placed f sf ∷ []) = cc in
     let text_is : text_of e ≡ text = sym et in
-    subst (λ x. IsStatement (mark a sa ∷ mark b sb ∷ mark c sc ∷ mark d sd ∷ mark e se ∷ mark f sf ∷ []) (Print (record { text = x; at = se }))) text_is
+    subst (λ x. IsStatement (placed a sa ∷ placed b sb ∷ placed c sc ∷ placed d sd ∷ placed e se ∷ placed f sf ∷ []) (Print (record { text = x; at = se }))) text_is
     (subst (λ x. IsStatement x (Print (record { text = text_of e; at = se }))) tokens made)
 
 -- tokens that begin with what prints begin with a statement of it
@@ -36,7 +40,7 @@ print_first (a ∷ b ∷ c ∷ d ∷ e ∷ f ∷ rest) x h is =
     let w = of_putstring c.kind h.1.1.0 in
     let made : IsStatement (a ∷ b ∷ c ∷ d ∷ e ∷ f ∷ []) (Print (literal_of e)) =
     print_by a.kind b.kind c.kind d.kind e.kind f.kind a.at b.at c.at d.at e.at f.at w.0 (text_of e.kind)
-    (of_word a.kind Stdout h.0) (of_dot b.kind h.1.0) w.1 w.2 (of_open_bracket d.kind h.1.1.1.0) (of_literal e.kind h.1.1.1.1.0) (of_close_bracket f.kind h.1.1.1.1.1.0) refl in
+    (of_word a.kind Stdout h.0) (of_symbol b.kind Dot h.1.0) w.1 w.2 (of_symbol d.kind OpenBracket h.1.1.1.0) (of_literal e.kind h.1.1.1.1.0) (of_symbol f.kind CloseBracket h.1.1.1.1.1.0) refl in
     let same : e ≡ x = sym is in
     (omega arith, subst (λ y. IsStatement (a ∷ b ∷ c ∷ d ∷ e ∷ f ∷ []) (Print (literal_of y))) same made)
 
@@ -51,7 +55,7 @@ pub add_next : (tokens : List Token) (n : ℕ) (ss : List Statement) (s : Statem
 add_next tokens n ss s are i = subst (λ x. AreStatements x (ss ++ s ∷ [])) (sym (take-add n 6 tokens)) (add are i)
 
 begins_print : {us : List Token} {s : Statement} → IsStatement us s → (x : List Token) → Begins PRINT (us ++ x)
-begins_print (print p) x = (refl, (tt, (p, (tt, (tt, (tt, tt))))))
+begins_print (print p) x = (refl, (refl, (p, (refl, (tt, (refl, tt))))))
 
 peel : {us vs : List Token} {s t : Statement} → IsStatement us s → IsStatement vs t → (x y : List Token) → us ++ x ≡ vs ++ y → (s ≡ t) × (x ≡ y)
 peel (print {e = se} {text = t} p) (print {e = sf} {text = u} q) x y e =

@@ -8,14 +8,15 @@ use Rattle.ec_ast.specs.declared.Program.{Program}
 use Rattle.ec_ast.specs.declared.Span.{Span}
 use Rattle.ec_ast.specs.declared.Statement.{Statement}
 use Rattle.ec_lexer.specs.declared.token.Reserved.TheVariants.{Const, End, Initially, Object}
+use Rattle.ec_lexer.specs.declared.token.Symbol.TheVariants.{LeftArrow}
 use Rattle.ec_lexer.specs.declared.token.Token.{Token}
 use Rattle.ec_lexer.specs.declared.token.TokenKind.{TokenKind}
-use Rattle.ec_lexer.specs.declared.token.TokenKind.TheVariants.{Reserved, Name, Arrow}
+use Rattle.ec_lexer.specs.declared.token.TokenKind.TheVariants.{Reserved, Name, Symbol}
 use Rattle.ec_parser.specs.Grammar.{word, id, mark, AreStatements, object, constant, HasTree, empty, with_constant}
 use Rattle.ec_parser.specs.Reading.{Begins, ReadsStatements, name_of, text_of}
 use Rattle.ec_parser.specs.declared.TheConstants.{CONSTANT_BEGIN, CONSTANT_END, PRINT}
-use Rattle.ec_parser.proofs.Statements.{same_statements}
-use Rattle.ec_parser.proofs.Symbols.{of_word, of_name, of_arrow}
+use Rattle.ec_parser.proofs.Statements.{placed, same_statements}
+use Rattle.ec_parser.proofs.Terminals.{of_word, of_name, of_symbol}
 
 abbrev ending : Span → Span → Span → List ℕ → Span → List Token
 ending d e f name g = word End d ∷ word Initially e ∷ word End f ∷ id name g ∷ []
@@ -38,7 +39,7 @@ pub record Parts (tokens : List Token) (program : Program) : Type 0 where
   pub block : List Token
   pub statements : List Statement
   pub are : AreStatements block statements
-  pub tokens_are : tokens ≡ word Const a ∷ id name b ∷ mark Arrow c ∷ word Object d ∷ id object_name e ∷ word Initially f ∷ (block ++ ending g h i end_name j)
+  pub tokens_are : tokens ≡ word Const a ∷ id name b ∷ mark LeftArrow c ∷ word Object d ∷ id object_name e ∷ word Initially f ∷ (block ++ ending g h i end_name j)
   pub program_is : program ≡ record {
     constant = Some (record {
       name = record { text = name; at = b };
@@ -74,7 +75,7 @@ not_print d e f g name b = let h = b.0 in cc
 
 module _ {tokens : List Token} {program : Program} (p : Parts tokens program) where
   pub begins_constant : Begins CONSTANT_BEGIN tokens
-  begins_constant = subst (λ x. Begins CONSTANT_BEGIN x) (sym p.tokens_are) (refl, (tt, (tt, (refl, (tt, (refl, tt))))))
+  begins_constant = subst (λ x. Begins CONSTANT_BEGIN x) (sym p.tokens_are) (refl, (tt, (refl, (refl, (tt, (refl, tt))))))
 
   behind : drop 6 tokens ≡ p.block ++ ending p.g p.h p.i p.end_name p.j
   behind = ap (drop 6) p.tokens_are
@@ -116,10 +117,10 @@ same_tree (t ∷ ts) p q x y = same_parts (parts x (λ e. cc)) (parts y (λ e. c
 
 -- a constant, read by its symbols
 object_by : (ka kb kc kd ke kf kg kh ki kj : TokenKind) (a b c d e f g h i j : Span) (block : List Token) (ss : List Statement) →
-    ka ≡ Reserved Const → kb ≡ Name (text_of kb) → kc ≡ Arrow → kd ≡ Reserved Object → ke ≡ Name (text_of ke) → kf ≡ Reserved Initially →
+    ka ≡ Reserved Const → kb ≡ Name (text_of kb) → kc ≡ Symbol LeftArrow → kd ≡ Reserved Object → ke ≡ Name (text_of ke) → kf ≡ Reserved Initially →
     AreStatements block ss →
     kg ≡ Reserved End → kh ≡ Reserved Initially → ki ≡ Reserved End → kj ≡ Name (text_of kj) →
-    HasTree (mark ka a ∷ mark kb b ∷ mark kc c ∷ mark kd d ∷ mark ke e ∷ mark kf f ∷ (block ++ (mark kg g ∷ mark kh h ∷ mark ki i ∷ mark kj j ∷ [])))
+    HasTree (placed ka a ∷ placed kb b ∷ placed kc c ∷ placed kd d ∷ placed ke e ∷ placed kf f ∷ (block ++ (placed kg g ∷ placed kh h ∷ placed ki i ∷ placed kj j ∷ [])))
     (record {
       constant = Some (record {
         name = record { text = text_of kb; at = b };
@@ -127,8 +128,8 @@ object_by : (ka kb kc kd ke kf kg kh ki kj : TokenKind) (a b c d e f g h i j : S
       });
     })
 object_by ka kb kc kd ke kf kg kh ki kj a b c d e f g h i j block ss ea eb ec ed ee ef are eg eh ei ej =
-    let before : (word Const a ∷ id (text_of kb) b ∷ mark Arrow c ∷ word Object d ∷ id (text_of ke) e ∷ word Initially f ∷ (block ++ ending g h i (text_of kj) j))
-    ≡ (mark ka a ∷ mark kb b ∷ mark kc c ∷ mark kd d ∷ mark ke e ∷ mark kf f ∷ (block ++ (mark kg g ∷ mark kh h ∷ mark ki i ∷ mark kj j ∷ []))) = cc in
+    let before : (word Const a ∷ id (text_of kb) b ∷ mark LeftArrow c ∷ word Object d ∷ id (text_of ke) e ∷ word Initially f ∷ (block ++ ending g h i (text_of kj) j))
+    ≡ (placed ka a ∷ placed kb b ∷ placed kc c ∷ placed kd d ∷ placed ke e ∷ placed kf f ∷ (block ++ (placed kg g ∷ placed kh h ∷ placed ki i ∷ placed kj j ∷ []))) = cc in
     subst (λ x. HasTree x (record {
       constant = Some (record {
         name = record { text = text_of kb; at = b };
@@ -148,7 +149,7 @@ ended block ss a b c d e f (g ∷ h ∷ i ∷ j ∷ []) x p are q l is =
     let same : j ≡ x = sym is in
     subst (λ y. HasTree (a ∷ b ∷ c ∷ d ∷ e ∷ f ∷ (block ++ (g ∷ h ∷ i ∷ j ∷ []))) (record { constant = Some (record { name = name_of b; value = record { name = name_of e; initially = ss; end_name = name_of y } }) })) same
     (object_by a.kind b.kind c.kind d.kind e.kind f.kind g.kind h.kind i.kind j.kind a.at b.at c.at d.at e.at f.at g.at h.at i.at j.at block ss
-    (of_word a.kind Const p.0) (of_name b.kind p.1.0) (of_arrow c.kind p.1.1.0) (of_word d.kind Object p.1.1.1.0) (of_name e.kind p.1.1.1.1.0) (of_word f.kind Initially p.1.1.1.1.1.0)
+    (of_word a.kind Const p.0) (of_name b.kind p.1.0) (of_symbol c.kind LeftArrow p.1.1.0) (of_word d.kind Object p.1.1.1.0) (of_name e.kind p.1.1.1.1.0) (of_word f.kind Initially p.1.1.1.1.1.0)
     are (of_word g.kind End q.0) (of_word h.kind Initially q.1.0) (of_word i.kind End q.1.1.0) (of_name j.kind q.1.1.1.0))
 
 -- tokens that begin, go on and end as a constant does have its tree

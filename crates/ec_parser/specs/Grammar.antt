@@ -9,10 +9,11 @@ use Rattle.ec_ast.specs.declared.Statement.{Statement}
 use Rattle.ec_ast.specs.declared.Statement.TheVariants.{Print}
 use Rattle.ec_lexer.specs.declared.token.Reserved.{Reserved as AReserved}
 use Rattle.ec_lexer.specs.declared.token.Reserved.TheVariants.{Const, End, Initially, Object, Stdout}
+use Rattle.ec_lexer.specs.declared.token.Symbol.{Symbol as ASymbol}
+use Rattle.ec_lexer.specs.declared.token.Symbol.TheVariants.{LeftArrow, Dot, OpenBracket, CloseBracket}
 use Rattle.ec_lexer.specs.declared.token.Token.{Token}
-use Rattle.ec_lexer.specs.declared.token.TokenKind.{TokenKind}
-use Rattle.ec_lexer.specs.declared.token.TokenKind.TheVariants.{Reserved, Name, Literal, Arrow, Dot, OpenBracket, CloseBracket}
-use Rattle.ec_parser.specs.declared.symbol.TheConstants.{PUTSTRING}
+use Rattle.ec_lexer.specs.declared.token.TokenKind.TheVariants.{Reserved, Name, Literal, Symbol}
+use Rattle.ec_parser.specs.declared.terminal.TheConstants.{PUTSTRING}
 
 -- a reserved word, ID, STRING and the symbols, each where it stands
 abbrev pub word : AReserved → Span → Token
@@ -24,8 +25,8 @@ id text at = record { kind = Name text; at = at }
 abbrev pub string : List ℕ → Span → Token
 string text at = record { kind = Literal text; at = at }
 
-abbrev pub mark : TokenKind → Span → Token
-mark kind at = record { kind = kind; at = at }
+abbrev pub mark : ASymbol → Span → Token
+mark symbol at = record { kind = Symbol symbol; at = at }
 
 -- PUTSTRING is the word `putstring`, in any case; it isn't reserved
 abbrev pub SpellsPutstring : List ℕ → Type 0
@@ -60,7 +61,7 @@ pub data IsConstant : List Token → Constant → Type 0 where
   constant : {a b c : Span} {name : List ℕ} {tokens : List Token} {value : ObjectConstructor} →
       IsObject tokens value →
       IsConstant
-      (word Const a ∷ id name b ∷ mark Arrow c ∷ tokens)
+      (word Const a ∷ id name b ∷ mark LeftArrow c ∷ tokens)
       (record { name = record { text = name; at = b }; value = value })
 
 -- program = [ const ]

@@ -1,33 +1,30 @@
--- How the parser reads: by the symbols that tokens begin with.
+-- How the parser reads: by the terminals that tokens begin with.
 use Rattle.std.specs.Prelude.{◌≡◌, ℕ, ◌≤◌, List, [], ◌∷◌, length, take, drop}
 use Rattle.ec_ast.specs.declared.Literal.{Literal as ALiteral}
 use Rattle.ec_ast.specs.declared.Name.{Name as AName}
 use Rattle.ec_ast.specs.declared.Statement.{Statement}
 use Rattle.ec_lexer.specs.declared.token.Token.{Token}
 use Rattle.ec_lexer.specs.declared.token.TokenKind.{TokenKind}
-use Rattle.ec_lexer.specs.declared.token.TokenKind.TheVariants.{Reserved, Name, Literal, Arrow, Dot, OpenBracket, CloseBracket}
+use Rattle.ec_lexer.specs.declared.token.TokenKind.TheVariants.{Reserved, Name, Literal, Symbol}
 use Rattle.ec_parser.specs.Grammar.{AreStatements, SpellsPutstring}
 use Rattle.ec_parser.specs.declared.TheConstants.{PRINT}
-use Rattle.ec_parser.specs.declared.symbol.Symbol.{Symbol}
-use Rattle.ec_parser.specs.declared.symbol.Symbol.TheVariants as symbol
+use Rattle.ec_parser.specs.declared.terminal.Terminal.{Terminal}
+use Rattle.ec_parser.specs.declared.terminal.Terminal.TheVariants as terminal
 
--- the token may stand where a rule has this symbol
-abbrev pub IsSymbol : Symbol → TokenKind → Type 0
-IsSymbol (symbol.Word word) (Reserved found) = word ≡ found
-IsSymbol symbol.Name (Name text) = Unit {0}
-IsSymbol symbol.Putstring (Name text) = SpellsPutstring text
-IsSymbol symbol.Literal (Literal text) = Unit {0}
-IsSymbol symbol.Arrow Arrow = Unit {0}
-IsSymbol symbol.Dot Dot = Unit {0}
-IsSymbol symbol.OpenBracket OpenBracket = Unit {0}
-IsSymbol symbol.CloseBracket CloseBracket = Unit {0}
-IsSymbol symbol kind = ⊥
+-- the token may stand where a rule has this terminal
+abbrev pub IsTerminal : Terminal → TokenKind → Type 0
+IsTerminal (terminal.Word word) (Reserved found) = word ≡ found
+IsTerminal terminal.Name (Name text) = Unit {0}
+IsTerminal terminal.Putstring (Name text) = SpellsPutstring text
+IsTerminal terminal.Literal (Literal text) = Unit {0}
+IsTerminal (terminal.Symbol symbol) (Symbol found) = symbol ≡ found
+IsTerminal terminal kind = ⊥
 
--- the tokens begin with these symbols
-abbrev pub Begins : List Symbol → List Token → Type 0
+-- the tokens begin with these terminals
+abbrev pub Begins : List Terminal → List Token → Type 0
 Begins [] tokens = Unit {0}
-Begins (symbol ∷ symbols) [] = ⊥
-Begins (symbol ∷ symbols) (token ∷ tokens) = IsSymbol symbol token.kind × Begins symbols tokens
+Begins (terminal ∷ terminals) [] = ⊥
+Begins (terminal ∷ terminals) (token ∷ tokens) = IsTerminal terminal token.kind × Begins terminals tokens
 
 -- the bytes of a name or a literal
 abbrev pub text_of : TokenKind → List ℕ

@@ -7,40 +7,40 @@ ghost use Rattle.ec_parser.specs.Grammar.{HasTree};
 ghost use Rattle.ec_parser.specs.Reading.{Begins, ReadsStatements, literal_of, name_of, text_of};
 ghost use Rattle.ec_parser.specs.declared.TheConstants.{PRINT};
 
-mod symbol;
+mod terminal;
 
 use ec_ast::{Constant, Literal, Name, ObjectConstructor, Program, Statement, Text};
 use ec_base::list::Seq;
-use ec_lexer::token::{Reserved, Token, TokenKind};
+use ec_lexer::token::{Reserved, Symbol, Token, TokenKind};
 use std::alloc::{AllocError, Global};
-use symbol::{Symbol, begins_with};
+use terminal::{Terminal, begins_with};
 
 /// How a constant of an object begins: `const ID <- object ID initially`
-const CONSTANT_BEGIN: [Symbol; 6] = [
-    Symbol::Word(Reserved::Const),
-    Symbol::Name,
-    Symbol::Arrow,
-    Symbol::Word(Reserved::Object),
-    Symbol::Name,
-    Symbol::Word(Reserved::Initially),
+const CONSTANT_BEGIN: [Terminal; 6] = [
+    Terminal::Word(Reserved::Const),
+    Terminal::Name,
+    Terminal::Symbol(Symbol::LeftArrow),
+    Terminal::Word(Reserved::Object),
+    Terminal::Name,
+    Terminal::Word(Reserved::Initially),
 ];
 
 /// `stdout . PUTSTRING [ STRING ]`
-const PRINT: [Symbol; 6] = [
-    Symbol::Word(Reserved::Stdout),
-    Symbol::Dot,
-    Symbol::Putstring,
-    Symbol::OpenBracket,
-    Symbol::Literal,
-    Symbol::CloseBracket,
+const PRINT: [Terminal; 6] = [
+    Terminal::Word(Reserved::Stdout),
+    Terminal::Symbol(Symbol::Dot),
+    Terminal::Putstring,
+    Terminal::Symbol(Symbol::OpenBracket),
+    Terminal::Literal,
+    Terminal::Symbol(Symbol::CloseBracket),
 ];
 
 /// How a constant of an object ends: `end initially end ID`
-const CONSTANT_END: [Symbol; 4] = [
-    Symbol::Word(Reserved::End),
-    Symbol::Word(Reserved::Initially),
-    Symbol::Word(Reserved::End),
-    Symbol::Name,
+const CONSTANT_END: [Terminal; 4] = [
+    Terminal::Word(Reserved::End),
+    Terminal::Word(Reserved::Initially),
+    Terminal::Word(Reserved::End),
+    Terminal::Name,
 ];
 
 /// The tree of a text's tokens, or None where they have none.

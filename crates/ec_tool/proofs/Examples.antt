@@ -1,15 +1,20 @@
 -- Two small programs by the definitions: the text is the program's, the run comes to its end after so many entries, and its
 -- status and its report are these.
-use Rattle.std.proofs.Common.{◌≡◌, ℕ, zero, suc, ◌<◌, List, [], ◌∷◌, ◌++◌, Option, Some, None, codes, refl, arith, lit≤}
+use Rattle.std.proofs.Common.{◌≡◌, ℕ, zero, suc, ◌<◌, ◌+◌, List, [], ◌∷◌, ◌++◌, take, drop, Option, Some, None, codes, refl, subst, arith, lit≤}
 use Rattle.std.specs.Fmt.{digits}
 use Rattle.ec_ast.specs.declared.Program.{Program}
 use Rattle.ec_ast.specs.declared.Statement.TheVariants.{Print}
 use Rattle.ec_lexer.specs.declared.lexeme.Form.TheVariants as form
 use Rattle.ec_lexer.specs.declared.token.Reserved.TheVariants.{Const, End, Initially, Object, Stdout}
 use Rattle.ec_lexer.specs.declared.token.Token.{Token}
-use Rattle.ec_lexer.specs.declared.token.TokenKind.TheVariants.{Arrow, Dot, OpenBracket, CloseBracket}
-use Rattle.ec_lexer.specs.Lexemes.{begins, reserved}
-use Rattle.ec_lexer.specs.Tokens.{HasTokensFrom, ended, separated, taken}
+use Rattle.ec_lexer.specs.declared.token.Symbol.TheVariants.{LeftArrow, Dot, OpenBracket, CloseBracket}
+use Rattle.ec_lexer.specs.declared.lexeme.Form.{Form}
+use Rattle.ec_lexer.specs.declared.lexeme.Lexeme.TheVariants as lexeme
+use Rattle.ec_lexer.specs.Words.{reserved, symbol_of, number_of}
+use Rattle.ec_lexer.specs.Lexemes.{begins, kind_of}
+use Rattle.ec_lexer.specs.Tokens.{HasTokensFrom, ended, separated, taken, token}
+use Rattle.ec_lexer.proofs.Agrees.{Agrees}
+use Rattle.ec_lexer.proofs.Lexing.{agrees}
 use Rattle.ec_parser.specs.Grammar.{empty as no_constant, word, id, string, mark, print, none, more, object, constant, HasTree, with_constant}
 use Rattle.ec_world.specs.declared.run.RunEnd.TheVariants.{Finished}
 use Rattle.ec_world.specs.Run.{Run, run_after, end_of, statuses_of}
@@ -39,10 +44,9 @@ abbrev empty : Program
 empty = record { constant = None }
 
 pub empty_is_source : IsSource [] empty
-unfolding begins
 empty_is_source = record {
   short = lit≤ tt;
-  program_is = record { tokens = []; has_tokens = record { short = lit≤ tt; has = ended refl }; has_tree = no_constant; is_accepted = refl };
+  program_is = record { tokens = []; has_tokens = record { short = lit≤ tt; all = ended }; has_tree = no_constant; is_accepted = refl };
 }
 
 empty_goes_on : (j : ℕ) → j < 2 → end_of default_budget (source_run empty 1 [] j) ≡ None
@@ -84,7 +88,7 @@ abbrev hello_tokens : List Token
 hello_tokens =
     word Const (record { from = 0; to = 5 }) ∷
     id (codes "main") (record { from = 6; to = 10 }) ∷
-    mark Arrow (record { from = 11; to = 13 }) ∷
+    mark LeftArrow (record { from = 11; to = 13 }) ∷
     word Object (record { from = 14; to = 20 }) ∷
     id (codes "main") (record { from = 21; to = 25 }) ∷
     word Initially (record { from = 28; to = 37 }) ∷
@@ -99,25 +103,34 @@ hello_tokens =
     word End (record { from = 81; to = 84 }) ∷
     id (codes "main") (record { from = 85; to = 89 }) ∷ []
 
+-- a step along a text, by what its front reads as
+read_token : {at n : ℕ} {rest : List ℕ} {form : Form} {tokens : List Token} → begins rest ≡ lexeme.Token form n →
+    HasTokensFrom (at + n) (drop n rest) tokens → HasTokensFrom at rest (token (kind_of form (take n rest)) at n ∷ tokens)
+read_token {rest = rest} e h = taken (subst (Agrees rest) e (agrees rest)) h
+
+read_separator : {at n : ℕ} {rest : List ℕ} {tokens : List Token} → begins rest ≡ lexeme.Separator n →
+    HasTokensFrom (at + n) (drop n rest) tokens → HasTokensFrom at rest tokens
+read_separator {rest = rest} e h = separated (subst (Agrees rest) e (agrees rest)) h
+
 hello_has_tokens : HasTokensFrom 0 hello_source hello_tokens
-unfolding begins reserved
+unfolding begins reserved symbol_of
 hello_has_tokens =
-    taken {n = 5} {form = form.Word} refl (separated {n = 1} refl (
-    taken {n = 4} {form = form.Word} refl (separated {n = 1} refl (
-    taken {n = 2} {form = form.Arrow} refl (separated {n = 1} refl (
-    taken {n = 6} {form = form.Word} refl (separated {n = 1} refl (
-    taken {n = 4} {form = form.Word} refl (separated {n = 1} refl (separated {n = 1} refl (separated {n = 1} refl (
-    taken {n = 9} {form = form.Word} refl (separated {n = 1} refl (separated {n = 1} refl (separated {n = 1} refl (separated {n = 1} refl (separated {n = 1} refl (
-    taken {n = 6} {form = form.Word} refl (
-    taken {n = 1} {form = form.Dot} refl (
-    taken {n = 9} {form = form.Word} refl (
-    taken {n = 1} {form = form.OpenBracket} refl (
-    taken {n = 4} {form = form.Literal} refl (
-    taken {n = 1} {form = form.CloseBracket} refl (separated {n = 1} refl (separated {n = 1} refl (separated {n = 1} refl (
-    taken {n = 3} {form = form.Word} refl (separated {n = 1} refl (
-    taken {n = 9} {form = form.Word} refl (separated {n = 1} refl (
-    taken {n = 3} {form = form.Word} refl (separated {n = 1} refl (
-    taken {n = 4} {form = form.Word} refl (separated {n = 1} refl (ended refl)))))))))))))))))))))))))))))))))))
+    read_token {n = 5} {form = form.Reserved Const} refl (read_separator {n = 1} refl (
+    read_token {n = 4} {form = form.Name} refl (read_separator {n = 1} refl (
+    read_token {n = 2} {form = form.Symbol LeftArrow} refl (read_separator {n = 1} refl (
+    read_token {n = 6} {form = form.Reserved Object} refl (read_separator {n = 1} refl (
+    read_token {n = 4} {form = form.Name} refl (read_separator {n = 1} refl (read_separator {n = 1} refl (read_separator {n = 1} refl (
+    read_token {n = 9} {form = form.Reserved Initially} refl (read_separator {n = 1} refl (read_separator {n = 1} refl (read_separator {n = 1} refl (read_separator {n = 1} refl (read_separator {n = 1} refl (
+    read_token {n = 6} {form = form.Reserved Stdout} refl (
+    read_token {n = 1} {form = form.Symbol Dot} refl (
+    read_token {n = 9} {form = form.Name} refl (
+    read_token {n = 1} {form = form.Symbol OpenBracket} refl (
+    read_token {n = 4} {form = form.Literal} refl (
+    read_token {n = 1} {form = form.Symbol CloseBracket} refl (read_separator {n = 1} refl (read_separator {n = 1} refl (read_separator {n = 1} refl (
+    read_token {n = 3} {form = form.Reserved End} refl (read_separator {n = 1} refl (
+    read_token {n = 9} {form = form.Reserved Initially} refl (read_separator {n = 1} refl (
+    read_token {n = 3} {form = form.Reserved End} refl (read_separator {n = 1} refl (
+    read_token {n = 4} {form = form.Name} refl (read_separator {n = 1} refl (ended)))))))))))))))))))))))))))))))))))
 
 hello_has_tree : HasTree hello_tokens hello
 hello_has_tree = with_constant (constant (object _ _ _ _ _ _ _ (more (print refl) none)))
@@ -125,7 +138,7 @@ hello_has_tree = with_constant (constant (object _ _ _ _ _ _ _ (more (print refl
 pub hello_is_source : IsSource hello_source hello
 hello_is_source = record {
   short = lit≤ tt;
-  program_is = record { tokens = hello_tokens; has_tokens = record { short = lit≤ tt; has = hello_has_tokens }; has_tree = hello_has_tree; is_accepted = refl };
+  program_is = record { tokens = hello_tokens; has_tokens = record { short = lit≤ tt; all = hello_has_tokens }; has_tree = hello_has_tree; is_accepted = refl };
 }
 
 hello_goes_on : (j : ℕ) → j < 7 → end_of default_budget (source_run hello 1 [] j) ≡ None

@@ -1,5 +1,5 @@
 use Rattle.std.proofs.Common.{◌≡◌, ◌++◌, ◌-◌, length, take, drop}
-use Rattle.ec_lexer.specs.Tokens.{unescaped_bytes}
+use Rattle.ec_lexer.specs.Lexemes.{unescaped as unescaped_bytes}
 use Rattle.ec_lexer.proofs.unescaped.Given as goal
 
 abbrev pub invariant-loop-left : goal.invariant-loop-left

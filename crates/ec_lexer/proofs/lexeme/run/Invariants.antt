@@ -1,6 +1,6 @@
 use Rattle.std.proofs.Common.{◌≡◌, ◌+◌, ◌-◌, ◌≤◌, length, drop}
 use Rattle.std.specs.List.{prefix_len}
-use Rattle.ec_lexer.specs.Lexemes.{is_in}
+use Rattle.ec_lexer.specs.Words.{is_in}
 use Rattle.ec_lexer.proofs.lexeme.run.Given as goal
 
 abbrev pub invariant-loop-end : goal.invariant-loop-end

@@ -1,6 +1,6 @@
 use Rattle.std.proofs.Common.{rules, arith}
 use Rattle.std.proofs.lemmas.Grind.{common_steps}
-use Rattle.ec_lexer.specs.Lexemes.{reserved}
+use Rattle.ec_lexer.specs.Words.{reserved}
 use Rattle.ec_lexer.proofs.token.reserved_word.Goals as goal
 
 pub returns : goal.returns
