@@ -8,3 +8,4 @@ pub mod Growth
 pub mod Rooms
 pub mod Following
 pub mod Ending
+pub mod Examples

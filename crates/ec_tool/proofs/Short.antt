@@ -111,5 +111,5 @@ short_tree (with_constant (constant is)) h = let k = object_few is in omega arit
 
 pub short_source : (text : Bytes) (program : Program) → IsSource text program → IsShort program
 short_source text program s =
-    let k = few_tokens s.program_is.has_tokens in
+    let k = few_tokens s.program_is.has_tokens.has in
     short_tree s.program_is.has_tree (let l = s.short in omega arith)

@@ -17,7 +17,8 @@ use Rattle.ec_network.specs.Holds.{Holds}
 use Rattle.ec_network.specs.Answers.{CanNumber}
 use Rattle.ec_network.specs.Net.{Net, name_of}
 use Rattle.rv_codegen.specs.Meaning.{rv_meaning}
-use Rattle.ec_tool.specs.Report.{object_line, node_at, object_lines, RestOfObjects, PushesObject}
+use Rattle.ec_tool.specs.Report.{object_line, node_at, object_lines}
+use Rattle.ec_tool.specs.ObjectLines.{RestOfObjects, PushesObject}
 
 module _ (net : Net) (c : Cluster) (w : Worlds) (loaded : net.loaded ≡ Some c) (holds : Holds rv_meaning c w) (can : CanNumber net) where
   pub few_processes : length (statuses_of w) < 2 ^ 32 - 1

@@ -1,5 +1,6 @@
 pub mod Status
 pub mod Report
+pub mod ObjectLines
 pub mod Inputs
 pub mod Emerald
 pub mod Promises

@@ -1,6 +1,6 @@
 -- The bytes of a report: a world, the places of its objects, the nodes with the instructions that each ran, the entries
 -- done, and the end. Every line ends with a line feed.
-use Rattle.std.specs.Prelude.{◌≡◌, ℕ, suc, Bool, true, false, List, [], ◌∷◌, ◌++◌, drop, Option, Some, None, slice_get, codes}
+use Rattle.std.specs.Prelude.{ℕ, suc, Bool, true, false, List, [], ◌∷◌, ◌++◌, drop, Option, Some, None, slice_get, codes}
 use Rattle.std.specs.Fmt.{decimal}
 use Rattle.ec_world.specs.declared.node.Kind.{Kind}
 use Rattle.ec_world.specs.declared.node.Kind.TheVariants.{Riscv, Mips}
@@ -11,7 +11,6 @@ use Rattle.ec_world.specs.declared.process.ProcStatus.{ProcStatus}
 use Rattle.ec_world.specs.declared.process.ProcStatus.TheVariants.{Ready, Entry, Cond, Urgent, Ended, Failed}
 use Rattle.ec_world.specs.declared.run.RunEnd.TheVariants.{Finished, Stuck, Spent}
 use Rattle.ec_world.specs.declared.world.World.{World}
-use Rattle.ec_world.specs.Effects.{object_at}
 use Rattle.ec_world.specs.Places.{places, place_in}
 use Rattle.ec_world.specs.Run.{statuses_of}
 use Rattle.ec_nodes.specs.declared.room.Part.{Part}
@@ -68,19 +67,6 @@ object_lines classes specs at oid (o ∷ os) =
 -- the lines of all objects but those of the nodes, which come first
 abbrev pub lines_of_objects : {A : Type 0} → World A → List NodeSpec → List ℕ
 lines_of_objects w specs = object_lines w.common.classes specs (places w.common.nodes w.common.events) (suc w.common.nodes) (drop w.common.nodes w.common.objects)
-
--- a text grows by the line of the object of this number where it is there, and stays where it isn't
-abbrev pub PushesObject : {A : Type 0} → World A → List NodeSpec → ℕ → List ℕ → List ℕ → Bool → Type 0
-PushesObject w specs oid old new true =
-    (o : ObjectRec) × (object_at w.common.objects oid ≡ Some o) ×
-    (new ≡ old ++ object_line oid (name_of w.common.classes o.class) (node_at specs (place_in (places w.common.nodes w.common.events) oid)) o.fixed)
-PushesObject w specs oid old new false = (object_at w.common.objects oid ≡ None) × (new ≡ old)
-
--- with the lines of the objects from number oid on, a text that was written so far is the whole one
-pub record RestOfObjects {A : Type 0} (w : World A) (specs : List NodeSpec) (oid : ℕ) (written whole : List ℕ) : Type 0 where
-  pub before : ℕ
-  pub oid_is : oid ≡ suc before
-  pub rest : written ++ object_lines w.common.classes specs (places w.common.nodes w.common.events) oid (drop before w.common.objects) ≡ whole
 
 -- ---- nodes: `node west mips instructions 412`
 

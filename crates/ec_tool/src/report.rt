@@ -10,7 +10,8 @@ ghost use Rattle.rv_codegen.specs.Meaning.{rv_meaning};
 ghost use Rattle.ec_world.specs.declared.node.NodeSpec.{NodeSpec as ANodeSpec};
 ghost use Rattle.ec_tool.specs.declared.report.ReportEnd.TheVariants.{Ends, IsFull};
 ghost use Rattle.ec_tool.specs.Running.{IsShown};
-ghost use Rattle.ec_tool.specs.Report.{line_feed, status_text, process_line, process_lines, name_if, node_at, fixed_text, object_line, kind_text, node_line, node_lines, part_text, end_line, turns_line, report, load_report, PushesObject, lines_of_objects};
+ghost use Rattle.ec_tool.specs.Report.{line_feed, status_text, process_line, process_lines, name_if, node_at, fixed_text, object_line, kind_text, node_line, node_lines, part_text, end_line, turns_line, report, load_report, lines_of_objects};
+ghost use Rattle.ec_tool.specs.ObjectLines.{PushesObject};
 
 use ec_network::network::Network;
 use ec_nodes::room::Part;

@@ -1,6 +1,9 @@
 //! The program `emerald`, on the system's files and its standard output.
 #![tactic(auto)]
 
+ghost use Rattle.std.specs.Prelude.{◌≡◌, ◌⊎◌, None, map, IfOk};
+ghost use Rattle.ec_tool.specs.Inputs.{WordsOf};
+
 use ec_network::network::Network;
 use ec_outside::file_shelf::FileShelf;
 use ec_outside::out_sink::OutSink;
@@ -29,7 +32,11 @@ fn call(rt: &HostRuntime) -> Result<Status, AllocError> {
 }
 
 /// Calls the program with these words.
-fn call_with(rt: &HostRuntime, words: &[&str]) -> Result<Status, AllocError> {
+fn call_with(rt: &HostRuntime, words: &[&str]) -> Result<Status, AllocError>
+    ensures usage { IfOk result (λ status. status ≡ Status.Usage → WordsOf (map (λ word. word.now) words.now) ≡ None) }
+    ensures no_command { IfOk result (λ status. WordsOf (map (λ word. word.now) words.now) ≡ None →
+        (status ≡ Status.Usage) ⊎ ((status ≡ Status.WriteFault) ⊎ (status ≡ Status.NoMemory))) }
+{
     let alloc = rt.alloc();
     let mut shelf = FileShelf::new(alloc, rt, words)?;
     let mut sink = OutSink::new(rt);

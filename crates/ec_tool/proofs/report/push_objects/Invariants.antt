@@ -1,7 +1,8 @@
 use Rattle.std.proofs.Common.{◌++◌, ◌-◌, ◌^◌}
 use Rattle.ec_network.specs.Answers.{ForShown}
 use Rattle.rv_codegen.specs.Meaning.{rv_meaning}
-use Rattle.ec_tool.specs.Report.{lines_of_objects, RestOfObjects}
+use Rattle.ec_tool.specs.Report.{lines_of_objects}
+use Rattle.ec_tool.specs.ObjectLines.{RestOfObjects}
 use Rattle.ec_tool.proofs.report.push_objects.Given as goal
 
 abbrev pub invariant-objects : goal.invariant-objects

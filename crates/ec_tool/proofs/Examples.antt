@@ -1,0 +1,152 @@
+-- Two small programs by the definitions: the text is the program's, the run comes to its end after so many entries, and its
+-- status and its report are these.
+use Rattle.std.proofs.Common.{◌≡◌, ℕ, zero, suc, ◌<◌, List, [], ◌∷◌, Some, None, codes, refl, arith, lit≤}
+use Rattle.std.specs.Fmt.{digits}
+use Rattle.ec_ast.specs.declared.Program.{Program}
+use Rattle.ec_ast.specs.declared.Statement.TheVariants.{Print}
+use Rattle.ec_lexer.specs.declared.lexeme.Form.TheVariants as form
+use Rattle.ec_lexer.specs.declared.token.Reserved.TheVariants.{Const, End, Initially, Object, Stdout}
+use Rattle.ec_lexer.specs.declared.token.Token.{Token}
+use Rattle.ec_lexer.specs.declared.token.TokenKind.TheVariants.{Arrow, Dot, OpenBracket, CloseBracket}
+use Rattle.ec_lexer.specs.Lexemes.{begins, reserved}
+use Rattle.ec_lexer.specs.Tokens.{HasTokensFrom, ended, separated, taken}
+use Rattle.ec_parser.specs.Grammar.{empty as no_constant, word, id, string, mark, print, none, more, object, constant, HasTree, with_constant}
+use Rattle.ec_world.specs.declared.run.RunEnd.TheVariants.{Finished}
+use Rattle.ec_world.specs.Run.{Run, run_after, end_of, statuses_of}
+use Rattle.ec_meaning.specs.Meaning.{source_meaning, source_silent, source_start}
+use Rattle.ec_tool.specs.declared.report.ReportEnd.TheVariants.{Ends}
+use Rattle.ec_tool.specs.declared.status.Status.{Status}
+use Rattle.ec_tool.specs.declared.status.Status.TheVariants as statuses
+use Rattle.ec_tool.specs.Inputs.{IsSource, one_node, default_budget}
+use Rattle.ec_tool.specs.Report.{report}
+use Rattle.ec_tool.specs.Emerald.{source_run, status_of}
+
+-- the whole run of a program on the one node, without a schedule: after so many entries it is finished
+abbrev Finishes : Program → ℕ → Type 0
+Finishes program k = Run source_meaning (source_silent program) (source_start program 1) [] default_budget k (source_run program 1 [] k) Finished
+
+-- the status of its end
+abbrev status_after : Program → ℕ → Status
+status_after program k = status_of (statuses_of (source_run program 1 [] k).world) (Ends Finished)
+
+-- its report, where the node has run so many instructions
+abbrev text_of : Program → ℕ → ℕ → List ℕ
+text_of program k count = report (source_run program 1 [] k).world (one_node ∷ []) (λ node. count) k (Ends Finished)
+
+-- ---- no constant
+
+abbrev empty : Program
+empty = record { constant = None }
+
+pub empty_is_source : IsSource [] empty
+unfolding begins
+empty_is_source = record {
+  short = lit≤ tt;
+  program_is = record { tokens = []; has_tokens = record { short = lit≤ tt; has = ended refl }; has_tree = no_constant; is_accepted = refl };
+}
+
+empty_goes_on : (j : ℕ) → j < 2 → end_of default_budget (source_run empty 1 [] j) ≡ None
+unfolding run_after
+empty_goes_on zero l = refl
+empty_goes_on (suc zero) l = refl
+empty_goes_on (suc (suc j)) l = absurd (omega (arith, l))
+
+pub empty_finishes : Finishes empty 2
+unfolding run_after
+empty_finishes = record { reaches = record { is = refl; going = empty_goes_on }; ends = refl }
+
+pub empty_status : status_after empty 2 ≡ statuses.Finished
+unfolding run_after
+empty_status = refl
+
+pub empty_text : text_of empty 2 0 ≡ codes "\nturns 2\nprocess 0 ended\nobject 2 program at a\nnode a riscv instructions 0\nstop finished\n"
+unfolding run_after digits
+empty_text = refl
+
+-- ---- one text printed
+
+abbrev hello : Program
+hello = record {
+  constant = Some (record {
+    name = record { text = codes "main"; at = record { from = 6; to = 10 } };
+    value = record {
+      name = record { text = codes "main"; at = record { from = 21; to = 25 } };
+      initially = Print (record { text = codes "hi"; at = record { from = 59; to = 63 } }) ∷ [];
+      end_name = record { text = codes "main"; at = record { from = 85; to = 89 } };
+    };
+  });
+}
+
+abbrev hello_source : List ℕ
+hello_source = codes "const main <- object main\n  initially\n    stdout.putstring[\"hi\"]\n  end initially\nend main\n"
+
+abbrev hello_tokens : List Token
+hello_tokens =
+    word Const (record { from = 0; to = 5 }) ∷
+    id (codes "main") (record { from = 6; to = 10 }) ∷
+    mark Arrow (record { from = 11; to = 13 }) ∷
+    word Object (record { from = 14; to = 20 }) ∷
+    id (codes "main") (record { from = 21; to = 25 }) ∷
+    word Initially (record { from = 28; to = 37 }) ∷
+    word Stdout (record { from = 42; to = 48 }) ∷
+    mark Dot (record { from = 48; to = 49 }) ∷
+    id (codes "putstring") (record { from = 49; to = 58 }) ∷
+    mark OpenBracket (record { from = 58; to = 59 }) ∷
+    string (codes "hi") (record { from = 59; to = 63 }) ∷
+    mark CloseBracket (record { from = 63; to = 64 }) ∷
+    word End (record { from = 67; to = 70 }) ∷
+    word Initially (record { from = 71; to = 80 }) ∷
+    word End (record { from = 81; to = 84 }) ∷
+    id (codes "main") (record { from = 85; to = 89 }) ∷ []
+
+hello_has_tokens : HasTokensFrom 0 hello_source hello_tokens
+unfolding begins reserved
+hello_has_tokens =
+    taken {n = 5} {form = form.Word} refl (separated {n = 1} refl (
+    taken {n = 4} {form = form.Word} refl (separated {n = 1} refl (
+    taken {n = 2} {form = form.Arrow} refl (separated {n = 1} refl (
+    taken {n = 6} {form = form.Word} refl (separated {n = 1} refl (
+    taken {n = 4} {form = form.Word} refl (separated {n = 1} refl (separated {n = 1} refl (separated {n = 1} refl (
+    taken {n = 9} {form = form.Word} refl (separated {n = 1} refl (separated {n = 1} refl (separated {n = 1} refl (separated {n = 1} refl (separated {n = 1} refl (
+    taken {n = 6} {form = form.Word} refl (
+    taken {n = 1} {form = form.Dot} refl (
+    taken {n = 9} {form = form.Word} refl (
+    taken {n = 1} {form = form.OpenBracket} refl (
+    taken {n = 4} {form = form.Literal} refl (
+    taken {n = 1} {form = form.CloseBracket} refl (separated {n = 1} refl (separated {n = 1} refl (separated {n = 1} refl (
+    taken {n = 3} {form = form.Word} refl (separated {n = 1} refl (
+    taken {n = 9} {form = form.Word} refl (separated {n = 1} refl (
+    taken {n = 3} {form = form.Word} refl (separated {n = 1} refl (
+    taken {n = 4} {form = form.Word} refl (separated {n = 1} refl (ended refl)))))))))))))))))))))))))))))))))))
+
+hello_has_tree : HasTree hello_tokens hello
+hello_has_tree = with_constant (constant (object _ _ _ _ _ _ _ (more (print refl) none)))
+
+pub hello_is_source : IsSource hello_source hello
+hello_is_source = record {
+  short = lit≤ tt;
+  program_is = record { tokens = hello_tokens; has_tokens = record { short = lit≤ tt; has = hello_has_tokens }; has_tree = hello_has_tree; is_accepted = refl };
+}
+
+hello_goes_on : (j : ℕ) → j < 7 → end_of default_budget (source_run hello 1 [] j) ≡ None
+unfolding run_after
+hello_goes_on zero l = refl
+hello_goes_on (suc zero) l = refl
+hello_goes_on (suc (suc zero)) l = refl
+hello_goes_on (suc (suc (suc zero))) l = refl
+hello_goes_on (suc (suc (suc (suc zero)))) l = refl
+hello_goes_on (suc (suc (suc (suc (suc zero))))) l = refl
+hello_goes_on (suc (suc (suc (suc (suc (suc zero)))))) l = refl
+hello_goes_on (suc (suc (suc (suc (suc (suc (suc j))))))) l = absurd (omega (arith, l))
+
+pub hello_finishes : Finishes hello 7
+unfolding run_after
+hello_finishes = record { reaches = record { is = refl; going = hello_goes_on }; ends = refl }
+
+pub hello_status : status_after hello 7 ≡ statuses.Finished
+unfolding run_after
+hello_status = refl
+
+pub hello_text : text_of hello 7 3 ≡ codes "hi\nturns 7\nprocess 0 ended\nobject 2 program at a\nobject 3 main at a\nnode a riscv instructions 3\nstop finished\n"
+unfolding run_after digits
+hello_text = refl
