@@ -1,9 +1,9 @@
 -- Variables that are set.
-use Rattle.std.proofs.Common.{◌≡◌, ◌≢◌, ℕ, zero, suc, ◌+◌, ◌-◌, ◌<◌, ◌≤◌, List, [], ◌∷◌, ◌++◌, length, Option, Some, None, refl, sym, ap, ◌∙◌, arith}
-use Rattle.std.specs.Prelude.{slice_get, slice_set}
+use Rattle.std.proofs.Common.{◌≡◌, ◌≢◌, ℕ, zero, suc, ◌<◌, List, [], ◌∷◌, ◌++◌, length, refl, ap, arith}
+use Rattle.std.specs.Prelude.{slice_set}
 use Rattle.ec_world.specs.declared.value.Value.{Value}
 use Rattle.ec_world.specs.declared.value.Value.TheVariants.{Nil}
-use Rattle.ec_ir.specs.Meaning.{put, variable, or_nil}
+use Rattle.ec_ir.specs.Meaning.{put, variable}
 
 pub put_in : (vs : List Value) (i : ℕ) (v : Value) → i < length vs → put vs i v ≡ slice_set vs i v
 put_in [] i v h = absurd (omega arith)

@@ -3,4 +3,5 @@
 
 pub mod activation;
 pub mod code;
+mod copy;
 pub mod program;

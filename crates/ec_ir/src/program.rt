@@ -1,7 +1,8 @@
 //! Programs of three-address code.
-ghost use Rattle.std.specs.Prelude.{◌≡◌};
+ghost use Rattle.std.specs.Prelude.{◌≡◌, IfOk};
 
 use crate::code::Parts;
+use std::alloc::AllocError;
 use std::marker::Model;
 
 /// A program that keeps the facts of `Fine`: code behind a stop reaches a stop, operands and results have the static
@@ -39,5 +40,12 @@ impl IrProgram {
         ensures fine { Fine self.now }
     {
         &self.parts
+    }
+
+    /// The same program again. The error is want of memory.
+    pub fn copy(&self) -> Result<IrProgram, AllocError>
+        ensures same { IfOk result (λ p. p ≡ self.now) }
+    {
+        Ok(IrProgram::new(self.parts().copy()?))
     }
 }

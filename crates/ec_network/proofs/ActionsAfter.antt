@@ -21,13 +21,13 @@ use Rattle.ec_frames.specs.Node.{store_of, Laid}
 use Rattle.ec_network.specs.declared.image.Images.{Images}
 use Rattle.ec_network.specs.declared.cluster.Cluster.{Cluster}
 use Rattle.ec_network.specs.declared.kernel.Acted.{Acted}
-use Rattle.ec_network.specs.Shows.{Worlds, Shows, stores, spot, place, depths_of}
+use Rattle.ec_network.specs.Shows.{IrWorld, Shows, stores, spot, place, depths_of}
 use Rattle.ec_network.specs.Room.{Strings}
 use Rattle.ec_network.specs.Room.Strings.{InField, InFrame, InConstant}
 use Rattle.ec_network.specs.Worlds.{ir_action}
 use Rattle.ec_network.specs.Turns.{SameMachines, SameCounts, SamePools, FaithfulImages}
-use Rattle.rv_codegen.specs.Code.{SmallCode}
-use Rattle.ec_network.specs.Holds.{HasSlots, Steady, Holds}
+use Rattle.rv_codegen.specs.Code.{HasSlots, SmallCode}
+use Rattle.ec_network.specs.Holds.{Steady, Holds}
 use Rattle.ec_network.specs.Kernel.{Becomes}
 use Rattle.ec_network.specs.Steps.{Outcome, AfterAction}
 use Rattle.ec_network.proofs.ActionsStores.{alone_net, alone_is}
@@ -44,7 +44,7 @@ node_at net node one k x e = by_place k (ap (λ (ns : List NodeStore). slice_get
 
 -- ---- strings stand in the pool
 
-module _ (net : Cluster) (w : Worlds) (shows : Shows net w) (k : ℕ) (s : Store) (text : List ℕ) (is : stores net k ≡ Some s) where
+module _ (net : Cluster) (w : IrWorld) (shows : Shows net w) (k : ℕ) (s : Store) (text : List ℕ) (is : stores net k ≡ Some s) where
   thing_text : (key : Key) (t : Thing) → things_of (live_values net.program) (spot net.program net.images) w key ≡ Some t → place w t.home ≡ Some k → Has t.values (Str text) → InPool s text
   thing_text key t e at h =
       let z = shows.nodes.things.each key t e in
@@ -60,7 +60,7 @@ module _ (net : Cluster) (w : Worlds) (shows : Shows net w) (k : ℕ) (s : Store
 
 -- ---- after a change of the one node
 
-module _ {S : Type 0} (M : MachineMeaning S) {net net' : Cluster} {w : Worlds} (p : ℕ) (holds : Holds M net w) {node node' : NodeStore} (b : Becomes net net' node node') where
+module _ {S : Type 0} (M : MachineMeaning S) {net net' : Cluster} {w : IrWorld} (p : ℕ) (holds : Holds M net w) {node node' : NodeStore} (b : Becomes net net' node node') where
   machines_after : SameMachines net net'
   machines_after = record {
     program = b.program;
@@ -92,7 +92,7 @@ module _ {S : Type 0} (M : MachineMeaning S) {net net' : Cluster} {w : Worlds} (
         record {
           fine = subst (λ (q : Parts). Fine q) (sym b.program) s.fine;
           faithful = subst (λ (q : Parts). FaithfulImages M q net'.images) (sym b.program) (subst (λ (i : Images). FaithfulImages M net.program i) (sym b.images) s.faithful);
-          slots = subst (λ (q : Parts). HasSlots q net'.images.rv.table) (sym b.program) (subst (λ (i : Images). HasSlots net.program i.rv.table) (sym b.images) s.slots);
+          slots = subst (λ (q : Parts). HasSlots net'.images.rv.table q) (sym b.program) (subst (λ (i : Images). HasSlots i.rv.table net.program) (sym b.images) s.slots);
           small = subst (λ (i : Images). SmallCode i.rv.table i.rv.code) (sym b.images) s.small;
           node = node';
           one = b.after;
@@ -105,7 +105,7 @@ module _ {S : Type 0} (M : MachineMeaning S) {net net' : Cluster} {w : Worlds} (
           globals = b.globals ∙ ap (λ (n : NodeStore). n.globals) (sym same) ∙ s.globals ∙ ap (λ (q : Parts). length q.globals) (sym b.program);
         }
 
-    pools_after : (w' : Worlds) → Shows net' w' → SamePools net net' w'
+    pools_after : (w' : IrWorld) → Shows net' w' → SamePools net net' w'
     pools_after w' shows = record { each = each }
       where
         each : (k : ℕ) (s s' : Store) (text : List ℕ) → stores net k ≡ Some s → stores net' k ≡ Some s' → InPool s' text ↔ (InPool s text ⊎ Strings net.program w' k text)
@@ -120,7 +120,7 @@ module _ {S : Type 0} (M : MachineMeaning S) {net net' : Cluster} {w : Worlds} (
                   h,
             )
 
-    module _ (w' : Worlds) (nodes : w'.common.nodes ≡ w.common.nodes) (shows : ShowsNodes (live_values net.program) (spot net.program net.images) (stores net') w' (place w')) where
+    module _ (w' : IrWorld) (nodes : w'.common.nodes ≡ w.common.nodes) (shows : ShowsNodes (live_values net.program) (spot net.program net.images) (stores net') w' (place w')) where
       shows_after : net'.statuses ≡ statuses_of w' → net'.depths ≡ depths_of w' → net'.output ≡ w'.common.output → net'.places ≡ places w'.common.nodes w'.common.events → Shows net' w'
       shows_after statuses depths output places_are = record {
         counted = ap (λ (ns : List NodeStore). length ns) b.after ∙ sym (one_node net w node holds.shows b.before) ∙ sym nodes;
@@ -137,8 +137,8 @@ module _ {S : Type 0} (M : MachineMeaning S) {net net' : Cluster} {w : Worlds} (
       after_action acted is statuses depths output places_are outcome =
           let after : Shows net' w' = shows_after statuses depths output places_are in
           record {
-            middle = record { machines = machines_after; counts = counts_after; shows = subst (λ (v : Worlds). Shows net' v) (sym is) after };
-            pools = subst (λ (v : Worlds). SamePools net net' v) (sym is) (pools_after w' after);
+            middle = record { machines = machines_after; counts = counts_after; shows = subst (λ (v : IrWorld). Shows net' v) (sym is) after };
+            pools = subst (λ (v : IrWorld). SamePools net net' v) (sym is) (pools_after w' after);
             steady = steady_after;
-            outcome = subst (λ (v : Worlds). Outcome net.program v p acted) (sym is) outcome;
+            outcome = subst (λ (v : IrWorld). Outcome net.program v p acted) (sym is) outcome;
           }

@@ -2,7 +2,7 @@
 use Rattle.std.proofs.Common.{◌≡◌, ℕ, zero, suc, ◌+◌, ◌<◌, ◌≤◌, false, List, [], ◌∷◌, ◌++◌, length, Option, Some, None, refl, sym, ap, ◌∙◌, subst, arith, ⊎_elim}
 use Rattle.std.specs.Prelude.{slice_get, map}
 use Rattle.ec_base.specs.Stack.{top_of}
-use Rattle.ec_base.proofs.Lists.{get_set_same, get_there}
+use Rattle.ec_base.proofs.Lists.{get_set_same, get_there, get_within}
 use Rattle.ec_base.proofs.Stacks.{top_of-push}
 use Rattle.ec_world.specs.declared.value.Value.{Value}
 use Rattle.ec_world.specs.declared.class.ClassNo.TheVariants.{Node, Made}
@@ -36,7 +36,7 @@ use Rattle.ec_nodes.specs.Worlds.{WorldPut}
 use Rattle.ec_nodes.proofs.Procs.{activation_is, get_end, get_past}
 use Rattle.ec_nodes.proofs.Steps.{with_process, stepped, called}
 use Rattle.ec_nodes.proofs.Create.{made}
-use Rattle.ec_network.specs.Shows.{Worlds, place}
+use Rattle.ec_network.specs.Shows.{IrWorld, place}
 use Rattle.ec_network.specs.Worlds.{ir_action, IsPending, IsWaiting, FineFacts, FineWorld, FineStack}
 use Rattle.ec_network.specs.Steps.{Outcome}
 use Rattle.ec_network.specs.declared.kernel.Acted.TheVariants.{Began}
@@ -102,7 +102,7 @@ new_typed program op own n = record { each = λ v h. absurd (has_none v (subst (
 -- ---- the world
 
 -- process p is about to make an object of class k
-pub record Creation (program : Parts) (w : Worlds) (p : ℕ) (stop : StopRec) (below : List IrActivation) (top : IrActivation) (k : ℕ) : Type 0 where
+pub record Creation (program : Parts) (w : IrWorld) (p : ℕ) (stop : StopRec) (below : List IrActivation) (top : IrActivation) (k : ℕ) : Type 0 where
   pub acting : Acting program w p stop below top
   pub class : ClassRec
   pub class_is : slice_get program.classes k ≡ Some class
@@ -111,7 +111,7 @@ pub record Creation (program : Parts) (w : Worlds) (p : ℕ) (stop : StopRec) (b
   pub fine : FineWorld program w
   pub home : place w top.own ≡ Some 0
 
-module _ {program : Parts} {w : Worlds} {p : ℕ} {stop : StopRec} {below : List IrActivation} {top : IrActivation} {k : ℕ} (c : Creation program w p stop below top k) where
+module _ {program : Parts} {w : IrWorld} {p : ℕ} {stop : StopRec} {below : List IrActivation} {top : IrActivation} {k : ℕ} (c : Creation program w p stop below top k) where
   abbrev pub new_object : ObjectRec
   new_object = record { class = Made k; fields = new_fields [] c.class.fields; fixed = false; monitor = None }
 
@@ -127,13 +127,13 @@ module _ {program : Parts} {w : Worlds} {p : ℕ} {stop : StopRec} {below : List
     events = w.common.events ++ Created (suc (length w.common.objects)) top.own ∷ [];
   }
 
-  abbrev pub marked_world : Worlds
+  abbrev pub marked_world : IrWorld
   marked_world = with_process w w.common p (ready_with (below ++ done top ∷ []))
 
-  abbrev pub object_world : Worlds
+  abbrev pub object_world : IrWorld
   object_world = record marked_world { common = record w.common { objects = w.common.objects ++ new_object ∷ [] } }
 
-  abbrev pub created_world : Worlds
+  abbrev pub created_world : IrWorld
   created_world = with_process w new_common p (ready_with ((below ++ done top ∷ []) ++ new_activation ∷ []))
 
   fine_new : FineStop program.classes program.globals top.operation c.acting.code.operation.variables (New (Made k)) stop.operands stop.into
@@ -278,6 +278,13 @@ module _ {program : Parts} {w : Worlds} {p : ℕ} {stop : StopRec} {below : List
             let o1 = c.acting.own.0 in
             let o2 = c.acting.own.1 in
             ((λ (l : i < w.common.nodes). absurd (omega arith)), (λ (l : w.common.nodes ≤ i). ap (λ (q : ObjectRec). q.fixed) (sym h.1))))
+            (end_or w.common.objects new_object i o e);
+        made = λ i j o e m. ⊎_elim
+            (λ (h : slice_get w.common.objects i ≡ Some o). f.made i j o h m)
+            (λ (h : (i ≡ length w.common.objects) × (new_object ≡ o)).
+            let class : Made k ≡ Made j = ap (λ (q : ObjectRec). q.class) h.1 ∙ m in
+            let same : k ≡ j = cc in
+            subst (λ n. n < length program.classes) same (get_within program.classes k c.class c.class_is))
             (end_or w.common.objects new_object i o e);
         events =
             let own : 0 < top.own = (let o = c.acting.own.0 in omega arith) in

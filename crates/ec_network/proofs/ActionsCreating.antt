@@ -26,7 +26,7 @@ use Rattle.ec_frames.specs.Changes.{Placed}
 use Rattle.ec_network.specs.declared.cluster.Cluster.{Cluster}
 use Rattle.ec_network.specs.declared.kernel.Here.{Here}
 use Rattle.ec_network.specs.declared.kernel.Acted.TheVariants.{Began}
-use Rattle.ec_network.specs.Shows.{Worlds, stores, spot, place, depths_of}
+use Rattle.ec_network.specs.Shows.{IrWorld, stores, spot, place, depths_of}
 use Rattle.ec_network.specs.Holds.{Holds}
 use Rattle.ec_network.specs.Kernel.{Creates}
 use Rattle.ec_network.specs.Steps.{AfterAction}
@@ -41,7 +41,7 @@ use Rattle.ec_network.proofs.ActionsCreated.{Creation, new_object, new_activatio
 use Rattle.ec_world.proofs.Members.{has_none}
 
 -- what isn't in the world has no blocks
-no_row : (live : IrActivation → List Value) (spot : IrActivation → Kind → ℕ → Option ℕ) (nodes : ℕ → Option Store) (w : Worlds) (place : ℕ → Option ℕ) (k : ℕ) (s : Store) (key : Key) → ShowsNodes live spot nodes w place → nodes k ≡ Some s → things_of live spot w key ≡ None → s.row key ≡ None
+no_row : (live : IrActivation → List Value) (spot : IrActivation → Kind → ℕ → Option ℕ) (nodes : ℕ → Option Store) (w : IrWorld) (place : ℕ → Option ℕ) (k : ℕ) (s : Store) (key : Key) → ShowsNodes live spot nodes w place → nodes k ≡ Some s → things_of live spot w key ≡ None → s.row key ≡ None
 no_row live spot nodes w place k s key shows e none = by_row (s.row key) refl
   where
     by_row : (r : Option Owned) → s.row key ≡ r → s.row key ≡ None
@@ -59,7 +59,7 @@ placed_tidy s s' key class fixed monitor given b placed none t =
       texts = λ i j x e f. t.texts i j x (placed.rest.text i ∙ e) (placed.rest.text j ∙ f);
     }
 
-module _ {S : Type 0} (M : MachineMeaning S) (net net' : Cluster) (w : Worlds) (p : ℕ) (h : Here) (stop : StopRec) (below : List IrActivation) (top : IrActivation) (k : ℕ) (holds : Holds M net w) (e : Creates net net' p h stop k) (t : TopAt net w p h stop e.node below top) where
+module _ {S : Type 0} (M : MachineMeaning S) (net net' : Cluster) (w : IrWorld) (p : ℕ) (h : Here) (stop : StopRec) (below : List IrActivation) (top : IrActivation) (k : ℕ) (holds : Holds M net w) (e : Creates net net' p h stop k) (t : TopAt net w p h stop e.node below top) where
   abbrev live : IrActivation → List Value
   live = live_values net.program
 
@@ -69,13 +69,13 @@ module _ {S : Type 0} (M : MachineMeaning S) (net net' : Cluster) (w : Worlds) (
   abbrev creation : Creation net.program w p stop below top k
   creation = record { acting = t.acting; class = e.class; class_is = e.class_is; is_new = e.is; fine_program = holds.steady.fine; fine = holds.fine; home = t.home }
 
-  abbrev marked : Worlds
+  abbrev marked : IrWorld
   marked = marked_world creation
 
-  abbrev with_object : Worlds
+  abbrev with_object : IrWorld
   with_object = object_world creation
 
-  abbrev created : Worlds
+  abbrev created : IrWorld
   created = created_world creation
 
   abbrev fresh : IrActivation

@@ -36,7 +36,7 @@ use Rattle.ec_frames.specs.Changes.{WritesGlobal}
 use Rattle.ec_network.specs.declared.cluster.Cluster.{Cluster}
 use Rattle.ec_network.specs.declared.kernel.Here.{Here}
 use Rattle.ec_network.specs.declared.kernel.Acted.TheVariants.{WentOn}
-use Rattle.ec_network.specs.Shows.{Worlds, stores, spot, place}
+use Rattle.ec_network.specs.Shows.{IrWorld, stores, spot, place}
 use Rattle.ec_network.specs.Worlds.{ir_action, FineFacts}
 use Rattle.ec_network.specs.Holds.{Holds}
 use Rattle.ec_network.specs.Kernel.{Defines}
@@ -72,7 +72,7 @@ below_true i n h = grind (arith, nat_tests)
 abbrev set_constant : Common → ℕ → Value → Common
 set_constant c i v = record c { globals = slice_set c.globals i v }
 
-abbrev constant_world : Worlds → ℕ → Value → Worlds
+abbrev constant_world : IrWorld → ℕ → Value → IrWorld
 constant_world w i v = record w { common = set_constant w.common i v }
 
 module _ (s s' : Store) (i word : ℕ) (writes : WritesGlobal s s' i word) (small : (key : Key) (r : Owned) (b : ℕ) → s.row key ≡ Some r → Has r.blocks b → b < 65536) where
@@ -104,7 +104,7 @@ module _ (s s' : Store) (i word : ℕ) (writes : WritesGlobal s s' i word) (smal
   stands_still : (v : Value) (n : ℕ) → Stands s v n → Stands s' v n
   stands_still v n h = stands_kept s but_constants grown_but v n h
 
-  module _ (live : IrActivation → List Value) (spot : IrActivation → Kind → ℕ → Option ℕ) (nodes nodes' : ℕ → Option Store) (w : Worlds) (place : ℕ → Option ℕ) (v : Value) (alone : IsAlone nodes s) (alone' : IsAlone nodes' s') (inside : i < length w.common.globals) (stands : Stands s v word) (shows : ShowsNodes live spot nodes w place) where
+  module _ (live : IrActivation → List Value) (spot : IrActivation → Kind → ℕ → Option ℕ) (nodes nodes' : ℕ → Option Store) (w : IrWorld) (place : ℕ → Option ℕ) (v : Value) (alone : IsAlone nodes s) (alone' : IsAlone nodes' s') (inside : i < length w.common.globals) (stands : Stands s v word) (shows : ShowsNodes live spot nodes w place) where
     things_same : (key : Key) → things_of live spot (constant_world w i v) key ≡ things_of live spot w key
     things_same (Object oid) = refl
     things_same (Frame p d) = refl
@@ -156,18 +156,19 @@ module _ (s s' : Store) (i word : ℕ) (writes : WritesGlobal s s' i word) (smal
 
 -- ---- the action
 
-defined_facts : (program : Parts) (w : Worlds) (index : ℕ) (t : ValueType) (v : Value) (p : ℕ) (proc : Proc IrActivation) → slice_get program.globals index ≡ Some t → HasType t v → FineFacts program w → FineFacts program (with_process w (set_constant w.common index v) p proc)
+defined_facts : (program : Parts) (w : IrWorld) (index : ℕ) (t : ValueType) (v : Value) (p : ℕ) (proc : Proc IrActivation) → slice_get program.globals index ≡ Some t → HasType t v → FineFacts program w → FineFacts program (with_process w (set_constant w.common index v) p proc)
 defined_facts program w index t v p proc e k f = record {
   classes = f.classes;
   globals = typed_set program.globals w.common.globals index t v e k f.globals;
   objects = f.objects;
   node_objects = f.node_objects;
   fixed = f.fixed;
+  made = f.made;
   events = f.events;
   placed = f.placed;
 }
 
-pub defines_after : {S : Type 0} (M : MachineMeaning S) (net net' : Cluster) (w : Worlds) (p : ℕ) (h : Here) (stop : StopRec) (below : List IrActivation) (top : IrActivation) (index : ℕ) → Holds M net w → (e : Defines net net' p h stop index) → TopAt net w p h stop e.node below top → AfterAction M net w p net' WentOn
+pub defines_after : {S : Type 0} (M : MachineMeaning S) (net net' : Cluster) (w : IrWorld) (p : ℕ) (h : Here) (stop : StopRec) (below : List IrActivation) (top : IrActivation) (index : ℕ) → Holds M net w → (e : Defines net net' p h stop index) → TopAt net w p h stop e.node below top → AfterAction M net w p net' WentOn
 defines_after M net net' w p h stop below top index holds e t =
     let a = t.acting in
     let v : Value = variable top.variables e.operand in
@@ -176,8 +177,8 @@ defines_after M net net' w p h stop below top index holds e t =
     let stands : Stands (store_of e.node) v e.word = operand_stands a e.operand e.operands (store_of e.node) (length below) h.block e.word t.frame e.word_is in
     let inside : index < length w.common.globals = omega (arith, get_within net.program.globals index fine.0.0 fine.0.1, typed_length net.program.globals w.common.globals holds.fine.facts.globals) in
     let laid : Laid e.node = holds.shows.laid 0 e.node (ap (λ (ns : List NodeStore). slice_get ns 0) e.becomes.before) in
-    let w1 : Worlds = constant_world w index v in
-    let w' : Worlds = with_process w1 w1.common p (ready_with (below ++ done top ∷ [])) in
+    let w1 : IrWorld = constant_world w index v in
+    let w' : IrWorld = with_process w1 w1.common p (ready_with (below ++ done top ∷ [])) in
     let operands : top.operands ≡ v ∷ [] = one_operand a e.operand e.operands in
     let stopped : top.stop ≡ Global index = a.stop_same ∙ e.is in
     let is : ir_action w p ≡ w' =

@@ -16,7 +16,7 @@ use Rattle.ec_frames.specs.Node.{store_of}
 use Rattle.ec_network.specs.declared.cluster.Cluster.{Cluster}
 use Rattle.ec_network.specs.declared.kernel.Here.{Here}
 use Rattle.ec_network.specs.declared.kernel.Acted.TheVariants.{WentOn}
-use Rattle.ec_network.specs.Shows.{Worlds, stores, spot, place}
+use Rattle.ec_network.specs.Shows.{IrWorld, stores, spot, place}
 use Rattle.ec_network.specs.Worlds.{ir_action, FineFacts}
 use Rattle.ec_network.specs.Holds.{Holds}
 use Rattle.ec_network.specs.Kernel.{Enters}
@@ -30,21 +30,22 @@ use Rattle.ec_network.proofs.ActionsMarking.{mark_shows, statuses_stay, depths_s
 use Rattle.ec_world.specs.declared.process.Proc.{Proc}
 
 -- what is told of a world but for its processes
-pub same_facts : (program : Parts) (w : Worlds) (p : ℕ) (proc : Proc IrActivation) → FineFacts program w → FineFacts program (with_process w w.common p proc)
+pub same_facts : (program : Parts) (w : IrWorld) (p : ℕ) (proc : Proc IrActivation) → FineFacts program w → FineFacts program (with_process w w.common p proc)
 same_facts program w p proc f = record {
   classes = f.classes;
   globals = f.globals;
   objects = f.objects;
   node_objects = f.node_objects;
   fixed = f.fixed;
+  made = f.made;
   events = f.events;
   placed = f.placed;
 }
 
-pub enters_after : {S : Type 0} (M : MachineMeaning S) (net net' : Cluster) (w : Worlds) (p : ℕ) (h : Here) (stop : StopRec) (below : List IrActivation) (top : IrActivation) → Holds M net w → (e : Enters net net' p h stop) → TopAt net w p h stop e.node below top → AfterAction M net w p net' WentOn
+pub enters_after : {S : Type 0} (M : MachineMeaning S) (net net' : Cluster) (w : IrWorld) (p : ℕ) (h : Here) (stop : StopRec) (below : List IrActivation) (top : IrActivation) → Holds M net w → (e : Enters net net' p h stop) → TopAt net w p h stop e.node below top → AfterAction M net w p net' WentOn
 enters_after M net net' w p h stop below top holds e t =
     let a = t.acting in
-    let w' : Worlds = with_process w w.common p (ready_with (below ++ done top ∷ [])) in
+    let w' : IrWorld = with_process w w.common p (ready_with (below ++ done top ∷ [])) in
     let stopped : top.stop ≡ Entry = a.stop_same ∙ e.is in
     let is : ir_action w p ≡ w' = action_is w p below top a.is a.flag ∙ ap (λ (s : Stop). acted ir_meaning w p below top (effect_of w.common (who_of ir_meaning p below top) s top.operands)) stopped in
     let shows : ShowsNodes (live_values net.program) (spot net.program net.images) (stores net') w' (place w) =

@@ -20,7 +20,7 @@ use Rattle.ec_frames.specs.Node.{store_of}
 use Rattle.ec_network.specs.declared.cluster.Cluster.{Cluster}
 use Rattle.ec_network.specs.declared.kernel.Here.{Here}
 use Rattle.ec_network.specs.declared.kernel.Acted.TheVariants.{EndedNow}
-use Rattle.ec_network.specs.Shows.{Worlds, stores, spot, place}
+use Rattle.ec_network.specs.Shows.{IrWorld, stores, spot, place}
 use Rattle.ec_network.specs.Worlds.{ir_action, status_of, status_at}
 use Rattle.ec_network.specs.Holds.{Holds}
 use Rattle.ec_network.specs.Kernel.{Finishes}
@@ -41,10 +41,10 @@ nothing_below : (xs : List IrActivation) → length xs ≡ 0 → xs ≡ []
 nothing_below [] e = refl
 nothing_below (x ∷ xs) e = cc
 
-pub finishes_after : {S : Type 0} (M : MachineMeaning S) (net net' : Cluster) (w : Worlds) (p : ℕ) (h : Here) (stop : StopRec) (below : List IrActivation) (top : IrActivation) → Holds M net w → (e : Finishes net net' p h stop) → TopAt net w p h stop e.node below top → AfterAction M net w p net' EndedNow
+pub finishes_after : {S : Type 0} (M : MachineMeaning S) (net net' : Cluster) (w : IrWorld) (p : ℕ) (h : Here) (stop : StopRec) (below : List IrActivation) (top : IrActivation) → Holds M net w → (e : Finishes net net' p h stop) → TopAt net w p h stop e.node below top → AfterAction M net w p net' EndedNow
 finishes_after M net net' w p h stop below top holds e t =
     let a = t.acting in
-    let w' : Worlds = with_process w w.common p ended in
+    let w' : IrWorld = with_process w w.common p ended in
     let stopped : top.stop ≡ End = a.stop_same ∙ e.is in
     let is : ir_action w p ≡ w' = action_is w p below top a.is a.flag ∙ ap (λ (s : Stop). acted ir_meaning w p below top (effect_of w.common (who_of ir_meaning p below top) s top.operands)) stopped in
     let none : length below ≡ 0 = sym t.depth ∙ e.bottom in

@@ -21,7 +21,7 @@ use Rattle.ec_nodes.proofs.Put.{same_or_not}
 use Rattle.ec_frames.specs.Changes.{WritesWord}
 use Rattle.ec_network.specs.declared.image.Images.{Images}
 use Rattle.ec_network.specs.Shows.{spot, home_of, word_if}
-use Rattle.ec_network.specs.Holds.{HasSlots}
+use Rattle.rv_codegen.specs.Code.{HasSlots}
 use Rattle.ec_network.proofs.ActionsLists.{get_map, get_map_back, append_none, has_end_or}
 use Rattle.ec_network.proofs.ActionsStores.{word_of_one, same_grown}
 use Rattle.ec_world.proofs.Members.{has_front, has_back}
@@ -121,7 +121,7 @@ pub record FrameStands (program : Parts) (s : Store) (p d b : ℕ) (a : IrActiva
   pub heads : (i n : ℕ) → slice_get (heads_of p d a) i ≡ Some n → s.word b i ≡ Some n
   pub slots : (x : ℕ) → Has (live_variables program a) x → SlotStands s b x (variable a.variables x)
 
-module _ (program : Parts) (images : Images) (slots : HasSlots program images.rv.table) (s : Store) (riscv : s.kind ≡ Riscv) (p d b : ℕ) (a : IrActivation) (v : HasVariables program a) where
+module _ (program : Parts) (images : Images) (slots : HasSlots images.rv.table program) (s : Store) (riscv : s.kind ≡ Riscv) (p d b : ℕ) (a : IrActivation) (v : HasVariables program a) where
   slot_spot : (i x : ℕ) → slice_get (live_variables program a) i ≡ Some x → spot program images a s.kind i ≡ Some (first_slot + x)
   slot_spot i x e =
       let home : home_in images.rv.table a.operation x ≡ Some (Slot x) = slots.each a.operation x v.operation v.is (live_below program a v x (record { at = i; is = e })) in

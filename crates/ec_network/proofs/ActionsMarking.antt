@@ -26,10 +26,10 @@ use Rattle.ec_nodes.proofs.Steps.{SameStore, with_process, stepped}
 use Rattle.ec_frames.specs.Changes.{WritesWord}
 use Rattle.ec_network.specs.declared.image.Images.{Images}
 use Rattle.ec_network.specs.declared.cluster.Cluster.{Cluster}
-use Rattle.ec_network.specs.Shows.{Worlds, Shows, spot, depths_of}
+use Rattle.ec_network.specs.Shows.{IrWorld, Shows, spot, depths_of}
 use Rattle.ec_network.specs.Worlds.{FineFacts, FineWorld}
 use Rattle.ec_network.specs.Steps.{IsDone, FineMiddle, MiddleStack}
-use Rattle.ec_network.specs.Holds.{HasSlots}
+use Rattle.rv_codegen.specs.Code.{HasSlots}
 use Rattle.ec_network.specs.Kernel.{pending_head}
 use Rattle.ec_network.proofs.ActionsLists.{length_end, set_end, map_set_same}
 use Rattle.ec_network.proofs.ActionsStores.{IsAlone, alone_put, shown_here, writes_puts}
@@ -38,15 +38,15 @@ use Rattle.ec_network.proofs.ActionsOrder.{ready_with, InOrder, order_of, order_
 use Rattle.ec_network.proofs.ActionsTop.{Acting}
 
 -- the frame of an activation on the one node, in whatever world it shows
-pub frame_at : (program : Parts) (images : Images) (nodes : ℕ → Option Store) (s : Store) (w : Worlds) (place : ℕ → Option ℕ) (p d b : ℕ) (xs : List IrActivation) (a : IrActivation) (row : Owned) → HasSlots program images.rv.table → s.kind ≡ Riscv → ShowsNodes (live_values program) (spot program images) nodes w place → IsAlone nodes s → HasVariables program a → slice_get w.processes p ≡ Some (ready_with xs) → slice_get xs d ≡ Some a → s.row (Frame p d) ≡ Some row → row.blocks ≡ b ∷ [] → FrameStands program s p d b a
+pub frame_at : (program : Parts) (images : Images) (nodes : ℕ → Option Store) (s : Store) (w : IrWorld) (place : ℕ → Option ℕ) (p d b : ℕ) (xs : List IrActivation) (a : IrActivation) (row : Owned) → HasSlots images.rv.table program → s.kind ≡ Riscv → ShowsNodes (live_values program) (spot program images) nodes w place → IsAlone nodes s → HasVariables program a → slice_get w.processes p ≡ Some (ready_with xs) → slice_get xs d ≡ Some a → s.row (Frame p d) ≡ Some row → row.blocks ≡ b ∷ [] → FrameStands program s p d b a
 frame_at program images nodes s w place p d b xs a row slots riscv shows alone v is at row_is block =
     frame_stands program images slots s riscv p d b a v row row_is block
     (shown_here (live_values program) (spot program images) nodes w place s shows alone (Frame p d) (frame_thing (live_values program) (spot program images) p d a)
     (ap (frame_if (live_values program) (spot program images) p d) (activation_is w.processes p d (ready_with xs) is ∙ at)))
 
-module _ (program : Parts) (images : Images) (slots : HasSlots program images.rv.table) (p b : ℕ) (below : List IrActivation) (top : IrActivation) (stop : StopRec) where
+module _ (program : Parts) (images : Images) (slots : HasSlots images.rv.table program) (p b : ℕ) (below : List IrActivation) (top : IrActivation) (stop : StopRec) where
   -- the nodes show the world in which the top's action is done
-  pub mark_shows : (nodes nodes' : ℕ → Option Store) (s s' : Store) (w : Worlds) (c : Common) (place : ℕ → Option ℕ) → IsAlone nodes s → IsAlone nodes' s' → ShowsNodes (live_values program) (spot program images) nodes w place → SameStore w.common c → slice_get w.processes p ≡ Some (ready_with (below ++ top ∷ [])) → stop_at program top.operation top.at ≡ Some stop → top.pending ≡ true → top.into ≡ stop.into → HasVariables program top → FrameStands program s p (length below) b top → s.kind ≡ Riscv → place top.own ≡ Some 0 → WritesWord s s' b pending_head 0 → ShowsNodes (live_values program) (spot program images) nodes' (with_process w c p (ready_with (below ++ done top ∷ []))) place
+  pub mark_shows : (nodes nodes' : ℕ → Option Store) (s s' : Store) (w : IrWorld) (c : Common) (place : ℕ → Option ℕ) → IsAlone nodes s → IsAlone nodes' s' → ShowsNodes (live_values program) (spot program images) nodes w place → SameStore w.common c → slice_get w.processes p ≡ Some (ready_with (below ++ top ∷ [])) → stop_at program top.operation top.at ≡ Some stop → top.pending ≡ true → top.into ≡ stop.into → HasVariables program top → FrameStands program s p (length below) b top → s.kind ≡ Riscv → place top.own ≡ Some 0 → WritesWord s s' b pending_head 0 → ShowsNodes (live_values program) (spot program images) nodes' (with_process w c p (ready_with (below ++ done top ∷ []))) place
   mark_shows nodes nodes' s s' w c place alone alone' shows same is stop_is flag into v frame riscv home writes =
       let live : IrActivation → List Value = live_values program in
       let d : ℕ = length below in
@@ -60,19 +60,19 @@ module _ (program : Parts) (images : Images) (slots : HasSlots program images.rv
       (stepped (live_values program) (spot program images) place w c same p (ready_with (below ++ top ∷ [])) (ready_with (below ++ done top ∷ [])) is (length below) top (done top) 0 (get_end below top) (sym (set_end below top (done top))) refl home)
 
 -- what the network tells of processes stays
-module _ (net : Cluster) (w : Worlds) (p : ℕ) (below : List IrActivation) (top a : IrActivation) (shows : Shows net w) (is : slice_get w.processes p ≡ Some (ready_with (below ++ top ∷ []))) where
+module _ (net : Cluster) (w : IrWorld) (p : ℕ) (below : List IrActivation) (top a : IrActivation) (shows : Shows net w) (is : slice_get w.processes p ≡ Some (ready_with (below ++ top ∷ []))) where
   pub statuses_stay : (c : Common) → net.statuses ≡ statuses_of (with_process w c p (ready_with (below ++ a ∷ [])))
   statuses_stay c = shows.statuses ∙ sym (map_set_same (λ (q : Proc IrActivation). q.status) w.processes p (ready_with (below ++ top ∷ [])) (ready_with (below ++ a ∷ [])) is refl)
 
   pub depths_stay : (c : Common) → net.depths ≡ depths_of (with_process w c p (ready_with (below ++ a ∷ [])))
   depths_stay c = shows.depths ∙ sym (map_set_same (λ (q : Proc IrActivation). length q.activations) w.processes p (ready_with (below ++ top ∷ [])) (ready_with (below ++ a ∷ [])) is (length_end below a ∙ sym (length_end below top)))
 
-module _ {program : Parts} {w : Worlds} {p : ℕ} {stop : StopRec} {below : List IrActivation} {top : IrActivation} (a : Acting program w p stop below top) where
+module _ {program : Parts} {w : IrWorld} {p : ℕ} {stop : StopRec} {below : List IrActivation} {top : IrActivation} (a : Acting program w p stop below top) where
   pub process_there : p < length w.processes
   process_there = get_within w.processes p (ready_with (below ++ top ∷ [])) a.is
 
   -- code goes on behind a stop without a result
-  pub went_on : (w' : Worlds) → FineWorld program w → w'.processes ≡ slice_set w.processes p (ready_with (below ++ done top ∷ [])) → w'.common.nodes ≡ w.common.nodes → length w'.common.objects ≡ length w.common.objects → HasCode stop.stop → stop.into ≡ None → FineFacts program w' → FineMiddle program w' p
+  pub went_on : (w' : IrWorld) → FineWorld program w → w'.processes ≡ slice_set w.processes p (ready_with (below ++ done top ∷ [])) → w'.common.nodes ≡ w.common.nodes → length w'.common.objects ≡ length w.common.objects → HasCode stop.stop → stop.into ≡ None → FineFacts program w' → FineMiddle program w' p
   went_on w' fine now nodes objects code none facts =
       let is_done : IsDone program w.common.nodes (length w.common.objects) (done top) = record {
         at = stop;

@@ -27,7 +27,7 @@ use Rattle.ec_nodes.specs.Held.{InPool}
 use Rattle.ec_nodes.specs.Shows.{ShowsNodes}
 use Rattle.ec_frames.specs.declared.node.NodeStore.{NodeStore}
 use Rattle.ec_network.specs.declared.cluster.Cluster.{Cluster}
-use Rattle.ec_network.specs.Shows.{Worlds, Shows, stores, spot, place}
+use Rattle.ec_network.specs.Shows.{IrWorld, Shows, stores, spot, place}
 use Rattle.ec_network.specs.Room.{Strings}
 use Rattle.ec_network.specs.Worlds.{FineWorld}
 use Rattle.ec_network.specs.Turns.{MoveOf}
@@ -71,7 +71,7 @@ goes_there c o k e =
 -- ---- a group's members are there
 
 member_there : (c : Common) (o m : ℕ) → (0 < o) × (o ≤ length c.objects) → InGroup c o m → (0 < m) × (m ≤ length c.objects)
-member_there c o m h (Itself) = h
+member_there c o m h (Itself there) = h
 member_there c o m h (Linked y z g has some) = object_within c.objects m some
 
 all_there : (count : ℕ) (ms : List ℕ) → ((m : ℕ) → Has ms m → (0 < m) × (m ≤ count)) → AreThere count ms
@@ -81,7 +81,7 @@ all_there count (m ∷ ms) h =
     (first.0, first.1, all_there count ms (λ x g. h x (has_later m x ms g)))
 
 group_there : (c : Common) (o : ℕ) → (0 < o) × (o ≤ length c.objects) → AreThere (length c.objects) (group_of c o)
-group_there c o h = all_there (length c.objects) (group_of c o) (λ m g. member_there c o m h (((group_of_is c o h.0 h.1).each m).0 g))
+group_there c o h = all_there (length c.objects) (group_of c o) (λ m g. member_there c o m h (((group_of_is c o).each m).0 g))
 
 -- ---- on one node
 
@@ -97,13 +97,13 @@ made_push [] ms target = refl
 made_push (Created oid maker ∷ es) ms target = ap suc (made_push es ms target)
 made_push (Moved qs t ∷ es) ms target = made_push es ms target
 
-module _ {S : Type 0} (M : MachineMeaning S) (net : Cluster) (w : Worlds) (holds : Holds M net w) where
+module _ {S : Type 0} (M : MachineMeaning S) (net : Cluster) (w : IrWorld) (holds : Holds M net w) where
   one : w.common.nodes ≡ 1
   one = one_node net w holds.steady.node holds.shows holds.steady.one
 
   -- a world with other events, and the same places
   module _ (events : List Event) (same : places w.common.nodes events ≡ places w.common.nodes w.common.events) (are : AreEvents (suc w.common.nodes) events) where
-    abbrev eventful : Worlds
+    abbrev eventful : IrWorld
     eventful = record w { common = record w.common { events = events } }
 
     eventful_shows : Shows net eventful
@@ -146,6 +146,7 @@ module _ {S : Type 0} (M : MachineMeaning S) (net : Cluster) (w : Worlds) (holds
             objects = f.objects;
             node_objects = f.node_objects;
             fixed = f.fixed;
+            made = f.made;
             events = are;
             placed = ap (λ (ps : List ℕ). length ps) same ∙ f.placed;
           };

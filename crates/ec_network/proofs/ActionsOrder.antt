@@ -11,7 +11,7 @@ use Rattle.ec_ir.specs.declared.code.Parts.{Parts}
 use Rattle.ec_ir.specs.declared.activation.IrActivation.{IrActivation}
 use Rattle.ec_nodes.proofs.Procs.{get_end}
 use Rattle.ec_nodes.proofs.Put.{same_or_not}
-use Rattle.ec_network.specs.Shows.{Worlds}
+use Rattle.ec_network.specs.Shows.{IrWorld}
 use Rattle.ec_network.specs.Worlds.{RestsAt, IsPending, IsWaiting, FineStack, FineProcess, FineFacts, FineWorld}
 use Rattle.ec_network.specs.Steps.{IsDone, MiddleStack, FineMiddle}
 use Rattle.ec_network.proofs.ActionsLists.{length_end, get_left, end_or}
@@ -164,7 +164,7 @@ order_more program nodes n m more xs f = record { bottom = f.bottom; upper = f.u
 
 -- ---- worlds in which process p alone has changed
 
-module _ (program : Parts) (w w' : Worlds) (p : ℕ) (proc : Proc IrActivation) (now : w'.processes ≡ slice_set w.processes p proc) (nodes : w'.common.nodes ≡ w.common.nodes) (objects : length w.common.objects ≤ length w'.common.objects) (fine : FineWorld program w) where
+module _ (program : Parts) (w w' : IrWorld) (p : ℕ) (proc : Proc IrActivation) (now : w'.processes ≡ slice_set w.processes p proc) (nodes : w'.common.nodes ≡ w.common.nodes) (objects : length w.common.objects ≤ length w'.common.objects) (fine : FineWorld program w) where
   others_fine : (q : ℕ) (x : Proc IrActivation) → q ≢ p → slice_get w'.processes q ≡ Some x → FineProcess program w'.common.nodes (length w'.common.objects) x.status x.activations
   others_fine q x ne e =
       let before : slice_get w.processes q ≡ Some x = sym (get_set_other w.processes p q proc ne) ∙ ap (λ (ps : List (Proc IrActivation)). slice_get ps q) (sym now) ∙ e in

@@ -22,7 +22,7 @@ use Rattle.ec_frames.specs.Node.{store_of}
 use Rattle.ec_network.specs.declared.cluster.Cluster.{Cluster}
 use Rattle.ec_network.specs.declared.kernel.Here.{Here}
 use Rattle.ec_network.specs.declared.kernel.Acted.TheVariants.{WentOn}
-use Rattle.ec_network.specs.Shows.{Worlds, stores, spot, place}
+use Rattle.ec_network.specs.Shows.{IrWorld, stores, spot, place}
 use Rattle.ec_network.specs.Worlds.{ir_action, FineFacts}
 use Rattle.ec_network.specs.Holds.{Holds}
 use Rattle.ec_network.specs.Kernel.{Prints}
@@ -37,13 +37,14 @@ use Rattle.ec_network.proofs.ActionsMarking.{mark_shows, statuses_stay, depths_s
 abbrev printed : Common → List ℕ → Common
 printed c text = record c { output = c.output ++ text }
 
-printed_facts : (program : Parts) (w : Worlds) (text : List ℕ) (p : ℕ) (proc : Proc IrActivation) → FineFacts program w → FineFacts program (with_process w (printed w.common text) p proc)
+printed_facts : (program : Parts) (w : IrWorld) (text : List ℕ) (p : ℕ) (proc : Proc IrActivation) → FineFacts program w → FineFacts program (with_process w (printed w.common text) p proc)
 printed_facts program w text p proc f = record {
   classes = f.classes;
   globals = f.globals;
   objects = f.objects;
   node_objects = f.node_objects;
   fixed = f.fixed;
+  made = f.made;
   events = f.events;
   placed = f.placed;
 }
@@ -56,11 +57,11 @@ text_value local texts (Ref o) word text t s e = absurd t
 text_value local texts Nil word text t s e = absurd t
 text_value local texts (Str x) word text t s e = let same : x ≡ text = cc in ap Str same
 
-pub prints_after : {S : Type 0} (M : MachineMeaning S) (net net' : Cluster) (w : Worlds) (p : ℕ) (h : Here) (stop : StopRec) (below : List IrActivation) (top : IrActivation) → Holds M net w → (e : Prints net net' p h stop) → TopAt net w p h stop e.node below top → AfterAction M net w p net' WentOn
+pub prints_after : {S : Type 0} (M : MachineMeaning S) (net net' : Cluster) (w : IrWorld) (p : ℕ) (h : Here) (stop : StopRec) (below : List IrActivation) (top : IrActivation) → Holds M net w → (e : Prints net net' p h stop) → TopAt net w p h stop e.node below top → AfterAction M net w p net' WentOn
 prints_after M net net' w p h stop below top holds e t =
     let a = t.acting in
     let c : Common = printed w.common e.text in
-    let w' : Worlds = with_process w c p (ready_with (below ++ done top ∷ [])) in
+    let w' : IrWorld = with_process w c p (ready_with (below ++ done top ∷ [])) in
     let fine : FineStop net.program.classes net.program.globals top.operation a.code.operation.variables Print stop.operands stop.into = subst (λ (s : Stop). FineStop net.program.classes net.program.globals top.operation a.code.operation.variables s stop.operands stop.into) e.is a.code.fine in
     let typed : HasType Bytes (variable top.variables e.operand) = operand_typed a e.operand e.operands Bytes fine.0 in
     let stands : Stands (store_of e.node) (variable top.variables e.operand) e.word = operand_stands a e.operand e.operands (store_of e.node) (length below) h.block e.word t.frame e.word_is in

@@ -39,7 +39,7 @@ use Rattle.ec_frames.specs.Changes.{Closed}
 use Rattle.ec_network.specs.declared.cluster.Cluster.{Cluster}
 use Rattle.ec_network.specs.declared.kernel.Here.{Here}
 use Rattle.ec_network.specs.declared.kernel.Acted.TheVariants.{WentOn}
-use Rattle.ec_network.specs.Shows.{Worlds, stores, spot, place, depths_of}
+use Rattle.ec_network.specs.Shows.{IrWorld, stores, spot, place, depths_of}
 use Rattle.ec_network.specs.Worlds.{ir_action, IsWaiting}
 use Rattle.ec_network.specs.Holds.{Holds}
 use Rattle.ec_network.specs.Kernel.{Returns}
@@ -100,7 +100,7 @@ module _ (program : Parts) (c : IrActivation) (caller : StopRec) (x own : ℕ) (
 
 -- ---- the action
 
-module _ {S : Type 0} (M : MachineMeaning S) (net net' : Cluster) (w : Worlds) (p : ℕ) (h : Here) (stop : StopRec) (lower : List IrActivation) (c top : IrActivation) (holds : Holds M net w) (e : Returns net net' p h stop) (t : TopAt net w p h stop e.node (lower ++ c ∷ []) top) (deep : length lower ≡ e.depth) where
+module _ {S : Type 0} (M : MachineMeaning S) (net net' : Cluster) (w : IrWorld) (p : ℕ) (h : Here) (stop : StopRec) (lower : List IrActivation) (c top : IrActivation) (holds : Holds M net w) (e : Returns net net' p h stop) (t : TopAt net w p h stop e.node (lower ++ c ∷ []) top) (deep : length lower ≡ e.depth) where
   abbrev given : IrActivation
   given = with_result c e.x (Ref top.own)
 
@@ -151,7 +151,7 @@ module _ {S : Type 0} (M : MachineMeaning S) (net net' : Cluster) (w : Worlds) (
 
   -- ---- the frame on top goes
 
-  abbrev popped : Worlds
+  abbrev popped : IrWorld
   popped = with_process w w.common p (ready_with (lower ++ c ∷ []))
 
   tidy_two : Tidy e.two
@@ -196,7 +196,7 @@ module _ {S : Type 0} (M : MachineMeaning S) (net net' : Cluster) (w : Worlds) (
   given_variables : HasVariables net.program given
   given_variables = record { operation = code_below.operation; is = code_below.is; few = code_below.few; typed = given_typed }
 
-  abbrev returned : Worlds
+  abbrev returned : IrWorld
   returned = with_process w w.common p (ready_with (lower ++ given ∷ []))
 
   returned_shows : ShowsNodes (live_values net.program) (spot net.program net.images) (stores net') returned (place w)
@@ -270,7 +270,7 @@ parted (x ∷ y ∷ ys) (suc n) e =
     let r = parted (y ∷ ys) n (omega arith) in
     record { lower = x ∷ r.lower; last = r.last; is = ap (λ (zs : List IrActivation). x ∷ zs) r.is; counted = ap suc r.counted }
 
-pub returns_after : {S : Type 0} (M : MachineMeaning S) (net net' : Cluster) (w : Worlds) (p : ℕ) (h : Here) (stop : StopRec) (below : List IrActivation) (top : IrActivation) → Holds M net w → (e : Returns net net' p h stop) → TopAt net w p h stop e.node below top → AfterAction M net w p net' WentOn
+pub returns_after : {S : Type 0} (M : MachineMeaning S) (net net' : Cluster) (w : IrWorld) (p : ℕ) (h : Here) (stop : StopRec) (below : List IrActivation) (top : IrActivation) → Holds M net w → (e : Returns net net' p h stop) → TopAt net w p h stop e.node below top → AfterAction M net w p net' WentOn
 returns_after M net net' w p h stop below top holds e t =
     let r = parted below e.depth (sym t.depth ∙ e.depth_is) in
     returns_at M net net' w p h stop r.lower r.last top holds e (subst (λ (xs : List IrActivation). TopAt net w p h stop e.node xs top) r.is t) r.counted

@@ -38,7 +38,7 @@ use Rattle.ec_network.specs.declared.cluster.Cluster.{Cluster}
 use Rattle.ec_network.specs.declared.kernel.Here.{Here}
 use Rattle.ec_network.specs.declared.kernel.Acted.{Acted}
 use Rattle.ec_network.specs.declared.kernel.Acted.TheVariants.{WentOn, Began, EndedNow}
-use Rattle.ec_network.specs.Shows.{Worlds, Shows, store_if, stores, spot, place}
+use Rattle.ec_network.specs.Shows.{IrWorld, Shows, store_if, stores, spot, place}
 use Rattle.ec_network.specs.Room.{Room, Strings, BytesOf, FullAt, NoneFull, held}
 use Rattle.ec_network.specs.Room.Strings.{InField, InFrame, InConstant}
 use Rattle.ec_network.specs.Worlds.{FineWorld, ir_action, status_of, status_at}
@@ -75,7 +75,7 @@ lacks_nothing : (part : Part) (n : Needs) (need free : ℕ) → n.blocks ≤ n.f
 lacks_nothing Blocks n need free fits none h = let l = h.2 in omega arith
 lacks_nothing Text n need free fits none h = let l = h.3 in omega arith
 
-module _ (net net' : Cluster) (w w' : Worlds) (shows : Shows net w) (after : Shows net' w') (same : SameMachines net net') (pools : (k : ℕ) (s : Store) (text : List ℕ) → stores net k ≡ Some s → Strings net.program w' k text → InPool s text) where
+module _ (net net' : Cluster) (w w' : IrWorld) (shows : Shows net w) (after : Shows net' w') (same : SameMachines net net') (pools : (k : ℕ) (s : Store) (text : List ℕ) → stores net k ≡ Some s → Strings net.program w' k text → InPool s text) where
   fits_at : (k : ℕ) (node node' : NodeStore) → slice_get net.nodes k ≡ Some node → slice_get net'.nodes k ≡ Some node' → held w' k ≤ node.blocks
   fits_at k node node' e e' =
       let blocks = (same.each k node node' e e').blocks in
@@ -115,7 +115,7 @@ keeps_texts net net' p h stop Began (Creating k e) = record { node = e.node; nod
 keeps_texts net net' p h stop WentOn (Returning e) = record { node = e.node; node' = e.node'; before = e.becomes.before; after = e.becomes.after; same = λ i. e.writes.tables.rest.text i ∙ e.closes.rest.text i ∙ e.refers.texts i }
 keeps_texts net net' p h stop EndedNow (Finishing e) = record { node = e.node; node' = e.node'; before = e.becomes.before; after = e.becomes.after; same = e.closes.rest.text }
 
-module _ {S : Type 0} (M : MachineMeaning S) (net net' : Cluster) (w : Worlds) (p : ℕ) (h : Here) (stop : StopRec) (holds : Holds M net w) (ready : status_at w p ≡ Some Ready) (here : IsHere net p h) (stop_is : stop_at net.program h.operation h.at ≡ Some stop) where
+module _ {S : Type 0} (M : MachineMeaning S) (net net' : Cluster) (w : IrWorld) (p : ℕ) (h : Here) (stop : StopRec) (holds : Holds M net w) (ready : status_at w p ≡ Some Ready) (here : IsHere net p h) (stop_is : stop_at net.program h.operation h.at ≡ Some stop) where
   -- what is done had room
   pub none_full : (acted : Acted) → Acts net net' p h stop acted → NoneFull (rooms net) (held w) (held (ir_action w p)) (Pools net) (Strings net.program (ir_action w p))
   none_full acted acts =
@@ -142,12 +142,12 @@ idle_stack (Some proc) h = by_status proc.status h
     by_status (Failed cause line) h = refl
 
 -- has no action
-pub idle_action : (w : Worlds) (p : ℕ) → status_at w p ≢ Some Ready → ir_action w p ≡ w
+pub idle_action : (w : IrWorld) (p : ℕ) → status_at w p ≢ Some Ready → ir_action w p ≡ w
 idle_action w p h = ap (λ (xs : List IrActivation). act_on ir_meaning w p (below_of xs) (top_of xs)) (idle_stack (slice_get w.processes p) h)
 
-pub none_full_idle : {S : Type 0} (M : MachineMeaning S) (net : Cluster) (w : Worlds) (p : ℕ) → Holds M net w → status_at w p ≢ Some Ready → NoneFull (rooms net) (held w) (held (ir_action w p)) (Pools net) (Strings net.program (ir_action w p))
+pub none_full_idle : {S : Type 0} (M : MachineMeaning S) (net : Cluster) (w : IrWorld) (p : ℕ) → Holds M net w → status_at w p ≢ Some Ready → NoneFull (rooms net) (held w) (held (ir_action w p)) (Pools net) (Strings net.program (ir_action w p))
 none_full_idle M net w p holds h =
-    subst (λ (v : Worlds). NoneFull (rooms net) (held w) (held v) (Pools net) (Strings net.program v)) (sym (idle_action w p h))
+    subst (λ (v : IrWorld). NoneFull (rooms net) (held w) (held v) (Pools net) (Strings net.program v)) (sym (idle_action w p h))
     (none_lacks net net w w holds.shows holds.shows (record {
       program = refl;
       images = refl;
@@ -157,10 +157,10 @@ none_full_idle M net w p holds h =
 
 -- ---- a creation without room
 
-abbrev creation_of : (net : Cluster) (w : Worlds) (p : ℕ) (h : Here) (stop : StopRec) (below : List IrActivation) (top : IrActivation) (k : ℕ) (node : NodeStore) → TopAt net w p h stop node below top → (class : ClassRec) → slice_get net.program.classes k ≡ Some class → stop.stop ≡ New (Made k) → Fine net.program → FineWorld net.program w → Creation net.program w p stop below top k
+abbrev creation_of : (net : Cluster) (w : IrWorld) (p : ℕ) (h : Here) (stop : StopRec) (below : List IrActivation) (top : IrActivation) (k : ℕ) (node : NodeStore) → TopAt net w p h stop node below top → (class : ClassRec) → slice_get net.program.classes k ≡ Some class → stop.stop ≡ New (Made k) → Fine net.program → FineWorld net.program w → Creation net.program w p stop below top k
 creation_of net w p h stop below top k node t class class_is is_new program fine = record { acting = t.acting; class = class; class_is = class_is; is_new = is_new; fine_program = program; fine = fine; home = t.home }
 
-module _ {S : Type 0} (M : MachineMeaning S) (net : Cluster) (w : Worlds) (p : ℕ) (h : Here) (stop : StopRec) (holds : Holds M net w) (here : IsHere net p h) (below : List IrActivation) (top : IrActivation) (k : ℕ) (t : TopAt net w p h stop here.node below top) (class : ClassRec) (class_is : slice_get net.program.classes k ≡ Some class) (is_new : stop.stop ≡ New (Made k)) where
+module _ {S : Type 0} (M : MachineMeaning S) (net : Cluster) (w : IrWorld) (p : ℕ) (h : Here) (stop : StopRec) (holds : Holds M net w) (here : IsHere net p h) (below : List IrActivation) (top : IrActivation) (k : ℕ) (t : TopAt net w p h stop here.node below top) (class : ClassRec) (class_is : slice_get net.program.classes k ≡ Some class) (is_new : stop.stop ≡ New (Made k)) where
   abbrev live : IrActivation → List Value
   live = live_values net.program
 
@@ -173,7 +173,7 @@ module _ {S : Type 0} (M : MachineMeaning S) (net : Cluster) (w : Worlds) (p : �
   abbrev creation : Creation net.program w p stop below top k
   creation = creation_of net w p h stop below top k here.node t class class_is is_new holds.steady.fine holds.fine
 
-  abbrev created : Worlds
+  abbrev created : IrWorld
   created = created_world creation
 
   abbrev fresh : IrActivation
@@ -269,7 +269,7 @@ module _ {S : Type 0} (M : MachineMeaning S) (net : Cluster) (w : Worlds) (p : �
   }
 
 -- a refusal is exact
-pub full_here : {S : Type 0} (M : MachineMeaning S) (net : Cluster) (w : Worlds) (p : ℕ) (h : Here) (stop : StopRec) (k node need free : ℕ) → Holds M net w → status_at w p ≡ Some Ready → IsHere net p h → stop_at net.program h.operation h.at ≡ Some stop → stop.stop ≡ New (Made k) → FullHere net node need free → FullAt (rooms net) (held w) (held (ir_action w p)) (Pools net) (Strings net.program (ir_action w p)) node Blocks need free
+pub full_here : {S : Type 0} (M : MachineMeaning S) (net : Cluster) (w : IrWorld) (p : ℕ) (h : Here) (stop : StopRec) (k node need free : ℕ) → Holds M net w → status_at w p ≡ Some Ready → IsHere net p h → stop_at net.program h.operation h.at ≡ Some stop → stop.stop ≡ New (Made k) → FullHere net node need free → FullAt (rooms net) (held w) (held (ir_action w p)) (Pools net) (Strings net.program (ir_action w p)) node Blocks need free
 full_here M net w p h stop k node need free holds ready here stop_is is_new full =
     let t = read_top M net w p h stop holds here stop_is here.node here.one ready in
     let a = t.2.acting in
@@ -277,6 +277,6 @@ full_here M net w p h stop k node need free holds ready here stop_is is_new full
     let c : Creation net.program w p stop t.0 t.1 k = creation_of net w p h stop t.0 t.1 k here.node t.2 fine.0 fine.1 is_new holds.steady.fine holds.fine in
     let is = created_is c in
     let base = creation_full M net w p h stop holds here t.0 t.1 k t.2 fine.0 fine.1 is_new free (full.2 here.node here.one) full.3 in
-    subst (λ (v : Worlds). FullAt (rooms net) (held w) (held v) (Pools net) (Strings net.program v) node Blocks need free) (sym is)
+    subst (λ (v : IrWorld). FullAt (rooms net) (held w) (held v) (Pools net) (Strings net.program v) node Blocks need free) (sym is)
     (subst (λ (n : ℕ). FullAt (rooms net) (held w) (held (created_world c)) (Pools net) (Strings net.program (created_world c)) n Blocks need free) (sym full.0)
     (subst (λ (m : ℕ). FullAt (rooms net) (held w) (held (created_world c)) (Pools net) (Strings net.program (created_world c)) 0 Blocks m free) (sym full.1) base))

@@ -25,7 +25,7 @@ use Rattle.ec_frames.specs.declared.node.NodeStore.{NodeStore}
 use Rattle.ec_frames.specs.Node.{store_of}
 use Rattle.ec_network.specs.declared.cluster.Cluster.{Cluster}
 use Rattle.ec_network.specs.declared.kernel.Here.{Here}
-use Rattle.ec_network.specs.Shows.{Worlds, Shows, stores, spot, place}
+use Rattle.ec_network.specs.Shows.{IrWorld, Shows, stores, spot, place}
 use Rattle.ec_network.specs.Worlds.{FineStack, FineProcess, FineFacts, FineWorld, status_of, status_at, ir_action}
 use Rattle.ec_network.specs.Holds.{Holds}
 use Rattle.ec_network.specs.Kernel.{IsHere}
@@ -38,13 +38,13 @@ use Rattle.ec_world.specs.declared.node.Kind.TheVariants.{Riscv}
 -- ---- a Ready process
 
 -- process p is Ready with these activations
-pub record ReadyTop (program : Parts) (w : Worlds) (p : ℕ) : Type 0 where
+pub record ReadyTop (program : Parts) (w : IrWorld) (p : ℕ) : Type 0 where
   pub below : List IrActivation
   pub top : IrActivation
   pub is : slice_get w.processes p ≡ Some (ready_with (below ++ top ∷ []))
   pub stack : FineStack program w.common.nodes (length w.common.objects) (below ++ top ∷ [])
 
-pub ready_top : (program : Parts) (w : Worlds) (p : ℕ) → FineWorld program w → status_at w p ≡ Some Ready → ReadyTop program w p
+pub ready_top : (program : Parts) (w : IrWorld) (p : ℕ) → FineWorld program w → status_at w p ≡ Some Ready → ReadyTop program w p
 ready_top program w p fine ready = by_process (slice_get w.processes p) refl ready
   where
     by_top : (xs : List IrActivation) (t : Option IrActivation) → top_of xs ≡ t → slice_get w.processes p ≡ Some (ready_with xs) → FineStack program w.common.nodes (length w.common.objects) xs → ReadyTop program w p
@@ -88,7 +88,7 @@ operation_of program op at stop fine e = by_operation (slice_get program.operati
         record { operation = o; is = is; there = there; few = f.few; fine = f.stops at stop there }
 
 -- process p is Ready with these activations, whose top rests pending at this stop
-pub record Acting (program : Parts) (w : Worlds) (p : ℕ) (stop : StopRec) (below : List IrActivation) (top : IrActivation) : Type 0 where
+pub record Acting (program : Parts) (w : IrWorld) (p : ℕ) (stop : StopRec) (below : List IrActivation) (top : IrActivation) : Type 0 where
   pub is : slice_get w.processes p ≡ Some (ready_with (below ++ top ∷ []))
   pub stack : FineStack program w.common.nodes (length w.common.objects) (below ++ top ∷ [])
   pub stop_is : stop_at program top.operation top.at ≡ Some stop
@@ -100,7 +100,7 @@ pub record Acting (program : Parts) (w : Worlds) (p : ℕ) (stop : StopRec) (bel
   pub typed : LiveTyped program top
   pub code : OperationOf program top.operation top.at stop
 
-pub acting : (program : Parts) (w : Worlds) (p : ℕ) (stop : StopRec) (below : List IrActivation) (top : IrActivation) → Fine program → slice_get w.processes p ≡ Some (ready_with (below ++ top ∷ [])) → FineStack program w.common.nodes (length w.common.objects) (below ++ top ∷ []) → stop_at program top.operation top.at ≡ Some stop → Acting program w p stop below top
+pub acting : (program : Parts) (w : IrWorld) (p : ℕ) (stop : StopRec) (below : List IrActivation) (top : IrActivation) → Fine program → slice_get w.processes p ≡ Some (ready_with (below ++ top ∷ [])) → FineStack program w.common.nodes (length w.common.objects) (below ++ top ∷ []) → stop_at program top.operation top.at ≡ Some stop → Acting program w p stop below top
 acting program w p stop below top fine is stack e =
     let t = stack.top top (top_of-push below top) in
     let same : t.at ≡ stop = cc (t.rests.at_is) in
@@ -118,7 +118,7 @@ acting program w p stop below top fine is stack e =
     }
 
 -- the action is that of the top's stop
-pub action_is : (w : Worlds) (p : ℕ) (below : List IrActivation) (top : IrActivation) → slice_get w.processes p ≡ Some (ready_with (below ++ top ∷ [])) → top.pending ≡ true → ir_action w p ≡ acted ir_meaning w p below top (outcome_of ir_meaning w p below top)
+pub action_is : (w : IrWorld) (p : ℕ) (below : List IrActivation) (top : IrActivation) → slice_get w.processes p ≡ Some (ready_with (below ++ top ∷ [])) → top.pending ≡ true → ir_action w p ≡ acted ir_meaning w p below top (outcome_of ir_meaning w p below top)
 action_is w p below top is flag =
     ap (λ (x : Option (Proc IrActivation)). act_on ir_meaning w p (below_of (ready_stack x)) (top_of (ready_stack x))) is
     ∙ ap (λ (x : List IrActivation). act_on ir_meaning w p x (top_of (below ++ top ∷ []))) (below_of-push below top)
@@ -127,17 +127,17 @@ action_is w p below top is flag =
 
 -- ---- on the one node
 
-pub one_node : (net : Cluster) (w : Worlds) (node : NodeStore) → Shows net w → net.nodes ≡ node ∷ [] → w.common.nodes ≡ 1
+pub one_node : (net : Cluster) (w : IrWorld) (node : NodeStore) → Shows net w → net.nodes ≡ node ∷ [] → w.common.nodes ≡ 1
 one_node net w node shows one = sym shows.counted ∙ ap (λ (ns : List NodeStore). length ns) one
 
 -- each object is there
-pub place_there : (program : Parts) (w : Worlds) (oid : ℕ) → w.common.nodes ≡ 1 → FineFacts program w → 0 < oid → oid ≤ length w.common.objects → place w oid ≡ Some 0
+pub place_there : (program : Parts) (w : IrWorld) (oid : ℕ) → w.common.nodes ≡ 1 → FineFacts program w → 0 < oid → oid ≤ length w.common.objects → place w oid ≡ Some 0
 place_there program w oid one facts some below =
     subst (λ (n : ℕ). oid ≤ length (places n w.common.events) → place_in (places n w.common.events) oid ≡ Some 0) (sym one)
     (λ l. place_on_one w.common.events oid some l)
     (let l = facts.placed in omega arith)
 
-module _ {S : Type 0} (M : MachineMeaning S) (net : Cluster) (w : Worlds) (p : ℕ) (holds : Holds M net w) (node : NodeStore) (one : net.nodes ≡ node ∷ []) where
+module _ {S : Type 0} (M : MachineMeaning S) (net : Cluster) (w : IrWorld) (p : ℕ) (holds : Holds M net w) (node : NodeStore) (one : net.nodes ≡ node ∷ []) where
   pub node_riscv : (store_of node).kind ≡ Riscv
   node_riscv = let same : holds.steady.node ≡ node = cc (holds.steady.one) in ap (λ (n : NodeStore). n.kind) (sym same) ∙ holds.steady.riscv
 
@@ -151,7 +151,7 @@ module _ {S : Type 0} (M : MachineMeaning S) (net : Cluster) (w : Worlds) (p : �
   shown_at xs d a b row v is at row_is block = frame_stands net.program net.images holds.steady.slots (store_of node) node_riscv p d b a v row row_is block (shown_frame xs d a is at)
 
 -- what the kernel reads of a Ready process is its top activation and the stop of that
-pub record TopAt (net : Cluster) (w : Worlds) (p : ℕ) (h : Here) (stop : StopRec) (node : NodeStore) (below : List IrActivation) (top : IrActivation) : Type 0 where
+pub record TopAt (net : Cluster) (w : IrWorld) (p : ℕ) (h : Here) (stop : StopRec) (node : NodeStore) (below : List IrActivation) (top : IrActivation) : Type 0 where
   pub acting : Acting net.program w p stop below top
   pub depth : h.depth ≡ length below
   pub operation : h.operation ≡ top.operation
@@ -161,7 +161,7 @@ pub record TopAt (net : Cluster) (w : Worlds) (p : ℕ) (h : Here) (stop : StopR
   pub frame : FrameStands net.program (store_of node) p (length below) h.block top
   pub home : place w top.own ≡ Some 0
 
-module _ {S : Type 0} (M : MachineMeaning S) (net : Cluster) (w : Worlds) (p : ℕ) (h : Here) (stop : StopRec) (holds : Holds M net w) (here : IsHere net p h) (stop_is : stop_at net.program h.operation h.at ≡ Some stop) (node : NodeStore) (one : net.nodes ≡ node ∷ []) where
+module _ {S : Type 0} (M : MachineMeaning S) (net : Cluster) (w : IrWorld) (p : ℕ) (h : Here) (stop : StopRec) (holds : Holds M net w) (here : IsHere net p h) (stop_is : stop_at net.program h.operation h.at ≡ Some stop) (node : NodeStore) (one : net.nodes ≡ node ∷ []) where
   module _ (below : List IrActivation) (top : IrActivation) (is : slice_get w.processes p ≡ Some (ready_with (below ++ top ∷ []))) (stack : FineStack net.program w.common.nodes (length w.common.objects) (below ++ top ∷ [])) where
     depth_is : h.depth ≡ length below
     depth_is =

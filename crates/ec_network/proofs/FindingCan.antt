@@ -32,7 +32,7 @@ use Rattle.ec_frames.specs.declared.node.NodeStore.{NodeStore}
 use Rattle.ec_frames.specs.Node.{store_of}
 use Rattle.ec_network.specs.declared.cluster.Cluster.{Cluster}
 use Rattle.ec_network.specs.declared.kernel.Here.{Here}
-use Rattle.ec_network.specs.Shows.{Worlds, Shows, spot, place}
+use Rattle.ec_network.specs.Shows.{IrWorld, Shows, spot, place}
 use Rattle.ec_network.specs.Worlds.{FineStack, RestsAt, status_at}
 use Rattle.ec_network.specs.Holds.{Holds}
 use Rattle.ec_network.specs.Kernel.{IsHere}
@@ -113,7 +113,7 @@ here_weight k (Some j) e =
 
 -- ---- a Ready process
 
-module _ {S : Type 0} (M : MachineMeaning S) (net : Cluster) (w : Worlds) (p : ℕ) (holds : Holds M net w) (below : List IrActivation) (top : IrActivation) (is : slice_get w.processes p ≡ Some (ready_with (below ++ top ∷ []))) (stack : FineStack net.program w.common.nodes (length w.common.objects) (below ++ top ∷ [])) where
+module _ {S : Type 0} (M : MachineMeaning S) (net : Cluster) (w : IrWorld) (p : ℕ) (holds : Holds M net w) (below : List IrActivation) (top : IrActivation) (is : slice_get w.processes p ≡ Some (ready_with (below ++ top ∷ []))) (stack : FineStack net.program w.common.nodes (length w.common.objects) (below ++ top ∷ [])) where
   abbrev node : NodeStore
   node = holds.steady.node
 
@@ -159,7 +159,7 @@ module _ {S : Type 0} (M : MachineMeaning S) (net : Cluster) (w : Worlds) (p : �
 
 -- ---- the stops
 
-module _ {S : Type 0} (M : MachineMeaning S) (net : Cluster) (w : Worlds) (p : ℕ) (h : Here) (stop : StopRec) (holds : Holds M net w) (below : List IrActivation) (top : IrActivation) (t : TopAt net w p h stop holds.steady.node below top) where
+module _ {S : Type 0} (M : MachineMeaning S) (net : Cluster) (w : IrWorld) (p : ℕ) (h : Here) (stop : StopRec) (holds : Holds M net w) (below : List IrActivation) (top : IrActivation) (t : TopAt net w p h stop holds.steady.node below top) where
   abbrev one : net.nodes ≡ holds.steady.node ∷ []
   one = holds.steady.one
 
@@ -304,7 +304,7 @@ module _ {S : Type 0} (M : MachineMeaning S) (net : Cluster) (w : Worlds) (p : �
 -- ---- together
 
 -- the stop of the top frame
-stop_found : {S : Type 0} (M : MachineMeaning S) (net : Cluster) (w : Worlds) (p : ℕ) (h : Here) → Holds M net w → IsHere net p h → ReadyTop net.program w p → (stop : StopRec) × (stop_at net.program h.operation h.at ≡ Some stop)
+stop_found : {S : Type 0} (M : MachineMeaning S) (net : Cluster) (w : IrWorld) (p : ℕ) (h : Here) → Holds M net w → IsHere net p h → ReadyTop net.program w p → (stop : StopRec) × (stop_at net.program h.operation h.at ≡ Some stop)
 stop_found M net w p h holds here r =
     let z = r.stack.top r.top (top_of-push r.below r.top) in
     let g = here_at M net w p r.below r.top holds.steady holds.shows r.is in
@@ -313,11 +313,11 @@ stop_found M net w p h holds here r =
     let at : h.at ≡ r.top.at = same.at ∙ g.at in
     (z.at, ap (λ (o : ℕ). stop_at net.program o h.at) operation ∙ ap (λ (i : ℕ). stop_at net.program r.top.operation i) at ∙ z.rests.at_is)
 
-process_within : (net : Cluster) (w : Worlds) (p : ℕ) → Shows net w → status_at w p ≡ Some Ready → p < length net.statuses
+process_within : (net : Cluster) (w : IrWorld) (p : ℕ) → Shows net w → status_at w p ≡ Some Ready → p < length net.statuses
 process_within net w p shows ready = get_within net.statuses p Ready (status_shown net w p shows ∙ ready)
 
 -- one more object can be numbered
-pub can_act : {S : Type 0} (M : MachineMeaning S) (net : Cluster) (w : Worlds) (p : ℕ) (h : Here) → Holds M net w → status_at w p ≡ Some Ready → IsHere net p h → length net.places < 2 ^ 32 - 1 → CanAct net p h
+pub can_act : {S : Type 0} (M : MachineMeaning S) (net : Cluster) (w : IrWorld) (p : ℕ) (h : Here) → Holds M net w → status_at w p ≡ Some Ready → IsHere net p h → length net.places < 2 ^ 32 - 1 → CanAct net p h
 can_act M net w p h holds ready here few =
     let s = stop_found M net w p h holds here (ready_top net.program w p holds.fine ready) in
     let t = read_top M net w p h s.0 holds here s.1 holds.steady.node holds.steady.one ready in

@@ -19,7 +19,7 @@ use Rattle.ec_frames.specs.declared.node.NodeStore.{NodeStore}
 use Rattle.ec_frames.specs.Node.{store_of, Laid}
 use Rattle.ec_network.specs.declared.cluster.Cluster.{Cluster}
 use Rattle.ec_network.specs.declared.kernel.Here.{Here}
-use Rattle.ec_network.specs.Shows.{Worlds, Shows, stores, spot, place}
+use Rattle.ec_network.specs.Shows.{IrWorld, Shows, stores, spot, place}
 use Rattle.ec_network.specs.Worlds.{status_of, status_at}
 use Rattle.ec_network.specs.Steps.{FineMiddle}
 use Rattle.ec_network.specs.Holds.{Steady, Holds}
@@ -32,7 +32,7 @@ use Rattle.ec_network.proofs.ActionsTop.{ready_top}
 
 -- ---- statuses
 
-pub ready_is : (net : Cluster) (w : Worlds) (p : ℕ) → Shows net w → slice_get net.statuses p ≡ slice_get (statuses_of w) p
+pub ready_is : (net : Cluster) (w : IrWorld) (p : ℕ) → Shows net w → slice_get net.statuses p ≡ slice_get (statuses_of w) p
 ready_is net w p shows = ap (λ (xs : List ProcStatus). slice_get xs p) shows.statuses
 
 status_in : (ps : List (Proc IrActivation)) (p : ℕ) → slice_get (map (λ (q : Proc IrActivation). q.status) ps) p ≡ status_of (slice_get ps p)
@@ -40,11 +40,11 @@ status_in [] p = refl
 status_in (q ∷ qs) zero = refl
 status_in (q ∷ qs) (suc p) = status_in qs p
 
-pub status_is : (w : Worlds) (p : ℕ) → slice_get (statuses_of w) p ≡ status_at w p
+pub status_is : (w : IrWorld) (p : ℕ) → slice_get (statuses_of w) p ≡ status_at w p
 status_is w p = status_in w.processes p
 
 -- the status of a process as the network has it
-pub status_shown : (net : Cluster) (w : Worlds) (p : ℕ) → Shows net w → slice_get net.statuses p ≡ status_at w p
+pub status_shown : (net : Cluster) (w : IrWorld) (p : ℕ) → Shows net w → slice_get net.statuses p ≡ status_at w p
 status_shown net w p shows = ready_is net w p shows ∙ status_is w p
 
 -- ---- frames
@@ -63,10 +63,10 @@ pub record FrameFound (node : NodeStore) (p d : ℕ) (a : IrActivation) : Type 0
   pub small : block < node.blocks
   pub heads : (i n : ℕ) → slice_get (heads_of p d a) i ≡ Some n → (store_of node).word block i ≡ Some n
 
-pub laid_one : (net : Cluster) (w : Worlds) (node : NodeStore) → Shows net w → net.nodes ≡ node ∷ [] → Laid node
+pub laid_one : (net : Cluster) (w : IrWorld) (node : NodeStore) → Shows net w → net.nodes ≡ node ∷ [] → Laid node
 laid_one net w node shows one = shows.laid 0 node (ap (λ (ns : List NodeStore). slice_get ns 0) one)
 
-pub frame_found : (net : Cluster) (w : Worlds) (p d : ℕ) (node : NodeStore) (xs : List IrActivation) (a : IrActivation) → Shows net w → net.nodes ≡ node ∷ [] → slice_get w.processes p ≡ Some (ready_with xs) → slice_get xs d ≡ Some a → FrameFound node p d a
+pub frame_found : (net : Cluster) (w : IrWorld) (p d : ℕ) (node : NodeStore) (xs : List IrActivation) (a : IrActivation) → Shows net w → net.nodes ≡ node ∷ [] → slice_get w.processes p ≡ Some (ready_with xs) → slice_get xs d ≡ Some a → FrameFound node p d a
 frame_found net w p d node xs a shows one is at =
     let shown = shown_here (live_values net.program) (spot net.program net.images) (stores net) w (place w) (store_of node) shows.nodes (alone_net net node one) (Frame p d) (frame_thing (live_values net.program) (spot net.program net.images) p d a)
     (ap (frame_if (live_values net.program) (spot net.program net.images) p d) (activation_is w.processes p d (ready_with xs) is ∙ at)) in
@@ -93,7 +93,7 @@ pub record HereOf (net : Cluster) (p : ℕ) (top : IrActivation) : Type 0 where
   pub at : here.at ≡ top.at
 
 -- where process p has these activations, its top frame is the last one's
-pub here_at : {S : Type 0} (M : MachineMeaning S) (net : Cluster) (w : Worlds) (p : ℕ) (below : List IrActivation) (top : IrActivation) → Steady M net → Shows net w → slice_get w.processes p ≡ Some (ready_with (below ++ top ∷ [])) → HereOf net p top
+pub here_at : {S : Type 0} (M : MachineMeaning S) (net : Cluster) (w : IrWorld) (p : ℕ) (below : List IrActivation) (top : IrActivation) → Steady M net → Shows net w → slice_get w.processes p ≡ Some (ready_with (below ++ top ∷ [])) → HereOf net p top
 here_at M net w p below top steady shows is =
     let f = frame_found net w p (length below) steady.node (below ++ top ∷ []) top shows steady.one is (get_end below top) in
     record {
@@ -119,14 +119,14 @@ here_at M net w p below top steady shows is =
     }
 
 -- between two turns
-pub here_exists : {S : Type 0} (M : MachineMeaning S) (net : Cluster) (w : Worlds) (p : ℕ) → Holds M net w → status_at w p ≡ Some Ready → (h : Here) × IsHere net p h
+pub here_exists : {S : Type 0} (M : MachineMeaning S) (net : Cluster) (w : IrWorld) (p : ℕ) → Holds M net w → status_at w p ≡ Some Ready → (h : Here) × IsHere net p h
 here_exists M net w p holds ready =
     let r = ready_top net.program w p holds.fine ready in
     let h = here_at M net w p r.below r.top holds.steady holds.shows r.is in
     (h.here, h.is)
 
 -- in the middle of a turn
-pub here_middle : {S : Type 0} (M : MachineMeaning S) (net : Cluster) (w : Worlds) (p : ℕ) → Shows net w → FineMiddle net.program w p → Steady M net → (h : Here) × IsHere net p h
+pub here_middle : {S : Type 0} (M : MachineMeaning S) (net : Cluster) (w : IrWorld) (p : ℕ) → Shows net w → FineMiddle net.program w p → Steady M net → (h : Here) × IsHere net p h
 here_middle M net w p shows middle steady =
     let xs : List IrActivation = middle.process.activations in
     let stack = middle.stack in

@@ -4,7 +4,7 @@ use Rattle.ec_world.specs.Moves.{OperatorMove, is_idle_move}
 use Rattle.ec_stops.specs.Machine.{MachineMeaning}
 use Rattle.ec_network.specs.declared.cluster.Cluster.{Cluster}
 use Rattle.ec_network.specs.declared.network.Did.TheVariants.{Idle, Moved}
-use Rattle.ec_network.specs.Shows.{Worlds}
+use Rattle.ec_network.specs.Shows.{IrWorld}
 use Rattle.ec_network.specs.Holds.{Holds}
 use Rattle.ec_network.specs.Net.{Net, whole_net, EntryFits}
 use Rattle.ec_network.specs.Answers.{MoveAnswer, ForShown}
@@ -12,7 +12,7 @@ use Rattle.ec_network.proofs.ActionsAfter.{strings_stand}
 use Rattle.ec_network.proofs.ActionsMoves.{move_holds, move_after}
 use Rattle.ec_network.proofs.ActionsRoom.{none_lacks}
 
-module _ {S : Type 0} (M : MachineMeaning S) (net : Cluster) (w : Worlds) (holds : Holds M net w) (o k : ℕ) where
+module _ {S : Type 0} (M : MachineMeaning S) (net : Cluster) (w : IrWorld) (holds : Holds M net w) (o k : ℕ) where
   -- no node lacks room
   pub move_fits : EntryFits net w (OperatorMove w o k)
   move_fits =
@@ -43,14 +43,14 @@ module _ {S : Type 0} (M : MachineMeaning S) (net : Cluster) (w : Worlds) (holds
   }
 
 -- of each world that a whole network shows
-module _ {S : Type 0} (M : MachineMeaning S) (net : Net) (shown : Cluster) (o k : ℕ) (whole : net.whole ≡ true) (loaded : net.loaded ≡ Some shown) (test : Bool) (is : (w : Worlds) → Holds M shown w → test ≡ is_idle_move w.common o k) where
+module _ {S : Type 0} (M : MachineMeaning S) (net : Net) (shown : Cluster) (o k : ℕ) (whole : net.whole ≡ true) (loaded : net.loaded ≡ Some shown) (test : Bool) (is : (w : IrWorld) → Holds M shown w → test ≡ is_idle_move w.common o k) where
   same_net : (c : Cluster) → net.loaded ≡ Some c → net ≡ whole_net c
   same_net c e = by_parts net.loaded net.whole e whole
     where
       by_parts : (x : Option Cluster) (b : Bool) → x ≡ Some c → b ≡ true → record { loaded = x; whole = b } ≡ whole_net c
       by_parts x b f g = cc
 
-  test_is : (c : Cluster) (w : Worlds) → net.loaded ≡ Some c → Holds M c w → test ≡ is_idle_move w.common o k
+  test_is : (c : Cluster) (w : IrWorld) → net.loaded ≡ Some c → Holds M c w → test ≡ is_idle_move w.common o k
   test_is c w e holds = let same : shown ≡ c = cc in is w (subst (λ (x : Cluster). Holds M x w) (sym same) holds)
 
   pub answer_idle : test ≡ true → ForShown M net (λ c w. MoveAnswer M c w o k net Idle)

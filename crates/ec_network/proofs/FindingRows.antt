@@ -21,7 +21,7 @@ use Rattle.ec_frames.specs.declared.node.NodeStore.{NodeStore}
 use Rattle.ec_frames.specs.declared.node.Row.{Row}
 use Rattle.ec_frames.specs.Node.{store_of, row_of, owned_of}
 use Rattle.ec_network.specs.declared.cluster.Cluster.{Cluster}
-use Rattle.ec_network.specs.Shows.{Worlds, stores, spot, place}
+use Rattle.ec_network.specs.Shows.{IrWorld, stores, spot, place}
 use Rattle.ec_network.specs.Worlds.{FineFacts}
 use Rattle.ec_network.specs.Holds.{Holds}
 use Rattle.ec_network.specs.Net.{fixed_if}
@@ -29,7 +29,7 @@ use Rattle.ec_network.specs.Readers.{RowOf}
 use Rattle.ec_network.proofs.ActionsStores.{alone_net, shown_here}
 use Rattle.ec_network.proofs.Nodes.{the_node}
 
-module _ {S : Type 0} (M : MachineMeaning S) (net : Cluster) (w : Worlds) (node : NodeStore) (holds : Holds M net w) (at : slice_get net.nodes 0 ≡ Some node) where
+module _ {S : Type 0} (M : MachineMeaning S) (net : Cluster) (w : IrWorld) (node : NodeStore) (holds : Holds M net w) (at : slice_get net.nodes 0 ≡ Some node) where
   one : net.nodes ≡ node ∷ []
   one = holds.steady.one ∙ ap (λ (n : NodeStore). n ∷ []) (sym (the_node net.nodes holds.steady.node node holds.steady.one at))
 
@@ -58,30 +58,30 @@ module _ {S : Type 0} (M : MachineMeaning S) (net : Cluster) (w : Worlds) (node 
           cc (shown.there)
 
 module _ {S : Type 0} (M : MachineMeaning S) (net : Cluster) (node : NodeStore) (at : slice_get net.nodes 0 ≡ Some node) (o : ℕ) where
-  pub row_read : (x : Option (Bor Row)) → IfSome x (λ r. (row_of node.rows (Object o) ≡ Some (owned_of r.now)) × (r.now.key ≡ Object o)) → IfSome x (λ r. (w : Worlds) → Holds M net w → RowOf w o r.now)
+  pub row_read : (x : Option (Bor Row)) → IfSome x (λ r. (row_of node.rows (Object o) ≡ Some (owned_of r.now)) × (r.now.key ≡ Object o)) → IfSome x (λ r. (w : IrWorld) → Holds M net w → RowOf w o r.now)
   row_read None h = tt
   row_read (Some r) h = λ w holds. row_shown M net w node holds at o r.now h.0
 
-  pub none_read : (x : Option (Bor Row)) → IfNone x (row_of node.rows (Object o) ≡ None) → IfNone x ((w : Worlds) → Holds M net w → object_at w.common.objects o ≡ None)
+  pub none_read : (x : Option (Bor Row)) → IfNone x (row_of node.rows (Object o) ≡ None) → IfNone x ((w : IrWorld) → Holds M net w → object_at w.common.objects o ≡ None)
   none_read None h = λ w holds. row_none M net w node holds at o h
   none_read (Some r) h = tt
 
 -- ---- moves by the operator
 
 -- no class has fields, so that an object is its whole group
-none_attached : (program : Parts) (w : Worlds) → Fine program → FineFacts program w → (k : ClassRec) → Has w.common.classes k → HasNoAttached k
+none_attached : (program : Parts) (w : IrWorld) → Fine program → FineFacts program w → (k : ClassRec) → Has w.common.classes k → HasNoAttached k
 none_attached program w fine facts k h =
     let class = fine.classes h.at k (ap (λ (ks : List ClassRec). slice_get ks h.at) (sym facts.classes) ∙ h.is) in
     record { each = λ f g. absurd (has_none f (subst (λ (fs : List FieldRec). Has fs f) class.fields g)) }
 
-pub alone_here : (program : Parts) (w : Worlds) (o : ℕ) (object : ObjectRec) → Fine program → FineFacts program w → object_at w.common.objects o ≡ Some object → group_of w.common o ≡ o ∷ []
+pub alone_here : (program : Parts) (w : IrWorld) (o : ℕ) (object : ObjectRec) → Fine program → FineFacts program w → object_at w.common.objects o ≡ Some object → group_of w.common o ≡ o ∷ []
 alone_here program w o object fine facts e =
     let some : IsSome (object_at w.common.objects o) = rw e refl in
     let within = object_within w.common.objects o some in
     group_of_alone w.common o (λ y. links_of-none w.common y (none_attached program w fine facts)) within.0 within.1
 
 -- where the object is there, a move is idle if the node isn't there or the object is fixed
-pub idle_is : (program : Parts) (w : Worlds) (o k : ℕ) (object : ObjectRec) → Fine program → FineFacts program w → object_at w.common.objects o ≡ Some object → is_idle_move w.common o k ≡ (not (nat_lt k w.common.nodes) || (object.fixed || false))
+pub idle_is : (program : Parts) (w : IrWorld) (o k : ℕ) (object : ObjectRec) → Fine program → FineFacts program w → object_at w.common.objects o ≡ Some object → is_idle_move w.common o k ≡ (not (nat_lt k w.common.nodes) || (object.fixed || false))
 idle_is program w o k object fine facts e =
     ap (λ (g : List ℕ). not (is_there (object_at w.common.objects o)) || (not (nat_lt k w.common.nodes) || any_fixed w.common g)) (alone_here program w o object fine facts e)
     ∙ ap (λ (x : Option ObjectRec). not (is_there x) || (not (nat_lt k w.common.nodes) || (group_fixed x || false))) e
@@ -97,7 +97,7 @@ either_false false = refl
 not_below : (n k : ℕ) → nat_le n k ≡ not (nat_lt k n)
 not_below n k = grind (arith, nat_tests)
 
-module _ {S : Type 0} (M : MachineMeaning S) (net : Cluster) (w : Worlds) (holds : Holds M net w) (o k : ℕ) where
+module _ {S : Type 0} (M : MachineMeaning S) (net : Cluster) (w : IrWorld) (holds : Holds M net w) (o k : ℕ) where
   pub idle_fixed : Some true ≡ fixed_if (object_at w.common.objects o) → true ≡ is_idle_move w.common o k
   idle_fixed h = by_object (object_at w.common.objects o) refl h
     where

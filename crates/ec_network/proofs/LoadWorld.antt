@@ -1,11 +1,11 @@
 -- The first world: it is one between two entries, and its texts are literals.
-use Rattle.std.proofs.Common.{◌≡◌, ℕ, zero, suc, ◌<◌, ◌≤◌, List, [], ◌∷◌, Some, None, refl, sym, ap, ◌∙◌, subst, arith, inl, inr, ⊎_elim, ◌⊎◌}
+use Rattle.std.proofs.Common.{◌≡◌, ℕ, zero, suc, ◌<◌, ◌≤◌, List, [], ◌∷◌, length, Some, None, refl, sym, ap, ◌∙◌, subst, arith, inl, inr, ⊎_elim, ◌⊎◌}
 use Rattle.std.specs.Prelude.{slice_get, map, ◌↔◌}
 use Rattle.ec_world.specs.declared.value.Value.{Value}
 use Rattle.ec_world.specs.declared.value.Value.TheVariants.{Str}
 use Rattle.ec_world.specs.declared.value.ValueType.{ValueType}
 use Rattle.ec_world.specs.declared.value.ValueType.TheVariants.{Integer, Boolean, Bytes, Reference}
-use Rattle.ec_world.specs.declared.class.ClassNo.TheVariants.{Node, Program}
+use Rattle.ec_world.specs.declared.class.ClassNo.TheVariants.{Node, Program, Made}
 use Rattle.ec_world.specs.declared.object.ObjectRec.{ObjectRec}
 use Rattle.ec_world.specs.declared.process.Proc.{Proc}
 use Rattle.ec_world.specs.declared.process.ProcStatus.TheVariants.{Ready}
@@ -107,6 +107,12 @@ module _ (program : Parts) (fine : Fine program) where
       (λ (h : (i ≡ 1) × (o ≡ program_object)). (λ l. absurd (let at = h.0 in omega arith), λ l. ap (λ (x : ObjectRec). x.fixed) h.1))
       (objects i o e)
 
+  none_made : (i k : ℕ) (o : ObjectRec) → slice_get (node_object ∷ program_object ∷ []) i ≡ Some o → o.class ≡ Made k → k < length program.classes
+  none_made i k o e m = ⊎_elim
+      (λ (h : (i ≡ 0) × (o ≡ node_object)). absurd (let class : o.class ≡ Node = ap (λ (x : ObjectRec). x.class) h.1 in let no : ⊥ = cc in no))
+      (λ (h : (i ≡ 1) × (o ≡ program_object)). absurd (let class : o.class ≡ Program = ap (λ (x : ObjectRec). x.class) h.1 in let no : ⊥ = cc in no))
+      (objects i o e)
+
   facts : FineFacts program (ir_start program 1)
   facts = record {
     classes = refl;
@@ -114,6 +120,7 @@ module _ (program : Parts) (fine : Fine program) where
     objects = no_fields;
     node_objects = of_nodes;
     fixed = fixed;
+    made = none_made;
     events = tt;
     placed = refl;
   }

@@ -23,7 +23,7 @@ use Rattle.ec_frames.specs.Owners.{FirstBlock}
 use Rattle.ec_network.specs.declared.cluster.Cluster.{Cluster}
 use Rattle.ec_network.specs.declared.kernel.Here.{Here}
 use Rattle.ec_network.specs.declared.kernel.Acted.TheVariants.{WentOn}
-use Rattle.ec_network.specs.Shows.{Worlds}
+use Rattle.ec_network.specs.Shows.{IrWorld}
 use Rattle.ec_network.specs.Worlds.{ir_action, ir_turn}
 use Rattle.ec_network.specs.Turns.{SamePools, Landed, GoesOn, TurnOf}
 use Rattle.ec_network.specs.Turns.StepsTo.{Runs}
@@ -44,7 +44,7 @@ pub no_trap : {S : Type 0} (M : MachineMeaning S) (traps : Trapping S) (code : C
 no_trap M traps code table op s bytes laws comes k to memory trap leads trapped =
     laws.apart.no_stop to memory trap trapped (comes.ends k to memory leads (λ u d st. laws.apart.trap_stays to memory trap u d trapped st))
 
-module _ {S : Type 0} (M : MachineMeaning S) (traps : Trapping S) (net : Cluster) (laws : HasLaws M net.images.rv.code.words traps) (w : Worlds) (p : ℕ) (h : Here) (node : NodeStore) (below : List IrActivation) (top : IrActivation) (now : GoingOn M net w p h node below top) where
+module _ {S : Type 0} (M : MachineMeaning S) (traps : Trapping S) (net : Cluster) (laws : HasLaws M net.images.rv.code.words traps) (w : IrWorld) (p : ℕ) (h : Here) (node : NodeStore) (below : List IrActivation) (top : IrActivation) (now : GoingOn M net w p h node below top) where
   first_is : (b : ℕ) → FirstBlock (store_of node) (Object h.own) b → b ≡ now.own.block
   first_is b first = own_block M net w p h node below top now first.row b first.there first.first
 
@@ -86,7 +86,7 @@ module _ {S : Type 0} (M : MachineMeaning S) (traps : Trapping S) (net : Cluster
 -- ---- once it has run
 
 -- a network that has gone on from one that shows w
-pub record GoneOn {S : Type 0} (M : MachineMeaning S) (net net' : Cluster) (w : Worlds) (p steps : ℕ) : Type 0 where
+pub record GoneOn {S : Type 0} (M : MachineMeaning S) (net net' : Cluster) (w : IrWorld) (p steps : ℕ) : Type 0 where
   pub before : IrActivation
   pub after : IrActivation
   pub top : top_of (stack_at w p) ≡ Some before
@@ -94,10 +94,10 @@ pub record GoneOn {S : Type 0} (M : MachineMeaning S) (net net' : Cluster) (w : 
   pub lands : top_of (stack_at (GoOn ir_meaning (ir_silent net.program) w p) p) ≡ Some after
   pub goes : GoesOn M w p (length (below_of (stack_at w p))) before after net net'
   pub holds : Holds M net' (GoOn ir_meaning (ir_silent net.program) w p)
-  pub pools : (first : Cluster) (v : Worlds) → SamePools first net v → SamePools first net' v
+  pub pools : (first : Cluster) (v : IrWorld) → SamePools first net v → SamePools first net' v
   pub few : (op : ℕ) → before.operation ≡ op → steps ≤ suc (words_of net.images.rv.code op)
 
-module _ {S : Type 0} (M : MachineMeaning S) (traps : Trapping S) (net net' : Cluster) (laws : HasLaws M net.images.rv.code.words traps) (w : Worlds) (p : ℕ) (h : Here) (steps : ℕ) (g : HasGoneOn M net net' h steps) where
+module _ {S : Type 0} (M : MachineMeaning S) (traps : Trapping S) (net net' : Cluster) (laws : HasLaws M net.images.rv.code.words traps) (w : IrWorld) (p : ℕ) (h : Here) (steps : ℕ) (g : HasGoneOn M net net' h steps) where
   pub has_gone_on : (below : List IrActivation) (top : IrActivation) → GoingOn M net w p h g.node below top → GoneOn M net net' w p steps
   has_gone_on below top now =
       let stands : StandsBehind M g.from g.address h.block now.own.block = stands_own M traps net laws w p h g.node below top now g.block g.from g.address g.own g.stands in
@@ -125,7 +125,7 @@ module _ {S : Type 0} (M : MachineMeaning S) (traps : Trapping S) (net net' : Cl
 
 -- ---- a turn whose action is done
 
-module _ {S : Type 0} (M : MachineMeaning S) (traps : Trapping S) (net m : Cluster) (laws : HasLaws M m.images.rv.code.words traps) (w : Worlds) (p : ℕ) (h : Here) (acted : AfterAction M net w p m WentOn) (here : IsHere m p h) where
+module _ {S : Type 0} (M : MachineMeaning S) (traps : Trapping S) (net m : Cluster) (laws : HasLaws M m.images.rv.code.words traps) (w : IrWorld) (p : ℕ) (h : Here) (acted : AfterAction M net w p m WentOn) (here : IsHere m p h) where
   middle_fine : FineMiddle m.program (ir_action w p) p
   middle_fine = subst (λ (q : Parts). FineMiddle q (ir_action w p) p) (sym acted.middle.machines.program) acted.outcome
 
@@ -149,11 +149,11 @@ module _ {S : Type 0} (M : MachineMeaning S) (traps : Trapping S) (net m : Clust
 
     -- and then the network shows the world after the turn
     pub turn_holds : Holds M net' (ir_turn net.program w p)
-    turn_holds = subst (λ (v : Worlds). Holds M net' v) turn_is gone.holds
+    turn_holds = subst (λ (v : IrWorld). Holds M net' v) turn_is gone.holds
 
     pub turn_runs : TurnOf M net w p net'
     turn_runs = record {
-      steps = Runs m gone.before gone.after acted.middle gone.top gone.done (ap (λ (v : Worlds). top_of (stack_at v p)) (sym turn_is) ∙ gone.lands) gone.goes turn_holds.shows;
+      steps = Runs m gone.before gone.after acted.middle gone.top gone.done (ap (λ (v : IrWorld). top_of (stack_at v p)) (sym turn_is) ∙ gone.lands) gone.goes turn_holds.shows;
       pools = gone.pools net (ir_action w p) acted.pools;
     }
 

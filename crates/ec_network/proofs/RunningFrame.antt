@@ -23,7 +23,7 @@ use Rattle.ec_frames.specs.declared.node.NodeStore.{NodeStore}
 use Rattle.ec_frames.specs.Node.{store_of, row_of, local_in, Laid}
 use Rattle.ec_network.specs.declared.cluster.Cluster.{Cluster}
 use Rattle.ec_network.specs.declared.kernel.Here.{Here}
-use Rattle.ec_network.specs.Shows.{Worlds, spot}
+use Rattle.ec_network.specs.Shows.{IrWorld, spot}
 use Rattle.ec_network.specs.Turns.{Landed}
 use Rattle.ec_network.proofs.ActionsFrames.{FrameStands, SlotStands, heads_of, live_below, shows_frame}
 use Rattle.ec_network.proofs.RunningTop.{GoingOn, steady_riscv}
@@ -39,7 +39,7 @@ head_of_two p d op at x own op' at' x' own' (suc (suc (suc (suc zero)))) n e f h
 head_of_two p d op at x own op' at' x' own' (suc (suc (suc (suc (suc zero))))) n e f h k g = cc
 head_of_two p d op at x own op' at' x' own' (suc (suc (suc (suc (suc (suc i)))))) n e f h k g = cc
 
-module _ {S : Type 0} (M : MachineMeaning S) (net : Cluster) (w : Worlds) (p : ℕ) (h : Here) (node : NodeStore) (below : List IrActivation) (top : IrActivation) (now : GoingOn M net w p h node below top) (number : M.number ≡ little_number) where
+module _ {S : Type 0} (M : MachineMeaning S) (net : Cluster) (w : IrWorld) (p : ℕ) (h : Here) (node : NodeStore) (below : List IrActivation) (top : IrActivation) (now : GoingOn M net w p h node below top) (number : M.number ≡ little_number) where
   abbrev after : IrActivation
   after = next M net w p h node below top now
 

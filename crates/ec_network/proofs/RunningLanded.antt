@@ -12,7 +12,7 @@ use Rattle.ec_stops.specs.Faithful.{home_in, stop_in}
 use Rattle.ec_frames.specs.declared.node.NodeStore.{NodeStore}
 use Rattle.ec_frames.specs.Node.{store_of}
 use Rattle.ec_network.specs.Turns.{Landed}
-use Rattle.ec_network.specs.Holds.{HasSlots}
+use Rattle.rv_codegen.specs.Code.{HasSlots}
 use Rattle.ec_network.specs.Kernel.{stop_head, pending_head}
 use Rattle.ec_network.specs.Running.{RanTo}
 use Rattle.ec_network.proofs.ActionsFrames.{HasVariables, live_below}
@@ -25,7 +25,7 @@ module _ (node node' : NodeStore) (memory : Bytes) (f at steps : ℕ) (r : RanTo
   ran_global : (i : ℕ) → (store_of node').global i ≡ word_in little_number memory (global_word_at i)
   ran_global i = r.pending.tables.rest.global i ∙ r.stop.tables.rest.global i ∙ ap (λ (m : Bytes). word_in little_number m (global_word_at i)) r.bytes
 
-  pub landed : {S : Type 0} (M : MachineMeaning S) → M.number ≡ little_number → (program : Parts) (table : StopTable) → HasSlots program table → (a : IrActivation) → HasVariables program a → at ≡ a.at → (t : S) → stop_in table a.operation a.at ≡ Some (M.place t) → Landed M program table f a t memory steps node node'
+  pub landed : {S : Type 0} (M : MachineMeaning S) → M.number ≡ little_number → (program : Parts) (table : StopTable) → HasSlots table program → (a : IrActivation) → HasVariables program a → at ≡ a.at → (t : S) → stop_in table a.operation a.at ≡ Some (M.place t) → Landed M program table f a t memory steps node node'
   landed M number program table slots a v same t is =
       let order : (at : ℕ) → word_in little_number memory at ≡ word_in M.number memory at = λ at. ap (λ (g : ℕ → List ℕ → ℕ). word_in g memory at) (sym number) in
       record {

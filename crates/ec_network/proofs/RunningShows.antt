@@ -32,12 +32,12 @@ use Rattle.ec_frames.specs.Node.{store_of, Laid}
 use Rattle.ec_network.specs.declared.cluster.Cluster.{Cluster}
 use Rattle.ec_network.specs.declared.image.Images.{Images}
 use Rattle.ec_network.specs.declared.kernel.Here.{Here}
-use Rattle.ec_network.specs.Shows.{Worlds, Shows, stores, spot, place}
+use Rattle.ec_network.specs.Shows.{IrWorld, Shows, stores, spot, place}
 use Rattle.ec_network.specs.Room.{Strings}
 use Rattle.ec_network.specs.Worlds.{FineProcess, FineStack, FineFacts, FineWorld}
 use Rattle.ec_network.specs.Turns.{SameMachines, SamePools, FaithfulImages, Landed, RunsAt, RunsOn, GoesOn}
-use Rattle.rv_codegen.specs.Code.{SmallCode}
-use Rattle.ec_network.specs.Holds.{HasSlots, Steady, Holds}
+use Rattle.rv_codegen.specs.Code.{HasSlots, SmallCode}
+use Rattle.ec_network.specs.Holds.{Steady, Holds}
 use Rattle.ec_network.proofs.ActionsLists.{set_end}
 use Rattle.ec_network.proofs.ActionsStores.{alone_net, alone_put, alone_is}
 use Rattle.ec_network.proofs.ActionsOrder.{ready_with, order_last, fine_stack}
@@ -49,13 +49,13 @@ use Rattle.ec_network.proofs.RunningFits.{fits_here}
 use Rattle.ec_network.proofs.RunningWords.{EndsAt, next, next_operation, next_own, next_pending}
 use Rattle.ec_network.proofs.RunningFrame.{run_puts}
 
-module _ {S : Type 0} (M : MachineMeaning S) (net : Cluster) (w : Worlds) (p : ℕ) (h : Here) (node : NodeStore) (below : List IrActivation) (top : IrActivation) (now : GoingOn M net w p h node below top) where
+module _ {S : Type 0} (M : MachineMeaning S) (net : Cluster) (w : IrWorld) (p : ℕ) (h : Here) (node : NodeStore) (below : List IrActivation) (top : IrActivation) (now : GoingOn M net w p h node below top) where
   abbrev after : IrActivation
   after = next M net w p h node below top now
 
   -- ---- the world after
 
-  abbrev w' : Worlds
+  abbrev w' : IrWorld
   w' = with_process w w.common p (ready_with (below ++ after ∷ []))
 
   stack_is : stack_at w p ≡ below ++ top ∷ []
@@ -98,6 +98,7 @@ module _ {S : Type 0} (M : MachineMeaning S) (net : Cluster) (w : Worlds) (p : �
     objects = now.middle.facts.objects;
     node_objects = now.middle.facts.node_objects;
     fixed = now.middle.facts.fixed;
+    made = now.middle.facts.made;
     events = now.middle.facts.events;
     placed = now.middle.facts.placed;
   }
@@ -142,7 +143,7 @@ module _ {S : Type 0} (M : MachineMeaning S) (net : Cluster) (w : Worlds) (p : �
           record {
             fine = subst (λ (q : Parts). Fine q) (sym c.program) s.fine;
             faithful = subst (λ (q : Parts). FaithfulImages M q net'.images) (sym c.program) (subst (λ (i : Images). FaithfulImages M net.program i) (sym c.images) s.faithful);
-            slots = subst (λ (q : Parts). HasSlots q net'.images.rv.table) (sym c.program) (subst (λ (i : Images). HasSlots net.program i.rv.table) (sym c.images) s.slots);
+            slots = subst (λ (q : Parts). HasSlots net'.images.rv.table q) (sym c.program) (subst (λ (i : Images). HasSlots i.rv.table net.program) (sym c.images) s.slots);
             small = subst (λ (i : Images). SmallCode i.rv.table i.rv.code) (sym c.images) s.small;
             node = node';
             one = c.after;
@@ -156,7 +157,7 @@ module _ {S : Type 0} (M : MachineMeaning S) (net : Cluster) (w : Worlds) (p : �
           }
 
       -- the pool has what it had, so what is told of the pools since an earlier network stays true
-      pub pools_run : (first : Cluster) (v : Worlds) → SamePools first net v → SamePools first net' v
+      pub pools_run : (first : Cluster) (v : IrWorld) → SamePools first net v → SamePools first net' v
       pools_run first v pools = record { each = each }
         where
           each : (k : ℕ) (s s' : Store) (text : List ℕ) → stores first k ≡ Some s → stores net' k ≡ Some s' → InPool s' text ↔ (InPool s text ⊎ Strings first.program v k text)
@@ -190,14 +191,14 @@ module _ {S : Type 0} (M : MachineMeaning S) (net : Cluster) (w : Worlds) (p : �
 
       -- the network keeps what it should, and shows the world after the code
       pub holds_after : Holds M net' (GoOn ir_meaning (ir_silent net.program) w p)
-      holds_after = subst (λ (v : Worlds). Holds M net' v) (sym goes_on_to) (record {
+      holds_after = subst (λ (v : IrWorld). Holds M net' v) (sym goes_on_to) (record {
         shows = shows_run;
         fine = subst (λ (q : Parts). FineWorld q w') (sym c.program) fine_after;
         steady = steady_run landed.pool;
       })
 
       pub top_lands : top_of (stack_at (GoOn ir_meaning (ir_silent net.program) w p) p) ≡ Some after
-      top_lands = ap (λ (v : Worlds). top_of (stack_at v p)) goes_on_to ∙ top_after
+      top_lands = ap (λ (v : IrWorld). top_of (stack_at v p)) goes_on_to ∙ top_after
 
       -- ---- how it got there
 

@@ -23,7 +23,7 @@ use Rattle.ec_frames.specs.declared.node.NodeStore.{NodeStore}
 use Rattle.ec_frames.specs.Node.{store_of, Laid}
 use Rattle.ec_network.specs.declared.cluster.Cluster.{Cluster}
 use Rattle.ec_network.specs.declared.kernel.Here.{Here}
-use Rattle.ec_network.specs.Shows.{Worlds, Shows, stores, spot, place}
+use Rattle.ec_network.specs.Shows.{IrWorld, Shows, stores, spot, place}
 use Rattle.ec_network.specs.Worlds.{FineFacts}
 use Rattle.ec_network.specs.Steps.{IsDone, FineMiddle}
 use Rattle.ec_network.specs.Holds.{Steady}
@@ -38,7 +38,7 @@ use Rattle.ec_network.proofs.ActionsMarking.{frame_at}
 -- ---- the top activation
 
 -- process p goes on with `top`, whose action is done, and what the kernel reads is what it has
-pub record TopDone (net : Cluster) (w : Worlds) (p : ℕ) (h : Here) (node : NodeStore) (below : List IrActivation) (top : IrActivation) : Type 0 where
+pub record TopDone (net : Cluster) (w : IrWorld) (p : ℕ) (h : Here) (node : NodeStore) (below : List IrActivation) (top : IrActivation) : Type 0 where
   pub is : slice_get w.processes p ≡ Some (ready_with (below ++ top ∷ []))
   pub order : InOrder net.program w.common.nodes (length w.common.objects) (below ++ top ∷ [])
   pub done : IsDone net.program w.common.nodes (length w.common.objects) top
@@ -55,7 +55,7 @@ pub record TopDone (net : Cluster) (w : Worlds) (p : ℕ) (h : Here) (node : Nod
 pub steady_riscv : {S : Type 0} (M : MachineMeaning S) (net : Cluster) (node : NodeStore) → Steady M net → net.nodes ≡ node ∷ [] → node.kind ≡ Riscv
 steady_riscv M net node steady one = let same : steady.node ≡ node = cc (steady.one) in ap (λ (n : NodeStore). n.kind) (sym same) ∙ steady.riscv
 
-module _ {S : Type 0} (M : MachineMeaning S) (net : Cluster) (w : Worlds) (p : ℕ) (h : Here) (node : NodeStore) (steady : Steady M net) (shows : Shows net w) (middle : FineMiddle net.program w p) (here : IsHere net p h) (one : net.nodes ≡ node ∷ []) where
+module _ {S : Type 0} (M : MachineMeaning S) (net : Cluster) (w : IrWorld) (p : ℕ) (h : Here) (node : NodeStore) (steady : Steady M net) (shows : Shows net w) (middle : FineMiddle net.program w p) (here : IsHere net p h) (one : net.nodes ≡ node ∷ []) where
   module _ (below : List IrActivation) (top : IrActivation) (is : slice_get w.processes p ≡ Some (ready_with (below ++ top ∷ []))) (order : InOrder net.program w.common.nodes (length w.common.objects) (below ++ top ∷ [])) (done : IsDone net.program w.common.nodes (length w.common.objects) top) where
     depth_is : h.depth ≡ length below
     depth_is =
@@ -129,7 +129,7 @@ one_block Program h = refl
 one_block (Made k) h = refl
 
 -- an object at the one node, in one block
-pub record OwnHere (w : Worlds) (node : NodeStore) (oid : ℕ) : Type 0 where
+pub record OwnHere (w : IrWorld) (node : NodeStore) (oid : ℕ) : Type 0 where
   pub object : ObjectRec
   pub is : object_at w.common.objects oid ≡ Some object
   pub fields : object.fields ≡ []
@@ -139,7 +139,7 @@ pub record OwnHere (w : Worlds) (node : NodeStore) (oid : ℕ) : Type 0 where
   pub blocks : row.blocks ≡ block ∷ []
   pub small : block < node.blocks
 
-pub own_here : (net : Cluster) (w : Worlds) (node : NodeStore) (oid : ℕ) → Shows net w → FineFacts net.program w → net.nodes ≡ node ∷ [] → Laid node → w.common.nodes < oid → oid ≤ length w.common.objects → OwnHere w node oid
+pub own_here : (net : Cluster) (w : IrWorld) (node : NodeStore) (oid : ℕ) → Shows net w → FineFacts net.program w → net.nodes ≡ node ∷ [] → Laid node → w.common.nodes < oid → oid ≤ length w.common.objects → OwnHere w node oid
 own_here net w node zero shows facts one laid above below = absurd (omega arith)
 own_here net w node (suc i) shows facts one laid above below =
     let z = get_there w.common.objects i (omega arith) in
@@ -160,13 +160,13 @@ own_here net w node (suc i) shows facts one laid above below =
       small = laid.rows_in (Object (suc i)) shown.row b.0 shown.there (record { at = 0; is = ap (λ (bs : List ℕ). slice_get bs 0) b.1 });
     }
 
-pub own_of_done : (net : Cluster) (w : Worlds) (p : ℕ) (h : Here) (node : NodeStore) (below : List IrActivation) (top : IrActivation) → Shows net w → FineFacts net.program w → net.nodes ≡ node ∷ [] → TopDone net w p h node below top → OwnHere w node top.own
+pub own_of_done : (net : Cluster) (w : IrWorld) (p : ℕ) (h : Here) (node : NodeStore) (below : List IrActivation) (top : IrActivation) → Shows net w → FineFacts net.program w → net.nodes ≡ node ∷ [] → TopDone net w p h node below top → OwnHere w node top.own
 own_of_done net w p h node below top shows facts one t = own_here net w node top.own shows facts one t.laid t.done.rests.own.0 t.done.rests.own.1
 
 -- ---- together
 
 -- the network shows w, in which `top` of process p goes on, on its own object
-pub record GoingOn {S : Type 0} (M : MachineMeaning S) (net : Cluster) (w : Worlds) (p : ℕ) (h : Here) (node : NodeStore) (below : List IrActivation) (top : IrActivation) : Type 0 where
+pub record GoingOn {S : Type 0} (M : MachineMeaning S) (net : Cluster) (w : IrWorld) (p : ℕ) (h : Here) (node : NodeStore) (below : List IrActivation) (top : IrActivation) : Type 0 where
   pub steady : Steady M net
   pub shows : Shows net w
   pub middle : FineMiddle net.program w p
@@ -174,7 +174,7 @@ pub record GoingOn {S : Type 0} (M : MachineMeaning S) (net : Cluster) (w : Worl
   pub at : TopDone net w p h node below top
   pub own : OwnHere w node top.own
 
-pub going_on : {S : Type 0} (M : MachineMeaning S) (net : Cluster) (w : Worlds) (p : ℕ) (h : Here) (node : NodeStore) → Steady M net → Shows net w → FineMiddle net.program w p → IsHere net p h → net.nodes ≡ node ∷ [] → (below : List IrActivation) × (top : IrActivation) × GoingOn M net w p h node below top
+pub going_on : {S : Type 0} (M : MachineMeaning S) (net : Cluster) (w : IrWorld) (p : ℕ) (h : Here) (node : NodeStore) → Steady M net → Shows net w → FineMiddle net.program w p → IsHere net p h → net.nodes ≡ node ∷ [] → (below : List IrActivation) × (top : IrActivation) × GoingOn M net w p h node below top
 going_on M net w p h node steady shows middle here one =
     let t = top_is M net w p h node steady shows middle here one in (
       t.0,

@@ -15,7 +15,7 @@ use Rattle.ec_network.specs.Answers.{CanNumber}
 pub are_built : {S : Type 0} (M : MachineMeaning S) (program : Parts) (images : Images) → Faithful M images.rv.code images.rv.table program → HasSlots images.rv.table program → SmallCode images.rv.table images.rv.code → AreBuilt M program images
 are_built M program images faithful slots small = record {
   faithful = record { rv = faithful };
-  slots = record { each = slots.each };
+  slots = slots;
   small = small;
 }
 

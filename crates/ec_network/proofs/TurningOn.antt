@@ -21,7 +21,7 @@ use Rattle.ec_network.specs.declared.kernel.Acted.{Acted}
 use Rattle.ec_network.specs.declared.kernel.Acted.TheVariants.{WentOn, Began, EndedNow}
 use Rattle.ec_network.specs.declared.kernel.ActError.{ActError}
 use Rattle.ec_network.specs.declared.kernel.ActError.TheVariants.{Full, Memory}
-use Rattle.ec_network.specs.Shows.{Worlds}
+use Rattle.ec_network.specs.Shows.{IrWorld}
 use Rattle.ec_network.specs.Room.{Strings}
 use Rattle.ec_nodes.specs.Store.{Store}
 use Rattle.ec_nodes.specs.Held.{InPool}
@@ -46,15 +46,15 @@ use Rattle.ec_network.proofs.MachineLaws.{rv_laws}
 use Rattle.ec_network.proofs.Running.{can_run, turn_holds, turn_runs, turn_counts, turn_few}
 
 -- no code goes on from an action that is pending, nor for a process that isn't Ready
-waits_on : (program : Parts) (v : Worlds) (p : ℕ) (a : IrActivation) → top_of (stack_at v p) ≡ Some a → a.pending ≡ true → GoOn ir_meaning (ir_silent program) v p ≡ v
+waits_on : (program : Parts) (v : IrWorld) (p : ℕ) (a : IrActivation) → top_of (stack_at v p) ≡ Some a → a.pending ≡ true → GoOn ir_meaning (ir_silent program) v p ≡ v
 waits_on program v p a top pending =
     ap (λ t. go_on ir_meaning (ir_silent program) v p (below_of (stack_at v p)) t) top
     ∙ ap (λ b. go_on_unless ir_meaning (ir_silent program) v p (below_of (stack_at v p)) a b) pending
 
-rests_on : (program : Parts) (v : Worlds) (p : ℕ) → status_at v p ≢ Some Ready → GoOn ir_meaning (ir_silent program) v p ≡ v
+rests_on : (program : Parts) (v : IrWorld) (p : ℕ) → status_at v p ≢ Some Ready → GoOn ir_meaning (ir_silent program) v p ≡ v
 rests_on program v p h = ap (λ (xs : List IrActivation). go_on ir_meaning (ir_silent program) v p (below_of xs) (top_of xs)) (idle_stack (slice_get v.processes p) h)
 
-module _ {S : Type 0} (M : MachineMeaning S) (net m : Cluster) (w : Worlds) (p : ℕ) (h : Here) (stop : StopRec) (holds : Holds M net w) (ready : status_at w p ≡ Some Ready) (here : IsHere net p h) (stop_is : stop_at net.program h.operation h.at ≡ Some stop) where
+module _ {S : Type 0} (M : MachineMeaning S) (net m : Cluster) (w : IrWorld) (p : ℕ) (h : Here) (stop : StopRec) (holds : Holds M net w) (ready : status_at w p ≡ Some Ready) (here : IsHere net p h) (stop_is : stop_at net.program h.operation h.at ≡ Some stop) where
   after : (acted : Acted) → Acts net m p h stop acted → AfterAction M net w p m acted
   after acted acts = acts_after M net m w p h stop holds ready here stop_is acted acts
 
@@ -79,7 +79,7 @@ module _ {S : Type 0} (M : MachineMeaning S) (net m : Cluster) (w : Worlds) (p :
     rest_holds : FineWorld net.program (ir_action w p) → ir_turn net.program w p ≡ ir_action w p → Holds M m (ir_turn net.program w p)
     rest_holds fine same =
         let a = after acted acts in
-        subst (λ (v : Worlds). Holds M m v) (sym same)
+        subst (λ (v : IrWorld). Holds M m v) (sym same)
         (record {
           shows = a.middle.shows;
           fine = subst (λ (q : Parts). FineWorld q (ir_action w p)) (sym a.middle.machines.program) fine;
@@ -140,7 +140,7 @@ module _ {S : Type 0} (M : MachineMeaning S) (net m : Cluster) (w : Worlds) (p :
 
 -- ---- over RISC-V machines, of any world that the network shows
 
-module _ (net : Cluster) (w : Worlds) (p : ℕ) (holds : Holds rv_meaning net w) (status : slice_get net.statuses p ≡ Some Ready) where
+module _ (net : Cluster) (w : IrWorld) (p : ℕ) (holds : Holds rv_meaning net w) (status : slice_get net.statuses p ≡ Some Ready) where
   is_ready : status_at w p ≡ Some Ready
   is_ready = sym (status_shown net w p holds.shows) ∙ status
 
@@ -184,7 +184,7 @@ module _ (net : Cluster) (w : Worlds) (p : ℕ) (holds : Holds rv_meaning net w)
             turn_short = went_few rv_meaning net m w p h can.stop holds is_ready here can.is (done WentOn e) (rv_traps m.images.rv.code.words) (rv_laws m.images.rv.code.words) h' here' net' steps gone
 
 -- a refusal is exact
-pub refused : (T U : Type 0) (net : Cluster) (p : ℕ) (h : Here) (error : ActError) → slice_get net.statuses p ≡ Some Ready → IsHere net p h → length net.places < 2 ^ 32 - 1 → WhenLacks {T = T} (Err error) (FullHere net 0) → WhenLacks {T = T} (Err error) (λ need free. CreatesAt net h) → WhenLacks {T = U} (Err error) (λ need free. (w : Worlds) → Holds rv_meaning net w → EntryFull net w (ir_action w p) 0 Blocks need free)
+pub refused : (T U : Type 0) (net : Cluster) (p : ℕ) (h : Here) (error : ActError) → slice_get net.statuses p ≡ Some Ready → IsHere net p h → length net.places < 2 ^ 32 - 1 → WhenLacks {T = T} (Err error) (FullHere net 0) → WhenLacks {T = T} (Err error) (λ need free. CreatesAt net h) → WhenLacks {T = U} (Err error) (λ need free. (w : IrWorld) → Holds rv_meaning net w → EntryFull net w (ir_action w p) 0 Blocks need free)
 refused T U net p h Memory status here few full creates = tt
 refused T U net p h (Full need free) status here few full creates = λ w holds.
     let c = can net w p holds status h here few in
@@ -193,9 +193,9 @@ refused T U net p h (Full need free) status here few full creates = λ w holds.
 -- ---- what a turn answers
 
 -- a process that isn't Ready does nothing
-module _ {S : Type 0} (M : MachineMeaning S) (net : Cluster) (w : Worlds) (p : ℕ) (holds : Holds M net w) (idle : status_at w p ≢ Some Ready) where
+module _ {S : Type 0} (M : MachineMeaning S) (net : Cluster) (w : IrWorld) (p : ℕ) (holds : Holds M net w) (idle : status_at w p ≢ Some Ready) where
   no_turn : ir_turn net.program w p ≡ w
-  no_turn = ap (λ (v : Worlds). GoOn ir_meaning (ir_silent net.program) v p) (idle_action w p idle) ∙ rests_on net.program w p idle
+  no_turn = ap (λ (v : IrWorld). GoOn ir_meaning (ir_silent net.program) v p) (idle_action w p idle) ∙ rests_on net.program w p idle
 
   same_pools : SamePools net net w
   same_pools = record {
@@ -213,8 +213,8 @@ module _ {S : Type 0} (M : MachineMeaning S) (net : Cluster) (w : Worlds) (p : �
   idle_turn = record {
     after = net;
     is = refl;
-    turn = record { steps = Idles idle refl holds.shows; pools = subst (λ (v : Worlds). SamePools net net v) (sym (idle_action w p idle)) same_pools };
-    holds = subst (λ (v : Worlds). Holds M net v) (sym no_turn) holds;
+    turn = record { steps = Idles idle refl holds.shows; pools = subst (λ (v : IrWorld). SamePools net net v) (sym (idle_action w p idle)) same_pools };
+    holds = subst (λ (v : IrWorld). Holds M net v) (sym no_turn) holds;
     fits = none_full_idle M net w p holds idle;
     counts = counts;
     idle = (λ e. idle, λ h. refl);
@@ -241,7 +241,7 @@ module _ (net net' : Net) (shown : Cluster) (p : ℕ) (whole : net.whole ≡ tru
       let idle : status_at w p ≢ Some Ready = λ s. rests (ap (λ (x : Cluster). slice_get x.statuses p) is ∙ status_shown c w p holds.shows ∙ s) in
       subst (λ (n : Net). TurnAnswer rv_meaning c w p n Idle) (sym (same ∙ is_whole net c e whole)) (idle_turn rv_meaning c w p holds idle)
 
-  pub answer_turned : (after : Cluster) (steps : ℕ) → net'.loaded ≡ Some after → net'.whole ≡ true → slice_get shown.statuses p ≡ Some Ready → ((w : Worlds) → Holds rv_meaning shown w → Turned rv_meaning shown w p after steps) → ForShown rv_meaning net (λ c w. TurnAnswer rv_meaning c w p net' (Done steps))
+  pub answer_turned : (after : Cluster) (steps : ℕ) → net'.loaded ≡ Some after → net'.whole ≡ true → slice_get shown.statuses p ≡ Some Ready → ((w : IrWorld) → Holds rv_meaning shown w → Turned rv_meaning shown w p after steps) → ForShown rv_meaning net (λ c w. TurnAnswer rv_meaning c w p net' (Done steps))
   answer_turned after steps new new_whole status turned = λ c w e holds.
       let is = same_shown c e in
       let t = subst (λ (x : Cluster). Holds rv_meaning x w → Turned rv_meaning x w p after steps) is (turned w) holds in

@@ -12,7 +12,7 @@ use Rattle.ec_network.specs.declared.network.Did.{Did}
 use Rattle.ec_network.specs.declared.network.Did.TheVariants.{Idle, Acted, Moved, Loaded}
 use Rattle.ec_network.specs.declared.network.NetError.{NetError}
 use Rattle.ec_network.specs.declared.network.NetError.TheVariants.{Full, Memory}
-use Rattle.ec_network.specs.Shows.{Worlds}
+use Rattle.ec_network.specs.Shows.{IrWorld}
 use Rattle.ec_network.specs.Room.{NoneFull, nothing, NoTexts, FirstTexts, held}
 use Rattle.ec_network.specs.Worlds.{ir_action, ir_turn, status_at}
 use Rattle.ec_network.specs.Turns.{TurnOf, MoveOf, IsLoaded, rooms_of}
@@ -57,7 +57,7 @@ module _ {S : Type 0} (M : MachineMeaning S) where
     pub fits : NoneFull (rooms_of specs) nothing (held (ir_start program (length specs))) NoTexts (FirstTexts program (ir_start program (length specs)))
 
   -- a turn of process p, where the network shows w
-  pub record TurnAnswer (c : Cluster) (w : Worlds) (p : ℕ) (new : Net) (did : Did) : Type 0 where
+  pub record TurnAnswer (c : Cluster) (w : IrWorld) (p : ℕ) (new : Net) (did : Did) : Type 0 where
     pub after : Cluster
     pub is : new ≡ whole_net after
     pub turn : TurnOf M c w p after
@@ -68,7 +68,7 @@ module _ {S : Type 0} (M : MachineMeaning S) where
     pub idle : (did ≡ Idle) ↔ (status_at w p ≢ Some Ready)
 
   -- a move by the operator
-  pub record MoveAnswer (c : Cluster) (w : Worlds) (o k : ℕ) (new : Net) (did : Did) : Type 0 where
+  pub record MoveAnswer (c : Cluster) (w : IrWorld) (o k : ℕ) (new : Net) (did : Did) : Type 0 where
     pub after : Cluster
     pub is : new ≡ whole_net after
     pub move : MoveOf M c w o k after
@@ -78,5 +78,5 @@ module _ {S : Type 0} (M : MachineMeaning S) where
     pub idle : (did ≡ Idle) ↔ (is_idle_move w.common o k ≡ true)
 
   -- of each world that a network shows
-  abbrev pub ForShown : Net → (Cluster → Worlds → Type 0) → Type 0
-  ForShown net P = (c : Cluster) (w : Worlds) → net.loaded ≡ Some c → Holds M c w → P c w
+  abbrev pub ForShown : Net → (Cluster → IrWorld → Type 0) → Type 0
+  ForShown net P = (c : Cluster) (w : IrWorld) → net.loaded ≡ Some c → Holds M c w → P c w

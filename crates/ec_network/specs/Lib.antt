@@ -6,6 +6,7 @@ pub mod Holds
 pub mod Kernel
 pub mod Steps
 pub mod Full
+pub mod Names
 pub mod Net
 pub mod Answers
 pub mod Can

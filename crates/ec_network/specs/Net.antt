@@ -14,12 +14,13 @@ use Rattle.ec_frames.specs.declared.node.NodeStore.{NodeStore}
 use Rattle.ec_stops.specs.Machine.{MachineMeaning}
 use Rattle.ec_network.specs.declared.image.Images.{Images}
 use Rattle.ec_network.specs.declared.cluster.Cluster.{Cluster}
-use Rattle.ec_network.specs.Shows.{Worlds}
+use Rattle.ec_network.specs.Names.{node_name, program_name}
+use Rattle.ec_network.specs.Shows.{IrWorld}
 use Rattle.ec_network.specs.Room.{Strings, FullAt, NoneFull, held}
 use Rattle.ec_network.specs.Full.{rooms, Pools}
 use Rattle.ec_network.specs.Turns.{FaithfulImages, IsLoaded, LoadFull, Along}
-use Rattle.rv_codegen.specs.Code.{SmallCode}
-use Rattle.ec_network.specs.Holds.{Holds, HasSlots}
+use Rattle.rv_codegen.specs.Code.{HasSlots, SmallCode}
+use Rattle.ec_network.specs.Holds.{Holds}
 
 pub record Net : Type 0 where
   pub loaded : Option Cluster
@@ -34,7 +35,7 @@ whole_net c = record { loaded = Some c; whole = true }
 -- images that the load takes: faithful ones, with the homes and addresses of this stage
 pub record AreBuilt {S : Type 0} (M : MachineMeaning S) (program : Parts) (images : Images) : Type 0 where
   pub faithful : FaithfulImages M program images
-  pub slots : HasSlots program images.rv.table
+  pub slots : HasSlots images.rv.table program
   pub small : SmallCode images.rv.table images.rv.code
 
 -- one node of the kind that there is so far, of a size that a node can have
@@ -48,15 +49,9 @@ pub record IsOneNode (specs : List NodeSpec) : Type 0 where
 -- a whole network shows some world
 abbrev pub WholeShows : {S : Type 0} → MachineMeaning S → Option Cluster → Type 0
 WholeShows M None = ⊥
-WholeShows M (Some c) = (w : Worlds) × Holds M c w
+WholeShows M (Some c) = (w : IrWorld) × Holds M c w
 
 -- ---- what a report reads
-
-abbrev pub node_name : List ℕ
-node_name = 78 ∷ 111 ∷ 100 ∷ 101 ∷ []
-
-abbrev pub program_name : List ℕ
-program_name = 112 ∷ 114 ∷ 111 ∷ 103 ∷ 114 ∷ 97 ∷ 109 ∷ []
 
 abbrev pub made_name : Option ClassRec → List ℕ
 made_name None = []
@@ -94,11 +89,11 @@ counts_of net k = counts_if net.loaded k
 -- ---- room
 
 -- the action of an entry of the network finds no room at node k
-abbrev pub EntryFull : Cluster → Worlds → Worlds → ℕ → Part → ℕ → ℕ → Type 0
+abbrev pub EntryFull : Cluster → IrWorld → IrWorld → ℕ → Part → ℕ → ℕ → Type 0
 EntryFull c w after = FullAt (rooms c) (held w) (held after) (Pools c) (Strings c.program after)
 
 -- it finds room at each node
-abbrev pub EntryFits : Cluster → Worlds → Worlds → Type 0
+abbrev pub EntryFits : Cluster → IrWorld → IrWorld → Type 0
 EntryFits c w after = NoneFull (rooms c) (held w) (held after) (Pools c) (Strings c.program after)
 
 -- ---- whole runs

@@ -10,15 +10,15 @@ use Rattle.ec_nodes.specs.declared.room.Part.{Part}
 use Rattle.ec_nodes.specs.Store.{text_bytes}
 use Rattle.ec_nodes.specs.Things.{activation_at}
 use Rattle.ec_nodes.specs.Held.{Held, Distinct, Fits, Lacks}
-use Rattle.ec_network.specs.Shows.{Worlds, place}
+use Rattle.ec_network.specs.Shows.{IrWorld, place}
 
 -- the blocks that a world holds at node k
-abbrev pub held : Worlds → ℕ → ℕ
+abbrev pub held : IrWorld → ℕ → ℕ
 held w k = Held (place w) k w
 
 -- the strings that a world has at node k: in a field of an object there, in a live value of an activation there, or in a
 -- constant, which every node has
-pub data Strings (program : Parts) (w : Worlds) (k : ℕ) (text : List ℕ) : Type 0 where
+pub data Strings (program : Parts) (w : IrWorld) (k : ℕ) (text : List ℕ) : Type 0 where
   InField : (i : ℕ) (o : Rattle.ec_world.specs.declared.object.ObjectRec.ObjectRec) → slice_get w.common.objects i ≡ Some o → place w (suc i) ≡ Some k → Has o.fields (Str text) → Strings program w k text
   InFrame : (p d : ℕ) (a : IrActivation) → activation_at w.processes p d ≡ Some a → place w a.own ≡ Some k → Has (live_values program a) (Str text) → Strings program w k text
   InConstant : Has w.common.globals (Str text) → Strings program w k text
@@ -66,5 +66,5 @@ nothing k = 0
 abbrev pub NoTexts : ℕ → List ℕ → Type 0
 NoTexts k text = ⊥
 
-abbrev pub FirstTexts : Parts → Worlds → ℕ → List ℕ → Type 0
+abbrev pub FirstTexts : Parts → IrWorld → ℕ → List ℕ → Type 0
 FirstTexts program w k text = Has program.literals text ⊎ Strings program w k text

@@ -18,8 +18,8 @@ use Rattle.ec_network.specs.declared.image.Images.{Images}
 use Rattle.ec_network.specs.declared.image.Image.{Image}
 use Rattle.ec_network.specs.declared.cluster.Cluster.{Cluster}
 
-abbrev pub Worlds : Type 0
-Worlds = World IrActivation
+abbrev pub IrWorld : Type 0
+IrWorld = World IrActivation
 
 -- ---- nodes as functions
 
@@ -53,16 +53,16 @@ spot program images a kind i = home_of (image_of images kind) a.operation (slice
 -- ---- worlds
 
 -- the place of an object, by the events
-abbrev pub place : Worlds → ℕ → Option ℕ
+abbrev pub place : IrWorld → ℕ → Option ℕ
 place w = place_in (places w.common.nodes w.common.events)
 
-abbrev pub depths_of : Worlds → List ℕ
+abbrev pub depths_of : IrWorld → List ℕ
 depths_of w = map (λ p. length p.activations) w.processes
 
 -- Each object and each activation stands at its place, and nothing else anywhere; every node's constants stand for the
 -- world's; local references and texts are one to one, no block has two owners, and the blocks in use are those held. The
 -- statuses, the output and the places are the world's. No machine is between two instructions: a run begins at rest.
-pub record Shows (net : Cluster) (w : Worlds) : Type 0 where
+pub record Shows (net : Cluster) (w : IrWorld) : Type 0 where
   pub counted : length net.nodes ≡ w.common.nodes
   pub nodes : ShowsNodes (live_values net.program) (spot net.program net.images) (stores net) w (place w)
   pub laid : (k : ℕ) (node : NodeStore) → slice_get net.nodes k ≡ Some node → Laid node

@@ -12,7 +12,7 @@ use Rattle.ec_stops.specs.Machine.{MachineMeaning}
 use Rattle.ec_network.specs.declared.cluster.Cluster.{Cluster}
 use Rattle.ec_network.specs.declared.kernel.Acted.{Acted}
 use Rattle.ec_network.specs.declared.kernel.Acted.TheVariants.{WentOn, Began, EndedNow}
-use Rattle.ec_network.specs.Shows.{Worlds}
+use Rattle.ec_network.specs.Shows.{IrWorld}
 use Rattle.ec_network.specs.Worlds.{RestsAt, IsWaiting, FineProcess, FineFacts, FineWorld, ir_action, status_at}
 use Rattle.ec_network.specs.Turns.{Middle, SamePools}
 use Rattle.ec_network.specs.Holds.{Steady}
@@ -35,7 +35,7 @@ pub record MiddleStack (program : Parts) (nodes objects : ℕ) (activations : Li
   pub top_done : IsDone program nodes objects top
 
 -- a world in which process p goes on, and all others are between two turns
-pub record FineMiddle (program : Parts) (w : Worlds) (p : ℕ) : Type 0 where
+pub record FineMiddle (program : Parts) (w : IrWorld) (p : ℕ) : Type 0 where
   pub process : Proc IrActivation
   pub is : slice_get w.processes p ≡ Some process
   pub ready : process.status ≡ Ready
@@ -44,13 +44,13 @@ pub record FineMiddle (program : Parts) (w : Worlds) (p : ℕ) : Type 0 where
   pub facts : FineFacts program w
 
 -- what an action came to
-abbrev pub Outcome : Parts → Worlds → ℕ → Acted → Type 0
+abbrev pub Outcome : Parts → IrWorld → ℕ → Acted → Type 0
 Outcome program w p WentOn = FineMiddle program w p
 Outcome program w p Began = FineWorld program w × ((a : IrActivation) × (top_of (stack_at w p) ≡ Some a) × (a.pending ≡ true))
 Outcome program w p EndedNow = FineWorld program w × (status_at w p ≢ Some Ready)
 
 -- a network after the action of process p
-pub record AfterAction {S : Type 0} (M : MachineMeaning S) (net : Cluster) (w : Worlds) (p : ℕ) (net' : Cluster) (acted : Acted) : Type 0 where
+pub record AfterAction {S : Type 0} (M : MachineMeaning S) (net : Cluster) (w : IrWorld) (p : ℕ) (net' : Cluster) (acted : Acted) : Type 0 where
   pub middle : Middle M net w p net'
   pub pools : SamePools net net' (ir_action w p)
   pub steady : Steady M net'

@@ -33,7 +33,7 @@ use Rattle.ec_frames.specs.Node.{store_of}
 use Rattle.ec_network.specs.declared.image.Image.{Image}
 use Rattle.ec_network.specs.declared.image.Images.{Images}
 use Rattle.ec_network.specs.declared.cluster.Cluster.{Cluster}
-use Rattle.ec_network.specs.Shows.{Worlds, Shows, stores, place}
+use Rattle.ec_network.specs.Shows.{IrWorld, Shows, stores, place}
 use Rattle.ec_network.specs.Room.{Room, Strings, FirstTexts, FullAt, NoTexts, nothing, held}
 use Rattle.ec_network.specs.Worlds.{ir_action, ir_turn, status_at}
 
@@ -54,7 +54,7 @@ pub record SameCounts (net net' : Cluster) : Type 0 where
   pub each : (k : ℕ) (node node' : NodeStore) → slice_get net.nodes k ≡ Some node → slice_get net'.nodes k ≡ Some node' → node'.count ≡ node.count
 
 -- each pool has the texts that it had and the strings of a world, and no others
-pub record SamePools (net net' : Cluster) (w : Worlds) : Type 0 where
+pub record SamePools (net net' : Cluster) (w : IrWorld) : Type 0 where
   pub each : (k : ℕ) (s s' : Store) (text : List ℕ) → stores net k ≡ Some s → stores net' k ≡ Some s' → InPool s' text ↔ (InPool s text ⊎ Strings net.program w k text)
 
 -- over the machine M of the one kind so far
@@ -80,7 +80,7 @@ module _ {S : Type 0} (M : MachineMeaning S) where
     pub count : node'.count ≡ node.count + steps
 
   -- the activation on top of process p at depth d goes on at node k, from `node` to `node'`
-  pub record RunsAt (program : Parts) (image : Image) (w : Worlds) (p d : ℕ) (a a' : IrActivation) (own : ObjectRec) (node node' : NodeStore) : Type 0 where
+  pub record RunsAt (program : Parts) (image : Image) (w : IrWorld) (p d : ℕ) (a a' : IrActivation) (own : ObjectRec) (node node' : NodeStore) : Type 0 where
     pub f : ℕ
     pub frame : (r : Owned) × ((store_of node).row (Frame p d) ≡ Some r) × (r.blocks ≡ f ∷ [])
     pub own_row : Owned
@@ -95,20 +95,20 @@ module _ {S : Type 0} (M : MachineMeaning S) where
     pub landed : Landed program image.table f a' to memory steps node node'
 
   -- the code of the node's kind; of a kind that isn't built yet there is none
-  abbrev pub RunsOn : Kind → Parts → Images → Worlds → ℕ → ℕ → IrActivation → IrActivation → ObjectRec → NodeStore → NodeStore → Type 0
+  abbrev pub RunsOn : Kind → Parts → Images → IrWorld → ℕ → ℕ → IrActivation → IrActivation → ObjectRec → NodeStore → NodeStore → Type 0
   RunsOn Riscv program images w p d a a' own node node' = RunsAt program images.rv w p d a a' own node node'
   RunsOn Mips program images w p d a a' own node node' = ⊥
 
   -- ---- turns
 
   -- the network in the middle, which shows the world after the action
-  pub record Middle (net : Cluster) (w : Worlds) (p : ℕ) (m : Cluster) : Type 0 where
+  pub record Middle (net : Cluster) (w : IrWorld) (p : ℕ) (m : Cluster) : Type 0 where
     pub machines : SameMachines net m
     pub counts : SameCounts net m
     pub shows : Shows m (ir_action w p)
 
   -- from the middle network m, in which the activation a at depth d of process p goes on, to net'
-  pub record GoesOn (w : Worlds) (p d : ℕ) (a a' : IrActivation) (m net' : Cluster) : Type 0 where
+  pub record GoesOn (w : IrWorld) (p d : ℕ) (a a' : IrActivation) (m net' : Cluster) : Type 0 where
     pub node : ℕ
     pub before : NodeStore
     pub after : NodeStore
@@ -122,7 +122,7 @@ module _ {S : Type 0} (M : MachineMeaning S) where
     pub machines : SameMachines m net'
     pub shared : (net'.statuses ≡ m.statuses) × (net'.depths ≡ m.depths) × (net'.output ≡ m.output) × (net'.places ≡ m.places)
 
-  pub data StepsTo (net : Cluster) (w : Worlds) (p : ℕ) (net' : Cluster) : Type 0 where
+  pub data StepsTo (net : Cluster) (w : IrWorld) (p : ℕ) (net' : Cluster) : Type 0 where
     -- p isn't there or isn't Ready: the counts and the memory are the same
     Idles : status_at w p ≢ Some Ready → net' ≡ net → Shows net' w → StepsTo net w p net'
     -- the action ends or blocks the process
@@ -132,13 +132,13 @@ module _ {S : Type 0} (M : MachineMeaning S) where
     -- the action is done, and code goes on to the next stop
     Runs : (m : Cluster) (a a' : IrActivation) → Middle net w p m → top_of (stack_at (ir_action w p) p) ≡ Some a → a.pending ≡ false → top_of (stack_at (ir_turn net.program w p) p) ≡ Some a' → GoesOn (ir_action w p) p (length (below_of (stack_at (ir_action w p) p))) a a' m net' → Shows net' (ir_turn net.program w p) → StepsTo net w p net'
 
-  pub record TurnOf (net : Cluster) (w : Worlds) (p : ℕ) (net' : Cluster) : Type 0 where
+  pub record TurnOf (net : Cluster) (w : IrWorld) (p : ℕ) (net' : Cluster) : Type 0 where
     pub steps : StepsTo net w p net'
     pub pools : SamePools net net' (ir_action w p)
 
   -- ---- moves by the operator
 
-  pub record MoveOf (net : Cluster) (w : Worlds) (o k : ℕ) (net' : Cluster) : Type 0 where
+  pub record MoveOf (net : Cluster) (w : IrWorld) (o k : ℕ) (net' : Cluster) : Type 0 where
     pub machines : SameMachines net net'
     pub counts : SameCounts net net'
     pub shows : Shows net' (OperatorMove w o k)
@@ -146,12 +146,12 @@ module _ {S : Type 0} (M : MachineMeaning S) where
 
   -- ---- runs
 
-  abbrev pub EntryOf : Cluster → Worlds → RunEntry → Cluster → Type 0
+  abbrev pub EntryOf : Cluster → IrWorld → RunEntry → Cluster → Type 0
   EntryOf net w (ATurn p) net' = TurnOf net w p net'
   EntryOf net w (AMove o k) net' = MoveOf net w o k net'
 
   -- from a network that shows w, turns and moves lead along the entries
-  abbrev pub Along : Parts → Cluster → Worlds → List RunEntry → Cluster → Type 0
+  abbrev pub Along : Parts → Cluster → IrWorld → List RunEntry → Cluster → Type 0
   Along program net w [] net' = net' ≡ net
   Along program net w (e ∷ es) net' = (m : Cluster) × EntryOf net w e m × Along program m (after_entry ir_meaning (ir_silent program) w e) es net'
 
@@ -160,7 +160,7 @@ module _ {S : Type 0} (M : MachineMeaning S) where
     pub rv : Faithful M images.rv.code images.rv.table program
 
   -- a node as it was described, which has run nothing yet; its pool has the first texts and no others
-  pub record FirstNode (program : Parts) (w : Worlds) (k : ℕ) (spec : NodeSpec) (node : NodeStore) : Type 0 where
+  pub record FirstNode (program : Parts) (w : IrWorld) (k : ℕ) (spec : NodeSpec) (node : NodeStore) : Type 0 where
     pub kind : node.kind ≡ spec.kind
     pub blocks : node.blocks ≡ spec.blocks
     pub room : node.room ≡ spec.text

@@ -1,7 +1,7 @@
 -- Worlds in which a program of three-address code can be between two entries.
 use Rattle.std.specs.Prelude.{◌≡◌, ◌≢◌, ℕ, suc, ◌<◌, ◌≤◌, true, false, List, [], map, length, Option, Some, None, slice_get}
 use Rattle.ec_base.specs.Stack.{top_of}
-use Rattle.ec_world.specs.declared.class.ClassNo.TheVariants.{Node}
+use Rattle.ec_world.specs.declared.class.ClassNo.TheVariants.{Node, Made}
 use Rattle.ec_world.specs.declared.object.ObjectRec.{ObjectRec}
 use Rattle.ec_world.specs.declared.process.ProcStatus.{ProcStatus}
 use Rattle.ec_world.specs.declared.process.ProcStatus.TheVariants.{Ready, Entry as AtEntry, Cond, Urgent, Ended, Failed}
@@ -14,19 +14,19 @@ use Rattle.ec_ir.specs.declared.activation.IrActivation.{IrActivation}
 use Rattle.ec_ir.specs.Meaning.{ir_meaning, ir_silent, stop_at, variable}
 use Rattle.ec_ir.specs.Fine.{Typed, HasCode}
 use Rattle.ec_stops.specs.Faithful.{LiveTyped}
-use Rattle.ec_network.specs.Shows.{Worlds}
+use Rattle.ec_network.specs.Shows.{IrWorld}
 
-abbrev pub ir_action : Worlds → ℕ → Worlds
+abbrev pub ir_action : IrWorld → ℕ → IrWorld
 ir_action = Action ir_meaning
 
-abbrev pub ir_turn : Parts → Worlds → ℕ → Worlds
+abbrev pub ir_turn : Parts → IrWorld → ℕ → IrWorld
 ir_turn program = Turn ir_meaning (ir_silent program)
 
 abbrev pub status_of : {A : Type 0} → Option (Proc A) → Option ProcStatus
 status_of None = None
 status_of (Some proc) = Some proc.status
 
-abbrev pub status_at : Worlds → ℕ → Option ProcStatus
+abbrev pub status_at : IrWorld → ℕ → Option ProcStatus
 status_at w p = status_of (slice_get w.processes p)
 
 -- an activation rests at a stop of its operation, on an object that is there and is no node's, with live values of their static types
@@ -72,7 +72,7 @@ FineProcess program nodes objects (Urgent o) activations = ⊥
 FineProcess program nodes objects (Failed cause line) activations = ⊥
 
 -- what holds of a world beside its activations
-pub record FineFacts (program : Parts) (w : Worlds) : Type 0 where
+pub record FineFacts (program : Parts) (w : IrWorld) : Type 0 where
   pub classes : w.common.classes ≡ program.classes
   pub globals : Typed program.globals w.common.globals
   -- no object has fields so far, nor a monitor
@@ -80,10 +80,12 @@ pub record FineFacts (program : Parts) (w : Worlds) : Type 0 where
   -- the objects of the nodes come first, and are the only ones of their class; they alone are fixed so far
   pub node_objects : (i : ℕ) (o : ObjectRec) → slice_get w.common.objects i ≡ Some o → (o.class ≡ Node → i < w.common.nodes) × (i < w.common.nodes → o.class ≡ Node)
   pub fixed : (i : ℕ) (o : ObjectRec) → slice_get w.common.objects i ≡ Some o → (i < w.common.nodes → o.fixed ≡ true) × (w.common.nodes ≤ i → o.fixed ≡ false)
+  -- the class of an object that was made is one of the program's
+  pub made : (i k : ℕ) (o : ObjectRec) → slice_get w.common.objects i ≡ Some o → o.class ≡ Made k → k < length program.classes
   pub events : AreEvents (suc w.common.nodes) w.common.events
   pub placed : length (places w.common.nodes w.common.events) ≡ length w.common.objects
 
 -- a world between two entries
-pub record FineWorld (program : Parts) (w : Worlds) : Type 0 where
+pub record FineWorld (program : Parts) (w : IrWorld) : Type 0 where
   pub each : (p : ℕ) (proc : Proc IrActivation) → slice_get w.processes p ≡ Some proc → FineProcess program w.common.nodes (length w.common.objects) proc.status proc.activations
   pub facts : FineFacts program w

@@ -5,6 +5,7 @@ mod cluster;
 pub mod image;
 mod kernel;
 mod load;
+mod names;
 mod native;
 pub mod network;
 mod readers;

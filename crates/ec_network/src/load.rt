@@ -1,5 +1,5 @@
 //! The load of a program onto its nodes.
-ghost use Rattle.std.specs.Prelude.{◌≡◌, ◌<◌, ◌≤◌, ◌^◌, ℕ, List, [], length, IfOk, OnOk, IfSome, IfNone, Some, None, slice_get};
+ghost use Rattle.std.specs.Prelude.{◌≡◌, ◌<◌, ◌≤◌, ◌^◌, ℕ, List, [], ◌∷◌, length, IfOk, OnOk, IfSome, IfNone, Some, None, slice_get};
 ghost use Rattle.ec_frames.specs.Changes.{OnlyTables};
 ghost use Rattle.ec_frames.specs.Node.{store_of, row_of, Laid, SameNode};
 ghost use Rattle.ec_ir.specs.Fine.{Fine};
@@ -15,6 +15,7 @@ ghost use Rattle.rv_codegen.specs.Meaning.{rv_meaning};
 
 use crate::cluster::Cluster;
 use crate::image::Images;
+use crate::names::OwnNames;
 use ec_base::list::Seq;
 use ec_frames::node::NodeStore;
 use ec_ir::code::Parts;
@@ -24,7 +25,7 @@ use ec_nodes::room::{Needs, Part, lack_at};
 use ec_world::class::ClassNo;
 use ec_world::node::NodeSpec;
 use ec_world::process::ProcStatus;
-use ec_world::value::{Text, ValueType, copy_text};
+use ec_world::value::{NodeNo, Text, ValueType, copy_text};
 use std::alloc::{AllocError, Global};
 
 /// Why a load was refused: the node has no room for so many blocks or bytes of text, or there was no memory.
@@ -41,16 +42,16 @@ const FIRST_BLOCKS: u64 = 2;
 /// has, are want of memory too.
 pub(crate) fn load(
     alloc: Global,
-    program: IrProgram,
+    program: &IrProgram,
     images: Images,
     specs: &[NodeSpec],
 ) -> Result<Cluster, LoadError>
-    requires built { AreBuilt rv_meaning program images }
+    requires built { AreBuilt rv_meaning program.now images }
     requires nodes { IsOneNode specs.now }
-    ensures loaded { IfOk result (λ c. IsLoaded rv_meaning program specs.now c) }
-    ensures holds { IfOk result (λ c. Holds rv_meaning c (ir_start program (length specs.now))) }
-    ensures fits { OnOk result (NoneFull (rooms_of specs.now) nothing (held (ir_start program (length specs.now))) NoTexts (FirstTexts program (ir_start program (length specs.now)))) }
-    ensures full { WhenLoadFull result (LoadFull program specs.now 0) }
+    ensures loaded { IfOk result (λ c. IsLoaded rv_meaning program.now specs.now c) }
+    ensures holds { IfOk result (λ c. Holds rv_meaning c (ir_start program.now (length specs.now))) }
+    ensures fits { OnOk result (NoneFull (rooms_of specs.now) nothing (held (ir_start program.now (length specs.now))) NoTexts (FirstTexts program.now (ir_start program.now (length specs.now)))) }
+    ensures full { WhenLoadFull result (LoadFull program.now specs.now 0) }
 {
     let spec = &specs[0];
     let Some(bytes) = bytes_in(&program.parts().literals) else {
@@ -90,15 +91,15 @@ fn bytes_in(texts: &Seq<Text>) -> Option<u64>
 /// The network in which one node has the program, and process 0 is about to run operation 0.
 fn start(
     alloc: Global,
-    program: IrProgram,
+    program: &IrProgram,
     images: Images,
     spec: &NodeSpec,
 ) -> Result<Cluster, AllocError>
     requires few_blocks { spec.now.blocks ≤ 65536 }
     requires few_bytes { spec.now.text ≤ 2 ^ 24 }
     requires blocks { 2 ≤ spec.now.blocks }
-    requires bytes { text_bytes program.literals ≤ spec.now.text }
-    ensures { IfOk result (λ c. IsStart program images spec.now c) }
+    requires bytes { text_bytes program.now.literals ≤ spec.now.text }
+    ensures { IfOk result (λ c. IsStart program.now images spec.now c) }
 {
     let node = first_node(alloc, program.parts(), spec)?;
     let mut nodes = Seq::new(alloc);
@@ -107,18 +108,23 @@ fn start(
     statuses.push(ProcStatus::Ready)?;
     let mut depths = Seq::new(alloc);
     depths.push(1)?;
-    let mut places = Seq::new(alloc);
-    places.push(0)?;
-    places.push(0)?;
     Ok(Cluster {
-        program,
+        program: program.copy()?,
         images,
+        own_names: OwnNames::new(alloc)?,
         nodes,
         statuses,
         depths,
         output: Seq::new(alloc),
-        places,
+        places: first_places(alloc)?,
     })
+}
+
+/// The places of the node's own object and of the program's object.
+fn first_places(alloc: Global) -> Result<Seq<NodeNo>, AllocError>
+    ensures { IfOk result (λ places. places ≡ 0 ∷ 0 ∷ []) }
+{
+    Ok(Seq::from_vec(vec![in alloc; 0, 0]?))
 }
 
 /// The node with the literals, the constants and the owners of the first world.

@@ -101,19 +101,19 @@ impl Network {
         self.whole
     }
 
-    /// Loads a program with its images onto nodes: of one RISC-V node so far.
+    /// Loads a program with its images onto nodes: of one RISC-V node so far. The program is copied.
     pub fn load(
         &mut self,
-        program: IrProgram,
+        program: &IrProgram,
         images: Images,
         specs: &[NodeSpec],
     ) -> Result<Did, NetError>
         requires empty { self.old ≡ empty_net }
-        requires built { AreBuilt rv_meaning program images }
+        requires built { AreBuilt rv_meaning program.now images }
         requires nodes { IsOneNode specs.now }
         ensures loaded { IfOk result (λ did. did ≡ Did.Loaded) }
-        ensures shows { OnOk result (LoadAnswer rv_meaning program specs.now self.new) }
-        ensures full { WhenFull result (LoadFull program specs.now) }
+        ensures shows { OnOk result (LoadAnswer rv_meaning program.now specs.now self.new) }
+        ensures full { WhenFull result (LoadFull program.now specs.now) }
         ensures unchanged { WhenFull result (λ node part need free. self.new ≡ self.old) }
         ensures not_whole { WhenMemory result (self.new.whole ≡ false) }
     {
@@ -211,7 +211,7 @@ impl Network {
     }
 
     /// The name of an object's class, where the object is there.
-    pub fn class_name(&self, o: Oid) -> Option<&[u8]>
+    pub fn class_name(&self, o: Oid) -> Option<&Text>
         requires whole { IsTrue self.now.whole }
         ensures some { IfSome result (λ name. ForShown rv_meaning self.now (λ c w. name_if w.common.classes (object_at w.common.objects o) ≡ Some name.now)) }
         ensures none { IfNone result (ForShown rv_meaning self.now (λ c w. object_at w.common.objects o ≡ None)) }

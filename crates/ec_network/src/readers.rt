@@ -1,5 +1,6 @@
 //! What a report reads of a network.
-ghost use Rattle.std.specs.Prelude.{◌≡◌, ◌↔◌, IsTrue, IfSome, IfNone, Some, None, slice_get};
+ghost use Rattle.std.specs.Prelude.{◌≡◌, ◌<◌, ◌↔◌, ℕ, IsTrue, IfSome, IfNone, Some, None, length, slice_get};
+ghost use Rattle.ec_world.specs.declared.class.ClassNo.TheVariants.{Made};
 ghost use Rattle.ec_world.specs.declared.process.ProcStatus.TheVariants.{Ready};
 ghost use Rattle.ec_world.specs.Effects.{object_at};
 ghost use Rattle.ec_world.specs.Moves.{is_idle_move};
@@ -8,7 +9,7 @@ ghost use Rattle.rv_codegen.specs.Meaning.{rv_meaning};
 ghost use Rattle.ec_network.specs.Holds.{Holds};
 ghost use Rattle.ec_network.specs.Net.{name_of, name_if, fixed_if, count_of};
 ghost use Rattle.ec_network.specs.Readers.{RowOf};
-ghost use Rattle.ec_network.specs.Shows.{Worlds, place};
+ghost use Rattle.ec_network.specs.Shows.{IrWorld, place};
 ghost use Rattle.ec_network.specs.Worlds.{status_at};
 
 use crate::cluster::Cluster;
@@ -21,8 +22,8 @@ use ec_world::value::{NodeNo, Oid, Pid, Text};
 impl Cluster {
     /// What a process may do, where it is there.
     pub(crate) fn status(&self, p: Pid) -> Option<ProcStatus>
-        ensures listed { (w : Worlds) → Holds rv_meaning self.now w → result ≡ slice_get (statuses_of w) p }
-        ensures is { (w : Worlds) → Holds rv_meaning self.now w → result ≡ status_at w p }
+        ensures listed { (w : IrWorld) → Holds rv_meaning self.now w → result ≡ slice_get (statuses_of w) p }
+        ensures is { (w : IrWorld) → Holds rv_meaning self.now w → result ≡ status_at w p }
     {
         self.statuses.get(p as usize).copied()
     }
@@ -38,10 +39,10 @@ impl Cluster {
     }
 
     /// The name of an object's class, where the object is there.
-    pub(crate) fn class_name(&self, o: Oid) -> Option<&[u8]>
-        requires { (w : Worlds) × Holds rv_meaning self.now w }
-        ensures some { IfSome result (λ name. (w : Worlds) → Holds rv_meaning self.now w → name_if w.common.classes (object_at w.common.objects o) ≡ Some name.now) }
-        ensures none { IfNone result ((w : Worlds) → Holds rv_meaning self.now w → object_at w.common.objects o ≡ None) }
+    pub(crate) fn class_name(&self, o: Oid) -> Option<&Text>
+        requires { (w : IrWorld) × Holds rv_meaning self.now w }
+        ensures some { IfSome result (λ name. (w : IrWorld) → Holds rv_meaning self.now w → name_if w.common.classes (object_at w.common.objects o) ≡ Some name.now) }
+        ensures none { IfNone result ((w : IrWorld) → Holds rv_meaning self.now w → object_at w.common.objects o ≡ None) }
     {
         match self.object_row(o) {
             Some(row) => match row.class {
@@ -54,8 +55,8 @@ impl Cluster {
 
     /// Whether an object is fixed, where it is there.
     pub(crate) fn is_fixed(&self, o: Oid) -> Option<bool>
-        requires { (w : Worlds) × Holds rv_meaning self.now w }
-        ensures { (w : Worlds) → Holds rv_meaning self.now w → result ≡ fixed_if (object_at w.common.objects o) }
+        requires { (w : IrWorld) × Holds rv_meaning self.now w }
+        ensures { (w : IrWorld) → Holds rv_meaning self.now w → result ≡ fixed_if (object_at w.common.objects o) }
     {
         match self.object_row(o) {
             Some(row) => Some(row.fixed),
@@ -65,7 +66,7 @@ impl Cluster {
 
     /// The node at which an object is, where it is there.
     pub(crate) fn place(&self, o: Oid) -> Option<NodeNo>
-        ensures { (w : Worlds) → Holds rv_meaning self.now w → result ≡ place w o }
+        ensures { (w : IrWorld) → Holds rv_meaning self.now w → result ≡ place w o }
     {
         if o == 0 {
             return None;
@@ -75,7 +76,7 @@ impl Cluster {
 
     /// What has been printed.
     pub(crate) fn output(&self) -> &Text
-        ensures { (w : Worlds) → Holds rv_meaning self.now w → result.now ≡ w.common.output }
+        ensures { (w : IrWorld) → Holds rv_meaning self.now w → result.now ≡ w.common.output }
     {
         &self.output
     }
@@ -93,8 +94,8 @@ impl Cluster {
     /// Whether a move of an object to a node by the operator is idle: the object or the node isn't there, or the object
     /// is fixed.
     pub(crate) fn is_idle_move(&self, o: Oid, k: NodeNo) -> bool
-        requires { (w : Worlds) × Holds rv_meaning self.now w }
-        ensures { (w : Worlds) → Holds rv_meaning self.now w → result ≡ is_idle_move w.common o k }
+        requires { (w : IrWorld) × Holds rv_meaning self.now w }
+        ensures { (w : IrWorld) → Holds rv_meaning self.now w → result ≡ is_idle_move w.common o k }
     {
         match self.is_fixed(o) {
             Some(fixed) => fixed || k as usize >= self.nodes.len(),
@@ -106,24 +107,22 @@ impl Cluster {
 impl Cluster {
     /// What the one node keeps of an object, where it is there.
     fn object_row(&self, o: Oid) -> Option<&Row>
-        requires { (w : Worlds) × Holds rv_meaning self.now w }
-        ensures some { IfSome result (λ row. (w : Worlds) → Holds rv_meaning self.now w → RowOf w o row.now) }
-        ensures none { IfNone result ((w : Worlds) → Holds rv_meaning self.now w → object_at w.common.objects o ≡ None) }
+        requires { (w : IrWorld) × Holds rv_meaning self.now w }
+        ensures some { IfSome result (λ row. (w : IrWorld) → Holds rv_meaning self.now w → RowOf w o row.now) }
+        ensures none { IfNone result ((w : IrWorld) → Holds rv_meaning self.now w → object_at w.common.objects o ≡ None) }
     {
         self.nodes.at(0).row(Key::Object(o))
     }
 
     /// The name of a class, as it was declared.
-    fn name_of(&self, class: ClassNo) -> &[u8]
+    fn name_of(&self, class: ClassNo) -> &Text
+        requires there { (k : ℕ) → class ≡ Made k → k < length self.now.program.classes }
         ensures { result.now ≡ name_of self.now.program.classes class }
     {
         match class {
-            ClassNo::Node => b"Node",
-            ClassNo::Program => b"program",
-            ClassNo::Made(k) => match self.program.parts().classes.get(k as usize) {
-                Some(class) => class.name.as_slice(),
-                None => b"",
-            },
+            ClassNo::Node => &self.own_names.node,
+            ClassNo::Program => &self.own_names.program,
+            ClassNo::Made(k) => &self.program.parts().classes.at(k as usize).name,
         }
     }
 }

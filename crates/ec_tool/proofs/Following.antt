@@ -20,7 +20,7 @@ use Rattle.ec_frames.specs.declared.node.NodeStore.{NodeStore}
 use Rattle.ec_frames.specs.Node.{store_of}
 use Rattle.ec_network.specs.declared.cluster.Cluster.{Cluster}
 use Rattle.ec_network.specs.declared.network.Did.{Did}
-use Rattle.ec_network.specs.Shows.{Worlds, stores, store_if}
+use Rattle.ec_network.specs.Shows.{IrWorld, stores, store_if}
 use Rattle.ec_network.specs.Room.{Room, Strings, FullAt, held}
 use Rattle.ec_network.specs.Worlds.{ir_action, ir_turn}
 use Rattle.ec_network.specs.Holds.{Holds}
@@ -36,7 +36,7 @@ use Rattle.ec_tool.specs.declared.report.ReportEnd.TheVariants.{Ends, IsFull}
 use Rattle.ec_tool.specs.declared.run.Step.TheVariants.{Stops, Turns}
 use Rattle.ec_tool.specs.Inputs.{default_budget}
 use Rattle.ec_tool.specs.Emerald.{ir_run, action_if, next_action, PoolAfter, NextFull}
-use Rattle.ec_tool.specs.Running.{IsStep, Follows, IsAfter, StopsItself, StopsFull, IsFullEnd, IsEnded}
+use Rattle.ec_tool.specs.Running.{IsShown, IsStep, Follows, IsAfter, StopsItself, StopsFull, IsFullEnd, IsEnded}
 use Rattle.ec_tool.proofs.Growth.{GrowsByOne, turn_grows}
 use Rattle.ec_tool.proofs.Rooms.{full_along}
 
@@ -63,7 +63,7 @@ machines_along a b c f g = record {
       record { kind = y.kind ∙ x.kind; blocks = y.blocks ∙ x.blocks; room = y.room ∙ x.room };
 }
 
-turn_machines : {c : Cluster} {w : Worlds} {p : ℕ} {c' : Cluster} → StepsTo rv_meaning c w p c' → SameMachines c c'
+turn_machines : {c : Cluster} {w : IrWorld} {p : ℕ} {c' : Cluster} → StepsTo rv_meaning c w p c' → SameMachines c c'
 turn_machines {c} (Idles n e s) = rw e (same_machines c)
 turn_machines (Rests m n) = m.machines
 turn_machines (Waits a m t e) = m.machines
@@ -98,7 +98,7 @@ module _ (specs : List NodeSpec) (start now : Cluster) (loaded : IsLoaded rv_mea
 
 -- ---- chains of entries
 
-along_push : (program : Parts) (c : Cluster) (w : Worlds) (es : List RunEntry) (e : RunEntry) (m m' : Cluster) → Along rv_meaning program c w es m → EntryOf rv_meaning m (after_entries ir_meaning (ir_silent program) w es) e m' → Along rv_meaning program c w (es ++ e ∷ []) m'
+along_push : (program : Parts) (c : Cluster) (w : IrWorld) (es : List RunEntry) (e : RunEntry) (m m' : Cluster) → Along rv_meaning program c w es m → EntryOf rv_meaning m (after_entries ir_meaning (ir_silent program) w es) e m' → Along rv_meaning program c w (es ++ e ∷ []) m'
 along_push program c w [] e m m' a h = (m', subst (λ (x : Cluster). EntryOf rv_meaning x w e m') a h, refl)
 along_push program c w (x ∷ es) e m m' a h = (a.0, a.1, along_push program a.0 (Rattle.ec_world.specs.Run.after_entry ir_meaning (ir_silent program) w x) es e m m' a.2 h)
 
@@ -161,10 +161,21 @@ first_only (suc j) n = omega arith
 no_count : (ns : List NodeStore) (j : ℕ) → length ns ≤ j → count_if (slice_get ns j) ≡ 0
 no_count ns j h = ap count_if (slice_get_past ns j h)
 
-strings_same : (P P' : Parts) (v v' : Worlds) → P ≡ P' → v ≡ v' → (j : ℕ) (text : List ℕ) → Strings P v j text ↔ Strings P' v' j text
+strings_same : (P P' : Parts) (v v' : IrWorld) → P ≡ P' → v ≡ v' → (j : ℕ) (text : List ℕ) → Strings P v j text ↔ Strings P' v' j text
 strings_same P P' v v' e h j text = rw (e, h) ((λ x. x), (λ x. x))
 
 -- ---- the turn that comes next
+
+-- a network that follows is whole, and shows a world
+pub follows_shown : (specs : List NodeSpec) (old : Net) (k : ℕ) (net : Net) → Follows specs old k net → IsShown net
+follows_shown specs old k net f =
+    record {
+      cluster = f.now;
+      world = (ir_run f.start.program (length specs) [] k).world;
+      loaded = ap (λ (n : Net). n.loaded) f.is;
+      whole = ap (λ (n : Net). n.whole) f.is;
+      holds = f.holds;
+    }
 
 module _ (specs : List NodeSpec) (old : Net) (k : ℕ) (last : Option ℕ) (net : Net) (a : IsAfter specs old k last net) where
   abbrev f : Follows specs old k net
@@ -179,7 +190,7 @@ module _ (specs : List NodeSpec) (old : Net) (k : ℕ) (last : Option ℕ) (net 
   abbrev s : RunState IrActivation
   s = ir_run a.follows.start.program (length specs) [] k
 
-  abbrev w : Worlds
+  abbrev w : IrWorld
   w = (ir_run a.follows.start.program (length specs) [] k).world
 
   pub end_here : end_of default_budget s ≡ end_by [] (statuses_of w) (nat_le default_budget k)
@@ -210,11 +221,11 @@ module _ (specs : List NodeSpec) (old : Net) (k : ℕ) (last : Option ℕ) (net 
     pub full_next : (node : ℕ) (part : Part) (need free : ℕ) → EntryFull f.now w (ir_action w p) node part need free → NextFull ir specs [] k node part need free
     full_next node part need free h =
         let g = full_along (rooms f.now) (rooms_of specs) (held w) (held (ir_action w p)) (Pools f.now) (PoolAfter ir n [] k) (Strings f.now.program (ir_action w p)) (Strings ir (next_action ir n [] k)) (same_rooms specs f.start f.now f.loaded f.machines) pools_are strings_are node part need free h in
-        subst (λ (v : Worlds). FullAt (rooms_of specs) (held w) (held v) (PoolAfter ir n [] k) (Strings ir (next_action ir n [] k)) node part need free) (sym action_is) g
+        subst (λ (v : IrWorld). FullAt (rooms_of specs) (held w) (held v) (PoolAfter ir n [] k) (Strings ir (next_action ir n [] k)) node part need free) (sym action_is) g
 
     fits_next : EntryFits f.now w (ir_action w p) → (node need free : ℕ) (part : Part) → NextFull ir specs [] k node part need free → ⊥
     fits_next fits node need free part h =
-        let g = subst (λ (v : Worlds). FullAt (rooms_of specs) (held w) (held v) (PoolAfter ir n [] k) (Strings ir (next_action ir n [] k)) node part need free) action_is h in
+        let g = subst (λ (v : IrWorld). FullAt (rooms_of specs) (held w) (held v) (PoolAfter ir n [] k) (Strings ir (next_action ir n [] k)) node part need free) action_is h in
         fits node part need free
         (full_along (rooms_of specs) (rooms f.now) (held w) (held (ir_action w p)) (PoolAfter ir n [] k) (Pools f.now) (Strings ir (next_action ir n [] k)) (Strings f.now.program (ir_action w p))
         (λ j. sym (same_rooms specs f.start f.now f.loaded f.machines j))
@@ -242,11 +253,11 @@ module _ (specs : List NodeSpec) (old : Net) (k : ℕ) (last : Option ℕ) (net 
       grown = turn_grows ir w p
 
       holds_is : Holds rv_meaning t.after (ir_run ir n [] (suc k)).world
-      holds_is = subst (λ (v : Worlds). Holds rv_meaning t.after v) (ap (λ (x : Parts). ir_turn x w p) program_is ∙ sym world_is) t.holds
+      holds_is = subst (λ (v : IrWorld). Holds rv_meaning t.after v) (ap (λ (x : Parts). ir_turn x w p) program_is ∙ sym world_is) t.holds
 
       along_is : Along rv_meaning ir f.start (ir_start ir n) (ir_run ir n [] (suc k)).done t.after
       along_is =
-          let here = subst (λ (v : Worlds). EntryOf rv_meaning f.now v (ATurn p) t.after) (run_world ir_meaning (ir_silent ir) (ir_start ir n) [] k) t.turn in
+          let here = subst (λ (v : IrWorld). EntryOf rv_meaning f.now v (ATurn p) t.after) (run_world ir_meaning (ir_silent ir) (ir_start ir n) [] k) t.turn in
           subst (λ (es : List RunEntry). Along rv_meaning ir f.start (ir_start ir n) es t.after) (sym done_is)
           (along_push ir f.start (ir_start ir n) s.done (ATurn p) f.now t.after f.along here)
 
@@ -311,7 +322,7 @@ ended_refused specs old k last net a p step net' Memory end e full same = absurd
 -- ---- the load
 
 module _ (program : Parts) (specs : List NodeSpec) (net : Net) (l : LoadAnswer rv_meaning program specs net) where
-  abbrev first_world : Worlds
+  abbrev first_world : IrWorld
   first_world = ir_start l.start.program (length specs)
 
   loaded_is : IsLoaded rv_meaning l.start.program specs l.start

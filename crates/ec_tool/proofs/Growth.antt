@@ -18,7 +18,7 @@ use Rattle.ec_world.specs.World.{stack_at, who_of, acted, outcome_of, act_if_pen
 use Rattle.ec_ir.specs.declared.code.Parts.{Parts}
 use Rattle.ec_ir.specs.declared.activation.IrActivation.{IrActivation}
 use Rattle.ec_ir.specs.Meaning.{ir_meaning, ir_silent}
-use Rattle.ec_network.specs.Shows.{Worlds}
+use Rattle.ec_network.specs.Shows.{IrWorld}
 use Rattle.ec_network.specs.Worlds.{ir_action, ir_turn}
 
 -- ---- objects
@@ -66,42 +66,42 @@ effect_few c who End vs = omega arith
 -- ---- worlds
 
 -- at most one object more, and as many processes
-pub record GrowsByOne (w w' : Worlds) : Type 0 where
+pub record GrowsByOne (w w' : IrWorld) : Type 0 where
   pub objects : length w'.common.objects ≤ suc (length w.common.objects)
   pub processes : length w'.processes ≡ length w.processes
 
-same_grows : (w : Worlds) → GrowsByOne w w
+same_grows : (w : IrWorld) → GrowsByOne w w
 same_grows w = record { objects = omega arith; processes = refl }
 
-acted_grows : (w : Worlds) (p : ℕ) (below : List IrActivation) (top : IrActivation) (a : Acted) → objects_after (length w.common.objects) a ≤ suc (length w.common.objects) → GrowsByOne w (acted ir_meaning w p below top a)
+acted_grows : (w : IrWorld) (p : ℕ) (below : List IrActivation) (top : IrActivation) (a : Acted) → objects_after (length w.common.objects) a ≤ suc (length w.common.objects) → GrowsByOne w (acted ir_meaning w p below top a)
 acted_grows w p below top None h = same_grows w
 acted_grows w p below top (Some (c, e)) h = record { objects = h; processes = length_set w.processes p _ }
 
-if_pending_grows : (w : Worlds) (p : ℕ) (below : List IrActivation) (top : IrActivation) (b : Bool) → GrowsByOne w (act_if_pending ir_meaning w p below top b)
+if_pending_grows : (w : IrWorld) (p : ℕ) (below : List IrActivation) (top : IrActivation) (b : Bool) → GrowsByOne w (act_if_pending ir_meaning w p below top b)
 if_pending_grows w p below top true = acted_grows w p below top (outcome_of ir_meaning w p below top) (effect_few w.common (who_of ir_meaning p below top) top.stop top.operands)
 if_pending_grows w p below top false = same_grows w
 
-act_on_grows : (w : Worlds) (p : ℕ) (below : List IrActivation) (top : Option IrActivation) → GrowsByOne w (act_on ir_meaning w p below top)
+act_on_grows : (w : IrWorld) (p : ℕ) (below : List IrActivation) (top : Option IrActivation) → GrowsByOne w (act_on ir_meaning w p below top)
 act_on_grows w p below None = same_grows w
 act_on_grows w p below (Some top) = if_pending_grows w p below top top.pending
 
-action_grows : (w : Worlds) (p : ℕ) → GrowsByOne w (ir_action w p)
+action_grows : (w : IrWorld) (p : ℕ) → GrowsByOne w (ir_action w p)
 action_grows w p = act_on_grows w p (below_of (stack_at w p)) (top_of (stack_at w p))
 
 -- silent steps add nothing
-pub record StaysAsMany (w w' : Worlds) : Type 0 where
+pub record StaysAsMany (w w' : IrWorld) : Type 0 where
   pub objects : length w'.common.objects ≡ length w.common.objects
   pub processes : length w'.processes ≡ length w.processes
 
-unless_stays : (program : Parts) (w : Worlds) (p : ℕ) (below : List IrActivation) (top : IrActivation) (b : Bool) → StaysAsMany w (go_on_unless ir_meaning (ir_silent program) w p below top b)
+unless_stays : (program : Parts) (w : IrWorld) (p : ℕ) (below : List IrActivation) (top : IrActivation) (b : Bool) → StaysAsMany w (go_on_unless ir_meaning (ir_silent program) w p below top b)
 unless_stays program w p below top true = record { objects = refl; processes = refl }
 unless_stays program w p below top false = record { objects = refl; processes = length_set w.processes p _ }
 
-on_stays : (program : Parts) (w : Worlds) (p : ℕ) (below : List IrActivation) (top : Option IrActivation) → StaysAsMany w (go_on ir_meaning (ir_silent program) w p below top)
+on_stays : (program : Parts) (w : IrWorld) (p : ℕ) (below : List IrActivation) (top : Option IrActivation) → StaysAsMany w (go_on ir_meaning (ir_silent program) w p below top)
 on_stays program w p below None = record { objects = refl; processes = refl }
 on_stays program w p below (Some top) = unless_stays program w p below top top.pending
 
-pub turn_grows : (program : Parts) (w : Worlds) (p : ℕ) → GrowsByOne w (ir_turn program w p)
+pub turn_grows : (program : Parts) (w : IrWorld) (p : ℕ) → GrowsByOne w (ir_turn program w p)
 turn_grows program w p =
     let m = ir_action w p in
     let a = action_grows w p in

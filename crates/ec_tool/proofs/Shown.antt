@@ -12,7 +12,7 @@ use Rattle.ec_world.specs.Effects.{object_at}
 use Rattle.ec_world.specs.Places.{places, place_in}
 use Rattle.ec_world.specs.Run.{statuses_of}
 use Rattle.ec_network.specs.declared.cluster.Cluster.{Cluster}
-use Rattle.ec_network.specs.Shows.{Worlds}
+use Rattle.ec_network.specs.Shows.{IrWorld}
 use Rattle.ec_network.specs.Holds.{Holds}
 use Rattle.ec_network.specs.Answers.{CanNumber}
 use Rattle.ec_network.specs.Net.{Net, name_of}
@@ -20,7 +20,7 @@ use Rattle.rv_codegen.specs.Meaning.{rv_meaning}
 use Rattle.ec_tool.specs.Report.{object_line, node_at, object_lines}
 use Rattle.ec_tool.specs.ObjectLines.{RestOfObjects, PushesObject}
 
-module _ (net : Net) (c : Cluster) (w : Worlds) (loaded : net.loaded ≡ Some c) (holds : Holds rv_meaning c w) (can : CanNumber net) where
+module _ (net : Net) (c : Cluster) (w : IrWorld) (loaded : net.loaded ≡ Some c) (holds : Holds rv_meaning c w) (can : CanNumber net) where
   pub few_processes : length (statuses_of w) < 2 ^ 32 - 1
   few_processes = rw (sym holds.shows.statuses) (can.processes c loaded)
 
@@ -61,7 +61,7 @@ module _ (classes : List ClassRec) (specs : List NodeSpec) (at : List ℕ) (obje
       let k : old ++ [] ≡ whole = rw d at h in
       n ∙ sym (append-nil old) ∙ k
 
-module _ (w : Worlds) (specs : List NodeSpec) (oid : ℕ) (old new whole : List ℕ) (r : RestOfObjects w specs oid old whole) where
+module _ (w : IrWorld) (specs : List NodeSpec) (oid : ℕ) (old new whole : List ℕ) (r : RestOfObjects w specs oid old whole) where
   pub rest_next : PushesObject w specs oid old new true → RestOfObjects w specs (oid + 1) new whole
   rest_next p =
       let e : object_at w.common.objects (suc r.before) ≡ Some p.0 = rw r.oid_is at p.1 in

@@ -20,7 +20,7 @@ use Rattle.ec_lower.specs.Agreement.{Means}
 use Rattle.ec_nodes.specs.declared.room.Part.{Part}
 use Rattle.ec_outside.specs.Fault.{HasRisen}
 use Rattle.ec_outside.specs.Whole.{IsWhole, GrowsByFront}
-use Rattle.ec_network.specs.Shows.{Worlds}
+use Rattle.ec_network.specs.Shows.{IrWorld}
 use Rattle.ec_network.specs.Room.{FullAt, Strings, FirstTexts, held}
 use Rattle.ec_network.specs.Worlds.{ir_action}
 use Rattle.ec_network.specs.Turns.{rooms_of, LoadFull}
@@ -47,16 +47,16 @@ abbrev pub ir_run : Parts → ℕ → List Entry → ℕ → RunState IrActivati
 ir_run ir n schedule k = run_after ir_meaning (ir_silent ir) (ir_start ir n) schedule k
 
 -- the world after the action of an entry: of a turn before the code behind the stop, and of a move after it
-abbrev pub after_action : Worlds → RunEntry → Worlds
+abbrev pub after_action : IrWorld → RunEntry → IrWorld
 after_action w (TurnOf p) = ir_action w p
 after_action w (MoveOf o k) = OperatorMove w o k
 
-abbrev pub action_if : Worlds → Option RunEntry → Worlds
+abbrev pub action_if : IrWorld → Option RunEntry → IrWorld
 action_if w None = w
 action_if w (Some e) = after_action w e
 
 -- the world after the action of the entry that follows k entries
-abbrev pub next_action : Parts → ℕ → List Entry → ℕ → Worlds
+abbrev pub next_action : Parts → ℕ → List Entry → ℕ → IrWorld
 next_action ir n schedule k =
     let s = ir_run ir n schedule k in
     action_if s.world (next_entry s.left (statuses_of s.world) s.last)

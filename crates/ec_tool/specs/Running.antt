@@ -12,7 +12,7 @@ use Rattle.ec_nodes.specs.Held.{InPool}
 use Rattle.ec_network.specs.declared.cluster.Cluster.{Cluster}
 use Rattle.ec_network.specs.declared.network.NetError.{NetError}
 use Rattle.ec_network.specs.declared.network.NetError.TheVariants.{Full, Memory}
-use Rattle.ec_network.specs.Shows.{Worlds, stores}
+use Rattle.ec_network.specs.Shows.{IrWorld, stores}
 use Rattle.ec_network.specs.Holds.{Holds}
 use Rattle.ec_network.specs.Turns.{IsLoaded, SameMachines, Along}
 use Rattle.ec_network.specs.Net.{Net, whole_net, count_of, counts_of}
@@ -29,7 +29,7 @@ use Rattle.ec_tool.specs.Emerald.{ir_run, PoolAfter, NextFull, NoneFullBefore, s
 -- a whole network, with a world that it shows
 pub record IsShown (net : Net) : Type 0 where
   pub cluster : Cluster
-  pub world : Worlds
+  pub world : IrWorld
   pub loaded : net.loaded ≡ Some cluster
   pub whole : IsTrue net.whole
   pub holds : Holds rv_meaning cluster world

@@ -18,7 +18,7 @@ use ec_nodes::room::Part;
 use ec_world::node::{Kind, NodeSpec};
 use ec_world::process::ProcStatus;
 use ec_world::run::RunEnd;
-use ec_world::value::{NodeNo, Oid};
+use ec_world::value::{NodeNo, Oid, Text};
 use std::alloc::{AllocError, Global};
 
 /// How a run came to its end: by itself, or as a node had no room for what an entry needs there (blocks, or bytes of
@@ -252,7 +252,7 @@ fn push_object_line(
     alloc: Global,
     specs: &[NodeSpec],
     oid: Oid,
-    class: &[u8],
+    class: &Text,
     place: Option<NodeNo>,
     fixed: bool,
     out: &mut Vec<u8>,
@@ -262,7 +262,7 @@ fn push_object_line(
     out.extend_from_slice(b"object ")?;
     push_number(alloc, oid.into(), out)?;
     out.extend_from_slice(b" ")?;
-    out.extend_from_slice(class)?;
+    out.extend_from_slice(class.as_slice())?;
     push_where(specs, place, fixed, out)?;
     out.push(b'\n')?;
     Ok(())

@@ -58,7 +58,7 @@ pub(crate) fn run(
 {
     let ir = lower(alloc, program)?;
     let images = build_images(alloc, &ir)?;
-    match net.load(ir, images, specs) {
+    match net.load(&ir, images, specs) {
         Ok(_) => run_loaded(alloc, specs, net),
         Err(error) => {
             let end = full_end(error)?;

@@ -130,11 +130,11 @@ wanted_has c oid (false ∷ ms) (suc i) z e h =
 
 -- ---- a round
 
--- one mark an object, only of members, and one of x
+-- one mark an object, only of members, and one of x where x is there
 pub record MarksSome (c : Common) (x : ℕ) (ms : List Bool) : Type 0 where
   pub one_each : length ms ≡ length c.objects
   pub sound : (y : ℕ) → mark_at ms y ≡ Some true → InGroup c x y
-  pub start : mark_at ms x ≡ Some true
+  pub start : IsSome (object_at c.objects x) → mark_at ms x ≡ Some true
 
 -- what marked objects are attached to is marked
 pub record IsClosed (c : Common) (ms : List Bool) : Type 0 where
@@ -144,7 +144,7 @@ pub closed_group : (c : Common) (x : ℕ) (ms : List Bool) → MarksSome c x ms 
 closed_group c x ms m k = record { one_each = m.one_each; each = λ y. (m.sound y, whole y) }
   where
     whole : (y : ℕ) → InGroup c x y → mark_at ms y ≡ Some true
-    whole y Itself = m.start
+    whole y (Itself there) = m.start there
     whole _ (Linked y z g h i) = k.links y z (whole y g) h i
 
 spread_new : (c : Common) (x : ℕ) (ms : List Bool) → MarksSome c x ms → (y : ℕ) → y ≤ length ms → 0 < y → Has (wanted c 1 ms) y → InGroup c x y
@@ -161,7 +161,7 @@ spread_some c x ms m = record {
       let w = mark_within (spread c ms) y true e in
       let n = length-mark_all (wanted c 1 ms) 1 ms in
       ⊎_elim (λ (o : mark_at ms y ≡ Some true). m.sound y o) (λ (h : Has (wanted c 1 ms) y). spread_new c x ms m y (let l = w.1 in omega arith) w.0 h) (marks_old (wanted c 1 ms) ms y e);
-  start = marks_kept (wanted c 1 ms) ms x m.start;
+  start = λ there. marks_kept (wanted c 1 ms) ms x (m.start there);
 }
 
 links_spread : (c : Common) (ms : List Bool) → length ms ≡ length c.objects → (y z : ℕ) → mark_at ms y ≡ Some true → Has (links_of c y) z → IsSome (object_at c.objects z) → mark_at (spread c ms) z ≡ Some true
@@ -251,38 +251,53 @@ none_marked-mark : (os : List ObjectRec) (y : ℕ) → mark_at (none_marked os) 
 none_marked-mark os zero e = cc
 none_marked-mark os (suc i) e = none_marked-get os i e
 
-first_marks : (c : Common) (x : ℕ) → 0 < x → x ≤ length c.objects → MarksSome c x (mark_all (x ∷ []) 1 (none_marked c.objects))
-first_marks c x p l =
+first_marks : (c : Common) (x : ℕ) → MarksSome c x (mark_all (x ∷ []) 1 (none_marked c.objects))
+first_marks c x =
     let n = length-none_marked c.objects in
+    let all = length-mark_all (x ∷ []) 1 (none_marked c.objects) in
     record {
-      one_each = length-mark_all (x ∷ []) 1 (none_marked c.objects) ∙ n;
+      one_each = all ∙ n;
       sound = λ y e. ⊎_elim
           (λ (o : mark_at (none_marked c.objects) y ≡ Some true). absurd (none_marked-mark c.objects y o))
-          (λ (h : Has (x ∷ []) y). (let s = has_one x y h in rw s Itself))
+          (λ (h : Has (x ∷ []) y).
+          let s = has_one x y h in
+          let w = mark_within (mark_all (x ∷ []) 1 (none_marked c.objects)) y true e in
+          let there : IsSome (object_at c.objects x) = within_object c.objects x (let p = w.0 in omega arith) (let l = w.1 in omega arith) in
+          rw s (Itself there))
           (marks_old (x ∷ []) (none_marked c.objects) y e);
-      start = marks_named (x ∷ []) (none_marked c.objects) x (has_first x []) p (omega arith);
+      start = λ there. (let w = object_within c.objects x there in marks_named (x ∷ []) (none_marked c.objects) x (has_first x []) w.0 (let l = w.1 in omega arith));
     }
 
 -- the list that the definition computes is the group
-pub group_of_is : (c : Common) (x : ℕ) → 0 < x → x ≤ length c.objects → IsGroup c x (group_of c x)
-group_of_is c x p l =
+pub group_of_is : (c : Common) (x : ℕ) → IsGroup c x (group_of c x)
+group_of_is c x =
     let ms = mark_all (x ∷ []) 1 (none_marked c.objects) in
-    let m = first_marks c x p l in
+    let m = first_marks c x in
     let some = rounds_some c x (length c.objects) ms m in
     let few : unmarked ms ≤ length c.objects = (let u = unmarked_within ms in let n = m.one_each in omega arith) in
     marked_group c x (rounds c (length c.objects) ms)
     (closed_group c x (rounds c (length c.objects) ms) some (fixed_closed c (rounds c (length c.objects) ms) some.one_each (rounds_fixed c (length c.objects) ms few)))
 
 -- any list that is the group is that list
-pub group_of_same : (c : Common) (x : ℕ) (xs : List ℕ) → 0 < x → x ≤ length c.objects → IsGroup c x xs → xs ≡ group_of c x
-group_of_same c x xs p l g = group_same c x xs (group_of c x) g (group_of_is c x p l)
+pub group_of_same : (c : Common) (x : ℕ) (xs : List ℕ) → IsGroup c x xs → xs ≡ group_of c x
+group_of_same c x xs g = group_same c x xs (group_of c x) g (group_of_is c x)
+
+-- a number that names no object has no group
+pub group_of_none : (c : Common) (x : ℕ) → (IsSome (object_at c.objects x) → ⊥) → group_of c x ≡ []
+group_of_none c x missing = sym (group_of_same c x [] (record { rising = tt; each = λ y. (λ h. absurd (has_none y h), λ g. absurd (nothing y g)) }))
+  where
+    nothing : (y : ℕ) → InGroup c x y → ⊥
+    nothing y (Itself there) = missing there
+    nothing _ (Linked y z g h i) = nothing y g
 
 -- where nothing is attached, an object is its whole group
 pub group_of_alone : (c : Common) (x : ℕ) → ((y : ℕ) → links_of c y ≡ []) → 0 < x → x ≤ length c.objects → group_of c x ≡ x ∷ []
-group_of_alone c x none p l = sym (group_of_same c x (x ∷ []) p l (record { rising = tt; each = λ y. (λ h. (let s = has_one x y h in rw s Itself), only y) }))
+group_of_alone c x none p l =
+    let there = within_object c.objects x p l in
+    sym (group_of_same c x (x ∷ []) (record { rising = tt; each = λ y. (λ h. (let s = has_one x y h in rw s (Itself there)), only y) }))
   where
     only : (y : ℕ) → InGroup c x y → Has (x ∷ []) y
-    only y Itself = has_first x []
+    only y (Itself there) = has_first x []
     only _ (Linked y z g h i) = let e = none y in absurd (has_none z (rw e at h))
 
 -- a class none of whose fields is attached

@@ -143,7 +143,7 @@ one_found c x y z s f g e =
             (λ (q : v ≡ z). rw q (g (within_object c.objects z w.0 (let n = f.some.one_each in let l = w.1 in omega arith))))
             (λ (k : mark_at s.marks v ≡ Some true). f.some.sound v k)
             (mark_old s.marks z v w.0 m);
-        start = mark_kept s.marks z x f.some.start;
+        start = λ there. mark_kept s.marks z x (f.some.start there);
       };
       pending = λ v h. ⊎_elim
           (λ (k : Has s.todo v). mark_kept s.marks z v (f.pending v k))
@@ -281,10 +281,10 @@ first_found c x p l =
       some = record {
         one_each = length_set (replicate n false) (x - 1) true ∙ unset-length n;
         sound = λ y m. ⊎_elim
-            (λ (q : y ≡ x). rw q Itself)
+            (λ (q : y ≡ x). rw q (Itself (within_object c.objects x p l)))
             (λ (k : mark_at (replicate n false) y ≡ Some true). absurd (unset-mark n y k))
             (mark_old (replicate n false) x y p m);
-        start = mark_same (replicate n false) x false (unset-first n x p l);
+        start = λ there. mark_same (replicate n false) x false (unset-first n x p l);
       };
       pending = λ y h. (let q = has_one x y h in rw q (mark_same (replicate n false) x false (unset-first n x p l)));
       closed = λ y m. ⊎_elim
@@ -293,8 +293,38 @@ first_found c x p l =
           (mark_old (replicate n false) x y p m);
     }
 
-pub first_search : (c : Common) (x : ℕ) → 0 < x → x ≤ length c.objects → IsSearch c x (found (record { marks = replicate (length c.objects) false; todo = [] }) x)
-first_search c x p l = let e = unset-first (length c.objects) x p l in rw e (first_found c x p l)
+-- a number that names no object is not found
+none_found : (c : Common) (x : ℕ) → (IsSome (object_at c.objects x) → ⊥) → IsSearch c x (record { marks = replicate (length c.objects) false; todo = [] })
+none_found c x missing =
+    let n = length c.objects in
+    record {
+      some = record {
+        one_each = unset-length n;
+        sound = λ y m. absurd (unset-mark n y m);
+        start = λ there. absurd (missing there);
+      };
+      pending = λ y h. absurd (has_none y h);
+      closed = λ y m. absurd (unset-mark n y m);
+    }
+
+pub first_search : (c : Common) (x : ℕ) → IsSearch c x (found (record { marks = replicate (length c.objects) false; todo = [] }) x)
+first_search c x = part (mark_at (replicate n false) x) refl
+  where
+    n : ℕ
+    n = length c.objects
+
+    start : Search
+    start = record { marks = replicate n false; todo = [] }
+
+    missing : mark_at (replicate n false) x ≡ None → IsSome (object_at c.objects x) → ⊥
+    missing e there = let w = object_within c.objects x there in let f = unset-first n x w.0 w.1 in cc
+
+    part : (m : Option Bool) → mark_at (replicate n false) x ≡ m → IsSearch c x (found_if start x m)
+    part None e = none_found c x (missing e)
+    part (Some true) e = absurd (unset-mark n x e)
+    part (Some false) e =
+        let w = mark_within (replicate n false) x false e in
+        first_found c x w.0 (let l = w.1 in let k = unset-length n in omega arith)
 
 -- ---- a search comes to an end
 
@@ -325,10 +355,10 @@ less_work zs s y e =
 
 -- ---- as the code has them
 
-pub found_first : (c : Common) (x n : ℕ) (s t : Search) → n ≡ length c.objects → s.marks ≡ replicate n false → s.todo ≡ [] → t ≡ found s x → 0 < x → x ≤ length c.objects → IsSearch c x t
-found_first c x n s t e m d r p l =
+pub found_first : (c : Common) (x n : ℕ) (s t : Search) → n ≡ length c.objects → s.marks ≡ replicate n false → s.todo ≡ [] → t ≡ found s x → IsSearch c x t
+found_first c x n s t e m d r =
     let q : s ≡ record { marks = replicate (length c.objects) false; todo = [] } = (rw e at (parts s.marks s.todo m d)) in
-    rw (r, q) (first_search c x p l)
+    rw (r, q) (first_search c x)
   where
     parts : (ms : List Bool) (todo : List ℕ) → ms ≡ replicate n false → todo ≡ [] → (let k : Search = record { marks = ms; todo = todo } in k) ≡ record { marks = replicate n false; todo = [] }
     parts ms todo a b = rw (a, b) refl

@@ -38,10 +38,10 @@ links_if classes (Some o) = links_in (fields_if (class_at classes o.class)) o.fi
 abbrev pub links_of : Common → ℕ → List ℕ
 links_of c oid = links_if c.classes (object_at c.objects oid)
 
--- the least set with x that is closed under attached fields that aren't nil; a field that names no object that is there
--- leads to none
+-- the least set with object x that is closed under attached fields that aren't nil; a field that names no object that is
+-- there leads to none, and a number that names no object has no group: nothing is in it
 pub data InGroup (c : Common) (x : ℕ) : ℕ → Type 0 where
-  Itself : InGroup c x x
+  Itself : IsSome (object_at c.objects x) → InGroup c x x
   Linked : (y z : ℕ) → InGroup c x y → Has (links_of c y) z → IsSome (object_at c.objects z) → InGroup c x z
 
 -- each item is below the next
@@ -97,7 +97,7 @@ marked_from oid [] = []
 marked_from oid (true ∷ ms) = oid ∷ marked_from (suc oid) ms
 marked_from oid (false ∷ ms) = marked_from (suc oid) ms
 
--- the members of x's group: as many rounds as there are objects reach them all
+-- the members of x's group: as many rounds as there are objects reach them all; none where x names no object
 abbrev pub group_of : Common → ℕ → List ℕ
 group_of c x = marked_from 1 (rounds c (length c.objects) (mark_all (x ∷ []) 1 (none_marked c.objects)))
 

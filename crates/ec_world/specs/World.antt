@@ -1,5 +1,5 @@
 -- Actions, moves by the operator and turns, over any meaning of activations. No case reads a place.
-use Rattle.std.specs.Prelude.{◌≡◌, ℕ, ◌<◌, ◌^◌, ◌-◌, length, IsSome, Bool, true, false, List, [], ◌∷◌, ◌++◌, Option, Some, None, slice_get, slice_set}
+use Rattle.std.specs.Prelude.{◌≡◌, ℕ, length, IsSome, Bool, true, false, List, [], ◌∷◌, ◌++◌, Option, Some, None, slice_get, slice_set}
 use Rattle.ec_base.specs.Stack.{top_of, below_of}
 use Rattle.ec_world.specs.declared.value.Value.{Value}
 use Rattle.ec_world.specs.declared.process.ProcStatus.{ProcStatus}
@@ -74,16 +74,13 @@ module _ {A : Type 0} (M : ActivationMeaning A) where
   abbrev pub Action : World A → ℕ → World A
   Action w p = act_on w p (below_of (stack_at w p)) (top_of (stack_at w p))
 
-  -- p is Ready, its top activation is pending, the table has a case for it, and one more object, process and
-  -- activation can be numbered
+  -- p is Ready with an activation on top (the stack at a process that isn't there or isn't Ready is empty), the action of
+  -- that activation's stop is pending, and the table has a case for it
   pub record CanAct (w : World A) (p : ℕ) : Type 0 where
     pub top : A
     pub is_top : top_of (stack_at w p) ≡ Some top
     pub pending : M.is_pending top ≡ true
     pub has_case : IsSome (outcome_of w p (below_of (stack_at w p)) top)
-    pub objects : length w.common.objects < 2 ^ 32 - 1
-    pub processes : length w.processes < 2 ^ 32 - 1
-    pub activations : length (stack_at w p) < 2 ^ 32 - 1
 
 -- turns, over what silent steps make of an activation and of what the world has beside its processes
 module _ {A : Type 0} (M : ActivationMeaning A) (advance : Common → A → Common × A) where

@@ -1,5 +1,5 @@
 //! What a world has beside its processes, and what a stop's action does to it.
-ghost use Rattle.std.specs.Prelude.{◌≡◌, ◌+◌, ◌-◌, ◌<◌, ◌^◌, IfOk, OnOk, ◌++◌, drop, IsSome, length, slice_get};
+ghost use Rattle.std.specs.Prelude.{◌≡◌, IfOk, OnOk, ◌++◌, drop, IsSome};
 ghost use Rattle.ec_world.specs.declared.common.Common.{Common};
 ghost use Rattle.ec_world.specs.Values.{field_defaults};
 ghost use Rattle.ec_world.specs.Effects.{effect_of, class_at, print_effect, global_effect, return_effect, new_effect};
@@ -8,7 +8,7 @@ use crate::class::{ClassNo, Classes, FieldRec};
 use crate::event::Event;
 use crate::object::ObjectRec;
 use crate::stop::{Effect, Stop, Who};
-use crate::value::{Text, Value, Values};
+use crate::value::{Text, Value, Values, number_of};
 use ec_base::list::Seq;
 use std::alloc::{AllocError, Global};
 
@@ -25,7 +25,7 @@ pub struct Common {
 }
 
 impl Common {
-    /// The action of a stop.
+    /// The action of a stop. An error is want of memory, or a new object whose number has more than 32 bits.
     pub(crate) fn act(
         &mut self,
         alloc: Global,
@@ -33,8 +33,7 @@ impl Common {
         stop: Stop,
         operands: Values,
     ) -> Result<Effect, AllocError>
-        requires case { IsSome (effect_of self.old who stop operands) }
-        requires room { length self.old.objects < 2 ^ 32 - 1 }
+        requires { IsSome (effect_of self.old who stop operands) }
         ensures { IfOk result (λ e. effect_of self.old who stop operands ≡ Some (self.new, e)) }
     {
         match stop {
@@ -47,6 +46,8 @@ impl Common {
         }
     }
 
+    /// A new object of a class, with an activation on it. An error is want of memory, or an object whose number has more
+    /// than 32 bits.
     fn create(
         &mut self,
         alloc: Global,
@@ -54,8 +55,7 @@ impl Common {
         class: ClassNo,
         given: Values,
     ) -> Result<Effect, AllocError>
-        requires case { IsSome (new_effect self.old who class given (class_at self.old.classes class)) }
-        requires room { length self.old.objects < 2 ^ 32 - 1 }
+        requires { IsSome (new_effect self.old who class given (class_at self.old.classes class)) }
         ensures { IfOk result (λ e. new_effect self.old who class given (class_at self.old.classes class) ≡ Some (self.new, e)) }
     {
         let ClassNo::Made(number) = class else {
@@ -66,13 +66,13 @@ impl Common {
         let mut fields = given;
         let from = fields.len();
         push_defaults(alloc, &mut fields, &made.fields, from)?;
-        let oid = self.objects.len() as u32 + 1;
         self.objects.push(ObjectRec {
             class,
             fields,
             fixed: false,
             monitor: None,
         })?;
+        let oid = number_of(self.objects.len())?;
         self.events.push(Event::Created {
             oid,
             maker: who.own,

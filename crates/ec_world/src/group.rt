@@ -1,20 +1,18 @@
 //! The group of an object: what moves with it.
-ghost use Rattle.std.specs.Prelude.{◌≡◌, ◌<◌, ◌≤◌, ◌^◌, IfOk, OnOk, [], length};
+ghost use Rattle.std.specs.Prelude.{◌≡◌, IfOk, OnOk, []};
 ghost use Rattle.ec_world.specs.Group.{IsGroup, MarksGroup, group_of, link_of, links_in, links_of, marked_from};
 
 use crate::activation::Activation;
 use crate::class::{ClassNo, FieldRec};
 use crate::common::Common;
-use crate::value::{Oid, Value, Values};
+use crate::value::{Oid, Value, Values, number_of};
 use crate::world::World;
 use ec_base::list::Seq;
 use std::alloc::{AllocError, Global};
 
-/// The members of an object's group, rising: the object, and all that it and they are attached to.
+/// The members of an object's group, rising: the object, and all that it and they are attached to. A number that names
+/// no object has no members. An error is want of memory, or a member whose number has more than 32 bits.
 pub fn group<A: Activation>(world: &World<A>, x: Oid) -> Result<Vec<Oid>, AllocError>
-    requires number { 0 < x }
-    requires there { x ≤ length world.now.common.objects }
-    requires few { length world.now.common.objects < 2 ^ 32 }
     ensures is { IfOk result (λ v. v.items ≡ group_of world.now.common x) }
     ensures members { IfOk result (λ v. IsGroup world.now.common x v.items) }
 {
@@ -24,8 +22,6 @@ pub fn group<A: Activation>(world: &World<A>, x: Oid) -> Result<Vec<Oid>, AllocE
 
 /// Marks of the members of an object's group, one mark an object.
 fn reach(common: &Common, x: Oid) -> Result<Seq<bool>, AllocError>
-    requires number { 0 < x }
-    requires there { x ≤ length common.now.objects }
     ensures { IfOk result (λ marks. MarksGroup common.now x marks) }
 {
     let alloc = common.objects.allocator();
@@ -40,15 +36,14 @@ fn reach(common: &Common, x: Oid) -> Result<Seq<bool>, AllocError>
     Ok(search.marks)
 }
 
-/// The numbers of what is marked.
+/// The numbers of what is marked. An error is want of memory, or a mark whose number has more than 32 bits.
 fn marked(alloc: Global, marks: &Seq<bool>) -> Result<Vec<Oid>, AllocError>
-    requires { length marks.now < 2 ^ 32 }
     ensures { IfOk result (λ v. v.items ≡ marked_from 1 marks.now) }
 {
     let mut oids = Vec::new(alloc);
     for i in 0..marks.len() {
         if *marks.at(i) {
-            oids.push(i as u32 + 1)?;
+            oids.push(number_of(i + 1)?)?;
         }
     }
     Ok(oids)

@@ -74,6 +74,16 @@ impl ValueType {
     }
 }
 
+/// A count as a number of 32 bits. Want of memory where it has more: a table of such numbers is full.
+pub(crate) fn number_of(count: usize) -> Result<u32, AllocError>
+    ensures { IfOk result (λ number. number ≡ count) }
+{
+    match u32::try_from(count) {
+        Ok(number) => Ok(number),
+        Err(_) => Err(AllocError),
+    }
+}
+
 /// The same text again.
 pub fn copy_text(text: &Text) -> Result<Text, AllocError>
     ensures { IfOk result (λ t. t ≡ text.now) }

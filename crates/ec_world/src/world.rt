@@ -6,7 +6,7 @@ use crate::activation::Activation;
 use crate::common::Common;
 use crate::process::Proc;
 use crate::stop::Who;
-use crate::value::Pid;
+use crate::value::{Pid, number_of};
 use ec_base::list::Seq;
 use std::alloc::AllocError;
 
@@ -18,7 +18,9 @@ pub struct World<A: Activation> {
 }
 
 impl<A: Activation> World<A> {
-    /// The action of the stop at which a process rests. Nothing is said of the world after want of memory.
+    /// The action of the stop at which a process rests. An error is want of memory, or a table of numbers of 32 bits that
+    /// is full: the depth of the top activation has more bits, or the number of a new object would have. Nothing is said
+    /// of the world after an error.
     pub fn act(&mut self, p: Pid) -> Result<(), AllocError>
         requires { CanAct A.meaning self.old p }
         ensures { OnOk result (self.new ≡ Action A.meaning self.old p) }
@@ -28,7 +30,7 @@ impl<A: Activation> World<A> {
         let top = activations.last();
         let who = Who {
             process: p,
-            depth: (activations.len() - 1) as u32,
+            depth: number_of(activations.len() - 1)?,
             operation: top.operation(),
             own: top.own(),
         };

@@ -10,12 +10,12 @@ use Rattle.ec_memory.proofs.Words.{word_written, word_other, byte_beside}
 use Rattle.ec_stops.specs.Machine.{block_at}
 use Rattle.ec_target.specs.Code.{word_at, pc_of}
 use Rattle.ec_target.specs.Runs.{Leads}
-use Rattle.rv_machine.specs.declared.field.Register.{Register}
-use Rattle.rv_machine.specs.declared.field.Twelve.{Twelve}
-use Rattle.rv_machine.specs.declared.field.Twenty.{Twenty}
+use Rattle.rv_isa.specs.declared.field.Register.{Register}
+use Rattle.rv_isa.specs.declared.field.Twelve.{Twelve}
+use Rattle.rv_isa.specs.declared.field.Twenty.{Twenty}
 use Rattle.rv_machine.specs.declared.machine.RvMachine.{RvMachine}
-use Rattle.rv_machine.specs.Parts.{high_of, low_of}
-use Rattle.rv_machine.specs.Step.{plus, extended}
+use Rattle.rv_isa.specs.Parts.{high_of, low_of}
+use Rattle.rv_machine.specs.Values.{plus, extended}
 use Rattle.rv_machine.specs.Machine.{rv_goes, rv_register}
 use Rattle.rv_machine.proofs.Effects.{put, small_offset, number_goes, place-put, register-put_other}
 use Rattle.rv_codegen.specs.Code.{literal_words}
@@ -65,7 +65,7 @@ literal_puts code f n index m b i old has at low base small few word there =
     let first : m.pc ≡ pc_of (i + 0) = omega (arith, at) in
     let second : m.pc + 4 ≡ pc_of (i + 1) = omega (arith, at) in
     let third : m.pc + 8 ≡ pc_of (i + 2) = omega (arith, at) in
-    let address : slot_at f n ≡ plus (rv_register m 8) (extended (112 + 4 * n)) =
+    let address : slot_at f n ≡ plus (rv_register m 8) (extended 12 (112 + 4 * n)) =
     sym (small_offset (rv_register m 8) (112 + 4 * n) (omega arith) (omega (arith, base)) ∙ omega (arith, base)) in
     record {
       last = put m 5 index;

@@ -14,8 +14,8 @@ use Rattle.ec_stops.specs.declared.table.OperationCode.{OperationCode}
 use Rattle.ec_stops.specs.declared.table.Code.{Code}
 use Rattle.ec_stops.specs.declared.table.StopTable.{StopTable}
 use Rattle.ec_stops.specs.Faithful.{row_or_empty, home_in, stop_in, words_of}
-use Rattle.rv_machine.specs.Words.{i_word, s_word, u_word}
-use Rattle.rv_machine.specs.Parts.{high_of, low_of}
+use Rattle.rv_isa.specs.Words.{i_word, s_word, u_word}
+use Rattle.rv_isa.specs.Parts.{high_of, low_of}
 
 -- ---- the words of one operation of three-address code
 

@@ -5,13 +5,14 @@ ghost use Rattle.ec_ir.specs.declared.code.StopRec.{StopRec};
 ghost use Rattle.ec_target.specs.Code.{pc_of};
 ghost use Rattle.rv_codegen.specs.Code.{literal_words, op_words, operation_code, operation_words, pieces, before};
 ghost use Rattle.rv_codegen.specs.Emit.{CanPut, CanPutAll, StopsWithin};
-ghost use Rattle.rv_machine.specs.Words.{word_of};
+ghost use Rattle.rv_isa.specs.Words.{word_of};
 
 use ec_base::list::Seq;
 use ec_ir::code::{IrOp, Operation, StopRec};
 use ec_stops::table::{OperationCode, Place};
-use rv_machine::field::{Register, Twelve, high_part, low_part};
-use rv_machine::isa::{Instr, encode};
+use rv_isa::field::{Register, Twelve, high_part, low_part};
+use rv_isa::instr::{Immediate, Instr, Store};
+use rv_isa::word::encode;
 use std::alloc::{AllocError, Global};
 
 /// Where code starts.
@@ -110,7 +111,8 @@ fn put_literal(words: &mut Seq<u32>, slot: u32, index: u32) -> Result<(), AllocE
     )?;
     put(
         words,
-        Instr::Addi {
+        Instr::OnImmediate {
+            operation: Immediate::Addi,
             rd: free,
             rs1: free,
             number: low_part(index),
@@ -118,7 +120,8 @@ fn put_literal(words: &mut Seq<u32>, slot: u32, index: u32) -> Result<(), AllocE
     )?;
     put(
         words,
-        Instr::Sw {
+        Instr::StoreTo {
+            store: Store::Sw,
             rs1: Register { number: FRAME },
             rs2: free,
             offset: Twelve {

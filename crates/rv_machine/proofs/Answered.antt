@@ -1,7 +1,7 @@
 -- What a step's answer says of the step.
 use Rattle.std.proofs.Common.{◌≡◌, ◌≢◌, ◌↔◌, ℕ, List, Some, None, sym, ap, subst}
-use Rattle.rv_machine.specs.Words.{word_of}
-use Rattle.rv_machine.specs.declared.isa.Instr.{Instr}
+use Rattle.rv_isa.specs.Words.{word_of}
+use Rattle.rv_isa.specs.declared.instr.Instr.{Instr}
 use Rattle.ec_base.specs.Bytes.{Bytes}
 use Rattle.ec_target.specs.Runs.{Answers}
 use Rattle.ec_target.specs.declared.outcome.Trap.{Trap}

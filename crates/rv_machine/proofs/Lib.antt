@@ -1,3 +1,4 @@
 pub mod Answered
+pub mod Divisions
 pub mod Effects
-pub mod NoMemory
+pub mod Products

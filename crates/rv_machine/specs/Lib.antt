@@ -1,6 +1,5 @@
+pub mod Laws
 pub mod Machine
 pub mod MachineLaws
-pub mod OneWord
-pub mod Parts
 pub mod Step
-pub mod Words
+pub mod Values

@@ -1,6 +1,6 @@
 -- A RISC-V machine meets the laws of a machine.
 use Rattle.std.proofs.Common.{◌≡◌, ℕ, ◌≤◌, List, length, Bool, true, false, cond, Option, Some, None, refl, sym, ap, ◌∙◌, subst, lit<}
-use Rattle.std.specs.Prelude.{◌==◌, ◌%◌, is_some}
+use Rattle.std.specs.Prelude.{◌==◌, ◌*◌, ◌/◌, ◌%◌, is_some}
 use Rattle.byteorder.specs.Endian.{little_bytes}
 use Rattle.std.specs.Coded.{le_prop}
 use Rattle.std.proofs.lemmas.Option.{same_Some}
@@ -9,14 +9,15 @@ use Rattle.ec_target.specs.Code.{word_at}
 use Rattle.ec_target.specs.Runs.{AreApart, AreBases, IsOneWay}
 use Rattle.ec_target.specs.declared.outcome.Cause.{Cause}
 use Rattle.ec_target.specs.declared.outcome.Cause.TheVariants.{Unaligned}
-use Rattle.rv_machine.specs.declared.field.Register.{Register}
-use Rattle.rv_machine.specs.declared.isa.Instr.{Instr}
-use Rattle.rv_machine.specs.declared.isa.Instr.TheVariants.{Lui, Lw, Sw, Addi, Ecall}
+use Rattle.rv_isa.specs.OneWord.{one_word}
+use Rattle.rv_isa.specs.Words.{word_of}
+use Rattle.rv_isa.specs.declared.field.Register.{Register}
+use Rattle.rv_isa.specs.declared.instr.Instr.{Instr}
+use Rattle.rv_isa.specs.declared.instr.Instr.TheVariants.{Lui, Auipc, Jal, Jalr, BranchIf, LoadFrom, StoreTo, OnImmediate, OnShift, OnRegisters, Ecall}
 use Rattle.rv_machine.specs.declared.machine.RvMachine.{RvMachine}
 use Rattle.rv_machine.specs.Machine.{state_of, rv_goes, rv_stops, rv_traps}
-use Rattle.rv_machine.specs.OneWord.{one_word}
-use Rattle.rv_machine.specs.Words.{word_of}
-use Rattle.rv_machine.specs.Step.{State, Next, Goes, Stops, Traps, RvStep, nowhere, unlisted, listed, does, address, read, loads, stores, aligned, word_from}
+use Rattle.rv_machine.specs.Step.{State, Next, Goes, Stops, Traps, RvStep, nowhere, unlisted, listed, does, address, read, behind, jumps, linked, loaded, loads, stores, aligned}
+use Rattle.rv_machine.specs.Values.{plus, extended, is_taken, load_size, store_size}
 
 -- ---- a step comes to one thing
 
@@ -70,12 +71,22 @@ rv_apart code = record {
 abbrev IsOn : Next → Type 0
 IsOn next = Stops ≡ next → ⊥
 
-split_on : (t : Bool) (cause : Cause) (next : Next) → IsOn next → IsOn (cond t next (Traps cause))
-split_on true cause next h e = h e
-split_on false cause next h e = cc
+goes_on : (s : State) → IsOn (Goes s)
+goes_on s e = cc
 
-aligned_on : (at : ℕ) (next : Next) → IsOn next → IsOn (aligned at next)
-aligned_on at next h = split_on (at % 4 == 0) Unaligned next h
+either_on : (t : Bool) (m n : Next) → IsOn m → IsOn n → IsOn (cond t m n)
+either_on true m n h k e = h e
+either_on false m n h k e = k e
+
+traps_on : (cause : Cause) → IsOn (Traps cause)
+traps_on cause e = cc
+
+aligned_on : (size at : ℕ) (next : Next) → IsOn next → IsOn (aligned size at next)
+aligned_on size at next h = either_on (at % size == 0) next (Traps Unaligned) h (traps_on Unaligned)
+
+jumps_on : (s : State) (target : ℕ) → IsOn (jumps s target)
+jumps_on s target =
+    let next : State = record s { pc = target } in aligned_on 4 target (Goes next) (goes_on next)
 
 loads_on : (s : State) (rd : Register) (o : Option ℕ) → IsOn (loads s rd o)
 loads_on s rd None e = cc
@@ -87,14 +98,25 @@ stores_on s at bs true e = cc
 
 stop_is : (i : Instr) (s : State) → Stops ≡ does i s → word_of i ≡ 0x00000073
 stop_is (Lui rd high) s e = absurd (cc)
-stop_is (Lw rd rs1 offset) s e =
-    let at = address s rs1 offset in absurd (aligned_on at (loads s rd (word_from s.bytes at)) (loads_on s rd (word_from s.bytes at)) e)
-stop_is (Sw rs1 rs2 offset) s e =
+stop_is (Auipc rd high) s e = absurd (cc)
+stop_is (Jal rd offset) s e = absurd (jumps_on (linked s rd) (plus s.pc (extended 21 offset.bits)) e)
+stop_is (Jalr rd rs1 offset) s e = absurd (jumps_on (linked s rd) (address s rs1 offset / 2 * 2) e)
+stop_is (BranchIf branch rs1 rs2 offset) s e =
+    let target = plus s.pc (extended 13 offset.bits) in
+    absurd (either_on (is_taken branch (read s rs1) (read s rs2)) (jumps s target) (Goes (behind s)) (jumps_on s target) (goes_on (behind s)) e)
+stop_is (LoadFrom load rd rs1 offset) s e =
     let at = address s rs1 offset in
-    let bs = little_bytes 4 (read s rs2) in
-    let there = is_some (bytes_from s.bytes at 4) in
-    absurd (aligned_on at (stores s at bs there) (stores_on s at bs there) e)
-stop_is (Addi rd rs1 number) s e = absurd (cc)
+    let found = loaded load s.bytes at in
+    absurd (aligned_on (load_size load) at (loads s rd found) (loads_on s rd found) e)
+stop_is (StoreTo store rs1 rs2 offset) s e =
+    let at = address s rs1 offset in
+    let size = store_size store in
+    let bs = little_bytes size (read s rs2) in
+    let there = is_some (bytes_from s.bytes at size) in
+    absurd (aligned_on size at (stores s at bs there) (stores_on s at bs there) e)
+stop_is (OnImmediate operation rd rs1 number) s e = absurd (cc)
+stop_is (OnShift shift rd rs1 amount) s e = absurd (cc)
+stop_is (OnRegisters operation rd rs1 rs2) s e = absurd (cc)
 stop_is Ecall s e = refl
 
 pub rv_stops_at : (code : List ℕ) (m : RvMachine) (b : Bytes) → rv_stops code m b → word_at code m.pc ≡ Some 0x00000073

@@ -1,7 +1,7 @@
-//! A RISC-V machine: its instructions, their words, and what each does.
+//! A RISC-V machine: its registers, and what each instruction does to them and to a memory.
 #![tactic(auto)]
 
 mod access;
-pub mod field;
-pub mod isa;
+pub mod arithmetic;
+mod execute;
 pub mod machine;

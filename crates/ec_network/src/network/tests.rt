@@ -153,7 +153,7 @@ fn load_hello(alloc: Global, blocks: u32) -> Result<(Network, Result<Did, NetErr
     let images = images_of(alloc, &program)?;
     let specs = one_node(alloc, blocks)?;
     let mut network = Network::empty(alloc);
-    let did = network.load(program, images, &specs);
+    let did = network.load(&program, images, &specs);
     Ok((network, did))
 }
 
@@ -175,7 +175,7 @@ fn is_of_class(network: &Network, o: Oid, name: &[u8]) -> bool
     requires { IsTrue network.now.whole }
 {
     match network.class_name(o) {
-        Some(class) => class == name,
+        Some(class) => class.as_slice() == name,
         None => false,
     }
 }

@@ -123,5 +123,6 @@ fn cycle_is_one_group(rt: HostRuntime) -> Result<(), Fail> {
     assert_eq!(rt; group(&world, 4)?.as_slice(), [4, 5].as_slice());
     assert_eq!(rt; group(&world, 5)?.as_slice(), [4, 5].as_slice());
     assert_eq!(rt; group(&world, 6)?.as_slice(), [6].as_slice());
+    assert_eq!(rt; group(&world, 7)?.as_slice(), [].as_slice());
     Ok(())
 }

@@ -1,4 +1,4 @@
-use Rattle.std.proofs.Common.{◌≡◌, ◌∙◌, ◌<◌, length, arith, ap}
+use Rattle.std.proofs.Common.{◌∙◌, ◌<◌, length, arith, ap}
 use Rattle.ec_ir.specs.Meaning.{put}
 use Rattle.ec_ir.proofs.Put.{put_more}
 use Rattle.ec_ir.proofs.activation.pad.Goals as goal

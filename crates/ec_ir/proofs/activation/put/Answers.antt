@@ -1,4 +1,4 @@
-use Rattle.std.proofs.Common.{◌≡◌, ◌∙◌, ◌<◌, length, arith, sym}
+use Rattle.std.proofs.Common.{◌∙◌, ◌<◌, length, arith, sym}
 use Rattle.std.proofs.lemmas.Grind.{common_steps}
 use Rattle.ec_ir.proofs.Put.{put_end, put_in}
 use Rattle.ec_ir.proofs.activation.put.Goals as goal

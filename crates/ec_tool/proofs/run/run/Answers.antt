@@ -21,8 +21,8 @@ returns-in-Ok c =
     c.run_loaded.result c.run_loaded.ensures
     (λ a r. runs_loaded c.args.program.now c.in_ok-ir.ir c.args.specs.now c.args.net.now old net' a.status a.text.items c.in_ok-ir.ensures.means c.requires.empty c.in-Ok.ensures.shows r)
 
-pub returns-in_ok-end-in-Err : goal.returns-in_ok-end-in-Err
-returns-in_ok-end-in-Err c =
+pub returns : goal.returns
+returns c =
     let e = c.in-Err in
     let end = c.in_ok-end-in-Err.end in
     if_ok_two (λ (a : Answer). a.status ≡ statuses.Full) (λ (a : Answer). a.text.items ≡ load_report c.args.specs.now end) (λ (a : Answer). RunsTo c.args.program.now c.args.specs.now [] default_budget c.args.net.now c.load.new.self a.status a.text.items)

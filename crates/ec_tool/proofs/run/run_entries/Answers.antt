@@ -1,11 +1,14 @@
 use Rattle.std.proofs.Common.{[], length, ap}
 use Rattle.ec_network.specs.Net.{Net}
 use Rattle.ec_tool.specs.Emerald.{ir_run}
-use Rattle.ec_tool.proofs.Following.{after_load, ended_by_itself, ended_refused, after_next}
+use Rattle.ec_tool.proofs.Following.{after_load, ended_by_itself, ended_refused, after_next, follows_shown}
 use Rattle.ec_tool.proofs.run.run_entries.Goals as goal
 
 pub entries-init : goal.entries-init
 entries-init c = after_load c.args.specs.now c.args.net.now c.requires.loaded
+
+pub next_step-requires-clause-shown : goal.next_step-requires-clause-shown
+next_step-requires-clause-shown c = follows_shown c.args.specs.now c.args.net.now c.entries.done c.entries.net c.entries.invariant.follows
 
 pub returns-in-Stops : goal.returns-in-Stops
 returns-in-Stops c =

@@ -8,7 +8,12 @@ use Rattle.ec_tool.specs.Report.{report}
 use Rattle.ec_tool.specs.Emerald.{ir_run, status_of}
 use Rattle.ec_tool.specs.Running.{IsReported}
 use Rattle.ec_tool.proofs.Lifting.{if_ok_two}
+use Rattle.ec_tool.proofs.Following.{follows_shown}
 use Rattle.ec_tool.proofs.run.run_loaded.Goals as goal
+
+pub answer_end-requires-clause-shown : goal.answer_end-requires-clause-shown
+answer_end-requires-clause-shown c =
+    follows_shown c.args.specs.now c.args.net.now c.in_ok-ended.ended.done c.run_entries.new.net c.in_ok-ended.ensures.follows
 
 pub returns : goal.returns
 returns c =

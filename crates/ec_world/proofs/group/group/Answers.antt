@@ -10,7 +10,7 @@ returns-clause-is g c =
     let marks = c.in_ok-marks.marks in
     let common = c.args.world.now.common in
     let is = marked_group common c.args.x marks c.in_ok-marks.ensures in
-    IfOk-weaker c.marked.result _ _ (λ v e. e ∙ group_of_same common c.args.x (marked_from 1 marks) c.requires.number c.requires.there is) c.marked.ensures
+    IfOk-weaker c.marked.result _ _ (λ v e. e ∙ group_of_same common c.args.x (marked_from 1 marks) is) c.marked.ensures
 
 pub returns-clause-members : goal.returns-clause-members
 returns-clause-members g c =

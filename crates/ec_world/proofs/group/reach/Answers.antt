@@ -4,7 +4,7 @@ use Rattle.ec_world.proofs.Searching.{found_first, found_next, work_next, search
 use Rattle.ec_world.proofs.group.reach.Goals as goal
 
 pub loop-oid-init : goal.loop-oid-init
-loop-oid-init c = found_first c.args.common.now c.args.x _ _ _ c.len.ensures (search rules) c.new.ensures c.in_ok-find.ensures c.requires.number c.requires.there
+loop-oid-init c = found_first c.args.common.now c.args.x _ _ _ c.len.ensures (search rules) c.new.ensures c.in_ok-find.ensures
 
 pub loop-oid-smaller : goal.loop-oid-smaller
 loop-oid-smaller c = work_next c.loop-oid.search c.follow.new.self c.in-Some.oid _ (links_of c.args.common.now c.in-Some.oid) c.in-Some.ensures.top c.in-Some.ensures.below c.in_ok-follow.ensures

@@ -1,0 +1,27 @@
+//! The names of the language's own two classes.
+ghost use Rattle.std.specs.Prelude.{◌≡◌};
+ghost use Rattle.ec_network.specs.Names.{node_name, program_name};
+
+use ec_base::list::Seq;
+use ec_world::value::Text;
+use std::alloc::{AllocError, Global};
+
+/// The names of the classes that no program declares: that of the nodes' objects, `Node`, and that of the program's own
+/// object, `program`.
+#[derive(Drop)]
+pub struct OwnNames {
+    pub node: Text,
+    pub program: Text,
+    ghost of_node: { node ≡ node_name },
+    ghost of_program: { program ≡ program_name },
+}
+
+impl OwnNames {
+    /// The names, in memory of their own. The error is want of memory.
+    pub(crate) fn new(alloc: Global) -> Result<OwnNames, AllocError> {
+        Ok(OwnNames {
+            node: Seq::from_vec(Vec::from_slice(alloc, b"Node")?),
+            program: Seq::from_vec(Vec::from_slice(alloc, b"program")?),
+        })
+    }
+}
