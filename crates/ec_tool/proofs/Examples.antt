@@ -1,6 +1,6 @@
 -- Two small programs by the definitions: the text is the program's, the run comes to its end after so many entries, and its
 -- status and its report are these.
-use Rattle.std.proofs.Common.{◌≡◌, ℕ, zero, suc, ◌<◌, ◌+◌, List, [], ◌∷◌, ◌++◌, take, drop, Option, Some, None, codes, refl, subst, arith, lit≤}
+use Rattle.std.proofs.Common.{◌≡◌, ℕ, zero, suc, ◌<◌, ◌+◌, List, [], ◌∷◌, take, drop, Some, None, codes, refl, subst, arith, lit≤}
 use Rattle.std.specs.Fmt.{digits}
 use Rattle.ec_ast.specs.declared.Program.{Program}
 use Rattle.ec_ast.specs.declared.Statement.TheVariants.{Print}
@@ -10,7 +10,7 @@ use Rattle.ec_lexer.specs.declared.token.Token.{Token}
 use Rattle.ec_lexer.specs.declared.token.Symbol.TheVariants.{LeftArrow, Dot, OpenBracket, CloseBracket}
 use Rattle.ec_lexer.specs.declared.lexeme.Form.{Form}
 use Rattle.ec_lexer.specs.declared.lexeme.Lexeme.TheVariants as lexeme
-use Rattle.ec_lexer.specs.Words.{reserved, symbol_of, number_of}
+use Rattle.ec_lexer.specs.Words.{reserved, symbol_of}
 use Rattle.ec_lexer.specs.Lexemes.{begins, kind_of}
 use Rattle.ec_lexer.specs.Tokens.{HasTokensFrom, ended, separated, taken, token}
 use Rattle.ec_lexer.proofs.Agrees.{Agrees}

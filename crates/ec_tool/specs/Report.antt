@@ -1,6 +1,6 @@
 -- The bytes of a report: a world, the places of its objects, the nodes with the instructions that each ran, the entries
 -- done, and the end. Every line ends with a line feed.
-use Rattle.std.specs.Prelude.{◌≡◌, ℕ, suc, Bool, true, false, List, [], ◌∷◌, ◌++◌, drop, Option, Some, None, slice_get, codes}
+use Rattle.std.specs.Prelude.{ℕ, suc, Bool, true, false, List, [], ◌∷◌, ◌++◌, drop, Option, Some, None, slice_get, codes}
 use Rattle.std.specs.Fmt.{decimal}
 use Rattle.ec_world.specs.declared.node.Kind.{Kind}
 use Rattle.ec_world.specs.declared.node.Kind.TheVariants.{Riscv, Mips}
@@ -11,7 +11,6 @@ use Rattle.ec_world.specs.declared.process.ProcStatus.{ProcStatus}
 use Rattle.ec_world.specs.declared.process.ProcStatus.TheVariants.{Ready, Entry, Cond, Urgent, Ended, Failed}
 use Rattle.ec_world.specs.declared.run.RunEnd.TheVariants.{Finished, Stuck, Spent}
 use Rattle.ec_world.specs.declared.world.World.{World}
-use Rattle.ec_world.specs.Effects.{object_at}
 use Rattle.ec_world.specs.Places.{places, place_in}
 use Rattle.ec_world.specs.Run.{statuses_of}
 use Rattle.ec_nodes.specs.declared.room.Part.{Part}
