@@ -1,0 +1,7 @@
+pub mod Budgets
+pub mod Commands
+pub mod Documents
+pub mod Forms
+pub mod Lines
+pub mod Numbers
+pub mod Reading

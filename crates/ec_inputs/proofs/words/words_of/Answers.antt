@@ -1,0 +1,27 @@
+use Rattle.std.proofs.Common.{sym, ◌∙◌, ap, ◌≡◌, Some, true, false}
+use denote.Enum.Bare.{sameb}
+use Rattle.clap.specs.Words.{found_of, rows_of, subcommand_rows_of, is_simple}
+use Rattle.clap.specs.contracts.error.kind.ErrorKind.{the_type as kind_type}
+use Rattle.clap.specs.declared.error.ErrorKind.TheVariants as kinds
+use Rattle.ec_inputs.proofs.Commands.{refused, answered, found_budget, pairs, names, simple_too}
+use Rattle.ec_inputs.proofs.words.words_of.Goals as goal
+
+pub returns-in-Err-clause-words : goal.returns-in-Err-clause-words
+returns-in-Err-clause-words c = sym (refused _ _ _ c.in_ok-command.ensures c.in-Err.ensures.kinds
+    (λ e. let f : false ≡ sameb kind_type c.kind.result kinds.OutOfMemory = c.if-eq.ensures in
+    let g : sameb kind_type c.kind.result kinds.OutOfMemory ≡ true = ap (λ x. sameb kind_type x kinds.OutOfMemory) (c.kind.ensures ∙ e) in cc))
+
+pub command_of-requires : goal.command_of-requires
+command_of-requires c =
+    let m = c.in-Ok.matches in
+    let found : subcommand_rows_of m ≡ Some (c.in-Some._name.now, rows_of (found_of c.in-Some.found.now)) =
+    pairs (subcommand_rows_of m) _ _ (names m ∙ sym c.in-Some.ensures.name) (sym c.in-Some.ensures.rows) in
+    found_budget _ _ _ _ c.in_ok-command.ensures c.in-Ok.ensures.kinds (sym found ∙ (c.in-Ok.ensures.matches (ap is_simple c.in_ok-command.ensures ∙ simple_too)).1)
+
+pub returns-in-Some-clause-words : goal.returns-in-Some-clause-words
+returns-in-Some-clause-words c =
+    let m = c.in-Ok.matches in
+    let found : subcommand_rows_of m ≡ Some (c.in-Some._name.now, rows_of (found_of c.in-Some.found.now)) =
+    pairs (subcommand_rows_of m) _ _ (names m ∙ sym c.in-Some.ensures.name) (sym c.in-Some.ensures.rows) in
+    ap (λ x. Some x) c.command_of.ensures.words
+    ∙ sym (answered _ _ _ c.in_ok-command.ensures c.in-Ok.ensures.kinds (sym found ∙ (c.in-Ok.ensures.matches (ap is_simple c.in_ok-command.ensures ∙ simple_too)).1))

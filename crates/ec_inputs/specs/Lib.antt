@@ -1,0 +1,3 @@
+pub mod Nodes
+pub mod Schedules
+pub mod Words
