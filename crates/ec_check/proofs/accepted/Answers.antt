@@ -1,4 +1,4 @@
-use Rattle.std.proofs.Common.{◌≡◌, ℕ, List, Some, None, subst, sym, ◌∙◌, Option}
+use Rattle.std.proofs.Common.{◌≡◌, List, Some, None, subst, sym, ◌∙◌, Option}
 use Rattle.std.specs.Prelude.{IfSome, IfNone}
 use Rattle.ec_ast.specs.declared.Program.{Program}
 use Rattle.ec_lexer.specs.declared.token.Token.{Token}
