@@ -1,12 +1,12 @@
 -- A text is the text of at most one program.
 use Rattle.std.proofs.Common.{◌≡◌, ℕ, List, [], ◌∷◌, Some, sym, subst}
 use Rattle.std.specs.Prelude.{slice_get}
-use Rattle.ec_ast.specs.declared.Program.{Program}
+use Rattle.ec_printing.specs.declared.Program.{Program}
 use Rattle.ec_lexer.specs.declared.token.Token.{Token}
 use Rattle.ec_lexer.specs.Tokens.{HasTokens}
 use Rattle.ec_lexer.proofs.Reading.{same_tokens}
-use Rattle.ec_parser.specs.Grammar.{HasTree}
-use Rattle.ec_parser.proofs.Trees.{same_tree}
+use Rattle.ec_subset.specs.Grammar.{HasTree}
+use Rattle.ec_subset.proofs.Trees.{same_tree}
 use Rattle.ec_check.specs.declared.StaticFault.{StaticFault}
 use Rattle.ec_check.specs.Faults.{StaticFaults, IsAccepted}
 use Rattle.ec_check.specs.Programs.{IsProgram}

@@ -1,9 +1,9 @@
 -- The static faults of a tree, in their order.
 use Rattle.std.specs.Prelude.{◌≡◌, if◌then◌else◌, List, [], ◌∷◌, Option, Some, None}
 use Rattle.std.specs.Str.{str_eq_ignore_ascii_case}
-use Rattle.ec_ast.specs.declared.Constant.{Constant}
-use Rattle.ec_ast.specs.declared.ObjectConstructor.{ObjectConstructor}
-use Rattle.ec_ast.specs.declared.Program.{Program}
+use Rattle.ec_printing.specs.declared.Constant.{Constant}
+use Rattle.ec_printing.specs.declared.ObjectConstructor.{ObjectConstructor}
+use Rattle.ec_printing.specs.declared.Program.{Program}
 use Rattle.ec_check.specs.declared.Rule.TheVariants.{E3}
 use Rattle.ec_check.specs.declared.StaticFault.{StaticFault}
 

@@ -1,9 +1,9 @@
 -- Which texts are programs.
 use Rattle.std.specs.Prelude.{ℕ, List}
-use Rattle.ec_ast.specs.declared.Program.{Program}
+use Rattle.ec_printing.specs.declared.Program.{Program}
 use Rattle.ec_lexer.specs.declared.token.Token.{Token}
 use Rattle.ec_lexer.specs.Tokens.{HasTokens}
-use Rattle.ec_parser.specs.Grammar.{HasTree}
+use Rattle.ec_subset.specs.Grammar.{HasTree}
 use Rattle.ec_check.specs.Faults.{IsAccepted}
 
 -- the text is this program's: it has tokens, these have this tree, and the tree breaks no static rule

@@ -3,14 +3,15 @@
 
 ghost use Rattle.std.specs.Prelude.{◌≡◌, slice_get, IfOk, IfSome, IfNone};
 ghost use Rattle.std.specs.Str.{str_eq_ignore_ascii_case};
-ghost use Rattle.ec_ast.specs.declared.Program.{Program as AProgram};
+ghost use Rattle.ec_printing.specs.declared.Program.{Program as AProgram};
 ghost use Rattle.ec_check.specs.Faults.{StaticFaults, object_faults};
 ghost use Rattle.ec_check.specs.Programs.{IsProgram};
 
-use ec_ast::{ObjectConstructor, Program, Span};
+use ec_ast::Span;
+use ec_printing::{ObjectConstructor, Program};
 use ec_lexer::error::LexError;
 use ec_lexer::lex;
-use ec_parser::parse;
+use ec_subset::parse;
 use std::alloc::{AllocError, Global};
 
 /// A static rule that a tree can break.

@@ -1,6 +1,6 @@
 //! Texts that are programs and texts that are none, with what their trees have.
 use super::*;
-use ec_ast::{Literal, Name, Statement};
+use ec_printing::{Literal, Name, Statement};
 use std::process::Abort;
 use std::test::Fail;
 

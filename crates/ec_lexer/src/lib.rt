@@ -13,12 +13,12 @@ pub mod error;
 mod lexeme;
 pub mod token;
 
-use ec_ast::{Span, Text};
+use ec_ast::Span;
 use ec_base::list::Seq;
 use error::{LexError, LexFault};
 use lexeme::{Form, Lexeme, begins};
 use std::alloc::{AllocError, Global};
-use token::{Token, TokenKind};
+use token::{Text, Token, TokenKind};
 
 /// How many bytes a text has at most.
 pub const LONGEST_TEXT: usize = 1_048_576;

@@ -3,7 +3,11 @@ ghost use Rattle.std.specs.Prelude.{◌≡◌, map};
 ghost use Rattle.std.specs.Str.{bytes_eq, str_eq_ignore_ascii_case};
 ghost use Rattle.ec_lexer.specs.Words as spec;
 
-use ec_ast::{Span, Text};
+use ec_ast::Span;
+use ec_base::list::Seq;
+
+/// A list of bytes.
+pub type Text = Seq<u8>;
 
 /// A token, and where it stands in the text.
 #[derive(Drop)]

@@ -1,6 +1,6 @@
 -- Worlds of a source and of its code agree after every list of entries and along every schedule.
 use Rattle.std.proofs.Common.{◌≡◌, ℕ, suc, List, [], refl, sym, ap, ◌∙◌}
-use Rattle.ec_ast.specs.declared.Program.{Program}
+use Rattle.ec_printing.specs.declared.Program.{Program}
 use Rattle.ec_world.specs.declared.run.Entry.{Entry}
 use Rattle.ec_world.specs.declared.run.RunEntry.{RunEntry}
 use Rattle.ec_world.specs.Agree.{Agree}

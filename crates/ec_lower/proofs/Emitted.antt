@@ -1,10 +1,10 @@
 -- The code of a source stands behind the entries of its operations.
 use Rattle.std.proofs.Common.{◌≡◌, ℕ, zero, suc, ◌+◌, List, [], ◌∷◌, drop, Option, Some, None, refl, sym, ap, true, false, add-one}
 use Rattle.std.specs.Prelude.{slice_get}
-use Rattle.ec_ast.specs.declared.Program.{Program}
-use Rattle.ec_ast.specs.declared.Constant.{Constant}
-use Rattle.ec_ast.specs.declared.Statement.{Statement}
-use Rattle.ec_ast.specs.declared.Statement.TheVariants.{Print as PrintStatement}
+use Rattle.ec_printing.specs.declared.Program.{Program}
+use Rattle.ec_printing.specs.declared.Constant.{Constant}
+use Rattle.ec_printing.specs.declared.Statement.{Statement}
+use Rattle.ec_printing.specs.declared.Statement.TheVariants.{Print as PrintStatement}
 use Rattle.ec_world.specs.declared.class.ClassNo.TheVariants.{Made}
 use Rattle.ec_world.specs.declared.stop.Stop.TheVariants.{New, Return, Print, Global, End}
 use Rattle.ec_meaning.specs.declared.item.Item.TheVariants.{Leave}

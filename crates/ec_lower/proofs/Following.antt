@@ -3,8 +3,8 @@ use Rattle.std.proofs.Common.{◌≡◌, ℕ, ◌+◌, List, [], ◌∷◌, ◌+
 use Rattle.std.specs.Prelude.{slice_get, length, nat_lt, if◌then◌else◌}
 use Rattle.ec_base.specs.Stack.{below_of}
 use Rattle.ec_base.proofs.Stacks.{top_of-push}
-use Rattle.ec_ast.specs.declared.Program.{Program}
-use Rattle.ec_ast.specs.declared.Statement.TheVariants.{Print as PrintStatement}
+use Rattle.ec_printing.specs.declared.Program.{Program}
+use Rattle.ec_printing.specs.declared.Statement.TheVariants.{Print as PrintStatement}
 use Rattle.ec_world.specs.declared.value.Value.{Value}
 use Rattle.ec_world.specs.declared.value.Value.TheVariants.{Int, Str, Ref, Nil, Bool as Truth}
 use Rattle.ec_world.specs.declared.class.ClassNo.{ClassNo}

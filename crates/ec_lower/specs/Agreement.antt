@@ -1,6 +1,6 @@
 -- When a program of three-address code means what a source means.
 use Rattle.std.specs.Prelude.{◌≡◌, ℕ, List}
-use Rattle.ec_ast.specs.declared.Program.{Program}
+use Rattle.ec_printing.specs.declared.Program.{Program}
 use Rattle.ec_world.specs.declared.run.Entry.{Entry}
 use Rattle.ec_world.specs.declared.run.RunEntry.{RunEntry}
 use Rattle.ec_world.specs.Agree.{Agree}

@@ -1,8 +1,8 @@
 -- The code of operations: what evaluates the constant, and what prints literals.
 use Rattle.std.specs.Prelude.{◌≡◌, ℕ, suc, true, List, [], ◌∷◌, ◌≤◌, ◌+◌, ◌^◌, length, Option, Some, None, slice_get}
-use Rattle.ec_ast.specs.declared.Constant.{Constant}
-use Rattle.ec_ast.specs.declared.Statement.{Statement}
-use Rattle.ec_ast.specs.declared.Statement.TheVariants.{Print as PrintStatement}
+use Rattle.ec_printing.specs.declared.Constant.{Constant}
+use Rattle.ec_printing.specs.declared.Statement.{Statement}
+use Rattle.ec_printing.specs.declared.Statement.TheVariants.{Print as PrintStatement}
 use Rattle.ec_world.specs.declared.value.ValueType.TheVariants.{Bytes, Reference}
 use Rattle.ec_world.specs.declared.class.ClassNo.TheVariants.{Made}
 use Rattle.ec_world.specs.declared.stop.Stop.{Stop}

@@ -1,7 +1,7 @@
 -- How long a program may be that is lowered.
 use Rattle.std.specs.Prelude.{◌≤◌, ◌^◌, length, Option, Some, None}
-use Rattle.ec_ast.specs.declared.Program.{Program}
-use Rattle.ec_ast.specs.declared.Constant.{Constant}
+use Rattle.ec_printing.specs.declared.Program.{Program}
+use Rattle.ec_printing.specs.declared.Constant.{Constant}
 
 abbrev pub IsShortConstant : Constant → Type 0
 IsShortConstant c = length c.value.initially ≤ 2 ^ 20

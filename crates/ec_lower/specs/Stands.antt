@@ -1,8 +1,8 @@
 -- Where the code of what is still to do stands.
 use Rattle.std.specs.Prelude.{◌≡◌, ℕ, ◌+◌, Bool, true, false, List, [], ◌∷◌, drop, Option, Some, None, slice_get}
 use Rattle.ec_base.specs.Stack.{top_of}
-use Rattle.ec_ast.specs.declared.Statement.{Statement}
-use Rattle.ec_ast.specs.declared.Statement.TheVariants.{Print as PrintStatement}
+use Rattle.ec_printing.specs.declared.Statement.{Statement}
+use Rattle.ec_printing.specs.declared.Statement.TheVariants.{Print as PrintStatement}
 use Rattle.ec_world.specs.declared.value.Value.{Value}
 use Rattle.ec_world.specs.declared.class.ClassNo.TheVariants.{Made}
 use Rattle.ec_world.specs.declared.stop.Stop.{Stop}

@@ -2,8 +2,8 @@
 use Rattle.std.proofs.Common.{◌≡◌, ℕ, suc, ◌+◌, List, [], ◌∷◌, Some, true, false, refl, arith}
 use Rattle.ec_base.specs.Stack.{top_of, below_of}
 use Rattle.ec_base.proofs.Stacks.{top_of-push, below_of-push}
-use Rattle.ec_ast.specs.declared.Literal.{Literal}
-use Rattle.ec_ast.specs.declared.Statement.TheVariants.{Print as PrintStatement}
+use Rattle.ec_printing.specs.declared.Literal.{Literal}
+use Rattle.ec_printing.specs.declared.Statement.TheVariants.{Print as PrintStatement}
 use Rattle.ec_world.specs.declared.value.Value.{Value}
 use Rattle.ec_world.specs.declared.value.Value.TheVariants.{Str}
 use Rattle.ec_world.specs.declared.class.ClassNo.TheVariants.{Made}

@@ -2,11 +2,11 @@
 -- stop. Nothing here knows registers, addresses, an order of bytes, or places.
 use Rattle.std.specs.Prelude.{ℕ, zero, suc, ◌+◌, Bool, true, false, List, [], ◌∷◌, ◌++◌, Option, Some, None}
 use Rattle.ec_base.specs.Stack.{top_of, below_of}
-use Rattle.ec_ast.specs.declared.Program.{Program}
-use Rattle.ec_ast.specs.declared.Constant.{Constant}
-use Rattle.ec_ast.specs.declared.ObjectConstructor.{ObjectConstructor}
-use Rattle.ec_ast.specs.declared.Statement.{Statement}
-use Rattle.ec_ast.specs.declared.Statement.TheVariants.{Print as PrintStatement}
+use Rattle.ec_printing.specs.declared.Program.{Program}
+use Rattle.ec_printing.specs.declared.Constant.{Constant}
+use Rattle.ec_printing.specs.declared.ObjectConstructor.{ObjectConstructor}
+use Rattle.ec_printing.specs.declared.Statement.{Statement}
+use Rattle.ec_printing.specs.declared.Statement.TheVariants.{Print as PrintStatement}
 use Rattle.ec_world.specs.declared.value.Value.{Value}
 use Rattle.ec_world.specs.declared.value.Value.TheVariants.{Str}
 use Rattle.ec_world.specs.declared.value.ValueType.{ValueType}

@@ -1,5 +1,5 @@
 //! What is still to do in an activation of the source.
-use ec_ast::{Literal, Statement};
+use ec_printing::{Literal, Statement};
 
 /// A part of the tree that is still to do, or what is to do with the values that are held.
 #[derive(Drop)]

@@ -1,3 +1,14 @@
-pub mod Statements
-pub mod Terminals
-pub mod Trees
+mod Shortest
+mod Table
+mod Sets
+mod Good
+mod Theory
+mod Progress
+mod Fitting
+mod Meaning
+mod Lists
+mod Seq
+mod Phrases
+mod Sound
+mod Complete
+mod Bridge

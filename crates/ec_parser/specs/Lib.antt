@@ -1,2 +1,11 @@
-pub mod Grammar
-pub mod Reading
+pub mod Filled
+pub mod Sizes
+pub mod Rules
+pub mod Chains
+pub mod Values
+pub mod Fits
+pub mod Choose
+pub mod Reads
+pub mod Follow
+pub mod Program
+pub mod HasTree

@@ -1,126 +1,222 @@
-//! The tree that tokens have.
+//! The tree that tokens have. The parser keeps a list of the symbols that are still to be read; the next token chooses
+//! an alternative of the part that stands first in it.
 #![tactic(auto)]
 
-ghost use Rattle.std.specs.Prelude.{◌≡◌, ◌+◌, ◌*◌, ◌<◌, ◌≤◌, ◌↔◌, ◌∷◌, length, drop, IfOk, IfSome, IfNone, IsTrue};
-ghost use Rattle.ec_ast.specs.declared.Program.{Program as AProgram};
-ghost use Rattle.ec_parser.specs.Grammar.{HasTree};
-ghost use Rattle.ec_parser.specs.Reading.{Begins, ReadsStatements, literal_of, name_of, text_of};
-ghost use Rattle.ec_parser.specs.declared.TheConstants.{PRINT};
+ghost use Rattle.std.specs.Prelude.{◌≡◌, [], ◌∷◌, ◌++◌, IfOk, OnOk, IfSome, IfNone, MatchBool, Ok, ℕ, true, false, ◌≢◌, List, MatchResult, IfErr};
+ghost use Rattle.ec_parser.specs.Choose as table;
+ghost use Rattle.ec_parser.specs.Follow.{Follows, Settles, Goes, Refuses, EndsWith, EndsNowhere};
+ghost use Rattle.ec_parser.specs.Fits.{Fits};
+ghost use Rattle.ec_parser.specs.Reads.{open_in};
+ghost use Rattle.ec_parser.specs.Program.{IsProgram, IsShallow, IsCause};
+ghost use Rattle.ec_parser.specs.declared.ParseError.TheVariants.{Memory};
+ghost use Rattle.ec_parser.specs.declared.values.Values.{Values as Built};
+ghost use Rattle.ec_parser.specs.Values.{first_program};
 
-mod terminal;
+mod first;
+pub mod grammar;
+mod pile;
+pub mod terminal;
+pub mod values;
 
-use ec_ast::{Constant, Literal, Name, ObjectConstructor, Program, Statement, Text};
-use ec_base::list::Seq;
-use ec_lexer::token::{Reserved, Symbol, Token, TokenKind};
+use ec_ast::Program;
+use first::{first, is_nullable};
+use grammar::{Part, Symbol, alternatives};
+use pile::Pile;
 use std::alloc::{AllocError, Global};
-use terminal::{Terminal, begins_with};
+use terminal::{Terminal, Token};
+use thiserror::Error;
+use values::{Values, keep, no_values, perform, take_program};
 
-/// How a constant of an object begins: `const ID <- object ID initially`
-const CONSTANT_BEGIN: [Terminal; 6] = [
-    Terminal::Word(Reserved::Const),
-    Terminal::Name,
-    Terminal::Symbol(Symbol::LeftArrow),
-    Terminal::Word(Reserved::Object),
-    Terminal::Name,
-    Terminal::Word(Reserved::Initially),
-];
-
-/// `stdout . PUTSTRING [ STRING ]`
-const PRINT: [Terminal; 6] = [
-    Terminal::Word(Reserved::Stdout),
-    Terminal::Symbol(Symbol::Dot),
-    Terminal::Putstring,
-    Terminal::Symbol(Symbol::OpenBracket),
-    Terminal::Literal,
-    Terminal::Symbol(Symbol::CloseBracket),
-];
-
-/// How a constant of an object ends: `end initially end ID`
-const CONSTANT_END: [Terminal; 4] = [
-    Terminal::Word(Reserved::End),
-    Terminal::Word(Reserved::Initially),
-    Terminal::Word(Reserved::End),
-    Terminal::Name,
-];
-
-/// The tree of a text's tokens, or None where they have none.
-/// An error is want of memory.
-pub fn parse(alloc: Global, tokens: &[Token]) -> Result<Option<Program>, AllocError>
-    ensures tree { IfOk result (λ tree. IfSome tree (HasTree tokens.now)) }
-    ensures none { IfOk result (λ tree. IfNone tree ((program : AProgram) → HasTree tokens.now program → ⊥)) }
-{
-    if tokens.is_empty() {
-        return Ok(Some(Program { constant: None }));
-    }
-    if !begins_with(tokens, &CONSTANT_BEGIN) {
-        return Ok(None);
-    }
-    let block = &tokens[6..];
-    let (initially, taken) = read_statements(alloc, block)?;
-    let end = &block[taken..];
-    if end.len() != 4 {
-        return Ok(None);
-    }
-    if !begins_with(end, &CONSTANT_END) {
-        return Ok(None);
-    }
-    let name = make_name(alloc, &tokens[1])?;
-    let object_name = make_name(alloc, &tokens[4])?;
-    let end_name = make_name(alloc, &end[3])?;
-    let value = ObjectConstructor {
-        name: object_name,
-        initially,
-        end_name,
-    };
-    Ok(Some(Program {
-        constant: Some(Constant { name, value }),
-    }))
+/// Why tokens have no tree. Tokens are counted from 0.
+#[derive(Clone, Copy, PartialEq, Eq, Debug, Error)]
+pub enum ParseError {
+    /// The tokens before this one begin a program, and with it they begin none. At the end, its number is how many
+    /// tokens there are: they begin a program, and are none.
+    #[error("token {token} is not what a program goes on with")]
+    Syntax { token: usize },
+    /// The tokens up to this one begin a program, and it is the first whose nesting is over 64.
+    #[error("token {token} is nested too deeply")]
+    Deep { token: usize },
+    /// There was no memory.
+    #[error("there was no memory")]
+    Memory,
 }
 
-/// The statements that tokens begin with, all that stand there, and how many tokens they take.
-fn read_statements(alloc: Global, tokens: &[Token]) -> Result<(Seq<Statement>, usize), AllocError>
-    ensures { IfOk result (λ read. ReadsStatements tokens.now read.0 read.1) }
+impl From<AllocError> for ParseError {
+    ghost from_gives = { λ _ e. e ≡ Memory };
+
+    fn from(_e: AllocError) -> ParseError {
+        ParseError::Memory
+    }
+}
+
+/// The most nesting that a token may have.
+const DEEPEST: usize = 64;
+
+/// The tree of a program's tokens.
+pub fn parse(alloc: Global, tokens: &[Token]) -> Result<Program, ParseError>
+    ensures found { IfOk result (λ program. (ns : List ℕ) × (ws : Built) × IsProgram tokens.now ns ws × IsShallow ns × (program ≡ first_program ws.programs)) }
+    ensures only { (ns : List ℕ) (ws : Built) → IsProgram tokens.now ns ws → IsShallow ns →
+        MatchResult result (λ program. program ≡ first_program ws.programs) (λ e. e ≡ Memory) }
+    ensures refused { IfErr result (IsCause tokens.now) }
 {
-    let mut statements = Seq::new(alloc);
-    let mut taken = 0;
-    'reading: loop {
-        let rest = &tokens[taken..];
-        if !begins_with(rest, &PRINT) {
-            return Ok((statements, taken));
+    let mut symbols = Pile::new(alloc);
+    let mut values = no_values(alloc);
+    symbols.push(Symbol::Part(Part::Program))?;
+    for (i, token) in tokens.iter().enumerate() {
+        if !step(alloc, token, &mut symbols, &mut values)? {
+            return Err(ParseError::Syntax { token: i });
         }
-        let literal = make_literal(alloc, &rest[4])?;
-        statements.push(Statement::Print(literal))?;
-        taken += 6;
+        if nesting(&symbols) > DEEPEST {
+            return Err(ParseError::Deep { token: i });
+        }
+    }
+    if !finish(alloc, &mut symbols, &mut values)? {
+        return Err(ParseError::Syntax { token: tokens.len() });
+    }
+    Ok(take_program(&mut values.programs))
+}
+
+/// What a list of symbols goes on with, or that nothing that begins with the next token is read by it.
+#[derive(Clone, Copy)]
+enum Next {
+    End,
+    Token(Terminal),
+    Keep(Terminal),
+    Stuck,
+}
+
+/// Takes a token, or says that nothing that is read begins with it.
+fn step(
+    alloc: Global,
+    token: &Token,
+    symbols: &mut Pile<Symbol>,
+    values: &mut Values,
+) -> Result<bool, AllocError>
+    requires follows { Follows symbols.old }
+    requires fits { Fits symbols.old values.old }
+    ensures { IfOk result (λ taken. MatchBool taken
+        (Goes token.now symbols.old values.old symbols.new values.new)
+        (Refuses token.now symbols.old values.old)) }
+{
+    match settle(alloc, token.terminal, symbols, values)? {
+        Next::Token(kind) => Ok(same(kind, token.terminal)),
+        Next::Keep(kind) => {
+            if !same(kind, token.terminal) {
+                return Ok(false);
+            }
+            keep(alloc, kind, token, values)?;
+            Ok(true)
+        }
+        Next::End | Next::Stuck => Ok(false),
     }
 }
 
-/// The name that a token is.
-fn make_name(alloc: Global, token: &Token) -> Result<Name, AllocError>
-    ensures { IfOk result (λ name. name ≡ name_of token.now) }
+/// Whether the list of symbols may end here.
+fn finish(
+    alloc: Global,
+    symbols: &mut Pile<Symbol>,
+    values: &mut Values,
+) -> Result<bool, AllocError>
+    requires follows { Follows symbols.old }
+    requires fits { Fits symbols.old values.old }
+    ensures { IfOk result (λ ended. MatchBool ended
+        (EndsWith symbols.old values.old values.new)
+        (EndsNowhere symbols.old values.old)) }
 {
-    Ok(Name {
-        text: copy_text(alloc, &token.kind)?,
-        at: token.at,
-    })
-}
-
-/// The literal that a token is.
-fn make_literal(alloc: Global, token: &Token) -> Result<Literal, AllocError>
-    ensures { IfOk result (λ literal. literal ≡ literal_of token.now) }
-{
-    Ok(Literal {
-        text: copy_text(alloc, &token.kind)?,
-        at: token.at,
-    })
-}
-
-/// The bytes of a name or a literal, and of no other.
-fn copy_text(alloc: Global, kind: &TokenKind) -> Result<Text, AllocError>
-    ensures { IfOk result (λ text. text ≡ text_of kind.now) }
-{
-    match kind {
-        TokenKind::Name(text) => Ok(Seq::from_vec(Vec::from_slice(alloc, text.as_slice())?)),
-        TokenKind::Literal(text) => Ok(Seq::from_vec(Vec::from_slice(alloc, text.as_slice())?)),
-        _ => Ok(Seq::new(alloc)),
+    match settle(alloc, Terminal::EndOfText, symbols, values)? {
+        Next::End => Ok(true),
+        Next::Token(_) | Next::Keep(_) | Next::Stuck => Ok(false),
     }
+}
+
+/// Opens parts, by the kind of the next token, until a token is next.
+fn settle(
+    alloc: Global,
+    kind: Terminal,
+    symbols: &mut Pile<Symbol>,
+    values: &mut Values,
+) -> Result<Next, AllocError>
+    requires follows { Follows symbols.old }
+    requires fits { Fits symbols.old values.old }
+    ensures { IfOk result (λ next. Settles kind symbols.old values.old next symbols.new values.new) }
+{
+    'opening: loop {
+        match symbols.pop() {
+            None => return Ok(Next::End),
+            Some(Symbol::Token(wanted)) => return Ok(Next::Token(wanted)),
+            Some(Symbol::Keep(wanted)) => return Ok(Next::Keep(wanted)),
+            Some(Symbol::Part(part)) => match choose(part, kind) {
+                None => return Ok(Next::Stuck),
+                Some(alternative) => symbols.push_all(alternative)?,
+            },
+            Some(Symbol::Close(_)) => {}
+            Some(Symbol::Do(act)) => perform(alloc, act, values)?,
+        }
+    }
+}
+
+/// The alternative of a part that goes on with a token of a kind.
+fn choose(part: Part, kind: Terminal) -> Option<&'static [Symbol]>
+    ensures some { IfSome result (λ r. table.choose part kind ≡ Some r.now) }
+    ensures none { IfNone result (table.choose part kind ≡ None) }
+{
+    for alternative in alternatives(part) {
+        if suits(kind, alternative) {
+            return Some(*alternative);
+        }
+    }
+    None
+}
+
+fn suits(kind: Terminal, alternative: &[Symbol]) -> bool
+    ensures { result ≡ table.suits kind alternative.now }
+{
+    for symbol in alternative {
+        match symbol {
+            Symbol::Token(wanted) | Symbol::Keep(wanted) => return same(kind, *wanted),
+            Symbol::Part(part) => {
+                if has(kind, first(*part)) {
+                    return true;
+                }
+                if !is_nullable(*part) {
+                    return false;
+                }
+            }
+            Symbol::Close(_) | Symbol::Do(_) => {}
+        }
+    }
+    true
+}
+
+fn has(kind: Terminal, kinds: &[Terminal]) -> bool
+    ensures { result ≡ table.has_kind kind kinds.now }
+{
+    for k in kinds {
+        if same(kind, *k) {
+            return true;
+        }
+    }
+    false
+}
+
+fn same(a: Terminal, b: Terminal) -> bool
+    ensures value { result ≡ table.same_kind a b }
+    ensures same { result ≡ true → a ≡ b }
+    ensures other { result ≡ false → a ≢ b }
+{
+    a == b
+}
+
+/// How many nestings are open.
+fn nesting(symbols: &Pile<Symbol>) -> usize
+    ensures { result ≡ open_in symbols.now }
+{
+    let mut open = 0;
+    for symbol in symbols.as_slice() {
+        if let Symbol::Close(_) = symbol {
+            open += 1;
+        }
+    }
+    open
 }

@@ -1,99 +1,130 @@
-//! What stands at a place of a printed rule.
-ghost use Rattle.std.specs.Prelude.{◌≡◌, ◌↔◌, IsTrue};
-ghost use Rattle.std.specs.Str.{str_eq_ignore_ascii_case};
-ghost use Rattle.ec_parser.specs.Reading.{Begins, IsTerminal};
-ghost use Rattle.ec_parser.specs.declared.terminal.Terminal.TheVariants.{Putstring as APutstring, Symbol as ASymbol, Word as AWord};
+//! Terminals of the grammar, and tokens.
 
-use ec_lexer::token::{Reserved, Symbol, Token, TokenKind};
+use ec_ast::{Span, Text};
 
-/// What stands at a place of a printed rule.
-#[derive(Clone, Copy, Debug, PartialEq, Eq)]
+/// What a token is to the grammar.
+#[derive(Clone, Copy, PartialEq, Eq)]
 pub enum Terminal {
-    Word(Reserved),
-    /// `ID`
+    And,
+    Any,
+    As,
+    Assert,
+    At,
+    Attached,
+    Boolean,
+    Class,
+    Condition,
+    Const,
+    Else,
+    Elseif,
+    End,
+    Exit,
+    Export,
+    Failure,
+    False,
+    Fix,
+    Function,
+    If,
+    Immutable,
+    Initially,
+    Integer,
+    Isfixed,
+    Loop,
+    Monitor,
+    Move,
+    Nil,
+    Node,
+    Object,
+    Of,
+    Operation,
+    Or,
+    Process,
+    Refix,
+    Return,
+    Self_,
+    Signal,
+    Stdout,
+    String,
+    Then,
+    To,
+    True,
+    Typeobject,
+    Unfix,
+    Var,
+    Vector,
+    View,
+    Visit,
+    Wait,
+    When,
+    /// A word that is neither reserved nor one of the three below.
     Name,
-    /// The name `putstring`.
+    /// The word `create`, which isn't reserved.
+    Create,
+    /// The word `putstring`, which isn't reserved.
     Putstring,
+    /// The word `count`, which isn't reserved.
+    Count,
+    /// `INT`
+    Number,
     /// `STRING`
     Literal,
-    Symbol(Symbol),
+    /// `<-`
+    Arrow,
+    /// `->`
+    ResultArrow,
+    /// `(`
+    OpenParenthesis,
+    /// `)`
+    CloseParenthesis,
+    /// `[`
+    OpenBracket,
+    /// `]`
+    CloseBracket,
+    /// `,`
+    Comma,
+    /// `:`
+    Colon,
+    /// `.`
+    Dot,
+    /// `+`
+    Plus,
+    /// `-`
+    Minus,
+    /// `*`
+    Times,
+    /// `/`
+    Over,
+    /// `#`
+    Remainder,
+    /// `||`
+    Concat,
+    /// `==`
+    Same,
+    /// `!==`
+    NotSame,
+    /// `=`
+    Equal,
+    /// `!=`
+    NotEqual,
+    /// `<`
+    Less,
+    /// `<=`
+    LessEqual,
+    /// `>`
+    More,
+    /// `>=`
+    MoreEqual,
+    /// `!`
+    Bang,
+    /// What stands behind the last token. No token is of it.
+    EndOfText,
 }
 
-/// The word, in any case, that prints.
-const PUTSTRING: &[u8] = b"putstring";
-
-/// Whether tokens begin with these terminals.
-pub fn begins_with(mut tokens: &[Token], mut terminals: &[Terminal]) -> bool
-    ensures { IsTrue result ↔ Begins terminals.entry.now tokens.entry.now }
-{
-    while let [terminal, more @ ..] = terminals {
-        match tokens {
-            [] => return false,
-            [token, rest @ ..] => {
-                if !is_terminal(*terminal, &token.kind) {
-                    return false;
-                }
-                tokens = rest;
-            }
-        }
-        terminals = more;
-    }
-    true
-}
-
-fn is_terminal(terminal: Terminal, kind: &TokenKind) -> bool
-    ensures { IsTrue result ↔ IsTerminal terminal kind.now }
-{
-    match terminal {
-        Terminal::Word(word) => is_word(word, kind),
-        Terminal::Name => matches!(kind, TokenKind::Name(_)),
-        Terminal::Putstring => is_putstring(kind),
-        Terminal::Literal => matches!(kind, TokenKind::Literal(_)),
-        Terminal::Symbol(symbol) => is_symbol(symbol, kind),
-    }
-}
-
-fn is_word(word: Reserved, kind: &TokenKind) -> bool
-    ensures { IsTrue result ↔ IsTerminal (AWord word) kind.now }
-{
-    match kind {
-        TokenKind::Reserved(found) => is_same_reserved(word, *found),
-        _ => false,
-    }
-}
-
-fn is_same_reserved(a: Reserved, b: Reserved) -> bool
-    ensures { IsTrue result ↔ (a ≡ b) }
-{
-    a == b
-}
-
-fn is_symbol(symbol: Symbol, kind: &TokenKind) -> bool
-    ensures { IsTrue result ↔ IsTerminal (ASymbol symbol) kind.now }
-{
-    match kind {
-        TokenKind::Symbol(found) => is_same_symbol(symbol, *found),
-        _ => false,
-    }
-}
-
-fn is_same_symbol(a: Symbol, b: Symbol) -> bool
-    ensures { IsTrue result ↔ (a ≡ b) }
-{
-    a == b
-}
-
-fn is_putstring(kind: &TokenKind) -> bool
-    ensures { IsTrue result ↔ IsTerminal APutstring kind.now }
-{
-    match kind {
-        TokenKind::Name(text) => is_same_word(PUTSTRING, text.as_slice()),
-        _ => false,
-    }
-}
-
-fn is_same_word(a: &[u8], b: &[u8]) -> bool
-    ensures { result ≡ str_eq_ignore_ascii_case a.now b.now }
-{
-    a.eq_ignore_ascii_case(b)
+/// A token, and where it stands. A word and a string have a text, an integer has a number.
+#[derive(Drop)]
+pub struct Token {
+    pub terminal: Terminal,
+    pub text: Text,
+    pub number: u32,
+    pub at: Span,
 }

@@ -2,8 +2,8 @@
 -- status and its report are these.
 use Rattle.std.proofs.Common.{◌≡◌, ℕ, zero, suc, ◌<◌, ◌+◌, List, [], ◌∷◌, take, drop, Some, None, codes, refl, subst, arith, lit≤}
 use Rattle.std.specs.Fmt.{digits}
-use Rattle.ec_ast.specs.declared.Program.{Program}
-use Rattle.ec_ast.specs.declared.Statement.TheVariants.{Print}
+use Rattle.ec_printing.specs.declared.Program.{Program}
+use Rattle.ec_printing.specs.declared.Statement.TheVariants.{Print}
 use Rattle.ec_lexer.specs.declared.lexeme.Form.TheVariants as form
 use Rattle.ec_lexer.specs.declared.token.Reserved.TheVariants.{Const, End, Initially, Object, Stdout}
 use Rattle.ec_lexer.specs.declared.token.Token.{Token}
@@ -15,7 +15,7 @@ use Rattle.ec_lexer.specs.Lexemes.{begins, kind_of}
 use Rattle.ec_lexer.specs.Tokens.{HasTokensFrom, ended, separated, taken, token}
 use Rattle.ec_lexer.proofs.Agrees.{Agrees}
 use Rattle.ec_lexer.proofs.Lexing.{agrees}
-use Rattle.ec_parser.specs.Grammar.{empty as no_constant, word, id, string, mark, print, none, more, object, constant, HasTree, with_constant}
+use Rattle.ec_subset.specs.Grammar.{empty as no_constant, word, id, string, mark, print, none, more, object, constant, HasTree, with_constant}
 use Rattle.ec_world.specs.declared.run.RunEnd.TheVariants.{Finished}
 use Rattle.ec_world.specs.Run.{Run, run_after, end_of, statuses_of}
 use Rattle.ec_meaning.specs.Meaning.{source_meaning, source_silent, source_start}

@@ -1,12 +1,12 @@
 -- A short text is that of a program with few statements: each token takes a byte, and each statement a token.
 use Rattle.std.proofs.Common.{◌≡◌, ℕ, ◌^◌, ◌≤◌, List, length, arith, length-append}
-use Rattle.ec_ast.specs.declared.Program.{Program}
-use Rattle.ec_ast.specs.declared.ObjectConstructor.{ObjectConstructor}
-use Rattle.ec_ast.specs.declared.Statement.{Statement}
+use Rattle.ec_printing.specs.declared.Program.{Program}
+use Rattle.ec_printing.specs.declared.ObjectConstructor.{ObjectConstructor}
+use Rattle.ec_printing.specs.declared.Statement.{Statement}
 use Rattle.ec_lexer.specs.declared.token.Token.{Token as AToken}
 use Rattle.ec_lexer.specs.Words.{Bytes}
 use Rattle.ec_lexer.proofs.Reading.{few_tokens}
-use Rattle.ec_parser.specs.Grammar.{print, AreStatements, none, more, IsObject, object, constant, HasTree, empty, with_constant}
+use Rattle.ec_subset.specs.Grammar.{print, AreStatements, none, more, IsObject, object, constant, HasTree, empty, with_constant}
 use Rattle.ec_lower.specs.Short.{IsShort}
 use Rattle.ec_tool.specs.Inputs.{IsSource}
 

@@ -1,6 +1,6 @@
 -- From what the steps of a call come to, to what the call promises of each status.
 use Rattle.std.proofs.Common.{◌≡◌, ◌⊎◌, ℕ, Bool, true, false, List, [], ◌∷◌, length, Option, Some, None, lit≤, refl}
-use Rattle.ec_ast.specs.declared.Program.{Program}
+use Rattle.ec_printing.specs.declared.Program.{Program}
 use Rattle.ec_world.specs.declared.node.NodeSpec.{NodeSpec}
 use Rattle.ec_world.specs.declared.run.Entry.{Entry}
 use Rattle.ec_world.specs.declared.run.RunEnd.TheVariants.{Finished, Stuck, Spent}

@@ -4,7 +4,7 @@ use Rattle.std.specs.Str.{bytes_eq}
 use Rattle.ec_world.specs.declared.node.Kind.TheVariants.{Riscv}
 use Rattle.ec_world.specs.declared.node.NodeSpec.{NodeSpec}
 use Rattle.ec_world.specs.declared.run.Entry.{Entry}
-use Rattle.ec_ast.specs.declared.Program.{Program}
+use Rattle.ec_printing.specs.declared.Program.{Program}
 use Rattle.ec_tool.specs.declared.inputs.FileNames.{FileNames}
 use Rattle.ec_check.specs.Programs.{IsProgram}
 

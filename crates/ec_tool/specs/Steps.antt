@@ -1,6 +1,6 @@
 -- What the steps of a call come to: files are read, then judged, then a text is written.
 use Rattle.std.specs.Prelude.{◌≡◌, ◌⊎◌, ℕ, List, Option, Some, None}
-use Rattle.ec_ast.specs.declared.Program.{Program}
+use Rattle.ec_printing.specs.declared.Program.{Program}
 use Rattle.ec_world.specs.declared.node.NodeSpec.{NodeSpec}
 use Rattle.ec_world.specs.declared.run.Entry.{Entry}
 use Rattle.ec_outside.specs.Fault.{HasRisen}

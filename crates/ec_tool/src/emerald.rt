@@ -1,6 +1,6 @@
 //! The call of the program: the files are read, the source is checked and run, and the text is written at the end.
 ghost use Rattle.std.specs.Prelude.{◌≡◌, ◌⊎◌, ℕ, ◌≤◌, ◌<◌, ◌^◌, List, ◌++◌, Option, Some, None, map, length, IfOk, IfErr, IfSome, IfNone, OnOk};
-ghost use Rattle.ec_ast.specs.declared.Program.{Program as AProgram};
+ghost use Rattle.ec_printing.specs.declared.Program.{Program as AProgram};
 ghost use Rattle.ec_outside.specs.Fault.{HasRisen};
 ghost use Rattle.ec_outside.specs.Whole.{IsWhole};
 ghost use Rattle.ec_network.specs.Net.{empty_net};
@@ -15,7 +15,7 @@ use crate::answer::{Answer, answer_with};
 use crate::inputs::{FileNames, FileOf, read_nodes, read_schedule, words_of};
 use crate::run::run;
 use crate::status::Status;
-use ec_ast::Program;
+use ec_printing::Program;
 use ec_check::accepted;
 use ec_network::network::Network;
 use ec_outside::shelf::Shelf;

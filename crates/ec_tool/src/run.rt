@@ -14,7 +14,7 @@ use crate::answer::Answer;
 use crate::processes::{any_failed, are_over, ready_ones, statuses_in};
 use crate::report::{ReportEnd, load_report, report};
 use crate::status::Status;
-use ec_ast::Program;
+use ec_printing::Program;
 use ec_ir::program::IrProgram;
 use ec_lower::lower::lower;
 use ec_network::image::{Image, Images};

@@ -1,10 +1,10 @@
 use Rattle.std.proofs.Common.{◌≡◌, List, Some, None, subst, sym, ◌∙◌, Option}
 use Rattle.std.specs.Prelude.{IfSome, IfNone}
-use Rattle.ec_ast.specs.declared.Program.{Program}
+use Rattle.ec_printing.specs.declared.Program.{Program}
 use Rattle.ec_lexer.specs.declared.token.Token.{Token}
 use Rattle.ec_lexer.specs.Faults.{IsCause}
 use Rattle.ec_lexer.proofs.Reading.{no_tokens}
-use Rattle.ec_parser.specs.Grammar.{HasTree}
+use Rattle.ec_subset.specs.Grammar.{HasTree}
 use Rattle.ec_check.proofs.Programs.{tree_of, faulty}
 use Rattle.ec_check.proofs.accepted.Goals as goal
 

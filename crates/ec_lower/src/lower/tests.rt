@@ -3,7 +3,8 @@ ghost use Rattle.std.specs.Prelude.{◌≤◌, IfOk, length};
 ghost use Rattle.ec_lower.specs.Short.{IsShort};
 
 use super::*;
-use ec_ast::{Literal, Name, Span};
+use ec_ast::Span;
+use ec_printing::{Literal, Name};
 use std::test::Fail;
 
 const NOWHERE: Span = Span { from: 0, to: 0 };

@@ -1,30 +1,76 @@
-use Rattle.std.proofs.Common.{sym, ◌∙◌}
-use Rattle.std.proofs.lemmas.Bool.{iff_false}
-use Rattle.ec_parser.proofs.Trees.{empty_tree, parts, begins_constant, constant_ends, constant_read, not_empty, slice_from}
+use Rattle.std.proofs.Common.{rules, ◌≡◌, ℕ, ◌+◌, ◌<◌, ◌≤◌, List, length, take, sym, ◌∙◌, arith, length-take, get_or, ◌++◌, ◌∷◌, [], ap}
+use Rattle.ec_parser.specs.declared.terminal.Token.{Token}
+use Rattle.std.proofs.lemmas.List.{take_more, take_all}
+use Rattle.ec_parser.proofs.Progress.{no_program_from, syntax_at, reached_more, not_deep, deep_at, unfinished, syntax_at_end, Reached, start, whole_found, whole_only}
+use Rattle.ec_parser.specs.declared.grammar.Part.TheVariants as part
+use Rattle.ec_parser.specs.declared.grammar.Symbol.{Symbol}
+use Rattle.ec_parser.specs.declared.grammar.Symbol.TheVariants.{Part}
+use Rattle.ec_parser.specs.declared.values.Values.{Values}
+use Rattle.ec_parser.specs.Values.{no_values}
 use Rattle.ec_parser.proofs.parse.Goals as goal
 
-pub returns-then-is_empty-clause-tree : goal.returns-then-is_empty-clause-tree
-returns-then-is_empty-clause-tree c = empty_tree c.args.tokens.now (sym c.is_empty.ensures ∙ c.if-is_empty.true)
+more_by : (xs : List Token) (i : ℕ) (t : Token) → i < length xs → t ≡ get_or xs i t → take (i + 1) xs ≡ take i xs ++ t ∷ []
+more_by xs i t h is = take_more xs i t h ∙ ap (λ x. take i xs ++ x ∷ []) (sym is)
 
-pub returns-then-not-begins_with-clause-none : goal.returns-then-not-begins_with-clause-none
-returns-then-not-begins_with-clause-none c program h =
-    iff_false c.begins_with.ensures c.if-not-begins_with.true (begins_constant (parts h (not_empty c.args.tokens.now (sym c.is_empty.ensures ∙ c.if-is_empty.false))))
+pub returns-then-not-branch-clause-only : goal.returns-then-not-branch-clause-only
+returns-then-not-branch-clause-only c ns ws d h =
+    let i = c.loop-i.i in
+    let inside : i < length c.args.tokens.now = omega arith in
+    absurd (no_program_from _ i _ _ c.loop-i.invariant _ inside (more_by c.args.tokens.now i c.index-tokens-i.result inside c.index-tokens-i.is) (rw c.if-not-branch.true at c.in_ok-step.ensures) ns ws d)
 
-pub returns-then-end-ne4-clause-none : goal.returns-then-end-ne4-clause-none
-returns-then-end-ne4-clause-none c program h =
-    c.if-end-ne4.true (constant_ends c.args.tokens.now _ _ _ _ (slice_from c.args.tokens.now 6) (slice_from _ c.in_ok-initially.taken) c.in_ok-initially.ensures
-    program h (not_empty c.args.tokens.now (sym c.is_empty.ensures ∙ c.if-is_empty.false))).0
+pub returns-then-not-branch-clause-refused : goal.returns-then-not-branch-clause-refused
+returns-then-not-branch-clause-refused c =
+    let i = c.loop-i.i in
+    let inside : i < length c.args.tokens.now = omega arith in
+    syntax_at _ i _ _ c.loop-i.invariant _ inside (more_by c.args.tokens.now i c.index-tokens-i.result inside c.index-tokens-i.is) (rw c.if-not-branch.true at c.in_ok-step.ensures)
 
-pub returns-then-not-begins_with-2-clause-none : goal.returns-then-not-begins_with-2-clause-none
-returns-then-not-begins_with-2-clause-none c program h =
-    iff_false c.begins_with-2.ensures c.if-not-begins_with-2.true
-    (constant_ends c.args.tokens.now _ _ _ _ (slice_from c.args.tokens.now 6) (slice_from _ c.in_ok-initially.taken) c.in_ok-initially.ensures
-    program h (not_empty c.args.tokens.now (sym c.is_empty.ensures ∙ c.if-is_empty.false))).1
+pub returns-then-nesting-gt64-clause-only : goal.returns-then-nesting-gt64-clause-only
+returns-then-nesting-gt64-clause-only c ns ws d h =
+    let i = c.loop-i.i in
+    let inside : i < length c.args.tokens.now = omega arith in
+    absurd (not_deep _ i _ _ c.loop-i.invariant _ inside (more_by c.args.tokens.now i c.index-tokens-i.result inside c.index-tokens-i.is) _ _ (rw c.if-not-branch.false at c.in_ok-step.ensures) _ c.nesting.ensures c.if-nesting-gt64.true ns ws d h)
 
-pub returns-clause-tree : goal.returns-clause-tree
-returns-clause-tree c =
-    constant_read c.args.tokens.now _ _ _ _ (slice_from c.args.tokens.now 6) (slice_from _ c.in_ok-initially.taken) c.in_ok-initially.ensures
-    c.index-tokens-1.result c.index-tokens-4.result c.index-end-3.result _ _ _
-    (c.begins_with.ensures.0 c.if-not-begins_with.false) c.if-end-ne4.false (c.begins_with-2.ensures.0 c.if-not-begins_with-2.false)
-    c.index-tokens-1.is c.index-tokens-4.is c.index-end-3.is
-    c.in_ok-name.ensures c.in_ok-object_name.ensures c.in_ok-end_name.ensures
+pub returns-then-nesting-gt64-clause-refused : goal.returns-then-nesting-gt64-clause-refused
+returns-then-nesting-gt64-clause-refused c =
+    let i = c.loop-i.i in
+    let inside : i < length c.args.tokens.now = omega arith in
+    deep_at _ i _ _ c.loop-i.invariant _ inside (more_by c.args.tokens.now i c.index-tokens-i.result inside c.index-tokens-i.is) _ _ (rw c.if-not-branch.false at c.in_ok-step.ensures) _ c.nesting.ensures c.if-nesting-gt64.true (simp length-take (omega arith))
+
+pub loop-i-preserved : goal.loop-i-preserved
+loop-i-preserved c =
+    let i = c.loop-i.i in
+    let inside : i < length c.args.tokens.now = omega arith in
+    reached_more _ i _ _ c.loop-i.invariant _ inside (more_by c.args.tokens.now i c.index-tokens-i.result inside c.index-tokens-i.is) _ _ (rw c.if-not-branch.false at c.in_ok-step.ensures) (omega (arith, c.nesting.ensures))
+
+whole : (n : ℕ) (m : ℕ) → n ≤ m → m ≤ n → n ≡ m
+whole n m h k = omega arith
+
+pub returns-then-not-branch-2-clause-only : goal.returns-then-not-branch-2-clause-only
+returns-then-not-branch-2-clause-only c ns ws d h =
+    let all : take c.loop-i.i c.args.tokens.now ≡ c.args.tokens.now = take_all _ _ (omega arith) in
+    let r : Reached c.args.tokens.now c.loop-i.symbols c.loop-i.values = rw all at c.loop-i.invariant in
+    absurd (unfinished _ _ _ r (rw c.if-not-branch-2.true at c.in_ok-finish.ensures) ns ws d)
+
+pub returns-then-not-branch-2-clause-refused : goal.returns-then-not-branch-2-clause-refused
+returns-then-not-branch-2-clause-refused c =
+    let all : take c.loop-i.i c.args.tokens.now ≡ c.args.tokens.now = take_all _ _ (omega arith) in
+    let r : Reached c.args.tokens.now c.loop-i.symbols c.loop-i.values = rw all at c.loop-i.invariant in
+    syntax_at_end _ _ _ r (take_all _ _ (omega arith)) (rw c.if-not-branch-2.true at c.in_ok-finish.ensures)
+
+begins : (s : List Symbol) (vs : Values) → s ≡ Part part.Program ∷ [] → vs ≡ no_values → Reached [] s vs
+begins s vs e f = rw (e, f) start
+
+pub loop-i-init : goal.loop-i-init
+loop-i-init c = begins _ _ (c.in_ok-push.ensures.ok ∙ ap (λ x. Part part.Program ∷ x) c.new-symbols.ensures) c.no_values-values.ensures
+
+pub returns-clause-found : goal.returns-clause-found
+returns-clause-found c =
+    let all : take c.loop-i.i c.args.tokens.now ≡ c.args.tokens.now = take_all _ _ (omega arith) in
+    let r : Reached c.args.tokens.now c.loop-i.symbols c.loop-i.values = rw all at c.loop-i.invariant in
+    whole_found _ _ _ _ r (rw c.if-not-branch-2.false at c.in_ok-finish.ensures)
+
+pub returns-clause-only : goal.returns-clause-only
+returns-clause-only c ns ws d h =
+    let all : take c.loop-i.i c.args.tokens.now ≡ c.args.tokens.now = take_all _ _ (omega arith) in
+    let r : Reached c.args.tokens.now c.loop-i.symbols c.loop-i.values = rw all at c.loop-i.invariant in
+    whole_only _ _ _ _ r (rw c.if-not-branch-2.false at c.in_ok-finish.ensures) ns ws d

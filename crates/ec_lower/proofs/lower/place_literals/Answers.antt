@@ -1,7 +1,7 @@
 use Rattle.std.proofs.Common.{◌≤◌, List, length, arith, subst}
 use Rattle.std.proofs.lemmas.List.{take_all}
 use Rattle.ec_base.proofs.Lists.{take_next}
-use Rattle.ec_ast.specs.declared.Statement.{Statement}
+use Rattle.ec_printing.specs.declared.Statement.{Statement}
 use Rattle.ec_lower.specs.Printing.{AreTexts}
 use Rattle.ec_lower.proofs.Pushed.{texts_step}
 use Rattle.ec_lower.proofs.lower.place_literals.Goals as goal

@@ -1,5 +1,5 @@
 use Rattle.std.proofs.Common.{Result, Ok, Err, Option, Some, None, ℕ, List, IfOk, IfNone}
-use Rattle.ec_ast.specs.declared.Program.{Program}
+use Rattle.ec_printing.specs.declared.Program.{Program}
 use Rattle.ec_check.specs.Programs.{IsProgram}
 use Rattle.ec_tool.specs.Inputs.{IsSource}
 use Rattle.ec_tool.proofs.emerald.source_of.Goals as goal

@@ -1,0 +1,20 @@
+use Rattle.std.proofs.Common.{◌≡◌, ℕ, List, [], ◌∷◌, Bool, true, false, IsTrue, refl, sym, ◌∙◌, rules}
+use Rattle.ec_ast.specs.declared.Expression.{Expression}
+use Rattle.ec_ast.specs.declared.Expression.TheVariants as e
+use Rattle.ec_parser.specs.Chains.{or_of}
+use Rattle.ec_parser.proofs.values.or_of.Goals as goal
+
+none : (first : Expression) (more : List Expression) → more ≡ [] → first ≡ or_of first more
+unfolding or_of
+none first more h = rw h refl
+
+some : (first : Expression) (more : List Expression) → (more ≡ [] → ⊥) → e.Or first more ≡ or_of first more
+unfolding or_of
+some first [] h = absurd (h refl)
+some first (x ∷ more) h = refl
+
+pub returns-then-is_empty : goal.returns-then-is_empty
+returns-then-is_empty c = none _ _ (c.if-is_empty.ensures.0 refl)
+
+pub returns : goal.returns
+returns c = rw c.in_ok-new.ensures (some _ _ (λ e. absurd (let f : false ≡ true = c.if-is_empty.ensures.1 e in cc)))
