@@ -1,7 +1,7 @@
 -- What a loop over the tokens keeps, and what it says where it stops.
 use Rattle.std.proofs.Common.{◌≡◌, ℕ, suc, ◌+◌, ◌<◌, ◌≤◌, Bool, true, false, List, [], ◌∷◌, ◌++◌, length, take, drop, refl, sym, ◌∙◌, ap, subst, arith, rules, append_assoc, append-nil, length-append, take-append-drop}
 use Rattle.ec_parser.specs.declared.grammar.Part.TheVariants as part
-use Rattle.ec_parser.specs.declared.terminal.Token.{Token as Word}
+use Rattle.ec_lexer.specs.declared.token.Token.{Token as Word}
 use Rattle.ec_parser.specs.declared.values.Values.{Values}
 use Rattle.ec_parser.specs.declared.grammar.Symbol.{Symbol}
 use Rattle.ec_parser.specs.declared.grammar.Symbol.TheVariants.{Part}
@@ -43,7 +43,7 @@ not_shallow (x ∷ ns) n ms h s = not_shallow ns n ms h s.1
 
 module _ (ts : List Word) (s : List Symbol) (vs : Values) (r : Reached ts s vs) where
   pub begun : Begins ts
-  begun = let e = reaches s vs in record {
+  begun = let e = reaches s r.follows vs in record {
     more = e.0;
     nestings = r.nestings;
     others = e.1;

@@ -1,7 +1,7 @@
 -- The programs, and how a list of tokens fails to be one.
 use Rattle.std.specs.Prelude.{◌≡◌, ℕ, ◌+◌, ◌<◌, ◌≤◌, List, [], ◌∷◌, ◌++◌, length, take}
 use Rattle.ec_parser.specs.declared.grammar.Part.TheVariants as part
-use Rattle.ec_parser.specs.declared.terminal.Token.{Token as Word}
+use Rattle.ec_lexer.specs.declared.token.Token.{Token as Word}
 use Rattle.ec_parser.specs.declared.values.Values.{Values}
 use Rattle.ec_parser.specs.declared.grammar.Symbol.TheVariants.{Part}
 use Rattle.ec_parser.specs.declared.ParseError.{ParseError}

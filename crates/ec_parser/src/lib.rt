@@ -20,10 +20,11 @@ pub mod values;
 
 use ec_ast::Program;
 use first::{first, is_nullable};
-use grammar::{Part, Symbol, alternatives};
+use grammar::{Bound, Part, Symbol, alternatives};
 use pile::Pile;
 use std::alloc::{AllocError, Global};
-use terminal::{Terminal, Token};
+use ec_lexer::token::Token;
+use terminal::{Terminal, terminal_of};
 use thiserror::Error;
 use values::{Values, keep, no_values, perform, take_program};
 
@@ -99,10 +100,11 @@ fn step(
         (Goes token.now symbols.old values.old symbols.new values.new)
         (Refuses token.now symbols.old values.old)) }
 {
-    match settle(alloc, token.terminal, symbols, values)? {
-        Next::Token(kind) => Ok(same(kind, token.terminal)),
+    let found = terminal_of(token);
+    match settle(alloc, found, symbols, values)? {
+        Next::Token(kind) => Ok(same(kind, found)),
         Next::Keep(kind) => {
-            if !same(kind, token.terminal) {
+            if !same(kind, found) {
                 return Ok(false);
             }
             keep(alloc, kind, token, values)?;
@@ -150,7 +152,7 @@ fn settle(
                 None => return Ok(Next::Stuck),
                 Some(alternative) => symbols.push_all(alternative)?,
             },
-            Some(Symbol::Close(_)) => {}
+            Some(Symbol::Bound(_)) => {}
             Some(Symbol::Do(act)) => perform(alloc, act, values)?,
         }
     }
@@ -183,7 +185,7 @@ fn suits(kind: Terminal, alternative: &[Symbol]) -> bool
                     return false;
                 }
             }
-            Symbol::Close(_) | Symbol::Do(_) => {}
+            Symbol::Bound(_) | Symbol::Do(_) => {}
         }
     }
     true
@@ -214,8 +216,10 @@ fn nesting(symbols: &Pile<Symbol>) -> usize
 {
     let mut open = 0;
     for symbol in symbols.as_slice() {
-        if let Symbol::Close(_) = symbol {
-            open += 1;
+        match symbol {
+            Symbol::Bound(Bound::Opens(_)) => open = usize::saturating_sub(open, 1),
+            Symbol::Bound(Bound::Closes(_)) => open += 1,
+            _ => {}
         }
     }
     open

@@ -1,5 +1,5 @@
 use Rattle.std.proofs.Common.{rules, ◌≡◌, ℕ, ◌+◌, ◌<◌, ◌≤◌, List, length, take, sym, ◌∙◌, arith, length-take, get_or, ◌++◌, ◌∷◌, [], ap}
-use Rattle.ec_parser.specs.declared.terminal.Token.{Token}
+use Rattle.ec_lexer.specs.declared.token.Token.{Token}
 use Rattle.std.proofs.lemmas.List.{take_more, take_all}
 use Rattle.ec_parser.proofs.Progress.{no_program_from, syntax_at, reached_more, not_deep, deep_at, unfinished, syntax_at_end, Reached, start, whole_found, whole_only}
 use Rattle.ec_parser.specs.declared.grammar.Part.TheVariants as part
