@@ -1,3 +1,4 @@
+mod Depths
 mod Fitting
 mod Good
 mod Progress
