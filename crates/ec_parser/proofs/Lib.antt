@@ -1,8 +1,10 @@
 mod Fitting
 mod Good
+mod Nestings
 mod Progress
 mod Sets
 mod Shortest
+mod Stances
 mod Table
 mod Theory
 mod Tokens
