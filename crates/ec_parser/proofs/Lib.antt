@@ -1,5 +1,6 @@
 mod Fitting
 mod Good
+mod Nested
 mod Nestings
 mod Progress
 mod Sets
@@ -8,3 +9,4 @@ mod Stances
 mod Table
 mod Theory
 mod Tokens
+mod Walks

@@ -19,37 +19,37 @@ use Rattle.ec_parser.proofs.Table.{implies}
 
 -- ---- where a part may stand
 
-abbrev is_operand : Behind → Bool
+abbrev pub is_operand : Behind → Bool
 is_operand operand = true
 is_operand _ = false
 
-abbrev is_end : Behind → Bool
+abbrev pub is_end : Behind → Bool
 is_end end = true
 is_end _ = false
 
-abbrev is_other : Behind → Bool
+abbrev pub is_other : Behind → Bool
 is_other other = true
 is_other _ = false
 
 -- no operand would end before what stands here
-abbrev is_fresh : Behind → Option Opened → Bool
+abbrev pub is_fresh : Behind → Option Opened → Bool
 is_fresh operand (Some o.Operand) = false
 is_fresh operand (Some o.Not) = false
 is_fresh b t = true
 
 -- among the innermost is none that ends with an operand, but that of a `!`
-abbrev may_compare : Option Opened → Bool
+abbrev pub may_compare : Option Opened → Bool
 may_compare (Some o.Operand) = false
 may_compare (Some o.View) = false
 may_compare t = true
 
 -- nor that
-abbrev is_outer : Option Opened → Bool
+abbrev pub is_outer : Option Opened → Bool
 is_outer (Some o.Not) = false
 is_outer (Some o.Typeobject) = false
 is_outer t = may_compare t
 
-abbrev is_typeobject : Option Opened → Bool
+abbrev pub is_typeobject : Option Opened → Bool
 is_typeobject (Some o.Typeobject) = true
 is_typeobject t = false
 
@@ -204,13 +204,16 @@ abbrev pub ends_here : (Behind → Bool) → Place → Bool
 ends_here e (plain b) = e b
 ends_here e _ = false
 
+-- it holds wherever what is behind the part may stand
+abbrev pub each : Part_of → (Behind → Bool) → Bool
+each p f = implies (leaves p operand) (f operand) && (implies (leaves p end) (f end) && implies (leaves p other) (f other))
+
 -- Each symbol stands where it may. What is behind the list begins with these, its innermost is t, and e says what it may stand behind.
 abbrev pub walks : (Behind → Bool) → List Terminal → Option Opened → Place → List Symbol → Bool
 walks e f t place [] = ends_here e place
 walks e f t place (Token k ∷ s) = suits place k t (opened s) && walks e f t (plain (behind k)) s
 walks e f t place (Keep k ∷ s) = suits place k t (opened s) && walks e f t (plain (behind k)) s
-walks e f t place (Part p ∷ s) = fits place p t (opened s) &&
-    (implies (leaves p operand) (walks e f t (plain operand) s) && (implies (leaves p end) (walks e f t (plain end) s) && implies (leaves p other) (walks e f t (plain other) s)))
+walks e f t place (Part p ∷ s) = fits place p t (opened s) && each p (λ b. walks e f t (plain b) s)
 walks e f t place (Bound (Opens x) ∷ s) = is_plain place && walks e f t (opening (stood place)) s
 walks e f t place (Bound (Closes x) ∷ s) = is_plain place &&
     (if ends_alone x then is_operand (stood place) && (none_goes_on x (starts_with s f) && walks e f t place s) else walks e f t (closing x (stood place)) s)
