@@ -1,9 +1,13 @@
 mod Depths
 mod Fitting
 mod Good
+mod Nested
+mod Nestings
 mod Progress
 mod Sets
 mod Shortest
+mod Stances
 mod Table
 mod Theory
 mod Tokens
+mod Walks

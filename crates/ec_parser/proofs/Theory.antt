@@ -32,7 +32,7 @@ use Rattle.ec_parser.proofs.Sets.{or_cases, and_left, and_right, or_left, or_rig
 abbrev pub Has : Terminal → List Terminal → Type 0
 Has k ks = has_kind k ks ≡ true
 
-starts_with-append : (xs s : List Symbol) (b : List Terminal) → starts_with (xs ++ s) b ≡ starts_with xs (starts_with s b)
+pub starts_with-append : (xs s : List Symbol) (b : List Terminal) → starts_with (xs ++ s) b ≡ starts_with xs (starts_with s b)
 starts_with-append [] s b = refl
 starts_with-append (Token k ∷ xs) s b = refl
 starts_with-append (Keep k ∷ xs) s b = refl
@@ -62,7 +62,7 @@ implied : (a b : Bool) → implies a b ≡ true → a ≡ true → b ≡ true
 implied true b h e = h
 implied false b h e = absurd (let e : false ≡ true = e in cc)
 
-same_refl : (k : Terminal) → same_kind k k ≡ true
+pub same_refl : (k : Terminal) → same_kind k k ≡ true
 same_refl kind.EndOfText = refl
 same_refl _ = refl
 
@@ -155,7 +155,7 @@ none_before a n ts ns ws h d = n ts ns ws h (a.forth ts ns ws h d)
 
 -- ---- what follows stays right
 
-follows_list : (xs : List Symbol) (p : Part_of) (s : List Symbol) → follows_in xs p ≡ true →
+pub follows_list : (xs : List Symbol) (p : Part_of) (s : List Symbol) → follows_in xs p ≡ true →
     ((k : Terminal) → Has k (starts_of s) → Has k (follow p)) → Follows s → Follows (xs ++ s)
 follows_list [] p s e b f = f
 follows_list (Token k ∷ xs) p s e b f = (and_left (is_of_token k) (follows_in xs p) e, follows_list xs p s (and_right (is_of_token k) (follows_in xs p) e) b f)
