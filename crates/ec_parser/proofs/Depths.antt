@@ -23,7 +23,7 @@ pub nestings_length : (xs : List Token) → length (nestings_of xs) ≡ length x
 unfolding nestings_of
 nestings_length xs = from_length [] Behind.other xs
 
-head_or : {A : Type 0} → A → List A → A
+abbrev head_or : {A : Type 0} → A → List A → A
 head_or a [] = a
 head_or a (x ∷ xs) = x
 

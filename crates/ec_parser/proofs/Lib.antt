@@ -1,3 +1,4 @@
+mod Answered
 mod Depths
 mod Fitting
 mod Good
