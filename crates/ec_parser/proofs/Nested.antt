@@ -1,25 +1,24 @@
 -- The nesting at each token is the one that the tokens themselves tell.
-use Rattle.std.proofs.Common.{◌≡◌, ℕ, zero, suc, Bool, true, false, not, ◌&&◌, cond, List, [], ◌∷◌, ◌++◌, length, take, Option, Some, None, refl, sym, ◌∙◌, ap, rules}
-use denote.Enum.Bare.{same_true, sameb}
+use Rattle.std.proofs.Common.{◌≡◌, ℕ, zero, suc, Bool, true, false, not, ◌&&◌, cond, List, [], ◌∷◌, length, take, Option, Some, None, refl, sym, ◌∙◌, ap, rules}
+use denote.Enum.Bare.{same_true}
 use Rattle.ec_parser.specs.contracts.grammar.Opened.{the_type as opened_type}
 use Rattle.ec_parser.specs.declared.terminal.Terminal.{Terminal}
-use Rattle.ec_parser.specs.declared.terminal.Terminal.TheVariants as kind
 use Rattle.ec_parser.specs.declared.grammar.Part.TheVariants as part
 use Rattle.ec_parser.specs.declared.grammar.Opened.{Opened}
 use Rattle.ec_parser.specs.declared.grammar.Bound.TheVariants.{Opens, Closes}
 use Rattle.ec_lexer.specs.declared.token.Token.{Token as Word}
 use Rattle.ec_parser.specs.declared.values.Values.{Values}
 use Rattle.ec_parser.specs.declared.grammar.Symbol.{Symbol}
-use Rattle.ec_parser.specs.declared.grammar.Symbol.TheVariants.{Token, Keep, Part, Bound, Do}
+use Rattle.ec_parser.specs.declared.grammar.Symbol.TheVariants.{Part}
 use Rattle.ec_parser.specs.Terminals.{terminal_of}
 use Rattle.ec_parser.specs.Values.{no_values}
-use Rattle.ec_parser.specs.Reads.{rest, opened, open_in, Reads, finished, token, keep, part as reads_part, bound, made}
+use Rattle.ec_parser.specs.Reads.{rest, opened, Reads, finished, token, keep, part as reads_part, bound, made}
 use Rattle.ec_parser.specs.Follow.{starts_of, head, Follows}
-use Rattle.ec_parser.specs.Nesting.{Behind, operand, end, other, behind, goes_on, left, closes, innermost, opens, with_opened, with_closed, turned, open_at, nestings_from, nestings_of}
+use Rattle.ec_parser.specs.Nesting.{Behind, operand, end, other, behind, goes_on, left, closes, innermost, opens, turned, open_at, nestings_from, nestings_of}
 use Rattle.ec_parser.proofs.Sets.{and_left, and_right}
 use Rattle.ec_parser.proofs.Good.{good_rule}
-use Rattle.ec_parser.proofs.Theory.{Has, begins, follows_list}
-use Rattle.ec_parser.proofs.Stances.{Place, plain, opening, closing, stood, is_plain, is_operand, top, stays, is_none, is_some, suits, ends_alone, none_goes_on, walks, is_filled, is_balanced}
+use Rattle.ec_parser.proofs.Theory.{begins, follows_list}
+use Rattle.ec_parser.proofs.Stances.{Place, plain, opening, closing, stood, is_operand, top, stays, is_none, is_some, suits, ends_alone, none_goes_on, is_filled, is_balanced}
 use Rattle.ec_parser.proofs.Walks.{is_not, none_has, all_walk_in, balanced-append, rule_balanced, rule_opened, rule_walks}
 
 -- ---- what one token does
@@ -104,20 +103,22 @@ read_nestings (keep {k = k} {s = s} {t = t} {ts = ts} {ns = ns} e r) f b place h
     (read_nestings r f.1 b (plain (behind k)) (and_right (suits place k None (opened s)) (all_walk_in (plain (behind k)) s) h) (opened s) refl)
 read_nestings (reads_part {p = p} {s = s} {ts = ts} q e r) f b place h os a =
     read_nestings r (follows_list q p s (good_rule p q e).follows f.0 f.1) (balanced-append q s (rule_balanced p q e) b) place (rule_walks place p q s e f h) os
-      (rw (rule_opened p q s e) a)
+    (rw (rule_opened p q s e) a)
 read_nestings (bound {o = Opens x} {s = s} r) f b (plain c) h os a = read_nestings r f (and_right (is_filled (opened s)) (is_balanced s) b) (opening c) h os a
 read_nestings (bound {o = Closes x} {s = s} {ts = ts} {ns = ns} r) f b (plain c) h os a =
     go (ends_alone x) h
-      (λ i. read_nestings r f b (plain c) i.1 os (a ∙ left_ends c (head ts) x (opened s) i.0.0 (none_has x (head ts) (starts_of s) i.0.1 (begins r))))
-      (λ i. read_nestings r f b (closing x c) i os a)
+    (λ i. read_nestings r f b (plain c) i.1 os (a ∙ left_ends c (head ts) x (opened s) i.0.0 (none_has x (head ts) (starts_of s) i.0.1 (begins r))))
+    (λ i. read_nestings r f b (closing x c) i os a)
   where
     go : (n : Bool) → cond n (is_operand c && (none_goes_on x (starts_of s) && all_walk_in (plain c) s)) (all_walk_in (closing x c) s) ≡ true →
         (((is_operand c ≡ true) × (none_goes_on x (starts_of s) ≡ true)) × (all_walk_in (plain c) s ≡ true) → ns ≡ nestings_from os c ts) →
         (all_walk_in (closing x c) s ≡ true → ns ≡ nestings_from os c ts) → ns ≡ nestings_from os c ts
     go true h f g =
         let i = and_right (is_operand c) (none_goes_on x (starts_of s) && all_walk_in (plain c) s) h in
-        f ((and_left (is_operand c) (none_goes_on x (starts_of s) && all_walk_in (plain c) s) h, and_left (none_goes_on x (starts_of s)) (all_walk_in (plain c) s) i),
-          and_right (none_goes_on x (starts_of s)) (all_walk_in (plain c) s) i)
+        f (
+          (and_left (is_operand c) (none_goes_on x (starts_of s) && all_walk_in (plain c) s) h, and_left (none_goes_on x (starts_of s)) (all_walk_in (plain c) s) i),
+          and_right (none_goes_on x (starts_of s)) (all_walk_in (plain c) s) i,
+        )
     go false h f g = g h
 read_nestings (bound {o = Opens x} r) f b (opening c) h os a = absurd (let g : false ≡ true = h in cc)
 read_nestings (bound {o = Closes x} r) f b (opening c) h os a = absurd (let g : false ≡ true = h in cc)

@@ -1,5 +1,5 @@
 -- Where each part may stand among the nestings that the tokens themselves tell, with the test of the table for it.
-use Rattle.std.specs.Prelude.{◌≡◌, Bool, true, false, not, ◌||◌, ◌&&◌, if◌then◌else◌, List, [], ◌∷◌, Option, Some, None, refl}
+use Rattle.std.specs.Prelude.{◌≡◌, Bool, true, false, not, ◌&&◌, if◌then◌else◌, List, [], ◌∷◌, Option, Some, None, refl}
 use denote.Enum.Bare.{sameb}
 use Rattle.ec_parser.specs.contracts.grammar.Opened.{the_type as opened_type}
 use Rattle.ec_parser.specs.declared.terminal.Terminal.{Terminal}

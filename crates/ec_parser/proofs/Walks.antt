@@ -1,5 +1,5 @@
 -- Each symbol of a list that is still to be read stands where it may, and does so where a part is replaced by an alternative.
-use Rattle.std.proofs.Common.{◌≡◌, Bool, true, false, not, ◌&&◌, cond, List, [], ◌∷◌, ◌++◌, Option, Some, None, refl, sym, ◌∙◌, ap, inl, inr}
+use Rattle.std.proofs.Common.{◌≡◌, Bool, true, false, not, ◌&&◌, cond, List, [], ◌∷◌, ◌++◌, Option, Some, None, refl, ◌∙◌, ap, inl, inr}
 use Rattle.ec_parser.specs.declared.terminal.Terminal.{Terminal}
 use Rattle.ec_parser.specs.declared.terminal.Terminal.TheVariants as kind
 use Rattle.ec_parser.specs.declared.grammar.Part.{Part as Part_of}
@@ -17,7 +17,7 @@ use Rattle.ec_parser.specs.Nesting.{Behind, operand, end, other, behind, goes_on
 use Rattle.ec_parser.proofs.Table.{implies}
 use Rattle.ec_parser.proofs.Sets.{or_cases, and_left, and_right, or_left, or_right, same_kinds}
 use Rattle.ec_parser.proofs.Theory.{Has, same_refl, starts_with-append}
-use Rattle.ec_parser.proofs.Stances.{stands, leaves, Place, plain, opening, closing, stood, is_plain, is_operand, top, suits, is_token, all_of, fits, ends_alone, none_goes_on, each, walks, is_filled, is_balanced, closes_all, walks_at, for_tops, all_walk, closed, walked}
+use Rattle.ec_parser.proofs.Stances.{stands, leaves, Place, plain, opening, closing, stood, is_plain, is_operand, top, suits, is_token, all_of, fits, ends_alone, none_goes_on, each, walks, is_filled, is_balanced, closes_all, walks_at, for_tops, closed, walked}
 
 pub both : (a b : Bool) → a ≡ true → b ≡ true → (a && b) ≡ true
 both true b e f = f
@@ -40,9 +40,9 @@ each-map p f g m h =
     let a = and_left (implies (leaves p operand) (f operand)) (implies (leaves p end) (f end) && implies (leaves p other) (f other)) h in
     let i = and_right (implies (leaves p operand) (f operand)) (implies (leaves p end) (f end) && implies (leaves p other) (f other)) h in
     both (implies (leaves p operand) (g operand)) (implies (leaves p end) (g end) && implies (leaves p other) (g other)) (implies-map (leaves p operand) (f operand) (g operand) (m operand) a)
-      (both (implies (leaves p end) (g end)) (implies (leaves p other) (g other))
-        (implies-map (leaves p end) (f end) (g end) (m end) (and_left (implies (leaves p end) (f end)) (implies (leaves p other) (f other)) i))
-        (implies-map (leaves p other) (f other) (g other) (m other) (and_right (implies (leaves p end) (f end)) (implies (leaves p other) (f other)) i)))
+    (both (implies (leaves p end) (g end)) (implies (leaves p other) (g other))
+    (implies-map (leaves p end) (f end) (g end) (m end) (and_left (implies (leaves p end) (f end)) (implies (leaves p other) (f other)) i))
+    (implies-map (leaves p other) (f other) (g other) (m other) (and_right (implies (leaves p end) (f end)) (implies (leaves p other) (f other)) i)))
 
 each_at : (p : Part_of) (f : Behind → Bool) (b : Behind) → each p f ≡ true → leaves p b ≡ true → f b ≡ true
 each_at p f operand h e = implied_by (leaves p operand) (f operand) (and_left (implies (leaves p operand) (f operand)) (implies (leaves p end) (f end) && implies (leaves p other) (f other)) h) e
@@ -181,14 +181,14 @@ module _ (e : Behind → Bool) (f : List Terminal) (s : List Symbol) (starts : (
   walks-append place (Part p ∷ r) h g = both (fits place p None (opened (r ++ s))) (each p (λ b. all_walk_in (plain b) (r ++ s)))
       (rw (opened-append r s h) (fits-append place p None (opened r) (opened s) (and_left (fits place p (top None (opened s)) (opened r)) (each p (λ b. walks e f (top None (opened s)) (plain b) r)) g)))
       (each-map p (λ b. walks e f (top None (opened s)) (plain b) r) (λ b. all_walk_in (plain b) (r ++ s)) (λ b w. walks-append (plain b) r h w)
-        (and_right (fits place p (top None (opened s)) (opened r)) (each p (λ b. walks e f (top None (opened s)) (plain b) r)) g))
+      (and_right (fits place p (top None (opened s)) (opened r)) (each p (λ b. walks e f (top None (opened s)) (plain b) r)) g))
   walks-append place (Bound (Opens x) ∷ r) h g = both (is_plain place) (all_walk_in (opening (stood place)) (r ++ s))
       (and_left (is_plain place) (walks e f (top None (opened s)) (opening (stood place)) r) g)
       (walks-append (opening (stood place)) r (and_right (is_filled (opened r)) (is_balanced r) h) (and_right (is_plain place) (walks e f (top None (opened s)) (opening (stood place)) r) g))
   walks-append place (Bound (Closes x) ∷ r) h g = both (is_plain place) _ (and_left (is_plain place) _ g)
       (cond-map (ends_alone x) (is_operand (stood place) && (none_goes_on x (starts_with r f) && walks e f (top None (opened s)) place r)) (walks e f (top None (opened s)) (closing x (stood place)) r)
-        (is_operand (stood place) && (none_goes_on x (starts_of (r ++ s)) && all_walk_in place (r ++ s))) (all_walk_in (closing x (stood place)) (r ++ s))
-        (alone (λ w. walks-append place r h w)) (λ w. walks-append (closing x (stood place)) r h w) (and_right (is_plain place) _ g))
+      (is_operand (stood place) && (none_goes_on x (starts_of (r ++ s)) && all_walk_in place (r ++ s))) (all_walk_in (closing x (stood place)) (r ++ s))
+      (alone (λ w. walks-append place r h w)) (λ w. walks-append (closing x (stood place)) r h w) (and_right (is_plain place) _ g))
     where
       alone : (walks e f (top None (opened s)) place r ≡ true → all_walk_in place (r ++ s) ≡ true) →
           (is_operand (stood place) && (none_goes_on x (starts_with r f) && walks e f (top None (opened s)) place r)) ≡ true →
@@ -196,10 +196,10 @@ module _ (e : Behind → Bool) (f : List Terminal) (s : List Symbol) (starts : (
       alone again w =
           let v = and_right (is_operand (stood place)) (none_goes_on x (starts_with r f) && walks e f (top None (opened s)) place r) w in
           both (is_operand (stood place)) (none_goes_on x (starts_of (r ++ s)) && all_walk_in place (r ++ s))
-            (and_left (is_operand (stood place)) (none_goes_on x (starts_with r f) && walks e f (top None (opened s)) place r) w)
-            (both (none_goes_on x (starts_of (r ++ s))) (all_walk_in place (r ++ s))
-              (rw (starts_with-append r s (kind.EndOfText ∷ [])) (none_starts x f (starts_of s) starts r (and_left (none_goes_on x (starts_with r f)) (walks e f (top None (opened s)) place r) v)))
-              (again (and_right (none_goes_on x (starts_with r f)) (walks e f (top None (opened s)) place r) v)))
+          (and_left (is_operand (stood place)) (none_goes_on x (starts_with r f) && walks e f (top None (opened s)) place r) w)
+          (both (none_goes_on x (starts_of (r ++ s))) (all_walk_in place (r ++ s))
+          (rw (starts_with-append r s (kind.EndOfText ∷ [])) (none_starts x f (starts_of s) starts r (and_left (none_goes_on x (starts_with r f)) (walks e f (top None (opened s)) place r) v)))
+          (again (and_right (none_goes_on x (starts_with r f)) (walks e f (top None (opened s)) place r) v)))
   walks-append place (Do a ∷ r) h g = walks-append place r h g
 
 -- ---- a part is replaced by an alternative
@@ -209,14 +209,19 @@ tops f t h = go t
   where
     h1 : (f (Some o.Bracket) && (f (Some o.Word) && (f (Some o.Typeobject) && (f (Some o.Operand) && (f (Some o.View) && f (Some o.Not)))))) ≡ true
     h1 = and_right (f None) _ h
+
     h2 : (f (Some o.Word) && (f (Some o.Typeobject) && (f (Some o.Operand) && (f (Some o.View) && f (Some o.Not))))) ≡ true
     h2 = and_right (f (Some o.Bracket)) _ h1
+
     h3 : (f (Some o.Typeobject) && (f (Some o.Operand) && (f (Some o.View) && f (Some o.Not)))) ≡ true
     h3 = and_right (f (Some o.Word)) _ h2
+
     h4 : (f (Some o.Operand) && (f (Some o.View) && f (Some o.Not))) ≡ true
     h4 = and_right (f (Some o.Typeobject)) _ h3
+
     h5 : (f (Some o.View) && f (Some o.Not)) ≡ true
     h5 = and_right (f (Some o.Operand)) _ h4
+
     go : (t : Option Opened) → f t ≡ true
     go None = and_left (f None) _ h
     go (Some o.Bracket) = and_left (f (Some o.Bracket)) _ h1
@@ -257,6 +262,6 @@ rule_walks place p r s m f h = go place (and_left (fits place p None (opened s))
     go : (place : Place) → fits place p None (opened s) ≡ true → all_walk_in place (r ++ s) ≡ true
     go (plain b) e = walks-append (leaves p) (follow p) s f.0 after (plain b) r (rule_balanced p r m)
         (of_all (walks (leaves p) (follow p) (top None (opened s)) (plain b)) r (rules p)
-          (implied_by (stands p b (top None (opened s))) (all_of (walks (leaves p) (follow p) (top None (opened s)) (plain b)) (rules p)) (walked_at p b (top None (opened s))) e) m)
+        (implied_by (stands p b (top None (opened s))) (all_of (walks (leaves p) (follow p) (top None (opened s)) (plain b)) (rules p)) (walked_at p b (top None (opened s))) e) m)
     go (opening b) e = of_token b r (of_all (is_token p (opening b) None (opened s)) r (rules p) e m)
     go (closing x b) e = absurd (let g : false ≡ true = e in cc)
