@@ -1,5 +1,6 @@
 mod Fitting
 mod Good
+mod Meaning
 mod Progress
 mod Sets
 mod Shortest
