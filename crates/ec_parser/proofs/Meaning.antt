@@ -206,9 +206,9 @@ abbrev pub add_constant : List Constant → Values → Values
 add_constant xs vs = record vs { constant_lists = extend xs vs.constant_lists }
 
 -- the first token isn't `monitor`
-abbrev pub NotMonitor : List Token → Type 0
-NotMonitor [] = Unit {0}
-NotMonitor (a ∷ ts) = Is t.Monitor a → ⊥
+pub data NotMonitor : List Token → Type 0 where
+  no_token : NotMonitor []
+  other_token : {a : Token} {ts : List Token} → (Is t.Monitor a → ⊥) → NotMonitor (a ∷ ts)
 
 -- a type that is no ID
 pub data IsPlainType : List Token → List Token → TypeName → Type 0 where

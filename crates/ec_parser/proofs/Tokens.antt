@@ -9,7 +9,7 @@ use Rattle.ec_parser.specs.declared.terminal.Terminal.{Terminal}
 use Rattle.ec_parser.specs.declared.terminal.Terminal.TheVariants as t
 use Rattle.ec_parser.specs.Terminals.{terminal_of, terminal_of_kind, terminal_of_name, is_of_token}
 
-some_kind : Terminal → TokenKind
+pub some_kind : Terminal → TokenKind
 some_kind t.And = token.Reserved word.And
 some_kind t.Any = token.Reserved word.Any
 some_kind t.As = token.Reserved word.As
