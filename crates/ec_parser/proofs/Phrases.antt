@@ -65,6 +65,9 @@ object_of w (IsObjectRest.object a b c d f) = IsObject.object_constructor w a b 
 pub differs : {a : Token} {ts : List Token} {kind : Terminal} → Is kind a → (kind ≡ t.Monitor → ⊥) → NotMonitor (a ∷ ts)
 differs h n = other_token (λ m. n (sym h ∙ m))
 
+pub no_monitor : {a : Token} {ts : List Token} → NotMonitor (a ∷ ts) → Is t.Monitor a → ⊥
+no_monitor (other_token n) = n
+
 pub id_first : {a : Token} {ts : List Token} {name : Name} → IsId a name → NotMonitor (a ∷ ts)
 id_first (IsId.other h) = differs h (λ x. cc)
 id_first (IsId.create h) = differs h (λ x. cc)
