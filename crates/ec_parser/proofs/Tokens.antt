@@ -9,7 +9,7 @@ use Rattle.ec_parser.specs.declared.terminal.Terminal.{Terminal}
 use Rattle.ec_parser.specs.declared.terminal.Terminal.TheVariants as t
 use Rattle.ec_parser.specs.Terminals.{terminal_of, terminal_of_kind, terminal_of_name, is_of_token}
 
-abbrev pub some_kind : Terminal → TokenKind
+pub some_kind : Terminal → TokenKind
 some_kind t.And = token.Reserved word.And
 some_kind t.Any = token.Reserved word.Any
 some_kind t.As = token.Reserved word.As
@@ -97,6 +97,6 @@ abbrev pub some_token : Terminal → Token
 some_token k = record { kind = some_kind k; at = record { from = 0; to = 0 } }
 
 pub some_is : (k : Terminal) → is_of_token k ≡ true → terminal_of (some_token k) ≡ k
-unfolding terminal_of_kind terminal_of_name
+unfolding some_kind terminal_of_kind terminal_of_name
 some_is t.EndOfText h = absurd (let f : false ≡ true = h in cc)
 some_is _ h = refl
