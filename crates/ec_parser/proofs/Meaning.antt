@@ -33,8 +33,6 @@ use Rattle.ec_ast.specs.declared.Constant.{Constant}
 use Rattle.ec_ast.specs.declared.Program.{Program}
 use Rattle.ec_lexer.specs.declared.token.Token.{Token}
 use Rattle.ec_parser.specs.declared.terminal.Terminal.TheVariants as t
-use Rattle.ec_ast.specs.declared.Literal.{Literal}
-use Rattle.ec_ast.specs.declared.Number.{Number}
 use Rattle.ec_ast.specs.declared.Span.{Span}
 use Rattle.ec_parser.specs.declared.grammar.Part.{Part as Part_of}
 use Rattle.ec_parser.specs.declared.grammar.Part.TheVariants as part
