@@ -8,6 +8,7 @@ mod CompletePrimaries
 mod CompleteStatements
 mod CompleteTargets
 mod CompleteTypes
+mod Depths
 mod Fitting
 mod Good
 mod Lists

@@ -4,6 +4,8 @@ pub mod Filled
 pub mod Fits
 pub mod Follow
 pub mod HasTree
+pub mod Nesting
+pub mod Prefixes
 pub mod Program
 pub mod Reads
 pub mod Rules

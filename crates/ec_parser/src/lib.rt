@@ -7,7 +7,10 @@ ghost use Rattle.ec_parser.specs.Choose as table;
 ghost use Rattle.ec_parser.specs.Follow.{Follows, Settles, Goes, Refuses, EndsWith, EndsNowhere};
 ghost use Rattle.ec_parser.specs.Fits.{Fits};
 ghost use Rattle.ec_parser.specs.Reads.{open_in};
-ghost use Rattle.ec_parser.specs.Program.{IsProgram, IsShallow, IsCause};
+ghost use Rattle.ec_parser.specs.HasTree.{HasTree};
+ghost use Rattle.ec_parser.specs.Program.{AreShallow, IsShallow, IsCause};
+ghost use Rattle.ec_parser.specs.Prefixes as reading;
+ghost use Rattle.ec_ast.specs.declared.Program.{Program as AProgram};
 ghost use Rattle.ec_parser.specs.declared.ParseError.TheVariants.{Memory};
 ghost use Rattle.ec_parser.specs.declared.values.Values.{Values as Built};
 ghost use Rattle.ec_parser.specs.Values.{first_program};
@@ -54,12 +57,22 @@ impl From<AllocError> for ParseError {
 /// The most nesting that a token may have.
 const DEEPEST: usize = 64;
 
-/// The tree of a program's tokens.
+/// The tree of a program's tokens. Tokens whose nesting is at most 64 and that have a tree have this one alone.
 pub fn parse(alloc: Global, tokens: &[Token]) -> Result<Program, ParseError>
-    ensures found { IfOk result (λ program. (ns : List ℕ) × (ws : Built) × IsProgram tokens.now ns ws × IsShallow ns × (program ≡ first_program ws.programs)) }
-    ensures only { (ns : List ℕ) (ws : Built) → IsProgram tokens.now ns ws → IsShallow ns →
-        MatchResult result (λ program. program ≡ first_program ws.programs) (λ e. e ≡ Memory) }
+    ensures tree { IfOk result (λ program. HasTree tokens.now program × IsShallow tokens.now) }
+    ensures only { (program : AProgram) → HasTree tokens.now program → IsShallow tokens.now →
+        MatchResult result (λ found. found ≡ program) (λ e. e ≡ Memory) }
     ensures refused { IfErr result (IsCause tokens.now) }
+{
+    read(alloc, tokens)
+}
+
+/// The same, by the parser's own table.
+fn read(alloc: Global, tokens: &[Token]) -> Result<Program, ParseError>
+    ensures found { IfOk result (λ program. (ns : List ℕ) × (ws : Built) × reading.IsProgram tokens.now ns ws × AreShallow ns × (program ≡ first_program ws.programs)) }
+    ensures only { (ns : List ℕ) (ws : Built) → reading.IsProgram tokens.now ns ws → AreShallow ns →
+        MatchResult result (λ program. program ≡ first_program ws.programs) (λ e. e ≡ Memory) }
+    ensures refused { IfErr result (reading.IsCause tokens.now) }
 {
     let mut symbols = Pile::new(alloc);
     let mut values = no_values(alloc);
@@ -224,3 +237,6 @@ fn nesting(symbols: &Pile<Symbol>) -> usize
     }
     open
 }
+
+#[cfg(test)]
+mod tests;

@@ -127,6 +127,7 @@ pub enum Terminal {
 }
 
 /// What a token is to the grammar.
+#[tactic(auto, unfolding(crate::specs::Terminals::terminal_of_kind))]
 pub fn terminal_of(token: &Token) -> Terminal
     ensures { result ≡ spec.terminal_of token.now }
 {
@@ -140,6 +141,7 @@ pub fn terminal_of(token: &Token) -> Terminal
 }
 
 /// Case isn't significant.
+#[tactic(auto, unfolding(crate::specs::Terminals::terminal_of_name))]
 fn terminal_of_name(text: &[u8]) -> Terminal
     ensures { result ≡ spec.terminal_of_name text.now }
 {

@@ -7,7 +7,7 @@ use Rattle.ec_parser.specs.declared.grammar.Symbol.{Symbol}
 use Rattle.ec_parser.specs.declared.grammar.Symbol.TheVariants.{Part}
 use Rattle.ec_parser.specs.declared.values.Values.{Values}
 use Rattle.ec_parser.specs.Values.{no_values}
-use Rattle.ec_parser.proofs.parse.Goals as goal
+use Rattle.ec_parser.proofs.read.Goals as goal
 
 more_by : (xs : List Token) (i : ℕ) (t : Token) → i < length xs → t ≡ get_or xs i t → take (i + 1) xs ≡ take i xs ++ t ∷ []
 more_by xs i t h is = take_more xs i t h ∙ ap (λ x. take i xs ++ x ∷ []) (sym is)
