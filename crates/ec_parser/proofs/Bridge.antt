@@ -3,13 +3,12 @@ use Rattle.std.proofs.Common.{◌≡◌, ℕ, List, [], ◌∷◌, refl, sym}
 use Rattle.ec_ast.specs.declared.Program.{Program}
 use Rattle.ec_lexer.specs.declared.token.Token.{Token as Word}
 use Rattle.ec_parser.specs.declared.grammar.Part.TheVariants as part
-use Rattle.ec_parser.specs.declared.grammar.Symbol.{Symbol}
 use Rattle.ec_parser.specs.declared.grammar.Symbol.TheVariants.{Part}
 use Rattle.ec_parser.specs.declared.values.Values.{Values}
 use Rattle.ec_parser.specs.HasTree.{HasTree, program}
 use Rattle.ec_parser.specs.Reads.{Reads}
 use Rattle.ec_parser.specs.Values.{no_values}
-use Rattle.ec_parser.proofs.Meaning.{Means, a_Program, put_program}
+use Rattle.ec_parser.proofs.Meaning.{a_Program, put_program}
 use Rattle.ec_parser.proofs.Seq.{Seq, finished, part as reads_part, whole, is_read, IsRead}
 use Rattle.ec_parser.proofs.Sound.{sound}
 use Rattle.ec_parser.proofs.Complete.{complete}

@@ -1,5 +1,5 @@
 -- A list on the top of a stack that grows.
-use Rattle.std.proofs.Common.{◌≡◌, List, [], ◌∷◌, ◌++◌, refl, sym, ◌∙◌, ap, append_assoc, append-nil}
+use Rattle.std.proofs.Common.{◌≡◌, List, [], ◌∷◌, ◌++◌, refl, sym, ap, append_assoc, append-nil}
 use Rattle.ec_ast.specs.declared.Addend.{Addend}
 use Rattle.ec_ast.specs.declared.Arm.{Arm}
 use Rattle.ec_ast.specs.declared.Constant.{Constant}
@@ -16,10 +16,12 @@ use Rattle.ec_parser.specs.Filled.{rest}
 use Rattle.ec_parser.specs.Values.{first_expression_list, first_addend_list, first_factor_list, first_link_list, first_type_list, first_parameter_list, first_member_list, first_statement_list, first_arm_list, first_signature_list, first_constant_list}
 use Rattle.ec_parser.proofs.Meaning.{extend, add_expression, add_addend, add_factor, add_link, add_type, add_parameter, add_member, add_statement, add_arm, add_signature, add_constant}
 
+-- nothing behind the list on the top
 kept : {A : Type 0} (ls : List (List A)) → ls ≡ extend [] ls
 kept [] = refl
 kept (l ∷ ls) = ap (λ x. x ∷ ls) (sym (append-nil l))
 
+-- one behind the list on the top and then more, and all of them at once; the same for each stack
 grown_in_expression : (x : Expression) (xs : List Expression) (ls : List (List Expression)) → extend xs ((first_expression_list ls ++ x ∷ []) ∷ rest ls) ≡ extend (x ∷ xs) ls
 unfolding rest first_expression_list
 grown_in_expression x xs [] = refl
@@ -31,15 +33,6 @@ grown_expression x xs vs = ap (λ ls. record vs { expression_lists = ls }) (grow
 
 pub kept_expression : (vs : Values) → vs ≡ add_expression [] vs
 kept_expression vs = ap (λ ls. record vs { expression_lists = ls }) (kept vs.expression_lists)
-
-one_in_expression : (x : Expression) (ls : List (List Expression)) → (first_expression_list ls ++ x ∷ []) ∷ rest ls ≡ extend (x ∷ []) ls
-unfolding rest first_expression_list
-one_in_expression x [] = refl
-one_in_expression x (l ∷ ls) = refl
-
-pub one_expression : (x : Expression) (vs : Values) →
-    record vs { expression_lists = (first_expression_list vs.expression_lists ++ x ∷ []) ∷ rest vs.expression_lists } ≡ add_expression (x ∷ []) vs
-one_expression x vs = ap (λ ls. record vs { expression_lists = ls }) (one_in_expression x vs.expression_lists)
 
 grown_in_addend : (x : Addend) (xs : List Addend) (ls : List (List Addend)) → extend xs ((first_addend_list ls ++ x ∷ []) ∷ rest ls) ≡ extend (x ∷ xs) ls
 unfolding rest first_addend_list
@@ -53,15 +46,6 @@ grown_addend x xs vs = ap (λ ls. record vs { addend_lists = ls }) (grown_in_add
 pub kept_addend : (vs : Values) → vs ≡ add_addend [] vs
 kept_addend vs = ap (λ ls. record vs { addend_lists = ls }) (kept vs.addend_lists)
 
-one_in_addend : (x : Addend) (ls : List (List Addend)) → (first_addend_list ls ++ x ∷ []) ∷ rest ls ≡ extend (x ∷ []) ls
-unfolding rest first_addend_list
-one_in_addend x [] = refl
-one_in_addend x (l ∷ ls) = refl
-
-pub one_addend : (x : Addend) (vs : Values) →
-    record vs { addend_lists = (first_addend_list vs.addend_lists ++ x ∷ []) ∷ rest vs.addend_lists } ≡ add_addend (x ∷ []) vs
-one_addend x vs = ap (λ ls. record vs { addend_lists = ls }) (one_in_addend x vs.addend_lists)
-
 grown_in_factor : (x : Factor) (xs : List Factor) (ls : List (List Factor)) → extend xs ((first_factor_list ls ++ x ∷ []) ∷ rest ls) ≡ extend (x ∷ xs) ls
 unfolding rest first_factor_list
 grown_in_factor x xs [] = refl
@@ -73,15 +57,6 @@ grown_factor x xs vs = ap (λ ls. record vs { factor_lists = ls }) (grown_in_fac
 
 pub kept_factor : (vs : Values) → vs ≡ add_factor [] vs
 kept_factor vs = ap (λ ls. record vs { factor_lists = ls }) (kept vs.factor_lists)
-
-one_in_factor : (x : Factor) (ls : List (List Factor)) → (first_factor_list ls ++ x ∷ []) ∷ rest ls ≡ extend (x ∷ []) ls
-unfolding rest first_factor_list
-one_in_factor x [] = refl
-one_in_factor x (l ∷ ls) = refl
-
-pub one_factor : (x : Factor) (vs : Values) →
-    record vs { factor_lists = (first_factor_list vs.factor_lists ++ x ∷ []) ∷ rest vs.factor_lists } ≡ add_factor (x ∷ []) vs
-one_factor x vs = ap (λ ls. record vs { factor_lists = ls }) (one_in_factor x vs.factor_lists)
 
 grown_in_link : (x : Link) (xs : List Link) (ls : List (List Link)) → extend xs ((first_link_list ls ++ x ∷ []) ∷ rest ls) ≡ extend (x ∷ xs) ls
 unfolding rest first_link_list
@@ -116,15 +91,6 @@ grown_type x xs vs = ap (λ ls. record vs { type_lists = ls }) (grown_in_type x 
 pub kept_type : (vs : Values) → vs ≡ add_type [] vs
 kept_type vs = ap (λ ls. record vs { type_lists = ls }) (kept vs.type_lists)
 
-one_in_type : (x : TypeName) (ls : List (List TypeName)) → (first_type_list ls ++ x ∷ []) ∷ rest ls ≡ extend (x ∷ []) ls
-unfolding rest first_type_list
-one_in_type x [] = refl
-one_in_type x (l ∷ ls) = refl
-
-pub one_type : (x : TypeName) (vs : Values) →
-    record vs { type_lists = (first_type_list vs.type_lists ++ x ∷ []) ∷ rest vs.type_lists } ≡ add_type (x ∷ []) vs
-one_type x vs = ap (λ ls. record vs { type_lists = ls }) (one_in_type x vs.type_lists)
-
 grown_in_parameter : (x : Parameter) (xs : List Parameter) (ls : List (List Parameter)) → extend xs ((first_parameter_list ls ++ x ∷ []) ∷ rest ls) ≡ extend (x ∷ xs) ls
 unfolding rest first_parameter_list
 grown_in_parameter x xs [] = refl
@@ -136,15 +102,6 @@ grown_parameter x xs vs = ap (λ ls. record vs { parameter_lists = ls }) (grown_
 
 pub kept_parameter : (vs : Values) → vs ≡ add_parameter [] vs
 kept_parameter vs = ap (λ ls. record vs { parameter_lists = ls }) (kept vs.parameter_lists)
-
-one_in_parameter : (x : Parameter) (ls : List (List Parameter)) → (first_parameter_list ls ++ x ∷ []) ∷ rest ls ≡ extend (x ∷ []) ls
-unfolding rest first_parameter_list
-one_in_parameter x [] = refl
-one_in_parameter x (l ∷ ls) = refl
-
-pub one_parameter : (x : Parameter) (vs : Values) →
-    record vs { parameter_lists = (first_parameter_list vs.parameter_lists ++ x ∷ []) ∷ rest vs.parameter_lists } ≡ add_parameter (x ∷ []) vs
-one_parameter x vs = ap (λ ls. record vs { parameter_lists = ls }) (one_in_parameter x vs.parameter_lists)
 
 grown_in_member : (x : Member) (xs : List Member) (ls : List (List Member)) → extend xs ((first_member_list ls ++ x ∷ []) ∷ rest ls) ≡ extend (x ∷ xs) ls
 unfolding rest first_member_list
@@ -158,15 +115,6 @@ grown_member x xs vs = ap (λ ls. record vs { member_lists = ls }) (grown_in_mem
 pub kept_member : (vs : Values) → vs ≡ add_member [] vs
 kept_member vs = ap (λ ls. record vs { member_lists = ls }) (kept vs.member_lists)
 
-one_in_member : (x : Member) (ls : List (List Member)) → (first_member_list ls ++ x ∷ []) ∷ rest ls ≡ extend (x ∷ []) ls
-unfolding rest first_member_list
-one_in_member x [] = refl
-one_in_member x (l ∷ ls) = refl
-
-pub one_member : (x : Member) (vs : Values) →
-    record vs { member_lists = (first_member_list vs.member_lists ++ x ∷ []) ∷ rest vs.member_lists } ≡ add_member (x ∷ []) vs
-one_member x vs = ap (λ ls. record vs { member_lists = ls }) (one_in_member x vs.member_lists)
-
 grown_in_statement : (x : Statement) (xs : List Statement) (ls : List (List Statement)) → extend xs ((first_statement_list ls ++ x ∷ []) ∷ rest ls) ≡ extend (x ∷ xs) ls
 unfolding rest first_statement_list
 grown_in_statement x xs [] = refl
@@ -178,15 +126,6 @@ grown_statement x xs vs = ap (λ ls. record vs { statement_lists = ls }) (grown_
 
 pub kept_statement : (vs : Values) → vs ≡ add_statement [] vs
 kept_statement vs = ap (λ ls. record vs { statement_lists = ls }) (kept vs.statement_lists)
-
-one_in_statement : (x : Statement) (ls : List (List Statement)) → (first_statement_list ls ++ x ∷ []) ∷ rest ls ≡ extend (x ∷ []) ls
-unfolding rest first_statement_list
-one_in_statement x [] = refl
-one_in_statement x (l ∷ ls) = refl
-
-pub one_statement : (x : Statement) (vs : Values) →
-    record vs { statement_lists = (first_statement_list vs.statement_lists ++ x ∷ []) ∷ rest vs.statement_lists } ≡ add_statement (x ∷ []) vs
-one_statement x vs = ap (λ ls. record vs { statement_lists = ls }) (one_in_statement x vs.statement_lists)
 
 grown_in_arm : (x : Arm) (xs : List Arm) (ls : List (List Arm)) → extend xs ((first_arm_list ls ++ x ∷ []) ∷ rest ls) ≡ extend (x ∷ xs) ls
 unfolding rest first_arm_list
@@ -200,15 +139,6 @@ grown_arm x xs vs = ap (λ ls. record vs { arm_lists = ls }) (grown_in_arm x xs 
 pub kept_arm : (vs : Values) → vs ≡ add_arm [] vs
 kept_arm vs = ap (λ ls. record vs { arm_lists = ls }) (kept vs.arm_lists)
 
-one_in_arm : (x : Arm) (ls : List (List Arm)) → (first_arm_list ls ++ x ∷ []) ∷ rest ls ≡ extend (x ∷ []) ls
-unfolding rest first_arm_list
-one_in_arm x [] = refl
-one_in_arm x (l ∷ ls) = refl
-
-pub one_arm : (x : Arm) (vs : Values) →
-    record vs { arm_lists = (first_arm_list vs.arm_lists ++ x ∷ []) ∷ rest vs.arm_lists } ≡ add_arm (x ∷ []) vs
-one_arm x vs = ap (λ ls. record vs { arm_lists = ls }) (one_in_arm x vs.arm_lists)
-
 grown_in_signature : (x : Signature) (xs : List Signature) (ls : List (List Signature)) → extend xs ((first_signature_list ls ++ x ∷ []) ∷ rest ls) ≡ extend (x ∷ xs) ls
 unfolding rest first_signature_list
 grown_in_signature x xs [] = refl
@@ -221,15 +151,6 @@ grown_signature x xs vs = ap (λ ls. record vs { signature_lists = ls }) (grown_
 pub kept_signature : (vs : Values) → vs ≡ add_signature [] vs
 kept_signature vs = ap (λ ls. record vs { signature_lists = ls }) (kept vs.signature_lists)
 
-one_in_signature : (x : Signature) (ls : List (List Signature)) → (first_signature_list ls ++ x ∷ []) ∷ rest ls ≡ extend (x ∷ []) ls
-unfolding rest first_signature_list
-one_in_signature x [] = refl
-one_in_signature x (l ∷ ls) = refl
-
-pub one_signature : (x : Signature) (vs : Values) →
-    record vs { signature_lists = (first_signature_list vs.signature_lists ++ x ∷ []) ∷ rest vs.signature_lists } ≡ add_signature (x ∷ []) vs
-one_signature x vs = ap (λ ls. record vs { signature_lists = ls }) (one_in_signature x vs.signature_lists)
-
 grown_in_constant : (x : Constant) (xs : List Constant) (ls : List (List Constant)) → extend xs ((first_constant_list ls ++ x ∷ []) ∷ rest ls) ≡ extend (x ∷ xs) ls
 unfolding rest first_constant_list
 grown_in_constant x xs [] = refl
@@ -241,13 +162,3 @@ grown_constant x xs vs = ap (λ ls. record vs { constant_lists = ls }) (grown_in
 
 pub kept_constant : (vs : Values) → vs ≡ add_constant [] vs
 kept_constant vs = ap (λ ls. record vs { constant_lists = ls }) (kept vs.constant_lists)
-
-one_in_constant : (x : Constant) (ls : List (List Constant)) → (first_constant_list ls ++ x ∷ []) ∷ rest ls ≡ extend (x ∷ []) ls
-unfolding rest first_constant_list
-one_in_constant x [] = refl
-one_in_constant x (l ∷ ls) = refl
-
-pub one_constant : (x : Constant) (vs : Values) →
-    record vs { constant_lists = (first_constant_list vs.constant_lists ++ x ∷ []) ∷ rest vs.constant_lists } ≡ add_constant (x ∷ []) vs
-one_constant x vs = ap (λ ls. record vs { constant_lists = ls }) (one_in_constant x vs.constant_lists)
-

@@ -1,32 +1,29 @@
 -- What each part of the factored grammar means, in the words of the printed one: what tokens it takes, and how it
 -- changes the values.
-use Rattle.std.specs.Prelude.{◌≡◌, Bool, true, false, List, [], ◌∷◌, ◌++◌, Option, Some, None}
+use Rattle.std.specs.Prelude.{Bool, List, [], ◌∷◌, ◌++◌, Option, Some, None}
 use Rattle.ec_ast.specs.declared.Name.{Name}
 use Rattle.ec_ast.specs.declared.TypeName.{TypeName}
 use Rattle.ec_ast.specs.declared.TypeName.TheVariants as type_of
 use Rattle.ec_ast.specs.declared.Parameter.{Parameter}
 use Rattle.ec_ast.specs.declared.Comparison.{Comparison}
-use Rattle.ec_ast.specs.declared.Comparison.TheVariants as compare
 use Rattle.ec_ast.specs.declared.Additive.{Additive}
-use Rattle.ec_ast.specs.declared.Additive.TheVariants as add
 use Rattle.ec_ast.specs.declared.Multiplicative.{Multiplicative}
-use Rattle.ec_ast.specs.declared.Multiplicative.TheVariants as multiply
 use Rattle.ec_ast.specs.declared.Expression.{Expression}
 use Rattle.ec_ast.specs.declared.Expression.TheVariants as e
 use Rattle.ec_ast.specs.declared.Link.{Link}
 use Rattle.ec_ast.specs.declared.Link.TheVariants as link
-use Rattle.ec_ast.specs.declared.Factor.{Factor, roll-Factor}
-use Rattle.ec_ast.specs.declared.Addend.{Addend, roll-Addend}
+use Rattle.ec_ast.specs.declared.Factor.{Factor}
+use Rattle.ec_ast.specs.declared.Addend.{Addend}
 use Rattle.ec_ast.specs.declared.ObjectConstructor.{ObjectConstructor, roll-ObjectConstructor}
-use Rattle.ec_ast.specs.declared.Body.{Body, roll-Body}
-use Rattle.ec_ast.specs.declared.ProcessSection.{ProcessSection, roll-ProcessSection}
+use Rattle.ec_ast.specs.declared.Body.{Body}
+use Rattle.ec_ast.specs.declared.ProcessSection.{ProcessSection}
 use Rattle.ec_ast.specs.declared.Member.{Member}
 use Rattle.ec_ast.specs.declared.Member.TheVariants as m
-use Rattle.ec_ast.specs.declared.Operation.{Operation, roll-Operation}
+use Rattle.ec_ast.specs.declared.Operation.{roll-Operation}
 use Rattle.ec_ast.specs.declared.Block.{Block, roll-Block}
 use Rattle.ec_ast.specs.declared.Statement.{Statement}
 use Rattle.ec_ast.specs.declared.Statement.TheVariants as s
-use Rattle.ec_ast.specs.declared.Arm.{Arm, roll-Arm}
+use Rattle.ec_ast.specs.declared.Arm.{Arm}
 use Rattle.ec_ast.specs.declared.Class.{Class}
 use Rattle.ec_ast.specs.declared.Signature.{Signature}
 use Rattle.ec_ast.specs.declared.Typeobject.{Typeobject}
@@ -35,28 +32,19 @@ use Rattle.ec_ast.specs.declared.ConstantValue.TheVariants as value
 use Rattle.ec_ast.specs.declared.Constant.{Constant}
 use Rattle.ec_ast.specs.declared.Program.{Program}
 use Rattle.ec_lexer.specs.declared.token.Token.{Token}
-use Rattle.ec_parser.specs.declared.terminal.Terminal.{Terminal}
 use Rattle.ec_parser.specs.declared.terminal.Terminal.TheVariants as t
-use Rattle.ec_ast.specs.declared.Literal.{Literal}
-use Rattle.ec_ast.specs.declared.Number.{Number}
 use Rattle.ec_ast.specs.declared.Span.{Span}
 use Rattle.ec_parser.specs.declared.grammar.Part.{Part as Part_of}
 use Rattle.ec_parser.specs.declared.grammar.Part.TheVariants as part
 use Rattle.ec_parser.specs.declared.values.Values.{Values}
 use Rattle.ec_parser.specs.Chains.{or_of, and_of, sum_of, term_of, postfix_of}
 use Rattle.ec_parser.specs.Filled.{rest}
-use Rattle.ec_parser.specs.HasTree.{Is, name_of, MayIndex, IsTarget, IsInvocation, a_name, a_primary, an_index, a_call, a_field, IsId, IsOpword, IsType, IsTypeOption, IsSig, AreMoreSigs, AreSigs, IsSigList, IsSigResult, AreSignatures, IsTypeobj, IsParam, AreMoreParams, AreParams, IsParamsOption, IsResult, IsComparison, IsAdditive, IsMultiplicative, Ending, IsFlag, IsBrackets, IsPrimary, IsPostfix, AreLinks, AreArguments, AreMoreArguments, IsUnary, IsTerm, AreFactors, IsSum, AreAddends, IsRel, IsNot, IsAnd, AreNots, IsExpr, AreAnds, IsInitial, IsStmt, AreArms, IsElse, IsBlock, IsMember, AreMembers, IsInitially, IsProcess, IsBody, IsObject, IsClass, AreConstants, HasTree}
-use Rattle.ec_parser.specs.Values.{first_name, first_number, first_literal, first_place, first_comparison, first_additive, first_multiplicative, first_flag, first_type, first_maybe_type, first_maybe_parameter, first_expression, first_maybe_expression, first_member, first_statement, first_maybe_block, first_maybe_process, first_body, first_object, first_class, first_value, first_program, first_expression_list, first_addend_list, first_factor_list, first_link_list, first_type_list, first_parameter_list, first_member_list, first_statement_list, first_arm_list, first_signature_list, first_constant_list}
+use Rattle.ec_parser.specs.HasTree.{Is, MayIndex, IsTarget, IsInvocation, a_name, a_primary, an_index, a_call, a_field, IsId, IsOpword, IsType, IsTypeOption, IsSig, AreMoreSigs, AreSigs, IsSigList, IsSigResult, AreSignatures, IsTypeobj, IsParam, AreMoreParams, AreParams, IsParamsOption, IsResult, IsComparison, IsAdditive, IsMultiplicative, Ending, IsBrackets, IsPrimary, IsPostfix, AreLinks, AreArguments, AreMoreArguments, IsUnary, IsTerm, AreFactors, IsSum, AreAddends, IsRel, IsNot, IsAnd, AreNots, IsExpr, AreAnds, IsInitial, IsStmt, AreArms, IsElse, IsBlock, IsMember, AreMembers, IsInitially, IsProcess, IsBody, IsClass, AreConstants}
+use Rattle.ec_parser.specs.Values.{first_name, first_place, first_flag, first_expression, first_link_list, first_parameter_list}
 
 -- one value more
 abbrev pub put_name : Name → Values → Values
 put_name x vs = record vs { names = x ∷ vs.names }
-
-abbrev pub put_number : Number → Values → Values
-put_number x vs = record vs { numbers = x ∷ vs.numbers }
-
-abbrev pub put_literal : Literal → Values → Values
-put_literal x vs = record vs { literals = x ∷ vs.literals }
 
 abbrev pub put_place : Span → Values → Values
 put_place x vs = record vs { places = x ∷ vs.places }
@@ -69,9 +57,6 @@ put_additive x vs = record vs { additives = x ∷ vs.additives }
 
 abbrev pub put_multiplicative : Multiplicative → Values → Values
 put_multiplicative x vs = record vs { multiplicatives = x ∷ vs.multiplicatives }
-
-abbrev pub put_flag : Bool → Values → Values
-put_flag x vs = record vs { flags = x ∷ vs.flags }
 
 abbrev pub put_type : TypeName → Values → Values
 put_type x vs = record vs { types = x ∷ vs.types }
@@ -115,39 +100,16 @@ put_value x vs = record vs { values = x ∷ vs.values }
 abbrev pub put_program : Program → Values → Values
 put_program x vs = record vs { programs = x ∷ vs.programs }
 
-abbrev pub put_expression_list : List Expression → Values → Values
-put_expression_list x vs = record vs { expression_lists = x ∷ vs.expression_lists }
-
-abbrev pub put_addend_list : List Addend → Values → Values
-put_addend_list x vs = record vs { addend_lists = x ∷ vs.addend_lists }
-
-abbrev pub put_factor_list : List Factor → Values → Values
-put_factor_list x vs = record vs { factor_lists = x ∷ vs.factor_lists }
-
-abbrev pub put_link_list : List Link → Values → Values
-put_link_list x vs = record vs { link_lists = x ∷ vs.link_lists }
-
 abbrev pub put_type_list : List TypeName → Values → Values
 put_type_list x vs = record vs { type_lists = x ∷ vs.type_lists }
 
 abbrev pub put_parameter_list : List Parameter → Values → Values
 put_parameter_list x vs = record vs { parameter_lists = x ∷ vs.parameter_lists }
 
-abbrev pub put_member_list : List Member → Values → Values
-put_member_list x vs = record vs { member_lists = x ∷ vs.member_lists }
-
 abbrev pub put_statement_list : List Statement → Values → Values
 put_statement_list x vs = record vs { statement_lists = x ∷ vs.statement_lists }
 
-abbrev pub put_arm_list : List Arm → Values → Values
-put_arm_list x vs = record vs { arm_lists = x ∷ vs.arm_lists }
-
-abbrev pub put_signature_list : List Signature → Values → Values
-put_signature_list x vs = record vs { signature_lists = x ∷ vs.signature_lists }
-
-abbrev pub put_constant_list : List Constant → Values → Values
-put_constant_list x vs = record vs { constant_lists = x ∷ vs.constant_lists }
-
+-- one value less
 abbrev pub drop_name : Values → Values
 drop_name vs = record vs { names = rest vs.names }
 
@@ -163,6 +125,7 @@ drop_expression vs = record vs { expressions = rest vs.expressions }
 abbrev pub drop_link_list : Values → Values
 drop_link_list vs = record vs { link_lists = rest vs.link_lists }
 
+-- another expression on the top
 abbrev pub replace_expression : Expression → Values → Values
 replace_expression x vs = record vs { expressions = x ∷ rest vs.expressions }
 
@@ -172,6 +135,7 @@ extend [] [] = []
 extend (x ∷ xs) [] = (x ∷ xs) ∷ []
 extend xs (l ∷ ls) = (l ++ xs) ∷ ls
 
+-- the list on the top of one stack with more behind it
 abbrev pub add_expression : List Expression → Values → Values
 add_expression xs vs = record vs { expression_lists = extend xs vs.expression_lists }
 
@@ -225,71 +189,85 @@ pub data IsPlainType : List Token → List Token → TypeName → Type 0 where
 pub data Linked (before : Ending) (ts us : List Token) (links : List Link) : Type 0 where
   linked : {last : Ending} → AreLinks before ts us links last → Linked before ts us links
 
+-- what a constant stands for: class | typeobj | expr
 pub data IsValue : List Token → List Token → ConstantValue → Type 0 where
   class : {ts us : List Token} {x : Class} → IsClass ts us x → IsValue ts us (value.Class x)
   typeobj : {ts us : List Token} {x : Typeobject} → IsTypeobj ts us x → IsValue ts us (value.Typeobject x)
   expr : {ts us : List Token} {x : Expression} → IsExpr ts us x → IsValue ts us (value.Expression x)
 
+-- what stands behind "const" ID: "<-" ( class | typeobj | expr ) | ":" type "<-" expr
 pub data IsConstantRest : List Token → List Token → Option TypeName → ConstantValue → Type 0 where
   plain : {a : Token} {ts us : List Token} {x : ConstantValue} → Is t.Arrow a → IsValue ts us x → IsConstantRest (a ∷ ts) us None x
   typed : {a b : Token} {ts us vs : List Token} {of : TypeName} {x : Expression} →
       Is t.Colon a → IsType ts (b ∷ us) of → Is t.Arrow b → IsExpr us vs x → IsConstantRest (a ∷ ts) vs (Some of) (value.Expression x)
 
+-- a class without its `monitor`: "class" ID [ params ] body "end" ID
 pub data IsClassRest : List Token → List Token → Bool → Class → Type 0 where
   class : {a b c d : Token} {ts us vs : List Token} {flag : Bool} {name end_name : Name} {xs : List Parameter} {x : Body} →
       Is t.Class a → IsId b name → IsParamsOption ts us xs → IsBody us (c ∷ d ∷ vs) x → Is t.End c → IsId d end_name →
       IsClassRest (a ∷ b ∷ ts) vs flag (record { is_monitored = flag; name = name; parameters = xs; body = x; end_name = end_name })
 
+-- an object without its `monitor`: "object" ID body "end" ID
 pub data IsObjectRest : List Token → List Token → Bool → ObjectConstructor → Type 0 where
   object : {a b c d : Token} {ts us : List Token} {flag : Bool} {name end_name : Name} {x : Body} →
       Is t.Object a → IsId b name → IsBody ts (c ∷ d ∷ us) x → Is t.End c → IsId d end_name →
       IsObjectRest (a ∷ b ∷ ts) us flag (roll-ObjectConstructor (record { is_monitored = flag; name = name; body = x; end_name = end_name }))
 
--- what stands behind the first part of an expression
+-- behind a sum x: [ ( "==" | .. | ">=" ) sum ]; the last index is the whole, here and below
 pub data IsCompareTail (x : Expression) : List Token → List Token → Expression → Type 0 where
   none : {us : List Token} → IsCompareTail x us us x
   compared : {a : Token} {ts us : List Token} {operator : Comparison} {y : Expression} →
       IsComparison a operator → IsSum ts us y → IsCompareTail x (a ∷ ts) us (e.Compare x operator a.at y)
 
+-- behind a not x: { "and" not } { "or" and }
 pub data IsAndRest (x : Expression) : List Token → List Token → Expression → Type 0 where
   rest_of : {ts us vs : List Token} {xs ys : List Expression} → AreNots ts us xs → AreAnds us vs ys → IsAndRest x ts vs (or_of (and_of x xs) ys)
 
+-- behind a unary x: the rest of its term, of its sum, of its rel, of its and, and of its expr
 pub data IsTermRest (x : Expression) : List Token → List Token → Expression → Type 0 where
   rest_of : {ts us vs ws zs : List Token} {xs : List Factor} {ys : List Addend} {y z : Expression} →
       AreFactors ts us xs → AreAddends us vs ys → IsCompareTail (sum_of (term_of x xs) ys) vs ws y → IsAndRest y ws zs z → IsTermRest x ts zs z
 
+-- behind `monitor`: a class, or an object and the rest of its expr
 pub data IsAfterMonitor (flag : Bool) : List Token → List Token → ConstantValue → Type 0 where
   class : {ts us : List Token} {x : Class} → IsClassRest ts us flag x → IsAfterMonitor flag ts us (value.Class x)
   object : {ts us vs ws : List Token} {x : ObjectConstructor} {links : List Link} {y : Expression} →
       IsObjectRest ts us flag x → Linked a_call us vs links → IsTermRest (postfix_of (e.Constructor x) links) vs ws y → IsAfterMonitor flag ts ws (value.Expression y)
 
+-- behind an ID where a sig begins: ":" type, or nothing, and then the ID is the type
 pub data IsAfterSigName (name : Name) : List Token → List Token → TypeName → Type 0 where
   typed : {a : Token} {ts us : List Token} {x : TypeName} → Is t.Colon a → IsType ts us x → IsAfterSigName name (a ∷ ts) us x
   alone : {us : List Token} → IsAfterSigName name us us (type_of.Named name)
 
+-- [ ":" type ] "<-" expr
 pub data IsTypedValue : List Token → List Token → Option TypeName → Expression → Type 0 where
   typed : {a : Token} {ts us vs : List Token} {of : Option TypeName} {x : Expression} → IsTypeOption ts (a ∷ us) of → Is t.Arrow a → IsExpr us vs x → IsTypedValue ts vs of x
 
+-- behind `attached`: "var" ID ":" type [ "<-" expr ] | "const" ID [ ":" type ] "<-" expr
 pub data IsAttachedField (flag : Bool) : List Token → List Token → Member → Type 0 where
   var : {a b c : Token} {ts us vs : List Token} {name : Name} {of : TypeName} {x : Option Expression} →
       Is t.Var a → IsId b name → Is t.Colon c → IsType ts us of → IsInitial us vs x → IsAttachedField flag (a ∷ b ∷ c ∷ ts) vs (m.Variable flag name of x)
   const : {a b : Token} {ts us : List Token} {name : Name} {of : Option TypeName} {x : Expression} →
       Is t.Const a → IsId b name → IsTypedValue ts us of x → IsAttachedField flag (a ∷ b ∷ ts) us (m.Constant flag name of x)
 
+-- behind "const" ID "<-" in a body: "condition" "." CREATE [ "[" "]" ] | expr
 pub data IsFieldValue (flag : Bool) (name : Name) : List Token → List Token → Member → Type 0 where
   condition : {a b c : Token} {ts us : List Token} → Is t.Condition a → Is t.Dot b → Is t.Create c → IsBrackets ts us → IsFieldValue flag name (a ∷ b ∷ c ∷ ts) us (m.Condition name)
   expr : {ts us : List Token} {x : Expression} → IsExpr ts us x → IsFieldValue flag name ts us (m.Constant flag name None x)
 
+-- behind "const" ID in a body: ":" type "<-" expr | "<-" and a value
 pub data IsConstantField (flag : Bool) (name : Name) : List Token → List Token → Member → Type 0 where
   typed : {a b : Token} {ts us vs : List Token} {of : TypeName} {x : Expression} →
       Is t.Colon a → IsType ts (b ∷ us) of → Is t.Arrow b → IsExpr us vs x → IsConstantField flag name (a ∷ ts) vs (m.Constant flag name (Some of) x)
   plain : {a : Token} {ts us : List Token} {x : Member} → Is t.Arrow a → IsFieldValue flag name ts us x → IsConstantField flag name (a ∷ ts) us x
 
+-- an operation without its `export`
 pub data IsOperationRest (flag : Bool) : List Token → List Token → Member → Type 0 where
   operation : {a b c d : Token} {ts us vs ws : List Token} {name end_name : Name} {xs : List Parameter} {x : Option Parameter} {block : List Statement} →
       IsOpword a → IsId b name → IsParamsOption ts us xs → IsResult us vs x → IsBlock vs (c ∷ d ∷ ws) block → Is t.End c → IsId d end_name →
       IsOperationRest flag (a ∷ b ∷ ts) ws (m.Operation (roll-Operation (record { is_exported = flag; name = name; parameters = xs; result = x; block = roll-Block (record { statements = block }); end_name = end_name })))
 
+-- "var" ID ":" type [ "<-" expr ] | "const" ID [ ":" type ] "<-" expr | stmt
 pub data IsDeclaration : List Token → List Token → Statement → Type 0 where
   var : {a b c : Token} {ts us vs : List Token} {name : Name} {of : TypeName} {x : Option Expression} →
       Is t.Var a → IsId b name → Is t.Colon c → IsType ts us of → IsInitial us vs x → IsDeclaration (a ∷ b ∷ c ∷ ts) vs (s.LocalVariable name of x)
@@ -297,11 +275,13 @@ pub data IsDeclaration : List Token → List Token → Statement → Type 0 wher
       Is t.Const a → IsId b name → IsTypedValue ts us of x → IsDeclaration (a ∷ b ∷ ts) us (s.LocalConstant name of x)
   stmt : {ts us : List Token} {x : Statement} → IsStmt ts us x → IsDeclaration ts us x
 
+-- [ "when" expr ]
 pub data IsWhen : List Token → List Token → Option Expression → Type 0 where
   none : {us : List Token} → IsWhen us us None
   some : {a : Token} {ts us : List Token} {x : Expression} → Is t.When a → IsExpr ts us x → IsWhen (a ∷ ts) us (Some x)
 
--- what stands behind the first links of a statement
+-- What stands behind the first links of a statement, which end so: more links, and then "<-" expr behind a target, or
+-- nothing behind an invocation.
 pub data IsRest (first : Expression) : Ending → List Link → List Token → List Token → Statement → Type 0 where
   assign : {a : Token} {ending : Ending} {ts us : List Token} {links : List Link} {y : Expression} → IsTarget ending →
       Is t.Arrow a → IsExpr ts us y → IsRest first ending links (a ∷ ts) us (s.Assign (postfix_of first links) y)
@@ -315,25 +295,30 @@ pub data IsRest (first : Expression) : Ending → List Link → List Token → L
       MayIndex ending → Is t.OpenBracket a → IsExpr ts (b ∷ us) y → Is t.CloseBracket b →
       IsRest first an_index (links ++ link.Index y a.at ∷ []) us vs x → IsRest first ending links (a ∷ ts) vs x
 
+-- behind "." ID in a statement: [ "[" [ expr { "," expr } ] "]" ], and what stands behind it
 pub data IsAfterField (first : Expression) (links : List Link) (name : Name) : List Token → List Token → Statement → Type 0 where
   field : {ts us : List Token} {x : Statement} → IsRest first a_field (links ++ link.Call name [] ∷ []) ts us x → IsAfterField first links name ts us x
   call : {a b : Token} {ts us vs : List Token} {xs : List Expression} {x : Statement} →
       Is t.OpenBracket a → AreArguments ts (b ∷ us) xs → Is t.CloseBracket b →
       IsRest first a_call (links ++ link.Call name xs ∷ []) us vs x → IsAfterField first links name (a ∷ ts) vs x
 
+-- behind "." ID in an expression: [ "[" [ expr { "," expr } ] "]" ], and the links behind it
 pub data IsAfterDot (name : Name) : List Token → List Token → List Link → Type 0 where
   field : {ts us : List Token} {links : List Link} → Linked a_field ts us links → IsAfterDot name ts us (link.Call name [] ∷ links)
   call : {a b : Token} {ts us vs : List Token} {xs : List Expression} {links : List Link} →
       Is t.OpenBracket a → AreArguments ts (b ∷ us) xs → Is t.CloseBracket b → Linked a_call us vs links → IsAfterDot name (a ∷ ts) vs (link.Call name xs ∷ links)
 
+-- behind "node" ".": "at" "[" expr "]" | COUNT
 pub data IsNodeRest (at : Span) : List Token → List Token → Expression → Type 0 where
   node_at : {a b c : Token} {ts us : List Token} {x : Expression} →
       Is t.At a → Is t.OpenBracket b → IsExpr ts (c ∷ us) x → Is t.CloseBracket c → IsNodeRest at (a ∷ b ∷ ts) us (e.NodeAt x at)
   node_count : {a : Token} {us : List Token} → Is t.Count a → IsNodeRest at (a ∷ us) us (e.NodeCount at)
 
+-- "!" not
 pub data IsNotPrefix : List Token → List Token → Expression → Type 0 where
   not : {a : Token} {ts us : List Token} {x : Expression} → Is t.Bang a → IsNot ts us x → IsNotPrefix (a ∷ ts) us (e.Not x a.at)
 
+-- "-" unary | "view" unary "as" type | "isfixed" unary
 pub data IsUnaryPrefix : List Token → List Token → Expression → Type 0 where
   minus : {a : Token} {ts us : List Token} {x : Expression} → Is t.Minus a → IsUnary ts us x → IsUnaryPrefix (a ∷ ts) us (e.Negative x a.at)
   view : {a b : Token} {ts us vs : List Token} {x : Expression} {of : TypeName} →

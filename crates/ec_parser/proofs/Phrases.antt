@@ -1,53 +1,27 @@
 -- Small steps between the printed grammar and the factored one.
-use Rattle.std.proofs.Common.{◌≡◌, Bool, true, false, List, [], ◌∷◌, ◌++◌, Option, Some, None, refl, sym, ◌∙◌, ap, subst, append_assoc, append-nil}
+use Rattle.std.proofs.Common.{◌≡◌, Bool, true, false, List, [], ◌∷◌, ◌++◌, Option, sym, ◌∙◌, ap, subst, append_assoc, append-nil}
 use Rattle.ec_ast.specs.declared.Name.{Name}
 use Rattle.ec_ast.specs.declared.TypeName.{TypeName}
-use Rattle.ec_ast.specs.declared.TypeName.TheVariants as type_of
-use Rattle.ec_ast.specs.declared.Parameter.{Parameter}
-use Rattle.ec_ast.specs.declared.Comparison.{Comparison}
-use Rattle.ec_ast.specs.declared.Comparison.TheVariants as compare
-use Rattle.ec_ast.specs.declared.Additive.{Additive}
-use Rattle.ec_ast.specs.declared.Additive.TheVariants as add
-use Rattle.ec_ast.specs.declared.Multiplicative.{Multiplicative}
-use Rattle.ec_ast.specs.declared.Multiplicative.TheVariants as multiply
 use Rattle.ec_ast.specs.declared.Expression.{Expression}
 use Rattle.ec_ast.specs.declared.Expression.TheVariants as e
 use Rattle.ec_ast.specs.declared.Link.{Link}
 use Rattle.ec_ast.specs.declared.Link.TheVariants as link
-use Rattle.ec_ast.specs.declared.Factor.{Factor, roll-Factor}
-use Rattle.ec_ast.specs.declared.Addend.{Addend, roll-Addend}
-use Rattle.ec_ast.specs.declared.ObjectConstructor.{ObjectConstructor, roll-ObjectConstructor}
-use Rattle.ec_ast.specs.declared.Body.{Body, roll-Body}
-use Rattle.ec_ast.specs.declared.ProcessSection.{ProcessSection, roll-ProcessSection}
+use Rattle.ec_ast.specs.declared.ObjectConstructor.{ObjectConstructor}
 use Rattle.ec_ast.specs.declared.Member.{Member}
-use Rattle.ec_ast.specs.declared.Member.TheVariants as m
-use Rattle.ec_ast.specs.declared.Operation.{Operation, roll-Operation}
-use Rattle.ec_ast.specs.declared.Block.{Block, roll-Block}
 use Rattle.ec_ast.specs.declared.Statement.{Statement}
 use Rattle.ec_ast.specs.declared.Statement.TheVariants as s
-use Rattle.ec_ast.specs.declared.Arm.{Arm, roll-Arm}
 use Rattle.ec_ast.specs.declared.Class.{Class}
-use Rattle.ec_ast.specs.declared.Signature.{Signature}
-use Rattle.ec_ast.specs.declared.Typeobject.{Typeobject}
 use Rattle.ec_ast.specs.declared.ConstantValue.{ConstantValue}
 use Rattle.ec_ast.specs.declared.ConstantValue.TheVariants as value
 use Rattle.ec_ast.specs.declared.Constant.{Constant}
-use Rattle.ec_ast.specs.declared.Program.{Program}
 use Rattle.ec_lexer.specs.declared.token.Token.{Token}
 use Rattle.ec_parser.specs.declared.terminal.Terminal.{Terminal}
 use Rattle.ec_parser.specs.declared.terminal.Terminal.TheVariants as t
-use Rattle.ec_ast.specs.declared.Span.{Span}
-use Rattle.ec_parser.specs.declared.grammar.Part.{Part as Part_of}
 use Rattle.ec_parser.specs.declared.grammar.Part.TheVariants as part
-use Rattle.ec_parser.specs.declared.grammar.Symbol.{Symbol}
 use Rattle.ec_parser.specs.declared.values.Values.{Values}
-use Rattle.ec_parser.specs.Rules.{rules}
-use Rattle.ec_parser.specs.Reads.{IsRule, first as here, later}
-use Rattle.ec_parser.specs.Chains.{or_of, and_of, sum_of, term_of, postfix_of}
-use Rattle.ec_parser.specs.Filled.{rest}
-use Rattle.ec_parser.specs.HasTree.{Is, name_of, MayIndex, IsTarget, IsInvocation, a_name, a_primary, an_index, a_call, a_field, IsId, IsOpword, IsType, IsTypeOption, IsSig, AreMoreSigs, AreSigs, IsSigList, IsSigResult, AreSignatures, IsTypeobj, IsParam, AreMoreParams, AreParams, IsParamsOption, IsResult, IsComparison, IsAdditive, IsMultiplicative, Ending, IsFlag, IsBrackets, IsPrimary, IsPostfix, AreLinks, AreArguments, AreMoreArguments, IsUnary, IsTerm, AreFactors, IsSum, AreAddends, IsRel, IsNot, IsAnd, AreNots, IsExpr, AreAnds, IsInitial, IsStmt, AreArms, IsElse, IsBlock, IsMember, AreMembers, IsInitially, IsProcess, IsBody, IsObject, IsClass, AreConstants, HasTree}
-use Rattle.ec_parser.specs.Values.{first_name, first_number, first_literal, first_place, first_comparison, first_additive, first_multiplicative, first_flag, first_type, first_maybe_type, first_maybe_parameter, first_expression, first_maybe_expression, first_member, first_statement, first_maybe_block, first_maybe_process, first_body, first_object, first_class, first_value, first_program, first_expression_list, first_addend_list, first_factor_list, first_link_list, first_type_list, first_parameter_list, first_member_list, first_statement_list, first_arm_list, first_signature_list, first_constant_list}
-use Rattle.ec_parser.proofs.Meaning.{Means, a_Program, a_Constants, a_ConstantRest, a_ConstantValue, a_AfterMonitor, a_TermRest, a_AndRest, a_Name, a_Typeobject, a_Signatures, a_SignatureParameters, a_Sigs, a_MoreSigs, a_SignatureResult, a_OperationWord, a_Sig, a_AfterSigName, a_Type, a_PlainType, a_ClassRest, a_ObjectRest, a_Parameters, a_ParameterList, a_MoreParameters, a_Parameter, a_Body, a_Members, a_Initially, a_Process, a_Member, a_AttachedField, a_ConstantField, a_FieldValue, a_ConditionTail, a_OperationRest, a_OperationResult, a_Initial, a_TypedValue, a_Block, a_Statements, a_Declaration, a_Statement, a_AfterName, a_AfterOther, a_AfterIndex, a_AfterField, a_AfterCall, a_ElseIfs, a_Else, a_When, a_Expression, a_OrTail, a_And, a_AndTail, a_Not, a_NotPrefix, a_Rel, a_CompareTail, a_CompareWord, a_Sum, a_SumTail, a_SumWord, a_Term, a_TermTail, a_TermWord, a_Unary, a_UnaryPrefix, a_Postfix, a_PostfixTail, a_AfterDot, a_Arguments, a_MoreArguments, a_Primary, a_Plain, a_OtherPlain, a_NodeRest, no_compare, extend, replace_expression, NotMonitor, other_token, IsPlainType, Linked, IsValue, IsConstantRest, IsClassRest, IsObjectRest, IsCompareTail, IsAndRest, IsTermRest, IsAfterMonitor, IsAfterSigName, IsTypedValue, IsAttachedField, IsFieldValue, IsConstantField, IsOperationRest, IsDeclaration, IsWhen, IsRest, IsAfterField, IsAfterDot, IsNodeRest, IsNotPrefix, IsUnaryPrefix, add_expression, add_addend, add_factor, add_link, add_type, add_parameter, add_member, add_statement, add_arm, add_signature, add_constant, put_name, put_number, put_literal, put_place, put_comparison, put_additive, put_multiplicative, put_flag, put_type, put_maybe_type, put_maybe_parameter, put_expression, put_maybe_expression, put_member, put_statement, put_maybe_block, put_maybe_process, put_body, put_object, put_class, put_value, put_program, put_expression_list, put_addend_list, put_factor_list, put_link_list, put_type_list, put_parameter_list, put_member_list, put_statement_list, put_arm_list, put_signature_list, put_constant_list}
+use Rattle.ec_parser.specs.Chains.{postfix_of}
+use Rattle.ec_parser.specs.HasTree.{Is, MayIndex, IsTarget, IsInvocation, a_name, a_primary, an_index, a_call, a_field, IsId, IsType, IsTypeOption, IsSig, Ending, IsFlag, IsPrimary, IsPostfix, AreLinks, AreArguments, IsUnary, IsTerm, IsSum, IsRel, IsNot, IsAnd, IsExpr, IsStmt, IsBlock, IsMember, IsObject, IsClass, AreConstants}
+use Rattle.ec_parser.proofs.Meaning.{Means, a_Postfix, NotMonitor, other_token, IsPlainType, Linked, IsValue, IsConstantRest, IsClassRest, IsObjectRest, IsCompareTail, IsAndRest, IsTermRest, IsAfterMonitor, IsAfterSigName, IsTypedValue, IsAttachedField, IsFieldValue, IsConstantField, IsOperationRest, IsDeclaration, IsWhen, IsRest, IsAfterField, IsAfterDot, IsNodeRest, IsNotPrefix, IsUnaryPrefix, put_expression}
 
 pub constants_more : {a b : Token} {ts us vs : List Token} {name : Name} {of : Option TypeName} {x : ConstantValue} {more : List Constant} →
     Is t.Const a → IsId b name → IsConstantRest ts us of x → AreConstants us vs more → AreConstants (a ∷ b ∷ ts) vs ((record { name = name; of = of; value = x }) ∷ more)

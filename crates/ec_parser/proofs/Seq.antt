@@ -1,6 +1,5 @@
 -- A list of symbols, with each part by its meaning, takes the tokens that it reads.
-use Rattle.std.proofs.Common.{◌≡◌, ℕ, zero, suc, ◌+◌, ◌<◌, ◌≤◌, nat_lt, List, [], ◌∷◌, ◌++◌, length, refl, sym, ◌∙◌, ap, subst, arith}
-use borrow.Author.Tests.{ltb-true}
+use Rattle.std.proofs.Common.{◌≡◌, ℕ, zero, suc, ◌+◌, ◌<◌, List, [], ◌∷◌, ◌++◌, length, refl, sym, subst, arith}
 use Rattle.ec_parser.specs.declared.terminal.Terminal.{Terminal}
 use Rattle.ec_parser.specs.Terminals.{terminal_of}
 use Rattle.ec_lexer.specs.declared.token.Token.{Token as Word}
