@@ -1,5 +1,5 @@
 -- What the parser's reading says is what the printed grammar and the nesting of tokens say.
-use Rattle.std.proofs.Common.{◌≡◌, ℕ, ◌+◌, ◌<◌, List, [], ◌∷◌, ◌++◌, length, take, drop, Some, slice_get, refl, sym, ◌∙◌, ap, subst, arith, append_assoc, length-append, length-take, take-append-drop, take-take}
+use Rattle.std.proofs.Common.{◌≡◌, ℕ, ◌+◌, List, [], ◌∷◌, ◌++◌, length, take, drop, Some, slice_get, sym, ◌∙◌, ap, subst, arith, append_assoc, length-append, length-take, take-append-drop, take-take, MatchResult, Result, Ok, Err}
 use Rattle.ec_ast.specs.declared.Program.{Program}
 use Rattle.ec_lexer.specs.declared.token.Token.{Token}
 use Rattle.ec_parser.specs.declared.values.Values.{Values}
@@ -113,3 +113,10 @@ pub read_tree : (ts : List Token) (program : Program) → HasTree ts program →
 read_tree ts program h s =
     let d = read_of ts program h in
     (d.nestings, d.reads, subst AreShallow (sym (nestings_are ts d.nestings (put_program program no_values) d.reads)) s)
+
+pub read_only : (program : Program) (r : Result Program ParseError) →
+    MatchResult r (λ found. found ≡ first_program (put_program program no_values).programs) (λ e. e ≡ Memory) →
+    MatchResult r (λ found. found ≡ program) (λ e. e ≡ Memory)
+unfolding first_program
+read_only program (Ok found) h = h
+read_only program (Err e) h = h

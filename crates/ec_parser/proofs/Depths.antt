@@ -1,5 +1,5 @@
 -- The nestings of more tokens begin with those of the first.
-use Rattle.std.proofs.Common.{◌≡◌, ℕ, suc, List, [], ◌∷◌, ◌++◌, length, drop, Some, slice_get, refl, sym, ◌∙◌, ap, arith}
+use Rattle.std.proofs.Common.{◌≡◌, ℕ, suc, List, [], ◌∷◌, ◌++◌, length, drop, Some, slice_get, refl, ap, arith}
 use Rattle.ec_lexer.specs.declared.token.Token.{Token}
 use Rattle.ec_parser.specs.Terminals.{terminal_of}
 use Rattle.ec_parser.specs.declared.grammar.Opened.{Opened}

@@ -1,5 +1,5 @@
 -- Each act and part finds the values that it takes.
-use Rattle.std.proofs.Common.{◌≡◌, ℕ, zero, suc, ◌+◌, Bool, true, false, ◌&&◌, cond, List, [], ◌∷◌, ◌++◌, Option, Some, None, eqb, eqb-true, get_or, refl, sym, ◌∙◌, ap, subst, arith, append_assoc, append-nil}
+use Rattle.std.proofs.Common.{◌≡◌, Bool, true, false, ◌&&◌, cond, List, [], ◌∷◌, ◌++◌, Option, Some, None, eqb, eqb-true, get_or, refl, sym, ◌∙◌, ap, subst, append_assoc}
 use Rattle.std.specs.Prelude.{option_and_then}
 use Rattle.ec_parser.specs.declared.terminal.Terminal.{Terminal}
 use Rattle.ec_parser.specs.declared.terminal.Terminal.TheVariants as terminal

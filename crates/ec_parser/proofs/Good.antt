@@ -1,12 +1,12 @@
 -- What the test of the table says of each alternative.
-use Rattle.std.proofs.Common.{◌≡◌, ℕ, zero, suc, ◌+◌, ◌-◌, eqb, eqb-true, nat_lt, Bool, true, false, ◌&&◌, cond, List, [], ◌∷◌, ◌++◌, Option, Some, None, refl, sym, ◌∙◌, ap, subst, arith, inl, inr, zero-add}
+use Rattle.std.proofs.Common.{◌≡◌, ℕ, ◌+◌, ◌-◌, eqb, eqb-true, nat_lt, Bool, true, false, ◌&&◌, cond, List, [], ◌∷◌, Option, Some, None, refl, subst, arith, inl, inr, zero-add}
 use Rattle.ec_parser.specs.declared.terminal.Terminal.{Terminal}
 use Rattle.ec_parser.specs.declared.grammar.Part.{Part as Part_of}
 use Rattle.ec_parser.specs.declared.grammar.Symbol.{Symbol}
 use Rattle.ec_parser.specs.Rules.{rules}
 use Rattle.ec_parser.specs.Reads.{IsRule, first as here, later}
 use Rattle.ec_parser.specs.Choose.{has_kind, same_kind, suits, choose_from, choose}
-use Rattle.ec_parser.specs.Sizes.{first, nullable, follow, weight}
+use Rattle.ec_parser.specs.Sizes.{first, nullable, weight}
 use Rattle.ec_parser.specs.Follow.{starts_with, weight_of}
 use Rattle.ec_parser.proofs.Shortest.{rank, shortest}
 use Rattle.ec_parser.proofs.Table.{implies, all_nullable, is_subset, position, chosen_at, follows_in, ends_below, lookahead, is_good, all_good, good, ends_at, ends}

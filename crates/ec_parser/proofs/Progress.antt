@@ -1,5 +1,5 @@
 -- What a loop over the tokens keeps, and what it says where it stops.
-use Rattle.std.proofs.Common.{◌≡◌, ℕ, suc, ◌+◌, ◌<◌, ◌≤◌, Bool, true, false, List, [], ◌∷◌, ◌++◌, length, take, drop, refl, sym, ◌∙◌, ap, subst, arith, rules, append_assoc, append-nil, length-append, take-append-drop}
+use Rattle.std.proofs.Common.{◌≡◌, ℕ, ◌+◌, ◌<◌, ◌≤◌, List, [], ◌∷◌, ◌++◌, length, take, drop, refl, sym, ◌∙◌, ap, subst, arith, append_assoc, append-nil, length-append, take-append-drop}
 use Rattle.ec_parser.specs.declared.grammar.Part.TheVariants as part
 use Rattle.ec_lexer.specs.declared.token.Token.{Token as Word}
 use Rattle.ec_parser.specs.declared.values.Values.{Values}
@@ -108,7 +108,7 @@ module _ (tokens : List Word) (i : ℕ) (s : List Symbol) (vs : Values) (r : Rea
             not_shallow r.nestings (open_in s') f.0 (omega arith) (subst AreShallow (f.1 ∙ append_assoc r.nestings (open_in s' ∷ []) f.0) h)
 
         pub deep_at : length (take i tokens) ≡ i → IsDeep tokens i
-        deep_at l = let e = reaches s' vs' in record {
+        deep_at l = let e = reaches s' g.follows vs' in record {
           within = inside;
           more = e.0;
           nestings = r.nestings;

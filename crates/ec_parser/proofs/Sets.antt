@@ -1,6 +1,6 @@
 -- Lists of kinds as sets.
-use Rattle.std.proofs.Common.{◌≡◌, Bool, true, false, ◌||◌, ◌&&◌, List, [], ◌∷◌, ◌++◌, refl, sym, ◌∙◌, ap, inl, inr, ◌⊎◌, rules}
-use denote.Enum.Bare.{same_true, sameb}
+use Rattle.std.proofs.Common.{◌≡◌, Bool, true, false, ◌||◌, ◌&&◌, List, [], ◌∷◌, ◌++◌, refl, inl, inr, ◌⊎◌, rules}
+use denote.Enum.Bare.{same_true}
 use Rattle.ec_parser.specs.contracts.terminal.Terminal.{the_type}
 use Rattle.ec_parser.specs.declared.terminal.Terminal.{Terminal}
 use Rattle.ec_parser.specs.Choose.{has_kind, same_kind}

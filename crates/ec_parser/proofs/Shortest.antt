@@ -158,4 +158,3 @@ shortest part.Primary = 0
 shortest part.Plain = 0
 shortest part.OtherPlain = 0
 shortest part.NodeRest = 1
-

@@ -1,6 +1,5 @@
 -- A list of symbols reads tokens by the rule that the table chooses, and each list of symbols reads some.
-use Rattle.std.proofs.Common.{nat_lt, ◌≡◌, ℕ, zero, suc, ◌+◌, ◌<◌, ◌≤◌, Bool, true, false, ◌||◌, ◌&&◌, cond, List, [], ◌∷◌, ◌++◌, Option, Some, None, refl, sym, ◌∙◌, ap, subst, inl, inr, ◌⊎◌, ◌↔◌, arith, rules, append_assoc, zero-add}
-use denote.Enum.Bare.{same_true, sameb}
+use Rattle.std.proofs.Common.{nat_lt, ◌≡◌, ℕ, zero, suc, ◌+◌, ◌<◌, Bool, true, false, ◌&&◌, cond, List, [], ◌∷◌, ◌++◌, Some, None, refl, sym, subst, inl, inr, ◌⊎◌, arith, zero-add}
 use Rattle.ec_parser.specs.declared.terminal.Terminal.{Terminal}
 use Rattle.ec_parser.specs.declared.terminal.Terminal.TheVariants as kind
 use Rattle.ec_parser.specs.declared.grammar.Part.{Part as Part_of}
@@ -12,22 +11,19 @@ use Rattle.ec_parser.specs.declared.values.Values.{Values}
 use Rattle.ec_parser.specs.declared.grammar.Symbol.{Symbol}
 use Rattle.ec_parser.specs.declared.grammar.Symbol.TheVariants.{Token, Keep, Part, Bound, Do}
 use Rattle.ec_parser.specs.Values.{act, keep as kept}
-use Rattle.ec_parser.specs.contracts.grammar.Part.{the_type as part_type}
 use borrow.Author.Tests.{ltb-true}
 use Rattle.ec_parser.specs.Rules.{rules as rules_of}
-use Rattle.ec_parser.specs.Choose.{has_kind, same_kind, suits, choose_from, choose}
+use Rattle.ec_parser.specs.Choose.{has_kind, same_kind, choose}
 use Rattle.ec_parser.specs.Sizes.{first, nullable, follow, weight}
 use Rattle.ec_parser.proofs.Shortest.{rank}
 use Rattle.ec_parser.specs.Reads.{IsRule, open_in, Reads, finished, token, keep, part, bound, made}
-use Rattle.ec_parser.specs.declared.Next.{Next}
-use Rattle.ec_parser.specs.declared.Next.TheVariants as next
-use Rattle.ec_parser.specs.Follow.{starts_with, starts_of, weight_of, head, Follows, Same, ReadsNone, with_next, Settles, Goes, Refuses, EndsWith, EndsNowhere}
+use Rattle.ec_parser.specs.Follow.{starts_with, starts_of, weight_of, head, Follows, Same, ReadsNone, Goes, Refuses, EndsWith, EndsNowhere}
 use Rattle.ec_parser.proofs.Table.{all_nullable, is_subset, follows_in, ends_below, lookahead, implies}
 use Rattle.ec_parser.specs.Fits.{Fits, Finds}
 use Rattle.ec_parser.proofs.Tokens.{some_token, some_is}
 use Rattle.ec_parser.proofs.Fitting.{fits_part, fits_token, fits_bound, fits_keep, fits_act, finds_act}
-use Rattle.ec_parser.proofs.Good.{IsGood, good_rule, choose-of, ends_soon}
-use Rattle.ec_parser.proofs.Sets.{or_cases, and_left, and_right, or_left, or_right, same_kinds, has-append, has-append_left, has-append_right, subset}
+use Rattle.ec_parser.proofs.Good.{good_rule, choose-of, ends_soon}
+use Rattle.ec_parser.proofs.Sets.{and_left, and_right, or_left, has-append, has-append_left, has-append_right, subset}
 
 abbrev pub Has : Terminal → List Terminal → Type 0
 Has k ks = has_kind k ks ≡ true

@@ -1,5 +1,5 @@
 -- The programs by the printed grammar, and how a list of tokens fails to be one.
-use Rattle.std.specs.Prelude.{◌≡◌, ℕ, ◌+◌, ◌<◌, ◌≤◌, List, [], ◌∷◌, ◌++◌, length, take, Option, Some, slice_get}
+use Rattle.std.specs.Prelude.{◌≡◌, ℕ, ◌+◌, ◌<◌, ◌≤◌, List, [], ◌∷◌, ◌++◌, length, take, Some, slice_get}
 use Rattle.ec_ast.specs.declared.Program.{Program}
 use Rattle.ec_lexer.specs.declared.token.Token.{Token}
 use Rattle.ec_parser.specs.declared.ParseError.{ParseError}

@@ -1,5 +1,5 @@
 -- The rules of the grammar, from the constants that the parser runs.
-use Rattle.std.specs.Prelude.{List, [], ◌∷◌, map}
+use Rattle.std.specs.Prelude.{List, map}
 use Rattle.ec_parser.specs.declared.grammar.Part.{Part}
 use Rattle.ec_parser.specs.declared.grammar.Part.TheVariants as part
 use Rattle.ec_parser.specs.declared.grammar.Symbol.{Symbol}

@@ -317,4 +317,3 @@ weight part.Primary = 7
 weight part.Plain = 6
 weight part.OtherPlain = 5
 weight part.NodeRest = 2
-

@@ -1,6 +1,6 @@
 -- What is made of the tokens and the parts of a program: each act takes values off the stacks and puts one on.
 -- A stack that an act takes from is never empty (`Finds` of Fits), so that what `first_…` says of an empty one is never met.
-use Rattle.std.specs.Prelude.{ℕ, Bool, true, false, List, [], ◌∷◌, ◌++◌, Option, Some, None}
+use Rattle.std.specs.Prelude.{Bool, true, false, List, [], ◌∷◌, ◌++◌, Option, Some, None}
 use Rattle.ec_ast.specs.declared.Name.{Name}
 use Rattle.ec_ast.specs.declared.Number.{Number}
 use Rattle.ec_ast.specs.declared.Literal.{Literal}
@@ -18,13 +18,12 @@ use Rattle.ec_ast.specs.declared.ObjectConstructor.{ObjectConstructor, roll-Obje
 use Rattle.ec_ast.specs.declared.Body.{Body, roll-Body}
 use Rattle.ec_ast.specs.declared.ProcessSection.{ProcessSection, roll-ProcessSection}
 use Rattle.ec_ast.specs.declared.Member.{Member}
-use Rattle.ec_ast.specs.declared.Operation.{Operation, roll-Operation}
+use Rattle.ec_ast.specs.declared.Operation.{roll-Operation}
 use Rattle.ec_ast.specs.declared.Block.{Block, roll-Block}
 use Rattle.ec_ast.specs.declared.Statement.{Statement}
 use Rattle.ec_ast.specs.declared.Arm.{Arm, roll-Arm}
 use Rattle.ec_ast.specs.declared.Class.{Class}
 use Rattle.ec_ast.specs.declared.Signature.{Signature}
-use Rattle.ec_ast.specs.declared.Typeobject.{Typeobject}
 use Rattle.ec_ast.specs.declared.ConstantValue.{ConstantValue}
 use Rattle.ec_ast.specs.declared.Constant.{Constant}
 use Rattle.ec_ast.specs.declared.Program.{Program}

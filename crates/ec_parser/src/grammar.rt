@@ -230,41 +230,103 @@ pub enum Symbol {
 pub type Alternative = &'static [Symbol];
 
 // program  = { "const" ID "<-" ( class | typeobj ) | "const" ID [ ":" type ] "<-" expr }
-const PROGRAM: [Alternative; 1] = [
-    &[Symbol::Do(Act::BeginConstants), Symbol::Part(Part::Constants), Symbol::Do(Act::MakeProgram)],
-];
+const PROGRAM: [Alternative; 1] = [&[
+    Symbol::Do(Act::BeginConstants),
+    Symbol::Part(Part::Constants),
+    Symbol::Do(Act::MakeProgram),
+]];
 
 const CONSTANTS: [Alternative; 2] = [
-    &[Symbol::Token(Terminal::Const), Symbol::Part(Part::Name), Symbol::Part(Part::ConstantRest), Symbol::Do(Act::PushConstant), Symbol::Part(Part::Constants)],
+    &[
+        Symbol::Token(Terminal::Const),
+        Symbol::Part(Part::Name),
+        Symbol::Part(Part::ConstantRest),
+        Symbol::Do(Act::PushConstant),
+        Symbol::Part(Part::Constants),
+    ],
     &[],
 ];
 
 const CONSTANT_REST: [Alternative; 2] = [
-    &[Symbol::Token(Terminal::Colon), Symbol::Part(Part::Type), Symbol::Do(Act::SomeType), Symbol::Token(Terminal::Arrow), Symbol::Part(Part::Expression), Symbol::Do(Act::ExpressionValue)],
-    &[Symbol::Do(Act::NoType), Symbol::Token(Terminal::Arrow), Symbol::Part(Part::ConstantValue)],
+    &[
+        Symbol::Token(Terminal::Colon),
+        Symbol::Part(Part::Type),
+        Symbol::Do(Act::SomeType),
+        Symbol::Token(Terminal::Arrow),
+        Symbol::Part(Part::Expression),
+        Symbol::Do(Act::ExpressionValue),
+    ],
+    &[
+        Symbol::Do(Act::NoType),
+        Symbol::Token(Terminal::Arrow),
+        Symbol::Part(Part::ConstantValue),
+    ],
 ];
 
 const CONSTANT_VALUE: [Alternative; 6] = [
-    &[Symbol::Do(Act::No), Symbol::Part(Part::ClassRest), Symbol::Do(Act::ClassValue)],
+    &[
+        Symbol::Do(Act::No),
+        Symbol::Part(Part::ClassRest),
+        Symbol::Do(Act::ClassValue),
+    ],
     &[Symbol::Part(Part::Typeobject)],
-    &[Symbol::Do(Act::Yes), Symbol::Token(Terminal::Monitor), Symbol::Part(Part::AfterMonitor)],
-    &[Symbol::Part(Part::NotPrefix), Symbol::Part(Part::AndRest), Symbol::Do(Act::ExpressionValue)],
-    &[Symbol::Part(Part::UnaryPrefix), Symbol::Part(Part::TermRest), Symbol::Do(Act::ExpressionValue)],
-    &[Symbol::Part(Part::Plain), Symbol::Do(Act::BeginLinks), Symbol::Part(Part::PostfixTail), Symbol::Do(Act::MakePostfix), Symbol::Part(Part::TermRest), Symbol::Do(Act::ExpressionValue)],
+    &[
+        Symbol::Do(Act::Yes),
+        Symbol::Token(Terminal::Monitor),
+        Symbol::Part(Part::AfterMonitor),
+    ],
+    &[
+        Symbol::Part(Part::NotPrefix),
+        Symbol::Part(Part::AndRest),
+        Symbol::Do(Act::ExpressionValue),
+    ],
+    &[
+        Symbol::Part(Part::UnaryPrefix),
+        Symbol::Part(Part::TermRest),
+        Symbol::Do(Act::ExpressionValue),
+    ],
+    &[
+        Symbol::Part(Part::Plain),
+        Symbol::Do(Act::BeginLinks),
+        Symbol::Part(Part::PostfixTail),
+        Symbol::Do(Act::MakePostfix),
+        Symbol::Part(Part::TermRest),
+        Symbol::Do(Act::ExpressionValue),
+    ],
 ];
 
 const AFTER_MONITOR: [Alternative; 2] = [
     &[Symbol::Part(Part::ClassRest), Symbol::Do(Act::ClassValue)],
-    &[Symbol::Part(Part::ObjectRest), Symbol::Do(Act::MakeConstructor), Symbol::Do(Act::BeginLinks), Symbol::Part(Part::PostfixTail), Symbol::Do(Act::MakePostfix), Symbol::Part(Part::TermRest), Symbol::Do(Act::ExpressionValue)],
+    &[
+        Symbol::Part(Part::ObjectRest),
+        Symbol::Do(Act::MakeConstructor),
+        Symbol::Do(Act::BeginLinks),
+        Symbol::Part(Part::PostfixTail),
+        Symbol::Do(Act::MakePostfix),
+        Symbol::Part(Part::TermRest),
+        Symbol::Do(Act::ExpressionValue),
+    ],
 ];
 
-const TERM_REST: [Alternative; 1] = [
-    &[Symbol::Do(Act::BeginFactors), Symbol::Part(Part::TermTail), Symbol::Do(Act::MakeTerm), Symbol::Do(Act::BeginAddends), Symbol::Part(Part::SumTail), Symbol::Do(Act::MakeSum), Symbol::Part(Part::CompareTail), Symbol::Part(Part::AndRest)],
-];
+const TERM_REST: [Alternative; 1] = [&[
+    Symbol::Do(Act::BeginFactors),
+    Symbol::Part(Part::TermTail),
+    Symbol::Do(Act::MakeTerm),
+    Symbol::Do(Act::BeginAddends),
+    Symbol::Part(Part::SumTail),
+    Symbol::Do(Act::MakeSum),
+    Symbol::Part(Part::CompareTail),
+    Symbol::Part(Part::AndRest),
+]];
 
-const AND_REST: [Alternative; 1] = [
-    &[Symbol::Do(Act::BeginExpressions), Symbol::Part(Part::AndTail), Symbol::Do(Act::MakeAnd), Symbol::Do(Act::BeginExpressions), Symbol::Part(Part::OrTail), Symbol::Do(Act::MakeOr)],
-];
+const AND_REST: [Alternative; 1] = [&[
+    Symbol::Do(Act::BeginExpressions),
+    Symbol::Part(Part::AndTail),
+    Symbol::Do(Act::MakeAnd),
+    Symbol::Do(Act::BeginExpressions),
+    Symbol::Part(Part::OrTail),
+    Symbol::Do(Act::MakeOr),
+]];
 
 // ID: a word that isn't reserved
 const NAME: [Alternative; 4] = [
@@ -275,32 +337,71 @@ const NAME: [Alternative; 4] = [
 ];
 
 // typeobj  = "typeobject" ID { opword ID [ "[" [ sig { "," sig } ] "]" ] [ "->" "[" sig "]" ] } "end" ID
-const TYPEOBJECT: [Alternative; 1] = [
-    &[Symbol::Bound(Bound::Opens(Opened::Typeobject)), Symbol::Token(Terminal::Typeobject), Symbol::Part(Part::Name), Symbol::Do(Act::BeginSignatures), Symbol::Part(Part::Signatures), Symbol::Bound(Bound::Closes(Opened::Typeobject)), Symbol::Token(Terminal::End), Symbol::Part(Part::Name), Symbol::Do(Act::MakeTypeobject)],
-];
+const TYPEOBJECT: [Alternative; 1] = [&[
+    Symbol::Bound(Bound::Opens(Opened::Typeobject)),
+    Symbol::Token(Terminal::Typeobject),
+    Symbol::Part(Part::Name),
+    Symbol::Do(Act::BeginSignatures),
+    Symbol::Part(Part::Signatures),
+    Symbol::Bound(Bound::Closes(Opened::Typeobject)),
+    Symbol::Token(Terminal::End),
+    Symbol::Part(Part::Name),
+    Symbol::Do(Act::MakeTypeobject),
+]];
 
 const SIGNATURES: [Alternative; 2] = [
-    &[Symbol::Part(Part::OperationWord), Symbol::Part(Part::Name), Symbol::Part(Part::SignatureParameters), Symbol::Part(Part::SignatureResult), Symbol::Do(Act::PushSignature), Symbol::Part(Part::Signatures)],
+    &[
+        Symbol::Part(Part::OperationWord),
+        Symbol::Part(Part::Name),
+        Symbol::Part(Part::SignatureParameters),
+        Symbol::Part(Part::SignatureResult),
+        Symbol::Do(Act::PushSignature),
+        Symbol::Part(Part::Signatures),
+    ],
     &[],
 ];
 
 const SIGNATURE_PARAMETERS: [Alternative; 2] = [
-    &[Symbol::Bound(Bound::Opens(Opened::Bracket)), Symbol::Token(Terminal::OpenBracket), Symbol::Do(Act::BeginTypes), Symbol::Part(Part::Sigs), Symbol::Bound(Bound::Closes(Opened::Bracket)), Symbol::Token(Terminal::CloseBracket)],
+    &[
+        Symbol::Bound(Bound::Opens(Opened::Bracket)),
+        Symbol::Token(Terminal::OpenBracket),
+        Symbol::Do(Act::BeginTypes),
+        Symbol::Part(Part::Sigs),
+        Symbol::Bound(Bound::Closes(Opened::Bracket)),
+        Symbol::Token(Terminal::CloseBracket),
+    ],
     &[Symbol::Do(Act::BeginTypes)],
 ];
 
 const SIGS: [Alternative; 2] = [
-    &[Symbol::Part(Part::Sig), Symbol::Do(Act::PushType), Symbol::Part(Part::MoreSigs)],
+    &[
+        Symbol::Part(Part::Sig),
+        Symbol::Do(Act::PushType),
+        Symbol::Part(Part::MoreSigs),
+    ],
     &[],
 ];
 
 const MORE_SIGS: [Alternative; 2] = [
-    &[Symbol::Token(Terminal::Comma), Symbol::Part(Part::Sig), Symbol::Do(Act::PushType), Symbol::Part(Part::MoreSigs)],
+    &[
+        Symbol::Token(Terminal::Comma),
+        Symbol::Part(Part::Sig),
+        Symbol::Do(Act::PushType),
+        Symbol::Part(Part::MoreSigs),
+    ],
     &[],
 ];
 
 const SIGNATURE_RESULT: [Alternative; 2] = [
-    &[Symbol::Token(Terminal::ResultArrow), Symbol::Bound(Bound::Opens(Opened::Bracket)), Symbol::Token(Terminal::OpenBracket), Symbol::Part(Part::Sig), Symbol::Bound(Bound::Closes(Opened::Bracket)), Symbol::Token(Terminal::CloseBracket), Symbol::Do(Act::SomeType)],
+    &[
+        Symbol::Token(Terminal::ResultArrow),
+        Symbol::Bound(Bound::Opens(Opened::Bracket)),
+        Symbol::Token(Terminal::OpenBracket),
+        Symbol::Part(Part::Sig),
+        Symbol::Bound(Bound::Closes(Opened::Bracket)),
+        Symbol::Token(Terminal::CloseBracket),
+        Symbol::Do(Act::SomeType),
+    ],
     &[Symbol::Do(Act::NoType)],
 ];
 
@@ -317,7 +418,11 @@ const SIG: [Alternative; 2] = [
 ];
 
 const AFTER_SIG_NAME: [Alternative; 2] = [
-    &[Symbol::Token(Terminal::Colon), Symbol::Part(Part::Type), Symbol::Do(Act::DropName)],
+    &[
+        Symbol::Token(Terminal::Colon),
+        Symbol::Part(Part::Type),
+        Symbol::Do(Act::DropName),
+    ],
     &[Symbol::Do(Act::NamedType)],
 ];
 
@@ -328,61 +433,133 @@ const TYPE: [Alternative; 2] = [
 ];
 
 const PLAIN_TYPE: [Alternative; 6] = [
-    &[Symbol::Keep(Terminal::Integer), Symbol::Do(Act::TypeInteger)],
-    &[Symbol::Keep(Terminal::Boolean), Symbol::Do(Act::TypeBoolean)],
+    &[
+        Symbol::Keep(Terminal::Integer),
+        Symbol::Do(Act::TypeInteger),
+    ],
+    &[
+        Symbol::Keep(Terminal::Boolean),
+        Symbol::Do(Act::TypeBoolean),
+    ],
     &[Symbol::Keep(Terminal::String), Symbol::Do(Act::TypeString)],
     &[Symbol::Keep(Terminal::Any), Symbol::Do(Act::TypeAny)],
     &[Symbol::Keep(Terminal::Node), Symbol::Do(Act::TypeNode)],
-    &[Symbol::Keep(Terminal::Vector), Symbol::Token(Terminal::Dot), Symbol::Token(Terminal::Of), Symbol::Bound(Bound::Opens(Opened::Bracket)), Symbol::Token(Terminal::OpenBracket), Symbol::Part(Part::Type), Symbol::Bound(Bound::Closes(Opened::Bracket)), Symbol::Token(Terminal::CloseBracket), Symbol::Do(Act::TypeVector)],
+    &[
+        Symbol::Keep(Terminal::Vector),
+        Symbol::Token(Terminal::Dot),
+        Symbol::Token(Terminal::Of),
+        Symbol::Bound(Bound::Opens(Opened::Bracket)),
+        Symbol::Token(Terminal::OpenBracket),
+        Symbol::Part(Part::Type),
+        Symbol::Bound(Bound::Closes(Opened::Bracket)),
+        Symbol::Token(Terminal::CloseBracket),
+        Symbol::Do(Act::TypeVector),
+    ],
 ];
 
 // class    = [ "monitor" ] "class" ID [ params ] body "end" ID
-const CLASS_REST: [Alternative; 1] = [
-    &[Symbol::Bound(Bound::Opens(Opened::Word)), Symbol::Token(Terminal::Class), Symbol::Part(Part::Name), Symbol::Part(Part::Parameters), Symbol::Part(Part::Body), Symbol::Bound(Bound::Closes(Opened::Word)), Symbol::Token(Terminal::End), Symbol::Part(Part::Name), Symbol::Do(Act::MakeClass)],
-];
+const CLASS_REST: [Alternative; 1] = [&[
+    Symbol::Bound(Bound::Opens(Opened::Word)),
+    Symbol::Token(Terminal::Class),
+    Symbol::Part(Part::Name),
+    Symbol::Part(Part::Parameters),
+    Symbol::Part(Part::Body),
+    Symbol::Bound(Bound::Closes(Opened::Word)),
+    Symbol::Token(Terminal::End),
+    Symbol::Part(Part::Name),
+    Symbol::Do(Act::MakeClass),
+]];
 
 // object   = [ "monitor" ] "object" ID body "end" ID
-const OBJECT_REST: [Alternative; 1] = [
-    &[Symbol::Bound(Bound::Opens(Opened::Word)), Symbol::Token(Terminal::Object), Symbol::Part(Part::Name), Symbol::Part(Part::Body), Symbol::Bound(Bound::Closes(Opened::Word)), Symbol::Token(Terminal::End), Symbol::Part(Part::Name), Symbol::Do(Act::MakeObject)],
-];
+const OBJECT_REST: [Alternative; 1] = [&[
+    Symbol::Bound(Bound::Opens(Opened::Word)),
+    Symbol::Token(Terminal::Object),
+    Symbol::Part(Part::Name),
+    Symbol::Part(Part::Body),
+    Symbol::Bound(Bound::Closes(Opened::Word)),
+    Symbol::Token(Terminal::End),
+    Symbol::Part(Part::Name),
+    Symbol::Do(Act::MakeObject),
+]];
 
 // params   = "[" [ ID ":" type { "," ID ":" type } ] "]"
 const PARAMETERS: [Alternative; 2] = [
-    &[Symbol::Bound(Bound::Opens(Opened::Bracket)), Symbol::Token(Terminal::OpenBracket), Symbol::Do(Act::BeginParameters), Symbol::Part(Part::ParameterList), Symbol::Bound(Bound::Closes(Opened::Bracket)), Symbol::Token(Terminal::CloseBracket)],
+    &[
+        Symbol::Bound(Bound::Opens(Opened::Bracket)),
+        Symbol::Token(Terminal::OpenBracket),
+        Symbol::Do(Act::BeginParameters),
+        Symbol::Part(Part::ParameterList),
+        Symbol::Bound(Bound::Closes(Opened::Bracket)),
+        Symbol::Token(Terminal::CloseBracket),
+    ],
     &[Symbol::Do(Act::BeginParameters)],
 ];
 
 const PARAMETER_LIST: [Alternative; 2] = [
-    &[Symbol::Part(Part::Parameter), Symbol::Part(Part::MoreParameters)],
+    &[
+        Symbol::Part(Part::Parameter),
+        Symbol::Part(Part::MoreParameters),
+    ],
     &[],
 ];
 
 const MORE_PARAMETERS: [Alternative; 2] = [
-    &[Symbol::Token(Terminal::Comma), Symbol::Part(Part::Parameter), Symbol::Part(Part::MoreParameters)],
+    &[
+        Symbol::Token(Terminal::Comma),
+        Symbol::Part(Part::Parameter),
+        Symbol::Part(Part::MoreParameters),
+    ],
     &[],
 ];
 
-const PARAMETER: [Alternative; 1] = [
-    &[Symbol::Part(Part::Name), Symbol::Token(Terminal::Colon), Symbol::Part(Part::Type), Symbol::Do(Act::PushParameter)],
-];
+const PARAMETER: [Alternative; 1] = [&[
+    Symbol::Part(Part::Name),
+    Symbol::Token(Terminal::Colon),
+    Symbol::Part(Part::Type),
+    Symbol::Do(Act::PushParameter),
+]];
 
 // body     = { member } [ "initially" block "end" "initially" ] [ "process" block "end" "process" ]
-const BODY: [Alternative; 1] = [
-    &[Symbol::Do(Act::BeginMembers), Symbol::Part(Part::Members), Symbol::Part(Part::Initially), Symbol::Part(Part::Process), Symbol::Do(Act::MakeBody)],
-];
+const BODY: [Alternative; 1] = [&[
+    Symbol::Do(Act::BeginMembers),
+    Symbol::Part(Part::Members),
+    Symbol::Part(Part::Initially),
+    Symbol::Part(Part::Process),
+    Symbol::Do(Act::MakeBody),
+]];
 
 const MEMBERS: [Alternative; 2] = [
-    &[Symbol::Part(Part::Member), Symbol::Do(Act::PushMember), Symbol::Part(Part::Members)],
+    &[
+        Symbol::Part(Part::Member),
+        Symbol::Do(Act::PushMember),
+        Symbol::Part(Part::Members),
+    ],
     &[],
 ];
 
 const INITIALLY: [Alternative; 2] = [
-    &[Symbol::Bound(Bound::Opens(Opened::Word)), Symbol::Token(Terminal::Initially), Symbol::Part(Part::Block), Symbol::Bound(Bound::Closes(Opened::Word)), Symbol::Token(Terminal::End), Symbol::Token(Terminal::Initially), Symbol::Do(Act::SomeBlock)],
+    &[
+        Symbol::Bound(Bound::Opens(Opened::Word)),
+        Symbol::Token(Terminal::Initially),
+        Symbol::Part(Part::Block),
+        Symbol::Bound(Bound::Closes(Opened::Word)),
+        Symbol::Token(Terminal::End),
+        Symbol::Token(Terminal::Initially),
+        Symbol::Do(Act::SomeBlock),
+    ],
     &[Symbol::Do(Act::NoBlock)],
 ];
 
 const PROCESS: [Alternative; 2] = [
-    &[Symbol::Bound(Bound::Opens(Opened::Word)), Symbol::Keep(Terminal::Process), Symbol::Part(Part::Block), Symbol::Bound(Bound::Closes(Opened::Word)), Symbol::Token(Terminal::End), Symbol::Token(Terminal::Process), Symbol::Do(Act::SomeProcess)],
+    &[
+        Symbol::Bound(Bound::Opens(Opened::Word)),
+        Symbol::Keep(Terminal::Process),
+        Symbol::Part(Part::Block),
+        Symbol::Bound(Bound::Closes(Opened::Word)),
+        Symbol::Token(Terminal::End),
+        Symbol::Token(Terminal::Process),
+        Symbol::Do(Act::SomeProcess),
+    ],
     &[Symbol::Do(Act::NoProcess)],
 ];
 
@@ -391,65 +568,173 @@ const PROCESS: [Alternative; 2] = [
 //          | "const" ID "<-" "condition" "." CREATE [ "[" "]" ]
 //          | [ "export" ] opword ID [ params ] [ "->" "[" ID ":" type "]" ] block "end" ID
 const MEMBER: [Alternative; 5] = [
-    &[Symbol::Token(Terminal::Attached), Symbol::Do(Act::Yes), Symbol::Part(Part::AttachedField)],
-    &[Symbol::Do(Act::No), Symbol::Token(Terminal::Var), Symbol::Part(Part::Name), Symbol::Token(Terminal::Colon), Symbol::Part(Part::Type), Symbol::Part(Part::Initial), Symbol::Do(Act::VariableField)],
-    &[Symbol::Do(Act::No), Symbol::Token(Terminal::Const), Symbol::Part(Part::Name), Symbol::Part(Part::ConstantField)],
-    &[Symbol::Do(Act::Yes), Symbol::Token(Terminal::Export), Symbol::Part(Part::OperationRest)],
+    &[
+        Symbol::Token(Terminal::Attached),
+        Symbol::Do(Act::Yes),
+        Symbol::Part(Part::AttachedField),
+    ],
+    &[
+        Symbol::Do(Act::No),
+        Symbol::Token(Terminal::Var),
+        Symbol::Part(Part::Name),
+        Symbol::Token(Terminal::Colon),
+        Symbol::Part(Part::Type),
+        Symbol::Part(Part::Initial),
+        Symbol::Do(Act::VariableField),
+    ],
+    &[
+        Symbol::Do(Act::No),
+        Symbol::Token(Terminal::Const),
+        Symbol::Part(Part::Name),
+        Symbol::Part(Part::ConstantField),
+    ],
+    &[
+        Symbol::Do(Act::Yes),
+        Symbol::Token(Terminal::Export),
+        Symbol::Part(Part::OperationRest),
+    ],
     &[Symbol::Do(Act::No), Symbol::Part(Part::OperationRest)],
 ];
 
 const ATTACHED_FIELD: [Alternative; 2] = [
-    &[Symbol::Token(Terminal::Var), Symbol::Part(Part::Name), Symbol::Token(Terminal::Colon), Symbol::Part(Part::Type), Symbol::Part(Part::Initial), Symbol::Do(Act::VariableField)],
-    &[Symbol::Token(Terminal::Const), Symbol::Part(Part::Name), Symbol::Part(Part::TypedValue), Symbol::Do(Act::ConstantField)],
+    &[
+        Symbol::Token(Terminal::Var),
+        Symbol::Part(Part::Name),
+        Symbol::Token(Terminal::Colon),
+        Symbol::Part(Part::Type),
+        Symbol::Part(Part::Initial),
+        Symbol::Do(Act::VariableField),
+    ],
+    &[
+        Symbol::Token(Terminal::Const),
+        Symbol::Part(Part::Name),
+        Symbol::Part(Part::TypedValue),
+        Symbol::Do(Act::ConstantField),
+    ],
 ];
 
 const CONSTANT_FIELD: [Alternative; 2] = [
-    &[Symbol::Token(Terminal::Colon), Symbol::Part(Part::Type), Symbol::Do(Act::SomeType), Symbol::Token(Terminal::Arrow), Symbol::Part(Part::Expression), Symbol::Do(Act::ConstantField)],
-    &[Symbol::Token(Terminal::Arrow), Symbol::Part(Part::FieldValue)],
+    &[
+        Symbol::Token(Terminal::Colon),
+        Symbol::Part(Part::Type),
+        Symbol::Do(Act::SomeType),
+        Symbol::Token(Terminal::Arrow),
+        Symbol::Part(Part::Expression),
+        Symbol::Do(Act::ConstantField),
+    ],
+    &[
+        Symbol::Token(Terminal::Arrow),
+        Symbol::Part(Part::FieldValue),
+    ],
 ];
 
 const FIELD_VALUE: [Alternative; 2] = [
-    &[Symbol::Token(Terminal::Condition), Symbol::Token(Terminal::Dot), Symbol::Token(Terminal::Create), Symbol::Part(Part::ConditionTail), Symbol::Do(Act::MakeCondition)],
-    &[Symbol::Do(Act::NoType), Symbol::Part(Part::Expression), Symbol::Do(Act::ConstantField)],
+    &[
+        Symbol::Token(Terminal::Condition),
+        Symbol::Token(Terminal::Dot),
+        Symbol::Token(Terminal::Create),
+        Symbol::Part(Part::ConditionTail),
+        Symbol::Do(Act::MakeCondition),
+    ],
+    &[
+        Symbol::Do(Act::NoType),
+        Symbol::Part(Part::Expression),
+        Symbol::Do(Act::ConstantField),
+    ],
 ];
 
 const CONDITION_TAIL: [Alternative; 2] = [
-    &[Symbol::Bound(Bound::Opens(Opened::Bracket)), Symbol::Token(Terminal::OpenBracket), Symbol::Bound(Bound::Closes(Opened::Bracket)), Symbol::Token(Terminal::CloseBracket)],
+    &[
+        Symbol::Bound(Bound::Opens(Opened::Bracket)),
+        Symbol::Token(Terminal::OpenBracket),
+        Symbol::Bound(Bound::Closes(Opened::Bracket)),
+        Symbol::Token(Terminal::CloseBracket),
+    ],
     &[],
 ];
 
-const OPERATION_REST: [Alternative; 1] = [
-    &[Symbol::Bound(Bound::Opens(Opened::Word)), Symbol::Part(Part::OperationWord), Symbol::Part(Part::Name), Symbol::Part(Part::Parameters), Symbol::Part(Part::OperationResult), Symbol::Part(Part::Block), Symbol::Bound(Bound::Closes(Opened::Word)), Symbol::Token(Terminal::End), Symbol::Part(Part::Name), Symbol::Do(Act::MakeOperation)],
-];
+const OPERATION_REST: [Alternative; 1] = [&[
+    Symbol::Bound(Bound::Opens(Opened::Word)),
+    Symbol::Part(Part::OperationWord),
+    Symbol::Part(Part::Name),
+    Symbol::Part(Part::Parameters),
+    Symbol::Part(Part::OperationResult),
+    Symbol::Part(Part::Block),
+    Symbol::Bound(Bound::Closes(Opened::Word)),
+    Symbol::Token(Terminal::End),
+    Symbol::Part(Part::Name),
+    Symbol::Do(Act::MakeOperation),
+]];
 
 const OPERATION_RESULT: [Alternative; 2] = [
-    &[Symbol::Token(Terminal::ResultArrow), Symbol::Bound(Bound::Opens(Opened::Bracket)), Symbol::Token(Terminal::OpenBracket), Symbol::Part(Part::Name), Symbol::Token(Terminal::Colon), Symbol::Part(Part::Type), Symbol::Bound(Bound::Closes(Opened::Bracket)), Symbol::Token(Terminal::CloseBracket), Symbol::Do(Act::SomeParameter)],
+    &[
+        Symbol::Token(Terminal::ResultArrow),
+        Symbol::Bound(Bound::Opens(Opened::Bracket)),
+        Symbol::Token(Terminal::OpenBracket),
+        Symbol::Part(Part::Name),
+        Symbol::Token(Terminal::Colon),
+        Symbol::Part(Part::Type),
+        Symbol::Bound(Bound::Closes(Opened::Bracket)),
+        Symbol::Token(Terminal::CloseBracket),
+        Symbol::Do(Act::SomeParameter),
+    ],
     &[Symbol::Do(Act::NoParameter)],
 ];
 
 const INITIAL: [Alternative; 2] = [
-    &[Symbol::Token(Terminal::Arrow), Symbol::Part(Part::Expression), Symbol::Do(Act::SomeExpression)],
+    &[
+        Symbol::Token(Terminal::Arrow),
+        Symbol::Part(Part::Expression),
+        Symbol::Do(Act::SomeExpression),
+    ],
     &[Symbol::Do(Act::NoExpression)],
 ];
 
 const TYPED_VALUE: [Alternative; 2] = [
-    &[Symbol::Token(Terminal::Colon), Symbol::Part(Part::Type), Symbol::Do(Act::SomeType), Symbol::Token(Terminal::Arrow), Symbol::Part(Part::Expression)],
-    &[Symbol::Do(Act::NoType), Symbol::Token(Terminal::Arrow), Symbol::Part(Part::Expression)],
+    &[
+        Symbol::Token(Terminal::Colon),
+        Symbol::Part(Part::Type),
+        Symbol::Do(Act::SomeType),
+        Symbol::Token(Terminal::Arrow),
+        Symbol::Part(Part::Expression),
+    ],
+    &[
+        Symbol::Do(Act::NoType),
+        Symbol::Token(Terminal::Arrow),
+        Symbol::Part(Part::Expression),
+    ],
 ];
 
 // block    = { "var" ID ":" type [ "<-" expr ] | "const" ID [ ":" type ] "<-" expr | stmt }
-const BLOCK: [Alternative; 1] = [
-    &[Symbol::Do(Act::BeginStatements), Symbol::Part(Part::Statements)],
-];
+const BLOCK: [Alternative; 1] = [&[
+    Symbol::Do(Act::BeginStatements),
+    Symbol::Part(Part::Statements),
+]];
 
 const STATEMENTS: [Alternative; 2] = [
-    &[Symbol::Part(Part::Declaration), Symbol::Do(Act::PushStatement), Symbol::Part(Part::Statements)],
+    &[
+        Symbol::Part(Part::Declaration),
+        Symbol::Do(Act::PushStatement),
+        Symbol::Part(Part::Statements),
+    ],
     &[],
 ];
 
 const DECLARATION: [Alternative; 3] = [
-    &[Symbol::Token(Terminal::Var), Symbol::Part(Part::Name), Symbol::Token(Terminal::Colon), Symbol::Part(Part::Type), Symbol::Part(Part::Initial), Symbol::Do(Act::LocalVariable)],
-    &[Symbol::Token(Terminal::Const), Symbol::Part(Part::Name), Symbol::Part(Part::TypedValue), Symbol::Do(Act::LocalConstant)],
+    &[
+        Symbol::Token(Terminal::Var),
+        Symbol::Part(Part::Name),
+        Symbol::Token(Terminal::Colon),
+        Symbol::Part(Part::Type),
+        Symbol::Part(Part::Initial),
+        Symbol::Do(Act::LocalVariable),
+    ],
+    &[
+        Symbol::Token(Terminal::Const),
+        Symbol::Part(Part::Name),
+        Symbol::Part(Part::TypedValue),
+        Symbol::Do(Act::LocalConstant),
+    ],
     &[Symbol::Part(Part::Statement)],
 ];
 
@@ -461,148 +746,402 @@ const DECLARATION: [Alternative; 3] = [
 //          | "move" expr "to" expr | "fix" expr "at" expr | "refix" expr "at" expr | "unfix" expr
 //          | "wait" ID | "signal" ID
 const STATEMENT: [Alternative; 15] = [
-    &[Symbol::Part(Part::Name), Symbol::Do(Act::MakeVariable), Symbol::Part(Part::AfterName)],
-    &[Symbol::Part(Part::OtherPlain), Symbol::Do(Act::BeginLinks), Symbol::Part(Part::AfterOther)],
-    &[Symbol::Do(Act::Yes), Symbol::Token(Terminal::Monitor), Symbol::Part(Part::ObjectRest), Symbol::Do(Act::MakeConstructor), Symbol::Do(Act::BeginLinks), Symbol::Part(Part::AfterOther)],
-    &[Symbol::Keep(Terminal::Stdout), Symbol::Token(Terminal::Dot), Symbol::Token(Terminal::Putstring), Symbol::Bound(Bound::Opens(Opened::Bracket)), Symbol::Token(Terminal::OpenBracket), Symbol::Part(Part::Expression), Symbol::Bound(Bound::Closes(Opened::Bracket)), Symbol::Token(Terminal::CloseBracket), Symbol::Do(Act::MakePrint)],
-    &[Symbol::Bound(Bound::Opens(Opened::Word)), Symbol::Keep(Terminal::If), Symbol::Do(Act::BeginArms), Symbol::Part(Part::Expression), Symbol::Token(Terminal::Then), Symbol::Part(Part::Block), Symbol::Do(Act::PushArm), Symbol::Part(Part::ElseIfs), Symbol::Part(Part::Else), Symbol::Bound(Bound::Closes(Opened::Word)), Symbol::Token(Terminal::End), Symbol::Token(Terminal::If), Symbol::Do(Act::MakeIf)],
-    &[Symbol::Bound(Bound::Opens(Opened::Word)), Symbol::Keep(Terminal::Loop), Symbol::Part(Part::Block), Symbol::Bound(Bound::Closes(Opened::Word)), Symbol::Token(Terminal::End), Symbol::Token(Terminal::Loop), Symbol::Do(Act::MakeLoop)],
-    &[Symbol::Keep(Terminal::Exit), Symbol::Part(Part::When), Symbol::Do(Act::MakeExit)],
+    &[
+        Symbol::Part(Part::Name),
+        Symbol::Do(Act::MakeVariable),
+        Symbol::Part(Part::AfterName),
+    ],
+    &[
+        Symbol::Part(Part::OtherPlain),
+        Symbol::Do(Act::BeginLinks),
+        Symbol::Part(Part::AfterOther),
+    ],
+    &[
+        Symbol::Do(Act::Yes),
+        Symbol::Token(Terminal::Monitor),
+        Symbol::Part(Part::ObjectRest),
+        Symbol::Do(Act::MakeConstructor),
+        Symbol::Do(Act::BeginLinks),
+        Symbol::Part(Part::AfterOther),
+    ],
+    &[
+        Symbol::Keep(Terminal::Stdout),
+        Symbol::Token(Terminal::Dot),
+        Symbol::Token(Terminal::Putstring),
+        Symbol::Bound(Bound::Opens(Opened::Bracket)),
+        Symbol::Token(Terminal::OpenBracket),
+        Symbol::Part(Part::Expression),
+        Symbol::Bound(Bound::Closes(Opened::Bracket)),
+        Symbol::Token(Terminal::CloseBracket),
+        Symbol::Do(Act::MakePrint),
+    ],
+    &[
+        Symbol::Bound(Bound::Opens(Opened::Word)),
+        Symbol::Keep(Terminal::If),
+        Symbol::Do(Act::BeginArms),
+        Symbol::Part(Part::Expression),
+        Symbol::Token(Terminal::Then),
+        Symbol::Part(Part::Block),
+        Symbol::Do(Act::PushArm),
+        Symbol::Part(Part::ElseIfs),
+        Symbol::Part(Part::Else),
+        Symbol::Bound(Bound::Closes(Opened::Word)),
+        Symbol::Token(Terminal::End),
+        Symbol::Token(Terminal::If),
+        Symbol::Do(Act::MakeIf),
+    ],
+    &[
+        Symbol::Bound(Bound::Opens(Opened::Word)),
+        Symbol::Keep(Terminal::Loop),
+        Symbol::Part(Part::Block),
+        Symbol::Bound(Bound::Closes(Opened::Word)),
+        Symbol::Token(Terminal::End),
+        Symbol::Token(Terminal::Loop),
+        Symbol::Do(Act::MakeLoop),
+    ],
+    &[
+        Symbol::Keep(Terminal::Exit),
+        Symbol::Part(Part::When),
+        Symbol::Do(Act::MakeExit),
+    ],
     &[Symbol::Keep(Terminal::Return), Symbol::Do(Act::MakeReturn)],
-    &[Symbol::Keep(Terminal::Assert), Symbol::Part(Part::Expression), Symbol::Do(Act::MakeAssert)],
-    &[Symbol::Keep(Terminal::Move), Symbol::Part(Part::Expression), Symbol::Token(Terminal::To), Symbol::Part(Part::Expression), Symbol::Do(Act::MakeMove)],
-    &[Symbol::Keep(Terminal::Fix), Symbol::Part(Part::Expression), Symbol::Token(Terminal::At), Symbol::Part(Part::Expression), Symbol::Do(Act::MakeFix)],
-    &[Symbol::Keep(Terminal::Refix), Symbol::Part(Part::Expression), Symbol::Token(Terminal::At), Symbol::Part(Part::Expression), Symbol::Do(Act::MakeRefix)],
-    &[Symbol::Keep(Terminal::Unfix), Symbol::Part(Part::Expression), Symbol::Do(Act::MakeUnfix)],
-    &[Symbol::Keep(Terminal::Wait), Symbol::Part(Part::Name), Symbol::Do(Act::MakeWait)],
-    &[Symbol::Keep(Terminal::Signal), Symbol::Part(Part::Name), Symbol::Do(Act::MakeSignal)],
+    &[
+        Symbol::Keep(Terminal::Assert),
+        Symbol::Part(Part::Expression),
+        Symbol::Do(Act::MakeAssert),
+    ],
+    &[
+        Symbol::Keep(Terminal::Move),
+        Symbol::Part(Part::Expression),
+        Symbol::Token(Terminal::To),
+        Symbol::Part(Part::Expression),
+        Symbol::Do(Act::MakeMove),
+    ],
+    &[
+        Symbol::Keep(Terminal::Fix),
+        Symbol::Part(Part::Expression),
+        Symbol::Token(Terminal::At),
+        Symbol::Part(Part::Expression),
+        Symbol::Do(Act::MakeFix),
+    ],
+    &[
+        Symbol::Keep(Terminal::Refix),
+        Symbol::Part(Part::Expression),
+        Symbol::Token(Terminal::At),
+        Symbol::Part(Part::Expression),
+        Symbol::Do(Act::MakeRefix),
+    ],
+    &[
+        Symbol::Keep(Terminal::Unfix),
+        Symbol::Part(Part::Expression),
+        Symbol::Do(Act::MakeUnfix),
+    ],
+    &[
+        Symbol::Keep(Terminal::Wait),
+        Symbol::Part(Part::Name),
+        Symbol::Do(Act::MakeWait),
+    ],
+    &[
+        Symbol::Keep(Terminal::Signal),
+        Symbol::Part(Part::Name),
+        Symbol::Do(Act::MakeSignal),
+    ],
 ];
 
 const AFTER_NAME: [Alternative; 3] = [
-    &[Symbol::Token(Terminal::Arrow), Symbol::Part(Part::Expression), Symbol::Do(Act::MakeAssign)],
-    &[Symbol::Do(Act::BeginLinks), Symbol::Token(Terminal::Dot), Symbol::Part(Part::Name), Symbol::Part(Part::AfterField)],
-    &[Symbol::Do(Act::BeginLinks), Symbol::Bound(Bound::Opens(Opened::Bracket)), Symbol::Keep(Terminal::OpenBracket), Symbol::Part(Part::Expression), Symbol::Bound(Bound::Closes(Opened::Bracket)), Symbol::Token(Terminal::CloseBracket), Symbol::Do(Act::PushIndex), Symbol::Part(Part::AfterIndex)],
+    &[
+        Symbol::Token(Terminal::Arrow),
+        Symbol::Part(Part::Expression),
+        Symbol::Do(Act::MakeAssign),
+    ],
+    &[
+        Symbol::Do(Act::BeginLinks),
+        Symbol::Token(Terminal::Dot),
+        Symbol::Part(Part::Name),
+        Symbol::Part(Part::AfterField),
+    ],
+    &[
+        Symbol::Do(Act::BeginLinks),
+        Symbol::Bound(Bound::Opens(Opened::Bracket)),
+        Symbol::Keep(Terminal::OpenBracket),
+        Symbol::Part(Part::Expression),
+        Symbol::Bound(Bound::Closes(Opened::Bracket)),
+        Symbol::Token(Terminal::CloseBracket),
+        Symbol::Do(Act::PushIndex),
+        Symbol::Part(Part::AfterIndex),
+    ],
 ];
 
 const AFTER_OTHER: [Alternative; 2] = [
-    &[Symbol::Token(Terminal::Dot), Symbol::Part(Part::Name), Symbol::Part(Part::AfterField)],
-    &[Symbol::Bound(Bound::Opens(Opened::Bracket)), Symbol::Keep(Terminal::OpenBracket), Symbol::Part(Part::Expression), Symbol::Bound(Bound::Closes(Opened::Bracket)), Symbol::Token(Terminal::CloseBracket), Symbol::Do(Act::PushIndex), Symbol::Part(Part::AfterIndex)],
+    &[
+        Symbol::Token(Terminal::Dot),
+        Symbol::Part(Part::Name),
+        Symbol::Part(Part::AfterField),
+    ],
+    &[
+        Symbol::Bound(Bound::Opens(Opened::Bracket)),
+        Symbol::Keep(Terminal::OpenBracket),
+        Symbol::Part(Part::Expression),
+        Symbol::Bound(Bound::Closes(Opened::Bracket)),
+        Symbol::Token(Terminal::CloseBracket),
+        Symbol::Do(Act::PushIndex),
+        Symbol::Part(Part::AfterIndex),
+    ],
 ];
 
 const AFTER_INDEX: [Alternative; 3] = [
-    &[Symbol::Do(Act::MakePostfix), Symbol::Token(Terminal::Arrow), Symbol::Part(Part::Expression), Symbol::Do(Act::MakeAssign)],
-    &[Symbol::Token(Terminal::Dot), Symbol::Part(Part::Name), Symbol::Part(Part::AfterField)],
-    &[Symbol::Bound(Bound::Opens(Opened::Bracket)), Symbol::Keep(Terminal::OpenBracket), Symbol::Part(Part::Expression), Symbol::Bound(Bound::Closes(Opened::Bracket)), Symbol::Token(Terminal::CloseBracket), Symbol::Do(Act::PushIndex), Symbol::Part(Part::AfterIndex)],
+    &[
+        Symbol::Do(Act::MakePostfix),
+        Symbol::Token(Terminal::Arrow),
+        Symbol::Part(Part::Expression),
+        Symbol::Do(Act::MakeAssign),
+    ],
+    &[
+        Symbol::Token(Terminal::Dot),
+        Symbol::Part(Part::Name),
+        Symbol::Part(Part::AfterField),
+    ],
+    &[
+        Symbol::Bound(Bound::Opens(Opened::Bracket)),
+        Symbol::Keep(Terminal::OpenBracket),
+        Symbol::Part(Part::Expression),
+        Symbol::Bound(Bound::Closes(Opened::Bracket)),
+        Symbol::Token(Terminal::CloseBracket),
+        Symbol::Do(Act::PushIndex),
+        Symbol::Part(Part::AfterIndex),
+    ],
 ];
 
 const AFTER_FIELD: [Alternative; 3] = [
-    &[Symbol::Bound(Bound::Opens(Opened::Bracket)), Symbol::Token(Terminal::OpenBracket), Symbol::Do(Act::BeginExpressions), Symbol::Part(Part::Arguments), Symbol::Bound(Bound::Closes(Opened::Bracket)), Symbol::Token(Terminal::CloseBracket), Symbol::Do(Act::PushCall), Symbol::Part(Part::AfterCall)],
-    &[Symbol::Do(Act::PushField), Symbol::Token(Terminal::Dot), Symbol::Part(Part::Name), Symbol::Part(Part::AfterField)],
-    &[Symbol::Do(Act::PushField), Symbol::Do(Act::MakePostfix), Symbol::Do(Act::MakeInvoke)],
+    &[
+        Symbol::Bound(Bound::Opens(Opened::Bracket)),
+        Symbol::Token(Terminal::OpenBracket),
+        Symbol::Do(Act::BeginExpressions),
+        Symbol::Part(Part::Arguments),
+        Symbol::Bound(Bound::Closes(Opened::Bracket)),
+        Symbol::Token(Terminal::CloseBracket),
+        Symbol::Do(Act::PushCall),
+        Symbol::Part(Part::AfterCall),
+    ],
+    &[
+        Symbol::Do(Act::PushField),
+        Symbol::Token(Terminal::Dot),
+        Symbol::Part(Part::Name),
+        Symbol::Part(Part::AfterField),
+    ],
+    &[
+        Symbol::Do(Act::PushField),
+        Symbol::Do(Act::MakePostfix),
+        Symbol::Do(Act::MakeInvoke),
+    ],
 ];
 
 const AFTER_CALL: [Alternative; 3] = [
-    &[Symbol::Bound(Bound::Opens(Opened::Bracket)), Symbol::Keep(Terminal::OpenBracket), Symbol::Part(Part::Expression), Symbol::Bound(Bound::Closes(Opened::Bracket)), Symbol::Token(Terminal::CloseBracket), Symbol::Do(Act::PushIndex), Symbol::Part(Part::AfterIndex)],
-    &[Symbol::Token(Terminal::Dot), Symbol::Part(Part::Name), Symbol::Part(Part::AfterField)],
+    &[
+        Symbol::Bound(Bound::Opens(Opened::Bracket)),
+        Symbol::Keep(Terminal::OpenBracket),
+        Symbol::Part(Part::Expression),
+        Symbol::Bound(Bound::Closes(Opened::Bracket)),
+        Symbol::Token(Terminal::CloseBracket),
+        Symbol::Do(Act::PushIndex),
+        Symbol::Part(Part::AfterIndex),
+    ],
+    &[
+        Symbol::Token(Terminal::Dot),
+        Symbol::Part(Part::Name),
+        Symbol::Part(Part::AfterField),
+    ],
     &[Symbol::Do(Act::MakePostfix), Symbol::Do(Act::MakeInvoke)],
 ];
 
 const ELSE_IFS: [Alternative; 2] = [
-    &[Symbol::Token(Terminal::Elseif), Symbol::Part(Part::Expression), Symbol::Token(Terminal::Then), Symbol::Part(Part::Block), Symbol::Do(Act::PushArm), Symbol::Part(Part::ElseIfs)],
+    &[
+        Symbol::Token(Terminal::Elseif),
+        Symbol::Part(Part::Expression),
+        Symbol::Token(Terminal::Then),
+        Symbol::Part(Part::Block),
+        Symbol::Do(Act::PushArm),
+        Symbol::Part(Part::ElseIfs),
+    ],
     &[],
 ];
 
 const ELSE: [Alternative; 2] = [
-    &[Symbol::Token(Terminal::Else), Symbol::Part(Part::Block), Symbol::Do(Act::SomeBlock)],
+    &[
+        Symbol::Token(Terminal::Else),
+        Symbol::Part(Part::Block),
+        Symbol::Do(Act::SomeBlock),
+    ],
     &[Symbol::Do(Act::NoBlock)],
 ];
 
 const WHEN: [Alternative; 2] = [
-    &[Symbol::Token(Terminal::When), Symbol::Part(Part::Expression), Symbol::Do(Act::SomeExpression)],
+    &[
+        Symbol::Token(Terminal::When),
+        Symbol::Part(Part::Expression),
+        Symbol::Do(Act::SomeExpression),
+    ],
     &[Symbol::Do(Act::NoExpression)],
 ];
 
 // expr     = and { "or" and }
-const EXPRESSION: [Alternative; 1] = [
-    &[Symbol::Part(Part::And), Symbol::Do(Act::BeginExpressions), Symbol::Part(Part::OrTail), Symbol::Do(Act::MakeOr)],
-];
+const EXPRESSION: [Alternative; 1] = [&[
+    Symbol::Part(Part::And),
+    Symbol::Do(Act::BeginExpressions),
+    Symbol::Part(Part::OrTail),
+    Symbol::Do(Act::MakeOr),
+]];
 
 const OR_TAIL: [Alternative; 2] = [
-    &[Symbol::Token(Terminal::Or), Symbol::Part(Part::And), Symbol::Do(Act::PushExpression), Symbol::Part(Part::OrTail)],
+    &[
+        Symbol::Token(Terminal::Or),
+        Symbol::Part(Part::And),
+        Symbol::Do(Act::PushExpression),
+        Symbol::Part(Part::OrTail),
+    ],
     &[],
 ];
 
 // and      = not { "and" not }
-const AND: [Alternative; 1] = [
-    &[Symbol::Part(Part::Not), Symbol::Do(Act::BeginExpressions), Symbol::Part(Part::AndTail), Symbol::Do(Act::MakeAnd)],
-];
+const AND: [Alternative; 1] = [&[
+    Symbol::Part(Part::Not),
+    Symbol::Do(Act::BeginExpressions),
+    Symbol::Part(Part::AndTail),
+    Symbol::Do(Act::MakeAnd),
+]];
 
 const AND_TAIL: [Alternative; 2] = [
-    &[Symbol::Token(Terminal::And), Symbol::Part(Part::Not), Symbol::Do(Act::PushExpression), Symbol::Part(Part::AndTail)],
+    &[
+        Symbol::Token(Terminal::And),
+        Symbol::Part(Part::Not),
+        Symbol::Do(Act::PushExpression),
+        Symbol::Part(Part::AndTail),
+    ],
     &[],
 ];
 
 // not      = "!" not | rel
-const NOT: [Alternative; 2] = [
-    &[Symbol::Part(Part::NotPrefix)],
-    &[Symbol::Part(Part::Rel)],
-];
+const NOT: [Alternative; 2] = [&[Symbol::Part(Part::NotPrefix)], &[Symbol::Part(Part::Rel)]];
 
-const NOT_PREFIX: [Alternative; 1] = [
-    &[Symbol::Bound(Bound::Opens(Opened::Not)), Symbol::Keep(Terminal::Bang), Symbol::Part(Part::Not), Symbol::Bound(Bound::Closes(Opened::Not)), Symbol::Do(Act::MakeNot)],
-];
+const NOT_PREFIX: [Alternative; 1] = [&[
+    Symbol::Bound(Bound::Opens(Opened::Not)),
+    Symbol::Keep(Terminal::Bang),
+    Symbol::Part(Part::Not),
+    Symbol::Bound(Bound::Closes(Opened::Not)),
+    Symbol::Do(Act::MakeNot),
+]];
 
 // rel      = sum [ ( "==" | "!==" | "=" | "!=" | "<" | "<=" | ">" | ">=" ) sum ]
-const REL: [Alternative; 1] = [
-    &[Symbol::Part(Part::Sum), Symbol::Part(Part::CompareTail)],
-];
+const REL: [Alternative; 1] = [&[Symbol::Part(Part::Sum), Symbol::Part(Part::CompareTail)]];
 
 const COMPARE_TAIL: [Alternative; 2] = [
-    &[Symbol::Part(Part::CompareWord), Symbol::Part(Part::Sum), Symbol::Do(Act::MakeCompare)],
+    &[
+        Symbol::Part(Part::CompareWord),
+        Symbol::Part(Part::Sum),
+        Symbol::Do(Act::MakeCompare),
+    ],
     &[],
 ];
 
 const COMPARE_WORD: [Alternative; 8] = [
-    &[Symbol::Keep(Terminal::Same), Symbol::Do(Act::Compare(Comparison::Same))],
-    &[Symbol::Keep(Terminal::NotSame), Symbol::Do(Act::Compare(Comparison::NotSame))],
-    &[Symbol::Keep(Terminal::Equal), Symbol::Do(Act::Compare(Comparison::Equal))],
-    &[Symbol::Keep(Terminal::NotEqual), Symbol::Do(Act::Compare(Comparison::NotEqual))],
-    &[Symbol::Keep(Terminal::Less), Symbol::Do(Act::Compare(Comparison::Less))],
-    &[Symbol::Keep(Terminal::LessEqual), Symbol::Do(Act::Compare(Comparison::LessEqual))],
-    &[Symbol::Keep(Terminal::More), Symbol::Do(Act::Compare(Comparison::More))],
-    &[Symbol::Keep(Terminal::MoreEqual), Symbol::Do(Act::Compare(Comparison::MoreEqual))],
+    &[
+        Symbol::Keep(Terminal::Same),
+        Symbol::Do(Act::Compare(Comparison::Same)),
+    ],
+    &[
+        Symbol::Keep(Terminal::NotSame),
+        Symbol::Do(Act::Compare(Comparison::NotSame)),
+    ],
+    &[
+        Symbol::Keep(Terminal::Equal),
+        Symbol::Do(Act::Compare(Comparison::Equal)),
+    ],
+    &[
+        Symbol::Keep(Terminal::NotEqual),
+        Symbol::Do(Act::Compare(Comparison::NotEqual)),
+    ],
+    &[
+        Symbol::Keep(Terminal::Less),
+        Symbol::Do(Act::Compare(Comparison::Less)),
+    ],
+    &[
+        Symbol::Keep(Terminal::LessEqual),
+        Symbol::Do(Act::Compare(Comparison::LessEqual)),
+    ],
+    &[
+        Symbol::Keep(Terminal::More),
+        Symbol::Do(Act::Compare(Comparison::More)),
+    ],
+    &[
+        Symbol::Keep(Terminal::MoreEqual),
+        Symbol::Do(Act::Compare(Comparison::MoreEqual)),
+    ],
 ];
 
 // sum      = term { ( "+" | "-" | "||" ) term }
-const SUM: [Alternative; 1] = [
-    &[Symbol::Part(Part::Term), Symbol::Do(Act::BeginAddends), Symbol::Part(Part::SumTail), Symbol::Do(Act::MakeSum)],
-];
+const SUM: [Alternative; 1] = [&[
+    Symbol::Part(Part::Term),
+    Symbol::Do(Act::BeginAddends),
+    Symbol::Part(Part::SumTail),
+    Symbol::Do(Act::MakeSum),
+]];
 
 const SUM_TAIL: [Alternative; 2] = [
-    &[Symbol::Part(Part::SumWord), Symbol::Part(Part::Term), Symbol::Do(Act::PushAddend), Symbol::Part(Part::SumTail)],
+    &[
+        Symbol::Part(Part::SumWord),
+        Symbol::Part(Part::Term),
+        Symbol::Do(Act::PushAddend),
+        Symbol::Part(Part::SumTail),
+    ],
     &[],
 ];
 
 const SUM_WORD: [Alternative; 3] = [
-    &[Symbol::Keep(Terminal::Plus), Symbol::Do(Act::Add(Additive::Plus))],
-    &[Symbol::Keep(Terminal::Minus), Symbol::Do(Act::Add(Additive::Minus))],
-    &[Symbol::Keep(Terminal::Concat), Symbol::Do(Act::Add(Additive::Concat))],
+    &[
+        Symbol::Keep(Terminal::Plus),
+        Symbol::Do(Act::Add(Additive::Plus)),
+    ],
+    &[
+        Symbol::Keep(Terminal::Minus),
+        Symbol::Do(Act::Add(Additive::Minus)),
+    ],
+    &[
+        Symbol::Keep(Terminal::Concat),
+        Symbol::Do(Act::Add(Additive::Concat)),
+    ],
 ];
 
 // term     = unary { ( "*" | "/" | "#" ) unary }
-const TERM: [Alternative; 1] = [
-    &[Symbol::Part(Part::Unary), Symbol::Do(Act::BeginFactors), Symbol::Part(Part::TermTail), Symbol::Do(Act::MakeTerm)],
-];
+const TERM: [Alternative; 1] = [&[
+    Symbol::Part(Part::Unary),
+    Symbol::Do(Act::BeginFactors),
+    Symbol::Part(Part::TermTail),
+    Symbol::Do(Act::MakeTerm),
+]];
 
 const TERM_TAIL: [Alternative; 2] = [
-    &[Symbol::Part(Part::TermWord), Symbol::Part(Part::Unary), Symbol::Do(Act::PushFactor), Symbol::Part(Part::TermTail)],
+    &[
+        Symbol::Part(Part::TermWord),
+        Symbol::Part(Part::Unary),
+        Symbol::Do(Act::PushFactor),
+        Symbol::Part(Part::TermTail),
+    ],
     &[],
 ];
 
 const TERM_WORD: [Alternative; 3] = [
-    &[Symbol::Keep(Terminal::Times), Symbol::Do(Act::Multiply(Multiplicative::Times))],
-    &[Symbol::Keep(Terminal::Over), Symbol::Do(Act::Multiply(Multiplicative::Over))],
-    &[Symbol::Keep(Terminal::Remainder), Symbol::Do(Act::Multiply(Multiplicative::Remainder))],
+    &[
+        Symbol::Keep(Terminal::Times),
+        Symbol::Do(Act::Multiply(Multiplicative::Times)),
+    ],
+    &[
+        Symbol::Keep(Terminal::Over),
+        Symbol::Do(Act::Multiply(Multiplicative::Over)),
+    ],
+    &[
+        Symbol::Keep(Terminal::Remainder),
+        Symbol::Do(Act::Multiply(Multiplicative::Remainder)),
+    ],
 ];
 
 // unary    = "-" unary | "view" unary "as" type | "isfixed" unary | postfix
@@ -612,35 +1151,93 @@ const UNARY: [Alternative; 2] = [
 ];
 
 const UNARY_PREFIX: [Alternative; 3] = [
-    &[Symbol::Bound(Bound::Opens(Opened::Operand)), Symbol::Keep(Terminal::Minus), Symbol::Part(Part::Unary), Symbol::Bound(Bound::Closes(Opened::Operand)), Symbol::Do(Act::MakeNegative)],
-    &[Symbol::Bound(Bound::Opens(Opened::View)), Symbol::Keep(Terminal::View), Symbol::Part(Part::Unary), Symbol::Bound(Bound::Closes(Opened::View)), Symbol::Token(Terminal::As), Symbol::Part(Part::Type), Symbol::Do(Act::MakeView)],
-    &[Symbol::Bound(Bound::Opens(Opened::Operand)), Symbol::Keep(Terminal::Isfixed), Symbol::Part(Part::Unary), Symbol::Bound(Bound::Closes(Opened::Operand)), Symbol::Do(Act::MakeIsFixed)],
+    &[
+        Symbol::Bound(Bound::Opens(Opened::Operand)),
+        Symbol::Keep(Terminal::Minus),
+        Symbol::Part(Part::Unary),
+        Symbol::Bound(Bound::Closes(Opened::Operand)),
+        Symbol::Do(Act::MakeNegative),
+    ],
+    &[
+        Symbol::Bound(Bound::Opens(Opened::View)),
+        Symbol::Keep(Terminal::View),
+        Symbol::Part(Part::Unary),
+        Symbol::Bound(Bound::Closes(Opened::View)),
+        Symbol::Token(Terminal::As),
+        Symbol::Part(Part::Type),
+        Symbol::Do(Act::MakeView),
+    ],
+    &[
+        Symbol::Bound(Bound::Opens(Opened::Operand)),
+        Symbol::Keep(Terminal::Isfixed),
+        Symbol::Part(Part::Unary),
+        Symbol::Bound(Bound::Closes(Opened::Operand)),
+        Symbol::Do(Act::MakeIsFixed),
+    ],
 ];
 
 // postfix  = primary { "." ID [ "[" [ expr { "," expr } ] "]" ] | "[" expr "]" }
-const POSTFIX: [Alternative; 1] = [
-    &[Symbol::Part(Part::Primary), Symbol::Do(Act::BeginLinks), Symbol::Part(Part::PostfixTail), Symbol::Do(Act::MakePostfix)],
-];
+const POSTFIX: [Alternative; 1] = [&[
+    Symbol::Part(Part::Primary),
+    Symbol::Do(Act::BeginLinks),
+    Symbol::Part(Part::PostfixTail),
+    Symbol::Do(Act::MakePostfix),
+]];
 
 const POSTFIX_TAIL: [Alternative; 3] = [
-    &[Symbol::Token(Terminal::Dot), Symbol::Part(Part::Name), Symbol::Part(Part::AfterDot)],
-    &[Symbol::Bound(Bound::Opens(Opened::Bracket)), Symbol::Keep(Terminal::OpenBracket), Symbol::Part(Part::Expression), Symbol::Bound(Bound::Closes(Opened::Bracket)), Symbol::Token(Terminal::CloseBracket), Symbol::Do(Act::PushIndex), Symbol::Part(Part::PostfixTail)],
+    &[
+        Symbol::Token(Terminal::Dot),
+        Symbol::Part(Part::Name),
+        Symbol::Part(Part::AfterDot),
+    ],
+    &[
+        Symbol::Bound(Bound::Opens(Opened::Bracket)),
+        Symbol::Keep(Terminal::OpenBracket),
+        Symbol::Part(Part::Expression),
+        Symbol::Bound(Bound::Closes(Opened::Bracket)),
+        Symbol::Token(Terminal::CloseBracket),
+        Symbol::Do(Act::PushIndex),
+        Symbol::Part(Part::PostfixTail),
+    ],
     &[],
 ];
 
 const AFTER_DOT: [Alternative; 3] = [
-    &[Symbol::Bound(Bound::Opens(Opened::Bracket)), Symbol::Token(Terminal::OpenBracket), Symbol::Do(Act::BeginExpressions), Symbol::Part(Part::Arguments), Symbol::Bound(Bound::Closes(Opened::Bracket)), Symbol::Token(Terminal::CloseBracket), Symbol::Do(Act::PushCall), Symbol::Part(Part::PostfixTail)],
-    &[Symbol::Do(Act::PushField), Symbol::Token(Terminal::Dot), Symbol::Part(Part::Name), Symbol::Part(Part::AfterDot)],
+    &[
+        Symbol::Bound(Bound::Opens(Opened::Bracket)),
+        Symbol::Token(Terminal::OpenBracket),
+        Symbol::Do(Act::BeginExpressions),
+        Symbol::Part(Part::Arguments),
+        Symbol::Bound(Bound::Closes(Opened::Bracket)),
+        Symbol::Token(Terminal::CloseBracket),
+        Symbol::Do(Act::PushCall),
+        Symbol::Part(Part::PostfixTail),
+    ],
+    &[
+        Symbol::Do(Act::PushField),
+        Symbol::Token(Terminal::Dot),
+        Symbol::Part(Part::Name),
+        Symbol::Part(Part::AfterDot),
+    ],
     &[Symbol::Do(Act::PushField)],
 ];
 
 const ARGUMENTS: [Alternative; 2] = [
-    &[Symbol::Part(Part::Expression), Symbol::Do(Act::PushExpression), Symbol::Part(Part::MoreArguments)],
+    &[
+        Symbol::Part(Part::Expression),
+        Symbol::Do(Act::PushExpression),
+        Symbol::Part(Part::MoreArguments),
+    ],
     &[],
 ];
 
 const MORE_ARGUMENTS: [Alternative; 2] = [
-    &[Symbol::Token(Terminal::Comma), Symbol::Part(Part::Expression), Symbol::Do(Act::PushExpression), Symbol::Part(Part::MoreArguments)],
+    &[
+        Symbol::Token(Terminal::Comma),
+        Symbol::Part(Part::Expression),
+        Symbol::Do(Act::PushExpression),
+        Symbol::Part(Part::MoreArguments),
+    ],
     &[],
 ];
 
@@ -649,7 +1246,12 @@ const MORE_ARGUMENTS: [Alternative; 2] = [
 //          | "vector" "." "of" "[" type "]" "." CREATE "[" expr "]"
 const PRIMARY: [Alternative; 2] = [
     &[Symbol::Part(Part::Plain)],
-    &[Symbol::Do(Act::Yes), Symbol::Token(Terminal::Monitor), Symbol::Part(Part::ObjectRest), Symbol::Do(Act::MakeConstructor)],
+    &[
+        Symbol::Do(Act::Yes),
+        Symbol::Token(Terminal::Monitor),
+        Symbol::Part(Part::ObjectRest),
+        Symbol::Do(Act::MakeConstructor),
+    ],
 ];
 
 const PLAIN: [Alternative; 2] = [
@@ -659,20 +1261,66 @@ const PLAIN: [Alternative; 2] = [
 
 const OTHER_PLAIN: [Alternative; 10] = [
     &[Symbol::Keep(Terminal::Number), Symbol::Do(Act::MakeNumber)],
-    &[Symbol::Keep(Terminal::Literal), Symbol::Do(Act::MakeLiteral)],
+    &[
+        Symbol::Keep(Terminal::Literal),
+        Symbol::Do(Act::MakeLiteral),
+    ],
     &[Symbol::Keep(Terminal::True), Symbol::Do(Act::MakeTrue)],
     &[Symbol::Keep(Terminal::False), Symbol::Do(Act::MakeFalse)],
     &[Symbol::Keep(Terminal::Nil), Symbol::Do(Act::MakeNil)],
     &[Symbol::Keep(Terminal::Self_), Symbol::Do(Act::MakeItself)],
-    &[Symbol::Bound(Bound::Opens(Opened::Bracket)), Symbol::Keep(Terminal::OpenParenthesis), Symbol::Part(Part::Expression), Symbol::Bound(Bound::Closes(Opened::Bracket)), Symbol::Token(Terminal::CloseParenthesis), Symbol::Do(Act::MakeParenthesised)],
-    &[Symbol::Do(Act::No), Symbol::Part(Part::ObjectRest), Symbol::Do(Act::MakeConstructor)],
-    &[Symbol::Keep(Terminal::Node), Symbol::Token(Terminal::Dot), Symbol::Part(Part::NodeRest)],
-    &[Symbol::Keep(Terminal::Vector), Symbol::Token(Terminal::Dot), Symbol::Token(Terminal::Of), Symbol::Bound(Bound::Opens(Opened::Bracket)), Symbol::Token(Terminal::OpenBracket), Symbol::Part(Part::Type), Symbol::Bound(Bound::Closes(Opened::Bracket)), Symbol::Token(Terminal::CloseBracket), Symbol::Token(Terminal::Dot), Symbol::Token(Terminal::Create), Symbol::Bound(Bound::Opens(Opened::Bracket)), Symbol::Token(Terminal::OpenBracket), Symbol::Part(Part::Expression), Symbol::Bound(Bound::Closes(Opened::Bracket)), Symbol::Token(Terminal::CloseBracket), Symbol::Do(Act::MakeVector)],
+    &[
+        Symbol::Bound(Bound::Opens(Opened::Bracket)),
+        Symbol::Keep(Terminal::OpenParenthesis),
+        Symbol::Part(Part::Expression),
+        Symbol::Bound(Bound::Closes(Opened::Bracket)),
+        Symbol::Token(Terminal::CloseParenthesis),
+        Symbol::Do(Act::MakeParenthesised),
+    ],
+    &[
+        Symbol::Do(Act::No),
+        Symbol::Part(Part::ObjectRest),
+        Symbol::Do(Act::MakeConstructor),
+    ],
+    &[
+        Symbol::Keep(Terminal::Node),
+        Symbol::Token(Terminal::Dot),
+        Symbol::Part(Part::NodeRest),
+    ],
+    &[
+        Symbol::Keep(Terminal::Vector),
+        Symbol::Token(Terminal::Dot),
+        Symbol::Token(Terminal::Of),
+        Symbol::Bound(Bound::Opens(Opened::Bracket)),
+        Symbol::Token(Terminal::OpenBracket),
+        Symbol::Part(Part::Type),
+        Symbol::Bound(Bound::Closes(Opened::Bracket)),
+        Symbol::Token(Terminal::CloseBracket),
+        Symbol::Token(Terminal::Dot),
+        Symbol::Token(Terminal::Create),
+        Symbol::Bound(Bound::Opens(Opened::Bracket)),
+        Symbol::Token(Terminal::OpenBracket),
+        Symbol::Part(Part::Expression),
+        Symbol::Bound(Bound::Closes(Opened::Bracket)),
+        Symbol::Token(Terminal::CloseBracket),
+        Symbol::Do(Act::MakeVector),
+    ],
 ];
 
 const NODE_REST: [Alternative; 2] = [
-    &[Symbol::Token(Terminal::At), Symbol::Bound(Bound::Opens(Opened::Bracket)), Symbol::Token(Terminal::OpenBracket), Symbol::Part(Part::Expression), Symbol::Bound(Bound::Closes(Opened::Bracket)), Symbol::Token(Terminal::CloseBracket), Symbol::Do(Act::MakeNodeAt)],
-    &[Symbol::Token(Terminal::Count), Symbol::Do(Act::MakeNodeCount)],
+    &[
+        Symbol::Token(Terminal::At),
+        Symbol::Bound(Bound::Opens(Opened::Bracket)),
+        Symbol::Token(Terminal::OpenBracket),
+        Symbol::Part(Part::Expression),
+        Symbol::Bound(Bound::Closes(Opened::Bracket)),
+        Symbol::Token(Terminal::CloseBracket),
+        Symbol::Do(Act::MakeNodeAt),
+    ],
+    &[
+        Symbol::Token(Terminal::Count),
+        Symbol::Do(Act::MakeNodeCount),
+    ],
 ];
 
 /// The alternatives of a part.

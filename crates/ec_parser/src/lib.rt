@@ -22,11 +22,11 @@ pub mod terminal;
 pub mod values;
 
 use ec_ast::Program;
+use ec_lexer::token::Token;
 use first::{first, is_nullable};
 use grammar::{Bound, Part, Symbol, alternatives};
 use pile::Pile;
 use std::alloc::{AllocError, Global};
-use ec_lexer::token::Token;
 use terminal::{Terminal, terminal_of};
 use thiserror::Error;
 use values::{Values, keep, no_values, perform, take_program};
@@ -86,7 +86,9 @@ fn read(alloc: Global, tokens: &[Token]) -> Result<Program, ParseError>
         }
     }
     if !finish(alloc, &mut symbols, &mut values)? {
-        return Err(ParseError::Syntax { token: tokens.len() });
+        return Err(ParseError::Syntax {
+            token: tokens.len(),
+        });
     }
     Ok(take_program(&mut values.programs))
 }

@@ -9,12 +9,12 @@ ghost use Rattle.ec_parser.specs.Values as spec;
 use crate::grammar::Act;
 use crate::pile::Pile;
 use crate::terminal::{Terminal, number_of, text_of};
-use ec_lexer::token::Token;
 use ec_ast::{
-    Addend, Additive, Arm, Block, Body, Class, Comparison, Constant, ConstantValue, Expression, Factor, Link, Literal,
-    Member, Multiplicative, Name, Number, ObjectConstructor, Operation, Parameter, ProcessSection, Program, Signature,
-    Span, Statement, TypeName, Typeobject,
+    Addend, Additive, Arm, Block, Body, Class, Comparison, Constant, ConstantValue, Expression,
+    Factor, Link, Literal, Member, Multiplicative, Name, Number, ObjectConstructor, Operation,
+    Parameter, ProcessSection, Program, Signature, Span, Statement, TypeName, Typeobject,
 };
+use ec_lexer::token::Token;
 use sqlite_items::{Boxed, Items};
 use std::alloc::{AllocError, Global};
 
@@ -98,7 +98,12 @@ pub fn no_values(alloc: Global) -> Values
 }
 
 /// Keeps what a tree needs of a token.
-pub fn keep(alloc: Global, wanted: Terminal, token: &Token, values: &mut Values) -> Result<(), AllocError>
+pub fn keep(
+    alloc: Global,
+    wanted: Terminal,
+    token: &Token,
+    values: &mut Values,
+) -> Result<(), AllocError>
     ensures { OnOk result (values.new ≡ spec.keep wanted token.now values.old) }
 {
     match wanted {
@@ -106,7 +111,10 @@ pub fn keep(alloc: Global, wanted: Terminal, token: &Token, values: &mut Values)
             let text = text_of(alloc, token)?;
             values.names.push(Name { text, at: token.at })
         }
-        Terminal::Number => values.numbers.push(Number { value: number_of(token), at: token.at }),
+        Terminal::Number => values.numbers.push(Number {
+            value: number_of(token),
+            at: token.at,
+        }),
         Terminal::Literal => {
             let text = text_of(alloc, token)?;
             values.literals.push(Literal { text, at: token.at })
@@ -220,7 +228,11 @@ pub fn perform(alloc: Global, act: Act, values: &mut Values) -> Result<(), Alloc
     }
 }
 
-fn or_of(alloc: Global, first: Expression, more: Items<Expression>) -> Result<Expression, AllocError>
+fn or_of(
+    alloc: Global,
+    first: Expression,
+    more: Items<Expression>,
+) -> Result<Expression, AllocError>
     ensures { IfOk result (λ e. e ≡ chains.or_of first more) }
 {
     if more.is_empty() {
@@ -229,7 +241,11 @@ fn or_of(alloc: Global, first: Expression, more: Items<Expression>) -> Result<Ex
     Ok(Expression::Or(Boxed::new(alloc, first)?, more))
 }
 
-fn and_of(alloc: Global, first: Expression, more: Items<Expression>) -> Result<Expression, AllocError>
+fn and_of(
+    alloc: Global,
+    first: Expression,
+    more: Items<Expression>,
+) -> Result<Expression, AllocError>
     ensures { IfOk result (λ e. e ≡ chains.and_of first more) }
 {
     if more.is_empty() {
@@ -403,7 +419,10 @@ fn some_process(values: &mut Values) -> Result<(), AllocError>
 {
     let statements = take_statement_list(&mut values.statement_lists);
     let at = take_place(&mut values.places);
-    values.maybe_processes.push(Some(ProcessSection { block: Block { statements }, at }))
+    values.maybe_processes.push(Some(ProcessSection {
+        block: Block { statements },
+        at,
+    }))
 }
 
 fn no_process(values: &mut Values) -> Result<(), AllocError>
@@ -465,7 +484,11 @@ fn make_typeobject(values: &mut Values) -> Result<(), AllocError>
     let end_name = take_name(&mut values.names);
     let operations = take_signature_list(&mut values.signature_lists);
     let name = take_name(&mut values.names);
-    values.values.push(ConstantValue::Typeobject(Typeobject { name, operations, end_name }))
+    values.values.push(ConstantValue::Typeobject(Typeobject {
+        name,
+        operations,
+        end_name,
+    }))
 }
 
 fn push_signature(values: &mut Values) -> Result<(), AllocError>
@@ -479,7 +502,11 @@ fn push_signature(values: &mut Values) -> Result<(), AllocError>
     let parameters = take_type_list(&mut values.type_lists);
     let name = take_name(&mut values.names);
     let mut list = take_signature_list(&mut values.signature_lists);
-    list.push(Signature { name, parameters, result })?;
+    list.push(Signature {
+        name,
+        parameters,
+        result,
+    })?;
     values.signature_lists.push(list)
 }
 
@@ -559,7 +586,9 @@ fn type_vector(alloc: Global, values: &mut Values) -> Result<(), AllocError>
 {
     let x = take_type(&mut values.types);
     let at = take_place(&mut values.places);
-    values.types.push(TypeName::Vector(Boxed::new(alloc, x)?, at))
+    values
+        .types
+        .push(TypeName::Vector(Boxed::new(alloc, x)?, at))
 }
 
 fn push_parameter(values: &mut Values) -> Result<(), AllocError>
@@ -584,7 +613,11 @@ fn make_body(values: &mut Values) -> Result<(), AllocError>
     let process = take_maybe_process(&mut values.maybe_processes);
     let initially = take_maybe_block(&mut values.maybe_blocks);
     let members = take_member_list(&mut values.member_lists);
-    values.bodies.push(Body { members, initially, process })
+    values.bodies.push(Body {
+        members,
+        initially,
+        process,
+    })
 }
 
 fn make_class(values: &mut Values) -> Result<(), AllocError>
@@ -600,7 +633,13 @@ fn make_class(values: &mut Values) -> Result<(), AllocError>
     let parameters = take_parameter_list(&mut values.parameter_lists);
     let name = take_name(&mut values.names);
     let is_monitored = take_flag(&mut values.flags);
-    values.classes.push(Class { is_monitored, name, parameters, body, end_name })
+    values.classes.push(Class {
+        is_monitored,
+        name,
+        parameters,
+        body,
+        end_name,
+    })
 }
 
 fn make_object(values: &mut Values) -> Result<(), AllocError>
@@ -614,7 +653,12 @@ fn make_object(values: &mut Values) -> Result<(), AllocError>
     let body = take_body(&mut values.bodies);
     let name = take_name(&mut values.names);
     let is_monitored = take_flag(&mut values.flags);
-    values.objects.push(ObjectConstructor { is_monitored, name, body, end_name })
+    values.objects.push(ObjectConstructor {
+        is_monitored,
+        name,
+        body,
+        end_name,
+    })
 }
 
 fn make_constructor(alloc: Global, values: &mut Values) -> Result<(), AllocError>
@@ -622,7 +666,9 @@ fn make_constructor(alloc: Global, values: &mut Values) -> Result<(), AllocError
     ensures { OnOk result (values.new ≡ spec.make_constructor values.old) }
 {
     let x = take_object(&mut values.objects);
-    values.expressions.push(Expression::Constructor(Boxed::new(alloc, x)?))
+    values
+        .expressions
+        .push(Expression::Constructor(Boxed::new(alloc, x)?))
 }
 
 fn push_member(values: &mut Values) -> Result<(), AllocError>
@@ -689,7 +735,14 @@ fn make_operation(values: &mut Values) -> Result<(), AllocError>
     let parameters = take_parameter_list(&mut values.parameter_lists);
     let name = take_name(&mut values.names);
     let is_exported = take_flag(&mut values.flags);
-    values.members.push(Member::Operation(Operation { is_exported, name, parameters, result, block: Block { statements }, end_name }))
+    values.members.push(Member::Operation(Operation {
+        is_exported,
+        name,
+        parameters,
+        result,
+        block: Block { statements },
+        end_name,
+    }))
 }
 
 fn push_statement(values: &mut Values) -> Result<(), AllocError>
@@ -712,7 +765,9 @@ fn local_variable(values: &mut Values) -> Result<(), AllocError>
     let value = take_maybe_expression(&mut values.maybe_expressions);
     let of = take_type(&mut values.types);
     let name = take_name(&mut values.names);
-    values.statements.push(Statement::LocalVariable(name, of, value))
+    values
+        .statements
+        .push(Statement::LocalVariable(name, of, value))
 }
 
 fn local_constant(values: &mut Values) -> Result<(), AllocError>
@@ -724,7 +779,9 @@ fn local_constant(values: &mut Values) -> Result<(), AllocError>
     let value = take_expression(&mut values.expressions);
     let of = take_maybe_type(&mut values.maybe_types);
     let name = take_name(&mut values.names);
-    values.statements.push(Statement::LocalConstant(name, of, value))
+    values
+        .statements
+        .push(Statement::LocalConstant(name, of, value))
 }
 
 fn make_variable(values: &mut Values) -> Result<(), AllocError>
@@ -754,7 +811,10 @@ fn push_arm(values: &mut Values) -> Result<(), AllocError>
     let statements = take_statement_list(&mut values.statement_lists);
     let condition = take_expression(&mut values.expressions);
     let mut list = take_arm_list(&mut values.arm_lists);
-    list.push(Arm { condition, block: Block { statements } })?;
+    list.push(Arm {
+        condition,
+        block: Block { statements },
+    })?;
     values.arm_lists.push(list)
 }
 
@@ -777,7 +837,9 @@ fn make_loop(values: &mut Values) -> Result<(), AllocError>
 {
     let statements = take_statement_list(&mut values.statement_lists);
     let at = take_place(&mut values.places);
-    values.statements.push(Statement::Loop(Block { statements }, at))
+    values
+        .statements
+        .push(Statement::Loop(Block { statements }, at))
 }
 
 fn make_exit(values: &mut Values) -> Result<(), AllocError>
@@ -951,7 +1013,11 @@ fn push_addend(values: &mut Values) -> Result<(), AllocError>
     let operator = take_additive(&mut values.additives);
     let at = take_place(&mut values.places);
     let mut list = take_addend_list(&mut values.addend_lists);
-    list.push(Addend { operator, at, value })?;
+    list.push(Addend {
+        operator,
+        at,
+        value,
+    })?;
     values.addend_lists.push(list)
 }
 
@@ -966,7 +1032,11 @@ fn push_factor(values: &mut Values) -> Result<(), AllocError>
     let operator = take_multiplicative(&mut values.multiplicatives);
     let at = take_place(&mut values.places);
     let mut list = take_factor_list(&mut values.factor_lists);
-    list.push(Factor { operator, at, value })?;
+    list.push(Factor {
+        operator,
+        at,
+        value,
+    })?;
     values.factor_lists.push(list)
 }
 
@@ -1027,7 +1097,9 @@ fn make_not(alloc: Global, values: &mut Values) -> Result<(), AllocError>
 {
     let x = take_expression(&mut values.expressions);
     let at = take_place(&mut values.places);
-    values.expressions.push(Expression::Not(Boxed::new(alloc, x)?, at))
+    values
+        .expressions
+        .push(Expression::Not(Boxed::new(alloc, x)?, at))
 }
 
 fn make_compare(alloc: Global, values: &mut Values) -> Result<(), AllocError>
@@ -1041,7 +1113,12 @@ fn make_compare(alloc: Global, values: &mut Values) -> Result<(), AllocError>
     let operator = take_comparison(&mut values.comparisons);
     let at = take_place(&mut values.places);
     let left = take_expression(&mut values.expressions);
-    values.expressions.push(Expression::Compare(Boxed::new(alloc, left)?, operator, at, Boxed::new(alloc, right)?))
+    values.expressions.push(Expression::Compare(
+        Boxed::new(alloc, left)?,
+        operator,
+        at,
+        Boxed::new(alloc, right)?,
+    ))
 }
 
 fn make_negative(alloc: Global, values: &mut Values) -> Result<(), AllocError>
@@ -1051,7 +1128,9 @@ fn make_negative(alloc: Global, values: &mut Values) -> Result<(), AllocError>
 {
     let x = take_expression(&mut values.expressions);
     let at = take_place(&mut values.places);
-    values.expressions.push(Expression::Negative(Boxed::new(alloc, x)?, at))
+    values
+        .expressions
+        .push(Expression::Negative(Boxed::new(alloc, x)?, at))
 }
 
 fn make_view(alloc: Global, values: &mut Values) -> Result<(), AllocError>
@@ -1063,7 +1142,9 @@ fn make_view(alloc: Global, values: &mut Values) -> Result<(), AllocError>
     let of = take_type(&mut values.types);
     let x = take_expression(&mut values.expressions);
     let at = take_place(&mut values.places);
-    values.expressions.push(Expression::View(Boxed::new(alloc, x)?, of, at))
+    values
+        .expressions
+        .push(Expression::View(Boxed::new(alloc, x)?, of, at))
 }
 
 fn make_is_fixed(alloc: Global, values: &mut Values) -> Result<(), AllocError>
@@ -1073,7 +1154,9 @@ fn make_is_fixed(alloc: Global, values: &mut Values) -> Result<(), AllocError>
 {
     let x = take_expression(&mut values.expressions);
     let at = take_place(&mut values.places);
-    values.expressions.push(Expression::IsFixed(Boxed::new(alloc, x)?, at))
+    values
+        .expressions
+        .push(Expression::IsFixed(Boxed::new(alloc, x)?, at))
 }
 
 fn make_number(values: &mut Values) -> Result<(), AllocError>
@@ -1131,7 +1214,9 @@ fn make_parenthesised(alloc: Global, values: &mut Values) -> Result<(), AllocErr
 {
     let x = take_expression(&mut values.expressions);
     let at = take_place(&mut values.places);
-    values.expressions.push(Expression::Parenthesised(Boxed::new(alloc, x)?, at))
+    values
+        .expressions
+        .push(Expression::Parenthesised(Boxed::new(alloc, x)?, at))
 }
 
 fn make_vector(alloc: Global, values: &mut Values) -> Result<(), AllocError>
@@ -1143,7 +1228,9 @@ fn make_vector(alloc: Global, values: &mut Values) -> Result<(), AllocError>
     let x = take_expression(&mut values.expressions);
     let of = take_type(&mut values.types);
     let at = take_place(&mut values.places);
-    values.expressions.push(Expression::NewVector(of, Boxed::new(alloc, x)?, at))
+    values
+        .expressions
+        .push(Expression::NewVector(of, Boxed::new(alloc, x)?, at))
 }
 
 fn make_node_at(alloc: Global, values: &mut Values) -> Result<(), AllocError>
@@ -1153,7 +1240,9 @@ fn make_node_at(alloc: Global, values: &mut Values) -> Result<(), AllocError>
 {
     let x = take_expression(&mut values.expressions);
     let at = take_place(&mut values.places);
-    values.expressions.push(Expression::NodeAt(Boxed::new(alloc, x)?, at))
+    values
+        .expressions
+        .push(Expression::NodeAt(Boxed::new(alloc, x)?, at))
 }
 
 fn make_node_count(values: &mut Values) -> Result<(), AllocError>

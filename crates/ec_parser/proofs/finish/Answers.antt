@@ -1,4 +1,4 @@
-use Rattle.ec_parser.proofs.Theory.{ends_here, wants_token, wants_keep, stuck_here}
+use Rattle.ec_parser.proofs.Theory.{ends_here}
 use Rattle.ec_parser.proofs.finish.Goals as goal
 
 pub returns-in-End : goal.returns-in-End

@@ -1,6 +1,4 @@
-use Rattle.ec_parser.proofs.Answered.{cause_of, found_tree, read_tree}
-use Rattle.ec_parser.proofs.Nested.{nestings_are}
-use Rattle.std.proofs.Common.{rules, sym, ◌∙◌}
+use Rattle.std.proofs.Common.{sym, ◌∙◌}
 use Rattle.ec_parser.proofs.Sets.{same_kinds}
 use Rattle.ec_parser.proofs.same.Goals as goal
 

@@ -1,4 +1,3 @@
-use Rattle.std.proofs.Common.{sym, ◌∙◌, ap, ◌++◌, arith}
 use Rattle.ec_parser.proofs.Theory.{after_part, after_bound, after_act, after_stuck, lighter, acts_find}
 use Rattle.ec_parser.proofs.settle.Goals as goal
 

@@ -1,4 +1,3 @@
-use Rattle.std.proofs.Common.{ℕ}
 use Rattle.ec_parser.specs.Follow.{Follows, Same, weight_of}
 use Rattle.ec_parser.specs.Fits.{Fits}
 use Rattle.ec_parser.proofs.settle.Given as goal
