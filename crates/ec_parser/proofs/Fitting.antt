@@ -3,14 +3,14 @@ use Rattle.std.proofs.Common.{◌≡◌, ℕ, zero, suc, ◌+◌, Bool, true, fa
 use Rattle.std.specs.Prelude.{option_and_then}
 use Rattle.ec_parser.specs.declared.terminal.Terminal.{Terminal}
 use Rattle.ec_parser.specs.declared.terminal.Terminal.TheVariants as terminal
-use Rattle.ec_parser.specs.declared.terminal.Token.{Token as Word}
+use Rattle.ec_lexer.specs.declared.token.Token.{Token as Word}
 use Rattle.ec_parser.specs.declared.grammar.Act.{Act}
 use Rattle.ec_parser.specs.declared.grammar.Act.TheVariants as act'
-use Rattle.ec_parser.specs.declared.grammar.Opened.{Opened}
+use Rattle.ec_parser.specs.declared.grammar.Bound.{Bound as Bound_of}
 use Rattle.ec_parser.specs.declared.grammar.Part.{Part as Part_of}
 use Rattle.ec_parser.specs.declared.grammar.Part.TheVariants as part
 use Rattle.ec_parser.specs.declared.grammar.Symbol.{Symbol}
-use Rattle.ec_parser.specs.declared.grammar.Symbol.TheVariants.{Token, Keep, Part, Close, Do}
+use Rattle.ec_parser.specs.declared.grammar.Symbol.TheVariants.{Token, Keep, Part, Bound, Do}
 use Rattle.ec_parser.specs.declared.values.Values.{Values}
 use Rattle.ec_parser.specs.Rules.{rules}
 use Rattle.ec_parser.specs.Reads.{IsRule, first as here, later}
@@ -115,7 +115,7 @@ framed : (xs s : List Symbol) (ks more out : List Stack) → run xs ks ≡ Some 
 framed [] s ks more out e = let f : ks ≡ out = cc in ap (λ x. run s (x ++ more)) f
 framed (Token k ∷ xs) s ks more out e = framed xs s ks more out e
 framed (Keep k ∷ xs) s ks more out e = framed xs s (kept_as k ∷ ks) more out e
-framed (Close o ∷ xs) s ks more out e = framed xs s ks more out e
+framed (Bound o ∷ xs) s ks more out e = framed xs s ks more out e
 framed (Part p ∷ xs) s ks more out e = go (below (part_takes p) ks) refl e (λ left f. framed xs s (part_gives p ++ left) more out f)
   where
     go : (o : Option (List Stack)) → below (part_takes p) ks ≡ o → option_and_then (λ left. run xs (part_gives p ++ left)) o ≡ Some out →
@@ -144,8 +144,8 @@ fits_part p r s vs m h = (h.0, h.1, expands p r s h.0 (a_program ∷ []) m h.2)
 pub fits_token : (k : Terminal) (s : List Symbol) (vs : Values) → Fits (Token k ∷ s) vs → Fits s vs
 fits_token k s vs h = (h.0, h.1, h.2)
 
-pub fits_close : (o : Opened) (s : List Symbol) (vs : Values) → Fits (Close o ∷ s) vs → Fits s vs
-fits_close o s vs h = (h.0, h.1, h.2)
+pub fits_bound : (o : Bound_of) (s : List Symbol) (vs : Values) → Fits (Bound o ∷ s) vs → Fits s vs
+fits_bound o s vs h = (h.0, h.1, h.2)
 
 pub fits_keep : (k : Terminal) (t : Word) (s : List Symbol) (vs : Values) → Fits (Keep k ∷ s) vs → Fits s (keep k t vs)
 fits_keep k t s vs h = (kept_as k ∷ h.0, (kept_top k t vs, subst (λ x. Holds h.0 x) (sym (kept_below k t vs)) h.1), h.2)

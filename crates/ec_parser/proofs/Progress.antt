@@ -1,7 +1,7 @@
 -- What a loop over the tokens keeps, and what it says where it stops.
 use Rattle.std.proofs.Common.{◌≡◌, ℕ, suc, ◌+◌, ◌<◌, ◌≤◌, Bool, true, false, List, [], ◌∷◌, ◌++◌, length, take, drop, refl, sym, ◌∙◌, ap, subst, arith, rules, append_assoc, append-nil, length-append, take-append-drop}
 use Rattle.ec_parser.specs.declared.grammar.Part.TheVariants as part
-use Rattle.ec_parser.specs.declared.terminal.Token.{Token as Word}
+use Rattle.ec_lexer.specs.declared.token.Token.{Token as Word}
 use Rattle.ec_parser.specs.declared.values.Values.{Values}
 use Rattle.ec_parser.specs.declared.grammar.Symbol.{Symbol}
 use Rattle.ec_parser.specs.declared.grammar.Symbol.TheVariants.{Part}
@@ -9,7 +9,8 @@ use Rattle.ec_parser.specs.Reads.{open_in, Reads}
 use Rattle.ec_parser.specs.Values.{no_values}
 use Rattle.ec_parser.specs.Fits.{Fits}
 use Rattle.ec_parser.specs.Follow.{Follows, Goes, Refuses, EndsWith, EndsNowhere}
-use Rattle.ec_parser.specs.Program.{IsProgram, IsShallow, Begins, BeginsNone, IsSyntax, IsDeep}
+use Rattle.ec_parser.specs.Prefixes.{IsProgram, Begins, BeginsNone, IsSyntax, IsDeep}
+use Rattle.ec_parser.specs.Program.{AreShallow}
 use Rattle.ec_parser.proofs.Theory.{reaches}
 use Rattle.ec_parser.proofs.Fitting.{fits_start}
 
@@ -18,7 +19,7 @@ pub record Reached (ts : List Word) (s : List Symbol) (vs : Values) : Type 0 whe
   pub fits : Fits s vs
   pub nestings : List ℕ
   pub long : length nestings ≡ length ts
-  pub shallow : IsShallow nestings
+  pub shallow : AreShallow nestings
   pub forth : (us : List Word) (ms : List ℕ) (ws : Values) → IsProgram (ts ++ us) ms ws → (rest : List ℕ) × (ms ≡ nestings ++ rest) × Reads s vs us rest ws
   pub back : (us : List Word) (rest : List ℕ) (ws : Values) → Reads s vs us rest ws → IsProgram (ts ++ us) (nestings ++ rest) ws
 
@@ -33,17 +34,17 @@ start = record {
   back = λ us rest ws d. d;
 }
 
-shallow-append : (ns : List ℕ) (n : ℕ) → IsShallow ns → n ≤ 64 → IsShallow (ns ++ n ∷ [])
+shallow-append : (ns : List ℕ) (n : ℕ) → AreShallow ns → n ≤ 64 → AreShallow (ns ++ n ∷ [])
 shallow-append [] n s h = (h, tt)
 shallow-append (x ∷ ns) n s h = (s.0, shallow-append ns n s.1 h)
 
-not_shallow : (ns : List ℕ) (n : ℕ) (ms : List ℕ) → 64 < n → IsShallow (ns ++ n ∷ ms) → ⊥
+not_shallow : (ns : List ℕ) (n : ℕ) (ms : List ℕ) → 64 < n → AreShallow (ns ++ n ∷ ms) → ⊥
 not_shallow [] n ms h s = absurd (omega (arith, h, s.0))
 not_shallow (x ∷ ns) n ms h s = not_shallow ns n ms h s.1
 
 module _ (ts : List Word) (s : List Symbol) (vs : Values) (r : Reached ts s vs) where
   pub begun : Begins ts
-  begun = let e = reaches s vs in record {
+  begun = let e = reaches s r.follows vs in record {
     more = e.0;
     nestings = r.nestings;
     others = e.1;
@@ -99,12 +100,12 @@ module _ (tokens : List Word) (i : ℕ) (s : List Symbol) (vs : Values) (r : Rea
       reached_more h = rw more (goes_on (take i tokens) s vs r t s' vs' g h)
 
       module _ (n : ℕ) (is : n ≡ open_in s') (deep : 64 < n) where
-        pub not_deep : (ns : List ℕ) (ws : Values) → IsProgram tokens ns ws → IsShallow ns → ⊥
+        pub not_deep : (ns : List ℕ) (ws : Values) → IsProgram tokens ns ws → AreShallow ns → ⊥
         not_deep ns ws d h =
             let e : take (i + 1) tokens ++ drop (i + 1) tokens ≡ tokens = take-append-drop (i + 1) tokens in
             let d' : IsProgram ((take i tokens ++ t ∷ []) ++ drop (i + 1) tokens) ns ws = subst (λ us. IsProgram us ns ws) (sym e ∙ ap (λ x. x ++ drop (i + 1) tokens) more) d in
             let f = forth_more (take i tokens) s vs r t s' vs' g (drop (i + 1) tokens) ns ws d' in
-            not_shallow r.nestings (open_in s') f.0 (omega arith) (subst IsShallow (f.1 ∙ append_assoc r.nestings (open_in s' ∷ []) f.0) h)
+            not_shallow r.nestings (open_in s') f.0 (omega arith) (subst AreShallow (f.1 ∙ append_assoc r.nestings (open_in s' ∷ []) f.0) h)
 
         pub deep_at : length (take i tokens) ≡ i → IsDeep tokens i
         deep_at l = let e = reaches s' vs' in record {
@@ -133,7 +134,7 @@ module _ (tokens : List Word) (s : List Symbol) (vs : Values) (r : Reached token
   }
 
 module _ (tokens : List Word) (s : List Symbol) (vs ws : Values) (r : Reached tokens s vs) (e : EndsWith s vs ws) where
-  pub whole_found : (ns : List ℕ) × IsProgram tokens ns ws × IsShallow ns
+  pub whole_found : (ns : List ℕ) × IsProgram tokens ns ws × AreShallow ns
   whole_found = (r.nestings, subst (λ us. IsProgram us r.nestings ws) (append-nil tokens) (subst (λ ns. IsProgram (tokens ++ []) ns ws) (append-nil r.nestings) (r.back [] [] ws e.made)), r.shallow)
 
   pub whole_only : (ns : List ℕ) (other : Values) → IsProgram tokens ns other → ws ≡ other

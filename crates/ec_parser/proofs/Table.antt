@@ -4,7 +4,8 @@ use Rattle.ec_parser.specs.declared.terminal.Terminal.{Terminal}
 use Rattle.ec_parser.specs.declared.grammar.Part.{Part as Part_of}
 use Rattle.ec_parser.specs.declared.grammar.Part.TheVariants as part
 use Rattle.ec_parser.specs.declared.grammar.Symbol.{Symbol}
-use Rattle.ec_parser.specs.declared.grammar.Symbol.TheVariants.{Token, Keep, Part, Close, Do}
+use Rattle.ec_parser.specs.declared.grammar.Symbol.TheVariants.{Token, Keep, Part, Bound, Do}
+use Rattle.ec_parser.specs.Terminals.{is_of_token}
 use Rattle.ec_parser.specs.Rules.{rules}
 use Rattle.ec_parser.specs.Choose.{has_kind, suits}
 use Rattle.ec_parser.specs.Sizes.{first, nullable, follow, weight}
@@ -20,7 +21,7 @@ all_nullable [] = true
 all_nullable (Token k ∷ s) = false
 all_nullable (Keep k ∷ s) = false
 all_nullable (Part p ∷ s) = nullable p && all_nullable s
-all_nullable (Close o ∷ s) = all_nullable s
+all_nullable (Bound o ∷ s) = all_nullable s
 all_nullable (Do a ∷ s) = all_nullable s
 
 abbrev pub is_subset : List Terminal → List Terminal → Bool
@@ -37,22 +38,22 @@ abbrev pub chosen_at : List (List Symbol) → ℕ → List Terminal → Bool
 chosen_at rs n [] = true
 chosen_at rs n (k ∷ ks) = eqb (position rs k) n && chosen_at rs n ks
 
--- the parts in a rule of p are followed by what may follow them
+-- a token can be of each kind in a rule of p, and its parts are followed by what may follow them
 abbrev pub follows_in : List Symbol → Part_of → Bool
 follows_in [] p = true
-follows_in (Token k ∷ s) p = follows_in s p
-follows_in (Keep k ∷ s) p = follows_in s p
+follows_in (Token k ∷ s) p = is_of_token k && follows_in s p
+follows_in (Keep k ∷ s) p = is_of_token k && follows_in s p
 follows_in (Part q ∷ s) p = is_subset (starts_with s []) (follow q) && implies (all_nullable s) (is_subset (follow p) (follow q)) && follows_in s p
-follows_in (Close o ∷ s) p = follows_in s p
+follows_in (Bound o ∷ s) p = follows_in s p
 follows_in (Do a ∷ s) p = follows_in s p
 
 -- the parts in a list of symbols end in fewer steps than n
 abbrev pub ends_below : ℕ → List Symbol → Bool
 ends_below n [] = true
-ends_below n (Token k ∷ s) = ends_below n s
-ends_below n (Keep k ∷ s) = ends_below n s
+ends_below n (Token k ∷ s) = is_of_token k && ends_below n s
+ends_below n (Keep k ∷ s) = is_of_token k && ends_below n s
 ends_below n (Part q ∷ s) = nat_lt (rank q) n && ends_below n s
-ends_below n (Close o ∷ s) = ends_below n s
+ends_below n (Bound o ∷ s) = ends_below n s
 ends_below n (Do a ∷ s) = ends_below n s
 
 abbrev pub lookahead : Part_of → List Symbol → List Terminal

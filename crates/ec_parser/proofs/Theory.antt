@@ -5,11 +5,12 @@ use Rattle.ec_parser.specs.declared.terminal.Terminal.{Terminal}
 use Rattle.ec_parser.specs.declared.terminal.Terminal.TheVariants as kind
 use Rattle.ec_parser.specs.declared.grammar.Part.{Part as Part_of}
 use Rattle.ec_parser.specs.declared.grammar.Act.{Act}
-use Rattle.ec_parser.specs.declared.grammar.Opened.{Opened}
-use Rattle.ec_parser.specs.declared.terminal.Token.{Token as Word}
+use Rattle.ec_parser.specs.declared.grammar.Bound.{Bound as Bound_of}
+use Rattle.ec_parser.specs.Terminals.{terminal_of, is_of_token}
+use Rattle.ec_lexer.specs.declared.token.Token.{Token as Word}
 use Rattle.ec_parser.specs.declared.values.Values.{Values}
 use Rattle.ec_parser.specs.declared.grammar.Symbol.{Symbol}
-use Rattle.ec_parser.specs.declared.grammar.Symbol.TheVariants.{Token, Keep, Part, Close, Do}
+use Rattle.ec_parser.specs.declared.grammar.Symbol.TheVariants.{Token, Keep, Part, Bound, Do}
 use Rattle.ec_parser.specs.Values.{act, keep as kept}
 use Rattle.ec_parser.specs.contracts.grammar.Part.{the_type as part_type}
 use borrow.Author.Tests.{ltb-true}
@@ -17,13 +18,14 @@ use Rattle.ec_parser.specs.Rules.{rules as rules_of}
 use Rattle.ec_parser.specs.Choose.{has_kind, same_kind, suits, choose_from, choose}
 use Rattle.ec_parser.specs.Sizes.{first, nullable, follow, weight}
 use Rattle.ec_parser.proofs.Shortest.{rank}
-use Rattle.ec_parser.specs.Reads.{IsRule, open_in, Reads, finished, token, keep, part, close, made}
+use Rattle.ec_parser.specs.Reads.{IsRule, open_in, Reads, finished, token, keep, part, bound, made}
 use Rattle.ec_parser.specs.declared.Next.{Next}
 use Rattle.ec_parser.specs.declared.Next.TheVariants as next
 use Rattle.ec_parser.specs.Follow.{starts_with, starts_of, weight_of, head, Follows, Same, ReadsNone, with_next, Settles, Goes, Refuses, EndsWith, EndsNowhere}
 use Rattle.ec_parser.proofs.Table.{all_nullable, is_subset, follows_in, ends_below, lookahead, implies}
 use Rattle.ec_parser.specs.Fits.{Fits, Finds}
-use Rattle.ec_parser.proofs.Fitting.{fits_part, fits_token, fits_close, fits_keep, fits_act, finds_act}
+use Rattle.ec_parser.proofs.Tokens.{some_token, some_is}
+use Rattle.ec_parser.proofs.Fitting.{fits_part, fits_token, fits_bound, fits_keep, fits_act, finds_act}
 use Rattle.ec_parser.proofs.Good.{IsGood, good_rule, choose-of, ends_soon}
 use Rattle.ec_parser.proofs.Sets.{or_cases, and_left, and_right, or_left, or_right, same_kinds, has-append, has-append_left, has-append_right, subset}
 
@@ -35,7 +37,7 @@ starts_with-append [] s b = refl
 starts_with-append (Token k ∷ xs) s b = refl
 starts_with-append (Keep k ∷ xs) s b = refl
 starts_with-append (Part p ∷ xs) s b = rw (starts_with-append xs s b) refl
-starts_with-append (Close o ∷ xs) s b = starts_with-append xs s b
+starts_with-append (Bound o ∷ xs) s b = starts_with-append xs s b
 starts_with-append (Do a ∷ xs) s b = starts_with-append xs s b
 
 -- a kind that a list begins with comes from the list, or from behind it where the list may be empty
@@ -53,7 +55,7 @@ split_start k (Part p ∷ xs) b h = elim (has-append k (first p) (cond (nullable
         (Has k (first p ++ cond (nullable p) (starts_with xs []) [])) ⊎ (((n && all_nullable xs) ≡ true) × Has k b)
     go true h f g = elim (f h) [ inl e ↦ inl (g e) | inr e ↦ inr e ]
     go false h f g = absurd (let e : false ≡ true = h in cc)
-split_start k (Close o ∷ xs) b h = split_start k xs b h
+split_start k (Bound o ∷ xs) b h = split_start k xs b h
 split_start k (Do a ∷ xs) b h = split_start k xs b h
 
 implied : (a b : Bool) → implies a b ≡ true → a ≡ true → b ≡ true
@@ -73,18 +75,18 @@ part_begins p s k q e h = elim (split_start k q (starts_of s) h) [
 -- what a list of symbols reads begins with a kind that the list may begin with
 pub begins : {s : List Symbol} {vs ws : Values} {ts : List Word} {ns : List ℕ} → Reads s vs ts ns ws → Has (head ts) (starts_of s)
 begins finished = refl
-begins (token {k = k} {t = t} e r) = or_left (same_kind t.terminal k) false (rw e (same_refl k))
-begins (keep {k = k} {t = t} e r) = or_left (same_kind t.terminal k) false (rw e (same_refl k))
+begins (token {k = k} {t = t} e r) = or_left (same_kind (terminal_of t) k) false (rw e (same_refl k))
+begins (keep {k = k} {t = t} e r) = or_left (same_kind (terminal_of t) k) false (rw e (same_refl k))
 begins (part {p = p} {s = s} {ts = ts} q e r) = part_begins p s (head ts) q e (rw (starts_with-append q s (kind.EndOfText ∷ [])) at (begins r))
-begins (close r) = begins r
+begins (bound r) = begins r
 begins (made r) = begins r
 
 of_part : {p : Part_of} {s : List Symbol} {vs ws : Values} {ts : List Word} {ns : List ℕ} → Reads (Part p ∷ s) vs ts ns ws →
     (r : List Symbol) × IsRule r (rules_of p) × Reads (r ++ s) vs ts ns ws
 of_part (part r e d) = (r, e, d)
 
-of_close : {o : Opened} {s : List Symbol} {vs ws : Values} {ts : List Word} {ns : List ℕ} → Reads (Close o ∷ s) vs ts ns ws → Reads s vs ts ns ws
-of_close (close d) = d
+of_bound : {o : Bound_of} {s : List Symbol} {vs ws : Values} {ts : List Word} {ns : List ℕ} → Reads (Bound o ∷ s) vs ts ns ws → Reads s vs ts ns ws
+of_bound (bound d) = d
 
 of_act : {a : Act} {s : List Symbol} {vs ws : Values} {ts : List Word} {ns : List ℕ} → Reads (Do a ∷ s) vs ts ns ws → Reads s (act a vs) ts ns ws
 of_act (made d) = d
@@ -93,11 +95,11 @@ pub of_nothing : {vs ws : Values} {ts : List Word} {ns : List ℕ} → Reads [] 
 of_nothing finished = (refl, refl, refl)
 
 pub of_token : {k : Terminal} {s : List Symbol} {vs ws : Values} {t : Word} {ts : List Word} {ns : List ℕ} → Reads (Token k ∷ s) vs (t ∷ ts) ns ws →
-    (t.terminal ≡ k) × (ms : List ℕ) × (ns ≡ open_in s ∷ ms) × Reads s vs ts ms ws
+    ((terminal_of t) ≡ k) × (ms : List ℕ) × (ns ≡ open_in s ∷ ms) × Reads s vs ts ms ws
 of_token (token e d) = (e, _, refl, d)
 
 pub of_keep : {k : Terminal} {s : List Symbol} {vs ws : Values} {t : Word} {ts : List Word} {ns : List ℕ} → Reads (Keep k ∷ s) vs (t ∷ ts) ns ws →
-    (t.terminal ≡ k) × (ms : List ℕ) × (ns ≡ open_in s ∷ ms) × Reads s (kept k t vs) ts ms ws
+    ((terminal_of t) ≡ k) × (ms : List ℕ) × (ns ≡ open_in s ∷ ms) × Reads s (kept k t vs) ts ms ws
 of_keep (keep e d) = (e, _, refl, d)
 
 -- the rule by which a part reads what it reads is the one that is chosen
@@ -133,8 +135,8 @@ stuck p s vs k c f ts ns ws h d =
     let same : choose p k ≡ Some i.0 = chosen p s k i.0 f i.1 (rw h at (begins i.2)) in
     cc
 
-pub skip_close : (o : Opened) (s : List Symbol) (vs : Values) (k : Terminal) → Same k (Close o ∷ s) vs s vs
-skip_close o s vs k = record { forth = λ ts ns ws h d. of_close d; back = λ ts ns ws h d. close d }
+pub skip_bound : (o : Bound_of) (s : List Symbol) (vs : Values) (k : Terminal) → Same k (Bound o ∷ s) vs s vs
+skip_bound o s vs k = record { forth = λ ts ns ws h d. of_bound d; back = λ ts ns ws h d. bound d }
 
 pub skip_act : (a : Act) (s : List Symbol) (vs : Values) (k : Terminal) → Same k (Do a ∷ s) vs s (act a vs)
 skip_act a s vs k = record { forth = λ ts ns ws h d. of_act d; back = λ ts ns ws h d. made d }
@@ -156,9 +158,9 @@ none_before a n ts ns ws h d = n ts ns ws h (a.forth ts ns ws h d)
 follows_list : (xs : List Symbol) (p : Part_of) (s : List Symbol) → follows_in xs p ≡ true →
     ((k : Terminal) → Has k (starts_of s) → Has k (follow p)) → Follows s → Follows (xs ++ s)
 follows_list [] p s e b f = f
-follows_list (Token k ∷ xs) p s e b f = follows_list xs p s e b f
-follows_list (Keep k ∷ xs) p s e b f = follows_list xs p s e b f
-follows_list (Close o ∷ xs) p s e b f = follows_list xs p s e b f
+follows_list (Token k ∷ xs) p s e b f = (and_left (is_of_token k) (follows_in xs p) e, follows_list xs p s (and_right (is_of_token k) (follows_in xs p) e) b f)
+follows_list (Keep k ∷ xs) p s e b f = (and_left (is_of_token k) (follows_in xs p) e, follows_list xs p s (and_right (is_of_token k) (follows_in xs p) e) b f)
+follows_list (Bound o ∷ xs) p s e b f = follows_list xs p s e b f
 follows_list (Do a ∷ xs) p s e b f = follows_list xs p s e b f
 follows_list (Part q ∷ xs) p s e b f = (behind, follows_list xs p s (and_right _ (follows_in xs p) e) b f)
   where
@@ -186,7 +188,7 @@ weight_of-append (Part p ∷ xs) s = go (nullable p) (weight_of-append xs s)
         cond n (weight p + weight_of (xs ++ s)) (weight p) ≡ cond n (weight p + weight_of xs) (weight p) + cond (n && all_nullable xs) (weight_of s) 0
     go true e = omega (arith, e)
     go false e = omega arith
-weight_of-append (Close o ∷ xs) s = omega (arith, weight_of-append xs s)
+weight_of-append (Bound o ∷ xs) s = omega (arith, weight_of-append xs s)
 weight_of-append (Do a ∷ xs) s = omega (arith, weight_of-append xs s)
 
 pub lighter_rule : (p : Part_of) (s r : List Symbol) → IsRule r (rules_of p) → weight_of (r ++ s) < weight_of (Part p ∷ s)
@@ -216,11 +218,11 @@ module _ (kind : Terminal) (s₀ : List Symbol) (v₀ : Values) (old : List Symb
       let one : Same kind old v (Part p ∷ s) v = rw e (same_again (Part p ∷ s) v kind) in
       rw n (follows_expand p s kind r c f, fits_part p r s v (choose-of p kind r c) (subst (λ x. Fits x v) e kept_so_far.1), then kept_so_far.2 (then one (expand p s v kind r c f)))
 
-  pub after_close : (o : Opened) (s : List Symbol) → old ≡ Close o ∷ s → Keeps kind s₀ v₀ s v
-  after_close o s e =
-      let f : Follows (Close o ∷ s) = subst Follows e kept_so_far.0 in
-      let one : Same kind old v (Close o ∷ s) v = rw e (same_again (Close o ∷ s) v kind) in
-      (f, fits_close o s v (subst (λ x. Fits x v) e kept_so_far.1), then kept_so_far.2 (then one (skip_close o s v kind)))
+  pub after_bound : (o : Bound_of) (s : List Symbol) → old ≡ Bound o ∷ s → Keeps kind s₀ v₀ s v
+  after_bound o s e =
+      let f : Follows (Bound o ∷ s) = subst Follows e kept_so_far.0 in
+      let one : Same kind old v (Bound o ∷ s) v = rw e (same_again (Bound o ∷ s) v kind) in
+      (f, fits_bound o s v (subst (λ x. Fits x v) e kept_so_far.1), then kept_so_far.2 (then one (skip_bound o s v kind)))
 
   pub acts_find : (a : Act) (s : List Symbol) → old ≡ Do a ∷ s → Finds a v
   acts_find a s e = finds_act a s v (subst (λ x. Fits x v) e kept_so_far.1)
@@ -239,8 +241,8 @@ module _ (kind : Terminal) (s₀ : List Symbol) (v₀ : Values) (old : List Symb
 
 -- ---- a token, and the end
 
-pub takes_token : (t : Word) (k : Terminal) (s₀ : List Symbol) (v₀ : Values) (s : List Symbol) (v : Values) → t.terminal ≡ k →
-    Same t.terminal s₀ v₀ (Token k ∷ s) v × Follows s × Fits (Token k ∷ s) v → Goes t s₀ v₀ s v
+pub takes_token : (t : Word) (k : Terminal) (s₀ : List Symbol) (v₀ : Values) (s : List Symbol) (v : Values) → (terminal_of t) ≡ k →
+    Same (terminal_of t) s₀ v₀ (Token k ∷ s) v × Follows s × Fits (Token k ∷ s) v → Goes t s₀ v₀ s v
 takes_token t k s₀ v₀ s v e h = record {
   follows = h.1;
   fits = fits_token k s v h.2;
@@ -248,8 +250,8 @@ takes_token t k s₀ v₀ s v e h = record {
   back = λ ts ns ws d. h.0.back (t ∷ ts) (open_in s ∷ ns) ws refl (token e d);
 }
 
-pub takes_keep : (t : Word) (k : Terminal) (s₀ : List Symbol) (v₀ : Values) (s : List Symbol) (v : Values) → t.terminal ≡ k →
-    Same t.terminal s₀ v₀ (Keep k ∷ s) v × Follows s × Fits (Keep k ∷ s) v → Goes t s₀ v₀ s (kept k t v)
+pub takes_keep : (t : Word) (k : Terminal) (s₀ : List Symbol) (v₀ : Values) (s : List Symbol) (v : Values) → (terminal_of t) ≡ k →
+    Same (terminal_of t) s₀ v₀ (Keep k ∷ s) v × Follows s × Fits (Keep k ∷ s) v → Goes t s₀ v₀ s (kept k t v)
 takes_keep t k s₀ v₀ s v e h = record {
   follows = h.1;
   fits = fits_keep k t s v h.2;
@@ -257,22 +259,22 @@ takes_keep t k s₀ v₀ s v e h = record {
   back = λ ts ns ws d. h.0.back (t ∷ ts) (open_in s ∷ ns) ws refl (keep e d);
 }
 
-pub other_token : (t : Word) (k : Terminal) (s₀ : List Symbol) (v₀ : Values) (s : List Symbol) (v : Values) → (t.terminal ≡ k → ⊥) →
-    Same t.terminal s₀ v₀ (Token k ∷ s) v × Follows s × Fits (Token k ∷ s) v → Refuses t s₀ v₀
+pub other_token : (t : Word) (k : Terminal) (s₀ : List Symbol) (v₀ : Values) (s : List Symbol) (v : Values) → ((terminal_of t) ≡ k → ⊥) →
+    Same (terminal_of t) s₀ v₀ (Token k ∷ s) v × Follows s × Fits (Token k ∷ s) v → Refuses t s₀ v₀
 other_token t k s₀ v₀ s v n h ts ns ws d = n (of_token (h.0.forth (t ∷ ts) ns ws refl d)).0
 
-pub other_keep : (t : Word) (k : Terminal) (s₀ : List Symbol) (v₀ : Values) (s : List Symbol) (v : Values) → (t.terminal ≡ k → ⊥) →
-    Same t.terminal s₀ v₀ (Keep k ∷ s) v × Follows s × Fits (Keep k ∷ s) v → Refuses t s₀ v₀
+pub other_keep : (t : Word) (k : Terminal) (s₀ : List Symbol) (v₀ : Values) (s : List Symbol) (v : Values) → ((terminal_of t) ≡ k → ⊥) →
+    Same (terminal_of t) s₀ v₀ (Keep k ∷ s) v × Follows s × Fits (Keep k ∷ s) v → Refuses t s₀ v₀
 other_keep t k s₀ v₀ s v n h ts ns ws d = n (of_keep (h.0.forth (t ∷ ts) ns ws refl d)).0
 
 pub no_more : (t : Word) (s₀ : List Symbol) (v₀ : Values) (v : Values) →
-    Same t.terminal s₀ v₀ [] v → Refuses t s₀ v₀
+    Same (terminal_of t) s₀ v₀ [] v → Refuses t s₀ v₀
 no_more t s₀ v₀ v h ts ns ws d = go (of_nothing (h.forth (t ∷ ts) ns ws refl d)).0
   where
     go : ◌≡◌ {A = List Word} (t ∷ ts) [] → ⊥
     go e = cc
 
-pub none_begins : (t : Word) (s₀ : List Symbol) (v₀ : Values) → ReadsNone t.terminal s₀ v₀ → Refuses t s₀ v₀
+pub none_begins : (t : Word) (s₀ : List Symbol) (v₀ : Values) → ReadsNone (terminal_of t) s₀ v₀ → Refuses t s₀ v₀
 none_begins t s₀ v₀ h ts ns ws d = h (t ∷ ts) ns ws refl d
 
 pub ends_here : (s₀ : List Symbol) (v₀ v : Values) → Same kind.EndOfText s₀ v₀ [] v → Fits [] v → EndsWith s₀ v₀ v
@@ -302,16 +304,16 @@ stuck_here s₀ v₀ h ns ws d = h [] ns ws refl d
 abbrev pub Reaches : List Symbol → Type 0
 Reaches s = (vs : Values) → (ts : List Word) × (ns : List ℕ) × (ws : Values) × Reads s vs ts ns ws
 
--- a token of a kind
-abbrev some_token : Terminal → Word
-some_token k = record { terminal = k; text = []; number = 0; at = record { from = 0; to = 0 } }
-
 by_list : (n : ℕ) → ((p : Part_of) (s : List Symbol) → rank p < n → Reaches s → Reaches (Part p ∷ s)) → (xs s : List Symbol) → ends_below n xs ≡ true → Reaches s → Reaches (xs ++ s)
 by_list n f [] s e g = g
-by_list n f (Token k ∷ xs) s e g = λ vs. let r = by_list n f xs s e g vs in (some_token k ∷ r.0, open_in (xs ++ s) ∷ r.1, r.2, token refl r.3)
-by_list n f (Keep k ∷ xs) s e g = λ vs. let r = by_list n f xs s e g (kept k (some_token k) vs) in (some_token k ∷ r.0, open_in (xs ++ s) ∷ r.1, r.2, keep refl r.3)
+by_list n f (Token k ∷ xs) s e g = λ vs.
+    let r = by_list n f xs s (and_right (is_of_token k) (ends_below n xs) e) g vs in
+    (some_token k ∷ r.0, open_in (xs ++ s) ∷ r.1, r.2, token (some_is k (and_left (is_of_token k) (ends_below n xs) e)) r.3)
+by_list n f (Keep k ∷ xs) s e g = λ vs.
+    let r = by_list n f xs s (and_right (is_of_token k) (ends_below n xs) e) g (kept k (some_token k) vs) in
+    (some_token k ∷ r.0, open_in (xs ++ s) ∷ r.1, r.2, keep (some_is k (and_left (is_of_token k) (ends_below n xs) e)) r.3)
 by_list n f (Part p ∷ xs) s e g = f p (xs ++ s) (ltb-true _ _ (and_left (nat_lt (rank p) n) (ends_below n xs) e)) (by_list n f xs s (and_right (nat_lt (rank p) n) (ends_below n xs) e) g)
-by_list n f (Close o ∷ xs) s e g = λ vs. let r = by_list n f xs s e g vs in (r.0, r.1, r.2, close r.3)
+by_list n f (Bound o ∷ xs) s e g = λ vs. let r = by_list n f xs s e g vs in (r.0, r.1, r.2, bound r.3)
 by_list n f (Do a ∷ xs) s e g = λ vs. let r = by_list n f xs s e g (act a vs) in (r.0, r.1, r.2, made r.3)
 
 by_rank : (n : ℕ) (p : Part_of) (s : List Symbol) → rank p < n → Reaches s → Reaches (Part p ∷ s)
@@ -322,10 +324,10 @@ by_rank (suc n) p s h g = λ vs. go vs (by_list (rank p) (λ q t b c. by_rank n 
         (ts : List Word) × (ns : List ℕ) × (ws : Values) × Reads (Part p ∷ s) vs ts ns ws
     go vs r = (r.0, r.1, r.2, part (ends_soon p).0 (ends_soon p).1 r.3)
 
-pub reaches : (s : List Symbol) → Reaches s
-reaches [] = λ vs. ([], [], vs, finished)
-reaches (Token k ∷ s) = λ vs. let r = reaches s vs in (some_token k ∷ r.0, open_in s ∷ r.1, r.2, token refl r.3)
-reaches (Keep k ∷ s) = λ vs. let r = reaches s (kept k (some_token k) vs) in (some_token k ∷ r.0, open_in s ∷ r.1, r.2, keep refl r.3)
-reaches (Part p ∷ s) = by_rank (rank p + 1) p s (omega arith) (reaches s)
-reaches (Close o ∷ s) = λ vs. let r = reaches s vs in (r.0, r.1, r.2, close r.3)
-reaches (Do a ∷ s) = λ vs. let r = reaches s (act a vs) in (r.0, r.1, r.2, made r.3)
+pub reaches : (s : List Symbol) → Follows s → Reaches s
+reaches [] f = λ vs. ([], [], vs, finished)
+reaches (Token k ∷ s) f = λ vs. let r = reaches s f.1 vs in (some_token k ∷ r.0, open_in s ∷ r.1, r.2, token (some_is k f.0) r.3)
+reaches (Keep k ∷ s) f = λ vs. let r = reaches s f.1 (kept k (some_token k) vs) in (some_token k ∷ r.0, open_in s ∷ r.1, r.2, keep (some_is k f.0) r.3)
+reaches (Part p ∷ s) f = by_rank (rank p + 1) p s (omega arith) (reaches s f.1)
+reaches (Bound o ∷ s) f = λ vs. let r = reaches s f vs in (r.0, r.1, r.2, bound r.3)
+reaches (Do a ∷ s) f = λ vs. let r = reaches s f (act a vs) in (r.0, r.1, r.2, made r.3)

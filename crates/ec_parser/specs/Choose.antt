@@ -5,7 +5,7 @@ use Rattle.ec_parser.specs.contracts.terminal.Terminal.{the_type}
 use Rattle.ec_parser.specs.declared.terminal.Terminal.{Terminal}
 use Rattle.ec_parser.specs.declared.grammar.Part.{Part as Part_of}
 use Rattle.ec_parser.specs.declared.grammar.Symbol.{Symbol}
-use Rattle.ec_parser.specs.declared.grammar.Symbol.TheVariants.{Token, Keep, Part, Close, Do}
+use Rattle.ec_parser.specs.declared.grammar.Symbol.TheVariants.{Token, Keep, Part, Bound, Do}
 use Rattle.ec_parser.specs.Rules.{rules}
 use Rattle.ec_parser.specs.Sizes.{first, nullable}
 
@@ -22,7 +22,7 @@ suits k [] = true
 suits k (Token j ∷ s) = same_kind k j
 suits k (Keep j ∷ s) = same_kind k j
 suits k (Part p ∷ s) = has_kind k (first p) || (nullable p && suits k s)
-suits k (Close o ∷ s) = suits k s
+suits k (Bound o ∷ s) = suits k s
 suits k (Do a ∷ s) = suits k s
 
 abbrev pub choose_from : List (List Symbol) → Terminal → Option (List Symbol)

@@ -7,7 +7,7 @@ use Rattle.ec_parser.specs.declared.grammar.Part.TheVariants as part
 use Rattle.ec_parser.specs.declared.grammar.Act.{Act}
 use Rattle.ec_parser.specs.declared.grammar.Act.TheVariants as act'
 use Rattle.ec_parser.specs.declared.grammar.Symbol.{Symbol}
-use Rattle.ec_parser.specs.declared.grammar.Symbol.TheVariants.{Token, Keep, Part, Close, Do}
+use Rattle.ec_parser.specs.declared.grammar.Symbol.TheVariants.{Token, Keep, Part, Bound, Do}
 use Rattle.ec_parser.specs.declared.values.Values.{Values}
 use Rattle.ec_parser.specs.Filled.{IsFilled, rest}
 
@@ -545,7 +545,7 @@ run [] ks = Some ks
 run (Token k ∷ s) ks = run s ks
 run (Keep k ∷ s) ks = run s (kept_as k ∷ ks)
 run (Part p ∷ s) ks = option_and_then (λ left. run s (part_gives p ++ left)) (below (part_takes p) ks)
-run (Close o ∷ s) ks = run s ks
+run (Bound o ∷ s) ks = run s ks
 run (Do a ∷ s) ks = option_and_then (λ left. run s (gives a ∷ left)) (below (takes a) ks)
 
 -- The stacks hold values with which the symbols find all that they take, and make a program.

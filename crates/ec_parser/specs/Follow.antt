@@ -4,10 +4,11 @@ use Rattle.ec_parser.specs.declared.terminal.Terminal.{Terminal}
 use Rattle.ec_parser.specs.declared.terminal.Terminal.TheVariants as kind
 use Rattle.ec_parser.specs.declared.Next.{Next}
 use Rattle.ec_parser.specs.declared.Next.TheVariants as next
-use Rattle.ec_parser.specs.declared.terminal.Token.{Token as Word}
+use Rattle.ec_parser.specs.Terminals.{terminal_of, is_of_token}
+use Rattle.ec_lexer.specs.declared.token.Token.{Token as Word}
 use Rattle.ec_parser.specs.declared.values.Values.{Values}
 use Rattle.ec_parser.specs.declared.grammar.Symbol.{Symbol}
-use Rattle.ec_parser.specs.declared.grammar.Symbol.TheVariants.{Token, Keep, Part, Close, Do}
+use Rattle.ec_parser.specs.declared.grammar.Symbol.TheVariants.{Token, Keep, Part, Bound, Do}
 use Rattle.ec_parser.specs.Choose.{has_kind}
 use Rattle.ec_parser.specs.Sizes.{first, nullable, follow, weight}
 use Rattle.ec_parser.specs.Reads.{Reads, open_in}
@@ -19,7 +20,7 @@ starts_with [] behind = behind
 starts_with (Token k ∷ s) behind = k ∷ []
 starts_with (Keep k ∷ s) behind = k ∷ []
 starts_with (Part p ∷ s) behind = first p ++ (if nullable p then starts_with s behind else [])
-starts_with (Close o ∷ s) behind = starts_with s behind
+starts_with (Bound o ∷ s) behind = starts_with s behind
 starts_with (Do a ∷ s) behind = starts_with s behind
 
 abbrev pub starts_of : List Symbol → List Terminal
@@ -31,21 +32,21 @@ weight_of [] = 0
 weight_of (Token k ∷ s) = 1
 weight_of (Keep k ∷ s) = 1
 weight_of (Part p ∷ s) = if nullable p then weight p + weight_of s else weight p
-weight_of (Close o ∷ s) = weight_of s + 1
+weight_of (Bound o ∷ s) = weight_of s + 1
 weight_of (Do a ∷ s) = weight_of s + 1
 
 -- the kind of the first token, or Stop where there is none
 abbrev pub head : List Word → Terminal
 head [] = kind.EndOfText
-head (t ∷ ts) = t.terminal
+head (t ∷ ts) = terminal_of t
 
--- behind each part of the list stands what may follow it
+-- a token can be of each kind in the list, and behind each part stands what may follow it
 abbrev pub Follows : List Symbol → Type 0
 Follows [] = Unit {0}
-Follows (Token k ∷ s) = Follows s
-Follows (Keep k ∷ s) = Follows s
+Follows (Token k ∷ s) = (is_of_token k ≡ true) × Follows s
+Follows (Keep k ∷ s) = (is_of_token k ≡ true) × Follows s
 Follows (Part p ∷ s) = ((k : Terminal) → has_kind k (starts_of s) ≡ true → has_kind k (follow p) ≡ true) × Follows s
-Follows (Close o ∷ s) = Follows s
+Follows (Bound o ∷ s) = Follows s
 Follows (Do a ∷ s) = Follows s
 
 -- at tokens whose first is of this kind, the one reads what the other does

@@ -35,17 +35,18 @@ use Rattle.ec_ast.specs.declared.ConstantValue.{ConstantValue}
 use Rattle.ec_ast.specs.declared.ConstantValue.TheVariants as value
 use Rattle.ec_ast.specs.declared.Constant.{Constant}
 use Rattle.ec_ast.specs.declared.Program.{Program}
-use Rattle.ec_parser.specs.declared.terminal.Token.{Token}
+use Rattle.ec_parser.specs.Terminals.{terminal_of, text_of, number_of}
+use Rattle.ec_lexer.specs.declared.token.Token.{Token}
 use Rattle.ec_parser.specs.declared.terminal.Terminal.{Terminal}
 use Rattle.ec_parser.specs.declared.terminal.Terminal.TheVariants as t
 use Rattle.ec_parser.specs.Chains.{or_of, and_of, sum_of, term_of, postfix_of}
 
 -- a token of a kind
 abbrev pub Is : Terminal → Token → Type 0
-Is kind token = token.terminal ≡ kind
+Is kind token = terminal_of token ≡ kind
 
 abbrev pub name_of : Token → Name
-name_of token = record { text = token.text; at = token.at }
+name_of token = record { text = text_of token; at = token.at }
 
 -- ID is a word that isn't reserved
 pub data IsId : Token → Name → Type 0 where
@@ -209,8 +210,8 @@ mutual
   --         | "node" "." "at" "[" expr "]" | "node" "." COUNT
   --         | "vector" "." "of" "[" type "]" "." CREATE "[" expr "]"
   pub data IsPrimary : List Token → List Token → Expression → Ending → Type 0 where
-    int : {a : Token} {us : List Token} → Is t.Number a → IsPrimary (a ∷ us) us (e.Number (record { value = a.number; at = a.at })) a_primary
-    string : {a : Token} {us : List Token} → Is t.Literal a → IsPrimary (a ∷ us) us (e.Literal (record { text = a.text; at = a.at })) a_primary
+    int : {a : Token} {us : List Token} → Is t.Number a → IsPrimary (a ∷ us) us (e.Number (record { value = number_of a; at = a.at })) a_primary
+    string : {a : Token} {us : List Token} → Is t.Literal a → IsPrimary (a ∷ us) us (e.Literal (record { text = text_of a; at = a.at })) a_primary
     true_word : {a : Token} {us : List Token} → Is t.True a → IsPrimary (a ∷ us) us (e.Truth true a.at) a_primary
     false_word : {a : Token} {us : List Token} → Is t.False a → IsPrimary (a ∷ us) us (e.Truth false a.at) a_primary
     nil_word : {a : Token} {us : List Token} → Is t.Nil a → IsPrimary (a ∷ us) us (e.Nil a.at) a_primary

@@ -1,57 +1,50 @@
--- The programs, and how a list of tokens fails to be one.
-use Rattle.std.specs.Prelude.{◌≡◌, ℕ, ◌+◌, ◌<◌, ◌≤◌, List, [], ◌∷◌, ◌++◌, length, take}
-use Rattle.ec_parser.specs.declared.grammar.Part.TheVariants as part
-use Rattle.ec_parser.specs.declared.terminal.Token.{Token as Word}
-use Rattle.ec_parser.specs.declared.values.Values.{Values}
-use Rattle.ec_parser.specs.declared.grammar.Symbol.TheVariants.{Part}
+-- The programs by the printed grammar, and how a list of tokens fails to be one.
+use Rattle.std.specs.Prelude.{◌≡◌, ℕ, ◌+◌, ◌<◌, ◌≤◌, List, [], ◌∷◌, ◌++◌, length, take, Option, Some, slice_get}
+use Rattle.ec_ast.specs.declared.Program.{Program}
+use Rattle.ec_lexer.specs.declared.token.Token.{Token}
 use Rattle.ec_parser.specs.declared.ParseError.{ParseError}
 use Rattle.ec_parser.specs.declared.ParseError.TheVariants.{Syntax, Deep, Memory}
-use Rattle.ec_parser.specs.Reads.{Reads}
-use Rattle.ec_parser.specs.Values.{no_values}
+use Rattle.ec_parser.specs.HasTree.{HasTree}
+use Rattle.ec_parser.specs.Nesting.{nestings_of}
 
--- the tokens are a program's, each at this nesting, and these values are made of it
-abbrev pub IsProgram : List Word → List ℕ → Values → Type 0
-IsProgram ts ns ws = Reads (Part part.Program ∷ []) no_values ts ns ws
+-- no number is above 64
+abbrev pub AreShallow : List ℕ → Type 0
+AreShallow [] = Unit {0}
+AreShallow (n ∷ ns) = (n ≤ 64) × AreShallow ns
 
--- no nesting is above 64
-abbrev pub IsShallow : List ℕ → Type 0
-IsShallow [] = Unit {0}
-IsShallow (n ∷ ns) = (n ≤ 64) × IsShallow ns
+-- no token's nesting is above 64
+abbrev pub IsShallow : List Token → Type 0
+IsShallow tokens = AreShallow (nestings_of tokens)
 
--- some program begins with these tokens, none of them deep
-pub record Begins (ts : List Word) : Type 0 where
-  pub more : List Word
-  pub nestings : List ℕ
-  pub others : List ℕ
-  pub values : Values
-  pub long : length nestings ≡ length ts
-  pub shallow : IsShallow nestings
-  pub program : IsProgram (ts ++ more) (nestings ++ others) values
+-- some program begins with these tokens
+pub record Begins (tokens : List Token) : Type 0 where
+  pub more : List Token
+  pub program : Program
+  pub has_tree : HasTree (tokens ++ more) program
 
-abbrev pub BeginsNone : List Word → Type 0
-BeginsNone ts = (more : List Word) (ns : List ℕ) (ws : Values) → IsProgram (ts ++ more) ns ws → ⊥
+-- no program begins with them
+abbrev pub BeginsNone : List Token → Type 0
+BeginsNone tokens = (more : List Token) (program : Program) → HasTree (tokens ++ more) program → ⊥
 
--- The tokens before the place begin a program. Those up to it begin none, or at the end they are none.
-pub record IsSyntax (ts : List Word) (place : ℕ) : Type 0 where
-  pub within : place ≤ length ts
-  pub before : Begins (take place ts)
-  pub after : place < length ts → BeginsNone (take (place + 1) ts)
-  pub no_program : (ns : List ℕ) (ws : Values) → IsProgram ts ns ws → ⊥
+-- The tokens before the place begin a program, and none of them is deep. Those up to it begin none; at the end, they are
+-- none.
+pub record IsSyntax (tokens : List Token) (place : ℕ) : Type 0 where
+  pub within : place ≤ length tokens
+  pub before : Begins (take place tokens)
+  pub shallow : IsShallow (take place tokens)
+  pub after : place < length tokens → BeginsNone (take (place + 1) tokens)
+  pub no_program : (program : Program) → HasTree tokens program → ⊥
 
--- The tokens up to the place begin a program, in which the last of them is the first that is deep.
-pub record IsDeep (ts : List Word) (place : ℕ) : Type 0 where
-  pub within : place < length ts
-  pub more : List Word
-  pub nestings : List ℕ
+-- The tokens up to the place begin a program, and the last of them is the first whose nesting is above 64.
+pub record IsDeep (tokens : List Token) (place : ℕ) : Type 0 where
+  pub within : place < length tokens
+  pub begins : Begins (take (place + 1) tokens)
+  pub shallow : IsShallow (take place tokens)
   pub nesting : ℕ
-  pub others : List ℕ
-  pub values : Values
-  pub long : length nestings ≡ place
-  pub shallow : IsShallow nestings
+  pub nesting_is : slice_get (nestings_of tokens) place ≡ Some nesting
   pub deep : 64 < nesting
-  pub program : IsProgram (take (place + 1) ts ++ more) (nestings ++ nesting ∷ others) values
 
-abbrev pub IsCause : List Word → ParseError → Type 0
-IsCause ts (Syntax place) = IsSyntax ts place
-IsCause ts (Deep place) = IsDeep ts place
-IsCause ts Memory = Unit {0}
+abbrev pub IsCause : List Token → ParseError → Type 0
+IsCause tokens (Syntax place) = IsSyntax tokens place
+IsCause tokens (Deep place) = IsDeep tokens place
+IsCause tokens Memory = Unit {0}

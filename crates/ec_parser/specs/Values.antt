@@ -37,7 +37,8 @@ use Rattle.ec_ast.specs.declared.ConstantValue.TheVariants as aConstantValue
 use Rattle.ec_ast.specs.declared.Comparison.TheVariants as aComparison
 use Rattle.ec_ast.specs.declared.Additive.TheVariants as aAdditive
 use Rattle.ec_ast.specs.declared.Multiplicative.TheVariants as aMultiplicative
-use Rattle.ec_parser.specs.declared.terminal.Token.{Token}
+use Rattle.ec_parser.specs.Terminals.{text_of, number_of}
+use Rattle.ec_lexer.specs.declared.token.Token.{Token}
 use Rattle.ec_parser.specs.declared.terminal.Terminal.{Terminal}
 use Rattle.ec_parser.specs.declared.terminal.Terminal.TheVariants as terminal
 use Rattle.ec_parser.specs.declared.grammar.Act.{Act}
@@ -193,12 +194,12 @@ first_constant_list (x ∷ xs) = x
 
 -- what is kept of a token: its name, its number, its text or its place
 abbrev pub keep : Terminal → Token → Values → Values
-keep terminal.Name t vs = record vs { names = (record { text = t.text; at = t.at }) ∷ vs.names }
-keep terminal.Create t vs = record vs { names = (record { text = t.text; at = t.at }) ∷ vs.names }
-keep terminal.Putstring t vs = record vs { names = (record { text = t.text; at = t.at }) ∷ vs.names }
-keep terminal.Count t vs = record vs { names = (record { text = t.text; at = t.at }) ∷ vs.names }
-keep terminal.Number t vs = record vs { numbers = (record { value = t.number; at = t.at }) ∷ vs.numbers }
-keep terminal.Literal t vs = record vs { literals = (record { text = t.text; at = t.at }) ∷ vs.literals }
+keep terminal.Name t vs = record vs { names = (record { text = text_of t; at = t.at }) ∷ vs.names }
+keep terminal.Create t vs = record vs { names = (record { text = text_of t; at = t.at }) ∷ vs.names }
+keep terminal.Putstring t vs = record vs { names = (record { text = text_of t; at = t.at }) ∷ vs.names }
+keep terminal.Count t vs = record vs { names = (record { text = text_of t; at = t.at }) ∷ vs.names }
+keep terminal.Number t vs = record vs { numbers = (record { value = number_of t; at = t.at }) ∷ vs.numbers }
+keep terminal.Literal t vs = record vs { literals = (record { text = text_of t; at = t.at }) ∷ vs.literals }
 keep _ t vs = record vs { places = t.at ∷ vs.places }
 
 abbrev pub begin_constants : Values → Values

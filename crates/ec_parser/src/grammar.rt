@@ -105,6 +105,13 @@ pub enum Opened {
     Not,
 }
 
+/// A nesting is opened by the next token, or is closed before it.
+#[derive(Clone, Copy, PartialEq, Eq)]
+pub enum Bound {
+    Opens(Opened),
+    Closes(Opened),
+}
+
 /// What is made of what was read.
 #[derive(Clone, Copy)]
 pub enum Act {
@@ -214,8 +221,8 @@ pub enum Symbol {
     /// A token of which the tree keeps the name, the number, the text or the place.
     Keep(Terminal),
     Part(Part),
-    /// The end of a nesting.
-    Close(Opened),
+    /// Where a nesting is opened or closed.
+    Bound(Bound),
     Do(Act),
 }
 
@@ -269,7 +276,7 @@ const NAME: [Alternative; 4] = [
 
 // typeobj  = "typeobject" ID { opword ID [ "[" [ sig { "," sig } ] "]" ] [ "->" "[" sig "]" ] } "end" ID
 const TYPEOBJECT: [Alternative; 1] = [
-    &[Symbol::Token(Terminal::Typeobject), Symbol::Part(Part::Name), Symbol::Do(Act::BeginSignatures), Symbol::Part(Part::Signatures), Symbol::Close(Opened::Typeobject), Symbol::Token(Terminal::End), Symbol::Part(Part::Name), Symbol::Do(Act::MakeTypeobject)],
+    &[Symbol::Bound(Bound::Opens(Opened::Typeobject)), Symbol::Token(Terminal::Typeobject), Symbol::Part(Part::Name), Symbol::Do(Act::BeginSignatures), Symbol::Part(Part::Signatures), Symbol::Bound(Bound::Closes(Opened::Typeobject)), Symbol::Token(Terminal::End), Symbol::Part(Part::Name), Symbol::Do(Act::MakeTypeobject)],
 ];
 
 const SIGNATURES: [Alternative; 2] = [
@@ -278,7 +285,7 @@ const SIGNATURES: [Alternative; 2] = [
 ];
 
 const SIGNATURE_PARAMETERS: [Alternative; 2] = [
-    &[Symbol::Token(Terminal::OpenBracket), Symbol::Do(Act::BeginTypes), Symbol::Part(Part::Sigs), Symbol::Close(Opened::Bracket), Symbol::Token(Terminal::CloseBracket)],
+    &[Symbol::Bound(Bound::Opens(Opened::Bracket)), Symbol::Token(Terminal::OpenBracket), Symbol::Do(Act::BeginTypes), Symbol::Part(Part::Sigs), Symbol::Bound(Bound::Closes(Opened::Bracket)), Symbol::Token(Terminal::CloseBracket)],
     &[Symbol::Do(Act::BeginTypes)],
 ];
 
@@ -293,7 +300,7 @@ const MORE_SIGS: [Alternative; 2] = [
 ];
 
 const SIGNATURE_RESULT: [Alternative; 2] = [
-    &[Symbol::Token(Terminal::ResultArrow), Symbol::Token(Terminal::OpenBracket), Symbol::Part(Part::Sig), Symbol::Close(Opened::Bracket), Symbol::Token(Terminal::CloseBracket), Symbol::Do(Act::SomeType)],
+    &[Symbol::Token(Terminal::ResultArrow), Symbol::Bound(Bound::Opens(Opened::Bracket)), Symbol::Token(Terminal::OpenBracket), Symbol::Part(Part::Sig), Symbol::Bound(Bound::Closes(Opened::Bracket)), Symbol::Token(Terminal::CloseBracket), Symbol::Do(Act::SomeType)],
     &[Symbol::Do(Act::NoType)],
 ];
 
@@ -326,22 +333,22 @@ const PLAIN_TYPE: [Alternative; 6] = [
     &[Symbol::Keep(Terminal::String), Symbol::Do(Act::TypeString)],
     &[Symbol::Keep(Terminal::Any), Symbol::Do(Act::TypeAny)],
     &[Symbol::Keep(Terminal::Node), Symbol::Do(Act::TypeNode)],
-    &[Symbol::Keep(Terminal::Vector), Symbol::Token(Terminal::Dot), Symbol::Token(Terminal::Of), Symbol::Token(Terminal::OpenBracket), Symbol::Part(Part::Type), Symbol::Close(Opened::Bracket), Symbol::Token(Terminal::CloseBracket), Symbol::Do(Act::TypeVector)],
+    &[Symbol::Keep(Terminal::Vector), Symbol::Token(Terminal::Dot), Symbol::Token(Terminal::Of), Symbol::Bound(Bound::Opens(Opened::Bracket)), Symbol::Token(Terminal::OpenBracket), Symbol::Part(Part::Type), Symbol::Bound(Bound::Closes(Opened::Bracket)), Symbol::Token(Terminal::CloseBracket), Symbol::Do(Act::TypeVector)],
 ];
 
 // class    = [ "monitor" ] "class" ID [ params ] body "end" ID
 const CLASS_REST: [Alternative; 1] = [
-    &[Symbol::Token(Terminal::Class), Symbol::Part(Part::Name), Symbol::Part(Part::Parameters), Symbol::Part(Part::Body), Symbol::Close(Opened::Word), Symbol::Token(Terminal::End), Symbol::Part(Part::Name), Symbol::Do(Act::MakeClass)],
+    &[Symbol::Bound(Bound::Opens(Opened::Word)), Symbol::Token(Terminal::Class), Symbol::Part(Part::Name), Symbol::Part(Part::Parameters), Symbol::Part(Part::Body), Symbol::Bound(Bound::Closes(Opened::Word)), Symbol::Token(Terminal::End), Symbol::Part(Part::Name), Symbol::Do(Act::MakeClass)],
 ];
 
 // object   = [ "monitor" ] "object" ID body "end" ID
 const OBJECT_REST: [Alternative; 1] = [
-    &[Symbol::Token(Terminal::Object), Symbol::Part(Part::Name), Symbol::Part(Part::Body), Symbol::Close(Opened::Word), Symbol::Token(Terminal::End), Symbol::Part(Part::Name), Symbol::Do(Act::MakeObject)],
+    &[Symbol::Bound(Bound::Opens(Opened::Word)), Symbol::Token(Terminal::Object), Symbol::Part(Part::Name), Symbol::Part(Part::Body), Symbol::Bound(Bound::Closes(Opened::Word)), Symbol::Token(Terminal::End), Symbol::Part(Part::Name), Symbol::Do(Act::MakeObject)],
 ];
 
 // params   = "[" [ ID ":" type { "," ID ":" type } ] "]"
 const PARAMETERS: [Alternative; 2] = [
-    &[Symbol::Token(Terminal::OpenBracket), Symbol::Do(Act::BeginParameters), Symbol::Part(Part::ParameterList), Symbol::Close(Opened::Bracket), Symbol::Token(Terminal::CloseBracket)],
+    &[Symbol::Bound(Bound::Opens(Opened::Bracket)), Symbol::Token(Terminal::OpenBracket), Symbol::Do(Act::BeginParameters), Symbol::Part(Part::ParameterList), Symbol::Bound(Bound::Closes(Opened::Bracket)), Symbol::Token(Terminal::CloseBracket)],
     &[Symbol::Do(Act::BeginParameters)],
 ];
 
@@ -370,12 +377,12 @@ const MEMBERS: [Alternative; 2] = [
 ];
 
 const INITIALLY: [Alternative; 2] = [
-    &[Symbol::Token(Terminal::Initially), Symbol::Part(Part::Block), Symbol::Close(Opened::Word), Symbol::Token(Terminal::End), Symbol::Token(Terminal::Initially), Symbol::Do(Act::SomeBlock)],
+    &[Symbol::Bound(Bound::Opens(Opened::Word)), Symbol::Token(Terminal::Initially), Symbol::Part(Part::Block), Symbol::Bound(Bound::Closes(Opened::Word)), Symbol::Token(Terminal::End), Symbol::Token(Terminal::Initially), Symbol::Do(Act::SomeBlock)],
     &[Symbol::Do(Act::NoBlock)],
 ];
 
 const PROCESS: [Alternative; 2] = [
-    &[Symbol::Keep(Terminal::Process), Symbol::Part(Part::Block), Symbol::Close(Opened::Word), Symbol::Token(Terminal::End), Symbol::Token(Terminal::Process), Symbol::Do(Act::SomeProcess)],
+    &[Symbol::Bound(Bound::Opens(Opened::Word)), Symbol::Keep(Terminal::Process), Symbol::Part(Part::Block), Symbol::Bound(Bound::Closes(Opened::Word)), Symbol::Token(Terminal::End), Symbol::Token(Terminal::Process), Symbol::Do(Act::SomeProcess)],
     &[Symbol::Do(Act::NoProcess)],
 ];
 
@@ -407,16 +414,16 @@ const FIELD_VALUE: [Alternative; 2] = [
 ];
 
 const CONDITION_TAIL: [Alternative; 2] = [
-    &[Symbol::Token(Terminal::OpenBracket), Symbol::Close(Opened::Bracket), Symbol::Token(Terminal::CloseBracket)],
+    &[Symbol::Bound(Bound::Opens(Opened::Bracket)), Symbol::Token(Terminal::OpenBracket), Symbol::Bound(Bound::Closes(Opened::Bracket)), Symbol::Token(Terminal::CloseBracket)],
     &[],
 ];
 
 const OPERATION_REST: [Alternative; 1] = [
-    &[Symbol::Part(Part::OperationWord), Symbol::Part(Part::Name), Symbol::Part(Part::Parameters), Symbol::Part(Part::OperationResult), Symbol::Part(Part::Block), Symbol::Close(Opened::Word), Symbol::Token(Terminal::End), Symbol::Part(Part::Name), Symbol::Do(Act::MakeOperation)],
+    &[Symbol::Bound(Bound::Opens(Opened::Word)), Symbol::Part(Part::OperationWord), Symbol::Part(Part::Name), Symbol::Part(Part::Parameters), Symbol::Part(Part::OperationResult), Symbol::Part(Part::Block), Symbol::Bound(Bound::Closes(Opened::Word)), Symbol::Token(Terminal::End), Symbol::Part(Part::Name), Symbol::Do(Act::MakeOperation)],
 ];
 
 const OPERATION_RESULT: [Alternative; 2] = [
-    &[Symbol::Token(Terminal::ResultArrow), Symbol::Token(Terminal::OpenBracket), Symbol::Part(Part::Name), Symbol::Token(Terminal::Colon), Symbol::Part(Part::Type), Symbol::Close(Opened::Bracket), Symbol::Token(Terminal::CloseBracket), Symbol::Do(Act::SomeParameter)],
+    &[Symbol::Token(Terminal::ResultArrow), Symbol::Bound(Bound::Opens(Opened::Bracket)), Symbol::Token(Terminal::OpenBracket), Symbol::Part(Part::Name), Symbol::Token(Terminal::Colon), Symbol::Part(Part::Type), Symbol::Bound(Bound::Closes(Opened::Bracket)), Symbol::Token(Terminal::CloseBracket), Symbol::Do(Act::SomeParameter)],
     &[Symbol::Do(Act::NoParameter)],
 ];
 
@@ -457,9 +464,9 @@ const STATEMENT: [Alternative; 15] = [
     &[Symbol::Part(Part::Name), Symbol::Do(Act::MakeVariable), Symbol::Part(Part::AfterName)],
     &[Symbol::Part(Part::OtherPlain), Symbol::Do(Act::BeginLinks), Symbol::Part(Part::AfterOther)],
     &[Symbol::Do(Act::Yes), Symbol::Token(Terminal::Monitor), Symbol::Part(Part::ObjectRest), Symbol::Do(Act::MakeConstructor), Symbol::Do(Act::BeginLinks), Symbol::Part(Part::AfterOther)],
-    &[Symbol::Keep(Terminal::Stdout), Symbol::Token(Terminal::Dot), Symbol::Token(Terminal::Putstring), Symbol::Token(Terminal::OpenBracket), Symbol::Part(Part::Expression), Symbol::Close(Opened::Bracket), Symbol::Token(Terminal::CloseBracket), Symbol::Do(Act::MakePrint)],
-    &[Symbol::Keep(Terminal::If), Symbol::Do(Act::BeginArms), Symbol::Part(Part::Expression), Symbol::Token(Terminal::Then), Symbol::Part(Part::Block), Symbol::Do(Act::PushArm), Symbol::Part(Part::ElseIfs), Symbol::Part(Part::Else), Symbol::Close(Opened::Word), Symbol::Token(Terminal::End), Symbol::Token(Terminal::If), Symbol::Do(Act::MakeIf)],
-    &[Symbol::Keep(Terminal::Loop), Symbol::Part(Part::Block), Symbol::Close(Opened::Word), Symbol::Token(Terminal::End), Symbol::Token(Terminal::Loop), Symbol::Do(Act::MakeLoop)],
+    &[Symbol::Keep(Terminal::Stdout), Symbol::Token(Terminal::Dot), Symbol::Token(Terminal::Putstring), Symbol::Bound(Bound::Opens(Opened::Bracket)), Symbol::Token(Terminal::OpenBracket), Symbol::Part(Part::Expression), Symbol::Bound(Bound::Closes(Opened::Bracket)), Symbol::Token(Terminal::CloseBracket), Symbol::Do(Act::MakePrint)],
+    &[Symbol::Bound(Bound::Opens(Opened::Word)), Symbol::Keep(Terminal::If), Symbol::Do(Act::BeginArms), Symbol::Part(Part::Expression), Symbol::Token(Terminal::Then), Symbol::Part(Part::Block), Symbol::Do(Act::PushArm), Symbol::Part(Part::ElseIfs), Symbol::Part(Part::Else), Symbol::Bound(Bound::Closes(Opened::Word)), Symbol::Token(Terminal::End), Symbol::Token(Terminal::If), Symbol::Do(Act::MakeIf)],
+    &[Symbol::Bound(Bound::Opens(Opened::Word)), Symbol::Keep(Terminal::Loop), Symbol::Part(Part::Block), Symbol::Bound(Bound::Closes(Opened::Word)), Symbol::Token(Terminal::End), Symbol::Token(Terminal::Loop), Symbol::Do(Act::MakeLoop)],
     &[Symbol::Keep(Terminal::Exit), Symbol::Part(Part::When), Symbol::Do(Act::MakeExit)],
     &[Symbol::Keep(Terminal::Return), Symbol::Do(Act::MakeReturn)],
     &[Symbol::Keep(Terminal::Assert), Symbol::Part(Part::Expression), Symbol::Do(Act::MakeAssert)],
@@ -474,28 +481,28 @@ const STATEMENT: [Alternative; 15] = [
 const AFTER_NAME: [Alternative; 3] = [
     &[Symbol::Token(Terminal::Arrow), Symbol::Part(Part::Expression), Symbol::Do(Act::MakeAssign)],
     &[Symbol::Do(Act::BeginLinks), Symbol::Token(Terminal::Dot), Symbol::Part(Part::Name), Symbol::Part(Part::AfterField)],
-    &[Symbol::Do(Act::BeginLinks), Symbol::Keep(Terminal::OpenBracket), Symbol::Part(Part::Expression), Symbol::Close(Opened::Bracket), Symbol::Token(Terminal::CloseBracket), Symbol::Do(Act::PushIndex), Symbol::Part(Part::AfterIndex)],
+    &[Symbol::Do(Act::BeginLinks), Symbol::Bound(Bound::Opens(Opened::Bracket)), Symbol::Keep(Terminal::OpenBracket), Symbol::Part(Part::Expression), Symbol::Bound(Bound::Closes(Opened::Bracket)), Symbol::Token(Terminal::CloseBracket), Symbol::Do(Act::PushIndex), Symbol::Part(Part::AfterIndex)],
 ];
 
 const AFTER_OTHER: [Alternative; 2] = [
     &[Symbol::Token(Terminal::Dot), Symbol::Part(Part::Name), Symbol::Part(Part::AfterField)],
-    &[Symbol::Keep(Terminal::OpenBracket), Symbol::Part(Part::Expression), Symbol::Close(Opened::Bracket), Symbol::Token(Terminal::CloseBracket), Symbol::Do(Act::PushIndex), Symbol::Part(Part::AfterIndex)],
+    &[Symbol::Bound(Bound::Opens(Opened::Bracket)), Symbol::Keep(Terminal::OpenBracket), Symbol::Part(Part::Expression), Symbol::Bound(Bound::Closes(Opened::Bracket)), Symbol::Token(Terminal::CloseBracket), Symbol::Do(Act::PushIndex), Symbol::Part(Part::AfterIndex)],
 ];
 
 const AFTER_INDEX: [Alternative; 3] = [
     &[Symbol::Do(Act::MakePostfix), Symbol::Token(Terminal::Arrow), Symbol::Part(Part::Expression), Symbol::Do(Act::MakeAssign)],
     &[Symbol::Token(Terminal::Dot), Symbol::Part(Part::Name), Symbol::Part(Part::AfterField)],
-    &[Symbol::Keep(Terminal::OpenBracket), Symbol::Part(Part::Expression), Symbol::Close(Opened::Bracket), Symbol::Token(Terminal::CloseBracket), Symbol::Do(Act::PushIndex), Symbol::Part(Part::AfterIndex)],
+    &[Symbol::Bound(Bound::Opens(Opened::Bracket)), Symbol::Keep(Terminal::OpenBracket), Symbol::Part(Part::Expression), Symbol::Bound(Bound::Closes(Opened::Bracket)), Symbol::Token(Terminal::CloseBracket), Symbol::Do(Act::PushIndex), Symbol::Part(Part::AfterIndex)],
 ];
 
 const AFTER_FIELD: [Alternative; 3] = [
-    &[Symbol::Token(Terminal::OpenBracket), Symbol::Do(Act::BeginExpressions), Symbol::Part(Part::Arguments), Symbol::Close(Opened::Bracket), Symbol::Token(Terminal::CloseBracket), Symbol::Do(Act::PushCall), Symbol::Part(Part::AfterCall)],
+    &[Symbol::Bound(Bound::Opens(Opened::Bracket)), Symbol::Token(Terminal::OpenBracket), Symbol::Do(Act::BeginExpressions), Symbol::Part(Part::Arguments), Symbol::Bound(Bound::Closes(Opened::Bracket)), Symbol::Token(Terminal::CloseBracket), Symbol::Do(Act::PushCall), Symbol::Part(Part::AfterCall)],
     &[Symbol::Do(Act::PushField), Symbol::Token(Terminal::Dot), Symbol::Part(Part::Name), Symbol::Part(Part::AfterField)],
     &[Symbol::Do(Act::PushField), Symbol::Do(Act::MakePostfix), Symbol::Do(Act::MakeInvoke)],
 ];
 
 const AFTER_CALL: [Alternative; 3] = [
-    &[Symbol::Keep(Terminal::OpenBracket), Symbol::Part(Part::Expression), Symbol::Close(Opened::Bracket), Symbol::Token(Terminal::CloseBracket), Symbol::Do(Act::PushIndex), Symbol::Part(Part::AfterIndex)],
+    &[Symbol::Bound(Bound::Opens(Opened::Bracket)), Symbol::Keep(Terminal::OpenBracket), Symbol::Part(Part::Expression), Symbol::Bound(Bound::Closes(Opened::Bracket)), Symbol::Token(Terminal::CloseBracket), Symbol::Do(Act::PushIndex), Symbol::Part(Part::AfterIndex)],
     &[Symbol::Token(Terminal::Dot), Symbol::Part(Part::Name), Symbol::Part(Part::AfterField)],
     &[Symbol::Do(Act::MakePostfix), Symbol::Do(Act::MakeInvoke)],
 ];
@@ -542,7 +549,7 @@ const NOT: [Alternative; 2] = [
 ];
 
 const NOT_PREFIX: [Alternative; 1] = [
-    &[Symbol::Keep(Terminal::Bang), Symbol::Part(Part::Not), Symbol::Close(Opened::Not), Symbol::Do(Act::MakeNot)],
+    &[Symbol::Bound(Bound::Opens(Opened::Not)), Symbol::Keep(Terminal::Bang), Symbol::Part(Part::Not), Symbol::Bound(Bound::Closes(Opened::Not)), Symbol::Do(Act::MakeNot)],
 ];
 
 // rel      = sum [ ( "==" | "!==" | "=" | "!=" | "<" | "<=" | ">" | ">=" ) sum ]
@@ -605,9 +612,9 @@ const UNARY: [Alternative; 2] = [
 ];
 
 const UNARY_PREFIX: [Alternative; 3] = [
-    &[Symbol::Keep(Terminal::Minus), Symbol::Part(Part::Unary), Symbol::Close(Opened::Operand), Symbol::Do(Act::MakeNegative)],
-    &[Symbol::Keep(Terminal::View), Symbol::Part(Part::Unary), Symbol::Close(Opened::View), Symbol::Token(Terminal::As), Symbol::Part(Part::Type), Symbol::Do(Act::MakeView)],
-    &[Symbol::Keep(Terminal::Isfixed), Symbol::Part(Part::Unary), Symbol::Close(Opened::Operand), Symbol::Do(Act::MakeIsFixed)],
+    &[Symbol::Bound(Bound::Opens(Opened::Operand)), Symbol::Keep(Terminal::Minus), Symbol::Part(Part::Unary), Symbol::Bound(Bound::Closes(Opened::Operand)), Symbol::Do(Act::MakeNegative)],
+    &[Symbol::Bound(Bound::Opens(Opened::View)), Symbol::Keep(Terminal::View), Symbol::Part(Part::Unary), Symbol::Bound(Bound::Closes(Opened::View)), Symbol::Token(Terminal::As), Symbol::Part(Part::Type), Symbol::Do(Act::MakeView)],
+    &[Symbol::Bound(Bound::Opens(Opened::Operand)), Symbol::Keep(Terminal::Isfixed), Symbol::Part(Part::Unary), Symbol::Bound(Bound::Closes(Opened::Operand)), Symbol::Do(Act::MakeIsFixed)],
 ];
 
 // postfix  = primary { "." ID [ "[" [ expr { "," expr } ] "]" ] | "[" expr "]" }
@@ -617,12 +624,12 @@ const POSTFIX: [Alternative; 1] = [
 
 const POSTFIX_TAIL: [Alternative; 3] = [
     &[Symbol::Token(Terminal::Dot), Symbol::Part(Part::Name), Symbol::Part(Part::AfterDot)],
-    &[Symbol::Keep(Terminal::OpenBracket), Symbol::Part(Part::Expression), Symbol::Close(Opened::Bracket), Symbol::Token(Terminal::CloseBracket), Symbol::Do(Act::PushIndex), Symbol::Part(Part::PostfixTail)],
+    &[Symbol::Bound(Bound::Opens(Opened::Bracket)), Symbol::Keep(Terminal::OpenBracket), Symbol::Part(Part::Expression), Symbol::Bound(Bound::Closes(Opened::Bracket)), Symbol::Token(Terminal::CloseBracket), Symbol::Do(Act::PushIndex), Symbol::Part(Part::PostfixTail)],
     &[],
 ];
 
 const AFTER_DOT: [Alternative; 3] = [
-    &[Symbol::Token(Terminal::OpenBracket), Symbol::Do(Act::BeginExpressions), Symbol::Part(Part::Arguments), Symbol::Close(Opened::Bracket), Symbol::Token(Terminal::CloseBracket), Symbol::Do(Act::PushCall), Symbol::Part(Part::PostfixTail)],
+    &[Symbol::Bound(Bound::Opens(Opened::Bracket)), Symbol::Token(Terminal::OpenBracket), Symbol::Do(Act::BeginExpressions), Symbol::Part(Part::Arguments), Symbol::Bound(Bound::Closes(Opened::Bracket)), Symbol::Token(Terminal::CloseBracket), Symbol::Do(Act::PushCall), Symbol::Part(Part::PostfixTail)],
     &[Symbol::Do(Act::PushField), Symbol::Token(Terminal::Dot), Symbol::Part(Part::Name), Symbol::Part(Part::AfterDot)],
     &[Symbol::Do(Act::PushField)],
 ];
@@ -657,14 +664,14 @@ const OTHER_PLAIN: [Alternative; 10] = [
     &[Symbol::Keep(Terminal::False), Symbol::Do(Act::MakeFalse)],
     &[Symbol::Keep(Terminal::Nil), Symbol::Do(Act::MakeNil)],
     &[Symbol::Keep(Terminal::Self_), Symbol::Do(Act::MakeItself)],
-    &[Symbol::Keep(Terminal::OpenParenthesis), Symbol::Part(Part::Expression), Symbol::Close(Opened::Bracket), Symbol::Token(Terminal::CloseParenthesis), Symbol::Do(Act::MakeParenthesised)],
+    &[Symbol::Bound(Bound::Opens(Opened::Bracket)), Symbol::Keep(Terminal::OpenParenthesis), Symbol::Part(Part::Expression), Symbol::Bound(Bound::Closes(Opened::Bracket)), Symbol::Token(Terminal::CloseParenthesis), Symbol::Do(Act::MakeParenthesised)],
     &[Symbol::Do(Act::No), Symbol::Part(Part::ObjectRest), Symbol::Do(Act::MakeConstructor)],
     &[Symbol::Keep(Terminal::Node), Symbol::Token(Terminal::Dot), Symbol::Part(Part::NodeRest)],
-    &[Symbol::Keep(Terminal::Vector), Symbol::Token(Terminal::Dot), Symbol::Token(Terminal::Of), Symbol::Token(Terminal::OpenBracket), Symbol::Part(Part::Type), Symbol::Close(Opened::Bracket), Symbol::Token(Terminal::CloseBracket), Symbol::Token(Terminal::Dot), Symbol::Token(Terminal::Create), Symbol::Token(Terminal::OpenBracket), Symbol::Part(Part::Expression), Symbol::Close(Opened::Bracket), Symbol::Token(Terminal::CloseBracket), Symbol::Do(Act::MakeVector)],
+    &[Symbol::Keep(Terminal::Vector), Symbol::Token(Terminal::Dot), Symbol::Token(Terminal::Of), Symbol::Bound(Bound::Opens(Opened::Bracket)), Symbol::Token(Terminal::OpenBracket), Symbol::Part(Part::Type), Symbol::Bound(Bound::Closes(Opened::Bracket)), Symbol::Token(Terminal::CloseBracket), Symbol::Token(Terminal::Dot), Symbol::Token(Terminal::Create), Symbol::Bound(Bound::Opens(Opened::Bracket)), Symbol::Token(Terminal::OpenBracket), Symbol::Part(Part::Expression), Symbol::Bound(Bound::Closes(Opened::Bracket)), Symbol::Token(Terminal::CloseBracket), Symbol::Do(Act::MakeVector)],
 ];
 
 const NODE_REST: [Alternative; 2] = [
-    &[Symbol::Token(Terminal::At), Symbol::Token(Terminal::OpenBracket), Symbol::Part(Part::Expression), Symbol::Close(Opened::Bracket), Symbol::Token(Terminal::CloseBracket), Symbol::Do(Act::MakeNodeAt)],
+    &[Symbol::Token(Terminal::At), Symbol::Bound(Bound::Opens(Opened::Bracket)), Symbol::Token(Terminal::OpenBracket), Symbol::Part(Part::Expression), Symbol::Bound(Bound::Closes(Opened::Bracket)), Symbol::Token(Terminal::CloseBracket), Symbol::Do(Act::MakeNodeAt)],
     &[Symbol::Token(Terminal::Count), Symbol::Do(Act::MakeNodeCount)],
 ];
 

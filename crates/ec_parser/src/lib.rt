@@ -7,7 +7,10 @@ ghost use Rattle.ec_parser.specs.Choose as table;
 ghost use Rattle.ec_parser.specs.Follow.{Follows, Settles, Goes, Refuses, EndsWith, EndsNowhere};
 ghost use Rattle.ec_parser.specs.Fits.{Fits};
 ghost use Rattle.ec_parser.specs.Reads.{open_in};
-ghost use Rattle.ec_parser.specs.Program.{IsProgram, IsShallow, IsCause};
+ghost use Rattle.ec_parser.specs.HasTree.{HasTree};
+ghost use Rattle.ec_parser.specs.Program.{AreShallow, IsShallow, IsCause};
+ghost use Rattle.ec_parser.specs.Prefixes as reading;
+ghost use Rattle.ec_ast.specs.declared.Program.{Program as AProgram};
 ghost use Rattle.ec_parser.specs.declared.ParseError.TheVariants.{Memory};
 ghost use Rattle.ec_parser.specs.declared.values.Values.{Values as Built};
 ghost use Rattle.ec_parser.specs.Values.{first_program};
@@ -20,10 +23,11 @@ pub mod values;
 
 use ec_ast::Program;
 use first::{first, is_nullable};
-use grammar::{Part, Symbol, alternatives};
+use grammar::{Bound, Part, Symbol, alternatives};
 use pile::Pile;
 use std::alloc::{AllocError, Global};
-use terminal::{Terminal, Token};
+use ec_lexer::token::Token;
+use terminal::{Terminal, terminal_of};
 use thiserror::Error;
 use values::{Values, keep, no_values, perform, take_program};
 
@@ -53,12 +57,22 @@ impl From<AllocError> for ParseError {
 /// The most nesting that a token may have.
 const DEEPEST: usize = 64;
 
-/// The tree of a program's tokens.
+/// The tree of a program's tokens. Tokens whose nesting is at most 64 and that have a tree have this one alone.
 pub fn parse(alloc: Global, tokens: &[Token]) -> Result<Program, ParseError>
-    ensures found { IfOk result (λ program. (ns : List ℕ) × (ws : Built) × IsProgram tokens.now ns ws × IsShallow ns × (program ≡ first_program ws.programs)) }
-    ensures only { (ns : List ℕ) (ws : Built) → IsProgram tokens.now ns ws → IsShallow ns →
-        MatchResult result (λ program. program ≡ first_program ws.programs) (λ e. e ≡ Memory) }
+    ensures tree { IfOk result (λ program. HasTree tokens.now program × IsShallow tokens.now) }
+    ensures only { (program : AProgram) → HasTree tokens.now program → IsShallow tokens.now →
+        MatchResult result (λ found. found ≡ program) (λ e. e ≡ Memory) }
     ensures refused { IfErr result (IsCause tokens.now) }
+{
+    read(alloc, tokens)
+}
+
+/// The same, by the parser's own table.
+fn read(alloc: Global, tokens: &[Token]) -> Result<Program, ParseError>
+    ensures found { IfOk result (λ program. (ns : List ℕ) × (ws : Built) × reading.IsProgram tokens.now ns ws × AreShallow ns × (program ≡ first_program ws.programs)) }
+    ensures only { (ns : List ℕ) (ws : Built) → reading.IsProgram tokens.now ns ws → AreShallow ns →
+        MatchResult result (λ program. program ≡ first_program ws.programs) (λ e. e ≡ Memory) }
+    ensures refused { IfErr result (reading.IsCause tokens.now) }
 {
     let mut symbols = Pile::new(alloc);
     let mut values = no_values(alloc);
@@ -99,10 +113,11 @@ fn step(
         (Goes token.now symbols.old values.old symbols.new values.new)
         (Refuses token.now symbols.old values.old)) }
 {
-    match settle(alloc, token.terminal, symbols, values)? {
-        Next::Token(kind) => Ok(same(kind, token.terminal)),
+    let found = terminal_of(token);
+    match settle(alloc, found, symbols, values)? {
+        Next::Token(kind) => Ok(same(kind, found)),
         Next::Keep(kind) => {
-            if !same(kind, token.terminal) {
+            if !same(kind, found) {
                 return Ok(false);
             }
             keep(alloc, kind, token, values)?;
@@ -150,7 +165,7 @@ fn settle(
                 None => return Ok(Next::Stuck),
                 Some(alternative) => symbols.push_all(alternative)?,
             },
-            Some(Symbol::Close(_)) => {}
+            Some(Symbol::Bound(_)) => {}
             Some(Symbol::Do(act)) => perform(alloc, act, values)?,
         }
     }
@@ -183,7 +198,7 @@ fn suits(kind: Terminal, alternative: &[Symbol]) -> bool
                     return false;
                 }
             }
-            Symbol::Close(_) | Symbol::Do(_) => {}
+            Symbol::Bound(_) | Symbol::Do(_) => {}
         }
     }
     true
@@ -214,9 +229,14 @@ fn nesting(symbols: &Pile<Symbol>) -> usize
 {
     let mut open = 0;
     for symbol in symbols.as_slice() {
-        if let Symbol::Close(_) = symbol {
-            open += 1;
+        match symbol {
+            Symbol::Bound(Bound::Opens(_)) => open = usize::saturating_sub(open, 1),
+            Symbol::Bound(Bound::Closes(_)) => open += 1,
+            _ => {}
         }
     }
     open
 }
+
+#[cfg(test)]
+mod tests;

@@ -1,6 +1,12 @@
-//! Terminals of the grammar, and tokens.
+//! What tokens are to the grammar.
 
-use ec_ast::{Span, Text};
+ghost use Rattle.std.specs.Prelude.{◌≡◌, IfOk};
+ghost use Rattle.ec_parser.specs.Terminals as spec;
+
+use ec_ast::Text;
+use ec_lexer::token::{Reserved, Symbol, Token, TokenKind};
+use sqlite_items::Items;
+use std::alloc::{AllocError, Global};
 
 /// What a token is to the grammar.
 #[derive(Clone, Copy, PartialEq, Eq)]
@@ -120,11 +126,143 @@ pub enum Terminal {
     EndOfText,
 }
 
-/// A token, and where it stands. A word and a string have a text, an integer has a number.
-#[derive(Drop)]
-pub struct Token {
-    pub terminal: Terminal,
-    pub text: Text,
-    pub number: u32,
-    pub at: Span,
+/// What a token is to the grammar.
+#[tactic(auto, unfolding(crate::specs::Terminals::terminal_of_kind))]
+pub fn terminal_of(token: &Token) -> Terminal
+    ensures { result ≡ spec.terminal_of token.now }
+{
+    match &token.kind {
+        TokenKind::Reserved(word) => terminal_of_word(*word),
+        TokenKind::Name(text) => terminal_of_name(text.as_slice()),
+        TokenKind::Integer(_) => Terminal::Number,
+        TokenKind::Literal(_) => Terminal::Literal,
+        TokenKind::Symbol(symbol) => terminal_of_symbol(*symbol),
+    }
+}
+
+/// Case isn't significant.
+#[tactic(auto, unfolding(crate::specs::Terminals::terminal_of_name))]
+fn terminal_of_name(text: &[u8]) -> Terminal
+    ensures { result ≡ spec.terminal_of_name text.now }
+{
+    if text.eq_ignore_ascii_case(b"create") {
+        return Terminal::Create;
+    }
+    if text.eq_ignore_ascii_case(b"putstring") {
+        return Terminal::Putstring;
+    }
+    if text.eq_ignore_ascii_case(b"count") {
+        return Terminal::Count;
+    }
+    Terminal::Name
+}
+
+fn terminal_of_word(word: Reserved) -> Terminal
+    ensures { result ≡ spec.terminal_of_word word }
+{
+    match word {
+        Reserved::And => Terminal::And,
+        Reserved::Any => Terminal::Any,
+        Reserved::As => Terminal::As,
+        Reserved::Assert => Terminal::Assert,
+        Reserved::At => Terminal::At,
+        Reserved::Attached => Terminal::Attached,
+        Reserved::Boolean => Terminal::Boolean,
+        Reserved::Class => Terminal::Class,
+        Reserved::Condition => Terminal::Condition,
+        Reserved::Const => Terminal::Const,
+        Reserved::Else => Terminal::Else,
+        Reserved::Elseif => Terminal::Elseif,
+        Reserved::End => Terminal::End,
+        Reserved::Exit => Terminal::Exit,
+        Reserved::Export => Terminal::Export,
+        Reserved::Failure => Terminal::Failure,
+        Reserved::False => Terminal::False,
+        Reserved::Fix => Terminal::Fix,
+        Reserved::Function => Terminal::Function,
+        Reserved::If => Terminal::If,
+        Reserved::Immutable => Terminal::Immutable,
+        Reserved::Initially => Terminal::Initially,
+        Reserved::Integer => Terminal::Integer,
+        Reserved::Isfixed => Terminal::Isfixed,
+        Reserved::Loop => Terminal::Loop,
+        Reserved::Monitor => Terminal::Monitor,
+        Reserved::Move => Terminal::Move,
+        Reserved::Nil => Terminal::Nil,
+        Reserved::Node => Terminal::Node,
+        Reserved::Object => Terminal::Object,
+        Reserved::Of => Terminal::Of,
+        Reserved::Operation => Terminal::Operation,
+        Reserved::Or => Terminal::Or,
+        Reserved::Process => Terminal::Process,
+        Reserved::Refix => Terminal::Refix,
+        Reserved::Return => Terminal::Return,
+        Reserved::Self_ => Terminal::Self_,
+        Reserved::Signal => Terminal::Signal,
+        Reserved::Stdout => Terminal::Stdout,
+        Reserved::String => Terminal::String,
+        Reserved::Then => Terminal::Then,
+        Reserved::To => Terminal::To,
+        Reserved::True => Terminal::True,
+        Reserved::Typeobject => Terminal::Typeobject,
+        Reserved::Unfix => Terminal::Unfix,
+        Reserved::Var => Terminal::Var,
+        Reserved::Vector => Terminal::Vector,
+        Reserved::View => Terminal::View,
+        Reserved::Visit => Terminal::Visit,
+        Reserved::Wait => Terminal::Wait,
+        Reserved::When => Terminal::When,
+    }
+}
+
+fn terminal_of_symbol(symbol: Symbol) -> Terminal
+    ensures { result ≡ spec.terminal_of_symbol symbol }
+{
+    match symbol {
+        Symbol::LeftArrow => Terminal::Arrow,
+        Symbol::RightArrow => Terminal::ResultArrow,
+        Symbol::OpenParenthesis => Terminal::OpenParenthesis,
+        Symbol::CloseParenthesis => Terminal::CloseParenthesis,
+        Symbol::OpenBracket => Terminal::OpenBracket,
+        Symbol::CloseBracket => Terminal::CloseBracket,
+        Symbol::Comma => Terminal::Comma,
+        Symbol::Colon => Terminal::Colon,
+        Symbol::Dot => Terminal::Dot,
+        Symbol::Plus => Terminal::Plus,
+        Symbol::Minus => Terminal::Minus,
+        Symbol::Star => Terminal::Times,
+        Symbol::Slash => Terminal::Over,
+        Symbol::Hash => Terminal::Remainder,
+        Symbol::DoubleBar => Terminal::Concat,
+        Symbol::DoubleEqual => Terminal::Same,
+        Symbol::BangDoubleEqual => Terminal::NotSame,
+        Symbol::Equal => Terminal::Equal,
+        Symbol::BangEqual => Terminal::NotEqual,
+        Symbol::Less => Terminal::Less,
+        Symbol::LessEqual => Terminal::LessEqual,
+        Symbol::Greater => Terminal::More,
+        Symbol::GreaterEqual => Terminal::MoreEqual,
+        Symbol::Bang => Terminal::Bang,
+    }
+}
+
+/// The bytes of a name or a literal, and of no other.
+pub fn text_of(alloc: Global, token: &Token) -> Result<Text, AllocError>
+    ensures { IfOk result (λ text. text ≡ spec.text_of token.now) }
+{
+    match &token.kind {
+        TokenKind::Name(text) => Items::from_slice(alloc, text.as_slice()),
+        TokenKind::Literal(text) => Items::from_slice(alloc, text.as_slice()),
+        _ => Ok(Items::new(alloc)),
+    }
+}
+
+/// The number of an integer, and of no other.
+pub fn number_of(token: &Token) -> u32
+    ensures { result ≡ spec.number_of token.now }
+{
+    match &token.kind {
+        TokenKind::Integer(number) => *number,
+        _ => 0,
+    }
 }

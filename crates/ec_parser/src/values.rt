@@ -8,7 +8,8 @@ ghost use Rattle.ec_parser.specs.Values as spec;
 
 use crate::grammar::Act;
 use crate::pile::Pile;
-use crate::terminal::{Terminal, Token};
+use crate::terminal::{Terminal, number_of, text_of};
+use ec_lexer::token::Token;
 use ec_ast::{
     Addend, Additive, Arm, Block, Body, Class, Comparison, Constant, ConstantValue, Expression, Factor, Link, Literal,
     Member, Multiplicative, Name, Number, ObjectConstructor, Operation, Parameter, ProcessSection, Program, Signature,
@@ -102,12 +103,12 @@ pub fn keep(alloc: Global, wanted: Terminal, token: &Token, values: &mut Values)
 {
     match wanted {
         Terminal::Name | Terminal::Create | Terminal::Putstring | Terminal::Count => {
-            let text = Items::from_slice(alloc, token.text.as_slice())?;
+            let text = text_of(alloc, token)?;
             values.names.push(Name { text, at: token.at })
         }
-        Terminal::Number => values.numbers.push(Number { value: token.number, at: token.at }),
+        Terminal::Number => values.numbers.push(Number { value: number_of(token), at: token.at }),
         Terminal::Literal => {
-            let text = Items::from_slice(alloc, token.text.as_slice())?;
+            let text = text_of(alloc, token)?;
             values.literals.push(Literal { text, at: token.at })
         }
         _ => values.places.push(token.at),

@@ -1,5 +1,5 @@
 use Rattle.std.proofs.Common.{sym, ◌∙◌, ap, ◌++◌, arith}
-use Rattle.ec_parser.proofs.Theory.{after_part, after_close, after_act, after_stuck, lighter, acts_find}
+use Rattle.ec_parser.proofs.Theory.{after_part, after_bound, after_act, after_stuck, lighter, acts_find}
 use Rattle.ec_parser.proofs.settle.Goals as goal
 
 pub returns-in-None-choose : goal.returns-in-None-choose
@@ -13,8 +13,8 @@ opening-smaller-in-Continue-1 c =
 pub opening-preserved-in-Continue-1 : goal.opening-preserved-in-Continue-1
 opening-preserved-in-Continue-1 c = after_part _ _ _ _ _ c.opening.invariant _ _ _ _ (rw c.in-Some-Part.field-0-is at c.in-Some-Part.ensures) (rw c.in-Some.is at c.choose.ensures.some) c.in_ok-push_all-in-Some.ensures
 
-pub opening-preserved-in-Some-Close : goal.opening-preserved-in-Some-Close
-opening-preserved-in-Some-Close c = after_close _ _ _ _ _ c.opening.invariant _ _ (rw c.in-Some-Close.field-0-is at c.in-Some-Close.ensures)
+pub opening-preserved-in-Some-Bound : goal.opening-preserved-in-Some-Bound
+opening-preserved-in-Some-Bound c = after_bound _ _ _ _ _ c.opening.invariant _ _ (rw c.in-Some-Bound.field-0-is at c.in-Some-Bound.ensures)
 
 pub perform-requires : goal.perform-requires
 perform-requires c = acts_find _ _ _ _ _ c.opening.invariant _ _ (rw c.in-Some-Do.field-0-is at c.in-Some-Do.ensures)

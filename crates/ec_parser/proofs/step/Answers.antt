@@ -1,6 +1,7 @@
 use Rattle.std.proofs.Common.{sym, ◌∙◌, ◌≡◌, ◌++◌, Bool, true, false, MatchBool, refl, List, ap, ◌∷◌}
 use Rattle.ec_parser.specs.declared.terminal.Terminal.{Terminal}
-use Rattle.ec_parser.specs.declared.terminal.Token.{Token as Word}
+use Rattle.ec_parser.specs.Terminals.{terminal_of}
+use Rattle.ec_lexer.specs.declared.token.Token.{Token as Word}
 use Rattle.ec_parser.specs.declared.values.Values.{Values}
 use Rattle.ec_parser.specs.declared.grammar.Symbol.{Symbol}
 use Rattle.ec_parser.specs.declared.grammar.Symbol.TheVariants.{Token, Keep}
@@ -9,8 +10,8 @@ use Rattle.ec_parser.specs.Follow.{Goes, Refuses, Settles, Same, Follows}
 use Rattle.ec_parser.proofs.Theory.{takes_token, takes_keep, other_token, other_keep, no_more, none_begins}
 use Rattle.ec_parser.proofs.step.Goals as goal
 
-tested : (b : Bool) (t : Word) (k : Terminal) (s₀ : List Symbol) (v₀ : Values) (s : List Symbol) (v : Values) → (b ≡ true → k ≡ t.terminal) → (b ≡ false → k ≡ t.terminal → ⊥) →
-    Same t.terminal s₀ v₀ (Token k ∷ s) v × Follows s × Fits (Token k ∷ s) v → MatchBool b (Goes t s₀ v₀ s v) (Refuses t s₀ v₀)
+tested : (b : Bool) (t : Word) (k : Terminal) (s₀ : List Symbol) (v₀ : Values) (s : List Symbol) (v : Values) → (b ≡ true → k ≡ (terminal_of t)) → (b ≡ false → k ≡ (terminal_of t) → ⊥) →
+    Same (terminal_of t) s₀ v₀ (Token k ∷ s) v × Follows s × Fits (Token k ∷ s) v → MatchBool b (Goes t s₀ v₀ s v) (Refuses t s₀ v₀)
 tested true t k s₀ v₀ s v y n h = takes_token t k s₀ v₀ s v (sym (y refl)) h
 tested false t k s₀ v₀ s v y n h = other_token t k s₀ v₀ s v (λ e. n refl (sym e)) h
 

@@ -1,5 +1,5 @@
 use Rattle.std.proofs.Common.{rules, ◌≡◌, ℕ, ◌+◌, ◌<◌, ◌≤◌, List, length, take, sym, ◌∙◌, arith, length-take, get_or, ◌++◌, ◌∷◌, [], ap}
-use Rattle.ec_parser.specs.declared.terminal.Token.{Token}
+use Rattle.ec_lexer.specs.declared.token.Token.{Token}
 use Rattle.std.proofs.lemmas.List.{take_more, take_all}
 use Rattle.ec_parser.proofs.Progress.{no_program_from, syntax_at, reached_more, not_deep, deep_at, unfinished, syntax_at_end, Reached, start, whole_found, whole_only}
 use Rattle.ec_parser.specs.declared.grammar.Part.TheVariants as part
@@ -7,7 +7,7 @@ use Rattle.ec_parser.specs.declared.grammar.Symbol.{Symbol}
 use Rattle.ec_parser.specs.declared.grammar.Symbol.TheVariants.{Part}
 use Rattle.ec_parser.specs.declared.values.Values.{Values}
 use Rattle.ec_parser.specs.Values.{no_values}
-use Rattle.ec_parser.proofs.parse.Goals as goal
+use Rattle.ec_parser.proofs.read.Goals as goal
 
 more_by : (xs : List Token) (i : ℕ) (t : Token) → i < length xs → t ≡ get_or xs i t → take (i + 1) xs ≡ take i xs ++ t ∷ []
 more_by xs i t h is = take_more xs i t h ∙ ap (λ x. take i xs ++ x ∷ []) (sym is)
