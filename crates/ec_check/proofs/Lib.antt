@@ -1,1 +1,3 @@
-pub mod Programs
+pub mod Accepted
+pub mod Order
+pub mod Sizes

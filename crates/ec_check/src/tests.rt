@@ -1,115 +1,99 @@
-//! Texts that are programs and texts that are none, with what their trees have.
+//! Trees that keep each rule, that break it, and that break two.
 use super::*;
-use ec_printing::{Literal, Name, Statement};
+use ec_base::list::Seq;
+use ec_printing::{Constant, Name};
+use std::alloc::{AllocError, Global};
 use std::process::Abort;
 use std::test::Fail;
 
-const HELLO: &[u8] =
-    b"const main <- object main\n  initially\n    stdout.putstring[\"hi\"]\n  end initially\nend main\n";
+/// Where the object's name stands, its first three literals, and the name after `end`.
+const OWN: u32 = 21;
 
-/// Whether the text is a program's.
-fn is_program(alloc: Global, text: &[u8]) -> Result<bool, AllocError> {
-    Ok(accepted(alloc, text)?.is_some())
+const FIRST: u32 = 100;
+
+const SECOND: u32 = 110;
+
+const THIRD: u32 = 120;
+
+const END: u32 = 1_000_000;
+
+/// An object called `main` with this name after its `end` and so many statements, and the first fault of its tree, if any:
+/// its rule and where its place begins. Each literal has two bytes, but for one, whose number and length are given.
+type Case = (&'static [u8], u32, (u32, u32), Option<(Rule, u32)>);
+
+fn cases() -> [Case; 15] {
+    let too_many = Some((Rule::Size, OWN));
+    let end_name = Some((Rule::EndName, END));
+    [
+        (b"main", 0, (0, 2), None),
+        (b"main", 1, (0, 2), None),
+        (b"MaIN", 1, (0, 2), None),
+        (b"mine", 1, (0, 2), end_name),
+        (b"mains", 0, (0, 2), end_name),
+        (b"main", 2000, (0, 2), None),
+        (b"main", 2001, (0, 2), too_many),
+        (b"main", 3, (1, 65_535), None),
+        (b"main", 3, (0, 65_536), Some((Rule::Size, FIRST))),
+        (b"main", 3, (1, 65_536), Some((Rule::Size, SECOND))),
+        (b"main", 2000, (2, 65_536), Some((Rule::Size, THIRD))),
+        (b"mine", 2001, (0, 2), too_many),
+        (b"mine", 3, (2, 65_536), Some((Rule::Size, THIRD))),
+        (b"main", 2001, (0, 65_536), too_many),
+        (b"mine", 2001, (2000, 65_536), too_many),
+    ]
 }
 
-fn has_name(rt: &impl Abort, name: &Name, text: &[u8], from: u32, to: u32) {
-    assert_eq!(rt; name.text.as_slice(), text);
-    assert_eq!(rt; name.at, Span { from, to });
+fn name_at(alloc: Global, text: &[u8], from: u32) -> Result<Name, AllocError> {
+    let to = from.wrapping_add(4);
+    Ok(Name {
+        text: Seq::from_vec(Vec::from_slice(alloc, text)?),
+        at: Span { from, to },
+    })
 }
 
-/// The literal that the only statement of a program prints.
-fn printed(program: &Program) -> Option<&Literal> {
-    let constant = program.constant.as_ref()?;
-    let statements = &constant.value.initially;
-    if statements.len() != 1 {
-        return None;
+fn literal_at(alloc: Global, length: u32, from: u32) -> Result<Literal, AllocError> {
+    let mut text = Seq::new(alloc);
+    for _ in 0..length {
+        text.push(b'x')?;
     }
-    match statements.get(0)? {
-        Statement::Print(literal) => Some(literal),
+    let to = from.wrapping_add(4);
+    Ok(Literal {
+        text,
+        at: Span { from, to },
+    })
+}
+
+fn tree_of(alloc: Global, case: Case) -> Result<Program, AllocError> {
+    let (end_name, count, (other, other_length), _) = case;
+    let mut initially = Seq::new(alloc);
+    let mut from = FIRST;
+    for i in 0..count {
+        let length = if i == other { other_length } else { 2 };
+        initially.push(Statement::Print(literal_at(alloc, length, from)?))?;
+        from = from.wrapping_add(10);
     }
+    let value = ObjectConstructor {
+        name: name_at(alloc, b"main", OWN)?,
+        initially,
+        end_name: name_at(alloc, end_name, END)?,
+    };
+    let name = name_at(alloc, b"other", 6)?;
+    Ok(Program {
+        constant: Some(Constant { name, value }),
+    })
 }
 
 #[test]
-fn hello_has_its_tree(rt: HostRuntime) -> Result<(), Fail> {
-    let program = accepted(rt.alloc(), HELLO)?.ok_or("no program")?;
-    let constant = program.constant.as_ref().ok_or("no constant")?;
-    has_name(&rt, &constant.name, b"main", 6, 10);
-    has_name(&rt, &constant.value.name, b"main", 21, 25);
-    has_name(&rt, &constant.value.end_name, b"main", 85, 89);
-    let literal = printed(&program).ok_or("not one statement")?;
-    assert_eq!(rt; literal.text.as_slice(), b"hi".as_slice());
-    assert_eq!(rt; literal.at, Span { from: 59, to: 63 });
-    Ok(())
-}
-
-#[test]
-fn an_empty_text_has_no_constant(rt: HostRuntime) -> Result<(), Fail> {
-    let program = accepted(rt.alloc(), b"")?.ok_or("no program")?;
-    assert!(rt; program.constant.is_none());
-    Ok(())
-}
-
-#[test]
-fn these_are_programs(rt: HostRuntime) -> Result<(), Fail> {
-    let texts: [&[u8]; 8] = [
-        b" \t\r\n",
-        b"% only a comment",
-        b"CONST Main <- OBJECT Main Initially END initially end MAIN",
-        b"const a<-object b initially end initially end b",
-        b"%1 \xff\nconst a <- object a %2 \x00\n initially end initially end a%3",
-        b"const _ <- object x_1 initially stdout.PutString[\"\"]stdout . putstring [ \"~ %\" ] end initially end X_1",
-        b"const putstring <- object putstring initially end initially end putstring",
-        b"const constant <- object ends initially end initially end ends",
-    ];
-    for text in texts {
-        assert!(rt; is_program(rt.alloc(), text)?);
+fn each_tree_has_its_first_fault(rt: HostRuntime) -> Result<(), Fail> {
+    for case in cases() {
+        let fault = first_fault(&tree_of(rt.alloc(), case)?);
+        assert_eq!(rt; fault.map(|fault| (fault.rule, fault.at.from)), case.3);
     }
     Ok(())
 }
 
 #[test]
-fn these_are_none(rt: HostRuntime) -> Result<(), Fail> {
-    let texts: [&[u8]; 14] = [
-        b"const",
-        b"const n <- 1",
-        b"const a < - object a initially end initially end a",
-        b"const a <- object a initially end initially end b",
-        b"const a <- object a initially end initially end a a",
-        b"const a <- object a initially end initially end a const b <- object b initially end initially end b",
-        b"const a <- object a initially stdout.putstring[\"x] end initially end a",
-        b"const a <- object a initially stdout.putstring[\"\\x\"] end initially end a",
-        b"const a <- object a initially stdout.putstring[\"\n\"] end initially end a",
-        b"const a <- object a initially stdout.puts[\"x\"] end initially end a",
-        b"const a <- object a initially stdout.putstring[] end initially end a",
-        b"const a <- object a initially stdout.putstring[\"x\" end initially end a",
-        b"const if <- object a initially end initially end a",
-        b"const a <- objecta initially end initially end a",
-    ];
-    for text in texts {
-        assert!(rt; !is_program(rt.alloc(), text)?);
-    }
-    Ok(())
-}
-
-#[test]
-fn escapes_stand_for_bytes(rt: HostRuntime) -> Result<(), Fail> {
-    let text =
-        b"const a <- object a initially stdout.putstring[\"<\\n\\t\\\\\\\">\"] end initially end a";
-    let program = accepted(rt.alloc(), text)?.ok_or("no program")?;
-    let literal = printed(&program).ok_or("not one statement")?;
-    assert_eq!(rt; literal.text.as_slice(), b"<\n\t\\\">".as_slice());
-    Ok(())
-}
-
-#[test]
-fn another_end_name_is_a_fault_there(rt: HostRuntime) -> Result<(), Fail> {
-    let tokens = lex(
-        rt.alloc(),
-        b"const a <- object b initially end initially end a",
-    )?;
-    let program = parse(rt.alloc(), tokens.as_slice())?.ok_or("no tree")?;
-    let fault = first_fault(&program).ok_or("no fault")?;
-    assert_eq!(rt; fault.rule, Rule::E3);
-    assert_eq!(rt; fault.at, Span { from: 48, to: 49 });
+fn no_constant_has_no_fault(rt: HostRuntime) -> Result<(), Fail> {
+    assert!(rt; first_fault(&Program { constant: None }).is_none());
     Ok(())
 }

@@ -10,7 +10,7 @@ use Rattle.ec_lexer.specs.declared.token.Token.{Token}
 use Rattle.ec_lexer.specs.declared.token.TokenKind.{TokenKind}
 use Rattle.ec_lexer.specs.declared.token.TokenKind.TheVariants.{Reserved, Name, Literal, Symbol}
 use Rattle.ec_subset.specs.Grammar.{string, IsStatement, print, AreStatements, none, more, SpellsPutstring}
-use Rattle.ec_subset.specs.Reading.{Begins, literal_of, text_of}
+use Rattle.ec_subset.specs.Reading.{BeginsWith, literal_of, text_of}
 use Rattle.ec_subset.specs.declared.TheConstants.{PRINT}
 use Rattle.ec_subset.proofs.Terminals.{of_word, of_symbol, of_putstring, of_literal}
 
@@ -29,7 +29,7 @@ print_by a b c d e f sa sb sc sd se sf w text ea eb ec p ed ee ef et =
     (subst (λ x. IsStatement x (Print (record { text = text_of e; at = se }))) tokens made)
 
 -- tokens that begin with what prints begin with a statement of it
-pub print_first : (tokens : List Token) (e : Token) → Begins PRINT tokens → e ≡ get_or tokens 4 e → (6 ≤ length tokens) × IsStatement (take 6 tokens) (Print (literal_of e))
+pub print_first : (tokens : List Token) (e : Token) → BeginsWith PRINT tokens → e ≡ get_or tokens 4 e → (6 ≤ length tokens) × IsStatement (take 6 tokens) (Print (literal_of e))
 print_first [] x h is = absurd h
 print_first (a ∷ []) x h is = absurd h.1
 print_first (a ∷ b ∷ []) x h is = absurd h.1.1
@@ -45,7 +45,7 @@ print_first (a ∷ b ∷ c ∷ d ∷ e ∷ f ∷ rest) x h is =
     (omega arith, subst (λ y. IsStatement (a ∷ b ∷ c ∷ d ∷ e ∷ f ∷ []) (Print (literal_of y))) same made)
 
 -- one statement more
-add : {ts us : List Token} {ss : List Statement} {s : Statement} → AreStatements ts ss → IsStatement us s → AreStatements (ts ++ us) (ss ++ s ∷ [])
+pub add : {ts us : List Token} {ss : List Statement} {s : Statement} → AreStatements ts ss → IsStatement us s → AreStatements (ts ++ us) (ss ++ s ∷ [])
 add {us = us} {s = s} none i = subst (λ x. AreStatements x (s ∷ [])) (append-nil us) (more i none)
 add {us = us} {s = s} (more {first} {rest} {statement} {statements} j r) i =
     subst (λ x. AreStatements x (statement ∷ (statements ++ s ∷ []))) (sym (append_assoc first rest us)) (more j (add r i))
@@ -54,22 +54,22 @@ pub add_next : (tokens : List Token) (n : ℕ) (ss : List Statement) (s : Statem
     AreStatements (take n tokens) ss → IsStatement (take 6 (drop n tokens)) s → AreStatements (take (n + 6) tokens) (ss ++ s ∷ [])
 add_next tokens n ss s are i = subst (λ x. AreStatements x (ss ++ s ∷ [])) (sym (take-add n 6 tokens)) (add are i)
 
-begins_print : {us : List Token} {s : Statement} → IsStatement us s → (x : List Token) → Begins PRINT (us ++ x)
+pub begins_print : {us : List Token} {s : Statement} → IsStatement us s → (x : List Token) → BeginsWith PRINT (us ++ x)
 begins_print (print p) x = (refl, (refl, (p, (refl, (tt, (refl, tt))))))
 
-peel : {us vs : List Token} {s t : Statement} → IsStatement us s → IsStatement vs t → (x y : List Token) → us ++ x ≡ vs ++ y → (s ≡ t) × (x ≡ y)
+pub peel : {us vs : List Token} {s t : Statement} → IsStatement us s → IsStatement vs t → (x y : List Token) → us ++ x ≡ vs ++ y → (s ≡ t) × (x ≡ y)
 peel (print {e = se} {text = t} p) (print {e = sf} {text = u} q) x y e =
     let literals : string t se ≡ string u sf = cc in
     (ap (λ token. Print (literal_of token)) literals, cc)
 
 -- statements that end where no statement stands are the same, and so is what stands behind them
 pub same_statements : {us vs : List Token} {ss ts : List Statement} → AreStatements us ss → AreStatements vs ts → (x y : List Token) → us ++ x ≡ vs ++ y →
-    (Begins PRINT x → ⊥) → (Begins PRINT y → ⊥) → (ss ≡ ts) × (x ≡ y)
+    (BeginsWith PRINT x → ⊥) → (BeginsWith PRINT y → ⊥) → (ss ≡ ts) × (x ≡ y)
 same_statements none none x y e p q = (refl, e)
 same_statements none (more {first} {rest} j r) x y e p q =
-    absurd (p (subst (λ l. Begins PRINT l) (sym (e ∙ append_assoc first rest y)) (begins_print j (rest ++ y))))
+    absurd (p (subst (λ l. BeginsWith PRINT l) (sym (e ∙ append_assoc first rest y)) (begins_print j (rest ++ y))))
 same_statements (more {first} {rest} j r) none x y e p q =
-    absurd (q (subst (λ l. Begins PRINT l) (sym (append_assoc first rest x) ∙ e) (begins_print j (rest ++ x))))
+    absurd (q (subst (λ l. BeginsWith PRINT l) (sym (append_assoc first rest x) ∙ e) (begins_print j (rest ++ x))))
 same_statements (more {first = a} {rest = us} i r) (more {first = b} {rest = vs} j s) x y e p q =
     let h = peel i j (us ++ x) (vs ++ y) (sym (append_assoc a us x) ∙ e ∙ append_assoc b vs y) in
     let k = same_statements r s x y h.1 p q in

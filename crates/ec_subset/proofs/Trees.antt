@@ -1,9 +1,8 @@
 -- Tokens have at most one tree, and which they have.
-use Rattle.std.proofs.Common.{◌≡◌, ℕ, ◌-◌, true, false, List, [], ◌∷◌, ◌++◌, length, take, drop, get_or, Some, None, refl, sym, ◌∙◌, ap, subst, arith, length-drop}
+use Rattle.std.proofs.Common.{◌≡◌, ℕ, true, false, List, [], ◌∷◌, ◌++◌, length, drop, get_or, Some, None, ◌⊎◌, inl, inr, refl, sym, ◌∙◌, ap, subst, arith, append_assoc}
 use Rattle.std.specs.Prelude.{◌==◌}
 use Rattle.std.proofs.lemmas.Bool.{eqb-true}
-use Rattle.std.proofs.lemmas.List.{take-append-drop, take_all}
-use Rattle.ec_printing.specs.declared.Name.{Name as AName}
+use Rattle.std.proofs.lemmas.List.{drop_at}
 use Rattle.ec_printing.specs.declared.Program.{Program}
 use Rattle.ec_ast.specs.declared.Span.{Span}
 use Rattle.ec_printing.specs.declared.Statement.{Statement}
@@ -12,10 +11,10 @@ use Rattle.ec_lexer.specs.declared.token.Symbol.TheVariants.{LeftArrow}
 use Rattle.ec_lexer.specs.declared.token.Token.{Token}
 use Rattle.ec_lexer.specs.declared.token.TokenKind.{TokenKind}
 use Rattle.ec_lexer.specs.declared.token.TokenKind.TheVariants.{Reserved, Name, Symbol}
-use Rattle.ec_subset.specs.Grammar.{word, id, mark, AreStatements, object, constant, HasTree, empty, with_constant}
-use Rattle.ec_subset.specs.Reading.{Begins, ReadsStatements, name_of, text_of}
+use Rattle.ec_subset.specs.Grammar.{word, id, mark, AreStatements, none, more, object, constant, HasTree, empty, with_constant}
+use Rattle.ec_subset.specs.Reading.{BeginsWith, name_of, text_of}
 use Rattle.ec_subset.specs.declared.TheConstants.{CONSTANT_BEGIN, CONSTANT_END, PRINT}
-use Rattle.ec_subset.proofs.Statements.{placed, same_statements}
+use Rattle.ec_subset.proofs.Statements.{placed, begins_print, peel, same_statements}
 use Rattle.ec_subset.proofs.Terminals.{of_word, of_name, of_symbol}
 
 abbrev ending : Span → Span → Span → List ℕ → Span → List Token
@@ -70,25 +69,42 @@ parts (with_constant (constant {a} {b} {c} {name} (object d e f g h i j {name = 
   program_is = refl;
 }
 
-not_print : (d e f g : Span) (name : List ℕ) → Begins PRINT (ending d e f name g) → ⊥
+not_print : (d e f g : Span) (name : List ℕ) → BeginsWith PRINT (ending d e f name g) → ⊥
 not_print d e f g name b = let h = b.0 in cc
 
 module _ {tokens : List Token} {program : Program} (p : Parts tokens program) where
-  pub begins_constant : Begins CONSTANT_BEGIN tokens
-  begins_constant = subst (λ x. Begins CONSTANT_BEGIN x) (sym p.tokens_are) (refl, (tt, (refl, (refl, (tt, (refl, tt))))))
+  pub begins_constant : BeginsWith CONSTANT_BEGIN tokens
+  begins_constant = subst (λ x. BeginsWith CONSTANT_BEGIN x) (sym p.tokens_are) (refl, (tt, (refl, (refl, (tt, (refl, tt))))))
 
   behind : drop 6 tokens ≡ p.block ++ ending p.g p.h p.i p.end_name p.j
   behind = ap (drop 6) p.tokens_are
 
-  the_end : (statements : List Statement) (n : ℕ) → ReadsStatements (drop 6 tokens) statements n → drop n (drop 6 tokens) ≡ ending p.g p.h p.i p.end_name p.j
-  the_end statements n r =
-      (same_statements r.are p.are (drop n (drop 6 tokens)) (ending p.g p.h p.i p.end_name p.j) (take-append-drop n (drop 6 tokens) ∙ behind)
-      r.all (not_print p.g p.h p.i p.j p.end_name)).1
+-- what may stand behind a statement: another, or the end
+abbrev pub GoesOn : List Token → Type 0
+GoesOn x = BeginsWith PRINT x ⊎ (BeginsWith CONSTANT_END x × (length x ≡ 4))
 
-  pub ends : (statements : List Statement) (n : ℕ) → ReadsStatements (drop 6 tokens) statements n →
-      (length (drop n (drop 6 tokens)) ≡ 4) × Begins CONSTANT_END (drop n (drop 6 tokens))
-  ends statements n r =
-      subst (λ x. (length x ≡ 4) × Begins CONSTANT_END x) (sym (the_end statements n r)) (refl, (refl, (refl, (refl, (tt, tt)))))
+behind_statements : {us vs : List Token} {ss ts : List Statement} → AreStatements us ss → AreStatements vs ts → (d e f g : Span) (name : List ℕ) (x : List Token) →
+    us ++ x ≡ vs ++ ending d e f name g → GoesOn x
+behind_statements none none d e f g name x is = inr (subst (λ y. BeginsWith CONSTANT_END y × (length y ≡ 4)) (sym is) ((refl, (refl, (refl, (tt, tt)))), refl))
+behind_statements none (more {first} {rest} j r) d e f g name x is =
+    inl (subst (λ y. BeginsWith PRINT y) (sym (is ∙ append_assoc first rest (ending d e f name g))) (begins_print j (rest ++ ending d e f name g)))
+behind_statements (more {first} {rest} j r) none d e f g name x is =
+    absurd (not_print d e f g name (subst (λ y. BeginsWith PRINT y) (sym (append_assoc first rest x) ∙ is) (begins_print j (rest ++ x))))
+behind_statements (more {first = a} {rest = us} i r) (more {first = b} {rest = vs} j s) d e f g name x is =
+    let h = peel i j (us ++ x) (vs ++ ending d e f name g) (sym (append_assoc a us x) ∙ is ∙ append_assoc b vs (ending d e f name g)) in
+    behind_statements r s d e f g name x h.1
+
+behind_front : (front block : List Token) {ss : List Statement} → length front ≡ 6 → AreStatements block ss → (x : List Token) (program : Program) →
+    Parts (front ++ (block ++ x)) program → GoesOn x
+behind_front front block l are x program p =
+    let same : block ++ x ≡ p.block ++ ending p.g p.h p.i p.end_name p.j = sym (drop_at front (block ++ x) 6 l) ∙ behind p in
+    behind_statements are p.are p.g p.h p.i p.j p.end_name x same
+
+-- what stands behind a constant's begin and statements
+pub goes_on : (front block : List Token) {ss : List Statement} → length front ≡ 6 → AreStatements block ss → (x : List Token) (program : Program) →
+    HasTree (front ++ (block ++ x)) program → GoesOn x
+goes_on [] block l are x program h = absurd (omega arith)
+goes_on (a ∷ front) block l are x program h = behind_front (a ∷ front) block l are x program (parts h (λ e. cc))
 
 same_parts : {tokens : List Token} {p q : Program} → Parts tokens p → Parts tokens q → p ≡ q
 same_parts {tokens} {p} {q} x y =
@@ -138,13 +154,13 @@ object_by ka kb kc kd ke kf kg kh ki kj a b c d e f g h i j block ss ea eb ec ed
     })) before (with_constant (constant (object d e f g h i j are)))
 
 ended : (block : List Token) (ss : List Statement) (a b c d e f : Token) (end : List Token) (x : Token) →
-    Begins CONSTANT_BEGIN (a ∷ b ∷ c ∷ d ∷ e ∷ f ∷ []) → AreStatements block ss → Begins CONSTANT_END end → length end ≡ 4 → x ≡ get_or end 3 x →
+    BeginsWith CONSTANT_BEGIN (a ∷ b ∷ c ∷ d ∷ e ∷ f ∷ []) → AreStatements block ss → BeginsWith CONSTANT_END end → length end ≡ 4 → x ≡ get_or end 3 x →
     HasTree (a ∷ b ∷ c ∷ d ∷ e ∷ f ∷ (block ++ end)) (record { constant = Some (record { name = name_of b; value = record { name = name_of e; initially = ss; end_name = name_of x } }) })
 ended block ss a b c d e f [] x p are q l is = absurd q
 ended block ss a b c d e f (g ∷ []) x p are q l is = absurd q.1
 ended block ss a b c d e f (g ∷ h ∷ []) x p are q l is = absurd q.1.1
 ended block ss a b c d e f (g ∷ h ∷ i ∷ []) x p are q l is = absurd q.1.1.1
-ended block ss a b c d e f (g ∷ h ∷ i ∷ j ∷ k ∷ more) x p are q l is = absurd (omega arith)
+ended block ss a b c d e f (g ∷ h ∷ i ∷ j ∷ k ∷ others) x p are q l is = absurd (omega arith)
 ended block ss a b c d e f (g ∷ h ∷ i ∷ j ∷ []) x p are q l is =
     let same : j ≡ x = sym is in
     subst (λ y. HasTree (a ∷ b ∷ c ∷ d ∷ e ∷ f ∷ (block ++ (g ∷ h ∷ i ∷ j ∷ []))) (record { constant = Some (record { name = name_of b; value = record { name = name_of e; initially = ss; end_name = name_of y } }) })) same
@@ -153,55 +169,28 @@ ended block ss a b c d e f (g ∷ h ∷ i ∷ j ∷ []) x p are q l is =
     are (of_word g.kind End q.0) (of_word h.kind Initially q.1.0) (of_word i.kind End q.1.1.0) (of_name j.kind q.1.1.1.0))
 
 -- tokens that begin, go on and end as a constant does have its tree
-pub constant_tree : (tokens : List Token) (ss : List Statement) (n : ℕ) (x y z : Token) →
-    Begins CONSTANT_BEGIN tokens → ReadsStatements (drop 6 tokens) ss n → Begins CONSTANT_END (drop n (drop 6 tokens)) → length (drop n (drop 6 tokens)) ≡ 4 →
-    x ≡ get_or tokens 1 x → y ≡ get_or tokens 4 y → z ≡ get_or (drop n (drop 6 tokens)) 3 z →
-    HasTree tokens (record { constant = Some (record { name = name_of x; value = record { name = name_of y; initially = ss; end_name = name_of z } }) })
-constant_tree [] ss n x y z p r q l ex ey ez = absurd p
-constant_tree (a ∷ []) ss n x y z p r q l ex ey ez = absurd p.1
-constant_tree (a ∷ b ∷ []) ss n x y z p r q l ex ey ez = absurd p.1.1
-constant_tree (a ∷ b ∷ c ∷ []) ss n x y z p r q l ex ey ez = absurd p.1.1.1
-constant_tree (a ∷ b ∷ c ∷ d ∷ []) ss n x y z p r q l ex ey ez = absurd p.1.1.1.1
-constant_tree (a ∷ b ∷ c ∷ d ∷ e ∷ []) ss n x y z p r q l ex ey ez = absurd p.1.1.1.1.1
-constant_tree (a ∷ b ∷ c ∷ d ∷ e ∷ f ∷ rest) ss n x y z p r q l ex ey ez =
+pub constant_tree : (front block : List Token) (ss : List Statement) (end : List Token) (x y z : Token) →
+    BeginsWith CONSTANT_BEGIN front → length front ≡ 6 → AreStatements block ss → BeginsWith CONSTANT_END end → length end ≡ 4 →
+    x ≡ get_or front 1 x → y ≡ get_or front 4 y → z ≡ get_or end 3 z →
+    HasTree (front ++ (block ++ end)) (record { constant = Some (record { name = name_of x; value = record { name = name_of y; initially = ss; end_name = name_of z } }) })
+constant_tree [] block ss end x y z p m are q l ex ey ez = absurd p
+constant_tree (a ∷ []) block ss end x y z p m are q l ex ey ez = absurd p.1
+constant_tree (a ∷ b ∷ []) block ss end x y z p m are q l ex ey ez = absurd p.1.1
+constant_tree (a ∷ b ∷ c ∷ []) block ss end x y z p m are q l ex ey ez = absurd p.1.1.1
+constant_tree (a ∷ b ∷ c ∷ d ∷ []) block ss end x y z p m are q l ex ey ez = absurd p.1.1.1.1
+constant_tree (a ∷ b ∷ c ∷ d ∷ e ∷ []) block ss end x y z p m are q l ex ey ez = absurd p.1.1.1.1.1
+constant_tree (a ∷ b ∷ c ∷ d ∷ e ∷ f ∷ g ∷ rest) block ss end x y z p m are q l ex ey ez = absurd (omega arith)
+constant_tree (a ∷ b ∷ c ∷ d ∷ e ∷ f ∷ []) block ss end x y z p m are q l ex ey ez =
     let names : b ≡ x = sym ex in
     let object_names : e ≡ y = sym ey in
-    let begin : Begins CONSTANT_BEGIN (a ∷ b ∷ c ∷ d ∷ e ∷ f ∷ []) = (p.0, (p.1.0, (p.1.1.0, (p.1.1.1.0, (p.1.1.1.1.0, (p.1.1.1.1.1.0, tt)))))) in
-    let made = ended (take n rest) ss a b c d e f (drop n rest) z begin r.are q l ez in
-    subst (λ u. HasTree (a ∷ b ∷ c ∷ d ∷ e ∷ f ∷ rest) (record { constant = Some (record { name = name_of u; value = record { name = name_of y; initially = ss; end_name = name_of z } }) })) names
-    (subst (λ u. HasTree (a ∷ b ∷ c ∷ d ∷ e ∷ f ∷ rest) (record { constant = Some (record { name = name_of b; value = record { name = name_of u; initially = ss; end_name = name_of z } }) })) object_names
-    (subst (λ u. HasTree (a ∷ b ∷ c ∷ d ∷ e ∷ f ∷ u) (record { constant = Some (record { name = name_of b; value = record { name = name_of e; initially = ss; end_name = name_of z } }) })) (take-append-drop n rest) made))
+    let made = ended block ss a b c d e f end z p are q l ez in
+    subst (λ u. HasTree (a ∷ b ∷ c ∷ d ∷ e ∷ f ∷ (block ++ end)) (record { constant = Some (record { name = name_of u; value = record { name = name_of y; initially = ss; end_name = name_of z } }) })) names
+    (subst (λ u. HasTree (a ∷ b ∷ c ∷ d ∷ e ∷ f ∷ (block ++ end)) (record { constant = Some (record { name = name_of b; value = record { name = name_of u; initially = ss; end_name = name_of z } }) })) object_names made)
 
 pub empty_tree : (tokens : List Token) → (length tokens == 0) ≡ true → HasTree tokens (record { constant = None })
 empty_tree [] e = empty
 empty_tree (t ∷ ts) e = let l : length (t ∷ ts) ≡ 0 = eqb-true (length (t ∷ ts)) 0 e in absurd (omega arith)
 
--- the same at the slices that the parser makes
-pub slice_from : (tokens : List Token) (n : ℕ) → take (length tokens - n) (drop n tokens) ≡ drop n tokens
-slice_from tokens n = take_all (length tokens - n) (drop n tokens) (simp length-drop (omega arith))
-
 pub not_empty : (tokens : List Token) → (length tokens == 0) ≡ false → tokens ≡ [] → ⊥
 not_empty [] f e = cc
 not_empty (t ∷ ts) f e = cc
-
-module _ (tokens block end : List Token) (ss : List Statement) (n : ℕ) (block_is : block ≡ drop 6 tokens) (end_is : end ≡ drop n block) (r : ReadsStatements block ss n) where
-  reads : ReadsStatements (drop 6 tokens) ss n
-  reads = subst (λ x. ReadsStatements x ss n) block_is r
-
-  end_behind : end ≡ drop n (drop 6 tokens)
-  end_behind = end_is ∙ ap (drop n) block_is
-
-  pub constant_ends : (program : Program) → HasTree tokens program → (tokens ≡ [] → ⊥) → (length end ≡ 4) × Begins CONSTANT_END end
-  constant_ends program h f =
-      subst (λ x. (length x ≡ 4) × Begins CONSTANT_END x) (sym end_behind) (ends (parts h f) ss n reads)
-
-  pub constant_read : (x y z : Token) (name object_name end_name : AName) →
-      Begins CONSTANT_BEGIN tokens → length end ≡ 4 → Begins CONSTANT_END end →
-      x ≡ get_or tokens 1 x → y ≡ get_or tokens 4 y → z ≡ get_or end 3 z →
-      name ≡ name_of x → object_name ≡ name_of y → end_name ≡ name_of z →
-      HasTree tokens (record { constant = Some (record { name = name; value = record { name = object_name; initially = ss; end_name = end_name } }) })
-  constant_read x y z name object_name end_name p l q ex ey ez nx ny nz =
-      let made = constant_tree tokens ss n x y z p reads
-      (subst (λ u. Begins CONSTANT_END u) end_behind q) (subst (λ u. length u ≡ 4) end_behind l)
-      ex ey (subst (λ u. z ≡ get_or u 3 z) end_behind ez) in
-      rw (nx, ny, nz) made

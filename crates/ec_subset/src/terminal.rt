@@ -1,7 +1,7 @@
 //! What stands at a place of a printed rule.
 ghost use Rattle.std.specs.Prelude.{◌≡◌, ◌↔◌, IsTrue};
 ghost use Rattle.std.specs.Str.{str_eq_ignore_ascii_case};
-ghost use Rattle.ec_subset.specs.Reading.{Begins, IsTerminal};
+ghost use Rattle.ec_subset.specs.Reading.{BeginsWith, FitInTurn, IsTerminal};
 ghost use Rattle.ec_subset.specs.declared.terminal.Terminal.TheVariants.{Putstring as APutstring, Symbol as ASymbol, Word as AWord};
 
 use ec_lexer::token::{Reserved, Symbol, Token, TokenKind};
@@ -23,22 +23,25 @@ pub enum Terminal {
 const PUTSTRING: &[u8] = b"putstring";
 
 /// Whether tokens begin with these terminals.
-pub fn begins_with(mut tokens: &[Token], mut terminals: &[Terminal]) -> bool
-    ensures { IsTrue result ↔ Begins terminals.entry.now tokens.entry.now }
+pub fn begins_with(tokens: &[Token], terminals: &[Terminal]) -> bool
+    ensures { IsTrue result ↔ BeginsWith terminals.now tokens.now }
 {
-    while let [terminal, more @ ..] = terminals {
-        match tokens {
-            [] => return false,
-            [token, rest @ ..] => {
-                if !is_terminal(*terminal, &token.kind) {
-                    return false;
-                }
-                tokens = rest;
-            }
+    fitting(tokens, terminals) == terminals.len()
+}
+
+/// How many tokens fit these terminals in turn, from the first on.
+pub fn fitting(tokens: &[Token], terminals: &[Terminal]) -> usize
+    ensures { FitInTurn terminals.now tokens.now result }
+{
+    for (n, terminal) in terminals.iter().enumerate() {
+        if n == tokens.len() {
+            return n;
         }
-        terminals = more;
+        if !is_terminal(*terminal, &tokens[n].kind) {
+            return n;
+        }
     }
-    true
+    terminals.len()
 }
 
 fn is_terminal(terminal: Terminal, kind: &TokenKind) -> bool

@@ -1,9 +1,9 @@
-use Rattle.std.proofs.Common.{◌-◌, ◌≤◌, length, take}
+use Rattle.std.proofs.Common.{◌-◌, ◌≤◌, length, take, drop}
 use Rattle.ec_subset.specs.Grammar.{AreStatements}
 use Rattle.ec_subset.proofs.read_statements.Given as goal
 
 abbrev pub invariant-reading : goal.invariant-reading
-invariant-reading l = (l.taken ≤ length l.tokens) × AreStatements (take l.taken l.tokens) l.statements
+invariant-reading l = (6 ≤ l.at) × (l.at ≤ length l.tokens) × AreStatements (take (l.at - 6) (drop 6 l.tokens)) l.statements
 
 abbrev pub decreases-reading : goal.decreases-reading
-decreases-reading l = length l.tokens - l.taken
+decreases-reading l = length l.tokens - l.at
