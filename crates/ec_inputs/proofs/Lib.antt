@@ -3,5 +3,7 @@ pub mod Commands
 pub mod Documents
 pub mod Forms
 pub mod Lines
+pub mod NoEntries
 pub mod Numbers
+pub mod OneNode
 pub mod Reading

@@ -6,10 +6,10 @@ ghost use Rattle.ec_lower.specs.Short.{IsShort, IsShortIf, IsShortConstant};
 ghost use Rattle.ec_lower.specs.Printing.{stop_of, entry_stop, ending, defining, printing, print_code, print_stops, IsTextOf, AreTexts, IsPool, KeepsTexts, IsLowered};
 ghost use Rattle.ec_ir.specs.declared.code.IrOp.TheVariants.{Rest};
 
-use ec_printing::{Constant, ObjectConstructor, Program, Statement};
 use ec_base::list::Seq;
 use ec_ir::code::{IrOp, Operation, Parts, StopRec};
 use ec_ir::program::IrProgram;
+use ec_printing::{Constant, ObjectConstructor, Program, Statement};
 use ec_world::class::{ClassNo, ClassRec, Classes};
 use ec_world::stop::Stop;
 use ec_world::value::{Text, ValueType, copy_text};

@@ -7,7 +7,6 @@ use Rattle.ec_world.specs.declared.process.ProcStatus.{ProcStatus}
 use Rattle.ec_world.specs.declared.run.RunEnd.TheVariants.{Finished, Stuck, Spent}
 use Rattle.ec_world.specs.Run.{is_ready, is_over, all_true, first_true, or_else, next_ready_of, spent_if, end_by}
 use Rattle.ec_tool.specs.declared.run.Step.TheVariants.{Stops, Turns}
-use Rattle.ec_tool.specs.Inputs.{default_budget}
 use Rattle.ec_tool.specs.Emerald.{has_failed, any_failed}
 use Rattle.ec_tool.specs.Running.{IsStep}
 
@@ -72,23 +71,23 @@ next_some ss (Some last) p e = ⊎_elim
 
 -- ---- what comes next
 
-module _ (ss : List ProcStatus) (done : ℕ) (last : Option ℕ) where
-  pub step_finished : list_all is_over ss ≡ true → IsStep ss done last (Stops Finished)
+module _ (ss : List ProcStatus) (budget done : ℕ) (last : Option ℕ) where
+  pub step_finished : list_all is_over ss ≡ true → IsStep ss budget done last (Stops Finished)
   step_finished h = let e : all_true (map is_over ss) ≡ true = all_true-map is_over ss ∙ h in rw e refl
 
   module _ (going : list_all is_over ss ≡ false) where
     not_over : all_true (map is_over ss) ≡ false
     not_over = all_true-map is_over ss ∙ going
 
-    pub step_stuck : next_ready_of (map is_ready ss) last ≡ None → IsStep ss done last (Stops Stuck)
+    pub step_stuck : next_ready_of (map is_ready ss) last ≡ None → IsStep ss budget done last (Stops Stuck)
     step_stuck h = let e = not_over in let k = next_none ss last h in rw (e, k) refl
 
     module _ (p : ℕ) (next : next_ready_of (map is_ready ss) last ≡ Some p) where
-      end_is : end_by [] ss (nat_le default_budget done) ≡ spent_if (nat_le default_budget done)
+      end_is : end_by [] ss (nat_le budget done) ≡ spent_if (nat_le budget done)
       end_is = let e = not_over in let k = next_some ss last p next in rw (e, k) refl
 
-      pub step_spent : default_budget ≤ done → IsStep ss done last (Stops Spent)
-      step_spent h = let e : nat_le default_budget done ≡ true = grind (arith, common_steps) in end_is ∙ ap spent_if e
+      pub step_spent : budget ≤ done → IsStep ss budget done last (Stops Spent)
+      step_spent h = let e : nat_le budget done ≡ true = grind (arith, common_steps) in end_is ∙ ap spent_if e
 
-      pub step_turn : done < default_budget → IsStep ss done last (Turns p)
-      step_turn h = let e : nat_le default_budget done ≡ false = grind (arith, common_steps) in (end_is ∙ ap spent_if e, next, h)
+      pub step_turn : done < budget → IsStep ss budget done last (Turns p)
+      step_turn h = let e : nat_le budget done ≡ false = grind (arith, common_steps) in (end_is ∙ ap spent_if e, next, h)

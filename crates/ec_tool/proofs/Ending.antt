@@ -29,7 +29,6 @@ use Rattle.ec_tool.specs.declared.report.ReportEnd.{ReportEnd}
 use Rattle.ec_tool.specs.declared.report.ReportEnd.TheVariants.{IsFull}
 use Rattle.ec_tool.specs.declared.status.Status.{Status}
 use Rattle.ec_tool.specs.declared.status.Status.TheVariants as statuses
-use Rattle.ec_tool.specs.Inputs.{default_budget}
 use Rattle.ec_tool.specs.Report.{report, load_report, turns_line, process_lines, object_lines, node_lines, end_line, line_feed}
 use Rattle.ec_tool.specs.Emerald.{ir_run, source_run, EndsAfter, RunsTo, status_of}
 use Rattle.ec_tool.specs.Emerald.EndsAfter.{ByItself, AsFull}
@@ -52,52 +51,52 @@ module _ (program : Program) (ir : Parts) (means : Means program ir) (n : ℕ) w
   pub same_statuses : (k : ℕ) → statuses_of (source_run program n [] k).world ≡ statuses_of (ir_run ir n [] k).world
   same_statuses k = statuses_agree (SameRest source_meaning ir_meaning) (source_run program n [] k).world (ir_run ir n [] k).world (same_run k).worlds
 
-  pub same_end : (k : ℕ) → end_of default_budget (source_run program n [] k) ≡ end_of default_budget (ir_run ir n [] k)
-  same_end k =
-      ap (λ (l : List RunEntry). end_by l (statuses_of (source_run program n [] k).world) (nat_le default_budget (length (source_run program n [] k).done))) (same_run k).left
-      ∙ (ap (λ (ss : List ProcStatus). end_by (ir_run ir n [] k).left ss (nat_le default_budget (length (source_run program n [] k).done))) (same_statuses k)
-      ∙ ap (λ (es : List RunEntry). end_by (ir_run ir n [] k).left (statuses_of (ir_run ir n [] k).world) (nat_le default_budget (length es))) (same_run k).done)
+  pub same_end : (budget k : ℕ) → end_of budget (source_run program n [] k) ≡ end_of budget (ir_run ir n [] k)
+  same_end budget k =
+      ap (λ (l : List RunEntry). end_by l (statuses_of (source_run program n [] k).world) (nat_le budget (length (source_run program n [] k).done))) (same_run k).left
+      ∙ (ap (λ (ss : List ProcStatus). end_by (ir_run ir n [] k).left ss (nat_le budget (length (source_run program n [] k).done))) (same_statuses k)
+      ∙ ap (λ (es : List RunEntry). end_by (ir_run ir n [] k).left (statuses_of (ir_run ir n [] k).world) (nat_le budget (length es))) (same_run k).done)
 
-ends_after : (program : Program) (ir : Parts) (means : Means program ir) (specs : List NodeSpec) (k : ℕ) (how : ReportEnd) → ((j : ℕ) → j < k → end_of default_budget (ir_run ir (length specs) [] j) ≡ None) → EndsAt ir specs k how → EndsAfter program ir specs [] default_budget k how
-ends_after program ir means specs k how going (StopsItself h e) =
-    ByItself h (record { reaches = record { is = refl; going = λ j l. same_end program ir means (length specs) j ∙ going j l }; ends = same_end program ir means (length specs) k ∙ e })
-ends_after program ir means specs k how going (StopsFull node need free part e f) =
-    AsFull node need free part (record { is = refl; going = λ j l. same_end program ir means (length specs) j ∙ going j l }) (same_end program ir means (length specs) k ∙ e) f
+ends_after : (program : Program) (ir : Parts) (means : Means program ir) (specs : List NodeSpec) (budget k : ℕ) (how : ReportEnd) → ((j : ℕ) → j < k → end_of budget (ir_run ir (length specs) [] j) ≡ None) → EndsAt ir specs budget k how → EndsAfter program ir specs [] budget k how
+ends_after program ir means specs budget k how going (StopsItself h e) =
+    ByItself h (record { reaches = record { is = refl; going = λ j l. same_end program ir means (length specs) budget j ∙ going j l }; ends = same_end program ir means (length specs) budget k ∙ e })
+ends_after program ir means specs budget k how going (StopsFull node need free part e f) =
+    AsFull node need free part (record { is = refl; going = λ j l. same_end program ir means (length specs) budget j ∙ going j l }) (same_end program ir means (length specs) budget k ∙ e) f
 
 same_start : (old : Net) (a b : Cluster) → old ≡ whole_net a → old ≡ whole_net b → a ≡ b
 same_start old a b e f = let h : Some a ≡ Some b = ap (λ (x : Net). x.loaded) (sym e ∙ f) in cc
 
-module _ (program : Program) (specs : List NodeSpec) (net old net' : Net) (status : Status) (text : List ℕ) (empty : net ≡ empty_net) (r : IsReported specs old net' status text) where
-  abbrev f : Follows specs old r.done net'
+module _ (program : Program) (specs : List NodeSpec) (budget : ℕ) (net old net' : Net) (status : Status) (text : List ℕ) (empty : net ≡ empty_net) (r : IsReported specs budget old net' status text) where
+  abbrev f : Follows specs budget old r.done net'
   f = r.ended.follows
 
   abbrev n : ℕ
   n = length specs
 
-  reported_runs : Means program f.start.program → ((node : ℕ) (part : Part) (need free : ℕ) → LoadFull f.start.program specs node part need free → ⊥) → RunsTo program specs [] default_budget net net' status text
+  reported_runs : Means program f.start.program → ((node : ℕ) (part : Part) (need free : ℕ) → LoadFull f.start.program specs node part need free → ⊥) → RunsTo program specs [] budget net net' status text
   reported_runs means fits =
       let same = means.runs n [] r.done in
       let ss = same_statuses program f.start.program means n r.done in
       let along = subst (λ (es : List RunEntry). Along rv_meaning f.start.program f.start (ir_start f.start.program n) es f.now) (sym same.done) f.along in
       let ran = Loaded empty f.start f.now f.loaded along (ap (λ (x : Net). x.loaded) f.is) in
-      let runs = RanUntil f.start.program r.done r.how means (λ node need free part h. fits node part need free h) f.fits (ends_after program f.start.program means specs r.done r.how f.going r.ended.ends) ran in
+      let runs = RanUntil f.start.program r.done r.how means (λ node need free part h. fits node part need free h) f.fits (ends_after program f.start.program means specs budget r.done r.how f.going r.ended.ends) ran in
       let s : status ≡ status_of (statuses_of (source_run program n [] r.done).world) r.how = r.status_is ∙ ap (λ (x : List ProcStatus). status_of x r.how) (sym ss) in
       let t : text ≡ report (source_run program n [] r.done).world specs (counts_of net') r.done r.how =
       r.text_is ∙ report_same (source_run program n [] r.done).world (ir_run f.start.program n [] r.done).world specs (counts_of net') r.done r.how same.worlds.common ss in
       rw (s, t) runs
 
 -- a run that is reported, from an empty network
-pub runs_loaded : (program : Program) (ir : Parts) (specs : List NodeSpec) (net old net' : Net) (status : Status) (text : List ℕ) → Means program ir → net ≡ empty_net → LoadAnswer rv_meaning ir specs old → IsReported specs old net' status text → RunsTo program specs [] default_budget net net' status text
-runs_loaded program ir specs net old net' status text means empty l r =
+pub runs_loaded : (program : Program) (ir : Parts) (specs : List NodeSpec) (budget : ℕ) (net old net' : Net) (status : Status) (text : List ℕ) → Means program ir → net ≡ empty_net → LoadAnswer rv_meaning ir specs old → IsReported specs budget old net' status text → RunsTo program specs [] budget net net' status text
+runs_loaded program ir specs budget net old net' status text means empty l r =
     let start_is : r.ended.follows.start ≡ l.start = same_start old r.ended.follows.start l.start r.ended.follows.started l.is in
     let ir_is : r.ended.follows.start.program ≡ ir = ap (λ (c : Cluster). c.program) start_is ∙ l.loaded.program_is in
-    reported_runs program specs net old net' status text empty r
+    reported_runs program specs budget net old net' status text empty r
     (subst (λ (x : Parts). Means program x) (sym ir_is) means)
     (subst (λ (x : Parts). (node : ℕ) (part : Part) (need free : ℕ) → LoadFull x specs node part need free → ⊥) (sym ir_is) l.fits)
 
 -- a load that found no room
-pub runs_full : (program : Program) (ir : Parts) (specs : List NodeSpec) (net net' : Net) (e : NetError) (end : ReportEnd) (status : Status) (text : List ℕ) → Means program ir → net ≡ empty_net → IsFullEnd e end → WhenFull (Err e) (LoadFull ir specs) → WhenFull (Err e) (λ node part need free. net' ≡ net) → status ≡ statuses.Full → text ≡ load_report specs end → RunsTo program specs [] default_budget net net' status text
-runs_full program ir specs net net' (Full node part need free) end status text means empty is full same s t =
+pub runs_full : (program : Program) (ir : Parts) (specs : List NodeSpec) (budget : ℕ) (net net' : Net) (e : NetError) (end : ReportEnd) (status : Status) (text : List ℕ) → Means program ir → net ≡ empty_net → IsFullEnd e end → WhenFull (Err e) (LoadFull ir specs) → WhenFull (Err e) (λ node part need free. net' ≡ net) → status ≡ statuses.Full → text ≡ load_report specs end → RunsTo program specs [] budget net net' status text
+runs_full program ir specs budget net net' (Full node part need free) end status text means empty is full same s t =
     let u : text ≡ load_report specs (IsFull node part need free) = t ∙ ap (load_report specs) is in
     rw (s, u) (LoadIsFull ir node need free part means full (Refused empty node need free part full refl same))
-runs_full program ir specs net net' Memory end status text means empty is full same s t = absurd is
+runs_full program ir specs budget net net' Memory end status text means empty is full same s t = absurd is

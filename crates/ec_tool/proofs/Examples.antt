@@ -1,6 +1,6 @@
 -- Two small programs by the definitions: the text is the program's, the run comes to its end after so many entries, and its
 -- status and its report are these.
-use Rattle.std.proofs.Common.{◌≡◌, ℕ, zero, suc, ◌<◌, ◌+◌, List, [], ◌∷◌, take, drop, Some, None, codes, refl, subst, arith, lit≤}
+use Rattle.std.proofs.Common.{◌≡◌, false, ℕ, zero, suc, ◌<◌, ◌+◌, List, [], ◌∷◌, take, drop, Some, None, codes, refl, subst, arith, lit≤}
 use Rattle.std.specs.Fmt.{digits}
 use Rattle.ec_printing.specs.declared.Program.{Program}
 use Rattle.ec_printing.specs.declared.Statement.TheVariants.{Print}
@@ -15,20 +15,44 @@ use Rattle.ec_lexer.specs.Lexemes.{begins, kind_of}
 use Rattle.ec_lexer.specs.Tokens.{HasTokensFrom, ended, separated, taken, token}
 use Rattle.ec_lexer.proofs.Agrees.{Agrees}
 use Rattle.ec_lexer.proofs.Lexing.{agrees}
+use Rattle.ec_ast.specs.declared.Program.{Program as WholeProgram}
+use Rattle.ec_ast.specs.declared.ConstantValue.TheVariants as value
+use Rattle.ec_ast.specs.declared.ObjectConstructor.{ObjectConstructor as WholeObject, roll-ObjectConstructor}
+use Rattle.ec_ast.specs.declared.Body.{roll-Body}
+use Rattle.ec_ast.specs.declared.Block.{roll-Block}
+use Rattle.ec_ast.specs.declared.Statement.{Statement as WholeStatement}
+use Rattle.ec_ast.specs.declared.Statement.TheVariants as statement
+use Rattle.ec_ast.specs.declared.Expression.{Expression}
+use Rattle.ec_ast.specs.declared.Expression.TheVariants as expression
+use Rattle.ec_parser.specs.Chains.{or_of, and_of, sum_of, term_of, postfix_of}
+use Rattle.ec_parser.specs.HasTree as whole
+use Rattle.ec_parser.specs.Nesting.{nestings_of}
+use Rattle.ec_parser.specs.Program.{IsShallow}
+use Rattle.ec_parser.specs.Terminals.{terminal_of_kind, terminal_of_name}
 use Rattle.ec_subset.specs.Grammar.{empty as no_constant, word, id, string, mark, print, none, more, object, constant, HasTree, with_constant}
+use Rattle.ec_world.specs.declared.node.Kind.TheVariants.{Riscv}
+use Rattle.ec_world.specs.declared.node.NodeSpec.{NodeSpec}
 use Rattle.ec_world.specs.declared.run.RunEnd.TheVariants.{Finished}
 use Rattle.ec_world.specs.Run.{Run, run_after, end_of, statuses_of}
 use Rattle.ec_meaning.specs.Meaning.{source_meaning, source_silent, source_start}
 use Rattle.ec_tool.specs.declared.report.ReportEnd.TheVariants.{Ends}
 use Rattle.ec_tool.specs.declared.status.Status.{Status}
 use Rattle.ec_tool.specs.declared.status.Status.TheVariants as statuses
-use Rattle.ec_tool.specs.Inputs.{IsSource, one_node, default_budget}
+use Rattle.ec_tool.specs.Sources.{IsSource}
 use Rattle.ec_tool.specs.Report.{report}
 use Rattle.ec_tool.specs.Emerald.{source_run, status_of}
 
+-- as many entries as a run does at most where the words don't say
+abbrev budget : ℕ
+budget = 1000000
+
+-- a node
+abbrev one_node : NodeSpec
+one_node = record { name = codes "a"; kind = Riscv; blocks = 100; text = 1000 }
+
 -- the whole run of a program on the one node, without a schedule: after so many entries it is finished
 abbrev Finishes : Program → ℕ → Type 0
-Finishes program k = Run source_meaning (source_silent program) (source_start program 1) [] default_budget k (source_run program 1 [] k) Finished
+Finishes program k = Run source_meaning (source_silent program) (source_start program 1) [] budget k (source_run program 1 [] k) Finished
 
 -- the status of its end
 abbrev status_after : Program → ℕ → Status
@@ -44,12 +68,18 @@ abbrev empty : Program
 empty = record { constant = None }
 
 pub empty_is_source : IsSource [] empty
+unfolding nestings_of
 empty_is_source = record {
-  short = lit≤ tt;
-  program_is = record { tokens = []; has_tokens = record { short = lit≤ tt; all = ended }; has_tree = no_constant; is_accepted = refl };
+  tokens = [];
+  has_tokens = record { short = lit≤ tt; all = ended };
+  whole_program = record { constants = [] };
+  has_whole = whole.HasTree.program whole.AreConstants.none;
+  shallow = tt;
+  has_tree = no_constant;
+  is_accepted = refl;
 }
 
-empty_goes_on : (j : ℕ) → j < 2 → end_of default_budget (source_run empty 1 [] j) ≡ None
+empty_goes_on : (j : ℕ) → j < 2 → end_of budget (source_run empty 1 [] j) ≡ None
 unfolding run_after
 empty_goes_on zero l = refl
 empty_goes_on (suc zero) l = refl
@@ -103,6 +133,31 @@ hello_tokens =
     word End (record { from = 81; to = 84 }) ∷
     id (codes "main") (record { from = 85; to = 89 }) ∷ []
 
+-- the tree of the whole language
+abbrev hello_block : List WholeStatement
+hello_block = statement.Print (expression.Literal (record { text = codes "hi"; at = record { from = 59; to = 63 } })) (record { from = 42; to = 48 }) ∷ []
+
+abbrev hello_whole_object : WholeObject
+hello_whole_object = roll-ObjectConstructor (record {
+  is_monitored = false;
+  name = record { text = codes "main"; at = record { from = 21; to = 25 } };
+  body = roll-Body (record { members = []; initially = Some (roll-Block (record { statements = hello_block })); process = None });
+  end_name = record { text = codes "main"; at = record { from = 85; to = 89 } };
+})
+
+abbrev hello_whole : WholeProgram
+hello_whole = record {
+  constants = record { name = record { text = codes "main"; at = record { from = 6; to = 10 } }; of = None; value = value.Expression (expression.Constructor hello_whole_object) } ∷ [];
+}
+
+-- a primary alone is an expression
+as_expr : {ts us : List Token} {x : Expression} {last : whole.Ending} → whole.IsPrimary ts us x last → whole.IsExpr ts us x
+unfolding or_of and_of sum_of term_of postfix_of
+as_expr p =
+    whole.IsExpr.expr (whole.IsAnd.and (whole.IsNot.rel (whole.IsRel.sum_alone (whole.IsSum.sum (whole.IsTerm.term
+    (whole.IsUnary.postfix_alone (whole.IsPostfix.postfix p whole.AreLinks.links_end)) whole.AreFactors.factors_end) whole.AreAddends.addends_end)))
+    whole.AreNots.nots_end) whole.AreAnds.ands_end
+
 -- a step along a text, by what its front reads as
 read_token : {at n : ℕ} {rest : List ℕ} {form : Form} {tokens : List Token} → begins rest ≡ lexeme.Token form n →
     HasTokensFrom (at + n) (drop n rest) tokens → HasTokensFrom at rest (token (kind_of form (take n rest)) at n ∷ tokens)
@@ -135,13 +190,38 @@ hello_has_tokens =
 hello_has_tree : HasTree hello_tokens hello
 hello_has_tree = with_constant (constant (object _ _ _ _ _ _ _ (more (print refl) none)))
 
+-- in the whole language it is a constant whose value is an expression, down to a primary that is an object
+hello_statements : whole.IsBlock (drop 6 hello_tokens) (drop 12 hello_tokens) hello_block
+unfolding terminal_of_kind terminal_of_name
+hello_statements = whole.IsBlock.stmt (whole.IsStmt.print refl refl refl refl (as_expr (whole.IsPrimary.string refl)) refl) whole.IsBlock.block_end
+
+hello_object : whole.IsObject (drop 3 hello_tokens) [] hello_whole_object
+unfolding terminal_of_kind terminal_of_name
+hello_object =
+    whole.IsObject.object_constructor whole.IsFlag.without refl (whole.IsId.other refl)
+    (whole.IsBody.body whole.AreMembers.members_end (whole.IsInitially.initially refl hello_statements refl refl) whole.IsProcess.no_process)
+    refl (whole.IsId.other refl)
+
+hello_has_whole : whole.HasTree hello_tokens hello_whole
+unfolding terminal_of_kind terminal_of_name
+hello_has_whole = whole.HasTree.program (whole.AreConstants.expr refl (whole.IsId.other refl) whole.IsTypeOption.none refl (as_expr (whole.IsPrimary.object hello_object)) whole.AreConstants.none)
+
+hello_is_shallow : IsShallow hello_tokens
+unfolding nestings_of terminal_of_kind terminal_of_name
+hello_is_shallow = (lit≤ tt, (lit≤ tt, (lit≤ tt, (lit≤ tt, (lit≤ tt, (lit≤ tt, (lit≤ tt, (lit≤ tt, (lit≤ tt, (lit≤ tt, (lit≤ tt, (lit≤ tt, (lit≤ tt, (lit≤ tt, (lit≤ tt, (lit≤ tt, tt))))))))))))))))
+
 pub hello_is_source : IsSource hello_source hello
 hello_is_source = record {
-  short = lit≤ tt;
-  program_is = record { tokens = hello_tokens; has_tokens = record { short = lit≤ tt; all = hello_has_tokens }; has_tree = hello_has_tree; is_accepted = refl };
+  tokens = hello_tokens;
+  has_tokens = record { short = lit≤ tt; all = hello_has_tokens };
+  whole_program = hello_whole;
+  has_whole = hello_has_whole;
+  shallow = hello_is_shallow;
+  has_tree = hello_has_tree;
+  is_accepted = refl;
 }
 
-hello_goes_on : (j : ℕ) → j < 7 → end_of default_budget (source_run hello 1 [] j) ≡ None
+hello_goes_on : (j : ℕ) → j < 7 → end_of budget (source_run hello 1 [] j) ≡ None
 unfolding run_after
 hello_goes_on zero l = refl
 hello_goes_on (suc zero) l = refl

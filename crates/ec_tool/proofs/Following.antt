@@ -29,14 +29,14 @@ use Rattle.ec_network.specs.Full.{room_of, rooms, pool_if, Pools}
 use Rattle.ec_network.specs.Net.{Net, count_of, count_if, EntryFull, EntryFits}
 use Rattle.ec_network.specs.declared.network.NetError.{NetError}
 use Rattle.ec_network.specs.declared.network.NetError.TheVariants.{Full, Memory}
-use Rattle.ec_network.specs.Answers.{WhenFull, ForShown, LoadAnswer, TurnAnswer, steps_of, on_first}
+use Rattle.ec_network.specs.Answers.{WhenFull, ForShown, LoadAnswer, TurnAnswer}
 use Rattle.rv_codegen.specs.Meaning.{rv_meaning}
 use Rattle.ec_tool.specs.declared.report.ReportEnd.{ReportEnd}
 use Rattle.ec_tool.specs.declared.report.ReportEnd.TheVariants.{Ends, IsFull}
 use Rattle.ec_tool.specs.declared.run.Step.TheVariants.{Stops, Turns}
-use Rattle.ec_tool.specs.Inputs.{default_budget}
 use Rattle.ec_tool.specs.Emerald.{ir_run, action_if, next_action, PoolAfter, NextFull}
 use Rattle.ec_tool.specs.Running.{IsShown, IsStep, Follows, IsAfter, StopsItself, StopsFull, IsFullEnd, IsEnded}
+use Rattle.ec_tool.proofs.Counting.{no_count, counts_rise}
 use Rattle.ec_tool.proofs.Growth.{GrowsByOne, turn_grows}
 use Rattle.ec_tool.proofs.Rooms.{full_along}
 
@@ -154,21 +154,14 @@ either_ways e f = (
 
 -- ---- numbers
 
-first_only : (j n : ℕ) → on_first j n ≤ n
-first_only zero n = omega arith
-first_only (suc j) n = omega arith
-
-no_count : (ns : List NodeStore) (j : ℕ) → length ns ≤ j → count_if (slice_get ns j) ≡ 0
-no_count ns j h = ap count_if (slice_get_past ns j h)
-
 strings_same : (P P' : Parts) (v v' : IrWorld) → P ≡ P' → v ≡ v' → (j : ℕ) (text : List ℕ) → Strings P v j text ↔ Strings P' v' j text
 strings_same P P' v v' e h j text = rw (e, h) ((λ x. x), (λ x. x))
 
 -- ---- the turn that comes next
 
 -- a network that follows is whole, and shows a world
-pub follows_shown : (specs : List NodeSpec) (old : Net) (k : ℕ) (net : Net) → Follows specs old k net → IsShown net
-follows_shown specs old k net f =
+pub follows_shown : (specs : List NodeSpec) (budget : ℕ) (old : Net) (k : ℕ) (net : Net) → Follows specs budget old k net → IsShown net
+follows_shown specs budget old k net f =
     record {
       cluster = f.now;
       world = (ir_run f.start.program (length specs) [] k).world;
@@ -177,8 +170,8 @@ follows_shown specs old k net f =
       holds = f.holds;
     }
 
-module _ (specs : List NodeSpec) (old : Net) (k : ℕ) (last : Option ℕ) (net : Net) (a : IsAfter specs old k last net) where
-  abbrev f : Follows specs old k net
+module _ (specs : List NodeSpec) (budget : ℕ) (old : Net) (k : ℕ) (last : Option ℕ) (net : Net) (a : IsAfter specs budget old k last net) where
+  abbrev f : Follows specs budget old k net
   f = a.follows
 
   abbrev ir : Parts
@@ -193,10 +186,10 @@ module _ (specs : List NodeSpec) (old : Net) (k : ℕ) (last : Option ℕ) (net 
   abbrev w : IrWorld
   w = (ir_run a.follows.start.program (length specs) [] k).world
 
-  pub end_here : end_of default_budget s ≡ end_by [] (statuses_of w) (nat_le default_budget k)
+  pub end_here : end_of budget s ≡ end_by [] (statuses_of w) (nat_le budget k)
   end_here =
-      ap (λ (l : List RunEntry). end_by l (statuses_of w) (nat_le default_budget (length s.done))) f.left
-      ∙ ap (λ (j : ℕ). end_by [] (statuses_of w) (nat_le default_budget j)) f.counted
+      ap (λ (l : List RunEntry). end_by l (statuses_of w) (nat_le budget (length s.done))) f.left
+      ∙ ap (λ (j : ℕ). end_by [] (statuses_of w) (nat_le budget j)) f.counted
 
   program_is : f.now.program ≡ ir
   program_is = f.machines.program
@@ -206,7 +199,7 @@ module _ (specs : List NodeSpec) (old : Net) (k : ℕ) (last : Option ℕ) (net 
       let h = store_at f.now.nodes j (room_there f.now.nodes j r e) in
       subst (λ (x : Option Store). pool_if x text ↔ PoolAfter ir n [] k j text) (sym h.1) (f.pools j h.0 text h.1)
 
-  module _ (p : ℕ) (step : IsStep (statuses_of w) k last (Turns p)) where
+  module _ (p : ℕ) (step : IsStep (statuses_of w) budget k last (Turns p)) where
     next_is : next_entry s.left (statuses_of w) s.last ≡ Some (ATurn p)
     next_is =
         ap (λ (l : List RunEntry). next_entry l (statuses_of w) s.last) f.left
@@ -233,7 +226,7 @@ module _ (specs : List NodeSpec) (old : Net) (k : ℕ) (last : Option ℕ) (net 
         (λ j text. let q = strings_are j text in (q.1, q.0))
         node part need free g)
 
-    module _ (net' : Net) (did : Did) (t : TurnAnswer rv_meaning f.now w p net' did) (few : steps_of did < 2 ^ 32) where
+    module _ (net' : Net) (did : Did) (t : TurnAnswer rv_meaning f.now w p net' did) where
       more : ir_run ir n [] (suc k) ≡ stepped ir_meaning (ir_silent ir) s (Some (ATurn p))
       more = run_one_more ir n k p next_is
 
@@ -270,14 +263,13 @@ module _ (specs : List NodeSpec) (old : Net) (k : ℕ) (last : Option ℕ) (net 
           let both : InPool x text ↔ (PoolAfter ir n [] k j text ⊎ Strings f.now.program (ir_action w p) j text) = both_ways kept so_far in
           subst (λ (T : Type 0). InPool x text ↔ T) (sym (pool_one_more ir n k j text)) (either_ways both wanted)
 
-      counts_next : (j : ℕ) → count_of t.after j ≤ (k + 1) * 2 ^ 32
+      counts_next : (j : ℕ) → count_of t.after j ≤ (k + 1) * 2 ^ 26
       counts_next j =
           let a = f.counts j in
-          let b = t.counts j in
-          let c = first_only j (steps_of did) in
+          let b = counts_rise f.holds.steady t.turn.steps j in
           omega arith
 
-      follows_next : Follows specs old (k + 1) net'
+      follows_next : Follows specs budget old (k + 1) net'
       follows_next = record {
         start = f.start;
         started = f.started;
@@ -287,7 +279,7 @@ module _ (specs : List NodeSpec) (old : Net) (k : ℕ) (last : Option ℕ) (net 
         machines = machines_along f.start f.now t.after f.machines machines_are;
         holds = rw (add-one k) holds_is;
         along = rw (add-one k) along_is;
-        going = below_more (λ j. end_of default_budget (ir_run ir n [] j) ≡ None) k f.going (end_here ∙ step.0);
+        going = below_more (λ j. end_of budget (ir_run ir n [] j) ≡ None) k f.going (end_here ∙ step.0);
         fits = below_more (λ j. (node need free : ℕ) (part : Part) → NextFull ir specs [] j node part need free → ⊥) k f.fits (fits_next t.fits);
         pools = rw (add-one k) pools_next;
         counts = counts_next;
@@ -298,30 +290,30 @@ module _ (specs : List NodeSpec) (old : Net) (k : ℕ) (last : Option ℕ) (net 
         one_process = rw (add-one k, world_is) (grown.processes ∙ f.one_process);
       }
 
-      pub after_next : IsAfter specs old (k + 1) (Some p) net'
+      pub after_next : IsAfter specs budget old (k + 1) (Some p) net'
       unfolding follows_next
       after_next = record { follows = follows_next; last_is = rw (add-one k) (ap (λ (r : RunState IrActivation). r.last) more) }
 
 -- ---- the ends
 
-pub ended_by_itself : (specs : List NodeSpec) (old : Net) (k : ℕ) (last : Option ℕ) (net : Net) (a : IsAfter specs old k last net) (how : RunEnd) → IsStep (statuses_of (ir_run a.follows.start.program (length specs) [] k).world) k last (Stops how) → IsEnded specs old k (Ends how) net
-ended_by_itself specs old k last net a how step = record { follows = a.follows; ends = StopsItself how (end_here specs old k last net a ∙ step) }
+pub ended_by_itself : (specs : List NodeSpec) (budget : ℕ) (old : Net) (k : ℕ) (last : Option ℕ) (net : Net) (a : IsAfter specs budget old k last net) (how : RunEnd) → IsStep (statuses_of (ir_run a.follows.start.program (length specs) [] k).world) budget k last (Stops how) → IsEnded specs budget old k (Ends how) net
+ended_by_itself specs budget old k last net a how step = record { follows = a.follows; ends = StopsItself how (end_here specs budget old k last net a ∙ step) }
 
-ended_full : (specs : List NodeSpec) (old : Net) (k : ℕ) (last : Option ℕ) (net : Net) (a : IsAfter specs old k last net) (p : ℕ) → IsStep (statuses_of (ir_run a.follows.start.program (length specs) [] k).world) k last (Turns p) → (node : ℕ) (part : Part) (need free : ℕ) → EntryFull a.follows.now (ir_run a.follows.start.program (length specs) [] k).world (ir_action (ir_run a.follows.start.program (length specs) [] k).world p) node part need free → IsEnded specs old k (IsFull node part need free) net
-ended_full specs old k last net a p step node part need free h = record {
+ended_full : (specs : List NodeSpec) (budget : ℕ) (old : Net) (k : ℕ) (last : Option ℕ) (net : Net) (a : IsAfter specs budget old k last net) (p : ℕ) → IsStep (statuses_of (ir_run a.follows.start.program (length specs) [] k).world) budget k last (Turns p) → (node : ℕ) (part : Part) (need free : ℕ) → EntryFull a.follows.now (ir_run a.follows.start.program (length specs) [] k).world (ir_action (ir_run a.follows.start.program (length specs) [] k).world p) node part need free → IsEnded specs budget old k (IsFull node part need free) net
+ended_full specs budget old k last net a p step node part need free h = record {
   follows = a.follows;
-  ends = StopsFull node need free part (end_here specs old k last net a ∙ step.0) (full_next specs old k last net a p step node part need free h);
+  ends = StopsFull node need free part (end_here specs budget old k last net a ∙ step.0) (full_next specs budget old k last net a p step node part need free h);
 }
 
-pub ended_refused : (specs : List NodeSpec) (old : Net) (k : ℕ) (last : Option ℕ) (net : Net) (a : IsAfter specs old k last net) (p : ℕ) → IsStep (statuses_of (ir_run a.follows.start.program (length specs) [] k).world) k last (Turns p) → (net' : Net) (e : NetError) (end : ReportEnd) → IsFullEnd e end → WhenFull (Err e) (λ node part need free. ForShown rv_meaning net (λ c w. EntryFull c w (ir_action w p) node part need free)) → WhenFull (Err e) (λ node part need free. net' ≡ net) → IsEnded specs old k end net'
-ended_refused specs old k last net a p step net' (Full node part need free) end e full same =
-    let ended = ended_full specs old k last net a p step node part need free (full a.follows.now (ir_run a.follows.start.program (length specs) [] k).world (ap (λ (x : Net). x.loaded) a.follows.is) a.follows.holds) in
+pub ended_refused : (specs : List NodeSpec) (budget : ℕ) (old : Net) (k : ℕ) (last : Option ℕ) (net : Net) (a : IsAfter specs budget old k last net) (p : ℕ) → IsStep (statuses_of (ir_run a.follows.start.program (length specs) [] k).world) budget k last (Turns p) → (net' : Net) (e : NetError) (end : ReportEnd) → IsFullEnd e end → WhenFull (Err e) (λ node part need free. ForShown rv_meaning net (λ c w. EntryFull c w (ir_action w p) node part need free)) → WhenFull (Err e) (λ node part need free. net' ≡ net) → IsEnded specs budget old k end net'
+ended_refused specs budget old k last net a p step net' (Full node part need free) end e full same =
+    let ended = ended_full specs budget old k last net a p step node part need free (full a.follows.now (ir_run a.follows.start.program (length specs) [] k).world (ap (λ (x : Net). x.loaded) a.follows.is) a.follows.holds) in
     rw (e, same) ended
-ended_refused specs old k last net a p step net' Memory end e full same = absurd e
+ended_refused specs budget old k last net a p step net' Memory end e full same = absurd e
 
 -- ---- the load
 
-module _ (program : Parts) (specs : List NodeSpec) (net : Net) (l : LoadAnswer rv_meaning program specs net) where
+module _ (program : Parts) (specs : List NodeSpec) (budget : ℕ) (net : Net) (l : LoadAnswer rv_meaning program specs net) where
   abbrev first_world : IrWorld
   first_world = ir_start l.start.program (length specs)
 
@@ -348,7 +340,7 @@ module _ (program : Parts) (specs : List NodeSpec) (net : Net) (l : LoadAnswer r
       (λ (h : (length specs ≤ j) × (slice_get specs j ≡ None)). no_count l.start.nodes j (let c = loaded_is.counted in omega arith))
       (slice_get_cases specs j).1
 
-  pub follows_load : Follows specs net 0 net
+  pub follows_load : Follows specs budget net 0 net
   follows_load = record {
     start = l.start;
     started = l.is;
@@ -358,7 +350,7 @@ module _ (program : Parts) (specs : List NodeSpec) (net : Net) (l : LoadAnswer r
     machines = same_machines l.start;
     holds = rw first_world_is (subst (λ (x : Parts). Holds rv_meaning l.start (ir_start x (length specs))) (sym l.loaded.program_is) l.holds);
     along = rw (ap (λ (r : RunState IrActivation). r.done) (start_is l.start.program (length specs))) refl;
-    going = below_none (λ j. end_of default_budget (ir_run l.start.program (length specs) [] j) ≡ None);
+    going = below_none (λ j. end_of budget (ir_run l.start.program (length specs) [] j) ≡ None);
     fits = below_none (λ j. (node need free : ℕ) (part : Part) → NextFull l.start.program specs [] j node part need free → ⊥);
     pools = first_pools;
     counts = λ j. (let e = first_counts j in omega arith);
@@ -369,5 +361,5 @@ module _ (program : Parts) (specs : List NodeSpec) (net : Net) (l : LoadAnswer r
     one_process = rw first_world_is refl;
   }
 
-pub after_load : (specs : List NodeSpec) (net : Net) → Follows specs net 0 net → IsAfter specs net 0 None net
-after_load specs net f = record { follows = f; last_is = ap (λ (r : RunState IrActivation). r.last) (start_is f.start.program (length specs)) }
+pub after_load : (specs : List NodeSpec) (budget : ℕ) (net : Net) → Follows specs budget net 0 net → IsAfter specs budget net 0 None net
+after_load specs budget net f = record { follows = f; last_is = ap (λ (r : RunState IrActivation). r.last) (start_is f.start.program (length specs)) }

@@ -1,9 +1,10 @@
 pub mod Shown
-pub mod Short
+pub mod Sources
 pub mod Lifting
 pub mod Verdicts
 pub mod Promised
 pub mod Choosing
+pub mod Counting
 pub mod Growth
 pub mod Rooms
 pub mod Following

@@ -1,15 +1,22 @@
 -- What the call promises of each status, from what its steps come to.
-use Rattle.std.proofs.Common.{◌≡◌, ◌⊎◌, inl, inr, ⊎_elim, ℕ, List, ◌++◌, Option, Some, None, refl, sym, ap, subst, ◌∙◌}
+use Rattle.std.proofs.Common.{◌≡◌, ◌⊎◌, inl, inr, ⊎_elim, ℕ, List, ◌++◌, Option, Some, None, Ok, Err, refl, sym, ap, subst, ◌∙◌}
+use Rattle.ec_inputs.specs.Nodes.{NodesOf}
+use Rattle.ec_inputs.specs.Schedules.{EntriesOf}
+use Rattle.ec_inputs.specs.Words.{RunWords, WordsOf, CommandWords as command}
 use Rattle.ec_outside.specs.Fault.{HasRisen}
 use Rattle.ec_outside.specs.Whole.{IsWhole}
 use Rattle.ec_network.specs.Net.{Net}
 use Rattle.ec_tool.specs.declared.status.Status.{Status}
 use Rattle.ec_tool.specs.declared.status.Status.TheVariants as statuses
-use Rattle.ec_tool.specs.Inputs.{RunWords, WordsOf, IsSource, NodesOf, EntriesOf, usage_line, later_line}
+use Rattle.ec_tool.specs.declared.source.Refusal.{Refusal}
+use Rattle.ec_tool.specs.Inputs.{usage_line}
+use Rattle.ec_tool.specs.Sources.{IsSource, IsRefused, refused_line}
+use Rattle.ec_tool.proofs.Sources.{not_refused}
 use Rattle.ec_tool.specs.Emerald.{Verdict, Answers, name_of_file, file_limit}
-use Rattle.ec_tool.specs.Emerald.Verdict.{NoCommand, ReadFailed, SourceRefused, InputRefused, IsRun}
+use Rattle.ec_tool.specs.Emerald.Verdict.{NoCommand, ReadFailed, SourceRefused, NodesRefused, ScheduleRefused, IsRun}
 use Rattle.ec_tool.specs.Emerald.Answers.{Written, Broken}
 use Rattle.ec_tool.specs.Promises.{IsRunStatus, HasReadFault, IsNoSource, IsNoInput, IsAccepted, HasRun, NoneRisen}
+use Rattle.ec_tool.specs.Promises.BreaksRule.{ByNodes, BySchedule}
 use Rattle.ec_tool.specs.Promises.IsRunStatus.{Finishes, Fails, Spends, Fills, Sticks}
 use Rattle.ec_tool.specs.Steps.{IsByFiles, Plain, Comes, Came}
 use Rattle.ec_tool.specs.Steps.IsByFiles.{RefusesSource, RefusesInput, EndsRun}
@@ -73,25 +80,31 @@ module _ (words : List (List ℕ)) (faults faults' : List ℕ → ℕ) where
 -- ---- what a status says where the shelf tells its files
 
 module _ (words : List (List ℕ)) (content : List ℕ → Option (List ℕ)) (faults faults' : List ℕ → ℕ) (net net' : Net) where
-  verdict_source : {s : Status} {t : List ℕ} → Verdict words content faults faults' net net' s t → s ≡ statuses.SourceRefused → IsNoSource words content × (net' ≡ net) × (t ≡ later_line)
+  verdict_source : {s : Status} {t : List ℕ} → Verdict words content faults faults' net net' s t → s ≡ statuses.SourceRefused → IsNoSource words content t × (net' ≡ net)
   verdict_source (NoCommand w n) e = cc
   verdict_source (ReadFailed run file w h n) e = cc
-  verdict_source (SourceRefused run source nodes schedule w r h n) e = (record { run = run; source = source; nodes = nodes; schedule = schedule; words_are = w; are_read = r; none = h }, n, refl)
-  verdict_source (InputRefused run source nodes schedule program w r i h n) e = cc
+  verdict_source (SourceRefused run source nodes schedule refusal at w r h n) e =
+      (record { run = run; source = source; nodes = nodes; schedule = schedule; words_are = w; are_read = r; refusal = refusal; at = at; refused = h; line = refl }, n)
+  verdict_source (NodesRefused run source nodes schedule program rule w r i h n) e = cc
+  verdict_source (ScheduleRefused run source nodes schedule program specs rule line w r i m h n) e = cc
   verdict_source (IsRun run source nodes schedule program specs entries s t w r i m k runs) e = absurd ((run_is_not (run_status runs)).2 e)
 
-  verdict_input : {s : Status} {t : List ℕ} → Verdict words content faults faults' net net' s t → s ≡ statuses.InputRefused → IsNoInput words content × (net' ≡ net) × (t ≡ later_line)
+  verdict_input : {s : Status} {t : List ℕ} → Verdict words content faults faults' net net' s t → s ≡ statuses.InputRefused → IsNoInput words content t × (net' ≡ net)
   verdict_input (NoCommand w n) e = cc
   verdict_input (ReadFailed run file w h n) e = cc
-  verdict_input (SourceRefused run source nodes schedule w r h n) e = cc
-  verdict_input (InputRefused run source nodes schedule program w r i h n) e = (record { run = run; source = source; nodes = nodes; schedule = schedule; program = program; words_are = w; are_read = r; is_source = i; none = h }, n, refl)
+  verdict_input (SourceRefused run source nodes schedule refusal at w r h n) e = cc
+  verdict_input (NodesRefused run source nodes schedule program rule w r i h n) e =
+      (record { run = run; source = source; nodes = nodes; schedule = schedule; program = program; words_are = w; are_read = r; is_source = i; breaks = ByNodes rule h }, n)
+  verdict_input (ScheduleRefused run source nodes schedule program specs rule line w r i m h n) e =
+      (record { run = run; source = source; nodes = nodes; schedule = schedule; program = program; words_are = w; are_read = r; is_source = i; breaks = BySchedule specs rule line m h }, n)
   verdict_input (IsRun run source nodes schedule program specs entries s t w r i m k runs) e = absurd ((run_is_not (run_status runs)).3 e)
 
   verdict_run : {s : Status} {t : List ℕ} → Verdict words content faults faults' net net' s t → IsRunStatus s → HasRun words content net net' s t
   verdict_run (NoCommand w n) e = elim e [ ]
   verdict_run (ReadFailed run file w h n) e = elim e [ ]
-  verdict_run (SourceRefused run source nodes schedule w r h n) e = elim e [ ]
-  verdict_run (InputRefused run source nodes schedule program w r i h n) e = elim e [ ]
+  verdict_run (SourceRefused run source nodes schedule refusal at w r h n) e = elim e [ ]
+  verdict_run (NodesRefused run source nodes schedule program rule w r i h n) e = elim e [ ]
+  verdict_run (ScheduleRefused run source nodes schedule program specs rule line w r i m h n) e = elim e [ ]
   verdict_run (IsRun run source nodes schedule program specs entries s t w r i m k runs) e =
       record { accepted = record { run = run; source = source; nodes = nodes; schedule = schedule; program = program; specs = specs; entries = entries; words_are = w; are_read = r; is_source = i; nodes_are = m; entries_are = k }; runs = runs }
 
@@ -100,7 +113,7 @@ module _ (words : List (List ℕ)) (content : List ℕ → Option (List ℕ)) (f
   same_whole (Some file) limit a b e f = e ∙ sym f
   same_whole None limit a b e f = absurd e
 
-  same_words : (run other : RunWords) → WordsOf words ≡ Some run → WordsOf words ≡ Some other → other ≡ run
+  same_words : (run other : RunWords) → WordsOf words ≡ Some (command.Run run) → WordsOf words ≡ Some (command.Run other) → other ≡ run
   same_words run other e f = cc
 
   verdict_accepted : {s : Status} {t : List ℕ} → Verdict words content faults faults' net net' s t → (a : IsAccepted words content) → NoneRisen a.run faults faults' → IsRunStatus s
@@ -108,20 +121,20 @@ module _ (words : List (List ℕ)) (content : List ℕ → Option (List ℕ)) (f
   verdict_accepted (ReadFailed run file w h n) a quiet =
       let e : run ≡ a.run = same_words a.run run a.words_are w in
       absurd (quiet file (subst (λ (r : RunWords). HasRisen (faults (name_of_file r file)) (faults' (name_of_file r file))) e h))
-  verdict_accepted (SourceRefused run source nodes schedule w r h n) a quiet =
+  verdict_accepted (SourceRefused run source nodes schedule refusal at w r h n) a quiet =
       let e : run ≡ a.run = same_words a.run run a.words_are w in
       let f : source ≡ a.source = same_whole (content a.run.source) file_limit source a.source (subst (λ (k : RunWords). IsWhole (content k.source) file_limit source) e r.source_is) a.are_read.source_is in
-      absurd (h a.program (subst (λ (k : List ℕ). IsSource k a.program) (sym f) a.is_source))
-  verdict_accepted (InputRefused run source nodes schedule program w r i h n) a quiet =
+      absurd (not_refused (subst (λ (k : List ℕ). IsSource k a.program) (sym f) a.is_source) h)
+  verdict_accepted (NodesRefused run source nodes schedule program rule w r i h n) a quiet =
       let e : run ≡ a.run = same_words a.run run a.words_are w in
       let f : nodes ≡ a.nodes = same_whole (content a.run.nodes) file_limit nodes a.nodes (subst (λ (k : RunWords). IsWhole (content k.nodes) file_limit nodes) e r.nodes_are) a.are_read.nodes_are in
+      let y : Err rule ≡ Ok a.specs = sym h ∙ (ap NodesOf f ∙ a.nodes_are) in
+      cc
+  verdict_accepted (ScheduleRefused run source nodes schedule program specs rule line w r i m h n) a quiet =
+      let e : run ≡ a.run = same_words a.run run a.words_are w in
       let k : schedule ≡ a.schedule = same_whole (content a.run.schedule) file_limit schedule a.schedule (subst (λ (k : RunWords). IsWhole (content k.schedule) file_limit schedule) e r.schedule_is) a.are_read.schedule_is in
-      let m = a.nodes_are in
-      let l = a.entries_are in
-      absurd (⊎_elim
-      (λ (z : NodesOf nodes ≡ None). let y : None ≡ Some a.specs = sym z ∙ (ap NodesOf f ∙ m) in cc)
-      (λ (z : EntriesOf schedule ≡ None). let y : None ≡ Some a.entries = sym z ∙ (ap EntriesOf k ∙ l) in cc)
-      h)
+      let y : Err (rule, line) ≡ Ok a.entries = sym h ∙ (ap EntriesOf k ∙ a.entries_are) in
+      cc
   verdict_accepted (IsRun run source nodes schedule program specs entries s t w r i m k runs) a quiet = run_status runs
 
 -- the whole text is written where the sink met no fault
@@ -194,17 +207,17 @@ module _ (FilesTold TakenTold : Type 0) (words : List (List ℕ)) (content : Lis
       let t = told_of statuses.ReadFault (record { not_fault = λ k. cc; not_memory = λ k. cc }) e in
       (t.outcome.text, plain_fault words faults faults' t.outcome.plain t.status_is, t.written)
 
-  pub source_refused_of : FilesTold → result ≡ statuses.SourceRefused → IsNoSource words content × (net' ≡ net) × (TakenTold → taken' ≡ taken ++ later_line)
+  pub source_refused_of : FilesTold → result ≡ statuses.SourceRefused → (text : List ℕ) × IsNoSource words content text × (net' ≡ net) × (TakenTold → taken' ≡ taken ++ text)
   source_refused_of f e =
       let t = told_of statuses.SourceRefused (record { not_fault = λ k. cc; not_memory = λ k. cc }) e in
       let p = verdict_source words content faults faults' net net' (t.outcome.verdict f) t.status_is in
-      (p.0, p.1, λ k. t.written k ∙ ap (λ (x : List ℕ). taken ++ x) p.2)
+      (t.outcome.text, p.0, p.1, t.written)
 
-  pub input_refused_of : FilesTold → result ≡ statuses.InputRefused → IsNoInput words content × (net' ≡ net) × (TakenTold → taken' ≡ taken ++ later_line)
+  pub input_refused_of : FilesTold → result ≡ statuses.InputRefused → (text : List ℕ) × IsNoInput words content text × (net' ≡ net) × (TakenTold → taken' ≡ taken ++ text)
   input_refused_of f e =
       let t = told_of statuses.InputRefused (record { not_fault = λ k. cc; not_memory = λ k. cc }) e in
       let p = verdict_input words content faults faults' net net' (t.outcome.verdict f) t.status_is in
-      (p.0, p.1, λ k. t.written k ∙ ap (λ (x : List ℕ). taken ++ x) p.2)
+      (t.outcome.text, p.0, p.1, t.written)
 
   pub ran_of : (s : Status) → IsRunStatus s → FilesTold → result ≡ s → (text : List ℕ) × HasRun words content net net' s text × (TakenTold → taken' ≡ taken ++ text)
   ran_of s r f e =

@@ -1,60 +1,71 @@
 -- From what the steps of a call come to, to what the call promises of each status.
-use Rattle.std.proofs.Common.{◌≡◌, ◌⊎◌, ℕ, Bool, true, false, List, [], ◌∷◌, length, Option, Some, None, lit≤, refl}
+use Rattle.std.proofs.Common.{◌≡◌, ℕ, Bool, true, false, List, [], length, Option, Some, None, Ok, Err, sym, ap, ◌∙◌, subst, arith}
+use Rattle.std.specs.Prelude.{option_map}
 use Rattle.ec_printing.specs.declared.Program.{Program}
 use Rattle.ec_world.specs.declared.node.NodeSpec.{NodeSpec}
 use Rattle.ec_world.specs.declared.run.Entry.{Entry}
 use Rattle.ec_world.specs.declared.run.RunEnd.TheVariants.{Finished, Stuck, Spent}
 use Rattle.ec_world.specs.declared.process.ProcStatus.{ProcStatus}
 use Rattle.ec_world.specs.Run.{statuses_of}
+use Rattle.ec_inputs.specs.declared.nodes.NodeRule.{NodeRule}
+use Rattle.ec_inputs.specs.declared.schedule.ScheduleRule.{ScheduleRule}
+use Rattle.ec_inputs.specs.Nodes.{NodesOf}
+use Rattle.ec_inputs.specs.Schedules.{EntriesOf}
+use Rattle.ec_inputs.specs.declared.words.Command.{Command}
+use Rattle.ec_inputs.specs.Words.{RunWords, WordsOf, CommandWords, CommandWords as command, command_in}
+use Rattle.ec_inputs.proofs.NoEntries.{no_entries}
+use Rattle.ec_inputs.proofs.OneNode.{one_node}
 use Rattle.ec_outside.specs.Fault.{HasRisen}
 use Rattle.ec_network.specs.Net.{Net, IsOneNode}
 use Rattle.ec_tool.specs.declared.status.Status.{Status}
 use Rattle.ec_tool.specs.declared.status.Status.TheVariants as statuses
-use Rattle.ec_tool.specs.declared.inputs.FileOf.{FileOf}
+use Rattle.ec_tool.specs.declared.files.FileOf.{FileOf}
 use Rattle.ec_tool.specs.declared.report.ReportEnd.{ReportEnd}
 use Rattle.ec_tool.specs.declared.report.ReportEnd.TheVariants.{Ends, IsFull}
-use Rattle.std.specs.Str.{bytes_eq}
-use Rattle.ec_tool.specs.Inputs.{RunWords, WordsOf, IsSource, NodesOf, EntriesOf, nodes_if, one_node, one_node_file, default_budget, usage_line, later_line}
+use Rattle.ec_tool.specs.declared.source.Refusal.{Refusal}
+use Rattle.ec_tool.specs.Inputs.{usage_line}
+use Rattle.ec_tool.specs.Sources.{IsSource, IsRefused, refused_line}
+use Rattle.ec_tool.specs.Refusals.{nodes_line, schedule_line}
 use Rattle.ec_tool.specs.Emerald.{RunsTo, AreRead, Verdict, name_of_file, fault_line, any_failed, finished_status, status_of, source_run}
 use Rattle.ec_tool.specs.Emerald.RunsTo.{LoadIsFull, RanUntil}
-use Rattle.ec_tool.specs.Emerald.Verdict.{NoCommand, ReadFailed, SourceRefused, InputRefused, IsRun}
+use Rattle.ec_tool.specs.Emerald.Verdict.{NoCommand, ReadFailed, SourceRefused, NodesRefused, ScheduleRefused, IsRun}
 use Rattle.ec_tool.specs.Promises.{IsRunStatus}
 use Rattle.ec_tool.specs.Steps.{Judged, Plain}
 use Rattle.ec_tool.specs.Promises.IsRunStatus.{Finishes, Fails, Spends, Fills, Sticks}
-use Rattle.ec_tool.specs.Steps.Judged.{NoSource, NoInput, Runs}
+use Rattle.ec_tool.specs.Steps.Judged.{NoSource, NoNodes, NoSchedule, Runs}
 use Rattle.ec_tool.specs.Steps.IsByFiles.{RefusesSource, RefusesInput, EndsRun}
 use Rattle.ec_tool.specs.Steps.Plain.{ByWords, ByFault, ByFiles}
 
 -- ---- what the inputs that are read so far give
 
-nodes_one : (b : Bool) (specs : List NodeSpec) → nodes_if b ≡ Some specs → specs ≡ one_node ∷ []
-nodes_one true specs e = cc
-nodes_one false specs e = cc
+pub one_node_read : (nodes : List ℕ) (specs : List NodeSpec) → NodesOf nodes ≡ Ok specs → IsOneNode specs
+one_node_read nodes specs e =
+    let one = one_node nodes specs e in
+    record { spec = one.spec; one = one.one; kind = one.sized.kind; blocks = one.sized.blocks; text = (let t = one.sized.text in omega arith) }
 
-pub one_node_read : (nodes : List ℕ) (specs : List NodeSpec) → NodesOf nodes ≡ Some specs → IsOneNode specs
-one_node_read nodes specs e = record {
-  spec = one_node;
-  one = nodes_one (bytes_eq nodes one_node_file) specs e;
-  kind = refl;
-  blocks = lit≤ tt;
-  text = lit≤ tt;
-}
+-- ---- words
 
-entries_none : (schedule : List ℕ) (entries : List Entry) → EntriesOf schedule ≡ Some entries → entries ≡ []
-entries_none [] entries e = cc
-entries_none (b ∷ bs) entries e = cc
+module _ (words : List (List ℕ)) (found : Option Command) (read : option_map command_in found ≡ WordsOf words) where
+  pub words_of_run : (c : Command) (run : RunWords) → found ≡ Some c → command_in c ≡ command.Run run → WordsOf words ≡ Some (command.Run run)
+  words_of_run c run e f = sym read ∙ (ap (λ (o : Option Command). option_map command_in o) e ∙ ap (λ (x : CommandWords). Some x) f)
+
+  pub words_of_none : found ≡ None → WordsOf words ≡ None
+  words_of_none e = sym read ∙ ap (λ (o : Option Command). option_map command_in o) e
 
 -- ---- files that were read
 
-module _ (source nodes schedule : List ℕ) (net net' : Net) (status : Status) (text : List ℕ) where
-  pub source_refused : ((program : Program) → IsSource source program → ⊥) → net' ≡ net → status ≡ statuses.SourceRefused → text ≡ later_line → Judged source nodes schedule net net' status text
-  source_refused h n s t = rw (s, t) (NoSource h n)
+module _ (source nodes schedule : List ℕ) (budget : ℕ) (net net' : Net) (status : Status) (text : List ℕ) where
+  pub source_refused : (refusal : Refusal) (at : ℕ) → IsRefused source refusal at → net' ≡ net → status ≡ statuses.SourceRefused → text ≡ refused_line source refusal at → Judged source nodes schedule budget net net' status text
+  source_refused refusal at h n s t = rw (s, t) (NoSource refusal at h n)
 
-  pub input_refused : (program : Program) → IsSource source program → (NodesOf nodes ≡ None) ⊎ (EntriesOf schedule ≡ None) → net' ≡ net → status ≡ statuses.InputRefused → text ≡ later_line → Judged source nodes schedule net net' status text
-  input_refused program is h n s t = rw (s, t) (NoInput program is h n)
+  pub nodes_refused : (program : Program) (rule : NodeRule) → IsSource source program → NodesOf nodes ≡ Err rule → net' ≡ net → status ≡ statuses.InputRefused → text ≡ nodes_line rule → Judged source nodes schedule budget net net' status text
+  nodes_refused program rule is h n s t = rw (s, t) (NoNodes program rule is h n)
 
-  pub is_run : (program : Program) (specs : List NodeSpec) (entries : List Entry) → IsSource source program → NodesOf nodes ≡ Some specs → EntriesOf schedule ≡ Some entries → RunsTo program specs [] default_budget net net' status text → Judged source nodes schedule net net' status text
-  is_run program specs entries is n e r = Runs program specs entries status text is n e (rw (entries_none schedule entries e) r)
+  pub schedule_refused : (program : Program) (specs : List NodeSpec) (rule : ScheduleRule) (line : Option ℕ) → IsSource source program → NodesOf nodes ≡ Ok specs → EntriesOf schedule ≡ Err (rule, line) → net' ≡ net → status ≡ statuses.InputRefused → text ≡ schedule_line rule line → Judged source nodes schedule budget net net' status text
+  schedule_refused program specs rule line is m h n s t = rw (s, t) (NoSchedule program specs rule line is m h n)
+
+  pub is_run : (program : Program) (specs : List NodeSpec) (entries : List Entry) → IsSource source program → NodesOf nodes ≡ Ok specs → EntriesOf schedule ≡ Ok entries → RunsTo program specs [] budget net net' status text → Judged source nodes schedule budget net net' status text
+  is_run program specs entries is n e r = Runs program specs entries status text is n e (subst (λ (es : List Entry). RunsTo program specs es budget net net' status text) (sym (no_entries schedule entries e)) r)
 
 -- the end of a run has the status of one
 status_ends : (b : Bool) → IsRunStatus (finished_status b)
@@ -78,25 +89,27 @@ module _ (words : List (List ℕ)) (content : List ℕ → Option (List ℕ)) (f
   pub plain_no_command : WordsOf words ≡ None → status ≡ statuses.Usage → text ≡ usage_line → Plain words faults faults' status text
   plain_no_command w s t = rw (s, t) (ByWords w)
 
-  module _ (run : RunWords) (w : WordsOf words ≡ Some run) where
+  module _ (run : RunWords) (w : WordsOf words ≡ Some (command.Run run)) where
     pub read_failed : (file : FileOf) → HasRisen (faults (name_of_file run file)) (faults' (name_of_file run file)) → net' ≡ net → status ≡ statuses.ReadFault → text ≡ fault_line file → Verdict words content faults faults' net net' status text
     read_failed file h n s t = rw (s, t) (ReadFailed run file w h n)
 
     pub plain_read_failed : (file : FileOf) → HasRisen (faults (name_of_file run file)) (faults' (name_of_file run file)) → status ≡ statuses.ReadFault → text ≡ fault_line file → Plain words faults faults' status text
     plain_read_failed file h s t = rw (s, t) (ByFault run file w h)
 
-    judged_verdict_of : {source nodes schedule : List ℕ} {st : Status} {tx : List ℕ} → AreRead content run source nodes schedule → Judged source nodes schedule net net' st tx → Verdict words content faults faults' net net' st tx
-    judged_verdict_of {source} {nodes} {schedule} r (NoSource h n) = SourceRefused run source nodes schedule w r h n
-    judged_verdict_of {source} {nodes} {schedule} r (NoInput program is h n) = InputRefused run source nodes schedule program w r is h n
+    judged_verdict_of : {source nodes schedule : List ℕ} {st : Status} {tx : List ℕ} → AreRead content run source nodes schedule → Judged source nodes schedule run.budget net net' st tx → Verdict words content faults faults' net net' st tx
+    judged_verdict_of {source} {nodes} {schedule} r (NoSource refusal at h n) = SourceRefused run source nodes schedule refusal at w r h n
+    judged_verdict_of {source} {nodes} {schedule} r (NoNodes program rule is h n) = NodesRefused run source nodes schedule program rule w r is h n
+    judged_verdict_of {source} {nodes} {schedule} r (NoSchedule program specs rule line is m h n) = ScheduleRefused run source nodes schedule program specs rule line w r is m h n
     judged_verdict_of {source} {nodes} {schedule} r (Runs program specs entries st tx is n e k) = IsRun run source nodes schedule program specs entries st tx w r is n e k
 
-    pub judged_verdict : (source nodes schedule : List ℕ) → AreRead content run source nodes schedule → Judged source nodes schedule net net' status text → Verdict words content faults faults' net net' status text
+    pub judged_verdict : (source nodes schedule : List ℕ) → AreRead content run source nodes schedule → Judged source nodes schedule run.budget net net' status text → Verdict words content faults faults' net net' status text
     judged_verdict source nodes schedule r j = judged_verdict_of r j
 
-    judged_plain_of : {source nodes schedule : List ℕ} {st : Status} {tx : List ℕ} → Judged source nodes schedule net net' st tx → Plain words faults faults' st tx
-    judged_plain_of (NoSource h n) = ByFiles run _ _ w RefusesSource
-    judged_plain_of (NoInput program is h n) = ByFiles run _ _ w RefusesInput
+    judged_plain_of : {source nodes schedule : List ℕ} {st : Status} {tx : List ℕ} → Judged source nodes schedule run.budget net net' st tx → Plain words faults faults' st tx
+    judged_plain_of (NoSource refusal at h n) = ByFiles run _ _ w RefusesSource
+    judged_plain_of (NoNodes program rule is h n) = ByFiles run _ _ w RefusesInput
+    judged_plain_of (NoSchedule program specs rule line is m h n) = ByFiles run _ _ w RefusesInput
     judged_plain_of (Runs program specs entries st tx is n e k) = ByFiles run st tx w (EndsRun st (run_status k))
 
-    pub judged_plain : (source nodes schedule : List ℕ) → Judged source nodes schedule net net' status text → Plain words faults faults' status text
+    pub judged_plain : (source nodes schedule : List ℕ) → Judged source nodes schedule run.budget net net' status text → Plain words faults faults' status text
     judged_plain source nodes schedule j = judged_plain_of j

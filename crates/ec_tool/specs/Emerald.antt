@@ -1,5 +1,5 @@
 -- What a call of the program comes to.
-use Rattle.std.specs.Prelude.{◌≡◌, ℕ, zero, suc, ◌<◌, ◌⊎◌, ◌||◌, Bool, true, false, List, [], ◌∷◌, ◌++◌, length, Option, Some, None, codes}
+use Rattle.std.specs.Prelude.{◌≡◌, ℕ, zero, suc, ◌<◌, ◌⊎◌, ◌||◌, Bool, true, false, List, [], ◌∷◌, ◌++◌, length, Option, Some, None, Ok, Err, codes}
 use Rattle.ec_printing.specs.declared.Program.{Program}
 use Rattle.ec_world.specs.declared.node.NodeSpec.{NodeSpec}
 use Rattle.ec_world.specs.declared.run.Entry.{Entry}
@@ -18,6 +18,11 @@ use Rattle.ec_ir.specs.declared.activation.IrActivation.{IrActivation}
 use Rattle.ec_ir.specs.Meaning.{ir_meaning, ir_silent, ir_start}
 use Rattle.ec_lower.specs.Agreement.{Means}
 use Rattle.ec_nodes.specs.declared.room.Part.{Part}
+use Rattle.ec_inputs.specs.declared.nodes.NodeRule.{NodeRule}
+use Rattle.ec_inputs.specs.declared.schedule.ScheduleRule.{ScheduleRule}
+use Rattle.ec_inputs.specs.Nodes.{NodesOf}
+use Rattle.ec_inputs.specs.Schedules.{EntriesOf}
+use Rattle.ec_inputs.specs.Words.{RunWords, WordsOf, CommandWords as command}
 use Rattle.ec_outside.specs.Fault.{HasRisen}
 use Rattle.ec_outside.specs.Whole.{IsWhole, GrowsByFront}
 use Rattle.ec_network.specs.Shows.{IrWorld}
@@ -28,12 +33,15 @@ use Rattle.ec_network.specs.Net.{Net, Ran, counts_of}
 use Rattle.rv_codegen.specs.Meaning.{rv_meaning}
 use Rattle.ec_tool.specs.declared.status.Status.{Status}
 use Rattle.ec_tool.specs.declared.status.Status.TheVariants as statuses
-use Rattle.ec_tool.specs.declared.inputs.FileOf.{FileOf}
-use Rattle.ec_tool.specs.declared.inputs.FileOf.TheVariants.{Source, Nodes, Schedule}
+use Rattle.ec_tool.specs.declared.files.FileOf.{FileOf}
+use Rattle.ec_tool.specs.declared.files.FileOf.TheVariants.{Source, Nodes, Schedule}
 use Rattle.ec_tool.specs.declared.report.ReportEnd.{ReportEnd}
 use Rattle.ec_tool.specs.declared.report.ReportEnd.TheVariants.{Ends, IsFull}
 use Rattle.ec_tool.specs.Report.{report, load_report}
-use Rattle.ec_tool.specs.Inputs.{RunWords, WordsOf, IsSource, NodesOf, EntriesOf, default_budget, usage_line, later_line}
+use Rattle.ec_tool.specs.declared.source.Refusal.{Refusal}
+use Rattle.ec_tool.specs.Inputs.{usage_line}
+use Rattle.ec_tool.specs.Sources.{IsSource, IsRefused, refused_line}
+use Rattle.ec_tool.specs.Refusals.{nodes_line, schedule_line}
 
 -- ---- the run of a source, and that of its code
 
@@ -146,10 +154,11 @@ pub record AreRead (content : List ℕ → Option (List ℕ)) (words : RunWords)
 -- one came.
 pub data Verdict (words : List (List ℕ)) (content : List ℕ → Option (List ℕ)) (faults faults' : List ℕ → ℕ) (net net' : Net) : Status → List ℕ → Type 0 where
   NoCommand : WordsOf words ≡ None → net' ≡ net → Verdict words content faults faults' net net' statuses.Usage usage_line
-  ReadFailed : (run : RunWords) (file : FileOf) → WordsOf words ≡ Some run → HasRisen (faults (name_of_file run file)) (faults' (name_of_file run file)) → net' ≡ net → Verdict words content faults faults' net net' statuses.ReadFault (fault_line file)
-  SourceRefused : (run : RunWords) (source nodes schedule : List ℕ) → WordsOf words ≡ Some run → AreRead content run source nodes schedule → ((program : Program) → IsSource source program → ⊥) → net' ≡ net → Verdict words content faults faults' net net' statuses.SourceRefused later_line
-  InputRefused : (run : RunWords) (source nodes schedule : List ℕ) (program : Program) → WordsOf words ≡ Some run → AreRead content run source nodes schedule → IsSource source program → (NodesOf nodes ≡ None) ⊎ (EntriesOf schedule ≡ None) → net' ≡ net → Verdict words content faults faults' net net' statuses.InputRefused later_line
-  IsRun : (run : RunWords) (source nodes schedule : List ℕ) (program : Program) (specs : List NodeSpec) (entries : List Entry) (status : Status) (text : List ℕ) → WordsOf words ≡ Some run → AreRead content run source nodes schedule → IsSource source program → NodesOf nodes ≡ Some specs → EntriesOf schedule ≡ Some entries → RunsTo program specs entries default_budget net net' status text → Verdict words content faults faults' net net' status text
+  ReadFailed : (run : RunWords) (file : FileOf) → WordsOf words ≡ Some (command.Run run) → HasRisen (faults (name_of_file run file)) (faults' (name_of_file run file)) → net' ≡ net → Verdict words content faults faults' net net' statuses.ReadFault (fault_line file)
+  SourceRefused : (run : RunWords) (source nodes schedule : List ℕ) (refusal : Refusal) (at : ℕ) → WordsOf words ≡ Some (command.Run run) → AreRead content run source nodes schedule → IsRefused source refusal at → net' ≡ net → Verdict words content faults faults' net net' statuses.SourceRefused (refused_line source refusal at)
+  NodesRefused : (run : RunWords) (source nodes schedule : List ℕ) (program : Program) (rule : NodeRule) → WordsOf words ≡ Some (command.Run run) → AreRead content run source nodes schedule → IsSource source program → NodesOf nodes ≡ Err rule → net' ≡ net → Verdict words content faults faults' net net' statuses.InputRefused (nodes_line rule)
+  ScheduleRefused : (run : RunWords) (source nodes schedule : List ℕ) (program : Program) (specs : List NodeSpec) (rule : ScheduleRule) (line : Option ℕ) → WordsOf words ≡ Some (command.Run run) → AreRead content run source nodes schedule → IsSource source program → NodesOf nodes ≡ Ok specs → EntriesOf schedule ≡ Err (rule, line) → net' ≡ net → Verdict words content faults faults' net net' statuses.InputRefused (schedule_line rule line)
+  IsRun : (run : RunWords) (source nodes schedule : List ℕ) (program : Program) (specs : List NodeSpec) (entries : List Entry) (status : Status) (text : List ℕ) → WordsOf words ≡ Some (command.Run run) → AreRead content run source nodes schedule → IsSource source program → NodesOf nodes ≡ Ok specs → EntriesOf schedule ≡ Ok entries → RunsTo program specs entries run.budget net net' status text → Verdict words content faults faults' net net' status text
 
 -- what the call answers of a verdict: the status and the whole text written, or a fault of the sink and a front of it
 pub data Answers (taken taken' : List ℕ) (faults faults' : ℕ) (status : Status) (text : List ℕ) : Status → Type 0 where

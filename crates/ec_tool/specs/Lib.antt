@@ -2,6 +2,9 @@ pub mod Status
 pub mod Report
 pub mod ObjectLines
 pub mod Inputs
+pub mod Places
+pub mod Sources
+pub mod Refusals
 pub mod Emerald
 pub mod Promises
 pub mod Steps

@@ -22,7 +22,6 @@ use Rattle.ec_tool.specs.declared.report.ReportEnd.{ReportEnd}
 use Rattle.ec_tool.specs.declared.report.ReportEnd.TheVariants.{Ends, IsFull}
 use Rattle.ec_tool.specs.declared.run.Step.{Step}
 use Rattle.ec_tool.specs.declared.run.Step.TheVariants.{Stops, Turns}
-use Rattle.ec_tool.specs.Inputs.{default_budget}
 use Rattle.ec_tool.specs.Report.{report}
 use Rattle.ec_tool.specs.Emerald.{ir_run, PoolAfter, NextFull, NoneFullBefore, status_of}
 
@@ -36,10 +35,10 @@ pub record IsShown (net : Net) : Type 0 where
 
 -- what comes next, by the statuses of the processes, the entries done and the process of the last turn: the end of the
 -- run, or a turn, for which the budget isn't spent
-abbrev pub IsStep : List ProcStatus → ℕ → Option ℕ → Step → Type 0
-IsStep statuses done last (Stops how) = end_by [] statuses (nat_le default_budget done) ≡ Some how
-IsStep statuses done last (Turns p) =
-    (end_by [] statuses (nat_le default_budget done) ≡ None) × (next_ready_of (map is_ready statuses) last ≡ Some p) × (done < default_budget)
+abbrev pub IsStep : List ProcStatus → (budget done : ℕ) → Option ℕ → Step → Type 0
+IsStep statuses budget done last (Stops how) = end_by [] statuses (nat_le budget done) ≡ Some how
+IsStep statuses budget done last (Turns p) =
+    (end_by [] statuses (nat_le budget done) ≡ None) × (next_ready_of (map is_ready statuses) last ≡ Some p) × (done < budget)
 
 -- a refused call ends a run where a node was full
 abbrev pub IsFullEnd : NetError → ReportEnd → Type 0
@@ -47,9 +46,9 @@ IsFullEnd (Full node part need free) end = end ≡ IsFull node part need free
 IsFullEnd Memory end = ⊥
 
 -- After k entries of round robin from the network `old`, which was just loaded, a network shows the world of the run; turns
--- have led there, no entry found a node full, and the run has not ended before. Each turn has raised counts by less than
--- 2^32, and made at most one object.
-pub record Follows (specs : List NodeSpec) (old : Net) (k : ℕ) (net : Net) : Type 0 where
+-- have led there, no entry found a node full, and the run has not ended before. Each turn has raised counts by at most
+-- 2^26, since no operation has as many words of code, and made at most one object.
+pub record Follows (specs : List NodeSpec) (budget : ℕ) (old : Net) (k : ℕ) (net : Net) : Type 0 where
   pub start : Cluster
   pub started : old ≡ whole_net start
   pub loaded : IsLoaded rv_meaning start.program specs start
@@ -58,35 +57,35 @@ pub record Follows (specs : List NodeSpec) (old : Net) (k : ℕ) (net : Net) : T
   pub machines : SameMachines start now
   pub holds : Holds rv_meaning now (ir_run start.program (length specs) [] k).world
   pub along : Along rv_meaning start.program start (ir_start start.program (length specs)) (ir_run start.program (length specs) [] k).done now
-  pub going : (j : ℕ) → j < k → end_of default_budget (ir_run start.program (length specs) [] j) ≡ None
+  pub going : (j : ℕ) → j < k → end_of budget (ir_run start.program (length specs) [] j) ≡ None
   pub fits : NoneFullBefore start.program specs [] k
   pub pools : (j : ℕ) (s : Store) (text : List ℕ) → stores now j ≡ Some s → InPool s text ↔ PoolAfter start.program (length specs) [] k j text
-  pub counts : (j : ℕ) → count_of now j ≤ k * 2 ^ 32
-  pub within : k ≤ default_budget
+  pub counts : (j : ℕ) → count_of now j ≤ k * 2 ^ 26
+  pub within : k ≤ budget
   pub left : (ir_run start.program (length specs) [] k).left ≡ []
   pub counted : length (ir_run start.program (length specs) [] k).done ≡ k
   pub few_objects : length (ir_run start.program (length specs) [] k).world.common.objects ≤ length specs + 1 + k
   pub one_process : length (ir_run start.program (length specs) [] k).world.processes ≡ 1
 
 -- the network follows so far, and the last turn was that of the run
-pub record IsAfter (specs : List NodeSpec) (old : Net) (k : ℕ) (last : Option ℕ) (net : Net) : Type 0 where
-  pub follows : Follows specs old k net
+pub record IsAfter (specs : List NodeSpec) (budget : ℕ) (old : Net) (k : ℕ) (last : Option ℕ) (net : Net) : Type 0 where
+  pub follows : Follows specs budget old k net
   pub last_is : (ir_run follows.start.program (length specs) [] k).last ≡ last
 
 -- how the run of code comes to its end after k entries
-pub data EndsAt (ir : Parts) (specs : List NodeSpec) (k : ℕ) : ReportEnd → Type 0 where
-  StopsItself : (how : RunEnd) → end_of default_budget (ir_run ir (length specs) [] k) ≡ Some how → EndsAt ir specs k (Ends how)
-  StopsFull : (node need free : ℕ) (part : Part) → end_of default_budget (ir_run ir (length specs) [] k) ≡ None → NextFull ir specs [] k node part need free → EndsAt ir specs k (IsFull node part need free)
+pub data EndsAt (ir : Parts) (specs : List NodeSpec) (budget k : ℕ) : ReportEnd → Type 0 where
+  StopsItself : (how : RunEnd) → end_of budget (ir_run ir (length specs) [] k) ≡ Some how → EndsAt ir specs budget k (Ends how)
+  StopsFull : (node need free : ℕ) (part : Part) → end_of budget (ir_run ir (length specs) [] k) ≡ None → NextFull ir specs [] k node part need free → EndsAt ir specs budget k (IsFull node part need free)
 
 -- the run has come to its end on the network
-pub record IsEnded (specs : List NodeSpec) (old : Net) (k : ℕ) (how : ReportEnd) (net : Net) : Type 0 where
-  pub follows : Follows specs old k net
-  pub ends : EndsAt follows.start.program specs k how
+pub record IsEnded (specs : List NodeSpec) (budget : ℕ) (old : Net) (k : ℕ) (how : ReportEnd) (net : Net) : Type 0 where
+  pub follows : Follows specs budget old k net
+  pub ends : EndsAt follows.start.program specs budget k how
 
 -- the status and the text of a run that has come to its end on the network
-pub record IsReported (specs : List NodeSpec) (old net : Net) (status : Status) (text : List ℕ) : Type 0 where
+pub record IsReported (specs : List NodeSpec) (budget : ℕ) (old net : Net) (status : Status) (text : List ℕ) : Type 0 where
   pub done : ℕ
   pub how : ReportEnd
-  pub ended : IsEnded specs old done how net
+  pub ended : IsEnded specs budget old done how net
   pub status_is : status ≡ status_of (statuses_of (ir_run ended.follows.start.program (length specs) [] done).world) how
   pub text_is : text ≡ report (ir_run ended.follows.start.program (length specs) [] done).world specs (counts_of net) done how

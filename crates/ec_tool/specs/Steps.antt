@@ -1,16 +1,24 @@
 -- What the steps of a call come to: files are read, then judged, then a text is written.
-use Rattle.std.specs.Prelude.{◌≡◌, ◌⊎◌, ℕ, List, Option, Some, None}
+use Rattle.std.specs.Prelude.{◌≡◌, ◌⊎◌, ℕ, List, Option, Some, None, Ok, Err}
 use Rattle.ec_printing.specs.declared.Program.{Program}
 use Rattle.ec_world.specs.declared.node.NodeSpec.{NodeSpec}
 use Rattle.ec_world.specs.declared.run.Entry.{Entry}
+use Rattle.ec_inputs.specs.declared.nodes.NodeRule.{NodeRule}
+use Rattle.ec_inputs.specs.declared.schedule.ScheduleRule.{ScheduleRule}
+use Rattle.ec_inputs.specs.Nodes.{NodesOf}
+use Rattle.ec_inputs.specs.Schedules.{EntriesOf}
+use Rattle.ec_inputs.specs.Words.{RunWords, WordsOf, CommandWords as command}
 use Rattle.ec_outside.specs.Fault.{HasRisen}
 use Rattle.ec_network.specs.Net.{Net}
 use Rattle.ec_tool.specs.declared.status.Status.{Status}
 use Rattle.ec_tool.specs.declared.status.Status.TheVariants as statuses
-use Rattle.ec_tool.specs.declared.inputs.FileOf.{FileOf}
-use Rattle.ec_tool.specs.declared.emerald.Unread.{Unread}
-use Rattle.ec_tool.specs.declared.emerald.Unread.TheVariants.{Failed, Memory}
-use Rattle.ec_tool.specs.Inputs.{RunWords, WordsOf, IsSource, NodesOf, EntriesOf, default_budget, usage_line, later_line}
+use Rattle.ec_tool.specs.declared.files.FileOf.{FileOf}
+use Rattle.ec_tool.specs.declared.files.Unread.{Unread}
+use Rattle.ec_tool.specs.declared.files.Unread.TheVariants.{Failed, Memory}
+use Rattle.ec_tool.specs.declared.source.Refusal.{Refusal}
+use Rattle.ec_tool.specs.Inputs.{usage_line}
+use Rattle.ec_tool.specs.Sources.{IsSource, IsRefused, refused_line}
+use Rattle.ec_tool.specs.Refusals.{nodes_line, schedule_line}
 use Rattle.ec_tool.specs.Promises.{IsRunStatus}
 use Rattle.ec_tool.specs.Emerald.{RunsTo, Verdict, Answers, name_of_file, fault_line}
 
@@ -20,10 +28,11 @@ WhenFailed (Failed file) P = P file
 WhenFailed Memory P = Unit {0}
 
 -- the status and the text of files that were read whole
-pub data Judged (source nodes schedule : List ℕ) (net net' : Net) : Status → List ℕ → Type 0 where
-  NoSource : ((program : Program) → IsSource source program → ⊥) → net' ≡ net → Judged source nodes schedule net net' statuses.SourceRefused later_line
-  NoInput : (program : Program) → IsSource source program → (NodesOf nodes ≡ None) ⊎ (EntriesOf schedule ≡ None) → net' ≡ net → Judged source nodes schedule net net' statuses.InputRefused later_line
-  Runs : (program : Program) (specs : List NodeSpec) (entries : List Entry) (status : Status) (text : List ℕ) → IsSource source program → NodesOf nodes ≡ Some specs → EntriesOf schedule ≡ Some entries → RunsTo program specs entries default_budget net net' status text → Judged source nodes schedule net net' status text
+pub data Judged (source nodes schedule : List ℕ) (budget : ℕ) (net net' : Net) : Status → List ℕ → Type 0 where
+  NoSource : (refusal : Refusal) (at : ℕ) → IsRefused source refusal at → net' ≡ net → Judged source nodes schedule budget net net' statuses.SourceRefused (refused_line source refusal at)
+  NoNodes : (program : Program) (rule : NodeRule) → IsSource source program → NodesOf nodes ≡ Err rule → net' ≡ net → Judged source nodes schedule budget net net' statuses.InputRefused (nodes_line rule)
+  NoSchedule : (program : Program) (specs : List NodeSpec) (rule : ScheduleRule) (line : Option ℕ) → IsSource source program → NodesOf nodes ≡ Ok specs → EntriesOf schedule ≡ Err (rule, line) → net' ≡ net → Judged source nodes schedule budget net net' statuses.InputRefused (schedule_line rule line)
+  Runs : (program : Program) (specs : List NodeSpec) (entries : List Entry) (status : Status) (text : List ℕ) → IsSource source program → NodesOf nodes ≡ Ok specs → EntriesOf schedule ≡ Ok entries → RunsTo program specs entries budget net net' status text → Judged source nodes schedule budget net net' status text
 
 -- a status that is told by what the files hold
 pub data IsByFiles : Status → Type 0 where
@@ -34,8 +43,8 @@ pub data IsByFiles : Status → Type 0 where
 -- what a verdict says whether or not the shelf tells what its files hold
 pub data Plain (words : List (List ℕ)) (faults faults' : List ℕ → ℕ) : Status → List ℕ → Type 0 where
   ByWords : WordsOf words ≡ None → Plain words faults faults' statuses.Usage usage_line
-  ByFault : (run : RunWords) (file : FileOf) → WordsOf words ≡ Some run → HasRisen (faults (name_of_file run file)) (faults' (name_of_file run file)) → Plain words faults faults' statuses.ReadFault (fault_line file)
-  ByFiles : (run : RunWords) (status : Status) (text : List ℕ) → WordsOf words ≡ Some run → IsByFiles status → Plain words faults faults' status text
+  ByFault : (run : RunWords) (file : FileOf) → WordsOf words ≡ Some (command.Run run) → HasRisen (faults (name_of_file run file)) (faults' (name_of_file run file)) → Plain words faults faults' statuses.ReadFault (fault_line file)
+  ByFiles : (run : RunWords) (status : Status) (text : List ℕ) → WordsOf words ≡ Some (command.Run run) → IsByFiles status → Plain words faults faults' status text
 
 -- what a call comes to where there is memory: the shelf tells its files or not, and so does the sink
 pub record Comes (FilesTold TakenTold : Type 0) (words : List (List ℕ)) (content : List ℕ → Option (List ℕ)) (faults faults' : List ℕ → ℕ) (net net' : Net) (taken taken' : List ℕ) (count count' : ℕ) (result : Status) : Type 0 where

@@ -1,147 +1,87 @@
 //! The call of the program: the files are read, the source is checked and run, and the text is written at the end.
-ghost use Rattle.std.specs.Prelude.{◌≡◌, ◌⊎◌, ℕ, ◌≤◌, ◌<◌, ◌^◌, List, ◌++◌, Option, Some, None, map, length, IfOk, IfErr, IfSome, IfNone, OnOk};
-ghost use Rattle.ec_printing.specs.declared.Program.{Program as AProgram};
+ghost use Rattle.std.specs.Prelude.{◌≡◌, ◌⊎◌, ℕ, ◌≤◌, List, ◌++◌, None, map, IfOk};
+ghost use Rattle.ec_inputs.specs.Words.{WordsOf, HasBudget, command_in, run_in, Run as ARun};
 ghost use Rattle.ec_outside.specs.Fault.{HasRisen};
-ghost use Rattle.ec_outside.specs.Whole.{IsWhole};
 ghost use Rattle.ec_network.specs.Net.{empty_net};
-ghost use Rattle.ec_tool.specs.Inputs.{WordsOf, IsSource, names_in};
 ghost use Rattle.ec_tool.specs.declared.status.Status.{Status as AStatus};
-ghost use Rattle.ec_tool.specs.Emerald.{AreRead, Verdict, Answers, file_limit, fault_line, name_of_file};
-ghost use Rattle.ec_tool.specs.Inputs.{usage_line, later_line};
+ghost use Rattle.ec_tool.specs.Emerald.{Verdict, Answers};
+ghost use Rattle.ec_tool.specs.Inputs.{usage_line};
+ghost use Rattle.ec_tool.specs.Sources.{IsSource};
 ghost use Rattle.ec_tool.specs.Promises.{IsRunStatus, HasReadFault, IsNoSource, IsNoInput, IsAccepted, HasRun, NoneRisen};
-ghost use Rattle.ec_tool.specs.Steps.{WhenFailed, Judged, Plain, Came};
+ghost use Rattle.ec_tool.specs.Steps.{Judged, Plain, Came};
 
 use crate::answer::{Answer, answer_with};
-use crate::inputs::{FileNames, FileOf, read_nodes, read_schedule, words_of};
+use crate::files::{Files, Unread, read_fault, read_files};
+use crate::refusal::{nodes_refused, schedule_refused};
 use crate::run::run;
+use crate::source::{SourceError, read_source, source_refused};
 use crate::status::Status;
-use ec_printing::Program;
-use ec_check::accepted;
+use ec_inputs::nodes::{NodesError, read_nodes};
+use ec_inputs::schedule::{ScheduleError, read_schedule};
+use ec_inputs::words::{Command, RunCommand, words_of};
 use ec_network::network::Network;
 use ec_outside::shelf::Shelf;
 use ec_outside::sink::Sink;
-use ec_outside::whole::{ReadError, read_whole, write_whole};
+use ec_outside::whole::write_whole;
+use ec_printing::Program;
 use std::alloc::{AllocError, Global};
-
-/// Files are read up to this many bytes.
-const FILE_LIMIT: usize = 1_048_577;
-
-/// The most bytes that a source has so far.
-const SOURCE_LIMIT: usize = 1000;
 
 const USAGE_LINE: &[u8] =
     b"usage: emerald run SOURCE NODES SCHEDULE [--budget N] | check SOURCE | mean SOURCE NODES SCHEDULE [--budget N] | trial N\n";
 
-const LATER_LINE: &[u8] = b"refused later\n";
-
-/// What the three files hold.
-#[derive(Drop)]
-struct Files {
-    source: Vec<u8>,
-    nodes: Vec<u8>,
-    schedule: Vec<u8>,
-}
-
-/// Why the files weren't read: one of them met a fault, or there was no memory.
-#[derive(Clone, Copy, PartialEq, Eq, Debug)]
-pub(crate) enum Unread {
-    Failed(FileOf),
-    Memory,
-}
-
-/// Reads one of the files whole.
-fn read_file<F: Shelf>(
-    alloc: Global,
-    shelf: &mut F,
-    name: &str,
-    file: FileOf,
-) -> Result<Vec<u8>, Unread>
-    ensures read { IfOk result (λ bytes. F.tells shelf.old → IsWhole (F.content shelf.old name.now) file_limit bytes.items) }
-    ensures still_tells { F.tells shelf.old → F.tells shelf.new }
-    ensures content { F.content shelf.new ≡ F.content shelf.old }
-    ensures ok { OnOk result (F.faults shelf.new ≡ F.faults shelf.old) }
-    ensures failed { IfErr result (λ e. WhenFailed e (λ met. (met ≡ file) × HasRisen (F.faults shelf.old name.now) (F.faults shelf.new name.now))) }
-{
-    match read_whole(alloc, shelf, name, FILE_LIMIT) {
-        Ok(bytes) => Ok(bytes),
-        Err(ReadError::Failed) => Err(Unread::Failed(file)),
-        Err(ReadError::Memory) => Err(Unread::Memory),
-    }
-}
-
-/// Reads the three files, each whole.
-fn read_files<F: Shelf>(alloc: Global, shelf: &mut F, names: FileNames) -> Result<Files, Unread>
-    ensures read { IfOk result (λ files. F.tells shelf.old → AreRead (F.content shelf.old) (names_in names.entry) files.source.items files.nodes.items files.schedule.items) }
-    ensures failed { IfErr result (λ e. WhenFailed e (λ file. HasRisen (F.faults shelf.old (name_of_file (names_in names.entry) file)) (F.faults shelf.new (name_of_file (names_in names.entry) file)))) }
-{
-    let source = read_file(alloc, shelf, names.source, FileOf::Source)?;
-    let nodes = read_file(alloc, shelf, names.nodes, FileOf::Nodes)?;
-    let schedule = read_file(alloc, shelf, names.schedule, FileOf::Schedule)?;
-    Ok(Files {
-        source,
-        nodes,
-        schedule,
-    })
-}
-
-/// `read fault source`
-fn read_fault(alloc: Global, file: FileOf) -> Result<Answer, AllocError>
-    ensures status { IfOk result (λ answer. answer.status ≡ Status.ReadFault) }
-    ensures text { IfOk result (λ answer. answer.text.items ≡ fault_line file) }
-{
-    match file {
-        FileOf::Source => answer_with(alloc, Status::ReadFault, b"read fault source\n"),
-        FileOf::Nodes => answer_with(alloc, Status::ReadFault, b"read fault nodes\n"),
-        FileOf::Schedule => answer_with(alloc, Status::ReadFault, b"read fault schedule\n"),
-    }
-}
-
-/// Judges nodes and schedule of an accepted source, and runs it.
+/// Judges nodes and schedule of an accepted source, and runs it for at most so many entries.
 fn run_on(
     alloc: Global,
     program: &Program,
     files: &Files,
+    budget: u32,
     net: &mut Network,
 ) -> Result<Answer, AllocError>
     requires program { IsSource files.now.source.items program.now }
+    requires budget { budget ≤ 4000000000 }
     requires empty { net.old ≡ empty_net }
-    ensures { IfOk result (λ answer. Judged files.now.source.items files.now.nodes.items files.now.schedule.items net.old net.new answer.status answer.text.items) }
+    ensures { IfOk result (λ answer. Judged files.now.source.items files.now.nodes.items files.now.schedule.items budget net.old net.new answer.status answer.text.items) }
 {
-    let Some(specs) = read_nodes(alloc, &files.nodes)? else {
-        return answer_with(alloc, Status::InputRefused, LATER_LINE);
+    let specs = match read_nodes(alloc, &files.nodes) {
+        Ok(specs) => specs,
+        Err(NodesError::Refused(rule)) => return nodes_refused(alloc, rule),
+        Err(NodesError::Memory) => return Err(AllocError),
     };
-    let Some(_) = read_schedule(alloc, &files.schedule) else {
-        return answer_with(alloc, Status::InputRefused, LATER_LINE);
-    };
-    run(alloc, program, &specs, net)
-}
-
-/// The program of a source that is short enough for this stage, or None.
-fn source_of(alloc: Global, source: &[u8]) -> Result<Option<Program>, AllocError>
-    ensures some { IfOk result (λ found. IfSome found (λ program. IsSource source.now program)) }
-    ensures none { IfOk result (λ found. IfNone found ((program : AProgram) → IsSource source.now program → ⊥)) }
-{
-    if source.len() > SOURCE_LIMIT {
-        return Ok(None);
+    match read_schedule(alloc, &files.schedule) {
+        Ok(_) => run(alloc, program, &specs, budget.into(), net),
+        Err(ScheduleError::Refused { rule, line }) => schedule_refused(alloc, rule, line),
+        Err(ScheduleError::Memory) => Err(AllocError),
     }
-    accepted(alloc, source)
 }
 
 /// Judges files that were read whole, and runs the source.
-fn judge(alloc: Global, files: &Files, net: &mut Network) -> Result<Answer, AllocError>
-    requires { net.old ≡ empty_net }
-    ensures { IfOk result (λ answer. Judged files.now.source.items files.now.nodes.items files.now.schedule.items net.old net.new answer.status answer.text.items) }
+fn judge(alloc: Global, files: &Files, budget: u32, net: &mut Network) -> Result<Answer, AllocError>
+    requires budget { budget ≤ 4000000000 }
+    requires empty { net.old ≡ empty_net }
+    ensures { IfOk result (λ answer. Judged files.now.source.items files.now.nodes.items files.now.schedule.items budget net.old net.new answer.status answer.text.items) }
 {
-    match source_of(alloc, &files.source)? {
-        Some(program) => run_on(alloc, &program, files, net),
-        None => answer_with(alloc, Status::SourceRefused, LATER_LINE),
+    match read_source(alloc, &files.source) {
+        Ok(program) => run_on(alloc, &program, files, budget, net),
+        Err(SourceError::Refused(refused)) => source_refused(alloc, &files.source, refused),
+        Err(SourceError::Memory) => Err(AllocError),
+    }
+}
+
+/// The words of a command to run, the only one so far.
+fn run_of<'a>(command: Command<'a>) -> RunCommand<'a>
+    requires { HasBudget command }
+    ensures words { command_in command.entry ≡ ARun (run_in result) }
+    ensures budget { result.budget ≤ 4000000000 }
+{
+    match command {
+        Command::Run(run) => run,
     }
 }
 
 /// The status and the text of a call.
-fn answer<F: Shelf>(
+fn answer<'a, F: Shelf>(
     alloc: Global,
-    words: &[&str],
+    words: &'a [&'a str],
     shelf: &mut F,
     net: &mut Network,
 ) -> Result<Answer, AllocError>
@@ -149,11 +89,12 @@ fn answer<F: Shelf>(
     ensures verdict { IfOk result (λ answer. F.tells shelf.old → Verdict (map (λ word. word.now) words.now) (F.content shelf.old) (F.faults shelf.old) (F.faults shelf.new) net.old net.new answer.status answer.text.items) }
     ensures plain { IfOk result (λ answer. Plain (map (λ word. word.now) words.now) (F.faults shelf.old) (F.faults shelf.new) answer.status answer.text.items) }
 {
-    let Some(names) = words_of(words) else {
+    let Some(command) = words_of(alloc, words)? else {
         return answer_with(alloc, Status::Usage, USAGE_LINE);
     };
-    match read_files(alloc, shelf, names) {
-        Ok(files) => judge(alloc, &files, net),
+    let run = run_of(command);
+    match read_files(alloc, shelf, run) {
+        Ok(files) => judge(alloc, &files, run.budget, net),
         Err(Unread::Failed(file)) => read_fault(alloc, file),
         Err(Unread::Memory) => Err(AllocError),
     }
@@ -171,9 +112,9 @@ fn write_answer<K: Sink>(sink: &mut K, answer: &Answer) -> Status
 }
 
 /// The whole call.
-fn call<F: Shelf, K: Sink>(
+fn call<'a, F: Shelf, K: Sink>(
     alloc: Global,
-    words: &[&str],
+    words: &'a [&'a str],
     shelf: &mut F,
     sink: &mut K,
     net: &mut Network,
@@ -214,11 +155,11 @@ pub fn emerald<'a, F: Shelf, K: Sink>(
         (text : List ℕ) × HasReadFault (map (λ word. word.now) words.now) (F.faults shelf.old) (F.faults shelf.new) text ×
         (K.tells sink.old → K.taken sink.new ≡ K.taken sink.old ++ text) }
     ensures source_refused { F.tells shelf.old → result ≡ Status.SourceRefused →
-        IsNoSource (map (λ word. word.now) words.now) (F.content shelf.old) × (net.new ≡ net.old) ×
-        (K.tells sink.old → K.taken sink.new ≡ K.taken sink.old ++ later_line) }
+        (text : List ℕ) × IsNoSource (map (λ word. word.now) words.now) (F.content shelf.old) text × (net.new ≡ net.old) ×
+        (K.tells sink.old → K.taken sink.new ≡ K.taken sink.old ++ text) }
     ensures input_refused { F.tells shelf.old → result ≡ Status.InputRefused →
-        IsNoInput (map (λ word. word.now) words.now) (F.content shelf.old) × (net.new ≡ net.old) ×
-        (K.tells sink.old → K.taken sink.new ≡ K.taken sink.old ++ later_line) }
+        (text : List ℕ) × IsNoInput (map (λ word. word.now) words.now) (F.content shelf.old) text × (net.new ≡ net.old) ×
+        (K.tells sink.old → K.taken sink.new ≡ K.taken sink.old ++ text) }
     ensures finished { F.tells shelf.old → result ≡ Status.Finished →
         (text : List ℕ) × HasRun (map (λ word. word.now) words.now) (F.content shelf.old) net.old net.new Status.Finished text ×
         (K.tells sink.old → K.taken sink.new ≡ K.taken sink.old ++ text) }

@@ -3,10 +3,13 @@
 
 mod answer;
 pub mod emerald;
-pub mod inputs;
+pub mod files;
+mod place;
 mod processes;
+mod refusal;
 pub mod report;
 mod run;
+pub mod source;
 pub mod status;
 #[cfg(test)]
 mod tests;

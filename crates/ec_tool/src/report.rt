@@ -34,7 +34,7 @@ pub enum ReportEnd {
     },
 }
 
-fn push_number(alloc: Global, number: u64, out: &mut Vec<u8>) -> Result<(), AllocError>
+pub(crate) fn push_number(alloc: Global, number: u64, out: &mut Vec<u8>) -> Result<(), AllocError>
     ensures { OnOk result (out.new.items ≡ out.old.items ++ decimal number) }
 {
     let number = number.to_string(alloc)?;

@@ -5,7 +5,6 @@ ghost use Rattle.ec_lower.specs.Short.{IsShort};
 ghost use Rattle.ec_network.specs.Answers.{CanNumber, ForShown};
 ghost use Rattle.ec_network.specs.Net.{AreBuilt, IsOneNode, empty_net, counts_of};
 ghost use Rattle.rv_codegen.specs.Meaning.{rv_meaning};
-ghost use Rattle.ec_tool.specs.Inputs.{default_budget};
 ghost use Rattle.ec_tool.specs.Report.{report, load_report};
 ghost use Rattle.ec_tool.specs.Emerald.{RunsTo, status_of};
 ghost use Rattle.ec_tool.specs.Running.{IsShown, IsStep, IsFullEnd, Follows, IsAfter, IsEnded, IsReported};
@@ -14,11 +13,11 @@ use crate::answer::Answer;
 use crate::processes::{any_failed, are_over, ready_ones, statuses_in};
 use crate::report::{ReportEnd, load_report, report};
 use crate::status::Status;
-use ec_printing::Program;
 use ec_ir::program::IrProgram;
 use ec_lower::lower::lower;
 use ec_network::image::{Image, Images};
 use ec_network::network::{NetError, Network};
+use ec_printing::Program;
 use ec_world::node::NodeSpec;
 use ec_world::process::ProcStatus;
 use ec_world::robin::next_ready;
@@ -26,9 +25,6 @@ use ec_world::run::RunEnd;
 use ec_world::value::Pid;
 use rv_codegen::generate::build;
 use std::alloc::{AllocError, Global};
-
-/// How many entries a run does at most.
-const BUDGET: u64 = 1_000_000;
 
 /// What comes next in a run: its end, or a turn of a process.
 #[derive(Clone, Copy)]
@@ -44,22 +40,24 @@ struct Ended {
     end: ReportEnd,
 }
 
-/// Runs a program on nodes, each Ready process in turn, and reports the end.
+/// Runs a program on nodes, each Ready process in turn, for at most so many entries, and reports the end.
 pub(crate) fn run(
     alloc: Global,
     program: &Program,
     specs: &[NodeSpec],
+    budget: u64,
     net: &mut Network,
 ) -> Result<Answer, AllocError>
     requires short { IsShort program.now }
     requires nodes { IsOneNode specs.now }
+    requires budget { budget ≤ 4000000000 }
     requires empty { net.old ≡ empty_net }
-    ensures { IfOk result (λ answer. RunsTo program.now specs.now [] default_budget net.old net.new answer.status answer.text.items) }
+    ensures { IfOk result (λ answer. RunsTo program.now specs.now [] budget net.old net.new answer.status answer.text.items) }
 {
     let ir = lower(alloc, program)?;
     let images = build_images(alloc, &ir)?;
     match net.load(&ir, images, specs) {
-        Ok(_) => run_loaded(alloc, specs, net),
+        Ok(_) => run_loaded(alloc, specs, budget, net),
         Err(error) => {
             let end = full_end(error)?;
             answer_full(alloc, specs, net, end)
@@ -99,25 +97,37 @@ fn answer_full(
 }
 
 /// Runs what was just loaded, and reports the end.
-fn run_loaded(alloc: Global, specs: &[NodeSpec], net: &mut Network) -> Result<Answer, AllocError>
-    requires loaded { Follows specs.now net.old 0 net.old }
+fn run_loaded(
+    alloc: Global,
+    specs: &[NodeSpec],
+    budget: u64,
+    net: &mut Network,
+) -> Result<Answer, AllocError>
+    requires loaded { Follows specs.now budget net.old 0 net.old }
     requires nodes { IsOneNode specs.now }
-    ensures { IfOk result (λ answer. IsReported specs.now net.old net.new answer.status answer.text.items) }
+    requires budget { budget ≤ 4000000000 }
+    ensures { IfOk result (λ answer. IsReported specs.now budget net.old net.new answer.status answer.text.items) }
 {
-    let ended = run_entries(alloc, specs, net)?;
+    let ended = run_entries(alloc, specs, budget, net)?;
     answer_end(alloc, specs, net, ended.done, ended.end)
 }
 
 /// Does entries up to the end.
-fn run_entries(alloc: Global, specs: &[NodeSpec], net: &mut Network) -> Result<Ended, AllocError>
-    requires loaded { Follows specs.now net.old 0 net.old }
+fn run_entries(
+    alloc: Global,
+    specs: &[NodeSpec],
+    budget: u64,
+    net: &mut Network,
+) -> Result<Ended, AllocError>
+    requires loaded { Follows specs.now budget net.old 0 net.old }
     requires nodes { IsOneNode specs.now }
-    ensures { IfOk result (λ ended. IsEnded specs.now net.old ended.done ended.end net.new) }
+    requires budget { budget ≤ 4000000000 }
+    ensures { IfOk result (λ ended. IsEnded specs.now budget net.old ended.done ended.end net.new) }
 {
     let mut done = 0;
     let mut last = None;
     'entries: loop {
-        match next_step(alloc, net, done, last)? {
+        match next_step(alloc, net, budget, done, last)? {
             Step::Stops(how) => {
                 let end = ReportEnd::Ends(how);
                 return Ok(Ended { done, end });
@@ -157,21 +167,34 @@ fn full_end(error: NetError) -> Result<ReportEnd, AllocError>
 }
 
 /// What comes next, after so many entries.
-fn next_step(alloc: Global, net: &Network, done: u64, last: Option<Pid>) -> Result<Step, AllocError>
+fn next_step(
+    alloc: Global,
+    net: &Network,
+    budget: u64,
+    done: u64,
+    last: Option<Pid>,
+) -> Result<Step, AllocError>
     requires shown { IsShown net.now }
     requires numbers { CanNumber net.now }
-    ensures { IfOk result (λ step. ForShown rv_meaning net.now (λ c w. IsStep (statuses_of w) done last step)) }
+    ensures { IfOk result (λ step. ForShown rv_meaning net.now (λ c w. IsStep (statuses_of w) budget done last step)) }
 {
     let statuses = statuses_in(alloc, net)?;
     let ready = ready_ones(alloc, &statuses)?;
-    Ok(step_of(&statuses, &ready, done, last))
+    Ok(step_of(&statuses, &ready, budget, done, last))
 }
 
-/// What comes next, by the statuses of the processes, the marks of the Ready ones, the entries done and the last turn.
-fn step_of(statuses: &[ProcStatus], ready: &[bool], done: u64, last: Option<Pid>) -> Step
+/// What comes next, by the statuses of the processes, the marks of the Ready ones, the budget, the entries done and the
+/// last turn.
+fn step_of(
+    statuses: &[ProcStatus],
+    ready: &[bool],
+    budget: u64,
+    done: u64,
+    last: Option<Pid>,
+) -> Step
     requires marks { ready.now ≡ map is_ready statuses.now }
     requires few { length ready.now ≤ 2 ^ 32 }
-    ensures { IsStep statuses.now done last result }
+    ensures { IsStep statuses.now budget done last result }
 {
     if are_over(statuses) {
         return Step::Stops(RunEnd::Finished);
@@ -179,7 +202,7 @@ fn step_of(statuses: &[ProcStatus], ready: &[bool], done: u64, last: Option<Pid>
     let Some(p) = next_ready(ready, last) else {
         return Step::Stops(RunEnd::Stuck);
     };
-    if done >= BUDGET {
+    if done >= budget {
         return Step::Stops(RunEnd::Spent);
     }
     Step::Turns(p)

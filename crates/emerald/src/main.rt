@@ -2,7 +2,7 @@
 #![tactic(auto)]
 
 ghost use Rattle.std.specs.Prelude.{◌≡◌, ◌⊎◌, None, map, IfOk};
-ghost use Rattle.ec_tool.specs.Inputs.{WordsOf};
+ghost use Rattle.ec_inputs.specs.Words.{WordsOf};
 
 use ec_network::network::Network;
 use ec_outside::file_shelf::FileShelf;
@@ -32,7 +32,7 @@ fn call(rt: &HostRuntime) -> Result<Status, AllocError> {
 }
 
 /// Calls the program with these words.
-fn call_with(rt: &HostRuntime, words: &[&str]) -> Result<Status, AllocError>
+fn call_with<'a>(rt: &HostRuntime, words: &'a [&'a str]) -> Result<Status, AllocError>
     ensures usage { IfOk result (λ status. status ≡ Status.Usage → WordsOf (map (λ word. word.now) words.now) ≡ None) }
     ensures no_command { IfOk result (λ status. WordsOf (map (λ word. word.now) words.now) ≡ None →
         (status ≡ Status.Usage) ⊎ ((status ≡ Status.WriteFault) ⊎ (status ≡ Status.NoMemory))) }

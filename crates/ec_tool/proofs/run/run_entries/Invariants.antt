@@ -1,10 +1,9 @@
 use Rattle.std.proofs.Common.{◌-◌}
-use Rattle.ec_tool.specs.Inputs.{default_budget}
 use Rattle.ec_tool.specs.Running.{IsAfter}
 use Rattle.ec_tool.proofs.run.run_entries.Given as goal
 
 abbrev pub invariant-entries : goal.invariant-entries
-invariant-entries l = IsAfter l.specs l.initial.net l.done l.last l.net
+invariant-entries l = IsAfter l.specs l.budget l.initial.net l.done l.last l.net
 
 abbrev pub decreases-entries : goal.decreases-entries
-decreases-entries l = default_budget - l.done
+decreases-entries l = l.budget - l.done

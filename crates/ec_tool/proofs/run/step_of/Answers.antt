@@ -5,19 +5,19 @@ use Rattle.ec_tool.proofs.Choosing.{step_finished, step_stuck, step_spent, step_
 use Rattle.ec_tool.proofs.run.step_of.Goals as goal
 
 pub returns-then-are_over : goal.returns-then-are_over
-returns-then-are_over c = step_finished c.args.statuses.now c.args.done c.args.last (sym c.if-are_over.ensures)
+returns-then-are_over c = step_finished c.args.statuses.now c.args.budget c.args.done c.args.last (sym c.if-are_over.ensures)
 
 pub returns-in_default : goal.returns-in_default
 returns-in_default c =
     let next = ap (λ (ready : List Bool). next_ready_of ready c.args.last) (sym c.requires.marks) ∙ (sym c.next_ready.ensures ∙ c.in_default.is) in
-    step_stuck c.args.statuses.now c.args.done c.args.last (sym c.if-are_over.ensures) next
+    step_stuck c.args.statuses.now c.args.budget c.args.done c.args.last (sym c.if-are_over.ensures) next
 
-pub returns-then-done-ge-BUDGET : goal.returns-then-done-ge-BUDGET
-returns-then-done-ge-BUDGET c =
+pub returns-then-done-budget : goal.returns-then-done-budget
+returns-then-done-budget c =
     let next = ap (λ (ready : List Bool). next_ready_of ready c.args.last) (sym c.requires.marks) ∙ (sym c.next_ready.ensures ∙ c.in-Some.is) in
-    step_spent c.args.statuses.now c.args.done c.args.last (sym c.if-are_over.ensures) c.in-Some.p next (omega arith)
+    step_spent c.args.statuses.now c.args.budget c.args.done c.args.last (sym c.if-are_over.ensures) c.in-Some.p next (omega arith)
 
 pub returns : goal.returns
 returns c =
     let next = ap (λ (ready : List Bool). next_ready_of ready c.args.last) (sym c.requires.marks) ∙ (sym c.next_ready.ensures ∙ c.in-Some.is) in
-    step_turn c.args.statuses.now c.args.done c.args.last (sym c.if-are_over.ensures) c.in-Some.p next (omega arith)
+    step_turn c.args.statuses.now c.args.budget c.args.done c.args.last (sym c.if-are_over.ensures) c.in-Some.p next (omega arith)

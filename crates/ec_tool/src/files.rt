@@ -1,0 +1,91 @@
+//! The three files of a run, each read whole.
+ghost use Rattle.std.specs.Prelude.{◌≡◌, IfOk, IfErr, OnOk};
+ghost use Rattle.ec_inputs.specs.Words.{run_in};
+ghost use Rattle.ec_outside.specs.Fault.{HasRisen};
+ghost use Rattle.ec_outside.specs.Whole.{IsWhole};
+ghost use Rattle.ec_tool.specs.Emerald.{AreRead, file_limit, fault_line, name_of_file};
+ghost use Rattle.ec_tool.specs.Steps.{WhenFailed};
+
+use crate::answer::{Answer, answer_with};
+use crate::status::Status;
+use ec_inputs::words::RunCommand;
+use ec_outside::shelf::Shelf;
+use ec_outside::whole::{ReadError, read_whole};
+use std::alloc::{AllocError, Global};
+
+/// Files are read up to this many bytes.
+const FILE_LIMIT: usize = 1_048_577;
+
+/// The three files of a run.
+#[derive(Clone, Copy, PartialEq, Eq, Debug)]
+pub enum FileOf {
+    Source,
+    Nodes,
+    Schedule,
+}
+
+/// What the three files hold.
+#[derive(Drop)]
+pub(crate) struct Files {
+    pub source: Vec<u8>,
+    pub nodes: Vec<u8>,
+    pub schedule: Vec<u8>,
+}
+
+/// Why the files weren't read: one of them met a fault, or there was no memory.
+#[derive(Clone, Copy, PartialEq, Eq, Debug)]
+pub(crate) enum Unread {
+    Failed(FileOf),
+    Memory,
+}
+
+/// Reads the three files of a run, each whole.
+pub(crate) fn read_files<F: Shelf>(
+    alloc: Global,
+    shelf: &mut F,
+    run: RunCommand,
+) -> Result<Files, Unread>
+    ensures read { IfOk result (λ files. F.tells shelf.old → AreRead (F.content shelf.old) (run_in run.entry) files.source.items files.nodes.items files.schedule.items) }
+    ensures failed { IfErr result (λ e. WhenFailed e (λ file. HasRisen (F.faults shelf.old (name_of_file (run_in run.entry) file)) (F.faults shelf.new (name_of_file (run_in run.entry) file)))) }
+{
+    let source = read_file(alloc, shelf, run.source, FileOf::Source)?;
+    let nodes = read_file(alloc, shelf, run.nodes, FileOf::Nodes)?;
+    let schedule = read_file(alloc, shelf, run.schedule, FileOf::Schedule)?;
+    Ok(Files {
+        source,
+        nodes,
+        schedule,
+    })
+}
+
+/// Reads one of the files whole.
+fn read_file<F: Shelf>(
+    alloc: Global,
+    shelf: &mut F,
+    name: &str,
+    file: FileOf,
+) -> Result<Vec<u8>, Unread>
+    ensures read { IfOk result (λ bytes. F.tells shelf.old → IsWhole (F.content shelf.old name.now) file_limit bytes.items) }
+    ensures still_tells { F.tells shelf.old → F.tells shelf.new }
+    ensures content { F.content shelf.new ≡ F.content shelf.old }
+    ensures ok { OnOk result (F.faults shelf.new ≡ F.faults shelf.old) }
+    ensures failed { IfErr result (λ e. WhenFailed e (λ met. (met ≡ file) × HasRisen (F.faults shelf.old name.now) (F.faults shelf.new name.now))) }
+{
+    match read_whole(alloc, shelf, name, FILE_LIMIT) {
+        Ok(bytes) => Ok(bytes),
+        Err(ReadError::Failed) => Err(Unread::Failed(file)),
+        Err(ReadError::Memory) => Err(Unread::Memory),
+    }
+}
+
+/// `read fault source`
+pub(crate) fn read_fault(alloc: Global, file: FileOf) -> Result<Answer, AllocError>
+    ensures status { IfOk result (λ answer. answer.status ≡ Status.ReadFault) }
+    ensures text { IfOk result (λ answer. answer.text.items ≡ fault_line file) }
+{
+    match file {
+        FileOf::Source => answer_with(alloc, Status::ReadFault, b"read fault source\n"),
+        FileOf::Nodes => answer_with(alloc, Status::ReadFault, b"read fault nodes\n"),
+        FileOf::Schedule => answer_with(alloc, Status::ReadFault, b"read fault schedule\n"),
+    }
+}

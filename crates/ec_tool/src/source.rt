@@ -1,0 +1,196 @@
+//! A source is judged: its program, or why it is refused and where, and the line that says so.
+ghost use Rattle.std.specs.Prelude.{◌≡◌, ◌<◌, ◌^◌, length, IfOk, IfErr};
+ghost use Rattle.ec_ast.specs.declared.Program.{Program as WholeProgram};
+ghost use Rattle.ec_lexer.specs.Tokens.{HasTokens};
+ghost use Rattle.ec_parser.specs.HasTree as whole;
+ghost use Rattle.ec_parser.specs.Program.{IsShallow};
+ghost use Rattle.ec_subset.specs.Grammar as printing;
+ghost use Rattle.ec_tool.specs.Sources.{IsSource, IsCause, place_of, fault_name, rule_name, refusal_name, refused_line};
+
+use crate::answer::Answer;
+use crate::place::push_place;
+use crate::status::Status;
+use ec_base::list::Seq;
+use ec_check::{Rule, first_fault};
+use ec_lexer::error::{LexError, LexFault};
+use ec_lexer::lex;
+use ec_lexer::token::Token;
+use ec_parser::{ParseError, parse};
+use ec_printing::Program;
+use ec_subset::{SubsetError, read};
+use std::alloc::{AllocError, Global};
+
+/// Why a source is refused.
+#[derive(Clone, Copy, Debug, PartialEq, Eq)]
+pub enum Refusal {
+    /// The text has no tokens, by this fault.
+    Lexical(LexFault),
+    /// The tokens are no program's.
+    Syntax,
+    /// A token is nested over 64 deep.
+    Deep,
+    /// The program is one of the language, but not of the part that is run so far.
+    Later,
+    /// The program breaks this rule.
+    Static(Rule),
+}
+
+/// Why a source is refused, and at which byte; the length of the text stands for its end.
+#[derive(Clone, Copy, Debug, PartialEq, Eq)]
+pub struct Refused {
+    pub refusal: Refusal,
+    pub at: u32,
+}
+
+/// Why there is no program.
+#[derive(Clone, Copy, Debug, PartialEq, Eq)]
+pub(crate) enum SourceError {
+    Refused(Refused),
+    /// There was no memory.
+    Memory,
+}
+
+/// The program of a source.
+pub(crate) fn read_source(alloc: Global, text: &[u8]) -> Result<Program, SourceError>
+    ensures program { IfOk result (IsSource text.now) }
+    ensures refused { IfErr result (IsCause text.now) }
+{
+    let tokens = tokens_of(alloc, text)?;
+    let _whole = whole_of(alloc, text, tokens.as_slice())?;
+    let program = printing_of(alloc, text, tokens.as_slice())?;
+    match first_fault(&program) {
+        None => Ok(program),
+        Some(fault) => Err(refuse(Refusal::Static(fault.rule), fault.at.from)),
+    }
+}
+
+fn refuse(refusal: Refusal, at: u32) -> SourceError
+    ensures { result ≡ SourceError.Refused (record { refusal = refusal; at = at }) }
+{
+    SourceError::Refused(Refused { refusal, at })
+}
+
+/// The tokens of a text.
+fn tokens_of(alloc: Global, text: &[u8]) -> Result<Seq<Token>, SourceError>
+    ensures tokens { IfOk result (HasTokens text.now) }
+    ensures refused { IfErr result (IsCause text.now) }
+{
+    match lex(alloc, text) {
+        Ok(tokens) => Ok(tokens),
+        Err(LexError::Refused { at, kind }) => Err(refuse(Refusal::Lexical(kind), at)),
+        Err(LexError::Memory) => Err(SourceError::Memory),
+    }
+}
+
+/// The tree of a text's tokens in the whole language.
+fn whole_of(alloc: Global, text: &[u8], tokens: &[Token]) -> Result<ec_ast::Program, SourceError>
+    requires { HasTokens text.now tokens.now }
+    ensures tree { IfOk result (λ program. whole.HasTree tokens.now program × IsShallow tokens.now) }
+    ensures refused { IfErr result (IsCause text.now) }
+{
+    match parse(alloc, tokens) {
+        Ok(program) => Ok(program),
+        Err(ParseError::Syntax { token }) => {
+            Err(refuse(Refusal::Syntax, place_of(text, tokens, token)))
+        }
+        Err(ParseError::Deep { token }) => {
+            Err(refuse(Refusal::Deep, place_of(text, tokens, token)))
+        }
+        Err(ParseError::Memory) => Err(SourceError::Memory),
+    }
+}
+
+/// The tree of a text's tokens in the printing part, where they have one in the whole language.
+fn printing_of(alloc: Global, text: &[u8], tokens: &[Token]) -> Result<Program, SourceError>
+    requires tokens { HasTokens text.now tokens.now }
+    requires whole { (program : WholeProgram) × whole.HasTree tokens.now program × IsShallow tokens.now }
+    ensures tree { IfOk result (printing.HasTree tokens.now) }
+    ensures refused { IfErr result (IsCause text.now) }
+{
+    match read(alloc, tokens) {
+        Ok(program) => Ok(program),
+        Err(SubsetError::Outside { token }) => {
+            Err(refuse(Refusal::Later, place_of(text, tokens, token)))
+        }
+        Err(SubsetError::Memory) => Err(SourceError::Memory),
+    }
+}
+
+/// Where a token begins, or the end of the text where its number is how many tokens there are.
+fn place_of(text: &[u8], tokens: &[Token], token: usize) -> u32
+    requires { length text.now < 2 ^ 32 }
+    ensures { result ≡ place_of text.now tokens.now token }
+{
+    match tokens.get(token) {
+        Some(token) => token.at.from,
+        None => text.len() as u32,
+    }
+}
+
+fn fault_name(fault: LexFault) -> &'static [u8]
+    ensures { result.now ≡ fault_name fault }
+{
+    match fault {
+        LexFault::StrayByte => b"L1",
+        LexFault::UnclosedString => b"L2",
+        LexFault::UnknownEscape => b"L3",
+        LexFault::LargeInteger => b"L4",
+        LexFault::TextTooLong => b"L5",
+    }
+}
+
+fn rule_name(rule: Rule) -> &'static [u8]
+    ensures { result.now ≡ rule_name rule }
+{
+    match rule {
+        Rule::EndName => b"E3",
+        Rule::Size => b"E16",
+    }
+}
+
+fn refusal_name(refusal: Refusal) -> &'static [u8]
+    ensures { result.now ≡ refusal_name refusal }
+{
+    match refusal {
+        Refusal::Lexical(fault) => fault_name(fault),
+        Refusal::Syntax => b"syntax",
+        Refusal::Deep => b"deep",
+        Refusal::Later => b"later",
+        Refusal::Static(rule) => rule_name(rule),
+    }
+}
+
+/// `refused E3 at line 3 column 5`
+pub(crate) fn refused_text(
+    alloc: Global,
+    text: &[u8],
+    refused: Refused,
+) -> Result<Vec<u8>, AllocError>
+    ensures { IfOk result (λ line. line.items ≡ refused_line text.now refused.refusal refused.at) }
+{
+    let mut out = Vec::new(alloc);
+    out.extend_from_slice(b"refused ")?;
+    out.extend_from_slice(refusal_name(refused.refusal))?;
+    out.extend_from_slice(b" at ")?;
+    push_place(alloc, text, refused.at, &mut out)?;
+    out.push(b'\n')?;
+    Ok(out)
+}
+
+/// The answer to a source that is refused.
+pub(crate) fn source_refused(
+    alloc: Global,
+    text: &[u8],
+    refused: Refused,
+) -> Result<Answer, AllocError>
+    ensures status { IfOk result (λ answer. answer.status ≡ Status.SourceRefused) }
+    ensures text { IfOk result (λ answer. answer.text.items ≡ refused_line text.now refused.refusal refused.at) }
+{
+    Ok(Answer {
+        status: Status::SourceRefused,
+        text: refused_text(alloc, text, refused)?,
+    })
+}
+
+#[cfg(test)]
+mod tests;
