@@ -122,7 +122,11 @@ fn answers_by_words(rt: HostRuntime) {
         (&few, Status::Usage, USAGE),
         (&dash, Status::Usage, USAGE),
         (&missing, Status::ReadFault, b"read fault nodes\n"),
-        (&swapped, Status::SourceRefused, b"refused later\n"),
+        (
+            &swapped,
+            Status::SourceRefused,
+            b"refused syntax at line 1 column 1\n",
+        ),
         (&doubled, Status::InputRefused, b"refused N2\n"),
     ];
     let files = files(HELLO, NODES, b"");
