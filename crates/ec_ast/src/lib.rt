@@ -149,10 +149,11 @@ pub struct Addend {
     pub value: Expression,
 }
 
-/// `[monitor] object NAME BODY end NAME`
+/// `[monitor] object NAME BODY end NAME`, at its first word.
 #[cycle(tree)]
 #[derive(Drop)]
 pub struct ObjectConstructor {
+    pub at: Span,
     pub is_monitored: bool,
     pub name: Name,
     pub body: Body,
@@ -282,9 +283,10 @@ pub enum ConstantValue {
     Typeobject(Typeobject),
 }
 
-/// `const NAME [: TYPE] <- VALUE`
+/// `const NAME [: TYPE] <- VALUE`, at its `const`.
 #[derive(Drop)]
 pub struct Constant {
+    pub at: Span,
     pub name: Name,
     pub of: Option<TypeName>,
     pub value: ConstantValue,

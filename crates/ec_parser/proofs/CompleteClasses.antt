@@ -16,7 +16,7 @@ unfolding rest first_body first_flag first_name first_parameter_list
 complete_ClassRest (a_ClassRest (IsClassRest.class e0 h1 h2 h3 e5 h6)) = took here (bound (token e0 (reads_part (a_Name h1) (reads_part (a_Parameters h2) (reads_part (a_Body h3) (bound (token e5 (reads_part (a_Name h6) (made (finished refl))))))))))
 
 pub complete_ObjectRest : {vs ws : Values} {ts us : List Token} → Means part.ObjectRest vs ts us ws → Taken part.ObjectRest vs ts us ws
-unfolding rest first_body first_flag first_name
+unfolding rest first_body first_flag first_name first_place
 complete_ObjectRest (a_ObjectRest (IsObjectRest.object e0 h1 h2 e4 h5)) = took here (bound (token e0 (reads_part (a_Name h1) (reads_part (a_Body h2) (bound (token e4 (reads_part (a_Name h5) (made (finished refl)))))))))
 
 pub complete_Parameters : {vs ws : Values} {ts us : List Token} → Means part.Parameters vs ts us ws → Taken part.Parameters vs ts us ws

@@ -1,5 +1,5 @@
 -- What a part means, one of its alternatives takes: postfixes and primaries.
-use Rattle.std.proofs.Common.{false, List, refl}
+use Rattle.std.proofs.Common.{List, refl}
 use Rattle.ec_ast.specs.declared.Expression.{Expression}
 use Rattle.ec_lexer.specs.declared.token.Token.{Token}
 use Rattle.ec_parser.specs.declared.grammar.Part.TheVariants as part
@@ -7,11 +7,11 @@ use Rattle.ec_parser.specs.declared.values.Values.{Values}
 use Rattle.ec_parser.specs.Reads.{first as here, later}
 use Rattle.ec_parser.specs.Filled.{rest}
 use Rattle.ec_parser.specs.HasTree.{MayIndex, Ending, IsFlag, IsPrimary, IsPostfix, AreLinks, AreArguments, AreMoreArguments, IsObject}
-use Rattle.ec_parser.specs.Values.{first_name, first_number, first_literal, first_place, first_flag, first_type, first_expression, first_object, first_expression_list, first_link_list}
-use Rattle.ec_parser.proofs.Meaning.{Means, a_Name, a_Type, a_ObjectRest, a_Expression, a_Postfix, a_PostfixTail, a_AfterDot, a_Arguments, a_MoreArguments, a_Primary, a_Plain, a_OtherPlain, a_NodeRest, Linked, IsObjectRest, IsAfterDot, IsNodeRest}
+use Rattle.ec_parser.specs.Values.{first_name, first_number, first_literal, first_place, first_flag, first_type, first_expression, first_body, first_object, first_expression_list, first_link_list}
+use Rattle.ec_parser.proofs.Meaning.{Means, a_Name, a_Type, a_ObjectRest, a_Body, a_Expression, a_Postfix, a_PostfixTail, a_AfterDot, a_Arguments, a_MoreArguments, a_Primary, a_Plain, a_OtherPlain, a_NodeRest, Linked, IsObjectRest, IsAfterDot, IsNodeRest}
 use Rattle.ec_parser.proofs.Seq.{finished, token, keep, part as reads_part, bound, made, Taken, took, taken_as}
 use Rattle.ec_parser.proofs.Lists.{grown_expression, kept_expression, grown_link, kept_link, one_link}
-use Rattle.ec_parser.proofs.Phrases.{differs, id_first, object_first, relinked, no_monitor}
+use Rattle.ec_parser.proofs.Phrases.{differs, id_first, relinked, no_monitor}
 
 may_of : {ts us : List Token} {x : Expression} {last : Ending} → IsPrimary ts us x last → MayIndex last
 may_of (IsPrimary.int h) = tt
@@ -47,7 +47,7 @@ complete_MoreArguments (a_MoreArguments (AreMoreArguments.comma_argument e0 h1 h
 complete_MoreArguments (a_MoreArguments AreMoreArguments.arguments_end) = taken_as (kept_expression _) (took (later here) (finished refl))
 
 pub complete_Primary : {vs ws : Values} {ts us : List Token} → Means part.Primary vs ts us ws → Taken part.Primary vs ts us ws
-unfolding rest first_flag first_object
+unfolding rest first_flag first_object first_place
 complete_Primary (a_Primary n (IsPrimary.int x0)) = took here (reads_part (a_Plain tt (IsPrimary.int x0) (differs x0 (λ x. cc))) (finished refl))
 complete_Primary (a_Primary n (IsPrimary.string x0)) = took here (reads_part (a_Plain tt (IsPrimary.string x0) (differs x0 (λ x. cc))) (finished refl))
 complete_Primary (a_Primary n (IsPrimary.true_word x0)) = took here (reads_part (a_Plain tt (IsPrimary.true_word x0) (differs x0 (λ x. cc))) (finished refl))
@@ -59,8 +59,8 @@ complete_Primary (a_Primary n (IsPrimary.node_at x0 x1 x2 x3 x4 x5)) = took here
 complete_Primary (a_Primary n (IsPrimary.node_count x0 x1 x2)) = took here (reads_part (a_Plain tt (IsPrimary.node_count x0 x1 x2) (differs x0 (λ x. cc))) (finished refl))
 complete_Primary (a_Primary n (IsPrimary.vector x0 x1 x2 x3 x4 x5 x6 x7 x8 x9 x10)) = took here (reads_part (a_Plain tt (IsPrimary.vector x0 x1 x2 x3 x4 x5 x6 x7 x8 x9 x10) (differs x0 (λ x. cc))) (finished refl))
 complete_Primary (a_Primary n (IsPrimary.id x0)) = took here (reads_part (a_Plain tt (IsPrimary.id x0) (id_first x0)) (finished refl))
-complete_Primary (a_Primary n (IsPrimary.object (IsObject.object_constructor IsFlag.without o b c d f))) = took here (reads_part (a_Plain tt (IsPrimary.object (IsObject.object_constructor IsFlag.without o b c d f)) (object_first (IsObjectRest.object {flag = false} o b c d f))) (finished refl))
-complete_Primary (a_Primary n (IsPrimary.object (IsObject.object_constructor (IsFlag.with_word e1) o b c d f))) = took (later here) (made (token e1 (reads_part (a_ObjectRest (IsObjectRest.object o b c d f)) (made (finished refl)))))
+complete_Primary (a_Primary n (IsPrimary.object (IsObject.object_constructor IsFlag.without o b c d f))) = took here (reads_part (a_Plain tt (IsPrimary.object (IsObject.object_constructor IsFlag.without o b c d f)) (differs o (λ x. cc))) (finished refl))
+complete_Primary (a_Primary n (IsPrimary.object (IsObject.object_constructor (IsFlag.with_word e1) o b c d f))) = took (later here) (keep e1 (made (reads_part (a_ObjectRest (IsObjectRest.object o b c d f)) (made (finished refl)))))
 
 pub complete_Plain : {vs ws : Values} {ts us : List Token} → Means part.Plain vs ts us ws → Taken part.Plain vs ts us ws
 unfolding rest first_name
@@ -78,7 +78,7 @@ complete_Plain (a_Plain n (IsPrimary.vector x0 x1 x2 x3 x4 x5 x6 x7 x8 x9 x10) u
 complete_Plain (a_Plain n (IsPrimary.object h) u) = took (later here) (reads_part (a_OtherPlain (IsPrimary.object h) u) (finished refl))
 
 pub complete_OtherPlain : {vs ws : Values} {ts us : List Token} → Means part.OtherPlain vs ts us ws → Taken part.OtherPlain vs ts us ws
-unfolding rest first_expression first_flag first_literal first_number first_object first_place first_type
+unfolding rest first_body first_expression first_flag first_literal first_name first_number first_object first_place first_type
 complete_OtherPlain (a_OtherPlain (IsPrimary.int e0) u) = took here (keep e0 (made (finished refl)))
 complete_OtherPlain (a_OtherPlain (IsPrimary.string e0) u) = took (later here) (keep e0 (made (finished refl)))
 complete_OtherPlain (a_OtherPlain (IsPrimary.true_word e0) u) = took (later (later here)) (keep e0 (made (finished refl)))
@@ -86,7 +86,7 @@ complete_OtherPlain (a_OtherPlain (IsPrimary.false_word e0) u) = took (later (la
 complete_OtherPlain (a_OtherPlain (IsPrimary.nil_word e0) u) = took (later (later (later (later here)))) (keep e0 (made (finished refl)))
 complete_OtherPlain (a_OtherPlain (IsPrimary.self_word e0) u) = took (later (later (later (later (later here))))) (keep e0 (made (finished refl)))
 complete_OtherPlain (a_OtherPlain (IsPrimary.parenthesised e0 h1 e3) u) = took (later (later (later (later (later (later here)))))) (bound (keep e0 (reads_part (a_Expression h1) (bound (token e3 (made (finished refl)))))))
-complete_OtherPlain (a_OtherPlain (IsPrimary.object (IsObject.object_constructor IsFlag.without o b c d f)) u) = took (later (later (later (later (later (later (later here))))))) (made (reads_part (a_ObjectRest (IsObjectRest.object o b c d f)) (made (finished refl))))
+complete_OtherPlain (a_OtherPlain (IsPrimary.object (IsObject.object_constructor IsFlag.without o b c d f)) u) = took (later (later (later (later (later (later (later here))))))) (bound (keep o (made (reads_part (a_Name b) (reads_part (a_Body c) (bound (token d (reads_part (a_Name f) (made (made (finished refl)))))))))))
 complete_OtherPlain (a_OtherPlain (IsPrimary.object (IsObject.object_constructor (IsFlag.with_word h) o b c d f)) u) = absurd (no_monitor u h)
 complete_OtherPlain (a_OtherPlain (IsPrimary.node_at e0 e1 b c d f) u) = took (later (later (later (later (later (later (later (later here)))))))) (keep e0 (token e1 (reads_part (a_NodeRest (IsNodeRest.node_at b c d f)) (finished refl))))
 complete_OtherPlain (a_OtherPlain (IsPrimary.node_count e0 e1 b) u) = took (later (later (later (later (later (later (later (later here)))))))) (keep e0 (token e1 (reads_part (a_NodeRest (IsNodeRest.node_count b)) (finished refl))))

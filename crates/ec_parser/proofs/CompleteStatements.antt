@@ -1,5 +1,5 @@
 -- What a part means, one of its alternatives takes: blocks and statements.
-use Rattle.std.proofs.Common.{false, List, [], ◌∷◌, ◌++◌, refl, sym, subst, append-nil}
+use Rattle.std.proofs.Common.{List, [], ◌∷◌, ◌++◌, refl, sym, subst, append-nil}
 use Rattle.ec_ast.specs.declared.Expression.{Expression}
 use Rattle.ec_ast.specs.declared.Link.{Link}
 use Rattle.ec_ast.specs.declared.Link.TheVariants as link
@@ -17,7 +17,7 @@ use Rattle.ec_parser.specs.Values.{first_name, first_place, first_flag, first_ty
 use Rattle.ec_parser.proofs.Meaning.{Means, a_Name, a_Type, a_ObjectRest, a_Initial, a_TypedValue, a_Block, a_Statements, a_Declaration, a_Statement, a_AfterName, a_AfterOther, a_ElseIfs, a_Else, a_When, a_Expression, a_OtherPlain, IsObjectRest, IsTypedValue, IsDeclaration, IsWhen, IsRest, put_statement}
 use Rattle.ec_parser.proofs.Seq.{finished, token, keep, part as reads_part, bound, made, Taken, took, taken_as}
 use Rattle.ec_parser.proofs.Lists.{grown_statement, kept_statement, grown_arm, kept_arm}
-use Rattle.ec_parser.proofs.Phrases.{differs, object_first, moved}
+use Rattle.ec_parser.proofs.Phrases.{differs, moved}
 
 -- what stands behind the first links of a statement, from all its links
 rests : {first : Expression} {before last : Ending} {links : List Link} {a : Token} {us vs : List Token} {y : Expression} {ts : List Token} {more : List Link} →
@@ -47,8 +47,8 @@ invokes {first = first} {links = links} {us = us} (AreLinks.index {a = a} {us = 
 begun : {vs : Values} {ts us ws : List Token} {x : Expression} {y : Statement} {last : Ending} → IsPrimary ts us x last → IsRest x last [] us ws y → Taken part.Statement vs ts ws (put_statement y vs)
 unfolding rest first_arm_list first_expression first_flag first_link_list first_maybe_block first_maybe_expression first_name first_object first_place first_statement_list postfix_of
 begun (IsPrimary.id h) r = took here (reads_part (a_Name h) (made (reads_part (a_AfterName r) (finished refl))))
-begun (IsPrimary.object (IsObject.object_constructor (IsFlag.with_word e) a b c d f)) r = took (later (later here)) (made (token e (reads_part (a_ObjectRest (IsObjectRest.object a b c d f)) (made (made (reads_part (a_AfterOther r) (finished refl)))))))
-begun (IsPrimary.object (IsObject.object_constructor IsFlag.without a b c d f)) r = took (later here) (reads_part (a_OtherPlain (IsPrimary.object (IsObject.object_constructor IsFlag.without a b c d f)) (object_first (IsObjectRest.object {flag = false} a b c d f))) (made (reads_part (a_AfterOther r) (finished refl))))
+begun (IsPrimary.object (IsObject.object_constructor (IsFlag.with_word e) a b c d f)) r = took (later (later here)) (keep e (made (reads_part (a_ObjectRest (IsObjectRest.object a b c d f)) (made (made (reads_part (a_AfterOther r) (finished refl)))))))
+begun (IsPrimary.object (IsObject.object_constructor IsFlag.without a b c d f)) r = took (later here) (reads_part (a_OtherPlain (IsPrimary.object (IsObject.object_constructor IsFlag.without a b c d f)) (differs a (λ x. cc))) (made (reads_part (a_AfterOther r) (finished refl))))
 begun (IsPrimary.int x0) r = took (later here) (reads_part (a_OtherPlain (IsPrimary.int x0) (differs x0 (λ x. cc))) (made (reads_part (a_AfterOther r) (finished refl))))
 begun (IsPrimary.string x0) r = took (later here) (reads_part (a_OtherPlain (IsPrimary.string x0) (differs x0 (λ x. cc))) (made (reads_part (a_AfterOther r) (finished refl))))
 begun (IsPrimary.true_word x0) r = took (later here) (reads_part (a_OtherPlain (IsPrimary.true_word x0) (differs x0 (λ x. cc))) (made (reads_part (a_AfterOther r) (finished refl))))

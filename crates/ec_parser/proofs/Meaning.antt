@@ -207,11 +207,11 @@ pub data IsClassRest : List Token → List Token → Bool → Class → Type 0 w
       Is t.Class a → IsId b name → IsParamsOption ts us xs → IsBody us (c ∷ d ∷ vs) x → Is t.End c → IsId d end_name →
       IsClassRest (a ∷ b ∷ ts) vs flag (record { is_monitored = flag; name = name; parameters = xs; body = x; end_name = end_name })
 
--- an object without its `monitor`: "object" ID body "end" ID
-pub data IsObjectRest : List Token → List Token → Bool → ObjectConstructor → Type 0 where
-  object : {a b c d : Token} {ts us : List Token} {flag : Bool} {name end_name : Name} {x : Body} →
+-- an object without its `monitor`, which stands at the place: "object" ID body "end" ID
+pub data IsObjectRest : List Token → List Token → Bool → Span → ObjectConstructor → Type 0 where
+  object : {a b c d : Token} {ts us : List Token} {flag : Bool} {at : Span} {name end_name : Name} {x : Body} →
       Is t.Object a → IsId b name → IsBody ts (c ∷ d ∷ us) x → Is t.End c → IsId d end_name →
-      IsObjectRest (a ∷ b ∷ ts) us flag (roll-ObjectConstructor (record { is_monitored = flag; name = name; body = x; end_name = end_name }))
+      IsObjectRest (a ∷ b ∷ ts) us flag at (roll-ObjectConstructor (record { at = at; is_monitored = flag; name = name; body = x; end_name = end_name }))
 
 -- behind a sum x: [ ( "==" | .. | ">=" ) sum ]; the last index is the whole, here and below
 pub data IsCompareTail (x : Expression) : List Token → List Token → Expression → Type 0 where
@@ -228,11 +228,11 @@ pub data IsTermRest (x : Expression) : List Token → List Token → Expression 
   rest_of : {ts us vs ws zs : List Token} {xs : List Factor} {ys : List Addend} {y z : Expression} →
       AreFactors ts us xs → AreAddends us vs ys → IsCompareTail (sum_of (term_of x xs) ys) vs ws y → IsAndRest y ws zs z → IsTermRest x ts zs z
 
--- behind `monitor`: a class, or an object and the rest of its expr
-pub data IsAfterMonitor (flag : Bool) : List Token → List Token → ConstantValue → Type 0 where
-  class : {ts us : List Token} {x : Class} → IsClassRest ts us flag x → IsAfterMonitor flag ts us (value.Class x)
+-- behind `monitor`, which stands at the place: a class, or an object and the rest of its expr
+pub data IsAfterMonitor (flag : Bool) (at : Span) : List Token → List Token → ConstantValue → Type 0 where
+  class : {ts us : List Token} {x : Class} → IsClassRest ts us flag x → IsAfterMonitor flag at ts us (value.Class x)
   object : {ts us vs ws : List Token} {x : ObjectConstructor} {links : List Link} {y : Expression} →
-      IsObjectRest ts us flag x → Linked a_call us vs links → IsTermRest (postfix_of (e.Constructor x) links) vs ws y → IsAfterMonitor flag ts ws (value.Expression y)
+      IsObjectRest ts us flag at x → Linked a_call us vs links → IsTermRest (postfix_of (e.Constructor x) links) vs ws y → IsAfterMonitor flag at ts ws (value.Expression y)
 
 -- behind an ID where a sig begins: ":" type, or nothing, and then the ID is the type
 pub data IsAfterSigName (name : Name) : List Token → List Token → TypeName → Type 0 where
@@ -331,7 +331,7 @@ pub data Means : Part_of → Values → List Token → List Token → Values →
   a_Constants : {vs : Values} {ts us : List Token} {xs : List Constant} → AreConstants ts us xs → Means part.Constants vs ts us (add_constant xs vs)
   a_ConstantRest : {vs : Values} {ts us : List Token} {of : Option TypeName} {x : ConstantValue} → IsConstantRest ts us of x → Means part.ConstantRest vs ts us (put_value x (put_maybe_type of vs))
   a_ConstantValue : {vs : Values} {ts us : List Token} {x : ConstantValue} → IsValue ts us x → Means part.ConstantValue vs ts us (put_value x vs)
-  a_AfterMonitor : {vs : Values} {ts us : List Token} {x : ConstantValue} → IsAfterMonitor (first_flag vs.flags) ts us x → Means part.AfterMonitor vs ts us (put_value x (drop_flag vs))
+  a_AfterMonitor : {vs : Values} {ts us : List Token} {x : ConstantValue} → IsAfterMonitor (first_flag vs.flags) (first_place vs.places) ts us x → Means part.AfterMonitor vs ts us (put_value x (drop_place (drop_flag vs)))
   a_TermRest : {vs : Values} {ts us : List Token} {x : Expression} → IsTermRest (first_expression vs.expressions) ts us x → Means part.TermRest vs ts us (replace_expression x vs)
   a_AndRest : {vs : Values} {ts us : List Token} {x : Expression} → IsAndRest (first_expression vs.expressions) ts us x → Means part.AndRest vs ts us (replace_expression x vs)
   a_Name : {vs : Values} {us : List Token} {a : Token} {x : Name} → IsId a x → Means part.Name vs (a ∷ us) us (put_name x vs)
@@ -347,7 +347,7 @@ pub data Means : Part_of → Values → List Token → List Token → Values →
   a_Type : {vs : Values} {ts us : List Token} {x : TypeName} → IsType ts us x → Means part.Type vs ts us (put_type x vs)
   a_PlainType : {vs : Values} {ts us : List Token} {x : TypeName} → IsPlainType ts us x → Means part.PlainType vs ts us (put_type x vs)
   a_ClassRest : {vs : Values} {ts us : List Token} {x : Class} → IsClassRest ts us (first_flag vs.flags) x → Means part.ClassRest vs ts us (put_class x (drop_flag vs))
-  a_ObjectRest : {vs : Values} {ts us : List Token} {x : ObjectConstructor} → IsObjectRest ts us (first_flag vs.flags) x → Means part.ObjectRest vs ts us (put_object x (drop_flag vs))
+  a_ObjectRest : {vs : Values} {ts us : List Token} {x : ObjectConstructor} → IsObjectRest ts us (first_flag vs.flags) (first_place vs.places) x → Means part.ObjectRest vs ts us (put_object x (drop_place (drop_flag vs)))
   a_Parameters : {vs : Values} {ts us : List Token} {xs : List Parameter} → IsParamsOption ts us xs → Means part.Parameters vs ts us (put_parameter_list xs vs)
   a_ParameterList : {vs : Values} {ts us : List Token} {xs : List Parameter} → AreParams ts us xs → Means part.ParameterList vs ts us (add_parameter xs vs)
   a_MoreParameters : {vs : Values} {ts us : List Token} {xs : List Parameter} → AreMoreParams ts us xs → Means part.MoreParameters vs ts us (add_parameter xs vs)

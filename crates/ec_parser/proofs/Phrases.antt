@@ -24,7 +24,7 @@ use Rattle.ec_parser.specs.HasTree.{Is, MayIndex, IsTarget, IsInvocation, a_name
 use Rattle.ec_parser.proofs.Meaning.{Means, a_Postfix, NotMonitor, other_token, IsPlainType, Linked, IsValue, IsConstantRest, IsClassRest, IsObjectRest, IsCompareTail, IsAndRest, IsTermRest, IsAfterMonitor, IsAfterSigName, IsTypedValue, IsAttachedField, IsFieldValue, IsConstantField, IsOperationRest, IsDeclaration, IsWhen, IsRest, IsAfterField, IsAfterDot, IsNodeRest, IsNotPrefix, IsUnaryPrefix, put_expression}
 
 pub constants_more : {a b : Token} {ts us vs : List Token} {name : Name} {of : Option TypeName} {x : ConstantValue} {more : List Constant} →
-    Is t.Const a → IsId b name → IsConstantRest ts us of x → AreConstants us vs more → AreConstants (a ∷ b ∷ ts) vs ((record { name = name; of = of; value = x }) ∷ more)
+    Is t.Const a → IsId b name → IsConstantRest ts us of x → AreConstants us vs more → AreConstants (a ∷ b ∷ ts) vs ((record { at = a.at; name = name; of = of; value = x }) ∷ more)
 constants_more e h (IsConstantRest.plain f (IsValue.class g)) r = AreConstants.class e h f g r
 constants_more e h (IsConstantRest.plain f (IsValue.typeobj g)) r = AreConstants.typeobj e h f g r
 constants_more e h (IsConstantRest.plain f (IsValue.expr g)) r = AreConstants.expr e h IsTypeOption.none f g r
@@ -33,8 +33,8 @@ constants_more e h (IsConstantRest.typed f g i j) r = AreConstants.expr e h (IsT
 pub class_of : {zs ts us : List Token} {flag : Bool} {x : Class} → IsFlag t.Monitor zs ts flag → IsClassRest ts us flag x → IsClass zs us x
 class_of w (IsClassRest.class a b c d f g) = IsClass.class w a b c d f g
 
-pub object_of : {zs ts us : List Token} {flag : Bool} {x : ObjectConstructor} → IsFlag t.Monitor zs ts flag → IsObjectRest ts us flag x → IsObject zs us x
-object_of w (IsObjectRest.object a b c d f) = IsObject.object_constructor w a b c d f
+pub object_of : {m : Token} {ts us : List Token} {x : ObjectConstructor} → Is t.Monitor m → IsObjectRest ts us true m.at x → IsObject (m ∷ ts) us x
+object_of e (IsObjectRest.object a b c d f) = IsObject.object_constructor (IsFlag.with_word e) a b c d f
 
 pub differs : {a : Token} {ts : List Token} {kind : Terminal} → Is kind a → (kind ≡ t.Monitor → ⊥) → NotMonitor (a ∷ ts)
 differs h n = other_token (λ m. n (sym h ∙ m))
@@ -47,9 +47,6 @@ id_first (IsId.other h) = differs h (λ x. cc)
 id_first (IsId.create h) = differs h (λ x. cc)
 id_first (IsId.putstring h) = differs h (λ x. cc)
 id_first (IsId.count h) = differs h (λ x. cc)
-
-pub object_first : {ts us : List Token} {flag : Bool} {x : ObjectConstructor} → IsObjectRest ts us flag x → NotMonitor ts
-object_first (IsObjectRest.object h i j k l) = differs h (λ x. cc)
 
 pub plain_type : {ts us : List Token} {x : TypeName} → IsPlainType ts us x → IsType ts us x
 plain_type (IsPlainType.integer h) = IsType.integer h
@@ -99,9 +96,9 @@ pub value_from : {ts us vs ws : List Token} {x y : Expression} {links : List Lin
     IsValue ts ws (value.Expression y)
 value_from m p l r = value_after p (relinked m l) r
 
-pub after_monitor : {m : Token} {ts us : List Token} {x : ConstantValue} → Is t.Monitor m → IsAfterMonitor true ts us x → IsValue (m ∷ ts) us x
+pub after_monitor : {m : Token} {ts us : List Token} {x : ConstantValue} → Is t.Monitor m → IsAfterMonitor true m.at ts us x → IsValue (m ∷ ts) us x
 after_monitor e (IsAfterMonitor.class h) = IsValue.class (class_of (IsFlag.with_word e) h)
-after_monitor e (IsAfterMonitor.object h l r) = value_from tt (IsPrimary.object (object_of (IsFlag.with_word e) h)) l r
+after_monitor e (IsAfterMonitor.object h l r) = value_from tt (IsPrimary.object (object_of e h)) l r
 
 pub postfix_after : {w : Values} {ts us vs : List Token} {x : Expression} {links : List Link} {last : Ending} → IsPrimary ts us x last → Linked last us vs links →
     Means part.Postfix w ts vs (put_expression (postfix_of x links) w)

@@ -19,7 +19,7 @@ sound_ClassRest here (bound (token e0 (reads_part (a_Name h1) (reads_part (a_Par
 sound_ClassRest (later x) _ = elim x [ ]
 
 pub sound_ObjectRest : {r : List Symbol} {vs ws : Values} {ts us : List Token} → IsRule r (rules part.ObjectRest) → Seq r vs ts us ws → Means part.ObjectRest vs ts us ws
-unfolding rest first_body first_flag first_name
+unfolding rest first_body first_flag first_name first_place
 sound_ObjectRest here (bound (token e0 (reads_part (a_Name h1) (reads_part (a_Body h2) (bound (token e4 (reads_part (a_Name h5) (made (finished q))))))))) = into q (a_ObjectRest (IsObjectRest.object e0 h1 h2 e4 h5))
 sound_ObjectRest (later x) _ = elim x [ ]
 

@@ -7,12 +7,12 @@ use Rattle.ec_parser.specs.declared.values.Values.{Values}
 use Rattle.ec_parser.specs.Rules.{rules}
 use Rattle.ec_parser.specs.Reads.{IsRule, first as here, later}
 use Rattle.ec_parser.specs.Filled.{rest}
-use Rattle.ec_parser.specs.HasTree.{IsFlag, IsPrimary, AreLinks, AreArguments, AreMoreArguments}
-use Rattle.ec_parser.specs.Values.{first_name, first_number, first_literal, first_place, first_flag, first_type, first_expression, first_object, first_expression_list, first_link_list}
-use Rattle.ec_parser.proofs.Meaning.{Means, a_Name, a_Type, a_ObjectRest, a_Expression, a_PostfixTail, a_AfterDot, a_Arguments, a_MoreArguments, a_Primary, a_Plain, a_OtherPlain, a_NodeRest, Linked, IsAfterDot, IsNodeRest}
+use Rattle.ec_parser.specs.HasTree.{IsFlag, IsPrimary, AreLinks, AreArguments, AreMoreArguments, IsObject}
+use Rattle.ec_parser.specs.Values.{first_name, first_number, first_literal, first_place, first_flag, first_type, first_expression, first_body, first_object, first_expression_list, first_link_list}
+use Rattle.ec_parser.proofs.Meaning.{Means, a_Name, a_Type, a_ObjectRest, a_Body, a_Expression, a_PostfixTail, a_AfterDot, a_Arguments, a_MoreArguments, a_Primary, a_Plain, a_OtherPlain, a_NodeRest, Linked, IsAfterDot, IsNodeRest}
 use Rattle.ec_parser.proofs.Seq.{Seq, finished, token, keep, part as reads_part, bound, made, into, same_as}
 use Rattle.ec_parser.proofs.Lists.{grown_expression, kept_expression, grown_link, kept_link, one_link}
-use Rattle.ec_parser.proofs.Phrases.{object_of, differs, id_first, object_first, index_first, postfix_part, links_of_dot, node_rest}
+use Rattle.ec_parser.proofs.Phrases.{object_of, differs, id_first, index_first, postfix_part, links_of_dot, node_rest}
 
 pub sound_Postfix : {r : List Symbol} {vs ws : Values} {ts us : List Token} → IsRule r (rules part.Postfix) → Seq r vs ts us ws → Means part.Postfix vs ts us ws
 unfolding rest first_expression first_link_list
@@ -46,9 +46,9 @@ sound_MoreArguments (later here) (finished q) = into q (same_as (kept_expression
 sound_MoreArguments (later (later x)) _ = elim x [ ]
 
 pub sound_Primary : {r : List Symbol} {vs ws : Values} {ts us : List Token} → IsRule r (rules part.Primary) → Seq r vs ts us ws → Means part.Primary vs ts us ws
-unfolding rest first_flag first_object
+unfolding rest first_flag first_object first_place
 sound_Primary here (reads_part (a_Plain m0 h0 p0) (finished q)) = into q (a_Primary m0 h0)
-sound_Primary (later here) (made (token e1 (reads_part (a_ObjectRest h2) (made (finished q))))) = into q (a_Primary tt (IsPrimary.object (object_of (IsFlag.with_word e1) h2)))
+sound_Primary (later here) (keep e0 (made (reads_part (a_ObjectRest h2) (made (finished q))))) = into q (a_Primary tt (IsPrimary.object (object_of e0 h2)))
 sound_Primary (later (later x)) _ = elim x [ ]
 
 pub sound_Plain : {r : List Symbol} {vs ws : Values} {ts us : List Token} → IsRule r (rules part.Plain) → Seq r vs ts us ws → Means part.Plain vs ts us ws
@@ -58,7 +58,7 @@ sound_Plain (later here) (reads_part (a_OtherPlain h0 p0) (finished q)) = into q
 sound_Plain (later (later x)) _ = elim x [ ]
 
 pub sound_OtherPlain : {r : List Symbol} {vs ws : Values} {ts us : List Token} → IsRule r (rules part.OtherPlain) → Seq r vs ts us ws → Means part.OtherPlain vs ts us ws
-unfolding rest first_expression first_flag first_literal first_number first_object first_place first_type
+unfolding rest first_body first_expression first_flag first_literal first_name first_number first_object first_place first_type
 sound_OtherPlain here (keep e0 (made (finished q))) = into q (a_OtherPlain (IsPrimary.int e0) (differs e0 (λ x. cc)))
 sound_OtherPlain (later here) (keep e0 (made (finished q))) = into q (a_OtherPlain (IsPrimary.string e0) (differs e0 (λ x. cc)))
 sound_OtherPlain (later (later here)) (keep e0 (made (finished q))) = into q (a_OtherPlain (IsPrimary.true_word e0) (differs e0 (λ x. cc)))
@@ -66,7 +66,7 @@ sound_OtherPlain (later (later (later here))) (keep e0 (made (finished q))) = in
 sound_OtherPlain (later (later (later (later here)))) (keep e0 (made (finished q))) = into q (a_OtherPlain (IsPrimary.nil_word e0) (differs e0 (λ x. cc)))
 sound_OtherPlain (later (later (later (later (later here))))) (keep e0 (made (finished q))) = into q (a_OtherPlain (IsPrimary.self_word e0) (differs e0 (λ x. cc)))
 sound_OtherPlain (later (later (later (later (later (later here)))))) (bound (keep e0 (reads_part (a_Expression h1) (bound (token e3 (made (finished q))))))) = into q (a_OtherPlain (IsPrimary.parenthesised e0 h1 e3) (differs e0 (λ x. cc)))
-sound_OtherPlain (later (later (later (later (later (later (later here))))))) (made (reads_part (a_ObjectRest h1) (made (finished q)))) = into q (a_OtherPlain (IsPrimary.object (object_of IsFlag.without h1)) (object_first h1))
+sound_OtherPlain (later (later (later (later (later (later (later here))))))) (bound (keep e0 (made (reads_part (a_Name h2) (reads_part (a_Body h3) (bound (token e5 (reads_part (a_Name h6) (made (made (finished q))))))))))) = into q (a_OtherPlain (IsPrimary.object (IsObject.object_constructor IsFlag.without e0 h2 h3 e5 h6)) (differs e0 (λ x. cc)))
 sound_OtherPlain (later (later (later (later (later (later (later (later here)))))))) (keep e0 (token e1 (reads_part (a_NodeRest h2) (finished q)))) = into q (a_OtherPlain (node_rest e0 e1 h2) (differs e0 (λ x. cc)))
 sound_OtherPlain (later (later (later (later (later (later (later (later (later here))))))))) (keep e0 (token e1 (token e2 (bound (token e3 (reads_part (a_Type h4) (bound (token e6 (token e7 (token e8 (bound (token e9 (reads_part (a_Expression h10) (bound (token e12 (made (finished q))))))))))))))))) = into q (a_OtherPlain (IsPrimary.vector e0 e1 e2 e3 h4 e6 e7 e8 e9 h10 e12) (differs e0 (λ x. cc)))
 sound_OtherPlain (later (later (later (later (later (later (later (later (later (later x)))))))))) _ = elim x [ ]

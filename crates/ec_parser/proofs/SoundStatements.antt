@@ -8,7 +8,7 @@ use Rattle.ec_parser.specs.Rules.{rules}
 use Rattle.ec_parser.specs.Reads.{IsRule, first as here, later}
 use Rattle.ec_parser.specs.Chains.{postfix_of}
 use Rattle.ec_parser.specs.Filled.{rest}
-use Rattle.ec_parser.specs.HasTree.{IsFlag, IsPrimary, IsStmt, AreArms, IsElse, IsBlock}
+use Rattle.ec_parser.specs.HasTree.{IsPrimary, IsStmt, AreArms, IsElse, IsBlock}
 use Rattle.ec_parser.specs.Values.{first_name, first_place, first_flag, first_type, first_maybe_type, first_expression, first_maybe_expression, first_statement, first_maybe_block, first_object, first_link_list, first_statement_list, first_arm_list}
 use Rattle.ec_parser.proofs.Meaning.{Means, a_Name, a_Type, a_ObjectRest, a_Initial, a_TypedValue, a_Block, a_Statements, a_Declaration, a_Statement, a_AfterName, a_AfterOther, a_ElseIfs, a_Else, a_When, a_Expression, a_OtherPlain, IsDeclaration, IsWhen}
 use Rattle.ec_parser.proofs.Seq.{Seq, finished, token, keep, part as reads_part, bound, made, into, same_as}
@@ -37,7 +37,7 @@ pub sound_Statement : {r : List Symbol} {vs ws : Values} {ts us : List Token} â†
 unfolding rest first_arm_list first_expression first_flag first_link_list first_maybe_block first_maybe_expression first_name first_object first_place first_statement_list postfix_of
 sound_Statement here (reads_part (a_Name h0) (made (reads_part (a_AfterName h2) (finished q)))) = into q (a_Statement (name_stmt h0 h2))
 sound_Statement (later here) (reads_part (a_OtherPlain h0 p0) (made (reads_part (a_AfterOther h2) (finished q)))) = into q (a_Statement (rest_stmt h0 h2))
-sound_Statement (later (later here)) (made (token e1 (reads_part (a_ObjectRest h2) (made (made (reads_part (a_AfterOther h5) (finished q))))))) = into q (a_Statement (rest_stmt (IsPrimary.object (object_of (IsFlag.with_word e1) h2)) h5))
+sound_Statement (later (later here)) (keep e0 (made (reads_part (a_ObjectRest h2) (made (made (reads_part (a_AfterOther h5) (finished q))))))) = into q (a_Statement (rest_stmt (IsPrimary.object (object_of e0 h2)) h5))
 sound_Statement (later (later (later here))) (keep e0 (token e1 (token e2 (bound (token e3 (reads_part (a_Expression h4) (bound (token e6 (made (finished q)))))))))) = into q (a_Statement (IsStmt.print e0 e1 e2 e3 h4 e6))
 sound_Statement (later (later (later (later here)))) (bound (keep e0 (made (reads_part (a_Expression h2) (token e3 (reads_part (a_Block h4) (made (reads_part (a_ElseIfs h6) (reads_part (a_Else h7) (bound (token e9 (token e10 (made (finished q)))))))))))))) = into q (a_Statement (IsStmt.if_word e0 h2 e3 h4 h6 h7 e9 e10))
 sound_Statement (later (later (later (later (later here))))) (bound (keep e0 (reads_part (a_Block h1) (bound (token e3 (token e4 (made (finished q)))))))) = into q (a_Statement (IsStmt.loop e0 h1 e3 e4))

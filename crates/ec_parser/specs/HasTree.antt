@@ -434,9 +434,9 @@ mutual
 
   -- object = [ "monitor" ] "object" ID body "end" ID
   pub data IsObject : List Token → List Token → ObjectConstructor → Type 0 where
-    object_constructor : {a b c d : Token} {ts us zs : List Token} {flag : Bool} {name end_name : Name} {x : Body} →
-        IsFlag t.Monitor zs (a ∷ b ∷ ts) flag → Is t.Object a → IsId b name → IsBody ts (c ∷ d ∷ us) x → Is t.End c → IsId d end_name →
-        IsObject zs us (roll-ObjectConstructor (record { is_monitored = flag; name = name; body = x; end_name = end_name }))
+    object_constructor : {a b c d z : Token} {ts us zs : List Token} {flag : Bool} {name end_name : Name} {x : Body} →
+        IsFlag t.Monitor (z ∷ zs) (a ∷ b ∷ ts) flag → Is t.Object a → IsId b name → IsBody ts (c ∷ d ∷ us) x → Is t.End c → IsId d end_name →
+        IsObject (z ∷ zs) us (roll-ObjectConstructor (record { at = z.at; is_monitored = flag; name = name; body = x; end_name = end_name }))
 
 -- class = [ "monitor" ] "class" ID [ params ] body "end" ID
 pub data IsClass : List Token → List Token → Class → Type 0 where
@@ -450,13 +450,13 @@ pub data AreConstants : List Token → List Token → List Constant → Type 0 w
   none : {us : List Token} → AreConstants us us []
   class : {a b c : Token} {ts us vs : List Token} {name : Name} {x : Class} {more : List Constant} →
       Is t.Const a → IsId b name → Is t.Arrow c → IsClass ts us x → AreConstants us vs more →
-      AreConstants (a ∷ b ∷ c ∷ ts) vs ((record { name = name; of = None; value = value.Class x }) ∷ more)
+      AreConstants (a ∷ b ∷ c ∷ ts) vs ((record { at = a.at; name = name; of = None; value = value.Class x }) ∷ more)
   typeobj : {a b c : Token} {ts us vs : List Token} {name : Name} {x : Typeobject} {more : List Constant} →
       Is t.Const a → IsId b name → Is t.Arrow c → IsTypeobj ts us x → AreConstants us vs more →
-      AreConstants (a ∷ b ∷ c ∷ ts) vs ((record { name = name; of = None; value = value.Typeobject x }) ∷ more)
+      AreConstants (a ∷ b ∷ c ∷ ts) vs ((record { at = a.at; name = name; of = None; value = value.Typeobject x }) ∷ more)
   expr : {a b c : Token} {ts us vs ws : List Token} {name : Name} {of : Option TypeName} {x : Expression} {more : List Constant} →
       Is t.Const a → IsId b name → IsTypeOption ts (c ∷ us) of → Is t.Arrow c → IsExpr us vs x → AreConstants vs ws more →
-      AreConstants (a ∷ b ∷ ts) ws ((record { name = name; of = of; value = value.Expression x }) ∷ more)
+      AreConstants (a ∷ b ∷ ts) ws ((record { at = a.at; name = name; of = of; value = value.Expression x }) ∷ more)
 
 -- these tokens and no others are a program's, of this tree
 pub data HasTree : List Token → Program → Type 0 where

@@ -132,7 +132,7 @@ first_body [] = no_body
 first_body (x ∷ xs) = x
 
 unfoldable pub first_object : List ObjectConstructor → ObjectConstructor
-first_object [] = roll-ObjectConstructor (record { is_monitored = false; name = no_name; body = no_body; end_name = no_name })
+first_object [] = roll-ObjectConstructor (record { at = no_place; is_monitored = false; name = no_name; body = no_body; end_name = no_name })
 first_object (x ∷ xs) = x
 
 unfoldable pub first_class : List Class → Class
@@ -255,8 +255,9 @@ push_constant vs =
     let value = first_value vs.values in
     let of = first_maybe_type vs.maybe_types in
     let name = first_name vs.names in
+    let at = first_place vs.places in
     let list = first_constant_list vs.constant_lists in
-    record vs { values = rest vs.values; maybe_types = rest vs.maybe_types; names = rest vs.names; constant_lists = (list ++ (record { name = name; of = of; value = value }) ∷ []) ∷ rest vs.constant_lists }
+    record vs { values = rest vs.values; maybe_types = rest vs.maybe_types; names = rest vs.names; places = rest vs.places; constant_lists = (list ++ (record { at = at; name = name; of = of; value = value }) ∷ []) ∷ rest vs.constant_lists }
 
 abbrev pub some_type : Values → Values
 some_type vs =
@@ -322,6 +323,11 @@ abbrev pub class_value : Values → Values
 class_value vs =
     let x = first_class vs.classes in
     record vs { classes = rest vs.classes; values = (aConstantValue.Class x) ∷ vs.values }
+
+abbrev pub monitored_class_value : Values → Values
+monitored_class_value vs =
+    let x = first_class vs.classes in
+    record vs { classes = rest vs.classes; places = rest vs.places; values = (aConstantValue.Class x) ∷ vs.values }
 
 abbrev pub make_typeobject : Values → Values
 make_typeobject vs =
@@ -414,7 +420,8 @@ make_object vs =
     let body = first_body vs.bodies in
     let name = first_name (rest vs.names) in
     let is_monitored = first_flag vs.flags in
-    record vs { names = rest (rest vs.names); bodies = rest vs.bodies; flags = rest vs.flags; objects = (roll-ObjectConstructor (record { is_monitored = is_monitored; name = name; body = body; end_name = end_name })) ∷ vs.objects }
+    let at = first_place vs.places in
+    record vs { names = rest (rest vs.names); bodies = rest vs.bodies; flags = rest vs.flags; places = rest vs.places; objects = (roll-ObjectConstructor (record { at = at; is_monitored = is_monitored; name = name; body = body; end_name = end_name })) ∷ vs.objects }
 
 abbrev pub make_constructor : Values → Values
 make_constructor vs =
@@ -764,6 +771,7 @@ act act'.Yes vs = yes vs
 act act'.No vs = no vs
 act act'.ExpressionValue vs = expression_value vs
 act act'.ClassValue vs = class_value vs
+act act'.MonitoredClassValue vs = monitored_class_value vs
 act act'.MakeTypeobject vs = make_typeobject vs
 act act'.PushSignature vs = push_signature vs
 act act'.PushType vs = push_type vs

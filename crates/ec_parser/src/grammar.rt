@@ -142,6 +142,7 @@ pub enum Act {
     No,
     ExpressionValue,
     ClassValue,
+    MonitoredClassValue,
     MakeTypeobject,
     PushSignature,
     PushType,
@@ -238,7 +239,7 @@ const PROGRAM: [Alternative; 1] = [&[
 
 const CONSTANTS: [Alternative; 2] = [
     &[
-        Symbol::Token(Terminal::Const),
+        Symbol::Keep(Terminal::Const),
         Symbol::Part(Part::Name),
         Symbol::Part(Part::ConstantRest),
         Symbol::Do(Act::PushConstant),
@@ -271,8 +272,8 @@ const CONSTANT_VALUE: [Alternative; 6] = [
     ],
     &[Symbol::Part(Part::Typeobject)],
     &[
+        Symbol::Keep(Terminal::Monitor),
         Symbol::Do(Act::Yes),
-        Symbol::Token(Terminal::Monitor),
         Symbol::Part(Part::AfterMonitor),
     ],
     &[
@@ -296,7 +297,10 @@ const CONSTANT_VALUE: [Alternative; 6] = [
 ];
 
 const AFTER_MONITOR: [Alternative; 2] = [
-    &[Symbol::Part(Part::ClassRest), Symbol::Do(Act::ClassValue)],
+    &[
+        Symbol::Part(Part::ClassRest),
+        Symbol::Do(Act::MonitoredClassValue),
+    ],
     &[
         Symbol::Part(Part::ObjectRest),
         Symbol::Do(Act::MakeConstructor),
@@ -470,7 +474,7 @@ const CLASS_REST: [Alternative; 1] = [&[
     Symbol::Do(Act::MakeClass),
 ]];
 
-// object   = [ "monitor" ] "object" ID body "end" ID
+// object   = [ "monitor" ] "object" ID body "end" ID    (behind `monitor`)
 const OBJECT_REST: [Alternative; 1] = [&[
     Symbol::Bound(Bound::Opens(Opened::Word)),
     Symbol::Token(Terminal::Object),
@@ -757,8 +761,8 @@ const STATEMENT: [Alternative; 15] = [
         Symbol::Part(Part::AfterOther),
     ],
     &[
+        Symbol::Keep(Terminal::Monitor),
         Symbol::Do(Act::Yes),
-        Symbol::Token(Terminal::Monitor),
         Symbol::Part(Part::ObjectRest),
         Symbol::Do(Act::MakeConstructor),
         Symbol::Do(Act::BeginLinks),
@@ -1247,8 +1251,8 @@ const MORE_ARGUMENTS: [Alternative; 2] = [
 const PRIMARY: [Alternative; 2] = [
     &[Symbol::Part(Part::Plain)],
     &[
+        Symbol::Keep(Terminal::Monitor),
         Symbol::Do(Act::Yes),
-        Symbol::Token(Terminal::Monitor),
         Symbol::Part(Part::ObjectRest),
         Symbol::Do(Act::MakeConstructor),
     ],
@@ -1278,8 +1282,15 @@ const OTHER_PLAIN: [Alternative; 10] = [
         Symbol::Do(Act::MakeParenthesised),
     ],
     &[
+        Symbol::Bound(Bound::Opens(Opened::Word)),
+        Symbol::Keep(Terminal::Object),
         Symbol::Do(Act::No),
-        Symbol::Part(Part::ObjectRest),
+        Symbol::Part(Part::Name),
+        Symbol::Part(Part::Body),
+        Symbol::Bound(Bound::Closes(Opened::Word)),
+        Symbol::Token(Terminal::End),
+        Symbol::Part(Part::Name),
+        Symbol::Do(Act::MakeObject),
         Symbol::Do(Act::MakeConstructor),
     ],
     &[

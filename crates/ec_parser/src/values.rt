@@ -156,6 +156,7 @@ pub fn perform(alloc: Global, act: Act, values: &mut Values) -> Result<(), Alloc
         Act::No => no(values),
         Act::ExpressionValue => expression_value(values),
         Act::ClassValue => class_value(values),
+        Act::MonitoredClassValue => monitored_class_value(values),
         Act::MakeTypeobject => make_typeobject(values),
         Act::PushSignature => push_signature(values),
         Act::PushType => push_type(values),
@@ -359,14 +360,21 @@ fn push_constant(values: &mut Values) -> Result<(), AllocError>
     requires value { IsFilled values.old.values }
     requires of { IsFilled values.old.maybe_types }
     requires name { IsFilled values.old.names }
+    requires at { IsFilled values.old.places }
     requires list { IsFilled values.old.constant_lists }
     ensures { OnOk result (values.new ≡ spec.push_constant values.old) }
 {
     let value = take_value(&mut values.values);
     let of = take_maybe_type(&mut values.maybe_types);
     let name = take_name(&mut values.names);
+    let at = take_place(&mut values.places);
     let mut list = take_constant_list(&mut values.constant_lists);
-    list.push(Constant { name, of, value })?;
+    list.push(Constant {
+        at,
+        name,
+        of,
+        value,
+    })?;
     values.constant_lists.push(list)
 }
 
@@ -472,6 +480,17 @@ fn class_value(values: &mut Values) -> Result<(), AllocError>
     ensures { OnOk result (values.new ≡ spec.class_value values.old) }
 {
     let x = take_class(&mut values.classes);
+    values.values.push(ConstantValue::Class(x))
+}
+
+/// The place of `monitor` is dropped.
+fn monitored_class_value(values: &mut Values) -> Result<(), AllocError>
+    requires x { IsFilled values.old.classes }
+    requires at { IsFilled values.old.places }
+    ensures { OnOk result (values.new ≡ spec.monitored_class_value values.old) }
+{
+    let x = take_class(&mut values.classes);
+    take_place(&mut values.places);
     values.values.push(ConstantValue::Class(x))
 }
 
@@ -647,13 +666,16 @@ fn make_object(values: &mut Values) -> Result<(), AllocError>
     requires body { IsFilled values.old.bodies }
     requires name { IsFilled (rest values.old.names) }
     requires is_monitored { IsFilled values.old.flags }
+    requires at { IsFilled values.old.places }
     ensures { OnOk result (values.new ≡ spec.make_object values.old) }
 {
     let end_name = take_name(&mut values.names);
     let body = take_body(&mut values.bodies);
     let name = take_name(&mut values.names);
     let is_monitored = take_flag(&mut values.flags);
+    let at = take_place(&mut values.places);
     values.objects.push(ObjectConstructor {
+        at,
         is_monitored,
         name,
         body,

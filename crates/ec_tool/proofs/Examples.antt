@@ -139,6 +139,7 @@ hello_block = statement.Print (expression.Literal (record { text = codes "hi"; a
 
 abbrev hello_whole_object : WholeObject
 hello_whole_object = roll-ObjectConstructor (record {
+  at = record { from = 14; to = 20 };
   is_monitored = false;
   name = record { text = codes "main"; at = record { from = 21; to = 25 } };
   body = roll-Body (record { members = []; initially = Some (roll-Block (record { statements = hello_block })); process = None });
@@ -147,7 +148,7 @@ hello_whole_object = roll-ObjectConstructor (record {
 
 abbrev hello_whole : WholeProgram
 hello_whole = record {
-  constants = record { name = record { text = codes "main"; at = record { from = 6; to = 10 } }; of = None; value = value.Expression (expression.Constructor hello_whole_object) } ∷ [];
+  constants = record { at = record { from = 0; to = 5 }; name = record { text = codes "main"; at = record { from = 6; to = 10 } }; of = None; value = value.Expression (expression.Constructor hello_whole_object) } ∷ [];
 }
 
 -- a primary alone is an expression
