@@ -1,0 +1,140 @@
+//! Which types a program declares, and which types conform to which.
+#![tactic(auto)]
+
+ghost use Rattle.std.specs.Prelude.{◌≡◌, ◌↔◌, IfOk, length, true};
+ghost use Rattle.std.specs.Option.{option_copied};
+ghost use Rattle.ec_names.specs.Names.{first_named};
+ghost use Rattle.ec_conform.specs.Conforms.{Conforms, operations_at};
+ghost use Rattle.ec_conform.specs.Table.{conforms, IsTable};
+ghost use Rattle.ec_conform.specs.Types as spec;
+
+pub mod declared;
+pub mod named_type;
+mod numbered;
+pub mod operations;
+mod pairs;
+mod row;
+pub mod static_type;
+
+use declared::{Declarations, DeclaredType};
+use ec_ast::{Span, TypeName};
+use ec_names::Names;
+use named_type::{names_of, places_of, types_with};
+use numbered::NumberedTypes;
+use operations::NamedOperation;
+use pairs::{conforms_by, largest};
+use row::Row;
+use static_type::{Plain, StaticType};
+use std::alloc::{AllocError, Global};
+use std::marker::Model;
+
+/// The types that a program declares, by their numbers, and which of them conform to which.
+#[derive(Drop)]
+pub struct TypeTable {
+    names: Names,
+    /// The first bytes of the names.
+    places: Row,
+    types: NumberedTypes,
+    /// For each two types, whether the first conforms to the second.
+    pairs: Vec<bool>,
+}
+
+impl Model for TypeTable {
+    ghost use Rattle.ec_conform.specs.Table.{Table};
+    ghost use Rattle.ec_conform.specs.Pairs.{IsLargest};
+
+    ghost Value = { Table };
+
+    ghost view = { λ t. record { names = t.names; places = t.places; types = t.types; pairs = t.pairs.items } };
+
+    ghost invariant = { λ t. IsLargest t.types t.pairs.items };
+}
+
+impl TypeTable {
+    /// The table of the types of a program. The error is want of memory.
+    pub fn build(alloc: Global, declarations: &Declarations) -> Result<TypeTable, AllocError>
+        ensures { IfOk result (λ table. IsTable declarations.now.types table) }
+    {
+        TypeTable::from_types(alloc, declarations.types.as_slice())
+    }
+
+    /// The table of declared types. The error is want of memory.
+    pub fn from_types(alloc: Global, declared: &[DeclaredType]) -> Result<TypeTable, AllocError>
+        ensures { IfOk result (λ table. IsTable declared.now table) }
+    {
+        let names = names_of(alloc, declared)?;
+        let places = Row::new(alloc, places_of(alloc, declared)?)?;
+        let types = NumberedTypes::new(alloc, types_with(alloc, &names, declared)?)?;
+        let pairs = largest(alloc, &types)?;
+        Ok(TypeTable {
+            names,
+            places,
+            types,
+            pairs,
+        })
+    }
+
+    /// How many types there are.
+    pub fn len(&self) -> usize
+        ensures { result ≡ length self.now.types }
+    {
+        self.types.len()
+    }
+
+    /// The number of the first type with this name. The error is want of memory.
+    pub fn first_named(&self, name: &[u8]) -> Result<Option<usize>, AllocError>
+        ensures { IfOk result (λ found. found ≡ first_named self.now.names name.now) }
+    {
+        self.names.first(name)
+    }
+
+    /// The number of the first type whose name begins where this place does; how many there are, where none does.
+    pub fn number_at(&self, at: Span) -> usize
+        ensures { result ≡ spec.number_at self.now.places at.from }
+    {
+        match self.places.place_of(at.from as usize) {
+            None => self.places.len(),
+            Some(number) => number,
+        }
+    }
+
+    /// The type that is written so. The error is want of memory.
+    pub fn type_of(&self, written: &TypeName) -> Result<StaticType, AllocError>
+        ensures { IfOk result (λ t. t ≡ spec.type_of self.now.names written.now) }
+    {
+        named_type::type_of(&self.names, written)
+    }
+
+    /// The first operation with this name of the type with this number. The error is want of memory.
+    pub fn operation(
+        &self,
+        number: usize,
+        name: &[u8],
+    ) -> Result<Option<&NamedOperation>, AllocError>
+        ensures { IfOk result (λ found. option_copied found ≡ spec.operation_named (operations_at self.now.types number) name.now) }
+    {
+        match self.types.as_slice().get(number) {
+            None => Ok(None),
+            Some(of) => of.operations.named(name),
+        }
+    }
+
+    /// Whether a type conforms to another.
+    pub fn conforms(&self, s: StaticType, t: StaticType) -> bool
+        ensures equal { result ≡ conforms self.now s t }
+        ensures relation { (result ≡ true) ↔ Conforms self.now.types s t }
+    {
+        conforms_by(&self.types, self.pairs.as_slice(), s, t)
+    }
+
+    /// Whether the typeobject, class or object constructor with this number conforms to a type.
+    pub fn class_conforms(&self, class: usize, t: StaticType) -> bool
+        ensures equal { result ≡ conforms self.now (spec.named class) t }
+        ensures relation { (result ≡ true) ↔ Conforms self.now.types (spec.named class) t }
+    {
+        self.conforms(StaticType::Plain(Plain::Named(class)), t)
+    }
+}
+
+#[cfg(test)]
+mod tests;
