@@ -1,0 +1,186 @@
+-- The tree as the static rules see it: each part with what is known of the parts within it. Each rule is said of one
+-- part at a time, and Judging.antt puts the parts together.
+use Rattle.std.specs.Prelude.{Bool, true, List, map, Option}
+use Rattle.ec_ast.specs.declared.Additive.{Additive}
+use Rattle.ec_ast.specs.declared.Multiplicative.{Multiplicative}
+use Rattle.ec_ast.specs.declared.Name.{Name}
+use Rattle.ec_ast.specs.declared.Parameter.{Parameter}
+use Rattle.ec_ast.specs.declared.Span.{Span}
+use Rattle.ec_ast.specs.declared.TypeName.{TypeName}
+use Rattle.ec_ast.specs.declared.Typeobject.{Typeobject}
+use Rattle.ec_ast.specs.declared.Expression.TheOpen.{Expression-F, Link-F, Member-F, Statement-F, Addend-F, Arm-F, Block-F}
+use Rattle.ec_ast.specs.declared.Expression.TheOpen.{Body-F, Factor-F, ObjectConstructor-F, Operation-F, ProcessSection-F}
+use Rattle.ec_rules.specs.declared.StaticFault.{StaticFault}
+use Rattle.ec_rules.specs.Forms.{Form}
+use Rattle.ec_rules.specs.declared.judged.Done.{Done}
+use Rattle.ec_rules.specs.declared.judged.Judged.{Judged}
+use Rattle.ec_rules.specs.Captures.{Use}
+use Rattle.ec_scopes.specs.declared.entries.Entry.{Entry}
+use Rattle.ec_scopes.specs.declared.scope.Scope.{Scope}
+
+-- What an expression is in a scope: its value; the names that it uses, in order; and all faults within it.
+pub record Judgement : Type 0 where
+  pub value : Judged
+  pub uses : List Use
+  pub faults : List StaticFault
+
+-- the same of what has no value: a statement, or several
+pub record Finished : Type 0 where
+  pub done : Done
+  pub uses : List Use
+  pub faults : List StaticFault
+
+-- An expression: its first token; its form; and what it is in a scope, where its value is needed or not.
+pub record Part : Type 0 where
+  pub at : Span
+  pub form : Form
+  pub judged : Bool → Scope → Judgement
+
+-- an expression, a block or an arm, in a statement
+abbrev pub Piece : Type 0
+Piece = Scope → Finished
+
+-- a statement, with the names that it declares for what stands behind it in its block
+pub record StatementPart : Type 0 where
+  pub finished : Piece
+  pub declares : Scope → List Entry
+
+pub data LinkPart : Type 0 where
+  call : Name → List Part → LinkPart
+  index : Part → Span → LinkPart
+
+pub record FactorPart : Type 0 where
+  pub operator : Multiplicative
+  pub value : Part
+
+pub record AddendPart : Type 0 where
+  pub operator : Additive
+  pub value : Part
+
+pub record ArmPart : Type 0 where
+  pub condition : Part
+  pub block : Piece
+
+pub record ProcessPart : Type 0 where
+  pub at : Span
+  pub block : Piece
+
+pub record OperationPart : Type 0 where
+  pub name : Name
+  pub parameters : List Parameter
+  pub result : Option Parameter
+  pub block : Piece
+  pub end_name : Name
+
+-- whether a field is attached stands first
+pub data MemberPart : Type 0 where
+  variable : Bool → Name → TypeName → Option Part → MemberPart
+  constant : Bool → Name → Option TypeName → Part → MemberPart
+  condition : Name → MemberPart
+  operation : OperationPart → MemberPart
+
+pub record BodyPart : Type 0 where
+  pub members : List MemberPart
+  pub initially : Option Piece
+  pub process : Option ProcessPart
+
+-- an object constructor, or a class with its parameters
+pub record Holder : Type 0 where
+  pub name : Name
+  pub is_monitored : Bool
+  pub parameters : List Parameter
+  pub body : BodyPart
+  pub end_name : Name
+
+-- an object constructor, at its first word
+pub record ObjectPart : Type 0 where
+  pub at : Span
+  pub holder : Holder
+
+-- what a constant of a program stands for
+pub data ValuePart : Type 0 where
+  expression : Part → ValuePart
+  class : Holder → ValuePart
+  typeobject : Typeobject → ValuePart
+
+-- a constant, at its word
+pub record ConstantPart : Type 0 where
+  pub at : Span
+  pub name : Name
+  pub of : Option TypeName
+  pub value : ValuePart
+
+-- ---- one layer of the tree, with parts in it
+
+abbrev pub AnExpression : Type 0
+AnExpression =
+    Expression-F Part LinkPart MemberPart StatementPart AddendPart ArmPart Piece BodyPart FactorPart ObjectPart OperationPart
+    ProcessPart
+
+abbrev pub AStatement : Type 0
+AStatement =
+    Statement-F Part LinkPart MemberPart StatementPart AddendPart ArmPart Piece BodyPart FactorPart ObjectPart OperationPart
+    ProcessPart
+
+abbrev pub ALink : Type 0
+ALink =
+    Link-F Part LinkPart MemberPart StatementPart AddendPart ArmPart Piece BodyPart FactorPart ObjectPart OperationPart
+    ProcessPart
+
+abbrev pub AMember : Type 0
+AMember =
+    Member-F Part LinkPart MemberPart StatementPart AddendPart ArmPart Piece BodyPart FactorPart ObjectPart OperationPart
+    ProcessPart
+
+abbrev pub AnAddend : Type 0
+AnAddend =
+    Addend-F Part LinkPart MemberPart StatementPart AddendPart ArmPart Piece BodyPart FactorPart ObjectPart OperationPart
+    ProcessPart
+
+abbrev pub AnArm : Type 0
+AnArm =
+    Arm-F Part LinkPart MemberPart StatementPart AddendPart ArmPart Piece BodyPart FactorPart ObjectPart OperationPart ProcessPart
+
+abbrev pub ABlock : Type 0
+ABlock =
+    Block-F Part LinkPart MemberPart StatementPart AddendPart ArmPart Piece BodyPart FactorPart ObjectPart OperationPart
+    ProcessPart
+
+abbrev pub ABody : Type 0
+ABody =
+    Body-F Part LinkPart MemberPart StatementPart AddendPart ArmPart Piece BodyPart FactorPart ObjectPart OperationPart
+    ProcessPart
+
+abbrev pub AFactor : Type 0
+AFactor =
+    Factor-F Part LinkPart MemberPart StatementPart AddendPart ArmPart Piece BodyPart FactorPart ObjectPart OperationPart
+    ProcessPart
+
+abbrev pub AnObject : Type 0
+AnObject =
+    ObjectConstructor-F Part LinkPart MemberPart StatementPart AddendPart ArmPart Piece BodyPart FactorPart ObjectPart
+    OperationPart ProcessPart
+
+abbrev pub AnOperation : Type 0
+AnOperation =
+    Operation-F Part LinkPart MemberPart StatementPart AddendPart ArmPart Piece BodyPart FactorPart ObjectPart OperationPart
+    ProcessPart
+
+abbrev pub AProcess : Type 0
+AProcess =
+    ProcessSection-F Part LinkPart MemberPart StatementPart AddendPart ArmPart Piece BodyPart FactorPart ObjectPart OperationPart
+    ProcessPart
+
+-- ---- what an expression is in a scope, where its value is needed, in short
+
+abbrev pub value_in : Scope → Part → Judged
+value_in scope part = (part.judged true scope).value
+
+abbrev pub values_in : Scope → List Part → List Judged
+values_in scope parts = map (value_in scope) parts
+
+abbrev pub uses_in : Scope → Part → List Use
+uses_in scope part = (part.judged true scope).uses
+
+abbrev pub faults_in : Scope → Part → List StaticFault
+faults_in scope part = (part.judged true scope).faults
