@@ -1,0 +1,13 @@
+pub mod Along
+pub mod Bodies
+pub mod Chains
+pub mod Ends
+pub mod Judged
+pub mod Layers
+pub mod Parts
+pub mod Passing
+pub mod Programs
+pub mod Scoped
+pub mod Statements
+pub mod Steps
+pub mod Walks

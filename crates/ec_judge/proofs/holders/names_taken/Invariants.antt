@@ -1,0 +1,6 @@
+use Rattle.std.proofs.Common.{◌≡◌, ◌++◌, drop, map}
+use Rattle.ec_judge.proofs.holders.names_taken.Given as goal
+
+abbrev pub invariant-loop-p : goal.invariant-loop-p
+invariant-loop-p l =
+    l.taken ++ map (λ p. p.name.text) (drop l.p-index l.parameters) ≡ map (λ p. p.name.text) l.parameters

@@ -1,0 +1,5 @@
+pub mod Blocks
+pub mod Chains
+pub mod Holders
+pub mod Programs
+pub mod Walks
