@@ -16,6 +16,7 @@ mod Lists
 mod Meaning
 mod Nested
 mod Nestings
+pub mod OneTree
 mod Phrases
 mod Progress
 mod Seq
