@@ -13,7 +13,8 @@ use Rattle.clap.specs.Facts.{parser_of_value}
 use Rattle.clap.specs.Kinds.{Kinds, or_else, range_kinds, value_kinds}
 use Rattle.clap.specs.Faults.{use_fault, repeat_fault, values_fault, settle_fault, stray_fault, react_fault, option_fault, long_fault, short_fault, bundle_step_fault, flags_fault, flag_word_fault, other_fault, word_fault, positional_fault, step_fault, turn_fault, walk_fault, level_fault, entered_fault, fault_of}
 use Rattle.clap.specs.Walk.{Held, Outcome, Row, Rule, Step, Text, Waiting, Walk, action_of, after_flag, after_step, answers_to, arg_by_id, arg_by_index, arg_by_long, arg_by_short, at_row, attached_value, bundle_met, bundle_step, default_rows, done, has_row, idle, is_pending, long_met, long_or_other, more_values, next, nothing_held, one_of, option, option_met, option_word, plain, plain_word, positional, reacted, reading_by, refused, row_text, rows_after, settled, settled_rows, short_met, short_or_plain, stop_after, subcommand, subcommand_met, subcommand_or_other, takes_several, takes_values, to_positional, trailing, used, used_as, used_by_id, value, values_or_missing, waits, walk, walk_from, walked, walked_from, flag_met, with_default, with_values, without, word_met}
-use Rattle.clap.specs.Simple.{Shape, argument_words, built, built_leaf, entered, filled, inherited, label_of, marked_built, names_of, rows_at, subcommand_of, with_index, with_leaf_noted}
+use Rattle.clap.specs.Simple.{App, Shape, argument_words, built, built_leaf, entered, filled, inherited, label_of, marked_built}
+use Rattle.clap.specs.Simple.{names_of, rows_at, subcommand_of, with_index, with_leaf_noted}
 use Rattle.clap.specs.declared.builder.action.ArgAction.TheVariants.{Set}
 use Rattle.clap.specs.declared.error.kind.ErrorKind.TheVariants as kind
 use Rattle.clap.specs.declared.parser.matches.ValueSource.{ValueSource}
@@ -21,7 +22,7 @@ use Rattle.clap.specs.declared.parser.matches.ValueSource.TheVariants.{DefaultVa
 use Rattle.clap.proofs.ValueTestLemmas.{accepts-Accepts}
 use Rattle.ec_inputs.specs.Words.{app, budget, required_word, run, IsBudget}
 
-or_none : (a b : Kinds) → or_else a b ≡ [] → (a ≡ []) × (b ≡ [])
+pub or_none : (a b : Kinds) → or_else a b ≡ [] → (a ≡ []) × (b ≡ [])
 or_none [] b e = (refl, e)
 or_none (k ∷ ks) b e = let bad : ⊥ = cc in absurd bad
 
@@ -364,10 +365,7 @@ own_found (r ∷ rs) f there = go (λ h e. own_found rs h e) (is_own r.id) f the
         (p.given, text, accepts-Accepts own.ignore_case (parser_of_value own.parser) p.given p.accepted)
     go more false h e = more h e
 
--- ---- the command
-
-abbrev sub : Shape
-sub = built_leaf (inherited (with_leaf_noted (marked_built app.top)) run.top)
+-- ---- the subcommands
 
 abbrev AllKnown : List Rule → Type 0
 AllKnown [] = Unit {0}
@@ -381,17 +379,67 @@ find_known (x ∷ xs) k p a e = go (λ h. find_known xs k.1 p a h) (p x) e
     go more true h = subst (λ r. IsKnown r) (ap (λ o. unwrap_or o x) h) k.0
     go more false h = more h
 
+-- the subcommand's arguments are known, and the budget has a value once the defaults are there
+record TakesBudget (s : Shape) : Type 0 where
+  known : AllKnown s.rules
+  complete : (rows : List Row) → Fine rows → IsBudget (one_of (codes "budget") (fold with_default rows s.rules))
+
+level_found : (s : Shape) → TakesBudget s → (words : List Text) → level_fault s [] nothing_held words false [] ≡ []
+    → IsBudget (one_of (codes "budget") (rows_after s.rules [] words))
+level_found s takes words none =
+    let known = find_known s.rules takes.known in
+    let walks = or_none _ _ none in
+    let settles = or_none _ _ walks.1 in
+    let end = (walk s.rules [] nothing_held words).held in
+    let walks_fine : Fine end.rows = walk_fine s known words (walk_from nothing_held) walks.0 tt in
+    takes.complete (settled s.rules end).rows (settled_fine s known end settles.0 walks_fine)
+
+-- a run takes a budget
+abbrev RunsTake : List Shape → Type 0
+RunsTake [] = Unit {0}
+RunsTake (s ∷ ss) = (s.name ≡ codes "run" → TakesBudget s) × RunsTake ss
+
+-- the fault and the matches of the subcommand that was found
+abbrev fault_below : List Text → Option Shape → Kinds
+fault_below words o = option_map_or (λ s. level_fault s [] nothing_held words false []) o []
+
+abbrev found_below : List Text → Option Shape → Option (Text × List Row)
+found_below words o = option_map (λ s. rows_at s words) o
+
+module _ (words : List Text) (name : Text) (rows : List Row) (is_run : name ≡ codes "run") where
+  shape_found : (s : Shape) → (s.name ≡ codes "run" → TakesBudget s) → fault_below words (Some s) ≡ []
+      → found_below words (Some s) ≡ Some (name, rows) → IsBudget (one_of (codes "budget") rows)
+  shape_found s takes none found =
+      let same : rows_at s words ≡ (name, rows) = ap (λ (o : Option (Text × List Row)). unwrap_or o (name, rows)) found in
+      let is : s.name ≡ codes "run" = ap (λ (p : Text × List Row). p.0) same ∙ is_run in
+      let its : rows_after s.rules [] words ≡ rows = ap (λ (p : Text × List Row). p.1) same in
+      subst (λ rs. IsBudget (one_of (codes "budget") rs)) its (level_found s (takes is) words none)
+
+  among_found : (p : Shape → Bool) (ss : List Shape) → RunsTake ss → fault_below words (find p ss) ≡ []
+      → found_below words (find p ss) ≡ Some (name, rows) → IsBudget (one_of (codes "budget") rows)
+  among_found p [] takes none found = let bad : ⊥ = cc in absurd bad
+  among_found p (s ∷ ss) takes none found = go (find p ss) (λ e f. among_found p ss takes.1 e f) (p s) none found
+    where
+      go : (o : Option Shape)
+          → (fault_below words o ≡ [] → found_below words o ≡ Some (name, rows) → IsBudget (one_of (codes "budget") rows))
+          → (b : Bool) → fault_below words (cond b (Some s) o) ≡ []
+          → found_below words (cond b (Some s) o) ≡ Some (name, rows) → IsBudget (one_of (codes "budget") rows)
+      go o more true e f = shape_found s takes.0 e f
+      go o more false e f = more e f
+
+-- ---- the command
+
 positional_known : (name : Text) (i : ℕ) → is_own name ≡ false → IsKnown (with_index i (filled (required_word name)))
 positional_known name i other = record { same = λ is. absurd (true≢false (sym is ∙ other)); set = refl }
 
 own_known : IsKnown own
 own_known = record { same = λ is. refl; set = refl }
 
-sub_known : AllKnown sub.rules
-sub_known = (positional_known (codes "source") 1 refl, (positional_known (codes "nodes") 2 refl, (positional_known (codes "schedule") 3 refl, (own_known, tt))))
+abbrev pub built_sub : App → Shape
+built_sub a = built_leaf (inherited (with_leaf_noted (marked_built app.top)) a.top)
 
--- the rows with the defaults of the four arguments
-complete : (rows : List Row) → Fine rows → IsBudget (one_of (codes "budget") (fold with_default rows sub.rules))
+-- the rows with the defaults of the four arguments of a run
+complete : (rows : List Row) → Fine rows → IsBudget (one_of (codes "budget") (fold with_default rows (built_sub run).rules))
 complete rows f =
     let source = with_index 1 (filled (required_word (codes "source"))) in
     let nodes = with_index 2 (filled (required_word (codes "nodes"))) in
@@ -402,29 +450,27 @@ complete rows f =
     let last = with_default (with_default (with_default rows source) nodes) schedule in
     own_found (with_default last own) (default_fine own last own_known three) (own_there last)
 
-level_found : (words : List Text) → level_fault sub [] nothing_held words false [] ≡ [] → IsBudget (one_of (codes "budget") (rows_after sub.rules [] words))
-level_found words none =
-    let known = find_known sub.rules sub_known in
-    let walks = or_none _ _ none in
-    let settles = or_none _ _ walks.1 in
-    let end = (walk sub.rules [] nothing_held words).held in
-    let walks_fine : Fine end.rows = walk_fine sub known words (walk_from nothing_held) walks.0 tt in
-    complete (settled sub.rules end).rows (settled_fine sub known end settles.0 walks_fine)
+run_known : AllKnown (built_sub run).rules
+run_known =
+    let word = positional_known in
+    (word (codes "source") 1 refl, (word (codes "nodes") 2 refl, (word (codes "schedule") 3 refl, (own_known, tt))))
 
-pub budget_found : (words : List Text) (name : Text) (rows : List Row) → fault_of app words ≡ [] → subcommand_of app words ≡ Some (name, rows)
-    → IsBudget (one_of (codes "budget") rows)
-budget_found words name rows none found =
+run_takes : TakesBudget (built_sub run)
+run_takes = record { known = run_known; complete = complete }
+
+check_is_no_run : codes "check" ≡ codes "run" → ⊥
+check_is_no_run e = cc
+
+pub budget_found : (words : List Text) (name : Text) (rows : List Row) → name ≡ codes "run" → fault_of app words ≡ []
+    → subcommand_of app words ≡ Some (name, rows) → IsBudget (one_of (codes "budget") rows)
+budget_found words name rows is_run none found =
     let levels = or_none _ _ none in
     let below = or_none _ _ levels.1 in
     go (stop_after (built app).top.rules (names_of (built app)) (argument_words app words)) below.0 found
   where
-    by : (more : List Text) (b : Bool) → option_map_or (λ s. level_fault s [] nothing_held more false []) (cond b (Some sub) None) [] ≡ []
-        → option_map (λ s. rows_at s more) (cond b (Some sub) None) ≡ Some (name, rows) → IsBudget (one_of (codes "budget") rows)
-    by more true e f =
-        let same : rows_after sub.rules [] more ≡ rows = ap (λ (o : Option (Text × List Row)). (unwrap_or o (name, rows)).1) f in
-        subst (λ rs. IsBudget (one_of (codes "budget") rs)) same (level_found more e)
-    by more false e f = let bad : ⊥ = cc in absurd bad
+    takes : RunsTake (built app).subs
+    takes = (λ is. run_takes, (λ is. absurd (check_is_no_run is), tt))
 
     go : (stop : Option (Text × List Text)) → entered_fault (built app) stop ≡ [] → entered (built app) stop ≡ Some (name, rows) → IsBudget (one_of (codes "budget") rows)
     go None e f = let bad : ⊥ = cc in absurd bad
-    go (Some p) e f = by p.1 (answers_to p.0 (label_of sub)) e f
+    go (Some p) e f = among_found p.1 name rows is_run (λ s. answers_to p.0 (label_of s)) (built app).subs takes e f

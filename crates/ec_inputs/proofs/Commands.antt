@@ -1,15 +1,19 @@
 -- What the words are, by what clap answers.
-use Rattle.std.proofs.Common.{refl, sym, ◌∙◌, ap, ap₂, ◌≡◌, ◌⊎◌, inl, inr, List, [], ◌∷◌, Option, Some, None, true, option_map, subst, codes}
-use Rattle.std.specs.Prelude.{Box}
+use Rattle.std.proofs.Common.{refl, sym, ◌∙◌, ap, ap₂, ◌≡◌, ◌⊎◌, inl, inr, List, [], ◌∷◌, Option, Some, None}
+use Rattle.std.proofs.Common.{is_some, Bool, true, false, cond, option_map, subst, codes}
+use Rattle.std.specs.Prelude.{Box, option_and_then}
 use Rattle.std.specs.Box.{box_value}
+use Rattle.clap.specs.Faults.{check_fault, defaults_fault, entered_fault, level_fault, settle_fault, walk_fault}
+use Rattle.clap.specs.Simple.{Shape, argument_words, built, entered, names_of, rows_at}
+use Rattle.clap.specs.Walk.{Held, Names, answers_to, finished, nothing_held, settled, stop_after, walk, walk_from}
 use Rattle.clap.specs.Words.{App, Row, Text, Kinds, IsAmong, fault_of, is_simple, is_simple_and_free, one_of, subcommand_of, subcommand_rows_of, subcommand_rows, subcommand_name_of}
 use Rattle.clap.specs.declared.error.ErrorKind.{ErrorKind}
 use Rattle.clap.specs.declared.error.ErrorKind.TheVariants as kinds
 use Rattle.clap.specs.declared.parser.matches.ArgMatches.{ArgMatches}
 use Rattle.clap.specs.declared.parser.matches.SubCommand.{SubCommand}
 use Rattle.clap.specs.declared.parser.matches.ArgMatches.TheViews.{out-ArgMatches, out-SubCommand}
-use Rattle.ec_inputs.specs.Words.{IsBudget, app, command_of, unless_fault, WordsOf}
-use Rattle.ec_inputs.proofs.Budgets.{budget_found}
+use Rattle.ec_inputs.specs.Words.{IsBudget, app, check, command_of, run, unless_fault, WordsOf}
+use Rattle.ec_inputs.proofs.Budgets.{budget_found, built_sub, or_none}
 
 pub simple : is_simple_and_free app ≡ true
 simple = refl
@@ -17,7 +21,8 @@ simple = refl
 pub simple_too : is_simple app ≡ true
 simple_too = refl
 
-none_left : (found : Kinds) (k : ErrorKind) (o : Option (Text × List Row)) → IsAmong k found → option_map command_of (unless_fault found o) ≡ None
+none_left : (found : Kinds) (k : ErrorKind) (o : Option (Text × List Row)) → IsAmong k found
+    → option_and_then command_of (unless_fault found o) ≡ None
 none_left [] k o h = absurd h
 none_left (x ∷ found) k o h = refl
 
@@ -32,15 +37,18 @@ refused a ws k e h n = elim (h (ap is_simple_and_free e ∙ simple)) [
 
 -- clap takes the words
 pub answered : (a : App) (ws : List Text) (found : Option (Text × List Row)) → a ≡ app → (is_simple_and_free a ≡ true → fault_of a ws ≡ []) → found ≡ subcommand_of a ws
-    → WordsOf ws ≡ option_map command_of found
+    → WordsOf ws ≡ option_and_then command_of found
 unfolding WordsOf
 answered a ws found e h f =
-    ap₂ (λ faults o. option_map command_of (unless_fault faults o)) (ap (λ b. fault_of b ws) (sym e) ∙ h (ap is_simple_and_free e ∙ simple)) (ap (λ b. subcommand_of b ws) (sym e) ∙ sym f)
+    ap₂ (λ faults o. option_and_then command_of (unless_fault faults o))
+    (ap (λ b. fault_of b ws) (sym e) ∙ h (ap is_simple_and_free e ∙ simple)) (ap (λ b. subcommand_of b ws) (sym e) ∙ sym f)
 
-pub found_budget : (a : App) (ws : List Text) (name : Text) (rows : List Row) → a ≡ app → (is_simple_and_free a ≡ true → fault_of a ws ≡ [])
-    → Some (name, rows) ≡ subcommand_of a ws → IsBudget (one_of (codes "budget") rows)
-found_budget a ws name rows e h f =
-    budget_found ws name rows (ap (λ b. fault_of b ws) (sym e) ∙ h (ap is_simple_and_free e ∙ simple)) (ap (λ b. subcommand_of b ws) (sym e) ∙ sym f)
+pub found_budget : (a : App) (ws : List Text) (name : Text) (rows : List Row) → name ≡ codes "run" → a ≡ app
+    → (is_simple_and_free a ≡ true → fault_of a ws ≡ []) → Some (name, rows) ≡ subcommand_of a ws
+    → IsBudget (one_of (codes "budget") rows)
+found_budget a ws name rows is_run e h f =
+    budget_found ws name rows is_run (ap (λ b. fault_of b ws) (sym e) ∙ h (ap is_simple_and_free e ∙ simple))
+    (ap (λ b. subcommand_of b ws) (sym e) ∙ sym f)
 
 pub pairs : {A B : Type 0} (o : Option (A × B)) (a : A) (b : B) → option_map (λ p. p.0) o ≡ Some a → option_map (λ p. p.1) o ≡ Some b → o ≡ Some (a, b)
 pairs None a b e f = cc
@@ -56,3 +64,45 @@ names m = go (out-ArgMatches m).subcommand
 pub nothing : {A B : Type 0} (o : Option (A × B)) → option_map (λ p. p.0) o ≡ None → o ≡ None
 nothing None e = refl
 nothing (Some p) e = cc
+
+-- clap knows no other names: where it takes the words, they are a command
+checked : (s : Shape) (names : Names) (h : Held) (words : List Text) (has : Bool) (below : Kinds)
+    → level_fault s names h words has below ≡ []
+    → check_fault s (finished s.rules (walk s.rules names h words).held) has ≡ []
+checked s names h words has below none =
+    let end = (walk s.rules names h words).held in
+    let walks = or_none (walk_fault s names (walk_from h) words) _ none in
+    let under = or_none below _ walks.1 in
+    let settles = or_none (settle_fault s.rules s.args_override_self end) _ under.1 in
+    let defaults = or_none (defaults_fault (settled s.rules end).rows s.rules) _ settles.1 in
+    defaults.1
+
+needed : (rows : List Row) (has : Bool) → check_fault (built app).top rows has ≡ [] → has ≡ true
+needed rows true e = refl
+needed rows false e = cc
+
+named : (stop : Option (Text × List Text)) → is_some (entered (built app) stop) ≡ true
+    → is_some (option_and_then command_of (entered (built app) stop)) ≡ true
+named None e = e
+named (Some p) e = go (answers_to p.0 (codes "run", [])) (answers_to p.0 (codes "check", [])) e
+  where
+    found : Bool → Bool → Option (Text × List Row)
+    found a b = option_map (λ s. rows_at s p.1) (cond a (Some (built_sub run)) (cond b (Some (built_sub check)) None))
+
+    go : (a b : Bool) → is_some (found a b) ≡ true → is_some (option_and_then command_of (found a b)) ≡ true
+    go true b h = refl
+    go false true h = refl
+    go false false h = h
+
+pub taken : (words : List Text) → fault_of app words ≡ [] → is_some (WordsOf words) ≡ true
+unfolding WordsOf
+taken words none =
+    let top = (built app).top in
+    let labels = names_of (built app) in
+    let own = argument_words app words in
+    let stop = stop_after top.rules labels own in
+    let has = is_some (entered (built app) stop) in
+    let last = checked top labels nothing_held own has (entered_fault (built app) stop) none in
+    let there = needed (finished top.rules (walk top.rules labels nothing_held own).held) has last in
+    subst (λ faults. is_some (option_and_then command_of (unless_fault faults (subcommand_of app words))) ≡ true) (sym none)
+    (named stop there)

@@ -1,11 +1,14 @@
 -- What the words of the command line ask for.
-use Rattle.std.specs.Prelude.{ℕ, true, List, [], ◌∷◌, Option, Some, None, option_map, unwrap_or, codes, pos, ◌≤◌, ◌≡◌}
+use Rattle.std.specs.Prelude.{ℕ, true, List, [], ◌∷◌, Option, Some, None, option_and_then, unwrap_or, codes, pos}
+use Rattle.std.specs.Prelude.{if◌then◌else◌, ◌≤◌, ◌≡◌}
+use Rattle.std.specs.Str.{bytes_eq}
 use Rattle.std.specs.Str.Parse.{digits_value, without_leading_plus}
 use Rattle.clap.specs.Words.{App, Shape, Row, Rule, Text, Kinds, new_app, new_rule, with_rule, with_subcommand, first_of, one_of, subcommand_of, fault_of}
 use Rattle.clap.specs.Lexer.{without_minus}
 use Rattle.clap.specs.Values.{IsSignedIn}
 use Rattle.clap.specs.Simple.{on_top}
 use Rattle.clap.specs.declared.builder.value_parser.ValueParser.TheVariants as vp
+use Rattle.ec_inputs.specs.declared.words.CheckCommand.{CheckCommand}
 use Rattle.ec_inputs.specs.declared.words.Command.{Command}
 use Rattle.ec_inputs.specs.declared.words.Command.TheVariants as command
 use Rattle.ec_inputs.specs.declared.words.RunCommand.{RunCommand}
@@ -29,12 +32,16 @@ abbrev pub run : App
 run = with_rule (with_rule (with_rule (with_rule (new_app (codes "run"))
     (required_word (codes "source"))) (required_word (codes "nodes"))) (required_word (codes "schedule"))) budget
 
+-- `check SOURCE`
+abbrev pub check : App
+check = with_rule (new_app (codes "check")) (required_word (codes "source"))
+
 -- no help and no version, and one of the subcommands has to be there
 abbrev pub without_help : Shape → Shape
 without_help s = record s { disable_help_flag = true; disable_help_subcommand = true; disable_version_flag = true; subcommand_required = true }
 
 abbrev pub app : App
-app = with_subcommand (on_top without_help (new_app (codes "emerald"))) run.top
+app = with_subcommand (with_subcommand (on_top without_help (new_app (codes "emerald"))) run.top) check.top
 
 -- ---- the command and its values
 
@@ -45,8 +52,13 @@ pub record RunWords : Type 0 where
   pub schedule : Text
   pub budget : ℕ
 
+-- the file of a check by its name
+pub record CheckWords : Type 0 where
+  pub source : Text
+
 pub data CommandWords : Type 0 where
   Run : RunWords → CommandWords
+  Check : CheckWords → CommandWords
 
 abbrev pub text_at : Text → List Row → Text
 text_at id rows = unwrap_or (first_of id rows) []
@@ -63,13 +75,22 @@ run_words rows = record {
   budget = number_at (codes "budget") rows;
 }
 
+abbrev pub check_words : List Row → CheckWords
+check_words rows = record { source = text_at (codes "source") rows }
+
 -- the text of a number from 1 to 4,000,000,000, by clap's test, as clap reads it
 abbrev pub IsBudget : Option Text → Type 0
 IsBudget text = (given : Text) × (text ≡ Some (without_minus given)) × IsSignedIn (pos 1) (pos 4000000000) given
 
--- what a subcommand is with what clap found for its arguments
-abbrev pub command_of : Text × List Row → CommandWords
-command_of found = Run (run_words found.1)
+-- what a subcommand is by its name, with what clap found for its arguments, one line each
+abbrev pub command_named : Text → List Row → Option CommandWords
+command_named name rows =
+    if bytes_eq name (codes "run") then Some (Run (run_words rows)) else
+    if bytes_eq name (codes "check") then Some (Check (check_words rows)) else
+    None
+
+abbrev pub command_of : Text × List Row → Option CommandWords
+command_of found = command_named found.0 found.1
 
 -- clap found no fault
 abbrev pub unless_fault : Kinds → Option (Text × List Row) → Option (Text × List Row)
@@ -78,15 +99,20 @@ unless_fault (k ∷ ks) found = None
 
 -- The command and its values, or none where clap refuses the words. The first word is the program's own name.
 unfoldable pub WordsOf : List Text → Option CommandWords
-WordsOf words = option_map command_of (unless_fault (fault_of app words) (subcommand_of app words))
+WordsOf words = option_and_then command_of (unless_fault (fault_of app words) (subcommand_of app words))
 
 -- a command as the program keeps it
 abbrev pub run_in : RunCommand → RunWords
 run_in r = record { source = r.source.now; nodes = r.nodes.now; schedule = r.schedule.now; budget = r.budget }
 
+abbrev pub check_in : CheckCommand → CheckWords
+check_in c = record { source = c.source.now }
+
 abbrev pub command_in : Command → CommandWords
 command_in (command.Run r) = Run (run_in r)
+command_in (command.Check c) = Check (check_in c)
 
--- the budget of a run is from 1 to 4,000,000,000
+-- the budget of a run is from 1 to 4,000,000,000, and a check has none
 abbrev pub HasBudget : Command → Type 0
 HasBudget (command.Run r) = (1 ≤ r.budget) × (r.budget ≤ 4000000000)
+HasBudget (command.Check c) = Unit {0}

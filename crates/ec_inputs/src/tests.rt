@@ -1,40 +1,64 @@
 //! Words, node files and schedules, with what they are by the formats.
 use crate::nodes::{NodeRule, NodesError, read_nodes};
 use crate::schedule::{ScheduleError, ScheduleRule, read_schedule, read_whole_schedule};
-use crate::words::{Command, words_of};
+use crate::words::{CheckCommand, Command, RunCommand, words_of};
 use ec_world::node::Kind;
 use ec_world::run::Entry;
 use std::alloc::{AllocError, Global};
 use std::test::Fail;
 
+/// A run of `p` on `n` by `s`.
+fn run_within<'a>(budget: u32) -> Command<'a> {
+    Command::Run(RunCommand {
+        source: "p",
+        nodes: "n",
+        schedule: "s",
+        budget,
+    })
+}
+
 #[test]
 fn words_that_are_a_command(rt: HostRuntime) -> Result<(), Fail> {
-    let cases: [(&[&str], u32); 6] = [
-        (&["emerald", "run", "p", "n", "s"], 1_000_000),
-        (&["emerald", "run", "p", "n", "s", "--budget", "1"], 1),
-        (&["emerald", "run", "p", "n", "s", "--budget", "7"], 7),
-        (&["emerald", "run", "p", "n", "s", "--budget=6"], 6),
+    let cases: [(&[&str], Command); 8] = [
+        (&["emerald", "run", "p", "n", "s"], run_within(1_000_000)),
+        (
+            &["emerald", "run", "p", "n", "s", "--budget", "1"],
+            run_within(1),
+        ),
+        (
+            &["emerald", "run", "p", "n", "s", "--budget", "7"],
+            run_within(7),
+        ),
+        (
+            &["emerald", "run", "p", "n", "s", "--budget=6"],
+            run_within(6),
+        ),
         (
             &["emerald", "run", "--budget", "4000000000", "p", "n", "s"],
-            4_000_000_000,
+            run_within(4_000_000_000),
         ),
-        (&["another", "run", "p", "--budget", "12", "n", "s"], 12),
+        (
+            &["another", "run", "p", "--budget", "12", "n", "s"],
+            run_within(12),
+        ),
+        (
+            &["emerald", "check", "a.em"],
+            Command::Check(CheckCommand { source: "a.em" }),
+        ),
+        (
+            &["emerald", "check", "run"],
+            Command::Check(CheckCommand { source: "run" }),
+        ),
     ];
-    for (words, budget) in cases {
-        let Some(Command::Run(run)) = words_of(rt.alloc(), words)? else {
-            return Err(Fail::from("no command"));
-        };
-        assert_eq!(rt; run.source, "p");
-        assert_eq!(rt; run.nodes, "n");
-        assert_eq!(rt; run.schedule, "s");
-        assert_eq!(rt; run.budget, budget);
+    for (words, command) in cases {
+        assert_eq!(rt; words_of(rt.alloc(), words)?, Some(command));
     }
     Ok(())
 }
 
 #[test]
 fn words_that_are_none(rt: HostRuntime) -> Result<(), Fail> {
-    let cases: [&[&str]; 20] = [
+    let cases: [&[&str]; 24] = [
         &[],
         &["emerald"],
         &["emerald", "run"],
@@ -50,7 +74,11 @@ fn words_that_are_none(rt: HostRuntime) -> Result<(), Fail> {
         &["emerald", "run", "p", "n", "s", "--budget", "many"],
         &["emerald", "run", "p", "n", "s", "--steps", "7"],
         &["emerald", "run", "p", "n", "-s"],
-        &["emerald", "check", "p"],
+        &["emerald", "check"],
+        &["emerald", "check", "p", "q"],
+        &["emerald", "check", "p", "--budget", "5"],
+        &["emerald", "check", "--budget"],
+        &["emerald", "Check", "p"],
         &["emerald", "mean", "p", "n", "s"],
         &["emerald", "trial", "0"],
         &["emerald", "--help"],

@@ -14,6 +14,8 @@ use std::alloc::{AllocError, Global};
 pub enum Command<'a> {
     /// `run SOURCE NODES SCHEDULE [--budget N]`
     Run(RunCommand<'a>),
+    /// `check SOURCE`
+    Check(CheckCommand<'a>),
 }
 
 /// The words of a run.
@@ -27,6 +29,13 @@ pub struct RunCommand<'a> {
     pub schedule: &'a str,
     /// The most entries that the run does, from 1 to 4,000,000,000.
     pub budget: u32,
+}
+
+/// The words of a check.
+#[derive(Clone, Copy, PartialEq, Eq, Debug)]
+pub struct CheckCommand<'a> {
+    /// The name of the file with the source.
+    pub source: &'a str,
 }
 
 /// The command that the words give, the program's own name first, or none.
@@ -45,7 +54,7 @@ pub fn words_of<'a>(alloc: Global, words: &'a [&'a str]) -> Result<Option<Comman
             }
         }
         Ok(matches) => match matches.subcommand() {
-            Some((_name, found)) => Ok(Some(command_of(found))),
+            Some((name, found)) => Ok(command_of(name, found)),
             None => Ok(None),
         },
     }
@@ -60,7 +69,7 @@ fn emerald<'a>(alloc: Global) -> Result<clap::Command<'a>, AllocError>
         .disable_help_subcommand(true)
         .disable_version_flag(true)
         .subcommand_required(true);
-    plain.subcommand(run(alloc)?)
+    plain.subcommand(run(alloc)?)?.subcommand(check(alloc)?)
 }
 
 fn run<'a>(alloc: Global) -> Result<clap::Command<'a>, AllocError>
@@ -72,6 +81,13 @@ fn run<'a>(alloc: Global) -> Result<clap::Command<'a>, AllocError>
         .arg(required_word(alloc, "nodes"))?
         .arg(required_word(alloc, "schedule"))?
         .arg(budget(alloc))
+}
+
+fn check<'a>(alloc: Global) -> Result<clap::Command<'a>, AllocError>
+    ensures shape { IfOk result (λ c. app_of c ≡ spec.check) }
+    ensures local { IfOk result (λ c. (fields_of c).has_globals ≡ false) }
+{
+    clap::Command::new(alloc, "check").arg(required_word(alloc, "source"))
 }
 
 fn required_word<'a>(alloc: Global, name: &'a str) -> Arg<'a>
@@ -91,22 +107,43 @@ fn budget<'a>(alloc: Global) -> Arg<'a>
         .value_parser(clap::value_parser!(u32).range(1..=4_000_000_000))
 }
 
-/// The command with what was found for its arguments.
-fn command_of<'a>(found: &ArgMatches<'a>) -> Command<'a>
+/// The command of this name, with what was found for its arguments.
+fn command_of<'a>(name: &str, found: &ArgMatches<'a>) -> Option<Command<'a>>
+    requires { name.now ≡ codes "run" → IsBudget (one_of (codes "budget") (rows_of (found_of found.now))) }
+    ensures words { option_map spec.command_in result ≡ spec.command_named name.now (rows_of (found_of found.now)) }
+    ensures budget { IfSome result HasBudget }
+{
+    match name {
+        "run" => Some(Command::Run(run_of(found))),
+        "check" => Some(Command::Check(check_of(found))),
+        _ => None,
+    }
+}
+
+fn run_of<'a>(found: &ArgMatches<'a>) -> RunCommand<'a>
     requires { IsBudget (one_of (codes "budget") (rows_of (found_of found.now))) }
-    ensures words { spec.command_in result ≡ spec.Run (spec.run_words (rows_of (found_of found.now))) }
-    ensures budget { HasBudget result }
+    ensures words { spec.run_in result ≡ spec.run_words (rows_of (found_of found.now)) }
+    ensures least { 1 ≤ result.budget }
+    ensures most { result.budget ≤ 4000000000 }
 {
     let source = text_at("source", found);
     let nodes = text_at("nodes", found);
     let schedule = text_at("schedule", found);
     let budget = budget_in(found);
-    Command::Run(RunCommand {
+    RunCommand {
         source,
         nodes,
         schedule,
         budget,
-    })
+    }
+}
+
+fn check_of<'a>(found: &ArgMatches<'a>) -> CheckCommand<'a>
+    ensures { spec.check_in result ≡ spec.check_words (rows_of (found_of found.now)) }
+{
+    CheckCommand {
+        source: text_at("source", found),
+    }
 }
 
 /// The text that was found for an argument.

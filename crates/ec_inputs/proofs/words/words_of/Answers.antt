@@ -12,16 +12,17 @@ returns-in-Err-clause-words c = sym (refused _ _ _ c.in_ok-command.ensures c.in-
     let g : sameb kind_type c.kind.result kinds.OutOfMemory ≡ true = ap (λ x. sameb kind_type x kinds.OutOfMemory) (c.kind.ensures ∙ e) in cc))
 
 pub command_of-requires : goal.command_of-requires
-command_of-requires c =
+command_of-requires c is_run =
     let m = c.in-Ok.matches in
-    let found : subcommand_rows_of m ≡ Some (c.in-Some._name.now, rows_of (found_of c.in-Some.found.now)) =
+    let found : subcommand_rows_of m ≡ Some (c.in-Some.name.now, rows_of (found_of c.in-Some.found.now)) =
     pairs (subcommand_rows_of m) _ _ (names m ∙ sym c.in-Some.ensures.name) (sym c.in-Some.ensures.rows) in
-    found_budget _ _ _ _ c.in_ok-command.ensures c.in-Ok.ensures.kinds (sym found ∙ (c.in-Ok.ensures.matches (ap is_simple c.in_ok-command.ensures ∙ simple_too)).1)
+    found_budget _ _ _ _ is_run c.in_ok-command.ensures c.in-Ok.ensures.kinds
+    (sym found ∙ (c.in-Ok.ensures.matches (ap is_simple c.in_ok-command.ensures ∙ simple_too)).1)
 
 pub returns-in-Some-clause-words : goal.returns-in-Some-clause-words
 returns-in-Some-clause-words c =
     let m = c.in-Ok.matches in
-    let found : subcommand_rows_of m ≡ Some (c.in-Some._name.now, rows_of (found_of c.in-Some.found.now)) =
+    let found : subcommand_rows_of m ≡ Some (c.in-Some.name.now, rows_of (found_of c.in-Some.found.now)) =
     pairs (subcommand_rows_of m) _ _ (names m ∙ sym c.in-Some.ensures.name) (sym c.in-Some.ensures.rows) in
-    ap (λ x. Some x) c.command_of.ensures.words
+    c.command_of.ensures.words
     ∙ sym (answered _ _ _ c.in_ok-command.ensures c.in-Ok.ensures.kinds (sym found ∙ (c.in-Ok.ensures.matches (ap is_simple c.in_ok-command.ensures ∙ simple_too)).1))
