@@ -1,5 +1,5 @@
--- Two small programs by the definitions: the text is the program's, the run comes to its end after so many entries, and its
--- status and its report are these.
+-- Two small programs by the definitions: the text is the program's where the static rules accept its tree, the run comes to
+-- its end after so many entries, and its status and its report are these.
 use Rattle.std.proofs.Common.{◌≡◌, false, ℕ, zero, suc, ◌<◌, ◌+◌, List, [], ◌∷◌, take, drop, Some, None, codes, refl, subst, arith, lit≤}
 use Rattle.std.specs.Fmt.{digits}
 use Rattle.ec_printing.specs.declared.Program.{Program}
@@ -29,6 +29,7 @@ use Rattle.ec_parser.specs.HasTree as whole
 use Rattle.ec_parser.specs.Nesting.{nestings_of}
 use Rattle.ec_parser.specs.Program.{IsShallow}
 use Rattle.ec_parser.specs.Terminals.{terminal_of_kind, terminal_of_name}
+use Rattle.ec_rules.specs.Faults.{IsAccepted}
 use Rattle.ec_subset.specs.Grammar.{empty as no_constant, word, id, string, mark, print, none, more, object, constant, HasTree, with_constant}
 use Rattle.ec_world.specs.declared.node.Kind.TheVariants.{Riscv}
 use Rattle.ec_world.specs.declared.node.NodeSpec.{NodeSpec}
@@ -38,7 +39,7 @@ use Rattle.ec_meaning.specs.Meaning.{source_meaning, source_silent, source_start
 use Rattle.ec_tool.specs.declared.report.ReportEnd.TheVariants.{Ends}
 use Rattle.ec_tool.specs.declared.status.Status.{Status}
 use Rattle.ec_tool.specs.declared.status.Status.TheVariants as statuses
-use Rattle.ec_tool.specs.Sources.{IsSource}
+use Rattle.ec_tool.specs.Sources.{IsProgram, IsSource}
 use Rattle.ec_tool.specs.Report.{report}
 use Rattle.ec_tool.specs.Emerald.{source_run, status_of}
 
@@ -67,17 +68,21 @@ text_of program k count = report (source_run program 1 [] k).world (one_node ∷
 abbrev empty : Program
 empty = record { constant = None }
 
-pub empty_is_source : IsSource [] empty
+-- the tree of the whole language
+abbrev empty_whole : WholeProgram
+empty_whole = record { constants = [] }
+
+pub empty_is_program : IsAccepted empty_whole → IsProgram [] [] empty_whole
 unfolding nestings_of
-empty_is_source = record {
-  tokens = [];
+empty_is_program accepted = record {
   has_tokens = record { short = lit≤ tt; all = ended };
-  whole_program = record { constants = [] };
-  has_whole = whole.HasTree.program whole.AreConstants.none;
+  has_tree = whole.HasTree.program whole.AreConstants.none;
   shallow = tt;
-  has_tree = no_constant;
-  is_accepted = refl;
+  is_accepted = accepted;
 }
+
+pub empty_is_source : IsAccepted empty_whole → IsSource [] empty
+empty_is_source accepted = record { tokens = []; whole_program = empty_whole; is_program = empty_is_program accepted; is_printing = no_constant }
 
 empty_goes_on : (j : ℕ) → j < 2 → end_of budget (source_run empty 1 [] j) ≡ None
 unfolding run_after
@@ -211,16 +216,16 @@ hello_is_shallow : IsShallow hello_tokens
 unfolding nestings_of terminal_of_kind terminal_of_name
 hello_is_shallow = (lit≤ tt, (lit≤ tt, (lit≤ tt, (lit≤ tt, (lit≤ tt, (lit≤ tt, (lit≤ tt, (lit≤ tt, (lit≤ tt, (lit≤ tt, (lit≤ tt, (lit≤ tt, (lit≤ tt, (lit≤ tt, (lit≤ tt, (lit≤ tt, tt))))))))))))))))
 
-pub hello_is_source : IsSource hello_source hello
-hello_is_source = record {
-  tokens = hello_tokens;
+pub hello_is_program : IsAccepted hello_whole → IsProgram hello_source hello_tokens hello_whole
+hello_is_program accepted = record {
   has_tokens = record { short = lit≤ tt; all = hello_has_tokens };
-  whole_program = hello_whole;
-  has_whole = hello_has_whole;
+  has_tree = hello_has_whole;
   shallow = hello_is_shallow;
-  has_tree = hello_has_tree;
-  is_accepted = refl;
+  is_accepted = accepted;
 }
+
+pub hello_is_source : IsAccepted hello_whole → IsSource hello_source hello
+hello_is_source accepted = record { tokens = hello_tokens; whole_program = hello_whole; is_program = hello_is_program accepted; is_printing = hello_has_tree }
 
 hello_goes_on : (j : ℕ) → j < 7 → end_of budget (source_run hello 1 [] j) ≡ None
 unfolding run_after

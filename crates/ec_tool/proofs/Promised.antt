@@ -2,24 +2,25 @@
 use Rattle.std.proofs.Common.{◌≡◌, ◌⊎◌, inl, inr, ⊎_elim, ℕ, List, ◌++◌, Option, Some, None, Ok, Err, refl, sym, ap, subst, ◌∙◌}
 use Rattle.ec_inputs.specs.Nodes.{NodesOf}
 use Rattle.ec_inputs.specs.Schedules.{EntriesOf}
-use Rattle.ec_inputs.specs.Words.{RunWords, WordsOf, CommandWords as command}
+use Rattle.ec_inputs.specs.Words.{RunWords, CheckWords, WordsOf, CommandWords as command}
 use Rattle.ec_outside.specs.Fault.{HasRisen}
 use Rattle.ec_outside.specs.Whole.{IsWhole}
 use Rattle.ec_network.specs.Net.{Net}
 use Rattle.ec_tool.specs.declared.status.Status.{Status}
 use Rattle.ec_tool.specs.declared.status.Status.TheVariants as statuses
-use Rattle.ec_tool.specs.declared.source.Refusal.{Refusal}
 use Rattle.ec_tool.specs.Inputs.{usage_line}
-use Rattle.ec_tool.specs.Sources.{IsSource, IsRefused, refused_line}
-use Rattle.ec_tool.proofs.Sources.{not_refused}
+use Rattle.ec_tool.specs.Sources.{IsChecked, IsSource}
+use Rattle.ec_tool.proofs.Sources.{not_faulty, not_refused}
 use Rattle.ec_tool.specs.Emerald.{Verdict, Answers, name_of_file, file_limit}
-use Rattle.ec_tool.specs.Emerald.Verdict.{NoCommand, ReadFailed, SourceRefused, NodesRefused, ScheduleRefused, IsRun}
+use Rattle.ec_tool.specs.Emerald.Verdict.{NoCommand, ReadFailed, SourceRefused, NodesRefused, ScheduleRefused, IsRun, CheckReadFailed, CheckRefused, Accepts}
 use Rattle.ec_tool.specs.Emerald.Answers.{Written, Broken}
-use Rattle.ec_tool.specs.Promises.{IsRunStatus, HasReadFault, IsNoSource, IsNoInput, IsAccepted, HasRun, NoneRisen}
+use Rattle.ec_tool.specs.Promises.{IsRunStatus, HasReadFault, IsNoSource, IsNoInput, IsAccepted, HasRun, NoneRisen, IsAcceptedCheck, HasAccepted}
+use Rattle.ec_tool.specs.Promises.HasReadFault.{InRun, InCheck}
+use Rattle.ec_tool.specs.Promises.IsNoSource.{ByRun, ByCheck}
 use Rattle.ec_tool.specs.Promises.BreaksRule.{ByNodes, BySchedule}
 use Rattle.ec_tool.specs.Promises.IsRunStatus.{Finishes, Fails, Spends, Fills, Sticks}
 use Rattle.ec_tool.specs.Steps.{IsByFiles, Plain, Comes, Came}
-use Rattle.ec_tool.specs.Steps.IsByFiles.{RefusesSource, RefusesInput, EndsRun}
+use Rattle.ec_tool.specs.Steps.IsByFiles.{RefusesSource, RefusesInput, EndsRun, AcceptsSource}
 use Rattle.ec_tool.specs.Steps.Plain.{ByWords, ByFault, ByFiles}
 use Rattle.ec_tool.proofs.Verdicts.{run_status}
 
@@ -41,6 +42,7 @@ files_verdict : {s : Status} → IsByFiles s → IsVerdict s
 files_verdict RefusesSource = record { not_fault = λ e. cc; not_memory = λ e. cc }
 files_verdict RefusesInput = record { not_fault = λ e. cc; not_memory = λ e. cc }
 files_verdict (EndsRun s r) = run_is_verdict r
+files_verdict AcceptsSource = record { not_fault = λ e. cc; not_memory = λ e. cc }
 
 run_is_not : {s : Status} → IsRunStatus s → (s ≡ statuses.Usage → ⊥) × (s ≡ statuses.ReadFault → ⊥) × (s ≡ statuses.SourceRefused → ⊥) × (s ≡ statuses.InputRefused → ⊥)
 run_is_not Finishes = ((λ e. cc), (λ e. cc), (λ e. cc), (λ e. cc))
@@ -53,29 +55,34 @@ files_is_not : {s : Status} → IsByFiles s → (s ≡ statuses.Usage → ⊥) �
 files_is_not RefusesSource = ((λ e. cc), (λ e. cc))
 files_is_not RefusesInput = ((λ e. cc), (λ e. cc))
 files_is_not (EndsRun s r) = let n = run_is_not r in (n.0, n.1)
+files_is_not AcceptsSource = ((λ e. cc), (λ e. cc))
 
 -- ---- what a status says, whether or not the shelf tells its files
 
 module _ (words : List (List ℕ)) (faults faults' : List ℕ → ℕ) where
   plain_verdict : {s : Status} {t : List ℕ} → Plain words faults faults' s t → IsVerdict s
   plain_verdict (ByWords w) = record { not_fault = λ e. cc; not_memory = λ e. cc }
-  plain_verdict (ByFault run file w h) = record { not_fault = λ e. cc; not_memory = λ e. cc }
-  plain_verdict (ByFiles run s t w f) = files_verdict f
+  plain_verdict (ByFault text h) = record { not_fault = λ e. cc; not_memory = λ e. cc }
+  plain_verdict (ByFiles asked s t w f) = files_verdict f
 
   plain_usage : {s : Status} {t : List ℕ} → Plain words faults faults' s t → s ≡ statuses.Usage → (WordsOf words ≡ None) × (t ≡ usage_line)
   plain_usage (ByWords w) e = (w, refl)
-  plain_usage (ByFault run file w h) e = cc
-  plain_usage (ByFiles run s t w f) e = absurd ((files_is_not f).0 e)
+  plain_usage (ByFault text h) e = cc
+  plain_usage (ByFiles asked s t w f) e = absurd ((files_is_not f).0 e)
 
   plain_fault : {s : Status} {t : List ℕ} → Plain words faults faults' s t → s ≡ statuses.ReadFault → HasReadFault words faults faults' t
   plain_fault (ByWords w) e = cc
-  plain_fault (ByFault run file w h) e = record { run = run; file = file; words_are = w; risen = h; line = refl }
-  plain_fault (ByFiles run s t w f) e = absurd ((files_is_not f).1 e)
+  plain_fault (ByFault text h) e = h
+  plain_fault (ByFiles asked s t w f) e = absurd ((files_is_not f).1 e)
+
+  no_fault : {t : List ℕ} → HasReadFault words faults faults' t → WordsOf words ≡ None → ⊥
+  no_fault (InRun run file w h) e = cc
+  no_fault (InCheck check w h) e = cc
 
   plain_none : {s : Status} {t : List ℕ} → Plain words faults faults' s t → WordsOf words ≡ None → s ≡ statuses.Usage
   plain_none (ByWords w) e = refl
-  plain_none (ByFault run file w h) e = cc
-  plain_none (ByFiles run s t w f) e = cc
+  plain_none (ByFault text h) e = absurd (no_fault h e)
+  plain_none (ByFiles asked s t w f) e = cc
 
 -- ---- what a status says where the shelf tells its files
 
@@ -84,10 +91,13 @@ module _ (words : List (List ℕ)) (content : List ℕ → Option (List ℕ)) (f
   verdict_source (NoCommand w n) e = cc
   verdict_source (ReadFailed run file w h n) e = cc
   verdict_source (SourceRefused run source nodes schedule refusal at w r h n) e =
-      (record { run = run; source = source; nodes = nodes; schedule = schedule; words_are = w; are_read = r; refusal = refusal; at = at; refused = h; line = refl }, n)
+      (ByRun run source nodes schedule refusal at w r h, n)
   verdict_source (NodesRefused run source nodes schedule program rule w r i h n) e = cc
   verdict_source (ScheduleRefused run source nodes schedule program specs rule line w r i m h n) e = cc
   verdict_source (IsRun run source nodes schedule program specs entries s t w r i m k runs) e = absurd ((run_is_not (run_status runs)).2 e)
+  verdict_source (CheckReadFailed check w h n) e = cc
+  verdict_source (CheckRefused check source refusal at w r h n) e = (ByCheck check source refusal at w r h, n)
+  verdict_source (Accepts check source w r h n) e = cc
 
   verdict_input : {s : Status} {t : List ℕ} → Verdict words content faults faults' net net' s t → s ≡ statuses.InputRefused → IsNoInput words content t × (net' ≡ net)
   verdict_input (NoCommand w n) e = cc
@@ -98,15 +108,34 @@ module _ (words : List (List ℕ)) (content : List ℕ → Option (List ℕ)) (f
   verdict_input (ScheduleRefused run source nodes schedule program specs rule line w r i m h n) e =
       (record { run = run; source = source; nodes = nodes; schedule = schedule; program = program; words_are = w; are_read = r; is_source = i; breaks = BySchedule specs rule line m h }, n)
   verdict_input (IsRun run source nodes schedule program specs entries s t w r i m k runs) e = absurd ((run_is_not (run_status runs)).3 e)
+  verdict_input (CheckReadFailed check w h n) e = cc
+  verdict_input (CheckRefused check source refusal at w r h n) e = cc
+  verdict_input (Accepts check source w r h n) e = cc
 
-  verdict_run : {s : Status} {t : List ℕ} → Verdict words content faults faults' net net' s t → IsRunStatus s → HasRun words content net net' s t
-  verdict_run (NoCommand w n) e = elim e [ ]
-  verdict_run (ReadFailed run file w h n) e = elim e [ ]
-  verdict_run (SourceRefused run source nodes schedule refusal at w r h n) e = elim e [ ]
-  verdict_run (NodesRefused run source nodes schedule program rule w r i h n) e = elim e [ ]
-  verdict_run (ScheduleRefused run source nodes schedule program specs rule line w r i m h n) e = elim e [ ]
-  verdict_run (IsRun run source nodes schedule program specs entries s t w r i m k runs) e =
-      record { accepted = record { run = run; source = source; nodes = nodes; schedule = schedule; program = program; specs = specs; entries = entries; words_are = w; are_read = r; is_source = i; nodes_are = m; entries_are = k }; runs = runs }
+  -- a run has ended so, or a check has accepted
+  abbrev Ended : Status → List ℕ → Type 0
+  Ended s t = HasRun words content net net' s t ⊎ ((s ≡ statuses.Finished) × HasAccepted words content net net' t)
+
+  verdict_ended : {s : Status} {t : List ℕ} → Verdict words content faults faults' net net' s t → IsRunStatus s → Ended s t
+  verdict_ended (NoCommand w n) e = elim e [ ]
+  verdict_ended (ReadFailed run file w h n) e = elim e [ ]
+  verdict_ended (SourceRefused run source nodes schedule refusal at w r h n) e = elim e [ ]
+  verdict_ended (NodesRefused run source nodes schedule program rule w r i h n) e = elim e [ ]
+  verdict_ended (ScheduleRefused run source nodes schedule program specs rule line w r i m h n) e = elim e [ ]
+  verdict_ended (IsRun run source nodes schedule program specs entries s t w r i m k runs) e =
+      inl (record { accepted = record { run = run; source = source; nodes = nodes; schedule = schedule; program = program; specs = specs; entries = entries; words_are = w; are_read = r; is_source = i; nodes_are = m; entries_are = k }; runs = runs })
+  verdict_ended (CheckReadFailed check w h n) e = elim e [ ]
+  verdict_ended (CheckRefused check source refusal at w r h n) e = elim e [ ]
+  verdict_ended (Accepts check source w r h n) e =
+      inr (refl, record { accepted = record { check = check; source = source; words_are = w; is_read = r; is_checked = h }; unchanged = n; line = refl })
+
+  only_run : (s : Status) (t : List ℕ) → (s ≡ statuses.Finished → ⊥) → Ended s t → HasRun words content net net' s t
+  only_run s t n (inl h) = h
+  only_run s t n (inr h) = absurd (n h.0)
+
+  either : (s : Status) (t : List ℕ) → Ended s t → HasRun words content net net' s t ⊎ HasAccepted words content net net' t
+  either s t (inl h) = inl h
+  either s t (inr h) = inr h.1
 
   -- a file is read whole in one way
   same_whole : (file : Option (List ℕ)) (limit : ℕ) (a b : List ℕ) → IsWhole file limit a → IsWhole file limit b → a ≡ b
@@ -136,6 +165,29 @@ module _ (words : List (List ℕ)) (content : List ℕ → Option (List ℕ)) (f
       let y : Err (rule, line) ≡ Ok a.entries = sym h ∙ (ap EntriesOf k ∙ a.entries_are) in
       cc
   verdict_accepted (IsRun run source nodes schedule program specs entries s t w r i m k runs) a quiet = run_status runs
+  verdict_accepted (CheckReadFailed check w h n) a quiet = let u = a.words_are in cc
+  verdict_accepted (CheckRefused check source refusal at w r h n) a quiet = let u = a.words_are in cc
+  verdict_accepted (Accepts check source w r h n) a quiet = let u = a.words_are in cc
+
+  same_check : (check other : CheckWords) → WordsOf words ≡ Some (command.Check check) → WordsOf words ≡ Some (command.Check other) → other ≡ check
+  same_check check other e f = cc
+
+  verdict_checked : {s : Status} {t : List ℕ} → Verdict words content faults faults' net net' s t → (a : IsAcceptedCheck words content) →
+      ¬ HasRisen (faults a.check.source) (faults' a.check.source) → s ≡ statuses.Finished
+  verdict_checked (NoCommand w n) a quiet = let h = a.words_are in cc
+  verdict_checked (ReadFailed run file w h n) a quiet = let u = a.words_are in cc
+  verdict_checked (SourceRefused run source nodes schedule refusal at w r h n) a quiet = let u = a.words_are in cc
+  verdict_checked (NodesRefused run source nodes schedule program rule w r i h n) a quiet = let u = a.words_are in cc
+  verdict_checked (ScheduleRefused run source nodes schedule program specs rule line w r i m h n) a quiet = let u = a.words_are in cc
+  verdict_checked (IsRun run source nodes schedule program specs entries s t w r i m k runs) a quiet = let u = a.words_are in cc
+  verdict_checked (CheckReadFailed check w h n) a quiet =
+      let e : check ≡ a.check = same_check a.check check a.words_are w in
+      absurd (quiet (subst (λ (c : CheckWords). HasRisen (faults c.source) (faults' c.source)) e h))
+  verdict_checked (CheckRefused check source refusal at w r h n) a quiet =
+      let e : check ≡ a.check = same_check a.check check a.words_are w in
+      let f : source ≡ a.source = same_whole (content a.check.source) file_limit source a.source (subst (λ (c : CheckWords). IsWhole (content c.source) file_limit source) e r) a.is_read in
+      absurd (not_faulty (subst (λ (k : List ℕ). IsChecked k) (sym f) a.is_checked) h)
+  verdict_checked (Accepts check source w r h n) a quiet = refl
 
 -- the whole text is written where the sink met no fault
 text_written : {taken taken' text : List ℕ} {count count' : ℕ} {status result : Status} → Answers taken taken' count count' status text result → (result ≡ statuses.WriteFault → ⊥) → taken' ≡ taken ++ text
@@ -219,16 +271,31 @@ module _ (FilesTold TakenTold : Type 0) (words : List (List ℕ)) (content : Lis
       let p = verdict_input words content faults faults' net net' (t.outcome.verdict f) t.status_is in
       (t.outcome.text, p.0, p.1, t.written)
 
-  pub ran_of : (s : Status) → IsRunStatus s → FilesTold → result ≡ s → (text : List ℕ) × HasRun words content net net' s text × (TakenTold → taken' ≡ taken ++ text)
-  ran_of s r f e =
+  pub ran_of : (s : Status) → IsRunStatus s → (s ≡ statuses.Finished → ⊥) → FilesTold → result ≡ s → (text : List ℕ) × HasRun words content net net' s text × (TakenTold → taken' ≡ taken ++ text)
+  ran_of s r n f e =
       let t = told_of s (run_is_verdict r) e in
-      (t.outcome.text, verdict_run words content faults faults' net net' (subst (λ (k : Status). Verdict words content faults faults' net net' k t.outcome.text) t.status_is (t.outcome.verdict f)) r, t.written)
+      (t.outcome.text, only_run words content faults faults' net net' s t.outcome.text n (verdict_ended words content faults faults' net net' (subst (λ (k : Status). Verdict words content faults faults' net net' k t.outcome.text) t.status_is (t.outcome.verdict f)) r), t.written)
+
+  pub finished_of : FilesTold → result ≡ statuses.Finished → (text : List ℕ) × (HasRun words content net net' statuses.Finished text ⊎ HasAccepted words content net net' text) × (TakenTold → taken' ≡ taken ++ text)
+  finished_of f e =
+      let t = told_of statuses.Finished (run_is_verdict Finishes) e in
+      let v : Verdict words content faults faults' net net' statuses.Finished t.outcome.text = subst (λ (k : Status). Verdict words content faults faults' net net' k t.outcome.text) t.status_is (t.outcome.verdict f) in
+      (t.outcome.text, either words content faults faults' net net' statuses.Finished t.outcome.text (verdict_ended words content faults faults' net net' v Finishes), t.written)
 
   pub complete_of : FilesTold → (a : IsAccepted words content) → NoneRisen a.run faults faults' → ¬ HasRisen count count' → IsRunStatus result ⊎ (result ≡ statuses.NoMemory)
   complete_of f a quiet calm = ⊎_elim
       (λ (h : (result ≡ statuses.NoMemory) × (taken' ≡ taken) × (count' ≡ count)). inr h.0)
       (λ (h : Outcome). ⊎_elim
       (λ (i : result ≡ h.status). inl (subst (λ (k : Status). IsRunStatus k) (sym i) (verdict_accepted words content faults faults' net net' (h.verdict f) a quiet)))
+      (λ (i : (result ≡ statuses.WriteFault) × HasRisen count count'). absurd (calm i.1))
+      h.is)
+      came
+
+  pub complete_check_of : FilesTold → (a : IsAcceptedCheck words content) → ¬ HasRisen (faults a.check.source) (faults' a.check.source) → ¬ HasRisen count count' → (result ≡ statuses.Finished) ⊎ (result ≡ statuses.NoMemory)
+  complete_check_of f a quiet calm = ⊎_elim
+      (λ (h : (result ≡ statuses.NoMemory) × (taken' ≡ taken) × (count' ≡ count)). inr h.0)
+      (λ (h : Outcome). ⊎_elim
+      (λ (i : result ≡ h.status). inl (i ∙ verdict_checked words content faults faults' net net' (h.verdict f) a quiet))
       (λ (i : (result ≡ statuses.WriteFault) × HasRisen count count'). absurd (calm i.1))
       h.is)
       came

@@ -1,5 +1,5 @@
 -- A source is judged in one way only: it is one program's, or it is refused for one reason at one place.
-use Rattle.std.proofs.Common.{◌≡◌, ℕ, zero, suc, ◌+◌, ◌<◌, ◌≤◌, List, [], ◌∷◌, ◌++◌, length, take, drop, ◌⊎◌, inl, inr, Option, Some, None, refl, sym, ◌∙◌, ap, subst, arith, append_assoc}
+use Rattle.std.proofs.Common.{◌≡◌, ℕ, zero, suc, ◌+◌, ◌^◌, ◌<◌, ◌≤◌, List, [], ◌∷◌, ◌++◌, length, take, drop, ◌⊎◌, inl, inr, Option, Some, None, refl, sym, ◌∙◌, ap, subst, arith, append_assoc, length-append}
 use Rattle.std.specs.Prelude.{slice_get}
 use Rattle.std.proofs.lemmas.Bool.{cases_lt}
 use Rattle.std.proofs.lemmas.List.{take-append-drop, take-take}
@@ -13,26 +13,28 @@ use Rattle.ec_lexer.specs.Lexemes.{begins}
 use Rattle.ec_lexer.specs.Tokens.{HasTokens, IsToken}
 use Rattle.ec_lexer.specs.Words.{Bytes}
 use Rattle.ec_lexer.proofs.Lexing.{reads_separator, reads_token, reads_fault}
-use Rattle.ec_lexer.proofs.Reading.{same_tokens, no_tokens}
+use Rattle.ec_lexer.proofs.Reading.{few_tokens, same_tokens, no_tokens}
 use Rattle.ec_parser.specs.HasTree as whole
 use Rattle.ec_parser.specs.declared.grammar.Opened.{Opened}
 use Rattle.ec_parser.specs.Nesting.{Behind, behind, other, open_at, nestings_from, nestings_of}
 use Rattle.ec_parser.specs.Terminals.{terminal_of}
 use Rattle.ec_parser.specs.Program.{AreShallow, Begins, BeginsNone, IsDeep, IsShallow, IsSyntax}
-use Rattle.ec_printing.specs.declared.Constant.{Constant}
+use Rattle.ec_parser.proofs.OneTree.{same_tree as same_whole_tree}
 use Rattle.ec_printing.specs.declared.Program.{Program}
+use Rattle.ec_printing.specs.declared.Statement.{Statement}
 use Rattle.ec_subset.specs.Grammar as printing
 use Rattle.ec_subset.specs.Leaving.{IsOutside}
 use Rattle.ec_subset.proofs.Outside.{same_place}
 use Rattle.ec_subset.proofs.Trees.{same_tree}
-use Rattle.ec_check.specs.declared.StaticFault.{StaticFault}
-use Rattle.ec_check.specs.Faults.{StaticFaults, IsAccepted}
-use Rattle.ec_check.proofs.Accepted.{not_accepted}
-use Rattle.ec_check.proofs.Sizes.{few_statements}
-use Rattle.ec_lower.specs.Short.{IsShort, IsShortIf}
+use Rattle.ec_rules.specs.declared.StaticFault.{StaticFault}
+use Rattle.ec_rules.specs.Faults.{HasFaults, IsAccepted}
+use Rattle.ec_rules.proofs.OneList.{same_faults}
+use Rattle.ec_lower.specs.Short.{IsShort}
 use Rattle.ec_tool.specs.declared.source.Refusal.{Refusal}
 use Rattle.ec_tool.specs.declared.source.Refusal.TheVariants.{Lexical, Syntax, Deep, Later, Static}
-use Rattle.ec_tool.specs.Sources.{IsSource, IsRefused, lexical, syntax, deep, later, static_rule, place_of}
+use Rattle.ec_tool.specs.declared.source.SourceError.{SourceError}
+use Rattle.ec_tool.specs.declared.source.SourceError.TheVariants.{Refused, Memory}
+use Rattle.ec_tool.specs.Sources.{IsProgram, IsChecked, IsSource, IsFaulty, IsRefused, IsFault as IsFaultIn, IsCause, lexical, syntax, deep, static_rule, faulty as is_faulty, later, place_of}
 
 -- ---- a text has at most one first fault
 
@@ -77,11 +79,11 @@ same_fault_from (behind_separator {n = n} s r) d = same_fault_from r (fault_of_s
 same_fault_from (behind_token t r) d = same_fault_from r (fault_of_token t d)
 
 -- a text has at most one first fault
-same_fault : (text : Bytes) (p q : ℕ) (j k : LexFault) → HasFault text p j → HasFault text q k → (p ≡ q) × (j ≡ k)
-same_fault text p q j k (too_long l) (too_long m) = (refl, refl)
-same_fault text p q j k (too_long l) (first m f) = absurd (omega arith)
-same_fault text p q j k (first l f) (too_long m) = absurd (omega arith)
-same_fault text p q j k (first l f) (first m g) = same_fault_from f g
+same_lexical : (text : Bytes) (p q : ℕ) (j k : LexFault) → HasFault text p j → HasFault text q k → (p ≡ q) × (j ≡ k)
+same_lexical text p q j k (too_long l) (too_long m) = (refl, refl)
+same_lexical text p q j k (too_long l) (first m f) = absurd (omega arith)
+same_lexical text p q j k (first l f) (too_long m) = absurd (omega arith)
+same_lexical text p q j k (first l f) (first m g) = same_fault_from f g
 
 -- ---- tokens fail to be a program's at one place only
 
@@ -152,83 +154,117 @@ syntax_or_deep ts j k a b (inr h) = let l = b.within in begins_later ts j (k + 1
 
 -- ---- a text is judged in one way only
 
--- the refusals of a text that has tokens
-data IsRefusedOn (text : List ℕ) (ts : List Token) : Refusal → ℕ → Type 0 where
-  by_syntax : {k : ℕ} → IsSyntax ts k → IsRefusedOn text ts Syntax (place_of text ts k)
-  by_depth : {k : ℕ} → IsDeep ts k → IsRefusedOn text ts Deep (place_of text ts k)
-  by_part : {w : WholeProgram} {k : ℕ} → whole.HasTree ts w → IsShallow ts → IsOutside ts k → IsRefusedOn text ts Later (place_of text ts k)
-  by_rule : {w : WholeProgram} {p : Program} {fault : StaticFault} → whole.HasTree ts w → IsShallow ts → printing.HasTree ts p →
-      slice_get (StaticFaults p) 0 ≡ Some fault → IsRefusedOn text ts (Static fault.rule) fault.at.from
+-- how a text that has tokens is no program's
+data IsFaultyOn (text : List ℕ) (ts : List Token) : Refusal → ℕ → Type 0 where
+  by_syntax : {k : ℕ} → IsSyntax ts k → IsFaultyOn text ts Syntax (place_of text ts k)
+  by_depth : {k : ℕ} → IsDeep ts k → IsFaultyOn text ts Deep (place_of text ts k)
+  by_rule : {w : WholeProgram} {faults : List StaticFault} {fault : StaticFault} → whole.HasTree ts w → IsShallow ts → HasFaults w faults →
+      slice_get faults 0 ≡ Some fault → IsFaultyOn text ts (Static fault.rule) fault.at.from
 
-refused_on : {text : List ℕ} {r : Refusal} {at : ℕ} → IsRefused text r at → (ts : List Token) → HasTokens text ts → IsRefusedOn text ts r at
-refused_on (lexical f) ts h = absurd (no_tokens f ts h)
-refused_on {text} {r} {at} (syntax {tokens} g s) ts h = subst (λ us. IsRefusedOn text us r at) (same_tokens text tokens ts g h) (by_syntax s)
-refused_on {text} {r} {at} (deep {tokens} g d) ts h = subst (λ us. IsRefusedOn text us r at) (same_tokens text tokens ts g h) (by_depth d)
-refused_on {text} {r} {at} (later {tokens} g w s o) ts h = subst (λ us. IsRefusedOn text us r at) (same_tokens text tokens ts g h) (by_part w s o)
-refused_on {text} {r} {at} (static_rule {tokens} g w s t e) ts h = subst (λ us. IsRefusedOn text us r at) (same_tokens text tokens ts g h) (by_rule w s t e)
+faulty_on : {text : List ℕ} {r : Refusal} {at : ℕ} → IsFaulty text r at → (ts : List Token) → HasTokens text ts → IsFaultyOn text ts r at
+faulty_on (lexical f) ts h = absurd (no_tokens f ts h)
+faulty_on {text} {r} {at} (syntax {tokens} g s) ts h = subst (λ us. IsFaultyOn text us r at) (same_tokens text tokens ts g h) (by_syntax s)
+faulty_on {text} {r} {at} (deep {tokens} g d) ts h = subst (λ us. IsFaultyOn text us r at) (same_tokens text tokens ts g h) (by_depth d)
+faulty_on {text} {r} {at} (static_rule {tokens} g w s f e) ts h = subst (λ us. IsFaultyOn text us r at) (same_tokens text tokens ts g h) (by_rule w s f e)
 
-same_first : (ts : List Token) (p q : Program) (f g : StaticFault) → printing.HasTree ts p → printing.HasTree ts q →
-    slice_get (StaticFaults p) 0 ≡ Some f → slice_get (StaticFaults q) 0 ≡ Some g → f ≡ g
-same_first ts p q f g t u e d =
-    let same : slice_get (StaticFaults p) 0 ≡ slice_get (StaticFaults q) 0 = ap (λ x. slice_get (StaticFaults x) 0) (same_tree ts p q t u) in
+-- the first fault of tokens is one
+same_first : (ts : List Token) (w v : WholeProgram) (fs gs : List StaticFault) (f g : StaticFault) → whole.HasTree ts w → whole.HasTree ts v →
+    HasFaults w fs → HasFaults v gs → slice_get fs 0 ≡ Some f → slice_get gs 0 ≡ Some g → f ≡ g
+same_first ts w v fs gs f g t u has have e d =
+    let as_v = subst (λ x. HasFaults x fs) (same_whole_tree ts w v t u) has in
+    let same : fs ≡ gs = same_faults v fs gs as_v have in
+    let first : slice_get fs 0 ≡ slice_get gs 0 = ap (λ x. slice_get x 0) same in
     cc
 
-same_on : {text : List ℕ} {ts : List Token} {r s : Refusal} {at to : ℕ} → IsRefusedOn text ts r at → IsRefusedOn text ts s to → (r ≡ s) × (at ≡ to)
+same_on : {text : List ℕ} {ts : List Token} {r s : Refusal} {at to : ℕ} → IsFaultyOn text ts r at → IsFaultyOn text ts s to → (r ≡ s) × (at ≡ to)
 same_on {text} {ts} (by_syntax {k = j} a) (by_syntax {k} b) = (refl, ap (λ x. place_of text ts x) (same_syntax ts j k a b))
 same_on {text} {ts} (by_syntax {k = j} a) (by_depth {k} b) = absurd (syntax_or_deep ts j k a b (cases_lt k j))
-same_on (by_syntax a) (by_part {w} h s o) = absurd (a.no_program w h)
-same_on (by_syntax a) (by_rule {w} h s t e) = absurd (a.no_program w h)
+same_on (by_syntax a) (by_rule {w} h s f e) = absurd (a.no_program w h)
 same_on {text} {ts} (by_depth {k = j} a) (by_syntax {k} b) = absurd (syntax_or_deep ts k j b a (cases_lt j k))
 same_on {text} {ts} (by_depth {k = j} a) (by_depth {k} b) = (refl, ap (λ x. place_of text ts x) (same_deep ts j k a b))
-same_on {text} {ts} (by_depth {k = j} a) (by_part h s o) = absurd (no_deep ts j s a)
-same_on {text} {ts} (by_depth {k = j} a) (by_rule h s t e) = absurd (no_deep ts j s a)
-same_on (by_part {w} h s o) (by_syntax b) = absurd (b.no_program w h)
-same_on {text} {ts} (by_part h s o) (by_depth {k} b) = absurd (no_deep ts k s b)
-same_on {text} {ts} (by_part {k = j} h s o) (by_part {k} g t p) = (refl, ap (λ x. place_of text ts x) (same_place ts j k o p))
-same_on (by_part h s o) (by_rule {p} g t u e) = absurd (o.no_program p u)
-same_on (by_rule {w} h s t e) (by_syntax b) = absurd (b.no_program w h)
-same_on {text} {ts} (by_rule h s t e) (by_depth {k} b) = absurd (no_deep ts k s b)
-same_on (by_rule {p} h s t e) (by_part g u o) = absurd (o.no_program p t)
-same_on {text} {ts} (by_rule {p} {fault = f} h s t e) (by_rule {p = q} {fault = g} i u v d) =
-    let same = same_first ts p q f g t v e d in
+same_on {text} {ts} (by_depth {k = j} a) (by_rule h s f e) = absurd (no_deep ts j s a)
+same_on (by_rule {w} h s f e) (by_syntax b) = absurd (b.no_program w h)
+same_on {text} {ts} (by_rule h s f e) (by_depth {k} b) = absurd (no_deep ts k s b)
+same_on {text} {ts} (by_rule {w} {faults = fs} {fault = f} h s a e) (by_rule {w = v} {faults = gs} {fault = g} i u b d) =
+    let same = same_first ts w v fs gs f g h i a b e d in
     (ap (λ x. Static x.rule) same, ap (λ x. x.at.from) same)
+
+-- a text is no program's for one reason at one place only
+pub same_fault : {text : List ℕ} {r s : Refusal} {at to : ℕ} → IsFaulty text r at → IsFaulty text s to → (r ≡ s) × (at ≡ to)
+same_fault {text} (lexical {at = p} {fault = j} f) (lexical {at = q} {fault = k} g) =
+    let same = same_lexical text p q j k f g in
+    (ap Lexical same.1, same.0)
+same_fault (lexical f) (syntax {tokens} g s) = absurd (no_tokens f tokens g)
+same_fault (lexical f) (deep {tokens} g d) = absurd (no_tokens f tokens g)
+same_fault (lexical f) (static_rule {tokens} g w s h e) = absurd (no_tokens f tokens g)
+same_fault (syntax {tokens} g s) d = same_on (by_syntax s) (faulty_on d tokens g)
+same_fault (deep {tokens} g s) d = same_on (by_depth s) (faulty_on d tokens g)
+same_fault (static_rule {tokens} g w s h e) d = same_on (by_rule w s h e) (faulty_on d tokens g)
+
+no_fault_on : {text : List ℕ} {ts : List Token} {w : WholeProgram} {r : Refusal} {at : ℕ} → IsProgram text ts w → IsFaultyOn text ts r at → ⊥
+no_fault_on {w = w} p (by_syntax a) = a.no_program w p.has_tree
+no_fault_on {ts = ts} p (by_depth {k} a) = no_deep ts k p.shallow a
+no_fault_on {ts = ts} {w = w} p (by_rule {w = v} {faults = fs} h s a e) =
+    let as_w = subst (λ x. HasFaults x fs) (same_whole_tree ts v w h p.has_tree) a in
+    let none : fs ≡ [] = same_faults w fs [] as_w p.is_accepted in
+    let first : slice_get fs 0 ≡ None = ap (λ x. slice_get x 0) none in
+    cc
+
+-- the text of a program is not faulty
+pub not_faulty : {text : List ℕ} {r : Refusal} {at : ℕ} → IsChecked text → IsFaulty text r at → ⊥
+not_faulty c f = no_fault_on c.is_program (faulty_on f c.tokens c.is_program.has_tokens)
+
+-- the tokens of a text are one list, wherever they leave the printing part
+outside_on : {text : List ℕ} {ts us : List Token} {w : WholeProgram} {k : ℕ} → IsProgram text us w → HasTokens text ts → IsOutside us k → IsOutside ts k
+outside_on {text} {ts} {us} {k = k} p h o = subst (λ x. IsOutside x k) (same_tokens text us ts p.has_tokens h) o
 
 -- a text is refused for one reason at one place only
 pub same_refusal : {text : List ℕ} {r s : Refusal} {at to : ℕ} → IsRefused text r at → IsRefused text s to → (r ≡ s) × (at ≡ to)
-same_refusal {text} (lexical {at = p} {fault = j} f) (lexical {at = q} {fault = k} g) =
-    let same = same_fault text p q j k f g in
-    (ap Lexical same.1, same.0)
-same_refusal (lexical f) (syntax {tokens} g s) = absurd (no_tokens f tokens g)
-same_refusal (lexical f) (deep {tokens} g d) = absurd (no_tokens f tokens g)
-same_refusal (lexical f) (later {tokens} g w s o) = absurd (no_tokens f tokens g)
-same_refusal (lexical f) (static_rule {tokens} g w s t e) = absurd (no_tokens f tokens g)
-same_refusal (syntax {tokens} g s) d = same_on (by_syntax s) (refused_on d tokens g)
-same_refusal (deep {tokens} g s) d = same_on (by_depth s) (refused_on d tokens g)
-same_refusal (later {tokens} g w s o) d = same_on (by_part w s o) (refused_on d tokens g)
-same_refusal (static_rule {tokens} g w s t e) d = same_on (by_rule w s t e) (refused_on d tokens g)
+same_refusal (is_faulty f) (is_faulty g) = same_fault f g
+same_refusal (is_faulty f) (later {tokens} {program} p o) = absurd (not_faulty (record { tokens = tokens; program = program; is_program = p }) f)
+same_refusal (later {tokens} {program} p o) (is_faulty f) = absurd (not_faulty (record { tokens = tokens; program = program; is_program = p }) f)
+same_refusal {text} (later {tokens = ts} {k = j} p o) (later {tokens = us} {k} q n) =
+    let same : us ≡ ts = same_tokens text us ts q.has_tokens p.has_tokens in
+    (refl, ap (λ x. place_of text ts x) (same_place ts j k o (outside_on q p.has_tokens n)) ∙ ap (λ x. place_of text x k) (sym same))
 
-not_refused_on : {text : List ℕ} {program : Program} {r : Refusal} {at : ℕ} (s : IsSource text program) → IsRefusedOn text s.tokens r at → ⊥
-not_refused_on s (by_syntax a) = a.no_program s.whole_program s.has_whole
-not_refused_on s (by_depth {k} a) = no_deep s.tokens k s.shallow a
-not_refused_on {text} {program} s (by_part w h o) = o.no_program program s.has_tree
-not_refused_on {text} {program} s (by_rule {p} {fault} w h t e) =
-    let same : p ≡ program = same_tree s.tokens p program t s.has_tree in
-    not_accepted program fault (subst (λ x. slice_get (StaticFaults x) 0 ≡ Some fault) same e) s.is_accepted
-
--- the text of a program is not refused
+-- the text of a program that is run today is not refused
 pub not_refused : {text : List ℕ} {program : Program} {r : Refusal} {at : ℕ} → IsSource text program → IsRefused text r at → ⊥
-not_refused s d = not_refused_on s (refused_on d s.tokens s.has_tokens)
+not_refused s (is_faulty f) = not_faulty (record { tokens = s.tokens; program = s.whole_program; is_program = s.is_program }) f
+not_refused {program = program} s (later p o) = (outside_on p s.is_program.has_tokens o).no_program program s.is_printing
 
 -- a text is one program's only
 pub same_program : (text : List ℕ) (p q : Program) → IsSource text p → IsSource text q → p ≡ q
 same_program text p q s t =
-    same_tree t.tokens p q (subst (λ ts. printing.HasTree ts p) (same_tokens text s.tokens t.tokens s.has_tokens t.has_tokens) s.has_tree) t.has_tree
+    same_tree t.tokens p q (subst (λ ts. printing.HasTree ts p) (same_tokens text s.tokens t.tokens s.is_program.has_tokens t.is_program.has_tokens) s.is_printing) t.is_printing
+
+-- ---- what the steps of judging a text find
+
+-- a program without a first fault is accepted
+pub accepted : (program : WholeProgram) (faults : List StaticFault) → HasFaults program faults → None ≡ slice_get faults 0 → IsAccepted program
+accepted program [] h e = h
+accepted program (f ∷ fs) h e = cc
+
+-- why a text is no program's is also why it isn't run
+pub cause_of : (text : List ℕ) (e : SourceError) → IsFaultIn text e → IsCause text e
+cause_of text (Refused refused) f = is_faulty f
+cause_of text Memory f = tt
 
 -- ---- a program is short enough to be lowered
 
-short_if : (program : Program) (constant : Option Constant) → program.constant ≡ constant → IsAccepted program → IsShortIf constant
-short_if program None e a = tt
-short_if program (Some constant) e a = let few = few_statements program constant e a in omega arith
+-- a statement has a token
+few_statements : {tokens : List Token} {statements : List Statement} → printing.AreStatements tokens statements → length statements ≤ length tokens
+few_statements printing.none = omega arith
+few_statements (printing.more (printing.print p) others) = let few = few_statements others in omega arith
+
+short_tree : {tokens : List Token} {program : Program} → length tokens ≤ 2 ^ 20 → printing.HasTree tokens program → IsShort program
+short_tree l printing.empty = tt
+short_tree l (printing.with_constant (printing.constant (printing.object a b c d e f g are))) =
+    let few = few_statements are in
+    let long = simp length-append at l in
+    omega arith
 
 pub short_source : (text : List ℕ) (program : Program) → IsSource text program → IsShort program
-short_source text program s = short_if program program.constant refl s.is_accepted
+short_source text program s =
+    let few = few_tokens s.is_program.has_tokens in
+    let short = s.is_program.has_tokens.short in
+    short_tree (omega arith) s.is_printing

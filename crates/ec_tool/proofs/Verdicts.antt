@@ -12,28 +12,32 @@ use Rattle.ec_inputs.specs.declared.schedule.ScheduleRule.{ScheduleRule}
 use Rattle.ec_inputs.specs.Nodes.{NodesOf}
 use Rattle.ec_inputs.specs.Schedules.{EntriesOf}
 use Rattle.ec_inputs.specs.declared.words.Command.{Command}
-use Rattle.ec_inputs.specs.Words.{RunWords, WordsOf, CommandWords, CommandWords as command, command_in}
+use Rattle.ec_inputs.specs.Words.{RunWords, CheckWords, WordsOf, CommandWords, CommandWords as command, command_in}
 use Rattle.ec_inputs.proofs.NoEntries.{no_entries}
 use Rattle.ec_inputs.proofs.OneNode.{one_node}
 use Rattle.ec_outside.specs.Fault.{HasRisen}
+use Rattle.ec_outside.specs.Whole.{IsWhole}
 use Rattle.ec_network.specs.Net.{Net, IsOneNode}
 use Rattle.ec_tool.specs.declared.status.Status.{Status}
 use Rattle.ec_tool.specs.declared.status.Status.TheVariants as statuses
 use Rattle.ec_tool.specs.declared.files.FileOf.{FileOf}
+use Rattle.ec_tool.specs.declared.files.FileOf.TheVariants.{Source}
 use Rattle.ec_tool.specs.declared.report.ReportEnd.{ReportEnd}
 use Rattle.ec_tool.specs.declared.report.ReportEnd.TheVariants.{Ends, IsFull}
 use Rattle.ec_tool.specs.declared.source.Refusal.{Refusal}
 use Rattle.ec_tool.specs.Inputs.{usage_line}
-use Rattle.ec_tool.specs.Sources.{IsSource, IsRefused, refused_line}
+use Rattle.ec_tool.specs.Sources.{IsChecked, IsSource, IsFaulty, IsRefused, accepted_line, refused_line}
 use Rattle.ec_tool.specs.Refusals.{nodes_line, schedule_line}
-use Rattle.ec_tool.specs.Emerald.{RunsTo, AreRead, Verdict, name_of_file, fault_line, any_failed, finished_status, status_of, source_run}
+use Rattle.ec_tool.specs.Emerald.{RunsTo, AreRead, Verdict, name_of_file, fault_line, file_limit, any_failed, finished_status, status_of, source_run}
 use Rattle.ec_tool.specs.Emerald.RunsTo.{LoadIsFull, RanUntil}
-use Rattle.ec_tool.specs.Emerald.Verdict.{NoCommand, ReadFailed, SourceRefused, NodesRefused, ScheduleRefused, IsRun}
+use Rattle.ec_tool.specs.Emerald.Verdict.{NoCommand, ReadFailed, SourceRefused, NodesRefused, ScheduleRefused, IsRun, CheckReadFailed, CheckRefused, Accepts}
 use Rattle.ec_tool.specs.Promises.{IsRunStatus}
-use Rattle.ec_tool.specs.Steps.{Judged, Plain}
+use Rattle.ec_tool.specs.Promises.HasReadFault.{InRun, InCheck}
+use Rattle.ec_tool.specs.Steps.{Judged, Checked, Plain}
 use Rattle.ec_tool.specs.Promises.IsRunStatus.{Finishes, Fails, Spends, Fills, Sticks}
 use Rattle.ec_tool.specs.Steps.Judged.{NoSource, NoNodes, NoSchedule, Runs}
-use Rattle.ec_tool.specs.Steps.IsByFiles.{RefusesSource, RefusesInput, EndsRun}
+use Rattle.ec_tool.specs.Steps.Checked.{Faulty, Sound}
+use Rattle.ec_tool.specs.Steps.IsByFiles.{RefusesSource, RefusesInput, EndsRun, AcceptsSource}
 use Rattle.ec_tool.specs.Steps.Plain.{ByWords, ByFault, ByFiles}
 
 -- ---- what the inputs that are read so far give
@@ -46,13 +50,13 @@ one_node_read nodes specs e =
 -- ---- words
 
 module _ (words : List (List ℕ)) (found : Option Command) (read : option_map command_in found ≡ WordsOf words) where
-  pub words_of_run : (c : Command) (run : RunWords) → found ≡ Some c → command_in c ≡ command.Run run → WordsOf words ≡ Some (command.Run run)
-  words_of_run c run e f = sym read ∙ (ap (λ (o : Option Command). option_map command_in o) e ∙ ap (λ (x : CommandWords). Some x) f)
+  pub words_of_some : (c : Command) → found ≡ Some c → WordsOf words ≡ Some (command_in c)
+  words_of_some c e = sym read ∙ ap (λ (o : Option Command). option_map command_in o) e
 
   pub words_of_none : found ≡ None → WordsOf words ≡ None
   words_of_none e = sym read ∙ ap (λ (o : Option Command). option_map command_in o) e
 
--- ---- files that were read
+-- ---- the files of a run
 
 module _ (source nodes schedule : List ℕ) (budget : ℕ) (net net' : Net) (status : Status) (text : List ℕ) where
   pub source_refused : (refusal : Refusal) (at : ℕ) → IsRefused source refusal at → net' ≡ net → status ≡ statuses.SourceRefused → text ≡ refused_line source refusal at → Judged source nodes schedule budget net net' status text
@@ -66,6 +70,17 @@ module _ (source nodes schedule : List ℕ) (budget : ℕ) (net net' : Net) (sta
 
   pub is_run : (program : Program) (specs : List NodeSpec) (entries : List Entry) → IsSource source program → NodesOf nodes ≡ Ok specs → EntriesOf schedule ≡ Ok entries → RunsTo program specs [] budget net net' status text → Judged source nodes schedule budget net net' status text
   is_run program specs entries is n e r = Runs program specs entries status text is n e (subst (λ (es : List Entry). RunsTo program specs es budget net net' status text) (sym (no_entries schedule entries e)) r)
+
+-- ---- the file of a check
+
+module _ (source : List ℕ) (status : Status) (text : List ℕ) where
+  pub is_faulty : (refusal : Refusal) (at : ℕ) → IsFaulty source refusal at → status ≡ statuses.SourceRefused → text ≡ refused_line source refusal at → Checked source status text
+  is_faulty refusal at h s t = rw (s, t) (Faulty refusal at h)
+
+  pub is_sound : IsChecked source → status ≡ statuses.Finished → text ≡ accepted_line → Checked source status text
+  is_sound h s t = rw (s, t) (Sound h)
+
+-- ---- the statuses of a run
 
 -- the end of a run has the status of one
 status_ends : (b : Bool) → IsRunStatus (finished_status b)
@@ -82,6 +97,8 @@ pub run_status : {program : Program} {specs : List NodeSpec} {entries : List Ent
 run_status (LoadIsFull ir node need free part m f r) = Fills
 run_status {program} {specs} {entries} (RanUntil ir k how m f n e r) = run_status_of (statuses_of (source_run program (length specs) entries k).world) how
 
+-- ---- the call
+
 module _ (words : List (List ℕ)) (content : List ℕ → Option (List ℕ)) (faults faults' : List ℕ → ℕ) (net net' : Net) (status : Status) (text : List ℕ) where
   pub no_command : WordsOf words ≡ None → net' ≡ net → status ≡ statuses.Usage → text ≡ usage_line → Verdict words content faults faults' net net' status text
   no_command w n s t = rw (s, t) (NoCommand w n)
@@ -94,7 +111,7 @@ module _ (words : List (List ℕ)) (content : List ℕ → Option (List ℕ)) (f
     read_failed file h n s t = rw (s, t) (ReadFailed run file w h n)
 
     pub plain_read_failed : (file : FileOf) → HasRisen (faults (name_of_file run file)) (faults' (name_of_file run file)) → status ≡ statuses.ReadFault → text ≡ fault_line file → Plain words faults faults' status text
-    plain_read_failed file h s t = rw (s, t) (ByFault run file w h)
+    plain_read_failed file h s t = rw (s, t) (ByFault (fault_line file) (InRun run file w h))
 
     judged_verdict_of : {source nodes schedule : List ℕ} {st : Status} {tx : List ℕ} → AreRead content run source nodes schedule → Judged source nodes schedule run.budget net net' st tx → Verdict words content faults faults' net net' st tx
     judged_verdict_of {source} {nodes} {schedule} r (NoSource refusal at h n) = SourceRefused run source nodes schedule refusal at w r h n
@@ -106,10 +123,33 @@ module _ (words : List (List ℕ)) (content : List ℕ → Option (List ℕ)) (f
     judged_verdict source nodes schedule r j = judged_verdict_of r j
 
     judged_plain_of : {source nodes schedule : List ℕ} {st : Status} {tx : List ℕ} → Judged source nodes schedule run.budget net net' st tx → Plain words faults faults' st tx
-    judged_plain_of (NoSource refusal at h n) = ByFiles run _ _ w RefusesSource
-    judged_plain_of (NoNodes program rule is h n) = ByFiles run _ _ w RefusesInput
-    judged_plain_of (NoSchedule program specs rule line is m h n) = ByFiles run _ _ w RefusesInput
-    judged_plain_of (Runs program specs entries st tx is n e k) = ByFiles run st tx w (EndsRun st (run_status k))
+    judged_plain_of (NoSource refusal at h n) = ByFiles (command.Run run) _ _ w RefusesSource
+    judged_plain_of (NoNodes program rule is h n) = ByFiles (command.Run run) _ _ w RefusesInput
+    judged_plain_of (NoSchedule program specs rule line is m h n) = ByFiles (command.Run run) _ _ w RefusesInput
+    judged_plain_of (Runs program specs entries st tx is n e k) = ByFiles (command.Run run) st tx w (EndsRun st (run_status k))
 
     pub judged_plain : (source nodes schedule : List ℕ) → Judged source nodes schedule run.budget net net' status text → Plain words faults faults' status text
     judged_plain source nodes schedule j = judged_plain_of j
+
+  module _ (check : CheckWords) (w : WordsOf words ≡ Some (command.Check check)) where
+    pub check_failed : HasRisen (faults check.source) (faults' check.source) → net' ≡ net → status ≡ statuses.ReadFault → text ≡ fault_line Source → Verdict words content faults faults' net net' status text
+    check_failed h n s t = rw (s, t) (CheckReadFailed check w h n)
+
+    checked_verdict_of : {source : List ℕ} {st : Status} {tx : List ℕ} → IsWhole (content check.source) file_limit source → net' ≡ net → Checked source st tx → Verdict words content faults faults' net net' st tx
+    checked_verdict_of {source} r n (Faulty refusal at h) = CheckRefused check source refusal at w r h n
+    checked_verdict_of {source} r n (Sound h) = Accepts check source w r h n
+
+    pub checked_verdict : (source : List ℕ) → IsWhole (content check.source) file_limit source → net' ≡ net → Checked source status text → Verdict words content faults faults' net net' status text
+    checked_verdict source r n c = checked_verdict_of r n c
+
+-- of a check, whether or not the shelf tells its file
+module _ (words : List (List ℕ)) (faults faults' : List ℕ → ℕ) (status : Status) (text : List ℕ) (check : CheckWords) (w : WordsOf words ≡ Some (command.Check check)) where
+  pub plain_check_failed : HasRisen (faults check.source) (faults' check.source) → status ≡ statuses.ReadFault → text ≡ fault_line Source → Plain words faults faults' status text
+  plain_check_failed h s t = rw (s, t) (ByFault (fault_line Source) (InCheck check w h))
+
+  checked_plain_of : {source : List ℕ} {st : Status} {tx : List ℕ} → Checked source st tx → Plain words faults faults' st tx
+  checked_plain_of (Faulty refusal at h) = ByFiles (command.Check check) _ _ w RefusesSource
+  checked_plain_of (Sound h) = ByFiles (command.Check check) _ _ w AcceptsSource
+
+  pub checked_plain : (source : List ℕ) → Checked source status text → Plain words faults faults' status text
+  checked_plain source c = checked_plain_of c

@@ -22,7 +22,7 @@ use Rattle.ec_inputs.specs.declared.nodes.NodeRule.{NodeRule}
 use Rattle.ec_inputs.specs.declared.schedule.ScheduleRule.{ScheduleRule}
 use Rattle.ec_inputs.specs.Nodes.{NodesOf}
 use Rattle.ec_inputs.specs.Schedules.{EntriesOf}
-use Rattle.ec_inputs.specs.Words.{RunWords, WordsOf, CommandWords as command}
+use Rattle.ec_inputs.specs.Words.{RunWords, CheckWords, WordsOf, CommandWords as command}
 use Rattle.ec_outside.specs.Fault.{HasRisen}
 use Rattle.ec_outside.specs.Whole.{IsWhole, GrowsByFront}
 use Rattle.ec_network.specs.Shows.{IrWorld}
@@ -40,7 +40,7 @@ use Rattle.ec_tool.specs.declared.report.ReportEnd.TheVariants.{Ends, IsFull}
 use Rattle.ec_tool.specs.Report.{report, load_report}
 use Rattle.ec_tool.specs.declared.source.Refusal.{Refusal}
 use Rattle.ec_tool.specs.Inputs.{usage_line}
-use Rattle.ec_tool.specs.Sources.{IsSource, IsRefused, refused_line}
+use Rattle.ec_tool.specs.Sources.{IsChecked, IsSource, IsFaulty, IsRefused, accepted_line, refused_line}
 use Rattle.ec_tool.specs.Refusals.{nodes_line, schedule_line}
 
 -- ---- the run of a source, and that of its code
@@ -154,11 +154,22 @@ pub record AreRead (content : List ℕ → Option (List ℕ)) (words : RunWords)
 -- one came.
 pub data Verdict (words : List (List ℕ)) (content : List ℕ → Option (List ℕ)) (faults faults' : List ℕ → ℕ) (net net' : Net) : Status → List ℕ → Type 0 where
   NoCommand : WordsOf words ≡ None → net' ≡ net → Verdict words content faults faults' net net' statuses.Usage usage_line
+  -- a run
   ReadFailed : (run : RunWords) (file : FileOf) → WordsOf words ≡ Some (command.Run run) → HasRisen (faults (name_of_file run file)) (faults' (name_of_file run file)) → net' ≡ net → Verdict words content faults faults' net net' statuses.ReadFault (fault_line file)
   SourceRefused : (run : RunWords) (source nodes schedule : List ℕ) (refusal : Refusal) (at : ℕ) → WordsOf words ≡ Some (command.Run run) → AreRead content run source nodes schedule → IsRefused source refusal at → net' ≡ net → Verdict words content faults faults' net net' statuses.SourceRefused (refused_line source refusal at)
   NodesRefused : (run : RunWords) (source nodes schedule : List ℕ) (program : Program) (rule : NodeRule) → WordsOf words ≡ Some (command.Run run) → AreRead content run source nodes schedule → IsSource source program → NodesOf nodes ≡ Err rule → net' ≡ net → Verdict words content faults faults' net net' statuses.InputRefused (nodes_line rule)
   ScheduleRefused : (run : RunWords) (source nodes schedule : List ℕ) (program : Program) (specs : List NodeSpec) (rule : ScheduleRule) (line : Option ℕ) → WordsOf words ≡ Some (command.Run run) → AreRead content run source nodes schedule → IsSource source program → NodesOf nodes ≡ Ok specs → EntriesOf schedule ≡ Err (rule, line) → net' ≡ net → Verdict words content faults faults' net net' statuses.InputRefused (schedule_line rule line)
   IsRun : (run : RunWords) (source nodes schedule : List ℕ) (program : Program) (specs : List NodeSpec) (entries : List Entry) (status : Status) (text : List ℕ) → WordsOf words ≡ Some (command.Run run) → AreRead content run source nodes schedule → IsSource source program → NodesOf nodes ≡ Ok specs → EntriesOf schedule ≡ Ok entries → RunsTo program specs entries run.budget net net' status text → Verdict words content faults faults' net net' status text
+  -- a check
+  CheckReadFailed : (check : CheckWords) → WordsOf words ≡ Some (command.Check check) →
+      HasRisen (faults check.source) (faults' check.source) → net' ≡ net →
+      Verdict words content faults faults' net net' statuses.ReadFault (fault_line Source)
+  CheckRefused : (check : CheckWords) (source : List ℕ) (refusal : Refusal) (at : ℕ) → WordsOf words ≡ Some (command.Check check) →
+      IsWhole (content check.source) file_limit source → IsFaulty source refusal at → net' ≡ net →
+      Verdict words content faults faults' net net' statuses.SourceRefused (refused_line source refusal at)
+  Accepts : (check : CheckWords) (source : List ℕ) → WordsOf words ≡ Some (command.Check check) →
+      IsWhole (content check.source) file_limit source → IsChecked source → net' ≡ net →
+      Verdict words content faults faults' net net' statuses.Finished accepted_line
 
 -- what the call answers of a verdict: the status and the whole text written, or a fault of the sink and a front of it
 pub data Answers (taken taken' : List ℕ) (faults faults' : ℕ) (status : Status) (text : List ℕ) : Status → Type 0 where

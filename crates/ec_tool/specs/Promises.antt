@@ -7,16 +7,18 @@ use Rattle.ec_inputs.specs.declared.nodes.NodeRule.{NodeRule}
 use Rattle.ec_inputs.specs.declared.schedule.ScheduleRule.{ScheduleRule}
 use Rattle.ec_inputs.specs.Nodes.{NodesOf}
 use Rattle.ec_inputs.specs.Schedules.{EntriesOf}
-use Rattle.ec_inputs.specs.Words.{RunWords, WordsOf, CommandWords as command}
+use Rattle.ec_inputs.specs.Words.{RunWords, CheckWords, WordsOf, CommandWords as command}
 use Rattle.ec_outside.specs.Fault.{HasRisen}
+use Rattle.ec_outside.specs.Whole.{IsWhole}
 use Rattle.ec_network.specs.Net.{Net}
 use Rattle.ec_tool.specs.declared.status.Status.{Status}
 use Rattle.ec_tool.specs.declared.status.Status.TheVariants as statuses
 use Rattle.ec_tool.specs.declared.files.FileOf.{FileOf}
+use Rattle.ec_tool.specs.declared.files.FileOf.TheVariants.{Source}
 use Rattle.ec_tool.specs.declared.source.Refusal.{Refusal}
-use Rattle.ec_tool.specs.Sources.{IsSource, IsRefused, refused_line}
+use Rattle.ec_tool.specs.Sources.{IsChecked, IsSource, IsFaulty, IsRefused, accepted_line, refused_line}
 use Rattle.ec_tool.specs.Refusals.{nodes_line, schedule_line}
-use Rattle.ec_tool.specs.Emerald.{RunsTo, AreRead, name_of_file, fault_line}
+use Rattle.ec_tool.specs.Emerald.{RunsTo, AreRead, name_of_file, fault_line, file_limit}
 
 -- the end of a run, by itself or as a node is full
 pub data IsRunStatus : Status → Type 0 where
@@ -27,25 +29,19 @@ pub data IsRunStatus : Status → Type 0 where
   Sticks : IsRunStatus statuses.Stuck
 
 -- the words name a file whose count of faults has risen, and the text is that file's line
-pub record HasReadFault (words : List (List ℕ)) (faults faults' : List ℕ → ℕ) (text : List ℕ) : Type 0 where
-  pub run : RunWords
-  pub file : FileOf
-  pub words_are : WordsOf words ≡ Some (command.Run run)
-  pub risen : HasRisen (faults (name_of_file run file)) (faults' (name_of_file run file))
-  pub line : text ≡ fault_line file
+pub data HasReadFault (words : List (List ℕ)) (faults faults' : List ℕ → ℕ) : List ℕ → Type 0 where
+  InRun : (run : RunWords) (file : FileOf) → WordsOf words ≡ Some (command.Run run) →
+      HasRisen (faults (name_of_file run file)) (faults' (name_of_file run file)) → HasReadFault words faults faults' (fault_line file)
+  InCheck : (check : CheckWords) → WordsOf words ≡ Some (command.Check check) →
+      HasRisen (faults check.source) (faults' check.source) → HasReadFault words faults faults' (fault_line Source)
 
--- the files were read whole, and the source is refused, as the text says
-pub record IsNoSource (words : List (List ℕ)) (content : List ℕ → Option (List ℕ)) (text : List ℕ) : Type 0 where
-  pub run : RunWords
-  pub source : List ℕ
-  pub nodes : List ℕ
-  pub schedule : List ℕ
-  pub words_are : WordsOf words ≡ Some (command.Run run)
-  pub are_read : AreRead content run source nodes schedule
-  pub refusal : Refusal
-  pub at : ℕ
-  pub refused : IsRefused source refusal at
-  pub line : text ≡ refused_line source refusal at
+-- The files were read whole, and the source is refused, as the text says: by a run, which also refuses programs that aren't
+-- run today, or by a check.
+pub data IsNoSource (words : List (List ℕ)) (content : List ℕ → Option (List ℕ)) : List ℕ → Type 0 where
+  ByRun : (run : RunWords) (source nodes schedule : List ℕ) (refusal : Refusal) (at : ℕ) → WordsOf words ≡ Some (command.Run run) →
+      AreRead content run source nodes schedule → IsRefused source refusal at → IsNoSource words content (refused_line source refusal at)
+  ByCheck : (check : CheckWords) (source : List ℕ) (refusal : Refusal) (at : ℕ) → WordsOf words ≡ Some (command.Check check) →
+      IsWhole (content check.source) file_limit source → IsFaulty source refusal at → IsNoSource words content (refused_line source refusal at)
 
 -- the node file breaks a rule, or the nodes are there and the schedule breaks one; and the line that says so
 pub data BreaksRule (nodes schedule : List ℕ) : List ℕ → Type 0 where
@@ -64,7 +60,7 @@ pub record IsNoInput (words : List (List ℕ)) (content : List ℕ → Option (L
   pub is_source : IsSource source program
   pub breaks : BreaksRule nodes schedule text
 
--- a command whose files were read whole and are accepted
+-- a run whose files were read whole and are accepted
 pub record IsAccepted (words : List (List ℕ)) (content : List ℕ → Option (List ℕ)) : Type 0 where
   pub run : RunWords
   pub source : List ℕ
@@ -79,11 +75,25 @@ pub record IsAccepted (words : List (List ℕ)) (content : List ℕ → Option (
   pub nodes_are : NodesOf nodes ≡ Ok specs
   pub entries_are : EntriesOf schedule ≡ Ok entries
 
--- an accepted command was run to this status, with this text
+-- an accepted run was done to this status, with this text
 pub record HasRun (words : List (List ℕ)) (content : List ℕ → Option (List ℕ)) (net net' : Net) (status : Status) (text : List ℕ) : Type 0 where
   pub accepted : IsAccepted words content
   pub runs : RunsTo accepted.program accepted.specs accepted.entries accepted.run.budget net net' status text
 
--- no count of a file that the command names has risen
+-- a check whose file was read whole and is a program's
+pub record IsAcceptedCheck (words : List (List ℕ)) (content : List ℕ → Option (List ℕ)) : Type 0 where
+  pub check : CheckWords
+  pub source : List ℕ
+  pub words_are : WordsOf words ≡ Some (command.Check check)
+  pub is_read : IsWhole (content check.source) file_limit source
+  pub is_checked : IsChecked source
+
+-- an accepted check has said so, and left the network as it was
+pub record HasAccepted (words : List (List ℕ)) (content : List ℕ → Option (List ℕ)) (net net' : Net) (text : List ℕ) : Type 0 where
+  pub accepted : IsAcceptedCheck words content
+  pub unchanged : net' ≡ net
+  pub line : text ≡ accepted_line
+
+-- no count of a file that the run names has risen
 abbrev pub NoneRisen : RunWords → (List ℕ → ℕ) → (List ℕ → ℕ) → Type 0
 NoneRisen run faults faults' = (file : FileOf) → ¬ HasRisen (faults (name_of_file run file)) (faults' (name_of_file run file))

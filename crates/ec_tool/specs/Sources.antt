@@ -1,20 +1,21 @@
--- A source is judged: it is the text of a program that is run today, or it is refused for one reason at one place.
+-- A source is judged: it is the text of a program, or it is refused for one reason at one place. Of the programs a part is
+-- run today.
 use Rattle.std.specs.Prelude.{◌≡◌, ℕ, List, [], ◌∷◌, ◌++◌, length, Option, Some, None, slice_get, codes}
-use Rattle.ec_ast.specs.declared.Program.{Program as WholeProgram}
+use Rattle.ec_ast.specs.declared.Program.{Program}
 use Rattle.ec_lexer.specs.declared.error.LexFault.{LexFault}
 use Rattle.ec_lexer.specs.declared.error.LexFault.TheVariants.{StrayByte, UnclosedString, UnknownEscape, LargeInteger, TextTooLong}
 use Rattle.ec_lexer.specs.declared.token.Token.{Token}
 use Rattle.ec_lexer.specs.Faults.{HasFault}
 use Rattle.ec_lexer.specs.Tokens.{HasTokens}
-use Rattle.ec_parser.specs.HasTree as whole
+use Rattle.ec_parser.specs.HasTree.{HasTree}
 use Rattle.ec_parser.specs.Program.{IsDeep, IsShallow, IsSyntax}
-use Rattle.ec_printing.specs.declared.Program.{Program}
+use Rattle.ec_printing.specs.declared.Program.{Program as Printing}
 use Rattle.ec_subset.specs.Grammar as printing
 use Rattle.ec_subset.specs.Leaving.{IsOutside}
-use Rattle.ec_check.specs.declared.Rule.{Rule}
-use Rattle.ec_check.specs.declared.Rule.TheVariants.{EndName, Size}
-use Rattle.ec_check.specs.declared.StaticFault.{StaticFault}
-use Rattle.ec_check.specs.Faults.{IsAccepted, StaticFaults}
+use Rattle.ec_rules.specs.declared.Rule.{Rule}
+use Rattle.ec_rules.specs.declared.Rule.TheVariants as rule
+use Rattle.ec_rules.specs.declared.StaticFault.{StaticFault}
+use Rattle.ec_rules.specs.Faults.{HasFaults, IsAccepted}
 use Rattle.ec_tool.specs.declared.source.Refusal.{Refusal}
 use Rattle.ec_tool.specs.declared.source.Refusal.TheVariants.{Lexical, Syntax, Deep, Later, Static}
 use Rattle.ec_tool.specs.declared.source.SourceError.{SourceError}
@@ -23,16 +24,25 @@ use Rattle.ec_tool.specs.Places.{place_text}
 
 -- ---- programs
 
--- The text is this program's: it has tokens, which have a tree in the whole language with no nesting over 64 and this tree
--- in the printing part, and the tree breaks no static rule.
-pub record IsSource (text : List ℕ) (program : Program) : Type 0 where
-  pub tokens : List Token
+-- The text is this program's: it has tokens, which have this tree with no nesting over 64, and the tree breaks no static rule.
+pub record IsProgram (text : List ℕ) (tokens : List Token) (program : Program) : Type 0 where
   pub has_tokens : HasTokens text tokens
-  pub whole_program : WholeProgram
-  pub has_whole : whole.HasTree tokens whole_program
+  pub has_tree : HasTree tokens program
   pub shallow : IsShallow tokens
-  pub has_tree : printing.HasTree tokens program
   pub is_accepted : IsAccepted program
+
+-- the text is some program's
+pub record IsChecked (text : List ℕ) : Type 0 where
+  pub tokens : List Token
+  pub program : Program
+  pub is_program : IsProgram text tokens program
+
+-- The text is that of a program that is run today: its tokens also have this tree of the printing part.
+pub record IsSource (text : List ℕ) (program : Printing) : Type 0 where
+  pub tokens : List Token
+  pub whole_program : Program
+  pub is_program : IsProgram text tokens whole_program
+  pub is_printing : printing.HasTree tokens program
 
 -- ---- refusals
 
@@ -45,25 +55,32 @@ place_if text None = length text
 abbrev pub place_of : List ℕ → List Token → ℕ → ℕ
 place_of text tokens k = place_if text (slice_get tokens k)
 
--- the text is refused for this reason, at this byte or at its end
-pub data IsRefused (text : List ℕ) : Refusal → ℕ → Type 0 where
+-- the text is no program's, for this reason, at this byte or at its end
+pub data IsFaulty (text : List ℕ) : Refusal → ℕ → Type 0 where
   -- it has no tokens, but a fault
-  lexical : {at : ℕ} {fault : LexFault} → HasFault text at fault → IsRefused text (Lexical fault) at
+  lexical : {at : ℕ} {fault : LexFault} → HasFault text at fault → IsFaulty text (Lexical fault) at
   -- its tokens have no tree: up to this one they begin no program of the language
-  syntax : {tokens : List Token} {k : ℕ} → HasTokens text tokens → IsSyntax tokens k → IsRefused text Syntax (place_of text tokens k)
+  syntax : {tokens : List Token} {k : ℕ} → HasTokens text tokens → IsSyntax tokens k → IsFaulty text Syntax (place_of text tokens k)
   -- this token is the first whose nesting is over 64
-  deep : {tokens : List Token} {k : ℕ} → HasTokens text tokens → IsDeep tokens k → IsRefused text Deep (place_of text tokens k)
-  -- it is a program of the language, but up to this token its tokens begin none of the printing part
-  later : {tokens : List Token} {whole_program : WholeProgram} {k : ℕ} →
-      HasTokens text tokens → whole.HasTree tokens whole_program → IsShallow tokens → IsOutside tokens k →
-      IsRefused text Later (place_of text tokens k)
+  deep : {tokens : List Token} {k : ℕ} → HasTokens text tokens → IsDeep tokens k → IsFaulty text Deep (place_of text tokens k)
   -- its tree breaks a static rule: this is the first fault
-  static_rule : {tokens : List Token} {whole_program : WholeProgram} {program : Program} {fault : StaticFault} →
-      HasTokens text tokens → whole.HasTree tokens whole_program → IsShallow tokens → printing.HasTree tokens program →
-      slice_get (StaticFaults program) 0 ≡ Some fault →
-      IsRefused text (Static fault.rule) fault.at.from
+  static_rule : {tokens : List Token} {program : Program} {faults : List StaticFault} {fault : StaticFault} →
+      HasTokens text tokens → HasTree tokens program → IsShallow tokens → HasFaults program faults → slice_get faults 0 ≡ Some fault →
+      IsFaulty text (Static fault.rule) fault.at.from
 
--- the error is why the text is refused, or want of memory
+-- the text isn't run today, for this reason, at this byte or at its end
+pub data IsRefused (text : List ℕ) : Refusal → ℕ → Type 0 where
+  faulty : {refusal : Refusal} {at : ℕ} → IsFaulty text refusal at → IsRefused text refusal at
+  -- it is a program's, but up to this token its tokens begin none of the printing part
+  later : {tokens : List Token} {program : Program} {k : ℕ} →
+      IsProgram text tokens program → IsOutside tokens k → IsRefused text Later (place_of text tokens k)
+
+-- the error is why the text is no program's, or want of memory
+abbrev pub IsFault : List ℕ → SourceError → Type 0
+IsFault text (Refused refused) = IsFaulty text refused.refusal refused.at
+IsFault text Memory = Unit {0}
+
+-- the error is why the text isn't run, or want of memory
 abbrev pub IsCause : List ℕ → SourceError → Type 0
 IsCause text (Refused refused) = IsRefused text refused.refusal refused.at
 IsCause text Memory = Unit {0}
@@ -77,9 +94,24 @@ fault_name UnknownEscape = codes "L3"
 fault_name LargeInteger = codes "L4"
 fault_name TextTooLong = codes "L5"
 
+-- `E` and the number of the rule in the table of rules
 abbrev pub rule_name : Rule → List ℕ
-rule_name EndName = codes "E3"
-rule_name Size = codes "E16"
+rule_name rule.UnknownName = codes "E1"
+rule_name rule.DoubledName = codes "E2"
+rule_name rule.EndName = codes "E3"
+rule_name rule.Mismatch = codes "E4"
+rule_name rule.NoOperation = codes "E5"
+rule_name rule.Arity = codes "E6"
+rule_name rule.Assignment = codes "E7"
+rule_name rule.Condition = codes "E8"
+rule_name rule.AttachedValue = codes "E9"
+rule_name rule.ExitOutside = codes "E10"
+rule_name rule.ManyTypes = codes "E11"
+rule_name rule.ManyOperations = codes "E12"
+rule_name rule.ManyFields = codes "E13"
+rule_name rule.ManyParameters = codes "E14"
+rule_name rule.ManyVariables = codes "E15"
+rule_name rule.Size = codes "E16"
 
 abbrev pub refusal_name : Refusal → List ℕ
 refusal_name (Lexical fault) = fault_name fault
@@ -90,3 +122,8 @@ refusal_name (Static rule) = rule_name rule
 
 abbrev pub refused_line : List ℕ → Refusal → ℕ → List ℕ
 refused_line text refusal at = codes "refused " ++ refusal_name refusal ++ codes " at " ++ place_text text at ++ 10 ∷ []
+
+-- ---- the line that says that a text is a program's
+
+abbrev pub accepted_line : List ℕ
+accepted_line = codes "accepted" ++ 10 ∷ []

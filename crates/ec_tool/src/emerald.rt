@@ -1,24 +1,24 @@
 //! The call of the program: the files are read, the source is checked and run, and the text is written at the end.
 ghost use Rattle.std.specs.Prelude.{◌≡◌, ◌⊎◌, ℕ, ◌≤◌, List, ◌++◌, None, map, IfOk};
-ghost use Rattle.ec_inputs.specs.Words.{WordsOf, HasBudget, command_in, run_in, Run as ARun};
+ghost use Rattle.ec_inputs.specs.Words.{WordsOf, run_in, check_in, Run as ARun, Check as ACheck};
 ghost use Rattle.ec_outside.specs.Fault.{HasRisen};
-ghost use Rattle.ec_network.specs.Net.{empty_net};
+ghost use Rattle.ec_network.specs.Net.{Net as ANet, empty_net};
 ghost use Rattle.ec_tool.specs.declared.status.Status.{Status as AStatus};
 ghost use Rattle.ec_tool.specs.Emerald.{Verdict, Answers};
 ghost use Rattle.ec_tool.specs.Inputs.{usage_line};
 ghost use Rattle.ec_tool.specs.Sources.{IsSource};
-ghost use Rattle.ec_tool.specs.Promises.{IsRunStatus, HasReadFault, IsNoSource, IsNoInput, IsAccepted, HasRun, NoneRisen};
-ghost use Rattle.ec_tool.specs.Steps.{Judged, Plain, Came};
+ghost use Rattle.ec_tool.specs.Promises.{IsRunStatus, HasReadFault, IsNoSource, IsNoInput, IsAccepted, HasRun, NoneRisen, IsAcceptedCheck, HasAccepted};
+ghost use Rattle.ec_tool.specs.Steps.{Judged, Checked, Plain, Came, WhereAsked};
 
 use crate::answer::{Answer, answer_with};
-use crate::files::{Files, Unread, read_fault, read_files};
+use crate::files::{FileOf, Files, Unread, read_fault, read_file, read_files};
 use crate::refusal::{nodes_refused, schedule_refused};
 use crate::run::run;
-use crate::source::{SourceError, read_source, source_refused};
+use crate::source::{SourceError, check_source, read_source, source_refused};
 use crate::status::Status;
 use ec_inputs::nodes::{NodesError, read_nodes};
 use ec_inputs::schedule::{ScheduleError, read_schedule};
-use ec_inputs::words::{Command, RunCommand, words_of};
+use ec_inputs::words::{CheckCommand, Command, RunCommand, words_of};
 use ec_network::network::Network;
 use ec_outside::shelf::Shelf;
 use ec_outside::sink::Sink;
@@ -54,7 +54,7 @@ fn run_on(
     }
 }
 
-/// Judges files that were read whole, and runs the source.
+/// Judges the files of a run that were read whole, and runs the source.
 fn judge(alloc: Global, files: &Files, budget: u32, net: &mut Network) -> Result<Answer, AllocError>
     requires budget { budget ≤ 4000000000 }
     requires empty { net.old ≡ empty_net }
@@ -67,14 +67,49 @@ fn judge(alloc: Global, files: &Files, budget: u32, net: &mut Network) -> Result
     }
 }
 
-/// The words of a command to run, the only one so far.
-fn run_of<'a>(command: Command<'a>) -> RunCommand<'a>
-    requires { HasBudget command }
-    ensures words { command_in command.entry ≡ ARun (run_in result) }
-    ensures budget { result.budget ≤ 4000000000 }
+/// The status and the text of a run.
+fn answer_run<F: Shelf>(
+    alloc: Global,
+    shelf: &mut F,
+    run: RunCommand,
+    net: &mut Network,
+) -> Result<Answer, AllocError>
+    requires budget { run.budget ≤ 4000000000 }
+    requires empty { net.old ≡ empty_net }
+    ensures verdict { IfOk result (λ answer. F.tells shelf.old → WhereAsked (ARun (run_in run.entry)) (λ words. Verdict words (F.content shelf.old) (F.faults shelf.old) (F.faults shelf.new) net.old net.new answer.status answer.text.items)) }
+    ensures plain { IfOk result (λ answer. WhereAsked (ARun (run_in run.entry)) (λ words. Plain words (F.faults shelf.old) (F.faults shelf.new) answer.status answer.text.items)) }
 {
-    match command {
-        Command::Run(run) => run,
+    match read_files(alloc, shelf, run) {
+        Ok(files) => judge(alloc, &files, run.budget, net),
+        Err(Unread::Failed(file)) => read_fault(alloc, file),
+        Err(Unread::Memory) => Err(AllocError),
+    }
+}
+
+/// Judges the source of a check that was read whole.
+fn judge_source(alloc: Global, source: &[u8]) -> Result<Answer, AllocError>
+    ensures { IfOk result (λ answer. Checked source.now answer.status answer.text.items) }
+{
+    match check_source(alloc, source) {
+        Ok(_) => answer_with(alloc, Status::Finished, b"accepted\n"),
+        Err(SourceError::Refused(refused)) => source_refused(alloc, source, refused),
+        Err(SourceError::Memory) => Err(AllocError),
+    }
+}
+
+/// The status and the text of a check, which leaves each network as it is.
+fn answer_check<F: Shelf>(
+    alloc: Global,
+    shelf: &mut F,
+    check: CheckCommand,
+) -> Result<Answer, AllocError>
+    ensures verdict { IfOk result (λ answer. (net : ANet) → F.tells shelf.old → WhereAsked (ACheck (check_in check.entry)) (λ words. Verdict words (F.content shelf.old) (F.faults shelf.old) (F.faults shelf.new) net net answer.status answer.text.items)) }
+    ensures plain { IfOk result (λ answer. WhereAsked (ACheck (check_in check.entry)) (λ words. Plain words (F.faults shelf.old) (F.faults shelf.new) answer.status answer.text.items)) }
+{
+    match read_file(alloc, shelf, check.source, FileOf::Source) {
+        Ok(source) => judge_source(alloc, &source),
+        Err(Unread::Failed(file)) => read_fault(alloc, file),
+        Err(Unread::Memory) => Err(AllocError),
     }
 }
 
@@ -89,14 +124,10 @@ fn answer<'a, F: Shelf>(
     ensures verdict { IfOk result (λ answer. F.tells shelf.old → Verdict (map (λ word. word.now) words.now) (F.content shelf.old) (F.faults shelf.old) (F.faults shelf.new) net.old net.new answer.status answer.text.items) }
     ensures plain { IfOk result (λ answer. Plain (map (λ word. word.now) words.now) (F.faults shelf.old) (F.faults shelf.new) answer.status answer.text.items) }
 {
-    let Some(command) = words_of(alloc, words)? else {
-        return answer_with(alloc, Status::Usage, USAGE_LINE);
-    };
-    let run = run_of(command);
-    match read_files(alloc, shelf, run) {
-        Ok(files) => judge(alloc, &files, run.budget, net),
-        Err(Unread::Failed(file)) => read_fault(alloc, file),
-        Err(Unread::Memory) => Err(AllocError),
+    match words_of(alloc, words)? {
+        Some(Command::Run(run)) => answer_run(alloc, shelf, run, net),
+        Some(Command::Check(check)) => answer_check(alloc, shelf, check),
+        None => answer_with(alloc, Status::Usage, USAGE_LINE),
     }
 }
 
@@ -128,9 +159,9 @@ fn call<'a, F: Shelf, K: Sink>(
     }
 }
 
-/// The program: reads the files that the words name, runs the source that it finds there on the nodes, and writes one
-/// text at the end. `net` is an empty network; what the run leaves of it stays there. Nothing is written where there
-/// was no memory.
+/// The program: reads the files that the words name, runs the source that it finds there on the nodes or only checks it,
+/// and writes one text at the end. `net` is an empty network; what a run leaves of it stays there. Nothing is written
+/// where there was no memory.
 pub fn emerald<'a, F: Shelf, K: Sink>(
     alloc: Global,
     words: &'a [&'a str],
@@ -157,11 +188,19 @@ pub fn emerald<'a, F: Shelf, K: Sink>(
     ensures source_refused { F.tells shelf.old → result ≡ Status.SourceRefused →
         (text : List ℕ) × IsNoSource (map (λ word. word.now) words.now) (F.content shelf.old) text × (net.new ≡ net.old) ×
         (K.tells sink.old → K.taken sink.new ≡ K.taken sink.old ++ text) }
+    ensures write_fault { result ≡ Status.WriteFault → HasRisen (K.faults sink.old) (K.faults sink.new) }
+    ensures no_memory { result ≡ Status.NoMemory →
+        (K.taken sink.new ≡ K.taken sink.old) × (K.faults sink.new ≡ K.faults sink.old) }
+
+    // A run without a failure and an accepted check both end so.
+    ensures finished { F.tells shelf.old → result ≡ Status.Finished →
+        (text : List ℕ) × (HasRun (map (λ word. word.now) words.now) (F.content shelf.old) net.old net.new Status.Finished text ⊎
+        HasAccepted (map (λ word. word.now) words.now) (F.content shelf.old) net.old net.new text) ×
+        (K.tells sink.old → K.taken sink.new ≡ K.taken sink.old ++ text) }
+
+    // Only runs end so.
     ensures input_refused { F.tells shelf.old → result ≡ Status.InputRefused →
         (text : List ℕ) × IsNoInput (map (λ word. word.now) words.now) (F.content shelf.old) text × (net.new ≡ net.old) ×
-        (K.tells sink.old → K.taken sink.new ≡ K.taken sink.old ++ text) }
-    ensures finished { F.tells shelf.old → result ≡ Status.Finished →
-        (text : List ℕ) × HasRun (map (λ word. word.now) words.now) (F.content shelf.old) net.old net.new Status.Finished text ×
         (K.tells sink.old → K.taken sink.new ≡ K.taken sink.old ++ text) }
     ensures some_failed { F.tells shelf.old → result ≡ Status.SomeFailed →
         (text : List ℕ) × HasRun (map (λ word. word.now) words.now) (F.content shelf.old) net.old net.new Status.SomeFailed text ×
@@ -175,15 +214,18 @@ pub fn emerald<'a, F: Shelf, K: Sink>(
     ensures stuck { F.tells shelf.old → result ≡ Status.Stuck →
         (text : List ℕ) × HasRun (map (λ word. word.now) words.now) (F.content shelf.old) net.old net.new Status.Stuck text ×
         (K.tells sink.old → K.taken sink.new ≡ K.taken sink.old ++ text) }
-    ensures write_fault { result ≡ Status.WriteFault → HasRisen (K.faults sink.old) (K.faults sink.new) }
-    ensures no_memory { result ≡ Status.NoMemory →
-        (K.taken sink.new ≡ K.taken sink.old) × (K.faults sink.new ≡ K.faults sink.old) }
 
-    // An accepted command is run, where no file and no sink meets a fault and there is memory.
+    // An accepted run is done, where no file and no sink meets a fault and there is memory.
     ensures complete { F.tells shelf.old → (accepted : IsAccepted (map (λ word. word.now) words.now) (F.content shelf.old)) →
         NoneRisen accepted.run (F.faults shelf.old) (F.faults shelf.new) →
         ¬ HasRisen (K.faults sink.old) (K.faults sink.new) →
         IsRunStatus result ⊎ (result ≡ Status.NoMemory) }
+
+    // An accepted check says so, where neither its file nor the sink meets a fault and there is memory.
+    ensures complete_check { F.tells shelf.old → (accepted : IsAcceptedCheck (map (λ word. word.now) words.now) (F.content shelf.old)) →
+        ¬ HasRisen (F.faults shelf.old accepted.check.source) (F.faults shelf.new accepted.check.source) →
+        ¬ HasRisen (K.faults sink.old) (K.faults sink.new) →
+        (result ≡ Status.Finished) ⊎ (result ≡ Status.NoMemory) }
 {
     call(alloc, words, shelf, sink, net)
 }

@@ -1,4 +1,4 @@
-//! The three files of a run, each read whole.
+//! The files of a call, each read whole.
 ghost use Rattle.std.specs.Prelude.{◌≡◌, IfOk, IfErr, OnOk};
 ghost use Rattle.ec_inputs.specs.Words.{run_in};
 ghost use Rattle.ec_outside.specs.Fault.{HasRisen};
@@ -59,7 +59,7 @@ pub(crate) fn read_files<F: Shelf>(
 }
 
 /// Reads one of the files whole.
-fn read_file<F: Shelf>(
+pub(crate) fn read_file<F: Shelf>(
     alloc: Global,
     shelf: &mut F,
     name: &str,

@@ -5,18 +5,19 @@ ghost use Rattle.ec_lexer.specs.Tokens.{HasTokens};
 ghost use Rattle.ec_parser.specs.HasTree as whole;
 ghost use Rattle.ec_parser.specs.Program.{IsShallow};
 ghost use Rattle.ec_subset.specs.Grammar as printing;
-ghost use Rattle.ec_tool.specs.Sources.{IsSource, IsCause, place_of, fault_name, rule_name, refusal_name, refused_line};
+ghost use Rattle.ec_tool.specs.Sources.{IsProgram, IsSource, IsFault, IsCause, place_of, fault_name, rule_name, refusal_name, refused_line};
 
 use crate::answer::Answer;
 use crate::place::push_place;
 use crate::status::Status;
 use ec_base::list::Seq;
-use ec_check::{Rule, first_fault};
+use ec_judge::program::first_fault;
 use ec_lexer::error::{LexError, LexFault};
 use ec_lexer::lex;
 use ec_lexer::token::Token;
 use ec_parser::{ParseError, parse};
 use ec_printing::Program;
+use ec_rules::Rule;
 use ec_subset::{SubsetError, read};
 use std::alloc::{AllocError, Global};
 
@@ -29,10 +30,10 @@ pub enum Refusal {
     Syntax,
     /// A token is nested over 64 deep.
     Deep,
-    /// The program is one of the language, but not of the part that is run so far.
-    Later,
     /// The program breaks this rule.
     Static(Rule),
+    /// The program is one of the language, but not of the part that is run so far.
+    Later,
 }
 
 /// Why a source is refused, and at which byte; the length of the text stands for its end.
@@ -50,18 +51,27 @@ pub(crate) enum SourceError {
     Memory,
 }
 
-/// The program of a source.
+/// The tokens of a source that is a program's.
+pub(crate) fn check_source(alloc: Global, text: &[u8]) -> Result<Seq<Token>, SourceError>
+    ensures program { IfOk result (λ tokens. (program : WholeProgram) × IsProgram text.now tokens program) }
+    ensures refused { IfErr result (IsFault text.now) }
+{
+    let tokens = tokens_of(alloc, text)?;
+    let program = whole_of(alloc, text, tokens.as_slice())?;
+    match first_fault(alloc, &program) {
+        Ok(None) => Ok(tokens),
+        Ok(Some(fault)) => Err(refuse(Refusal::Static(fault.rule), fault.at.from)),
+        Err(_) => Err(SourceError::Memory),
+    }
+}
+
+/// The program of a source that is run today.
 pub(crate) fn read_source(alloc: Global, text: &[u8]) -> Result<Program, SourceError>
     ensures program { IfOk result (IsSource text.now) }
     ensures refused { IfErr result (IsCause text.now) }
 {
-    let tokens = tokens_of(alloc, text)?;
-    let _whole = whole_of(alloc, text, tokens.as_slice())?;
-    let program = printing_of(alloc, text, tokens.as_slice())?;
-    match first_fault(&program) {
-        None => Ok(program),
-        Some(fault) => Err(refuse(Refusal::Static(fault.rule), fault.at.from)),
-    }
+    let tokens = check_source(alloc, text)?;
+    printing_of(alloc, text, tokens.as_slice())
 }
 
 fn refuse(refusal: Refusal, at: u32) -> SourceError
@@ -73,7 +83,7 @@ fn refuse(refusal: Refusal, at: u32) -> SourceError
 /// The tokens of a text.
 fn tokens_of(alloc: Global, text: &[u8]) -> Result<Seq<Token>, SourceError>
     ensures tokens { IfOk result (HasTokens text.now) }
-    ensures refused { IfErr result (IsCause text.now) }
+    ensures refused { IfErr result (IsFault text.now) }
 {
     match lex(alloc, text) {
         Ok(tokens) => Ok(tokens),
@@ -86,7 +96,7 @@ fn tokens_of(alloc: Global, text: &[u8]) -> Result<Seq<Token>, SourceError>
 fn whole_of(alloc: Global, text: &[u8], tokens: &[Token]) -> Result<ec_ast::Program, SourceError>
     requires { HasTokens text.now tokens.now }
     ensures tree { IfOk result (λ program. whole.HasTree tokens.now program × IsShallow tokens.now) }
-    ensures refused { IfErr result (IsCause text.now) }
+    ensures refused { IfErr result (IsFault text.now) }
 {
     match parse(alloc, tokens) {
         Ok(program) => Ok(program),
@@ -100,10 +110,9 @@ fn whole_of(alloc: Global, text: &[u8], tokens: &[Token]) -> Result<ec_ast::Prog
     }
 }
 
-/// The tree of a text's tokens in the printing part, where they have one in the whole language.
+/// The tree of a program's tokens in the printing part.
 fn printing_of(alloc: Global, text: &[u8], tokens: &[Token]) -> Result<Program, SourceError>
-    requires tokens { HasTokens text.now tokens.now }
-    requires whole { (program : WholeProgram) × whole.HasTree tokens.now program × IsShallow tokens.now }
+    requires { (program : WholeProgram) × IsProgram text.now tokens.now program }
     ensures tree { IfOk result (printing.HasTree tokens.now) }
     ensures refused { IfErr result (IsCause text.now) }
 {
@@ -139,11 +148,26 @@ fn fault_name(fault: LexFault) -> &'static [u8]
     }
 }
 
+/// `E` and the number of the rule.
 fn rule_name(rule: Rule) -> &'static [u8]
     ensures { result.now ≡ rule_name rule }
 {
     match rule {
+        Rule::UnknownName => b"E1",
+        Rule::DoubledName => b"E2",
         Rule::EndName => b"E3",
+        Rule::Mismatch => b"E4",
+        Rule::NoOperation => b"E5",
+        Rule::Arity => b"E6",
+        Rule::Assignment => b"E7",
+        Rule::Condition => b"E8",
+        Rule::AttachedValue => b"E9",
+        Rule::ExitOutside => b"E10",
+        Rule::ManyTypes => b"E11",
+        Rule::ManyOperations => b"E12",
+        Rule::ManyFields => b"E13",
+        Rule::ManyParameters => b"E14",
+        Rule::ManyVariables => b"E15",
         Rule::Size => b"E16",
     }
 }
@@ -155,8 +179,8 @@ fn refusal_name(refusal: Refusal) -> &'static [u8]
         Refusal::Lexical(fault) => fault_name(fault),
         Refusal::Syntax => b"syntax",
         Refusal::Deep => b"deep",
-        Refusal::Later => b"later",
         Refusal::Static(rule) => rule_name(rule),
+        Refusal::Later => b"later",
     }
 }
 

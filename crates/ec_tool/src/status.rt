@@ -5,7 +5,7 @@ ghost use Rattle.ec_tool.specs.Status.{code_of};
 /// The status with which the program ends.
 #[derive(Clone, Copy, PartialEq, Eq, Debug)]
 pub enum Status {
-    /// 0: the run has finished and no process has failed.
+    /// 0: the run has finished and no process has failed, or the check has accepted the source.
     Finished,
     /// 1: the run has finished and some process has failed.
     SomeFailed,

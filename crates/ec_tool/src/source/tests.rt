@@ -1,9 +1,9 @@
-//! Texts with the line that says why they are refused, if they are.
+//! Texts with the line that says why they aren't run, if they aren't.
 use super::*;
 use std::process::Abort;
 use std::test::Fail;
 
-/// The line that refuses a text, or no bytes where it is a program's.
+/// The line that refuses a text, or no bytes where it is that of a program that is run today.
 fn judged(alloc: Global, text: &[u8]) -> Result<Vec<u8>, Fail> {
     match read_source(alloc, text) {
         Ok(_) => Ok(Vec::new(alloc)),
@@ -14,7 +14,7 @@ fn judged(alloc: Global, text: &[u8]) -> Result<Vec<u8>, Fail> {
 
 #[test]
 fn each_text_is_judged(rt: HostRuntime) -> Result<(), Fail> {
-    let texts: [(&[u8], &[u8]); 13] = [
+    let texts: [(&[u8], &[u8]); 14] = [
         (b"", b""),
         (
             b"const a <- object b initially stdout.putstring[\"x\"] end initially end B",
@@ -46,6 +46,10 @@ fn each_text_is_judged(rt: HostRuntime) -> Result<(), Fail> {
         (
             b"const a <- object a\n  initially\n  end initially\nend b",
             b"refused E3 at line 4 column 5\n",
+        ),
+        (
+            b"const a <- class a\nend b",
+            b"refused E3 at line 2 column 5\n",
         ),
         (
             b"const a <- object a initially end initially end a\n\nconst b <- object b end b",

@@ -1,27 +1,26 @@
-use Rattle.std.proofs.Common.{sym, ◌∙◌, subst}
-use Rattle.ec_parser.specs.HasTree as whole
-use Rattle.ec_parser.specs.Program.{IsShallow}
+use Rattle.std.proofs.Common.{List, subst}
+use Rattle.std.proofs.lemmas.Result.{err_from_is_err_and}
+use Rattle.ec_lexer.specs.declared.token.Token.{Token}
+use Rattle.ec_printing.specs.declared.Program.{Program}
 use Rattle.ec_subset.specs.Grammar as printing
-use Rattle.ec_check.proofs.Accepted.{accepted}
-use Rattle.ec_tool.specs.Sources.{static_rule}
+use Rattle.ec_tool.specs.Sources.{IsProgram, IsSource}
+use Rattle.ec_tool.proofs.Lifting.{if_ok_one}
+use Rattle.ec_tool.proofs.Sources.{cause_of}
 use Rattle.ec_tool.proofs.source.read_source.Goals as goal
 
-pub returns-in-None-clause-program : goal.returns-in-None-clause-program
-returns-in-None-clause-program c = record {
-  tokens = c.in_ok-tokens.tokens;
-  has_tokens = c.in_ok-tokens.ensures.tokens;
-  whole_program = c.in_ok-_whole._whole;
-  has_whole = subst (λ tokens. whole.HasTree tokens c.in_ok-_whole._whole) c.as_slice.ensures c.in_ok-_whole.ensures.tree.0;
-  shallow = subst (λ tokens. IsShallow tokens) c.as_slice.ensures c.in_ok-_whole.ensures.tree.1;
-  has_tree = subst (λ tokens. printing.HasTree tokens c.in_ok-program.program) c.as_slice-2.ensures c.in_ok-program.ensures.tree;
-  is_accepted = accepted c.in_ok-program.program (sym c.first_fault.ensures ∙ c.in-None.is);
-}
+pub returns-in_err-tokens-clause-refused : goal.returns-in_err-tokens-clause-refused
+returns-in_err-tokens-clause-refused c =
+    let p = err_from_is_err_and c.from_residual.result c.from_residual.ensures.1 in
+    rw (p.1, p.2) (cause_of c.args.text.now c.in_err-tokens.field-0.0 c.in_err-tokens.ensures.refused)
 
-pub returns-clause-refused : goal.returns-clause-refused
-returns-clause-refused c =
-    rw c.refuse.ensures
-    (static_rule c.in_ok-tokens.ensures.tokens
-    (subst (λ tokens. whole.HasTree tokens c.in_ok-_whole._whole) c.as_slice.ensures c.in_ok-_whole.ensures.tree.0)
-    (subst (λ tokens. IsShallow tokens) c.as_slice.ensures c.in_ok-_whole.ensures.tree.1)
-    (subst (λ tokens. printing.HasTree tokens c.in_ok-program.program) c.as_slice-2.ensures c.in_ok-program.ensures.tree)
-    (sym c.first_fault.ensures ∙ c.in-Some.is))
+pub printing_of-requires : goal.printing_of-requires
+printing_of-requires c =
+    let found = c.in_ok-tokens.ensures.program in
+    rw c.as_slice.ensures found
+
+pub returns-clause-program : goal.returns-clause-program
+returns-clause-program c =
+    let found = c.in_ok-tokens.ensures.program in
+    if_ok_one (λ (p : Program). printing.HasTree c.in_ok-tokens.tokens p) (λ (p : Program). IsSource c.args.text.now p)
+    c.printing_of.result (rw c.as_slice.ensures at c.printing_of.ensures.tree)
+    (λ p tree. record { tokens = c.in_ok-tokens.tokens; whole_program = found.0; is_program = found.1; is_printing = tree })
