@@ -1,15 +1,16 @@
 -- What is found of an expression, and left behind it, by its form.
-use Rattle.std.proofs.Common.{◌≡◌, suc, ◌-◌, Bool, List, [], ◌∷◌, ◌++◌, length, map, refl, sym, ap, ◌∙◌, append_assoc, arith}
+use Rattle.std.proofs.Common.{◌≡◌, Bool, List, [], ◌∷◌, ◌++◌, map, Option, Some, refl, sym, ap, ◌∙◌, append_assoc}
 use Rattle.std.proofs.lemmas.List.{append-nil}
 use Rattle.ec_ast.specs.declared.Comparison.{Comparison}
 use Rattle.ec_ast.specs.declared.Span.{Span}
 use Rattle.ec_ast.specs.declared.Expression.TheOpen.{Expression-F}
+use Rattle.ec_conform.specs.declared.static_type.StaticType.{StaticType}
 use Rattle.ec_judge.specs.declared.walk.Walk.{Walk}
 use Rattle.ec_judge.specs.Walks.{walked, over_layer, over_operand, over_operands, over_part, type_of_sum as last_of_sum}
 use Rattle.ec_judge.proofs.Walks.{walked_walked}
 use Rattle.ec_rules.specs.Judging.{type_of_sum}
 use Rattle.ec_rules.specs.Lists.{each}
-use Rattle.ec_rules.specs.Operands.{added_in, comparison_faults, sum_faults, wants, wants_all}
+use Rattle.ec_rules.specs.Operands.{added_in, comparison_faults, result_type, sum_faults, wants, wants_all}
 use Rattle.ec_rules.specs.Parts.{Part, FactorPart, AddendPart, value_in, values_in, faults_in, uses_in}
 use Rattle.ec_rules.specs.declared.StaticFault.{StaticFault}
 use Rattle.ec_rules.specs.Captures.{Use}
@@ -92,13 +93,10 @@ module _ (w : Walk) (p : Part) where
 -- ---- sums
 
 module _ (scope : Scope) where
-  pub last_operator : (addends : List AddendPart) → last_of_sum (map (added_in scope) addends) ≡ type_of_sum addends
-  last_operator [] = refl
-  last_operator (a ∷ []) = refl
-  last_operator (a ∷ b ∷ more) =
-      let rest = map (added_in scope) (b ∷ more) in
-      let e : length (added_in scope a ∷ rest) - 1 ≡ suc (length rest - 1) = omega arith in
-      rw e (last_operator (b ∷ more))
+  pub last_operator : (first : Option StaticType) (addends : List AddendPart) →
+      last_of_sum first (map (added_in scope) addends) ≡ type_of_sum first addends
+  last_operator first [] = refl
+  last_operator first (a ∷ more) = last_operator (Some (result_type a.operator)) more
 
   pub values_of_addends : (addends : List AddendPart) → map (λ a. a.value) (map (added_in scope) addends) ≡ map (λ a. value_in scope a.value) addends
   values_of_addends [] = refl

@@ -251,11 +251,11 @@ module _ (w v : Walk) (x : Expression) (head : Judged) (needed : Bool) (e : v �
       ∙ term_walk w (part_of x) needed factors
 
   pub sum_looked : (addends : List AddendPart) →
-      spec.chained (type_of_sum addends) head (map (λ a. value_in v.scope a.value) addends) ≡ looked needed w.scope (Expression-F.Sum (part_of x) addends)
+      spec.chained (type_of_sum head.of addends) head (map (λ a. value_in v.scope a.value) addends) ≡ looked needed w.scope (Expression-F.Sum (part_of x) addends)
   unfolding walked
   sum_looked addends =
       let more = map (λ a. value_in w.scope a.value) addends in
-      rw (h, e) (ap (λ at. looked_of at (type_of_sum addends) (chain_height first more) (chain_nodes first more)) (part_at x w.scope))
+      rw (h, e) (ap (λ at. looked_of at (type_of_sum first.of addends) (chain_height first more) (chain_nodes first more)) (part_at x w.scope))
 
   pub sum_walked : (addends : List AddendPart) →
       over_operands v (map (λ a. a.value) addends) (sum_faults head.at head.is_clean head.of (map (added_in v.scope) addends))

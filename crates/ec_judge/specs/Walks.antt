@@ -1,5 +1,5 @@
 -- What a walk over a part of a tree finds, and what it leaves behind.
-use Rattle.std.specs.Prelude.{◌-◌, Bool, List, [], ◌∷◌, ◌++◌, length, Option, Some, option_map, slice_get}
+use Rattle.std.specs.Prelude.{Bool, List, [], ◌∷◌, ◌++◌, Option, Some}
 use Rattle.ec_ast.specs.declared.Span.{Span}
 use Rattle.ec_conform.specs.declared.static_type.StaticType.{StaticType}
 use Rattle.ec_judge.specs.declared.walk.Looked.{Looked}
@@ -82,6 +82,7 @@ compared a b = record { at = a.at; of = Some boolean; height = pair_height a b; 
 abbrev pub joined : Judged → List Judged → Looked
 joined head more = record { at = head.at; of = Some boolean; height = greatest_height (head ∷ more); nodes = chain_nodes head more }
 
--- what the last operator of a sum gives
-abbrev pub type_of_sum : List Added → Option StaticType
-type_of_sum added = option_map (λ a. result_type a.operator) (slice_get added (length added - 1))
+-- what the last operator of a sum gives, behind its first operand
+abbrev pub type_of_sum : Option StaticType → List Added → Option StaticType
+type_of_sum first [] = first
+type_of_sum first (a ∷ more) = type_of_sum (Some (result_type a.operator)) more

@@ -411,14 +411,15 @@ fn values_of(alloc: Global, added: &[Added]) -> Result<Vec<Judged>, AllocError>
     Ok(found)
 }
 
-/// What the last operator of a sum gives.
-fn type_of_sum(added: &[Added]) -> Option<StaticType>
-    ensures { result ≡ spec.type_of_sum added.now }
+/// What the last operator of a sum gives, behind its first operand.
+fn type_of_sum(first: Option<StaticType>, added: &[Added]) -> Option<StaticType>
+    ensures { result ≡ spec.type_of_sum first added.now }
 {
-    match added.last() {
-        None => None,
-        Some(a) => Some(result_type(a.operator)),
+    let mut of = first;
+    for a in added {
+        of = Some(result_type(a.operator));
     }
+    of
 }
 
 /// The rules of a sum, where its operands are known: what the sum is.
@@ -428,14 +429,14 @@ fn summed(
     head: &Judged,
     added: &[Added],
 ) -> Result<Looked, AllocError>
-    ensures value { IfOk result (λ l. l ≡ spec.chained (spec.type_of_sum added.now) head.now (map (λ a. a.value) added.now)) }
+    ensures value { IfOk result (λ l. l ≡ spec.chained (spec.type_of_sum head.now.of added.now) head.now (map (λ a. a.value) added.now)) }
     ensures faults { OnOk result (faults.new ≡ noted faults.old (operands.sum_faults head.now.at head.now.is_clean head.now.of added.now)) }
 {
     let more = values_of(alloc, added)?;
     sum(faults, head, added);
     Ok(Looked {
         at: head.at,
-        of: type_of_sum(added),
+        of: type_of_sum(head.of, added),
         height: chain_height(head, more.as_slice()),
         nodes: chain_nodes(head, more.as_slice()),
     })
@@ -448,7 +449,7 @@ fn look_sum<'a>(
     head: &Judged,
     addends: &'a [Addend],
 ) -> Result<Looked, AllocError>
-    ensures value { IfOk result (λ l. l ≡ spec.chained (judging.type_of_sum (map addend_of addends.now)) head.now (map (λ a. value_in walk.old.scope a.value) (map addend_of addends.now))) }
+    ensures value { IfOk result (λ l. l ≡ spec.chained (judging.type_of_sum head.now.of (map addend_of addends.now)) head.now (map (λ a. value_in walk.old.scope a.value) (map addend_of addends.now))) }
     ensures walk { OnOk result (walk.new ≡ spec.over_operands walk.old (map (λ a. a.value) (map addend_of addends.now)) (operands.sum_faults head.now.at head.now.is_clean head.now.of (map (operands.added_in walk.old.scope) (map addend_of addends.now)))) }
 {
     let added = addend_values(alloc, walk, addends)?;

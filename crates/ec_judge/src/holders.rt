@@ -47,10 +47,10 @@ use std::alloc::{AllocError, Global};
 /// The heading of an object constructor, or of a class with its parameters, and the name at its end.
 #[derive(Clone, Copy)]
 pub struct Heading<'a> {
-    name: &'a Name,
-    is_monitored: bool,
-    parameters: &'a [Parameter],
-    end_name: &'a Name,
+    pub name: &'a Name,
+    pub is_monitored: bool,
+    pub parameters: &'a [Parameter],
+    pub end_name: &'a Name,
 }
 
 impl<'a> Heading<'a> {
@@ -67,7 +67,7 @@ impl<'a> Heading<'a> {
     }
 
     /// That of an object constructor, which has no parameters.
-    fn of_object(object: &'a ObjectConstructor) -> Heading<'a>
+    pub fn of_object(object: &'a ObjectConstructor) -> Heading<'a>
         ensures { holders.holder_of result (out-ObjectConstructor object.now).body ≡ (object_of object.now).holder }
     {
         Heading {
@@ -358,8 +358,8 @@ fn object_with(
     })
 }
 
-/// Goes into a body. The fields' names are in scope before their types are found.
-fn enter_body(
+/// Goes into a body. The fields' names are in scope before their types are found. The error is want of memory.
+pub fn enter_body(
     alloc: Global,
     scope: &mut Scope,
     body: &Body,
@@ -499,7 +499,7 @@ fn declare_parameters(
 
 /// The parameters and the result of an operation.
 #[tactic(auto, using(crate::proofs::Scoped::declared_none, crate::proofs::Scoped::none_behind))]
-fn declare_heading(
+pub fn declare_heading(
     alloc: Global,
     scope: &mut Scope,
     parameters: &[Parameter],

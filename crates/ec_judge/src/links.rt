@@ -76,8 +76,8 @@ fn class_if(is_class: bool, name: &Name) -> Option<&Name>
     if is_class { Some(name) } else { None }
 }
 
-/// The class of a creation, where the chain begins with one.
-fn class_created<'a>(
+/// The class of a creation, where the chain begins with one. The error is want of memory.
+pub fn class_created<'a>(
     scope: &Scope,
     form: Form<'a>,
     links: &[Link],
@@ -102,7 +102,8 @@ fn class_created<'a>(
     }
 }
 
-fn receiver_of_form<'a>(form: Form<'_>, of: Option<StaticType>) -> Receiver<'a>
+/// What stands before the first link, where that is no creation.
+pub fn receiver_of_form<'a>(form: Form<'_>, of: Option<StaticType>) -> Receiver<'a>
     ensures { calls.receiver_seen result ≡ calls.receiver_of_form (form_seen form.entry) of }
 {
     match form {

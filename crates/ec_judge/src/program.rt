@@ -78,7 +78,11 @@ fn globals_in(alloc: Global, scope: &Scope, constants: &[Constant]) -> Result<Gl
 
 /// The scope of the constants' values. Which names are those of classes is known before the types of the constants are
 /// found, since a creation has the type of its class.
-fn scope_of(alloc: Global, table: TypeTable, constants: &[Constant]) -> Result<Scope, AllocError>
+pub fn scope_of(
+    alloc: Global,
+    table: TypeTable,
+    constants: &[Constant],
+) -> Result<Scope, AllocError>
     ensures { IfOk result (λ scope. scope ≡ rules.scope_of_program table (map constant_part constants.now)) }
 {
     let mut scope = Scope::new(alloc, table, Globals::new(alloc));
@@ -210,6 +214,7 @@ fn judge_constants<'a>(
 ) -> Result<Done, AllocError>
     ensures done { IfOk result (λ d. d ≡ rules.constants_done walk.old.scope (map constant_part constants.now)) }
     ensures faults { OnOk result (walk.new.faults ≡ noted walk.old.faults (each (programs.faults_of walk.old.scope) (map constant_part constants.now))) }
+    ensures scope { OnOk result (walk.new.scope ≡ walk.old.scope) }
 {
     let mut done = Done::nothing();
     for c in constants {
@@ -258,14 +263,15 @@ fn program_rules(
     Ok(())
 }
 
-/// The first of the faults of all constants and of the program, in a scope of the program.
-fn first_in(
+/// The walk over all constants and the program, in a scope of the program. The error is want of memory.
+pub fn judged_program<'a>(
     alloc: Global,
     scope: Scope,
     declared: &Declarations,
-    constants: &[Constant],
-) -> Result<Option<StaticFault>, AllocError>
-    ensures { IfOk result (λ first. first ≡ least_of None (rules.faults_of_constants declared.now scope (map constant_part constants.now))) }
+    constants: &'a [Constant],
+) -> Result<Walk<'a>, AllocError>
+    ensures first { IfOk result (λ walk. walk.faults.first ≡ least_of None (rules.faults_of_constants declared.now scope (map constant_part constants.now))) }
+    ensures scope { IfOk result (λ walk. walk.scope ≡ scope) }
 {
     let mut walk = Walk {
         scope,
@@ -274,7 +280,7 @@ fn first_in(
     };
     let done = judge_constants(alloc, &mut walk, constants)?;
     program_rules(alloc, &mut walk.faults, declared, constants, &done)?;
-    Ok(walk.faults.first)
+    Ok(walk)
 }
 
 /// The first static fault of a program, by place, then by rule; none where it breaks no rule. The error is want of memory.
@@ -285,5 +291,6 @@ pub fn first_fault(alloc: Global, program: &Program) -> Result<Option<StaticFaul
     let table = TypeTable::build(alloc, &declared)?;
     let constants = program.constants.as_slice();
     let scope = scope_of(alloc, table, constants)?;
-    first_in(alloc, scope, &declared, constants)
+    let walk = judged_program(alloc, scope, &declared, constants)?;
+    Ok(walk.faults.first)
 }

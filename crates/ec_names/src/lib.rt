@@ -1,7 +1,7 @@
 //! Names in the order of their declarations, each found by its letters without their case.
 #![tactic(auto)]
 
-ghost use Rattle.std.specs.Prelude.{◌≡◌, ◌≢◌, ◌-◌, ◌++◌, [], ◌∷◌, length, take, Some, None, IfOk, OnOk, OnErr};
+ghost use Rattle.std.specs.Prelude.{◌≡◌, ◌≢◌, ◌-◌, ◌++◌, [], ◌∷◌, length, option_map, slice_get, take, Some, None, IfOk, OnOk, OnErr};
 ghost use Rattle.std.specs.Str.{str_to_ascii_lowercase};
 ghost use Rattle.std.specs.BTreeMap.{IsUnchanged, Updates, get};
 ghost use Rattle.std.specs.Option.{unwrap_or};
@@ -90,6 +90,16 @@ impl Names {
         ensures { result ≡ length self.now }
     {
         self.names.len()
+    }
+
+    /// The name at a place.
+    pub fn get(&self, at: usize) -> Option<&[u8]>
+        ensures { option_map (λ name. name.now) result ≡ slice_get self.now at }
+    {
+        match self.names.get(at) {
+            None => None,
+            Some(own) => Some(own.as_slice()),
+        }
     }
 
     /// Adds a name behind the others. The error is want of memory, and then nothing has changed.

@@ -201,11 +201,10 @@ type_found (found.Held h) = option_and_then known h.of
 type_found (found.Constant of) = option_and_then known of
 type_found found.Nothing = None
 
--- what the last operator of a sum gives
-abbrev pub type_of_sum : List AddendPart → Option StaticType
-type_of_sum [] = None
-type_of_sum (a ∷ []) = Some (result_type a.operator)
-type_of_sum (a ∷ b ∷ more) = type_of_sum (b ∷ more)
+-- What the last operator of a sum gives, behind its first operand.
+abbrev pub type_of_sum : Option StaticType → List AddendPart → Option StaticType
+type_of_sum first [] = first
+type_of_sum first (a ∷ more) = type_of_sum (Some (result_type a.operator)) more
 
 -- The type of an expression without a fault within it.
 abbrev pub type_of : Bool → Scope → AnExpression → Option StaticType
@@ -225,7 +224,7 @@ type_of needed scope (Expression-F.Negative e at) = Some integer
 type_of needed scope (Expression-F.View e of at) = known (written_in scope of)
 type_of needed scope (Expression-F.IsFixed e at) = Some boolean
 type_of needed scope (Expression-F.Term first factors) = Some integer
-type_of needed scope (Expression-F.Sum first addends) = type_of_sum addends
+type_of needed scope (Expression-F.Sum first addends) = type_of_sum (value_in scope first).of addends
 type_of needed scope (Expression-F.Compare left op at right) = Some boolean
 type_of needed scope (Expression-F.Not e at) = Some boolean
 type_of needed scope (Expression-F.And first more) = Some boolean

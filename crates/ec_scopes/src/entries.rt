@@ -1,7 +1,7 @@
 //! Names that stand for values, each found by its letters.
 ghost use Rattle.std.specs.Prelude.{◌≡◌, ◌++◌, [], ◌∷◌, length, map, take, IfOk, OnOk, OnErr};
 ghost use Rattle.std.specs.Option.{option_copied};
-ghost use Rattle.ec_names.specs.Names.{has_name};
+ghost use Rattle.ec_names.specs.Names.{first_named, has_name};
 ghost use Rattle.ec_scopes.specs.Scopes as spec;
 
 use ec_ast::Text;
@@ -54,6 +54,13 @@ impl Entries {
         ensures { result ≡ length self.now }
     {
         self.entries.len()
+    }
+
+    /// The place of the first entry with this name. The error is want of memory.
+    pub fn number(&self, name: &[u8]) -> Result<Option<usize>, AllocError>
+        ensures { IfOk result (λ found. found ≡ first_named (map (λ (own : Entry). own.name) self.now) name.now) }
+    {
+        self.names.first(name)
     }
 
     /// Adds an entry behind the others. The error is want of memory, and then nothing has changed.

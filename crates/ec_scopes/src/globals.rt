@@ -1,6 +1,7 @@
 //! The constants of a program, each found by its letters.
-ghost use Rattle.std.specs.Prelude.{◌≡◌, ◌++◌, [], ◌∷◌, option_map, IfOk, OnOk, OnErr};
+ghost use Rattle.std.specs.Prelude.{◌≡◌, ◌++◌, [], ◌∷◌, map, option_map, IfOk, OnOk, OnErr};
 ghost use Rattle.std.specs.Option.{option_copied};
+ghost use Rattle.ec_names.specs.Names.{first_named};
 ghost use Rattle.ec_scopes.specs.Scopes as spec;
 
 use ec_ast::Text;
@@ -81,6 +82,13 @@ impl Globals {
                 Err(AllocError)
             }
         }
+    }
+
+    /// The place of the first constant with this name. The error is want of memory.
+    pub fn number(&self, name: &[u8]) -> Result<Option<usize>, AllocError>
+        ensures { IfOk result (λ found. found ≡ first_named (map (λ (own : Global). own.name) self.now) name.now) }
+    {
+        self.names.first(name)
     }
 
     /// What the constant stands for that a name means. The error is want of memory.

@@ -713,9 +713,9 @@ expressions::look_sum-returns-clause-value t c =
     let addends = map addend_of c.args.addends.now in
     let scope = c.args.walk.now.scope in
     subst (λ x. IfOk c.summed.result (λ l. l ≡ x))
-    (ap (λ xs. spec.chained (spec.type_of_sum xs) c.args.head.now (map (λ a. a.value) xs)) (c.as_slice.ensures.value ∙ c.in_ok-added.ensures.value)
-    ∙ ap (λ of. spec.chained of c.args.head.now (map (λ a. a.value) (map (added_in scope) addends))) (layers.last_operator scope addends)
-    ∙ ap (spec.chained (judging.type_of_sum addends) c.args.head.now) (layers.values_of_addends scope addends))
+    (ap (λ xs. spec.chained (spec.type_of_sum c.args.head.now.of xs) c.args.head.now (map (λ a. a.value) xs)) (c.as_slice.ensures.value ∙ c.in_ok-added.ensures.value)
+    ∙ ap (λ of. spec.chained of c.args.head.now (map (λ a. a.value) (map (added_in scope) addends))) (layers.last_operator scope c.args.head.now.of addends)
+    ∙ ap (spec.chained (judging.type_of_sum c.args.head.now.of addends) c.args.head.now) (layers.values_of_addends scope addends))
     c.summed.ensures.value
 
 pub expressions::look_sum-returns-clause-walk : goal.expressions::look_sum-returns-clause-walk
