@@ -1,0 +1,259 @@
+-- What the fold over the tree says that a part declares, of what the parts within it declare.
+use Rattle.std.proofs.Common.{◌≡◌}
+use Rattle.ec_ast.specs.declared.Expression.{Expression, roll-Expression, map-Expression, fold-roll-Expression}
+use Rattle.ec_ast.specs.declared.Link.{Link, roll-Link, map-Link, fold-roll-Link}
+use Rattle.ec_ast.specs.declared.Member.{Member, roll-Member, map-Member, fold-roll-Member}
+use Rattle.ec_ast.specs.declared.Statement.{Statement, roll-Statement, map-Statement, fold-roll-Statement}
+use Rattle.ec_ast.specs.declared.Addend.{Addend, roll-Addend, map-Addend, fold-roll-Addend}
+use Rattle.ec_ast.specs.declared.Arm.{Arm, roll-Arm, map-Arm, fold-roll-Arm}
+use Rattle.ec_ast.specs.declared.Block.{Block, roll-Block, map-Block, fold-roll-Block}
+use Rattle.ec_ast.specs.declared.Body.{Body, roll-Body, map-Body, fold-roll-Body}
+use Rattle.ec_ast.specs.declared.Factor.{Factor, roll-Factor, map-Factor, fold-roll-Factor}
+use Rattle.ec_ast.specs.declared.ObjectConstructor.{ObjectConstructor, roll-ObjectConstructor, map-ObjectConstructor, fold-roll-ObjectConstructor}
+use Rattle.ec_ast.specs.declared.Operation.{Operation, roll-Operation, map-Operation, fold-roll-Operation, fold-Operation}
+use Rattle.ec_ast.specs.declared.ProcessSection.{ProcessSection, roll-ProcessSection, map-ProcessSection, fold-roll-ProcessSection}
+use Rattle.ec_ast.specs.declared.Expression.TheOpen.{Expression-F, Link-F, Member-F, Statement-F, Addend-F, Arm-F, Block-F}
+use Rattle.ec_ast.specs.declared.Expression.TheOpen.{Body-F, Factor-F, ObjectConstructor-F, Operation-F, ProcessSection-F}
+use Rattle.ec_check.proofs.Rolled.{ExpressionLayer, LinkLayer, MemberLayer, StatementLayer, AddendLayer, ArmLayer, BlockLayer}
+use Rattle.ec_check.proofs.Rolled.{BodyLayer, FactorLayer, ObjectLayer, OperationLayer, ProcessLayer}
+use Rattle.ec_conform.specs.Declarations.{MemberPart, BodyPart, expression_step, link_step, member_step, statement_step, addend_step}
+use Rattle.ec_conform.specs.Declarations.{arm_step, block_step, body_step, factor_step, constructor_step, operation_step, process_step}
+use Rattle.ec_conform.specs.Declarations.{in_expression, in_link, in_member, in_statement, in_addend, in_arm, in_block, in_body}
+use Rattle.ec_conform.specs.Declarations.{in_factor, in_constructor, in_process}
+use Rattle.ec_conform.specs.declared.declared.Declarations.{Declarations}
+
+abbrev pub in_operation : Operation → MemberPart
+in_operation =
+    fold-Operation
+    Declarations Declarations MemberPart Declarations Declarations Declarations Declarations BodyPart Declarations Declarations
+    MemberPart Declarations
+    expression_step link_step member_step statement_step addend_step arm_step block_step body_step factor_step constructor_step
+    operation_step process_step
+
+abbrev pub expression_declared : ExpressionLayer →
+    Expression-F
+    Declarations Declarations MemberPart Declarations Declarations Declarations Declarations BodyPart Declarations Declarations
+    MemberPart Declarations
+expression_declared =
+    map-Expression
+    Expression Link Member Statement Addend Arm Block Body Factor ObjectConstructor Operation ProcessSection
+    Declarations Declarations MemberPart Declarations Declarations Declarations Declarations BodyPart Declarations Declarations
+    MemberPart Declarations
+    in_expression in_link in_member in_statement in_addend in_arm in_block in_body in_factor in_constructor in_operation in_process
+
+pub expression_declares : (x : ExpressionLayer) → in_expression (roll-Expression x) ≡ expression_step (expression_declared x)
+expression_declares x =
+    fold-roll-Expression
+    Declarations Declarations MemberPart Declarations Declarations Declarations Declarations BodyPart Declarations Declarations
+    MemberPart Declarations
+    expression_step link_step member_step statement_step addend_step arm_step block_step body_step factor_step constructor_step
+    operation_step process_step x
+
+abbrev pub link_declared : LinkLayer →
+    Link-F
+    Declarations Declarations MemberPart Declarations Declarations Declarations Declarations BodyPart Declarations Declarations
+    MemberPart Declarations
+link_declared =
+    map-Link
+    Expression Link Member Statement Addend Arm Block Body Factor ObjectConstructor Operation ProcessSection
+    Declarations Declarations MemberPart Declarations Declarations Declarations Declarations BodyPart Declarations Declarations
+    MemberPart Declarations
+    in_expression in_link in_member in_statement in_addend in_arm in_block in_body in_factor in_constructor in_operation in_process
+
+pub link_declares : (x : LinkLayer) → in_link (roll-Link x) ≡ link_step (link_declared x)
+link_declares x =
+    fold-roll-Link
+    Declarations Declarations MemberPart Declarations Declarations Declarations Declarations BodyPart Declarations Declarations
+    MemberPart Declarations
+    expression_step link_step member_step statement_step addend_step arm_step block_step body_step factor_step constructor_step
+    operation_step process_step x
+
+abbrev pub member_declared : MemberLayer →
+    Member-F
+    Declarations Declarations MemberPart Declarations Declarations Declarations Declarations BodyPart Declarations Declarations
+    MemberPart Declarations
+member_declared =
+    map-Member
+    Expression Link Member Statement Addend Arm Block Body Factor ObjectConstructor Operation ProcessSection
+    Declarations Declarations MemberPart Declarations Declarations Declarations Declarations BodyPart Declarations Declarations
+    MemberPart Declarations
+    in_expression in_link in_member in_statement in_addend in_arm in_block in_body in_factor in_constructor in_operation in_process
+
+pub member_declares : (x : MemberLayer) → in_member (roll-Member x) ≡ member_step (member_declared x)
+member_declares x =
+    fold-roll-Member
+    Declarations Declarations MemberPart Declarations Declarations Declarations Declarations BodyPart Declarations Declarations
+    MemberPart Declarations
+    expression_step link_step member_step statement_step addend_step arm_step block_step body_step factor_step constructor_step
+    operation_step process_step x
+
+abbrev pub statement_declared : StatementLayer →
+    Statement-F
+    Declarations Declarations MemberPart Declarations Declarations Declarations Declarations BodyPart Declarations Declarations
+    MemberPart Declarations
+statement_declared =
+    map-Statement
+    Expression Link Member Statement Addend Arm Block Body Factor ObjectConstructor Operation ProcessSection
+    Declarations Declarations MemberPart Declarations Declarations Declarations Declarations BodyPart Declarations Declarations
+    MemberPart Declarations
+    in_expression in_link in_member in_statement in_addend in_arm in_block in_body in_factor in_constructor in_operation in_process
+
+pub statement_declares : (x : StatementLayer) → in_statement (roll-Statement x) ≡ statement_step (statement_declared x)
+statement_declares x =
+    fold-roll-Statement
+    Declarations Declarations MemberPart Declarations Declarations Declarations Declarations BodyPart Declarations Declarations
+    MemberPart Declarations
+    expression_step link_step member_step statement_step addend_step arm_step block_step body_step factor_step constructor_step
+    operation_step process_step x
+
+abbrev pub addend_declared : AddendLayer →
+    Addend-F
+    Declarations Declarations MemberPart Declarations Declarations Declarations Declarations BodyPart Declarations Declarations
+    MemberPart Declarations
+addend_declared =
+    map-Addend
+    Expression Link Member Statement Addend Arm Block Body Factor ObjectConstructor Operation ProcessSection
+    Declarations Declarations MemberPart Declarations Declarations Declarations Declarations BodyPart Declarations Declarations
+    MemberPart Declarations
+    in_expression in_link in_member in_statement in_addend in_arm in_block in_body in_factor in_constructor in_operation in_process
+
+pub addend_declares : (x : AddendLayer) → in_addend (roll-Addend x) ≡ addend_step (addend_declared x)
+addend_declares x =
+    fold-roll-Addend
+    Declarations Declarations MemberPart Declarations Declarations Declarations Declarations BodyPart Declarations Declarations
+    MemberPart Declarations
+    expression_step link_step member_step statement_step addend_step arm_step block_step body_step factor_step constructor_step
+    operation_step process_step x
+
+abbrev pub arm_declared : ArmLayer →
+    Arm-F
+    Declarations Declarations MemberPart Declarations Declarations Declarations Declarations BodyPart Declarations Declarations
+    MemberPart Declarations
+arm_declared =
+    map-Arm
+    Expression Link Member Statement Addend Arm Block Body Factor ObjectConstructor Operation ProcessSection
+    Declarations Declarations MemberPart Declarations Declarations Declarations Declarations BodyPart Declarations Declarations
+    MemberPart Declarations
+    in_expression in_link in_member in_statement in_addend in_arm in_block in_body in_factor in_constructor in_operation in_process
+
+pub arm_declares : (x : ArmLayer) → in_arm (roll-Arm x) ≡ arm_step (arm_declared x)
+arm_declares x =
+    fold-roll-Arm
+    Declarations Declarations MemberPart Declarations Declarations Declarations Declarations BodyPart Declarations Declarations
+    MemberPart Declarations
+    expression_step link_step member_step statement_step addend_step arm_step block_step body_step factor_step constructor_step
+    operation_step process_step x
+
+abbrev pub block_declared : BlockLayer →
+    Block-F
+    Declarations Declarations MemberPart Declarations Declarations Declarations Declarations BodyPart Declarations Declarations
+    MemberPart Declarations
+block_declared =
+    map-Block
+    Expression Link Member Statement Addend Arm Block Body Factor ObjectConstructor Operation ProcessSection
+    Declarations Declarations MemberPart Declarations Declarations Declarations Declarations BodyPart Declarations Declarations
+    MemberPart Declarations
+    in_expression in_link in_member in_statement in_addend in_arm in_block in_body in_factor in_constructor in_operation in_process
+
+pub block_declares : (x : BlockLayer) → in_block (roll-Block x) ≡ block_step (block_declared x)
+block_declares x =
+    fold-roll-Block
+    Declarations Declarations MemberPart Declarations Declarations Declarations Declarations BodyPart Declarations Declarations
+    MemberPart Declarations
+    expression_step link_step member_step statement_step addend_step arm_step block_step body_step factor_step constructor_step
+    operation_step process_step x
+
+abbrev pub body_declared : BodyLayer →
+    Body-F
+    Declarations Declarations MemberPart Declarations Declarations Declarations Declarations BodyPart Declarations Declarations
+    MemberPart Declarations
+body_declared =
+    map-Body
+    Expression Link Member Statement Addend Arm Block Body Factor ObjectConstructor Operation ProcessSection
+    Declarations Declarations MemberPart Declarations Declarations Declarations Declarations BodyPart Declarations Declarations
+    MemberPart Declarations
+    in_expression in_link in_member in_statement in_addend in_arm in_block in_body in_factor in_constructor in_operation in_process
+
+pub body_declares : (x : BodyLayer) → in_body (roll-Body x) ≡ body_step (body_declared x)
+body_declares x =
+    fold-roll-Body
+    Declarations Declarations MemberPart Declarations Declarations Declarations Declarations BodyPart Declarations Declarations
+    MemberPart Declarations
+    expression_step link_step member_step statement_step addend_step arm_step block_step body_step factor_step constructor_step
+    operation_step process_step x
+
+abbrev pub factor_declared : FactorLayer →
+    Factor-F
+    Declarations Declarations MemberPart Declarations Declarations Declarations Declarations BodyPart Declarations Declarations
+    MemberPart Declarations
+factor_declared =
+    map-Factor
+    Expression Link Member Statement Addend Arm Block Body Factor ObjectConstructor Operation ProcessSection
+    Declarations Declarations MemberPart Declarations Declarations Declarations Declarations BodyPart Declarations Declarations
+    MemberPart Declarations
+    in_expression in_link in_member in_statement in_addend in_arm in_block in_body in_factor in_constructor in_operation in_process
+
+pub factor_declares : (x : FactorLayer) → in_factor (roll-Factor x) ≡ factor_step (factor_declared x)
+factor_declares x =
+    fold-roll-Factor
+    Declarations Declarations MemberPart Declarations Declarations Declarations Declarations BodyPart Declarations Declarations
+    MemberPart Declarations
+    expression_step link_step member_step statement_step addend_step arm_step block_step body_step factor_step constructor_step
+    operation_step process_step x
+
+abbrev pub object_declared : ObjectLayer →
+    ObjectConstructor-F
+    Declarations Declarations MemberPart Declarations Declarations Declarations Declarations BodyPart Declarations Declarations
+    MemberPart Declarations
+object_declared =
+    map-ObjectConstructor
+    Expression Link Member Statement Addend Arm Block Body Factor ObjectConstructor Operation ProcessSection
+    Declarations Declarations MemberPart Declarations Declarations Declarations Declarations BodyPart Declarations Declarations
+    MemberPart Declarations
+    in_expression in_link in_member in_statement in_addend in_arm in_block in_body in_factor in_constructor in_operation in_process
+
+pub object_declares : (x : ObjectLayer) → in_constructor (roll-ObjectConstructor x) ≡ constructor_step (object_declared x)
+object_declares x =
+    fold-roll-ObjectConstructor
+    Declarations Declarations MemberPart Declarations Declarations Declarations Declarations BodyPart Declarations Declarations
+    MemberPart Declarations
+    expression_step link_step member_step statement_step addend_step arm_step block_step body_step factor_step constructor_step
+    operation_step process_step x
+
+abbrev pub operation_declared : OperationLayer →
+    Operation-F
+    Declarations Declarations MemberPart Declarations Declarations Declarations Declarations BodyPart Declarations Declarations
+    MemberPart Declarations
+operation_declared =
+    map-Operation
+    Expression Link Member Statement Addend Arm Block Body Factor ObjectConstructor Operation ProcessSection
+    Declarations Declarations MemberPart Declarations Declarations Declarations Declarations BodyPart Declarations Declarations
+    MemberPart Declarations
+    in_expression in_link in_member in_statement in_addend in_arm in_block in_body in_factor in_constructor in_operation in_process
+
+pub operation_declares : (x : OperationLayer) → in_operation (roll-Operation x) ≡ operation_step (operation_declared x)
+operation_declares x =
+    fold-roll-Operation
+    Declarations Declarations MemberPart Declarations Declarations Declarations Declarations BodyPart Declarations Declarations
+    MemberPart Declarations
+    expression_step link_step member_step statement_step addend_step arm_step block_step body_step factor_step constructor_step
+    operation_step process_step x
+
+abbrev pub process_declared : ProcessLayer →
+    ProcessSection-F
+    Declarations Declarations MemberPart Declarations Declarations Declarations Declarations BodyPart Declarations Declarations
+    MemberPart Declarations
+process_declared =
+    map-ProcessSection
+    Expression Link Member Statement Addend Arm Block Body Factor ObjectConstructor Operation ProcessSection
+    Declarations Declarations MemberPart Declarations Declarations Declarations Declarations BodyPart Declarations Declarations
+    MemberPart Declarations
+    in_expression in_link in_member in_statement in_addend in_arm in_block in_body in_factor in_constructor in_operation in_process
+
+pub process_declares : (x : ProcessLayer) → in_process (roll-ProcessSection x) ≡ process_step (process_declared x)
+process_declares x =
+    fold-roll-ProcessSection
+    Declarations Declarations MemberPart Declarations Declarations Declarations Declarations BodyPart Declarations Declarations
+    MemberPart Declarations
+    expression_step link_step member_step statement_step addend_step arm_step block_step body_step factor_step constructor_step
+    operation_step process_step x

@@ -1,0 +1,11 @@
+pub mod Accepted
+pub mod Laws
+pub mod Layers
+pub mod Making
+pub mod Numbers
+pub mod Parts
+pub mod Places
+pub mod Program
+pub mod Resolving
+pub mod Tree
+pub mod Typing

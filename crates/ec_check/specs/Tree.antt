@@ -1,0 +1,189 @@
+-- The core of each part of a tree: the fold over the tree, with a step for each kind of part.
+use Rattle.std.specs.Prelude.{[], map}
+use Rattle.ec_ast.specs.declared.Class.{Class}
+use Rattle.ec_ast.specs.declared.Expression.{Expression, fold-Expression}
+use Rattle.ec_ast.specs.declared.Link.{Link, fold-Link}
+use Rattle.ec_ast.specs.declared.Member.{Member, fold-Member}
+use Rattle.ec_ast.specs.declared.Statement.{Statement, fold-Statement}
+use Rattle.ec_ast.specs.declared.Addend.{Addend, fold-Addend}
+use Rattle.ec_ast.specs.declared.Arm.{Arm, fold-Arm}
+use Rattle.ec_ast.specs.declared.Block.{Block, fold-Block}
+use Rattle.ec_ast.specs.declared.Body.{Body, fold-Body}
+use Rattle.ec_ast.specs.declared.Factor.{Factor, fold-Factor}
+use Rattle.ec_ast.specs.declared.ObjectConstructor.{ObjectConstructor, fold-ObjectConstructor}
+use Rattle.ec_ast.specs.declared.Operation.{Operation, fold-Operation}
+use Rattle.ec_ast.specs.declared.ProcessSection.{ProcessSection, fold-ProcessSection}
+use Rattle.ec_ast.specs.declared.Expression.TheOpen.{Link-F, Member-F}
+use Rattle.ec_check.specs.Layers.{expression_judged, statement_judged}
+use Rattle.ec_check.specs.Parts.{Part, LinkPart, call, index, MemberPart, variable, constant, condition, operation, StatementPart, AddendPart, ArmPart}
+use Rattle.ec_check.specs.Parts.{Piece, BodyPart, FactorPart, Holder, ObjectPart, OperationPart, ProcessPart, AnExpression, AStatement, ALink, AMember}
+use Rattle.ec_check.specs.Parts.{AnAddend, AnArm, ABlock, ABody, AFactor, AnObject, AnOperation, AProcess}
+use Rattle.ec_check.specs.Resolving.{core_of_expression, expression_made, core_of_statement, statement_made, locals_of, statements_core, statements_made, locals_of_statements}
+use Rattle.ec_check.specs.Typing.{expression_within, statement_within, statements_within}
+use Rattle.ec_core.specs.declared.Block.{roll-Block}
+use Rattle.ec_rules.specs.Judging.{block_finished, expression_part, statement_part}
+
+-- ---- steps
+
+unfoldable pub expression_step : AnExpression → Part
+expression_step x = record {
+  part = expression_part (expression_judged x);
+  core = core_of_expression x;
+  made = expression_made x;
+  within = expression_within x;
+}
+
+unfoldable pub statement_step : AStatement → StatementPart
+statement_step x = record {
+  part = statement_part (statement_judged x);
+  core = core_of_statement x;
+  made = statement_made x;
+  locals = locals_of x;
+  within = statement_within x;
+}
+
+unfoldable pub block_step : ABlock → Piece
+block_step b = record {
+  piece = block_finished (map (λ x. x.part) b.statements);
+  core = λ env. roll-Block (record { statements = statements_core b.statements env });
+  made = statements_made b.statements;
+  locals = locals_of_statements b.statements;
+  within = statements_within b.statements;
+}
+
+abbrev pub link_step : ALink → LinkPart
+link_step (Link-F.Call name arguments) = call name arguments
+link_step (Link-F.Index number at) = index number at
+
+abbrev pub factor_step : AFactor → FactorPart
+factor_step f = record { operator = f.operator; at = f.at; value = f.value }
+
+abbrev pub addend_step : AnAddend → AddendPart
+addend_step a = record { operator = a.operator; at = a.at; value = a.value }
+
+abbrev pub arm_step : AnArm → ArmPart
+arm_step a = record { condition = a.condition; block = a.block }
+
+abbrev pub member_step : AMember → MemberPart
+member_step (Member-F.Member::Variable is_attached name of value) = variable is_attached name of value
+member_step (Member-F.Constant is_attached name of value) = constant is_attached name of value
+member_step (Member-F.Condition name) = condition name
+member_step (Member-F.Operation o) = operation o
+
+abbrev pub body_step : ABody → BodyPart
+body_step b = record { members = b.members; initially = b.initially; process = b.process }
+
+-- An object constructor has no parameters.
+abbrev pub object_step : AnObject → ObjectPart
+object_step o = record {
+  at = o.at;
+  holder = record { name = o.name; is_monitored = o.is_monitored; parameters = []; body = o.body; end_name = o.end_name };
+}
+
+abbrev pub operation_step : AnOperation → OperationPart
+operation_step o = record {
+  is_exported = o.is_exported;
+  name = o.name;
+  parameters = o.parameters;
+  result = o.result;
+  block = o.block;
+  end_name = o.end_name;
+}
+
+abbrev pub process_step : AProcess → ProcessPart
+process_step p = record { at = p.at; block = p.block }
+
+-- ---- the folds
+
+unfoldable pub part_of : Expression → Part
+part_of =
+    fold-Expression
+    Part LinkPart MemberPart StatementPart AddendPart ArmPart Piece BodyPart FactorPart ObjectPart OperationPart ProcessPart
+    expression_step link_step member_step statement_step addend_step arm_step block_step body_step factor_step object_step
+    operation_step process_step
+
+unfoldable pub link_of : Link → LinkPart
+link_of =
+    fold-Link
+    Part LinkPart MemberPart StatementPart AddendPart ArmPart Piece BodyPart FactorPart ObjectPart OperationPart ProcessPart
+    expression_step link_step member_step statement_step addend_step arm_step block_step body_step factor_step object_step
+    operation_step process_step
+
+unfoldable pub member_of : Member → MemberPart
+member_of =
+    fold-Member
+    Part LinkPart MemberPart StatementPart AddendPart ArmPart Piece BodyPart FactorPart ObjectPart OperationPart ProcessPart
+    expression_step link_step member_step statement_step addend_step arm_step block_step body_step factor_step object_step
+    operation_step process_step
+
+unfoldable pub statement_of : Statement → StatementPart
+statement_of =
+    fold-Statement
+    Part LinkPart MemberPart StatementPart AddendPart ArmPart Piece BodyPart FactorPart ObjectPart OperationPart ProcessPart
+    expression_step link_step member_step statement_step addend_step arm_step block_step body_step factor_step object_step
+    operation_step process_step
+
+unfoldable pub addend_of : Addend → AddendPart
+addend_of =
+    fold-Addend
+    Part LinkPart MemberPart StatementPart AddendPart ArmPart Piece BodyPart FactorPart ObjectPart OperationPart ProcessPart
+    expression_step link_step member_step statement_step addend_step arm_step block_step body_step factor_step object_step
+    operation_step process_step
+
+unfoldable pub arm_of : Arm → ArmPart
+arm_of =
+    fold-Arm
+    Part LinkPart MemberPart StatementPart AddendPart ArmPart Piece BodyPart FactorPart ObjectPart OperationPart ProcessPart
+    expression_step link_step member_step statement_step addend_step arm_step block_step body_step factor_step object_step
+    operation_step process_step
+
+unfoldable pub block_of : Block → Piece
+block_of =
+    fold-Block
+    Part LinkPart MemberPart StatementPart AddendPart ArmPart Piece BodyPart FactorPart ObjectPart OperationPart ProcessPart
+    expression_step link_step member_step statement_step addend_step arm_step block_step body_step factor_step object_step
+    operation_step process_step
+
+unfoldable pub body_of : Body → BodyPart
+body_of =
+    fold-Body
+    Part LinkPart MemberPart StatementPart AddendPart ArmPart Piece BodyPart FactorPart ObjectPart OperationPart ProcessPart
+    expression_step link_step member_step statement_step addend_step arm_step block_step body_step factor_step object_step
+    operation_step process_step
+
+unfoldable pub factor_of : Factor → FactorPart
+factor_of =
+    fold-Factor
+    Part LinkPart MemberPart StatementPart AddendPart ArmPart Piece BodyPart FactorPart ObjectPart OperationPart ProcessPart
+    expression_step link_step member_step statement_step addend_step arm_step block_step body_step factor_step object_step
+    operation_step process_step
+
+unfoldable pub object_of : ObjectConstructor → ObjectPart
+object_of =
+    fold-ObjectConstructor
+    Part LinkPart MemberPart StatementPart AddendPart ArmPart Piece BodyPart FactorPart ObjectPart OperationPart ProcessPart
+    expression_step link_step member_step statement_step addend_step arm_step block_step body_step factor_step object_step
+    operation_step process_step
+
+unfoldable pub operation_of : Operation → OperationPart
+operation_of =
+    fold-Operation
+    Part LinkPart MemberPart StatementPart AddendPart ArmPart Piece BodyPart FactorPart ObjectPart OperationPart ProcessPart
+    expression_step link_step member_step statement_step addend_step arm_step block_step body_step factor_step object_step
+    operation_step process_step
+
+unfoldable pub process_of : ProcessSection → ProcessPart
+process_of =
+    fold-ProcessSection
+    Part LinkPart MemberPart StatementPart AddendPart ArmPart Piece BodyPart FactorPart ObjectPart OperationPart ProcessPart
+    expression_step link_step member_step statement_step addend_step arm_step block_step body_step factor_step object_step
+    operation_step process_step
+
+abbrev pub class_part : Class → Holder
+class_part c = record {
+  name = c.name;
+  is_monitored = c.is_monitored;
+  parameters = c.parameters;
+  body = body_of c.body;
+  end_name = c.end_name;
+}

@@ -1,0 +1,74 @@
+//! Whether a program breaks a static rule; one that breaks none, with its core.
+ghost use Rattle.std.specs.Prelude.{◌≡◌, IfErr, IfOk};
+ghost use Rattle.ec_check.specs.Accepted.{HasCore, IsRefused};
+ghost use Rattle.ec_check.specs.declared.check.CheckError.TheVariants.{Memory};
+ghost use Rattle.ec_conform.specs.Declarations.{declarations_of as declared_by};
+ghost use Rattle.ec_conform.specs.Table.{IsTable};
+
+use crate::program::core_of;
+use ec_ast::Program;
+use ec_conform::TypeTable;
+use ec_conform::declared::{Declarations, declarations_of};
+use ec_core::Core;
+use ec_judge::program::{judged_program, scope_of};
+use ec_rules::StaticFault;
+use std::alloc::{AllocError, Global};
+
+/// A program that breaks no static rule, with its core: in it each name, type and operation is resolved, and each
+/// expression of the program has its type.
+#[derive(Drop)]
+pub struct Checked {
+    pub program: Program,
+    pub core: Core,
+    pub ghost accepted: { ∥ HasCore program core ∥₁ },
+}
+
+/// Why a program isn't accepted.
+#[derive(Clone, Copy, Debug, PartialEq, Eq)]
+pub enum CheckError {
+    /// Its first static fault, by place, then by rule.
+    Fault(StaticFault),
+    /// There was no memory.
+    Memory,
+}
+
+impl From<AllocError> for CheckError {
+    ghost from_gives = { λ _ error. error ≡ Memory };
+
+    fn from(_error: AllocError) -> CheckError {
+        CheckError::Memory
+    }
+}
+
+/// The program with its core, if it breaks no static rule.
+pub fn check(alloc: Global, program: Program) -> Result<Checked, CheckError>
+    ensures program { IfOk result (λ checked. checked.program ≡ program) }
+    ensures accepted { IfOk result (λ checked. HasCore checked.program checked.core) }
+    ensures refused { IfErr result (IsRefused program) }
+{
+    let declared = declarations_of(alloc, &program)?;
+    let table = TypeTable::build(alloc, &declared)?;
+    let core = core_if_accepted(alloc, table, &declared, &program)?;
+    Ok(Checked { program, core })
+}
+
+/// The core of a program with these declarations and this table of types, if it breaks no static rule.
+fn core_if_accepted(
+    alloc: Global,
+    table: TypeTable,
+    declared: &Declarations,
+    program: &Program,
+) -> Result<Core, CheckError>
+    requires declared { declared.now ≡ declared_by program.now }
+    requires table { IsTable declared.now.types table }
+    ensures accepted { IfOk result (HasCore program.now) }
+    ensures refused { IfErr result (IsRefused program.now) }
+{
+    let constants = program.constants.as_slice();
+    let scope = scope_of(alloc, table, constants)?;
+    let walk = judged_program(alloc, scope, declared, constants)?;
+    match walk.faults.first {
+        Some(fault) => Err(CheckError::Fault(fault)),
+        None => Ok(core_of(alloc, walk, constants)?),
+    }
+}
