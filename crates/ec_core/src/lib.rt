@@ -215,6 +215,7 @@ pub struct Core {
     pub constants: Items<Constant>,
     /// In the order of the text.
     pub classes: Items<Class>,
-    /// In the order of the text: that which makes an object stands at the object's name.
+    /// In the order of the text: that which makes an object stands at the object's name. The number of an operation is its
+    /// place here.
     pub operations: Items<Operation>,
 }

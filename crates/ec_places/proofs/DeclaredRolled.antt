@@ -9,18 +9,71 @@ use Rattle.ec_ast.specs.declared.Arm.{Arm, roll-Arm, map-Arm, fold-roll-Arm}
 use Rattle.ec_ast.specs.declared.Block.{Block, roll-Block, map-Block, fold-roll-Block}
 use Rattle.ec_ast.specs.declared.Body.{Body, roll-Body, map-Body, fold-roll-Body}
 use Rattle.ec_ast.specs.declared.Factor.{Factor, roll-Factor, map-Factor, fold-roll-Factor}
-use Rattle.ec_ast.specs.declared.ObjectConstructor.{ObjectConstructor, roll-ObjectConstructor, map-ObjectConstructor, fold-roll-ObjectConstructor}
+use Rattle.ec_ast.specs.declared.ObjectConstructor.{ObjectConstructor, roll-ObjectConstructor, map-ObjectConstructor}
+use Rattle.ec_ast.specs.declared.ObjectConstructor.{fold-roll-ObjectConstructor}
 use Rattle.ec_ast.specs.declared.Operation.{Operation, roll-Operation, map-Operation, fold-roll-Operation, fold-Operation}
 use Rattle.ec_ast.specs.declared.ProcessSection.{ProcessSection, roll-ProcessSection, map-ProcessSection, fold-roll-ProcessSection}
 use Rattle.ec_ast.specs.declared.Expression.TheOpen.{Expression-F, Link-F, Member-F, Statement-F, Addend-F, Arm-F, Block-F}
 use Rattle.ec_ast.specs.declared.Expression.TheOpen.{Body-F, Factor-F, ObjectConstructor-F, Operation-F, ProcessSection-F}
-use Rattle.ec_check.proofs.Rolled.{ExpressionLayer, LinkLayer, MemberLayer, StatementLayer, AddendLayer, ArmLayer, BlockLayer}
-use Rattle.ec_check.proofs.Rolled.{BodyLayer, FactorLayer, ObjectLayer, OperationLayer, ProcessLayer}
-use Rattle.ec_conform.specs.Declarations.{MemberPart, BodyPart, expression_step, link_step, member_step, statement_step, addend_step}
-use Rattle.ec_conform.specs.Declarations.{arm_step, block_step, body_step, factor_step, constructor_step, operation_step, process_step}
+use Rattle.ec_conform.specs.Declarations.{MemberPart, BodyPart, expression_step, link_step, member_step, statement_step}
+use Rattle.ec_conform.specs.Declarations.{addend_step}
+use Rattle.ec_conform.specs.Declarations.{arm_step, block_step, body_step, factor_step, constructor_step, operation_step}
+use Rattle.ec_conform.specs.Declarations.{process_step}
 use Rattle.ec_conform.specs.Declarations.{in_expression, in_link, in_member, in_statement, in_addend, in_arm, in_block, in_body}
 use Rattle.ec_conform.specs.Declarations.{in_factor, in_constructor, in_process}
 use Rattle.ec_conform.specs.declared.declared.Declarations.{Declarations}
+
+-- ---- one layer of each kind of part
+
+abbrev pub ExpressionLayer : Type 0
+ExpressionLayer =
+    Expression-F Expression Link Member Statement Addend Arm Block Body Factor ObjectConstructor Operation ProcessSection
+
+abbrev pub LinkLayer : Type 0
+LinkLayer =
+    Link-F Expression Link Member Statement Addend Arm Block Body Factor ObjectConstructor Operation ProcessSection
+
+abbrev pub MemberLayer : Type 0
+MemberLayer =
+    Member-F Expression Link Member Statement Addend Arm Block Body Factor ObjectConstructor Operation ProcessSection
+
+abbrev pub StatementLayer : Type 0
+StatementLayer =
+    Statement-F Expression Link Member Statement Addend Arm Block Body Factor ObjectConstructor Operation ProcessSection
+
+abbrev pub AddendLayer : Type 0
+AddendLayer =
+    Addend-F Expression Link Member Statement Addend Arm Block Body Factor ObjectConstructor Operation ProcessSection
+
+abbrev pub ArmLayer : Type 0
+ArmLayer =
+    Arm-F Expression Link Member Statement Addend Arm Block Body Factor ObjectConstructor Operation ProcessSection
+
+abbrev pub BlockLayer : Type 0
+BlockLayer =
+    Block-F Expression Link Member Statement Addend Arm Block Body Factor ObjectConstructor Operation ProcessSection
+
+abbrev pub BodyLayer : Type 0
+BodyLayer =
+    Body-F Expression Link Member Statement Addend Arm Block Body Factor ObjectConstructor Operation ProcessSection
+
+abbrev pub FactorLayer : Type 0
+FactorLayer =
+    Factor-F Expression Link Member Statement Addend Arm Block Body Factor ObjectConstructor Operation ProcessSection
+
+abbrev pub ObjectLayer : Type 0
+ObjectLayer =
+    ObjectConstructor-F Expression Link Member Statement Addend Arm Block Body Factor ObjectConstructor Operation ProcessSection
+
+abbrev pub OperationLayer : Type 0
+OperationLayer =
+    Operation-F Expression Link Member Statement Addend Arm Block Body Factor ObjectConstructor Operation ProcessSection
+
+abbrev pub ProcessLayer : Type 0
+ProcessLayer =
+    ProcessSection-F Expression Link Member Statement Addend Arm Block Body Factor ObjectConstructor Operation ProcessSection
+
+-- ---- what it declares
 
 abbrev pub in_operation : Operation → MemberPart
 in_operation =
