@@ -86,7 +86,7 @@ held_changed f scope us h = subst (λ s. Every (HeldAt s) (uses_outside us)) (ou
 
 -- ---- the captured names
 
-some_not_none : (out : ℕ) → (suc out == 0) ≡ false
+pub some_not_none : (out : ℕ) → (suc out == 0) ≡ false
 some_not_none out = apart (suc out == 0) refl
   where
     apart : (b : Bool) → (suc out == 0) ≡ b → (suc out == 0) ≡ false

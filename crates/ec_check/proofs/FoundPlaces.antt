@@ -30,16 +30,16 @@ held_out (found.Held h) = Some h.out
 held_out (found.Constant of) = None
 held_out found.Nothing = None
 
-never_held : (m : Option Meaning) → held_out (found_meaning m) ≡ None
+pub never_held : (m : Option Meaning) → held_out (found_meaning m) ≡ None
 never_held None = refl
 never_held (Some (means.Value of)) = refl
 never_held (Some (means.Class c)) = refl
 never_held (Some means.Typeobject) = refl
 
-abbrev AtLeast : ℕ → Found → Type 0
+abbrev pub AtLeast : ℕ → Found → Type 0
 AtLeast n f = (k : ℕ) → held_out f ≡ Some k → n ≤ k
 
-at_least_held : (n : ℕ) (entry : Option Entry) (f : Found) → AtLeast (suc n) f → AtLeast n (held_or n entry f)
+pub at_least_held : (n : ℕ) (entry : Option Entry) (f : Found) → AtLeast (suc n) f → AtLeast n (held_or n entry f)
 at_least_held n None f h = λ k e. let l : suc n ≤ k = h k e in omega arith
 at_least_held n (Some x) f h = λ k e. let s : n ≡ k = cc in omega arith
 

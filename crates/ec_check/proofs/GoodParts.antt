@@ -13,7 +13,7 @@ use Rattle.ec_ast.specs.declared.Operation.{Operation, map-Operation}
 use Rattle.ec_ast.specs.declared.ProcessSection.{ProcessSection, map-ProcessSection}
 use Rattle.ec_ast.specs.declared.Expression.TheOpen.{Expression-F, Link-F, Member-F, Statement-F, Addend-F, Arm-F, Block-F}
 use Rattle.ec_ast.specs.declared.Expression.TheOpen.{Body-F, Factor-F, ObjectConstructor-F, Operation-F, ProcessSection-F}
-use Rattle.ec_check.proofs.DeclaredRolled.{in_operation}
+use Rattle.ec_places.proofs.DeclaredRolled.{in_operation}
 use Rattle.ec_check.proofs.DeclaringParts.{DeclaringPart, DeclaringLink, DeclaringMember, DeclaringStatement, DeclaringAddend, DeclaringArm}
 use Rattle.ec_check.proofs.DeclaringParts.{DeclaringPiece, DeclaringBody, DeclaringFactor, DeclaringObject, DeclaringOperation, DeclaringProcess}
 use Rattle.ec_check.proofs.Rolled.{ExpressionLayer, LinkLayer, MemberLayer, StatementLayer, AddendLayer, ArmLayer, BlockLayer}

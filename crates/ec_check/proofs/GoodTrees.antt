@@ -3,19 +3,19 @@ use Rattle.std.proofs.Common.{◌≡◌, Bool, true, List, [], map, Option, Some
 use Rattle.ec_ast.specs.declared.Expression.{Expression, roll-Expression, ind-Expression}
 use Rattle.ec_ast.specs.declared.Link.{roll-Link}
 use Rattle.ec_ast.specs.declared.Member.{roll-Member}
-use Rattle.ec_ast.specs.declared.Statement.{roll-Statement}
+use Rattle.ec_ast.specs.declared.Statement.{Statement, roll-Statement, ind-Statement}
 use Rattle.ec_ast.specs.declared.Addend.{roll-Addend}
 use Rattle.ec_ast.specs.declared.Arm.{roll-Arm}
-use Rattle.ec_ast.specs.declared.Block.{roll-Block}
+use Rattle.ec_ast.specs.declared.Block.{Block, roll-Block, ind-Block}
 use Rattle.ec_ast.specs.declared.Body.{Body, roll-Body, ind-Body}
 use Rattle.ec_ast.specs.declared.Factor.{roll-Factor}
 use Rattle.ec_ast.specs.declared.ObjectConstructor.{roll-ObjectConstructor}
 use Rattle.ec_ast.specs.declared.Operation.{roll-Operation}
 use Rattle.ec_ast.specs.declared.ProcessSection.{roll-ProcessSection}
 use Rattle.ec_ast.specs.declared.Expression.TheOpen.{Link-F, Member-F}
-use Rattle.ec_check.proofs.DeclaredRolled.{in_operation, link_declared, link_declares, member_declared, member_declares, addend_declared}
-use Rattle.ec_check.proofs.DeclaredRolled.{addend_declares, body_declared, body_declares, factor_declared, factor_declares, object_declared}
-use Rattle.ec_check.proofs.DeclaredRolled.{object_declares, operation_declared, operation_declares, process_declared, process_declares}
+use Rattle.ec_places.proofs.DeclaredRolled.{in_operation, link_declared, link_declares, member_declared, member_declares, addend_declared}
+use Rattle.ec_places.proofs.DeclaredRolled.{addend_declares, body_declared, body_declares, factor_declared, factor_declares, object_declared}
+use Rattle.ec_places.proofs.DeclaredRolled.{object_declares, operation_declared, operation_declares, process_declared, process_declares}
 use Rattle.ec_check.proofs.DeclaringParts.{SoundTypes, both_sound, SoundMemberTypes, SoundBodyTypes, DeclaringLink, DeclaringMember}
 use Rattle.ec_check.proofs.DeclaringParts.{DeclaringAddend, DeclaringFactor, DeclaringBody, DeclaringObject, DeclaringOperation, DeclaringProcess}
 use Rattle.ec_check.proofs.DeclaringParts.{parts_declare, members_declare, within_members_sound, holder_declares}
@@ -272,6 +272,22 @@ good_part =
 pub good_body : (x : Body) → IsGoodBody x
 good_body =
     ind-Body
+    IsGoodPart IsGoodLink IsGoodMember IsGoodStatement IsGoodAddend IsGoodArm IsGoodBlock IsGoodBody IsGoodFactor IsGoodObject
+    IsGoodOperation IsGoodProcess
+    part_from link_from member_from statement_from addend_from arm_from block_from body_from factor_from object_from
+    operation_from process_from
+
+pub good_statement : (x : Statement) → IsGoodStatement x
+good_statement =
+    ind-Statement
+    IsGoodPart IsGoodLink IsGoodMember IsGoodStatement IsGoodAddend IsGoodArm IsGoodBlock IsGoodBody IsGoodFactor IsGoodObject
+    IsGoodOperation IsGoodProcess
+    part_from link_from member_from statement_from addend_from arm_from block_from body_from factor_from object_from
+    operation_from process_from
+
+pub good_block : (x : Block) → IsGoodBlock x
+good_block =
+    ind-Block
     IsGoodPart IsGoodLink IsGoodMember IsGoodStatement IsGoodAddend IsGoodArm IsGoodBlock IsGoodBody IsGoodFactor IsGoodObject
     IsGoodOperation IsGoodProcess
     part_from link_from member_from statement_from addend_from arm_from block_from body_from factor_from object_from

@@ -198,7 +198,7 @@ created_counted class l ls =
     (e.rolls-Create class (arguments_in (out-Link l)))
     ∙ ap (λ n. Created class n ∷ joined (map in_expression (arguments_in (out-Link l)))) (length-map (arguments_in (out-Link l)) in_expression))
 
-creation_arguments : (env : Env) (name word : Name) (arguments : List Part) →
+pub creation_arguments : (env : Env) (name word : Name) (arguments : List Part) →
     arguments_in (out-Link (link_core env (Creation name) (call word arguments))) ≡ cores_of env arguments
 creation_arguments env name word arguments =
     ap (λ x. arguments_in (out-Link x))

@@ -45,7 +45,7 @@ inserted : (f : StaticFault) (fs : List StaticFault) → insert f fs ≡ [] → 
 inserted f [] e = cc
 inserted f (g ∷ gs) e = one_of_two (is_before g f) g f (insert f gs) (g ∷ gs) e
 
-none_in_order : (fs : List StaticFault) → in_order fs ≡ [] → fs ≡ []
+pub none_in_order : (fs : List StaticFault) → in_order fs ≡ [] → fs ≡ []
 none_in_order [] e = refl
 none_in_order (f ∷ fs) e = absurd (inserted f (in_order fs) e)
 
@@ -54,12 +54,18 @@ none_in_order (f ∷ fs) e = absurd (inserted f (in_order fs) e)
 contained_behind : {A : Type 0} (x : A) (xs : List A) (y : A) → Contains xs y → Contains (x ∷ xs) y
 contained_behind x xs y c = (suc c.0, let l : c.0 < length xs = c.1 in omega arith, c.2)
 
-each_contained : {A : Type 0} (xs : List A) → Every (Contains xs) xs
+pub each_contained : {A : Type 0} (xs : List A) → Every (Contains xs) xs
 each_contained [] = tt
 each_contained (x ∷ xs) = (
   (zero, omega arith, refl),
   every_weaker (Contains xs) (Contains (x ∷ xs)) (contained_behind x xs) xs (each_contained xs),
 )
+
+-- ---- outside every object
+
+pub none_held : (scope : Scope) (us : List Use) → scope.objects ≡ [] → Every (HeldAt scope) us → us ≡ []
+none_held scope [] e h = refl
+none_held scope (u ∷ us) e h = absurd (held_nowhere scope u.name.text u.out e h.0)
 
 -- ---- the constants in scope
 
@@ -112,10 +118,6 @@ module _ (whole : Whole) where
   )
 
   -- ---- the values of the constants
-
-  none_held : (scope : Scope) (us : List Use) → scope.objects ≡ [] → Every (HeldAt scope) us → us ≡ []
-  none_held scope [] e h = refl
-  none_held scope (u ∷ us) e h = absurd (held_nowhere scope u.name.text u.out e h.0)
 
   fits_outside : (table : Table) (globals : List Global) → GlobalsAre whole globals →
       Fits (limits_outside whole) (env_in (scope_with table globals) [])

@@ -4,10 +4,10 @@ use Rattle.std.proofs.Common.{◌≡◌, List, [], ◌∷◌, map, Option, Some,
 use Rattle.ec_ast.specs.declared.Expression.{Expression, roll-Expression, ind-Expression}
 use Rattle.ec_ast.specs.declared.Link.{roll-Link}
 use Rattle.ec_ast.specs.declared.Member.{roll-Member}
-use Rattle.ec_ast.specs.declared.Statement.{roll-Statement}
+use Rattle.ec_ast.specs.declared.Statement.{Statement, roll-Statement, ind-Statement}
 use Rattle.ec_ast.specs.declared.Addend.{roll-Addend}
 use Rattle.ec_ast.specs.declared.Arm.{roll-Arm}
-use Rattle.ec_ast.specs.declared.Block.{roll-Block}
+use Rattle.ec_ast.specs.declared.Block.{Block, roll-Block, ind-Block}
 use Rattle.ec_ast.specs.declared.Body.{Body, roll-Body, ind-Body}
 use Rattle.ec_ast.specs.declared.Factor.{roll-Factor}
 use Rattle.ec_ast.specs.declared.ObjectConstructor.{roll-ObjectConstructor}
@@ -206,6 +206,22 @@ ranged_part =
 pub ranged_body : (x : Body) → IsRangedBody x
 ranged_body =
     ind-Body
+    IsRangedPart IsRangedLink IsRangedMember IsRangedStatement IsRangedAddend IsRangedArm IsRangedBlock IsRangedBody
+    IsRangedFactor IsRangedObject IsRangedOperation IsRangedProcess
+    part_from link_from member_from statement_from addend_from arm_from block_from body_from factor_from object_from
+    operation_from process_from
+
+pub ranged_statement : (x : Statement) → IsRangedStatement x
+ranged_statement =
+    ind-Statement
+    IsRangedPart IsRangedLink IsRangedMember IsRangedStatement IsRangedAddend IsRangedArm IsRangedBlock IsRangedBody
+    IsRangedFactor IsRangedObject IsRangedOperation IsRangedProcess
+    part_from link_from member_from statement_from addend_from arm_from block_from body_from factor_from object_from
+    operation_from process_from
+
+pub ranged_block : (x : Block) → IsRangedBlock x
+ranged_block =
+    ind-Block
     IsRangedPart IsRangedLink IsRangedMember IsRangedStatement IsRangedAddend IsRangedArm IsRangedBlock IsRangedBody
     IsRangedFactor IsRangedObject IsRangedOperation IsRangedProcess
     part_from link_from member_from statement_from addend_from arm_from block_from body_from factor_from object_from

@@ -37,7 +37,7 @@ result_is_known : (scope : Scope) (result : Option Parameter) → each_of (λ p.
 result_is_known scope None e = λ is. is
 result_is_known scope (Some p) e = λ is. written_has_type _ (type_is_known scope.table p.of e)
 
-sound_in_operation : (scope : Scope) (o : judged.OperationPart) → SoundScope scope →
+pub sound_in_operation : (scope : Scope) (o : judged.OperationPart) → SoundScope scope →
     unknown_in_operation scope.table o.parameters o.result ≡ [] → SoundScope (scope_of_operation scope o)
 sound_in_operation scope o s e =
     sound_declaring (parameter_entries scope o.parameters ++ result_entries scope o.result) scope s
@@ -146,7 +146,7 @@ object_is_sound scope holder e h = record {
       (members_of holder) h);
 }
 
-sound_in_body : (scope : Scope) (h : Holder) → SoundScope scope → SoundHolder h →
+pub sound_in_body : (scope : Scope) (h : Holder) → SoundScope scope → SoundHolder h →
     faults_in_holder scope (holder_judged h) ≡ [] → SoundScope (scope_of scope (holder_judged h))
 sound_in_body scope h s k e =
     sound_within scope (object_with scope (holder_judged h) (fields_of scope (holder_judged h))) s

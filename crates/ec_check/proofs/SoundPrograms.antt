@@ -82,10 +82,10 @@ table_is_sound declared table is h =
 
 -- ---- constants without faults
 
-abbrev Faultless : Scope → Constant → Type 0
+abbrev pub Faultless : Scope → Constant → Type 0
 Faultless scope c = faults_in_constant scope c.name c.of (value_part c.value) ≡ []
 
-class_without_faults : (scope : Scope) (c : Class) → faults_in_holder scope (judged_tree.class_part c) ≡ [] →
+pub class_without_faults : (scope : Scope) (c : Class) → faults_in_holder scope (judged_tree.class_part c) ≡ [] →
     faults_in_holder scope (holder_judged (class_part c)) ≡ []
 class_without_faults scope c e = subst (λ h. faults_in_holder scope h ≡ []) (sym (same_class c)) e
 
@@ -159,19 +159,25 @@ constants_types scope (c ∷ cs) s e =
     every_joined HasType (value_within scope c.value) (each (λ (c : Constant). value_within scope c.value) cs)
     (value_types scope c.name c.of c.value s e.0) (constants_types scope cs s e.1)
 
+pub constants_are_faultless : (table : Table) (program : Program) → StaticFaults table program ≡ [] →
+    Every (Faultless (outermost table program)) program.constants
+constants_are_faultless table program none =
+    every_unmap (λ c. faults_in_constant (outermost table program) c.name c.of c.value ≡ []) constant_part program.constants
+    (none_each (λ c. faults_in_constant (outermost table program) c.name c.of c.value) (constant_parts program)
+    (none_left _ _ (none_in_order (faults_of_program table program) none)))
+
+pub outermost_is_sound : (table : Table) (program : Program) → IsTable (declarations_of program).types table →
+    StaticFaults table program ≡ [] → SoundScope (outermost table program)
+outermost_is_sound table program is none = record {
+  table =
+      table_is_sound (declarations_of program).types table is
+      (constants_declare (outermost table program) program.constants (constants_are_faultless table program none));
+  globals = globals_are_typed table (constant_parts program) program.constants (constants_are_faultless table program none);
+  objects = tt;
+}
+
 pub types_are_known : (table : Table) (program : Program) → IsTable (declarations_of program).types table →
     StaticFaults table program ≡ [] → Every HasType (types_of_program table program)
 types_are_known table program is none =
-    let faultless : Every (Faultless (outermost table program)) program.constants =
-    every_unmap (λ c. faults_in_constant (outermost table program) c.name c.of c.value ≡ []) constant_part program.constants
-    (none_each (λ c. faults_in_constant (outermost table program) c.name c.of c.value) (constant_parts program)
-    (none_left _ _ (none_in_order (faults_of_program table program) none))) in
-    constants_types (outermost table program) program.constants
-    (record {
-      table =
-          table_is_sound (declarations_of program).types table is
-          (constants_declare (outermost table program) program.constants faultless);
-      globals = globals_are_typed table (constant_parts program) program.constants faultless;
-      objects = tt;
-    })
-    faultless
+    constants_types (outermost table program) program.constants (outermost_is_sound table program is none)
+    (constants_are_faultless table program none)

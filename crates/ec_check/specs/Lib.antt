@@ -3,9 +3,11 @@ pub mod Laws
 pub mod Layers
 pub mod Making
 pub mod Numbers
+pub mod Operations
 pub mod Parts
 pub mod Places
 pub mod Program
 pub mod Resolving
 pub mod Tree
 pub mod Typing
+pub mod WellTyped

@@ -14,13 +14,14 @@ use ec_judge::program::{judged_program, scope_of};
 use ec_rules::StaticFault;
 use std::alloc::{AllocError, Global};
 
-/// A program that breaks no static rule, with its core: in it each name, type and operation is resolved, and each
-/// expression of the program has its type.
+/// A program that breaks no static rule, with the table of its types, and with its core: in it each name, type and
+/// operation is resolved, and it is well typed.
 #[derive(Drop)]
 pub struct Checked {
     pub program: Program,
+    pub table: TypeTable,
     pub core: Core,
-    pub ghost accepted: { ∥ HasCore program core ∥₁ },
+    pub ghost accepted: { ∥ HasCore program table core ∥₁ },
 }
 
 /// Why a program isn't accepted.
@@ -43,25 +44,29 @@ impl From<AllocError> for CheckError {
 /// The program with its core, if it breaks no static rule.
 pub fn check(alloc: Global, program: Program) -> Result<Checked, CheckError>
     ensures program { IfOk result (λ checked. checked.program ≡ program) }
-    ensures accepted { IfOk result (λ checked. HasCore checked.program checked.core) }
+    ensures accepted { IfOk result (λ checked. HasCore checked.program checked.table checked.core) }
     ensures refused { IfErr result (IsRefused program) }
 {
     let declared = declarations_of(alloc, &program)?;
     let table = TypeTable::build(alloc, &declared)?;
-    let core = core_if_accepted(alloc, table, &declared, &program)?;
-    Ok(Checked { program, core })
+    let (core, table) = core_if_accepted(alloc, table, &declared, &program)?;
+    Ok(Checked {
+        program,
+        table,
+        core,
+    })
 }
 
-/// The core of a program with these declarations and this table of types, if it breaks no static rule.
+/// The core of a program with these declarations and this table of types, if it breaks no static rule, and the table.
 fn core_if_accepted(
     alloc: Global,
     table: TypeTable,
     declared: &Declarations,
     program: &Program,
-) -> Result<Core, CheckError>
+) -> Result<(Core, TypeTable), CheckError>
     requires declared { declared.now ≡ declared_by program.now }
     requires table { IsTable declared.now.types table }
-    ensures accepted { IfOk result (HasCore program.now) }
+    ensures accepted { IfOk result (λ made. HasCore program.now made.1 made.0) }
     ensures refused { IfErr result (IsRefused program.now) }
 {
     let constants = program.constants.as_slice();

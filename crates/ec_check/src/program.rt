@@ -8,6 +8,7 @@ use crate::holders::resolve_holder;
 use crate::resolver::{Made, Resolver, type_or};
 use crate::variables::Variables;
 use ec_ast::{self as tree, ConstantValue};
+use ec_conform::TypeTable;
 use ec_core::{Constant, Core};
 use ec_judge::holders::Heading;
 use ec_judge::walk::Walk;
@@ -62,13 +63,15 @@ fn resolve_constants<'a>(
     Ok(found)
 }
 
-/// The core of a program's constants, by a walk in their scope. The error is want of memory.
+/// The core of a program's constants, by a walk in their scope, and the table of types of the scope. The error is want of
+/// memory.
 pub fn core_of<'a>(
     alloc: Global,
     walk: Walk<'a>,
     constants: &'a [tree::Constant],
-) -> Result<Core, AllocError>
-    ensures { IfOk result (λ core. core ≡ spec.core_in walk.entry.scope constants.now) }
+) -> Result<(Core, TypeTable), AllocError>
+    ensures core { IfOk result (λ made. made.0 ≡ spec.core_in walk.entry.scope constants.now) }
+    ensures table { IfOk result (λ made. made.1 ≡ walk.entry.scope.table) }
 {
     let mut r = Resolver {
         walk,
@@ -80,9 +83,10 @@ pub fn core_of<'a>(
         },
     };
     let found = resolve_constants(alloc, &mut r, constants)?;
-    Ok(Core {
+    let core = Core {
         constants: found,
         classes: r.made.classes,
         operations: r.made.operations,
-    })
+    };
+    Ok((core, r.walk.scope.table))
 }

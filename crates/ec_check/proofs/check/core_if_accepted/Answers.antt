@@ -15,6 +15,6 @@ returns-in_ok-core_of-in-None c =
       accepted =
           has_core c.args.program.now c.args.table c.args.declared.now c.in_ok-scope.scope c.as_slice-constants.result.now
           c.requires.declared c.requires.table c.in_ok-scope.ensures c.as_slice-constants.ensures c.in_ok-walk.walk.faults.first c.in_ok-walk.ensures.first c.in-None.is
-          c.in_ok-walk.walk.scope c.in_ok-walk.ensures.scope c.in_ok-core_of-in-None.field-0 c.in_ok-core_of-in-None.ensures;
+          c.in_ok-walk.walk.scope c.in_ok-walk.ensures.scope c.in_ok-core_of-in-None.field-0.0 c.in_ok-core_of-in-None.ensures.core c.in_ok-core_of-in-None.field-0.1 c.in_ok-core_of-in-None.ensures.table;
       refused = tt;
     }
