@@ -9,6 +9,4 @@ pub mod laws;
 pub mod program;
 pub mod resolver;
 pub mod statements;
-#[cfg(test)]
-mod tests;
 pub mod variables;

@@ -1,7 +1,7 @@
 //! Which types a program declares, and which types conform to which.
 #![tactic(auto)]
 
-ghost use Rattle.std.specs.Prelude.{◌≡◌, ◌↔◌, IfOk, length, true};
+ghost use Rattle.std.specs.Prelude.{◌≡◌, ◌↔◌, IfOk, length, option_map, slice_get, true};
 ghost use Rattle.std.specs.Option.{option_copied};
 ghost use Rattle.ec_names.specs.Names.{first_named};
 ghost use Rattle.ec_conform.specs.Conforms.{Conforms, operations_at};
@@ -88,6 +88,13 @@ impl TypeTable {
         self.names.first(name)
     }
 
+    /// The name of the type with this number, as it was declared.
+    pub fn name(&self, number: usize) -> Option<&[u8]>
+        ensures { option_map (λ name. name.now) result ≡ slice_get self.now.names number }
+    {
+        self.names.get(number)
+    }
+
     /// The number of the first type whose name begins where this place does; how many there are, where none does.
     pub fn number_at(&self, at: Span) -> usize
         ensures { result ≡ spec.number_at self.now.places at.from }
@@ -135,6 +142,3 @@ impl TypeTable {
         self.conforms(StaticType::Plain(Plain::Named(class)), t)
     }
 }
-
-#[cfg(test)]
-mod tests;

@@ -1,6 +1,6 @@
--- Where clap takes the words of a run, what it found for the budget is a number in its range: among its rows there is
+-- Where clap takes the words of a run, or of its meaning, what it found for the budget is a number in its range: among its rows there is
 -- at most one of the budget, which has one value, and the value passed the budget's parser.
-use Rattle.std.proofs.Common.{◌≡◌, refl, sym, ap, ◌∙◌, subst, arith, ℕ, Bool, true, false, cond, zero, suc, ◌==◌, ◌&&◌, ◌||◌, List, [], ◌∷◌, ◌++◌, length, drop, Option, Some, None, true≢false, is_some, codes, unwrap_or}
+use Rattle.std.proofs.Common.{◌≡◌, refl, sym, ap, ◌∙◌, subst, arith, ℕ, Bool, true, false, cond, zero, suc, ◌==◌, ◌&&◌, ◌||◌, ◌⊎◌, inl, inr, List, [], ◌∷◌, ◌++◌, length, drop, Option, Some, None, true≢false, is_some, codes, unwrap_or}
 use Rattle.std.specs.Prelude.{slice_get, option_map, option_and_then, encode_utf8}
 use Rattle.std.specs.List.{find, fold}
 use Rattle.std.specs.Option.{option_map_or}
@@ -20,7 +20,7 @@ use Rattle.clap.specs.declared.error.kind.ErrorKind.TheVariants as kind
 use Rattle.clap.specs.declared.parser.matches.ValueSource.{ValueSource}
 use Rattle.clap.specs.declared.parser.matches.ValueSource.TheVariants.{DefaultValue, CommandLine}
 use Rattle.clap.proofs.ValueTestLemmas.{accepts-Accepts}
-use Rattle.ec_inputs.specs.Words.{app, budget, required_word, run, IsBudget}
+use Rattle.ec_inputs.specs.Words.{app, budget, required_word, run_named, IsBudget}
 
 pub or_none : (a b : Kinds) → or_else a b ≡ [] → (a ≡ []) × (b ≡ [])
 or_none [] b e = (refl, e)
@@ -394,10 +394,14 @@ level_found s takes words none =
     let walks_fine : Fine end.rows = walk_fine s known words (walk_from nothing_held) walks.0 tt in
     takes.complete (settled s.rules end).rows (settled_fine s known end settles.0 walks_fine)
 
--- a run takes a budget
+-- the name of a run, or of its meaning
+abbrev pub NamesRun : Text → Type 0
+NamesRun name = (name ≡ codes "run") ⊎ (name ≡ codes "mean")
+
+-- both take a budget
 abbrev RunsTake : List Shape → Type 0
 RunsTake [] = Unit {0}
-RunsTake (s ∷ ss) = (s.name ≡ codes "run" → TakesBudget s) × RunsTake ss
+RunsTake (s ∷ ss) = (NamesRun s.name → TakesBudget s) × RunsTake ss
 
 -- the fault and the matches of the subcommand that was found
 abbrev fault_below : List Text → Option Shape → Kinds
@@ -406,12 +410,12 @@ fault_below words o = option_map_or (λ s. level_fault s [] nothing_held words f
 abbrev found_below : List Text → Option Shape → Option (Text × List Row)
 found_below words o = option_map (λ s. rows_at s words) o
 
-module _ (words : List Text) (name : Text) (rows : List Row) (is_run : name ≡ codes "run") where
-  shape_found : (s : Shape) → (s.name ≡ codes "run" → TakesBudget s) → fault_below words (Some s) ≡ []
+module _ (words : List Text) (name : Text) (rows : List Row) (is_run : NamesRun name) where
+  shape_found : (s : Shape) → (NamesRun s.name → TakesBudget s) → fault_below words (Some s) ≡ []
       → found_below words (Some s) ≡ Some (name, rows) → IsBudget (one_of (codes "budget") rows)
   shape_found s takes none found =
       let same : rows_at s words ≡ (name, rows) = ap (λ (o : Option (Text × List Row)). unwrap_or o (name, rows)) found in
-      let is : s.name ≡ codes "run" = ap (λ (p : Text × List Row). p.0) same ∙ is_run in
+      let is : NamesRun s.name = subst (λ n. NamesRun n) (sym (ap (λ (p : Text × List Row). p.0) same)) is_run in
       let its : rows_after s.rules [] words ≡ rows = ap (λ (p : Text × List Row). p.1) same in
       subst (λ rs. IsBudget (one_of (codes "budget") rs)) its (level_found s (takes is) words none)
 
@@ -439,8 +443,8 @@ abbrev pub built_sub : App → Shape
 built_sub a = built_leaf (inherited (with_leaf_noted (marked_built app.top)) a.top)
 
 -- the rows with the defaults of the four arguments of a run
-complete : (rows : List Row) → Fine rows → IsBudget (one_of (codes "budget") (fold with_default rows (built_sub run).rules))
-complete rows f =
+complete : (name : Text) (rows : List Row) → Fine rows → IsBudget (one_of (codes "budget") (fold with_default rows (built_sub (run_named name)).rules))
+complete name rows f =
     let source = with_index 1 (filled (required_word (codes "source"))) in
     let nodes = with_index 2 (filled (required_word (codes "nodes"))) in
     let schedule = with_index 3 (filled (required_word (codes "schedule"))) in
@@ -450,18 +454,19 @@ complete rows f =
     let last = with_default (with_default (with_default rows source) nodes) schedule in
     own_found (with_default last own) (default_fine own last own_known three) (own_there last)
 
-run_known : AllKnown (built_sub run).rules
-run_known =
+run_known : (name : Text) → AllKnown (built_sub (run_named name)).rules
+run_known name =
     let word = positional_known in
     (word (codes "source") 1 refl, (word (codes "nodes") 2 refl, (word (codes "schedule") 3 refl, (own_known, tt))))
 
-run_takes : TakesBudget (built_sub run)
-run_takes = record { known = run_known; complete = complete }
+run_takes : (name : Text) → TakesBudget (built_sub (run_named name))
+run_takes name = record { known = run_known name; complete = complete name }
 
-check_is_no_run : codes "check" ≡ codes "run" → ⊥
-check_is_no_run e = cc
+check_is_no_run : NamesRun (codes "check") → ⊥
+check_is_no_run (inl e) = cc
+check_is_no_run (inr e) = cc
 
-pub budget_found : (words : List Text) (name : Text) (rows : List Row) → name ≡ codes "run" → fault_of app words ≡ []
+pub budget_found : (words : List Text) (name : Text) (rows : List Row) → NamesRun name → fault_of app words ≡ []
     → subcommand_of app words ≡ Some (name, rows) → IsBudget (one_of (codes "budget") rows)
 budget_found words name rows is_run none found =
     let levels = or_none _ _ none in
@@ -469,7 +474,7 @@ budget_found words name rows is_run none found =
     go (stop_after (built app).top.rules (names_of (built app)) (argument_words app words)) below.0 found
   where
     takes : RunsTake (built app).subs
-    takes = (λ is. run_takes, (λ is. absurd (check_is_no_run is), tt))
+    takes = (λ is. run_takes (codes "run"), (λ is. absurd (check_is_no_run is), (λ is. run_takes (codes "mean"), tt)))
 
     go : (stop : Option (Text × List Text)) → entered_fault (built app) stop ≡ [] → entered (built app) stop ≡ Some (name, rows) → IsBudget (one_of (codes "budget") rows)
     go None e f = let bad : ⊥ = cc in absurd bad

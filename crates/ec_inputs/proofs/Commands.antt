@@ -12,8 +12,8 @@ use Rattle.clap.specs.declared.error.ErrorKind.TheVariants as kinds
 use Rattle.clap.specs.declared.parser.matches.ArgMatches.{ArgMatches}
 use Rattle.clap.specs.declared.parser.matches.SubCommand.{SubCommand}
 use Rattle.clap.specs.declared.parser.matches.ArgMatches.TheViews.{out-ArgMatches, out-SubCommand}
-use Rattle.ec_inputs.specs.Words.{IsBudget, app, check, command_of, run, unless_fault, WordsOf}
-use Rattle.ec_inputs.proofs.Budgets.{budget_found, built_sub, or_none}
+use Rattle.ec_inputs.specs.Words.{IsBudget, app, check, command_of, mean, run, unless_fault, WordsOf}
+use Rattle.ec_inputs.proofs.Budgets.{budget_found, built_sub, or_none, NamesRun}
 
 pub simple : is_simple_and_free app ≡ true
 simple = refl
@@ -43,7 +43,7 @@ answered a ws found e h f =
     ap₂ (λ faults o. option_and_then command_of (unless_fault faults o))
     (ap (λ b. fault_of b ws) (sym e) ∙ h (ap is_simple_and_free e ∙ simple)) (ap (λ b. subcommand_of b ws) (sym e) ∙ sym f)
 
-pub found_budget : (a : App) (ws : List Text) (name : Text) (rows : List Row) → name ≡ codes "run" → a ≡ app
+pub found_budget : (a : App) (ws : List Text) (name : Text) (rows : List Row) → NamesRun name → a ≡ app
     → (is_simple_and_free a ≡ true → fault_of a ws ≡ []) → Some (name, rows) ≡ subcommand_of a ws
     → IsBudget (one_of (codes "budget") rows)
 found_budget a ws name rows is_run e h f =
@@ -84,15 +84,16 @@ needed rows false e = cc
 named : (stop : Option (Text × List Text)) → is_some (entered (built app) stop) ≡ true
     → is_some (option_and_then command_of (entered (built app) stop)) ≡ true
 named None e = e
-named (Some p) e = go (answers_to p.0 (codes "run", [])) (answers_to p.0 (codes "check", [])) e
+named (Some p) e = go (answers_to p.0 (codes "run", [])) (answers_to p.0 (codes "check", [])) (answers_to p.0 (codes "mean", [])) e
   where
-    found : Bool → Bool → Option (Text × List Row)
-    found a b = option_map (λ s. rows_at s p.1) (cond a (Some (built_sub run)) (cond b (Some (built_sub check)) None))
+    found : Bool → Bool → Bool → Option (Text × List Row)
+    found a b d = option_map (λ s. rows_at s p.1) (cond a (Some (built_sub run)) (cond b (Some (built_sub check)) (cond d (Some (built_sub mean)) None)))
 
-    go : (a b : Bool) → is_some (found a b) ≡ true → is_some (option_and_then command_of (found a b)) ≡ true
-    go true b h = refl
-    go false true h = refl
-    go false false h = h
+    go : (a b d : Bool) → is_some (found a b d) ≡ true → is_some (option_and_then command_of (found a b d)) ≡ true
+    go true b d h = refl
+    go false true d h = refl
+    go false false true h = refl
+    go false false false h = h
 
 pub taken : (words : List Text) → fault_of app words ≡ [] → is_some (WordsOf words) ≡ true
 unfolding WordsOf

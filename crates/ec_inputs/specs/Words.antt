@@ -27,25 +27,33 @@ budget = record (new_rule (codes "budget")) {
   parser = Some (vp.Signed (pos 1) (pos 4000000000));
 }
 
+-- `NAME SOURCE NODES SCHEDULE [--budget N]`
+abbrev pub run_named : Text → App
+run_named name = with_rule (with_rule (with_rule (with_rule (new_app name)
+    (required_word (codes "source"))) (required_word (codes "nodes"))) (required_word (codes "schedule"))) budget
+
 -- `run SOURCE NODES SCHEDULE [--budget N]`
 abbrev pub run : App
-run = with_rule (with_rule (with_rule (with_rule (new_app (codes "run"))
-    (required_word (codes "source"))) (required_word (codes "nodes"))) (required_word (codes "schedule"))) budget
+run = run_named (codes "run")
 
 -- `check SOURCE`
 abbrev pub check : App
 check = with_rule (new_app (codes "check")) (required_word (codes "source"))
+
+-- `mean SOURCE NODES SCHEDULE [--budget N]`
+abbrev pub mean : App
+mean = run_named (codes "mean")
 
 -- no help and no version, and one of the subcommands has to be there
 abbrev pub without_help : Shape → Shape
 without_help s = record s { disable_help_flag = true; disable_help_subcommand = true; disable_version_flag = true; subcommand_required = true }
 
 abbrev pub app : App
-app = with_subcommand (with_subcommand (on_top without_help (new_app (codes "emerald"))) run.top) check.top
+app = with_subcommand (with_subcommand (with_subcommand (on_top without_help (new_app (codes "emerald"))) run.top) check.top) mean.top
 
 -- ---- the command and its values
 
--- the files of a run by their names, and the most entries that it does
+-- the files of a run, or of its meaning, by their names, and the most entries that it does
 pub record RunWords : Type 0 where
   pub source : Text
   pub nodes : Text
@@ -59,6 +67,7 @@ pub record CheckWords : Type 0 where
 pub data CommandWords : Type 0 where
   Run : RunWords → CommandWords
   Check : CheckWords → CommandWords
+  Mean : RunWords → CommandWords
 
 abbrev pub text_at : Text → List Row → Text
 text_at id rows = unwrap_or (first_of id rows) []
@@ -87,6 +96,7 @@ abbrev pub command_named : Text → List Row → Option CommandWords
 command_named name rows =
     if bytes_eq name (codes "run") then Some (Run (run_words rows)) else
     if bytes_eq name (codes "check") then Some (Check (check_words rows)) else
+    if bytes_eq name (codes "mean") then Some (Mean (run_words rows)) else
     None
 
 abbrev pub command_of : Text × List Row → Option CommandWords
@@ -111,8 +121,10 @@ check_in c = record { source = c.source.now }
 abbrev pub command_in : Command → CommandWords
 command_in (command.Run r) = Run (run_in r)
 command_in (command.Check c) = Check (check_in c)
+command_in (command.Mean r) = Mean (run_in r)
 
--- the budget of a run is from 1 to 4,000,000,000, and a check has none
+-- the budget of a run, or of its meaning, is from 1 to 4,000,000,000, and a check has none
 abbrev pub HasBudget : Command → Type 0
 HasBudget (command.Run r) = (1 ≤ r.budget) × (r.budget ≤ 4000000000)
 HasBudget (command.Check c) = Unit {0}
+HasBudget (command.Mean r) = (1 ≤ r.budget) × (r.budget ≤ 4000000000)

@@ -3,6 +3,4 @@
 
 pub mod nodes;
 pub mod schedule;
-#[cfg(test)]
-mod tests;
 pub mod words;

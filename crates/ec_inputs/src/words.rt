@@ -16,9 +16,11 @@ pub enum Command<'a> {
     Run(RunCommand<'a>),
     /// `check SOURCE`
     Check(CheckCommand<'a>),
+    /// `mean SOURCE NODES SCHEDULE [--budget N]`
+    Mean(RunCommand<'a>),
 }
 
-/// The words of a run.
+/// The words of a run, or of its meaning.
 #[derive(Clone, Copy, PartialEq, Eq, Debug)]
 pub struct RunCommand<'a> {
     /// The name of the file with the source.
@@ -69,14 +71,18 @@ fn emerald<'a>(alloc: Global) -> Result<clap::Command<'a>, AllocError>
         .disable_help_subcommand(true)
         .disable_version_flag(true)
         .subcommand_required(true);
-    plain.subcommand(run(alloc)?)?.subcommand(check(alloc)?)
+    plain
+        .subcommand(run_named(alloc, "run")?)?
+        .subcommand(check(alloc)?)?
+        .subcommand(run_named(alloc, "mean")?)
 }
 
-fn run<'a>(alloc: Global) -> Result<clap::Command<'a>, AllocError>
-    ensures shape { IfOk result (λ c. app_of c ≡ spec.run) }
+/// The words of a run, behind this name.
+fn run_named<'a>(alloc: Global, name: &'a str) -> Result<clap::Command<'a>, AllocError>
+    ensures shape { IfOk result (λ c. app_of c ≡ spec.run_named name.entry.now) }
     ensures local { IfOk result (λ c. (fields_of c).has_globals ≡ false) }
 {
-    clap::Command::new(alloc, "run")
+    clap::Command::new(alloc, name)
         .arg(required_word(alloc, "source"))?
         .arg(required_word(alloc, "nodes"))?
         .arg(required_word(alloc, "schedule"))?
@@ -109,13 +115,15 @@ fn budget<'a>(alloc: Global) -> Arg<'a>
 
 /// The command of this name, with what was found for its arguments.
 fn command_of<'a>(name: &str, found: &ArgMatches<'a>) -> Option<Command<'a>>
-    requires { name.now ≡ codes "run" → IsBudget (one_of (codes "budget") (rows_of (found_of found.now))) }
+    requires run { name.now ≡ codes "run" → IsBudget (one_of (codes "budget") (rows_of (found_of found.now))) }
+    requires mean { name.now ≡ codes "mean" → IsBudget (one_of (codes "budget") (rows_of (found_of found.now))) }
     ensures words { option_map spec.command_in result ≡ spec.command_named name.now (rows_of (found_of found.now)) }
     ensures budget { IfSome result HasBudget }
 {
     match name {
         "run" => Some(Command::Run(run_of(found))),
         "check" => Some(Command::Check(check_of(found))),
+        "mean" => Some(Command::Mean(run_of(found))),
         _ => None,
     }
 }

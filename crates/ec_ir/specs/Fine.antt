@@ -5,10 +5,10 @@ use Rattle.ec_world.specs.declared.value.Value.TheVariants.{Int, Str, Ref, Nil, 
 use Rattle.ec_world.specs.declared.value.ValueType.{ValueType}
 use Rattle.ec_world.specs.declared.value.ValueType.TheVariants.{Integer, Boolean, Bytes, Reference}
 use Rattle.ec_world.specs.declared.class.ClassNo.{ClassNo}
-use Rattle.ec_world.specs.declared.class.ClassNo.TheVariants.{Node, Program, Made}
+use Rattle.ec_world.specs.declared.class.ClassNo.TheVariants.{Node, Program, Made, Vector}
 use Rattle.ec_world.specs.declared.class.ClassRec.{ClassRec}
-use Rattle.ec_world.specs.declared.stop.Stop.{Stop}
-use Rattle.ec_world.specs.declared.stop.Stop.TheVariants.{Entry, New, Return, Print, Global, End}
+use Rattle.ec_ir.specs.declared.stop.Stop.{Stop}
+use Rattle.ec_ir.specs.declared.stop.Stop.TheVariants.{Entry, New, Return, Print, Global, End}
 use Rattle.ec_ir.specs.declared.code.IrOp.{IrOp}
 use Rattle.ec_ir.specs.declared.code.IrOp.TheVariants.{Literal, Rest}
 use Rattle.ec_ir.specs.declared.code.StopRec.{StopRec}
@@ -52,6 +52,7 @@ FineNew classes vars (Made k) xs into =
     (c : ClassRec) × (slice_get classes k ≡ Some c) × (c.fields ≡ []) × (xs ≡ []) × ((t : ℕ) × (into ≡ Some t) × (slice_get vars t ≡ Some Reference))
 FineNew classes vars Node xs into = ⊥
 FineNew classes vars Program xs into = ⊥
+FineNew classes vars (Vector of) xs into = ⊥
 
 -- a return stands only in operations of classes, and gives the object; a process ends only in the program's operation 0
 abbrev pub FineReturn : ℕ → Bool → List ℕ → Option ℕ → Type 0

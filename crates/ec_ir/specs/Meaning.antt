@@ -3,7 +3,8 @@ use Rattle.std.specs.Prelude.{ℕ, zero, suc, ◌+◌, Bool, true, false, List, 
 use Rattle.ec_world.specs.declared.value.Value.{Value}
 use Rattle.ec_world.specs.declared.value.Value.TheVariants.{Str, Nil}
 use Rattle.ec_world.specs.declared.value.ValueType.{ValueType}
-use Rattle.ec_world.specs.declared.stop.Stop.TheVariants.{Entry}
+use Rattle.ec_ir.specs.declared.stop.Stop.TheVariants.{Entry}
+use Rattle.ec_ir.specs.Stops.{world_stop}
 use Rattle.ec_world.specs.declared.common.Common.{Common}
 use Rattle.ec_world.specs.Meaning.{ActivationMeaning}
 use Rattle.ec_world.specs.declared.world.World.{World}
@@ -127,7 +128,7 @@ abbrev pub ir_meaning : ActivationMeaning IrActivation
 ir_meaning = record {
   operation = λ a. a.operation;
   own = λ a. a.own;
-  stop = λ a. a.stop;
+  stop = λ a. world_stop a.stop;
   operands = λ a. a.operands;
   is_pending = λ a. a.pending;
   begun = begun;

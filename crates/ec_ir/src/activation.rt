@@ -3,9 +3,10 @@ ghost use Rattle.std.specs.Prelude.{◌≡◌, ◌≤◌, length, OnOk};
 ghost use Rattle.ec_world.specs.declared.value.Value.{Value};
 ghost use Rattle.ec_ir.specs.Meaning.{ir_meaning, put};
 
+use crate::stop::Stop;
 use ec_base::list::Seq;
 use ec_world::activation::Activation;
-use ec_world::stop::Stop;
+use ec_world::stop;
 use ec_world::value::{Oid, OpNo, Value, Values, copy_values};
 use std::alloc::{AllocError, Global};
 
@@ -35,8 +36,8 @@ impl Activation for IrActivation {
         self.own
     }
 
-    fn stop(&self) -> Stop {
-        self.stop
+    fn stop(&self) -> stop::Stop {
+        self.stop.in_world()
     }
 
     fn operands(&self) -> Result<Values, AllocError> {

@@ -1,7 +1,7 @@
 //! Operations of three-address code.
+use crate::stop::Stop;
 use ec_base::list::Seq;
 use ec_world::class::Classes;
-use ec_world::stop::Stop;
 use ec_world::value::{Text, ValueType};
 
 /// An operation of the code between stops, on variables by their numbers.

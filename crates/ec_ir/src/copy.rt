@@ -34,6 +34,8 @@ impl TryCopy for ClassRec {
             name: copy_text(&self.name)?,
             initial: self.initial,
             fields: copy_items(&self.fields)?,
+            operations: copy_items(&self.operations)?,
+            conforms: copy_items(&self.conforms)?,
         })
     }
 }

@@ -5,3 +5,4 @@ pub mod activation;
 pub mod code;
 mod copy;
 pub mod program;
+pub mod stop;

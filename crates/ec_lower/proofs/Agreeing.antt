@@ -5,7 +5,7 @@ use Rattle.ec_world.specs.declared.run.Entry.{Entry}
 use Rattle.ec_world.specs.declared.run.RunEntry.{RunEntry}
 use Rattle.ec_world.specs.Agree.{Agree}
 use Rattle.ec_world.specs.Run.{first_common, after_entries, run_after}
-use Rattle.ec_meaning.specs.Meaning.{source_meaning, source_silent, source_start, begun, classes_of, globals_of}
+use Rattle.ec_printing.specs.Meaning.{source_meaning, source_silent, source_start, begun, classes_of, globals_of}
 use Rattle.ec_ir.specs.declared.code.Parts.{Parts}
 use Rattle.ec_ir.specs.Meaning.{ir_meaning, ir_silent, ir_start, begun as ir_begun}
 use Rattle.ec_lower.specs.Agreement.{Means, SameRun}

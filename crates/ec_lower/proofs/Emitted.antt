@@ -6,9 +6,9 @@ use Rattle.ec_printing.specs.declared.Constant.{Constant}
 use Rattle.ec_printing.specs.declared.Statement.{Statement}
 use Rattle.ec_printing.specs.declared.Statement.TheVariants.{Print as PrintStatement}
 use Rattle.ec_world.specs.declared.class.ClassNo.TheVariants.{Made}
-use Rattle.ec_world.specs.declared.stop.Stop.TheVariants.{New, Return, Print, Global, End}
-use Rattle.ec_meaning.specs.declared.item.Item.TheVariants.{Leave}
-use Rattle.ec_meaning.specs.Meaning.{block_items, items_of}
+use Rattle.ec_ir.specs.declared.stop.Stop.TheVariants.{New, Return, Print, Global, End}
+use Rattle.ec_printing.specs.declared.item.Item.TheVariants.{Leave}
+use Rattle.ec_printing.specs.Meaning.{block_items, items_of}
 use Rattle.ec_ir.specs.declared.code.IrOp.{IrOp}
 use Rattle.ec_ir.specs.declared.code.IrOp.TheVariants.{Literal, Rest}
 use Rattle.ec_ir.specs.declared.code.StopRec.{StopRec}

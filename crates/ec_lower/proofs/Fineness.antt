@@ -9,9 +9,9 @@ use Rattle.ec_world.specs.declared.value.ValueType.{ValueType}
 use Rattle.ec_world.specs.declared.value.ValueType.TheVariants.{Bytes, Reference}
 use Rattle.ec_world.specs.declared.class.ClassRec.{ClassRec}
 use Rattle.ec_world.specs.declared.class.ClassNo.TheVariants.{Made}
-use Rattle.ec_world.specs.declared.stop.Stop.TheVariants.{Entry, New, Return, Print, Global, End}
+use Rattle.ec_ir.specs.declared.stop.Stop.TheVariants.{Entry, New, Return, Print, Global, End}
 use Rattle.ec_world.proofs.Related.{all-length}
-use Rattle.ec_meaning.specs.Meaning.{class_of, classes_if, globals_if}
+use Rattle.ec_printing.specs.Meaning.{class_of, classes_if, globals_if}
 use Rattle.ec_ir.specs.declared.code.IrOp.{IrOp}
 use Rattle.ec_ir.specs.declared.code.IrOp.TheVariants.{Rest}
 use Rattle.ec_ir.specs.declared.code.StopRec.{StopRec}

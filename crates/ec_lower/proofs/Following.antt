@@ -10,21 +10,24 @@ use Rattle.ec_world.specs.declared.value.Value.TheVariants.{Int, Str, Ref, Nil, 
 use Rattle.ec_world.specs.declared.class.ClassNo.{ClassNo}
 use Rattle.ec_world.specs.declared.class.ClassNo.TheVariants.{Made}
 use Rattle.ec_world.specs.declared.class.ClassRec.{ClassRec}
-use Rattle.ec_world.specs.declared.stop.Stop.{Stop}
-use Rattle.ec_world.specs.declared.stop.Stop.TheVariants.{Entry, New, Return, Print as PrintStop, Global, End}
+use Rattle.ec_ir.specs.declared.stop.Stop.{Stop}
+use Rattle.ec_ir.specs.declared.stop.Stop.TheVariants.{Entry, New, Return, Print as PrintStop, Global, End}
+use Rattle.ec_world.specs.declared.stop.Stop.{Stop as WorldStop}
 use Rattle.ec_world.specs.declared.stop.Who.{Who}
-use Rattle.ec_world.specs.declared.stop.Effect.TheVariants.{GoesOn, Calls, Leaves, Ends}
+use Rattle.ec_world.specs.declared.stop.Effect.TheVariants.{GoesOn, Calls, Leaves, Ends, Fails}
 use Rattle.ec_world.specs.declared.common.Common.{Common}
-use Rattle.ec_world.specs.Effects.{Acted, effect_of, new_effect, class_at, return_effect, print_effect, global_effect}
-use Rattle.ec_meaning.specs.declared.item.Item.{Item}
-use Rattle.ec_meaning.specs.declared.item.Item.TheVariants.{Do, Evaluate, Construct, Print, Define, Leave, Finish}
-use Rattle.ec_meaning.specs.declared.activation.SourceActivation.{SourceActivation}
-use Rattle.ec_meaning.specs.Meaning.{items_of, behind, steps_of, settle, rest_at, hold_if, source_meaning, source_silent, begun, finished}
-use Rattle.ec_meaning.proofs.Settling.{settle-print, settle-construct, settle-define, settle-leave, settle-finish}
+use Rattle.ec_world.specs.Effects.{Acted, effect_of, new_effect, return_effect, print_effect, global_effect}
+use Rattle.ec_world.specs.Objects.{class_at}
+use Rattle.ec_printing.specs.declared.item.Item.{Item}
+use Rattle.ec_printing.specs.declared.item.Item.TheVariants.{Do, Evaluate, Construct, Print, Define, Leave, Finish}
+use Rattle.ec_printing.specs.declared.activation.SourceActivation.{SourceActivation}
+use Rattle.ec_printing.specs.Meaning.{items_of, behind, steps_of, settle, rest_at, hold_if, source_meaning, source_silent, begun, finished}
+use Rattle.ec_printing.proofs.Settling.{settle-print, settle-construct, settle-define, settle-leave, settle-finish}
 use Rattle.ec_ir.specs.declared.code.IrOp.{IrOp}
 use Rattle.ec_ir.specs.declared.code.StopRec.{StopRec}
 use Rattle.ec_ir.specs.declared.code.Parts.{Parts}
 use Rattle.ec_ir.specs.declared.activation.IrActivation.{IrActivation}
+use Rattle.ec_ir.specs.Stops.{world_stop}
 use Rattle.ec_ir.specs.Meaning.{variable, put, walk, resting, resting_at, settled, operation_at, stop_at, stops_of, code_of, into_variable, ir_meaning, ir_silent, begun as ir_begun, finished as ir_finished}
 use Rattle.ec_ir.proofs.Put.{put_same}
 use Rattle.ec_lower.specs.Stands.{IsStop, Stands, Holds, code_behind}
@@ -61,7 +64,7 @@ stops_in ir op = stops_of (operation_at ir op)
 pub record IsAlike (program : Program) (ir : Parts) (a : SourceActivation) (b : IrActivation) : Type 0 where
   pub operation : a.operation ≡ b.operation
   pub own : a.own ≡ b.own
-  pub stop : a.stop ≡ b.stop
+  pub stop : a.stop ≡ world_stop b.stop
   pub operands : a.operands ≡ b.operands
   pub pending : a.pending ≡ b.pending
   pub into : b.into ≡ into_if a.waits
@@ -72,7 +75,7 @@ pub record IsAlike (program : Program) (ir : Parts) (a : SourceActivation) (b : 
 -- on top of a process: it waits for no result once its action is done
 pub record IsOn (program : Program) (ir : Parts) (a : SourceActivation) (b : IrActivation) : Type 0 where
   pub alike : IsAlike program ir a b
-  pub fits : a.pending ≡ true → Fits a.stop a.waits
+  pub fits : a.pending ≡ true → Fits b.stop a.waits
   pub done : a.pending ≡ false → a.waits ≡ false
 
 -- below another: it waits for its result
@@ -89,6 +92,7 @@ Suits waits (Some (d, GoesOn given)) = waits ≡ false
 Suits waits (Some (d, Calls op own args)) = waits ≡ true
 Suits waits (Some (d, Leaves given)) = (v : Value) × (given ≡ Some v)
 Suits waits (Some (d, Ends)) = Unit {0}
+Suits waits (Some (d, Fails cause line)) = Unit {0}
 
 suits_new : (c : Common) (who : Who) (class : ClassNo) (given : List Value) (k : Option ClassRec) → Suits true (new_effect c who class given k)
 suits_new c who class given None = tt
@@ -120,7 +124,7 @@ suits_global c index [] = tt
 suits_global c index (v ∷ []) = suits_if (nat_lt index (length c.globals)) _
 suits_global c index (v ∷ u ∷ vs) = tt
 
-suits : (c : Common) (who : Who) (stop : Stop) (waits : Bool) (vs : List Value) → Fits stop waits → Suits waits (effect_of c who stop vs)
+suits : (c : Common) (who : Who) (stop : Stop) (waits : Bool) (vs : List Value) → Fits stop waits → Suits waits (effect_of c who (world_stop stop) vs)
 suits c who Entry false vs f = refl
 suits c who Entry true vs f = absurd f
 suits c who (New class) true vs f = suits_new c who class vs (class_at c.classes class)
@@ -135,8 +139,9 @@ suits c who (Global index) true vs f = absurd f
 suits c who End false vs f = tt
 suits c who End true vs f = absurd f
 
-suits_as : (c : Common) (who : Who) (stop : Stop) (waits : Bool) (vs : List Value) (o : Acted) → Fits stop waits → effect_of c who stop vs ≡ o → Suits waits o
-suits_as c who stop waits vs o f e = subst (λ (r : Acted). Suits waits r) e (suits c who stop waits vs f)
+suits_as : (c : Common) (who : Who) (at : WorldStop) (stop : Stop) (waits : Bool) (vs : List Value) (o : Acted) → at ≡ world_stop stop → Fits stop waits → effect_of c who at vs ≡ o → Suits waits o
+suits_as c who at stop waits vs o is f e =
+    subst (λ (r : Acted). Suits waits r) (sym (ap (λ s. effect_of c who s vs) is) ∙ e) (suits c who stop waits vs f)
 
 -- ---- actions that are done
 
@@ -197,13 +202,13 @@ module _ (program : Program) (ir : Parts) where
     stops = stops_in ir b.operation
 
     -- both come to the same stop
-    arrived : (n : ℕ) (s : StopRec) (stop : Stop) (operands : List ℕ) (into : Option ℕ) (values : List Value) (waits holds : Bool) (held vs : List Value) (rest : List Item) → IsStop stops n s stop operands into → Fits stop waits → into ≡ into_if waits → values ≡ map (variable vs) operands → (waits ≡ false → Holds holds held vs) → Stands ir.literals code stops holds (drop (s.place + 1) code) rest → IsOn program ir (rest_at a stop values waits held rest) (resting b n vs (slice_get stops n))
+    arrived : (n : ℕ) (s : StopRec) (stop : Stop) (operands : List ℕ) (into : Option ℕ) (values : List Value) (waits holds : Bool) (held vs : List Value) (rest : List Item) → IsStop stops n s stop operands into → Fits stop waits → into ≡ into_if waits → values ≡ map (variable vs) operands → (waits ≡ false → Holds holds held vs) → Stands ir.literals code stops holds (drop (s.place + 1) code) rest → IsOn program ir (rest_at a (world_stop stop) values waits held rest) (resting b n vs (slice_get stops n))
     arrived n s stop operands into values waits holds held vs rest i fits goes same top stands =
         rw i.there (record {
           alike = record {
             operation = on.alike.operation;
             own = on.alike.own;
-            stop = sym i.stop_is;
+            stop = ap world_stop (sym i.stop_is);
             operands = same ∙ ap (map (variable vs)) (sym i.operands_are);
             pending = refl;
             into = i.into_is ∙ goes;
@@ -211,7 +216,7 @@ module _ (program : Program) (ir : Parts) where
             held = top;
             stands = rw i.there stands;
           };
-          fits = λ k. fits;
+          fits = λ k. rw i.stop_is fits;
           done = λ k. cc;
         })
 
@@ -256,9 +261,9 @@ module _ (program : Program) (ir : Parts) (entries : HasEntries program ir) wher
     same_below = λ a b r. record { operation = r.alike.operation; own = r.alike.own; stop = r.alike.stop; pending = r.alike.pending };
     operands = λ a b r. r.alike.operands;
     begun = begun_on;
-    goes_on = λ a b c d who given r p e. done_alike program ir a b given (suits_as c who a.stop a.waits a.operands _ (r.fits p) e) r.alike;
-    calls = λ a b c d who op own args r p e. below_alike program ir a b (suits_as c who a.stop a.waits a.operands _ (r.fits p) e) r.alike;
-    leaves = λ a b c d who given x y r p e s. left_alike program ir x y given (suits_as c who a.stop a.waits a.operands _ (r.fits p) e) s;
+    goes_on = λ a b c d who given r p e. done_alike program ir a b given (suits_as c who a.stop b.stop a.waits a.operands _ r.alike.stop (r.fits p) e) r.alike;
+    calls = λ a b c d who op own args r p e. below_alike program ir a b (suits_as c who a.stop b.stop a.waits a.operands _ r.alike.stop (r.fits p) e) r.alike;
+    leaves = λ a b c d who given x y r p e s. left_alike program ir x y given (suits_as c who a.stop b.stop a.waits a.operands _ r.alike.stop (r.fits p) e) s;
     commons = λ c a b r e. refl;
     activations = λ c a b r e. silent_on program ir c a b r e;
   }

@@ -4,7 +4,7 @@ use Rattle.std.specs.Prelude.{slice_get}
 use Rattle.ec_base.proofs.Lists.{drop_at}
 use Rattle.ec_printing.specs.declared.Statement.{Statement}
 use Rattle.ec_printing.specs.declared.Statement.TheVariants.{Print as PrintStatement}
-use Rattle.ec_world.specs.declared.stop.Stop.TheVariants.{Return, Print}
+use Rattle.ec_ir.specs.declared.stop.Stop.TheVariants.{Return, Print}
 use Rattle.ec_world.proofs.Related.{all-map, all-append}
 use Rattle.ec_ir.specs.declared.code.IrOp.{IrOp}
 use Rattle.ec_ir.specs.declared.code.IrOp.TheVariants.{Literal, Rest}

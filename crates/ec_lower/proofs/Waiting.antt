@@ -8,7 +8,7 @@ use Rattle.ec_world.specs.declared.process.ProcStatus.{ProcStatus}
 use Rattle.ec_world.specs.declared.process.ProcStatus.TheVariants.{Ready, Entry as AtEntry, Cond, Urgent, Ended, Failed}
 use Rattle.ec_world.specs.declared.process.Proc.{Proc}
 use Rattle.ec_world.specs.declared.stop.Effect.{Effect}
-use Rattle.ec_world.specs.declared.stop.Effect.TheVariants.{GoesOn, Calls, Leaves, Ends}
+use Rattle.ec_world.specs.declared.stop.Effect.TheVariants.{GoesOn, Calls, Leaves, Ends, Fails}
 use Rattle.ec_world.specs.declared.common.Common.{Common}
 use Rattle.ec_world.specs.declared.world.World.{World}
 use Rattle.ec_world.specs.declared.run.Entry.{Entry}
@@ -87,6 +87,7 @@ module _ {A B : Type 0} (M : ActivationMeaning A) (N : ActivationMeaning B) (adv
     activations = finish_tops (below_of xs) (below_of ys) (top_of xs) (top_of ys) r (belows Below xs ys h) (tops Below xs ys h) (λ x y z. sim.leaves a b w.common d (who_of M p xs a) r x y k t o z);
   }
   changed_alike w p xs ys a b d Ends o t h k = record { status = refl; activations = record { below = tt; top = tt } }
+  changed_alike w p xs ys a b d (Fails cause line) o t h k = record { status = refl; activations = record { below = tt; top = tt } }
 
   acted_alike : (w : World A) (v : World B) (p : ℕ) (xs : List A) (ys : List B) (a : A) (b : B) (o : Acted) → outcome_of M w p xs a ≡ o → M.is_pending a ≡ true → StackedWorld On Below w v → AllTwo Below xs ys → On a b → StackedWorld On Below (acted M w p xs a o) (acted N v p ys b o)
   acted_alike w v p xs ys a b None e t h k r = h

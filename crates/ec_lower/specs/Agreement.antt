@@ -5,8 +5,8 @@ use Rattle.ec_world.specs.declared.run.Entry.{Entry}
 use Rattle.ec_world.specs.declared.run.RunEntry.{RunEntry}
 use Rattle.ec_world.specs.Agree.{Agree}
 use Rattle.ec_world.specs.Run.{RunState, after_entries, run_after}
-use Rattle.ec_meaning.specs.declared.activation.SourceActivation.{SourceActivation}
-use Rattle.ec_meaning.specs.Meaning.{source_meaning, source_silent, source_start}
+use Rattle.ec_printing.specs.declared.activation.SourceActivation.{SourceActivation}
+use Rattle.ec_printing.specs.Meaning.{source_meaning, source_silent, source_start}
 use Rattle.ec_ir.specs.declared.code.Parts.{Parts}
 use Rattle.ec_ir.specs.declared.activation.IrActivation.{IrActivation}
 use Rattle.ec_ir.specs.Meaning.{ir_meaning, ir_silent, ir_start}

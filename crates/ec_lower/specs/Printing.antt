@@ -5,15 +5,15 @@ use Rattle.ec_printing.specs.declared.Statement.{Statement}
 use Rattle.ec_printing.specs.declared.Statement.TheVariants.{Print as PrintStatement}
 use Rattle.ec_world.specs.declared.value.ValueType.TheVariants.{Bytes, Reference}
 use Rattle.ec_world.specs.declared.class.ClassNo.TheVariants.{Made}
-use Rattle.ec_world.specs.declared.stop.Stop.{Stop}
-use Rattle.ec_world.specs.declared.stop.Stop.TheVariants.{Entry, New, Return, Print, Global, End}
+use Rattle.ec_ir.specs.declared.stop.Stop.{Stop}
+use Rattle.ec_ir.specs.declared.stop.Stop.TheVariants.{Entry, New, Return, Print, Global, End}
 use Rattle.ec_world.specs.Agree.{AllTwo}
 use Rattle.ec_ir.specs.declared.code.IrOp.{IrOp}
 use Rattle.ec_ir.specs.declared.code.IrOp.TheVariants.{Literal, Rest}
 use Rattle.ec_ir.specs.declared.code.StopRec.{StopRec}
 use Rattle.ec_ir.specs.declared.code.Operation.{Operation}
 use Rattle.ec_ir.specs.declared.code.Parts.{Parts}
-use Rattle.ec_meaning.specs.Meaning.{classes_if, globals_if}
+use Rattle.ec_printing.specs.Meaning.{classes_if, globals_if}
 
 -- ---- stops
 

@@ -5,10 +5,10 @@ use Rattle.ec_printing.specs.declared.Statement.{Statement}
 use Rattle.ec_printing.specs.declared.Statement.TheVariants.{Print as PrintStatement}
 use Rattle.ec_world.specs.declared.value.Value.{Value}
 use Rattle.ec_world.specs.declared.class.ClassNo.TheVariants.{Made}
-use Rattle.ec_world.specs.declared.stop.Stop.{Stop}
-use Rattle.ec_world.specs.declared.stop.Stop.TheVariants.{New, Return, Print as PrintStop, Global, End}
-use Rattle.ec_meaning.specs.declared.item.Item.{Item}
-use Rattle.ec_meaning.specs.declared.item.Item.TheVariants.{Do, Evaluate, Construct, Print, Define, Leave, Finish}
+use Rattle.ec_ir.specs.declared.stop.Stop.{Stop}
+use Rattle.ec_ir.specs.declared.stop.Stop.TheVariants.{New, Return, Print as PrintStop, Global, End}
+use Rattle.ec_printing.specs.declared.item.Item.{Item}
+use Rattle.ec_printing.specs.declared.item.Item.TheVariants.{Do, Evaluate, Construct, Print, Define, Leave, Finish}
 use Rattle.ec_ir.specs.declared.code.IrOp.{IrOp}
 use Rattle.ec_ir.specs.declared.code.IrOp.TheVariants.{Literal, Rest}
 use Rattle.ec_ir.specs.declared.code.StopRec.{StopRec}

@@ -1,6 +1,6 @@
 //! Lowering: a list of statements becomes one operation, which prints literals.
 ghost use Rattle.std.specs.Prelude.{◌≡◌, ◌≢◌, ℕ, ◌+◌, ◌≤◌, ◌^◌, ◌↔◌, List, [], ◌∷◌, length, IfOk, OnOk, IfSome, IfNone, IsTrue, slice_get};
-ghost use Rattle.ec_meaning.specs.Meaning.{class_of, classes_of, globals_of};
+ghost use Rattle.ec_printing.specs.Meaning.{class_of, classes_of, globals_of};
 ghost use Rattle.ec_lower.specs.Agreement.{Means};
 ghost use Rattle.ec_lower.specs.Short.{IsShort, IsShortIf, IsShortConstant};
 ghost use Rattle.ec_lower.specs.Printing.{stop_of, entry_stop, ending, defining, printing, print_code, print_stops, IsTextOf, AreTexts, IsPool, KeepsTexts, IsLowered};
@@ -9,9 +9,9 @@ ghost use Rattle.ec_ir.specs.declared.code.IrOp.TheVariants.{Rest};
 use ec_base::list::Seq;
 use ec_ir::code::{IrOp, Operation, Parts, StopRec};
 use ec_ir::program::IrProgram;
+use ec_ir::stop::Stop;
 use ec_printing::{Constant, ObjectConstructor, Program, Statement};
 use ec_world::class::{ClassNo, ClassRec, Classes};
-use ec_world::stop::Stop;
 use ec_world::value::{Text, ValueType, copy_text};
 use std::alloc::{AllocError, Global};
 
@@ -75,6 +75,8 @@ fn classes_with(alloc: Global, object: &ObjectConstructor) -> Result<Classes, Al
         name: copy_text(&object.name.text)?,
         initial: 1,
         fields: Seq::new(alloc),
+        operations: Seq::new(alloc),
+        conforms: Seq::new(alloc),
     };
     Ok(Seq::from_vec(vec![in alloc; class]?))
 }

@@ -1,1 +1,13 @@
+pub mod Advancing
+pub mod Counting
+pub mod EventsAside
+pub mod EventsOfSteps
+pub mod EventsOfStops
+pub mod Held
+pub mod Lighter
+pub mod Lines
+pub mod Resuming
+pub mod SameTexts
 pub mod Settling
+pub mod Todos
+pub mod Weighing

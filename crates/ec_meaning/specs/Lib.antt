@@ -1,1 +1,12 @@
+pub mod Activations
+pub mod Types
+pub mod Programs
+pub mod Kept
+pub mod Sources
+pub mod Steps
+pub mod Weights
 pub mod Meaning
+pub mod Running
+pub mod ClassNames
+pub mod Readers
+pub mod Events

@@ -1,180 +1,127 @@
--- What the source means: silent steps rewrite the items that are to do, a case on the first of them, up to the next
--- stop. Nothing here knows registers, addresses, an order of bytes, or places.
-use Rattle.std.specs.Prelude.{ℕ, zero, suc, ◌+◌, Bool, true, false, List, [], ◌∷◌, ◌++◌, Option, Some, None}
-use Rattle.ec_base.specs.Stack.{top_of, below_of}
-use Rattle.ec_printing.specs.declared.Program.{Program}
-use Rattle.ec_printing.specs.declared.Constant.{Constant}
-use Rattle.ec_printing.specs.declared.ObjectConstructor.{ObjectConstructor}
-use Rattle.ec_printing.specs.declared.Statement.{Statement}
-use Rattle.ec_printing.specs.declared.Statement.TheVariants.{Print as PrintStatement}
-use Rattle.ec_world.specs.declared.value.Value.{Value}
-use Rattle.ec_world.specs.declared.value.Value.TheVariants.{Str}
-use Rattle.ec_world.specs.declared.value.ValueType.{ValueType}
-use Rattle.ec_world.specs.declared.value.ValueType.TheVariants.{Reference}
-use Rattle.ec_world.specs.declared.class.ClassNo.TheVariants.{Made}
-use Rattle.ec_world.specs.declared.class.ClassRec.{ClassRec}
-use Rattle.ec_world.specs.declared.stop.Stop.{Stop}
-use Rattle.ec_world.specs.declared.stop.Stop.TheVariants.{Entry, New, Return, Print as PrintStop, Global, End}
-use Rattle.ec_world.specs.declared.common.Common.{Common}
-use Rattle.ec_world.specs.declared.world.World.{World}
-use Rattle.ec_world.specs.Meaning.{ActivationMeaning}
-use Rattle.ec_world.specs.Run.{first_world}
-use Rattle.ec_meaning.specs.declared.item.Item.{Item}
-use Rattle.ec_meaning.specs.declared.item.Item.TheVariants.{Do, Evaluate, Construct, Print, Define, Leave, Finish}
+-- What the source means: the code behind a stop, and the world in which a program begins.
+use Rattle.std.specs.Prelude.{ℕ, zero, suc, Bool, true, false, List, [], ◌∷◌, ◌++◌, drop, length, map, reverse, Option, Some, None}
+use Rattle.ec_core.specs.declared.Block.{out-Block}
+use Rattle.ec_core.specs.declared.Constant.{Constant}
+use Rattle.ec_core.specs.declared.Operation.{Operation}
+use Rattle.ec_conform.specs.declared.static_type.StaticType.{StaticType}
+use Rattle.ec_meaning.specs.Activations.{source_meaning}
+use Rattle.ec_meaning.specs.Programs.{Source, classes_of, globals_of, operation_at}
+use Rattle.ec_meaning.specs.Steps.{Step, Goes, Rests, Breaks, Returns, NoCase, block_items, step, types_if}
+use Rattle.ec_meaning.specs.Types.{kind_of}
+use Rattle.ec_meaning.specs.Weights.{weight}
 use Rattle.ec_meaning.specs.declared.activation.SourceActivation.{SourceActivation}
+use Rattle.ec_meaning.specs.declared.item.Item.{Item}
+use Rattle.ec_meaning.specs.declared.item.Item.TheVariants as i
+use Rattle.ec_meaning.specs.declared.state.State.{State}
+use Rattle.ec_meaning.specs.declared.state.Whose.{Whose}
+use Rattle.ec_world.specs.declared.common.Common.{Common}
+use Rattle.ec_world.specs.declared.stop.Stop.{Stop}
+use Rattle.ec_world.specs.declared.stop.Stop.TheVariants as stop
+use Rattle.ec_world.specs.declared.value.Value.{Value}
+use Rattle.ec_world.specs.declared.world.World.{World}
+use Rattle.ec_world.specs.Run.{first_world}
+use Rattle.ec_world.specs.Values.{default_of}
+use Rattle.ec_world.specs.World.{Turn}
 
--- ---- what a program has
+-- ---- what is to do
 
--- operation 1 is the constructor's operation 0; the constructor has no fields
-abbrev pub class_of : ObjectConstructor → ClassRec
-class_of o = record { name = o.name.text; initial = 1; fields = [] }
+-- behind the innermost loop
+abbrev pub behind_loop : List Item → List Item
+behind_loop [] = []
+behind_loop (i.Again b ∷ rest) = rest
+behind_loop (x ∷ rest) = behind_loop rest
 
-abbrev pub classes_if : Option Constant → List ClassRec
-classes_if None = []
-classes_if (Some c) = class_of c.value ∷ []
+-- ---- silent steps up to the next stop
 
-abbrev pub classes_of : Program → List ClassRec
-classes_of program = classes_if program.constant
+-- a stop that is reached: its operands, the variables and the values held, and the items behind it
+pub record Reached : Type 0 where
+  pub action : Stop
+  pub operands : List Value
+  pub variables : List Value
+  pub held : List Value
+  pub items : List Item
 
-abbrev pub globals_if : Option Constant → List ValueType
-globals_if None = []
-globals_if (Some c) = Reference ∷ []
+abbrev pub reached : Stop → List Value → State → List Item → Reached
+reached action operands st items =
+    record { action = action; operands = operands; variables = st.variables; held = st.held; items = items }
 
-abbrev pub globals_of : Program → List ValueType
-globals_of program = globals_if program.constant
+module _ (s : Source) (a : Whose) where
+  abbrev pub settle_by : (State → List Item → Common × Option Reached) → State → List Item → Step → Common × Option Reached
+  settle_by next st rest (Goes new more) = next new (more ++ rest)
+  settle_by next st rest (Rests action operands new more) = (new.common, Some (reached action operands new (more ++ rest)))
+  settle_by next st rest (Breaks new) = next new (behind_loop rest)
+  settle_by next st rest (Returns new) = next new (i.Leave ∷ [])
+  settle_by next st rest NoCase = (st.common, None)
 
--- ---- the items of operations
+  -- so many steps at most; what the world then has beside its processes, and the stop that is reached, if there is one
+  abbrev pub settle : ℕ → State → List Item → Common × Option Reached
+  settle zero st items = (st.common, None)
+  settle (suc n) st [] = (st.common, None)
+  settle (suc n) st (x ∷ rest) = settle_by (settle n) st rest (step s a st x)
 
-abbrev pub block_items : List Statement → List Item → List Item
-block_items [] rest = rest
-block_items (s ∷ ss) rest = Do s ∷ block_items ss rest
+-- ---- operations
 
--- operation 0 of the program evaluates the constants in order
-abbrev pub program_items : Option Constant → List Item
-program_items None = Finish ∷ []
-program_items (Some c) = Construct 0 ∷ Define 0 ∷ Finish ∷ []
+abbrev pub constant_items : ℕ → List Constant → List Item
+constant_items n [] = i.Rest stop.End 0 ∷ []
+constant_items n (c ∷ cs) = i.Evaluate c.value ∷ i.Rest (stop.Global n) 1 ∷ constant_items (suc n) cs
 
--- operation 0 of the constructor runs its `initially` block
-abbrev pub initial_items : Option Constant → List Item
-initial_items None = []
-initial_items (Some c) = block_items c.value.initially (Leave ∷ [])
+-- The program's own operation gives the constants their values in their order.
+abbrev pub items_if : Source → Option Operation → List Item
+items_if s None = constant_items 0 s.core.constants
+items_if s (Some o) = block_items o.block ++ i.Leave ∷ []
 
-abbrev pub items_of : Program → ℕ → List Item
-items_of program zero = program_items program.constant
-items_of program (suc zero) = initial_items program.constant
-items_of program (suc (suc n)) = []
+abbrev pub defaults : List StaticType → List Value
+defaults types = map (λ of. default_of (kind_of of)) types
 
--- ---- silent steps
+-- At the entry the variables are the arguments; the others get the defaults of their types.
+abbrev pub opened : Source → SourceActivation → List Value
+opened s a = a.variables ++ defaults (drop (length a.variables) (types_if (operation_at s a.operation)))
 
--- what a silent step comes to: other values held and other items, or a rest at a stop with its operands, with or without
--- a result to come; there is no case where nothing is to do
-pub data Silent : Type 0 where
-  Goes : (held : List Value) (items : List Item) → Silent
-  Rests : (stop : Stop) (operands : List Value) (waits : Bool) (held : List Value) (items : List Item) → Silent
-  NoCase : Silent
+abbrev pub state_behind : Source → Common → SourceActivation → Bool → State
+state_behind s c a true = record { common = c; variables = opened s a; held = a.held }
+state_behind s c a false = record { common = c; variables = a.variables; held = a.held }
 
--- a stop that takes the value held last
-abbrev pub stop_with : Stop → List Value → Option Value → List Item → Silent
-stop_with stop held None rest = NoCase
-stop_with stop held (Some v) rest = Rests stop (v ∷ []) false held rest
+-- The next item of an activation stands last.
+abbrev pub items_behind : Source → SourceActivation → Bool → List Item
+items_behind s a true = items_if s (operation_at s a.operation)
+items_behind s a false = reverse a.items
 
-abbrev pub do_statement : Statement → List Value → List Item → Silent
-do_statement (PrintStatement literal) held rest = Goes held (Evaluate literal ∷ Print ∷ rest)
+-- ---- the code behind a stop
 
-abbrev pub silent : List Value → List Item → Silent
-silent held [] = NoCase
-silent held (Do s ∷ rest) = do_statement s held rest
-silent held (Evaluate literal ∷ rest) = Goes (held ++ Str literal.text ∷ []) rest
-silent held (Construct class ∷ rest) = Rests (New (Made class)) [] true held rest
-silent held (Print ∷ rest) = stop_with PrintStop (below_of held) (top_of held) rest
-silent held (Define index ∷ rest) = stop_with (Global index) (below_of held) (top_of held) rest
-silent held (Leave ∷ rest) = Rests (Return true) [] false held rest
-silent held (Finish ∷ rest) = Rests End [] false held rest
+abbrev pub whose : SourceActivation → Whose
+whose a = record { operation = a.operation; own = a.own }
 
--- how many silent steps items can take before the next stop, at most: a statement takes three
-abbrev pub item_steps : Item → ℕ
-item_steps (Do s) = 3
-item_steps (Evaluate literal) = 1
-item_steps (Construct class) = 1
-item_steps Print = 1
-item_steps (Define index) = 1
-item_steps Leave = 1
-item_steps Finish = 1
-
-abbrev pub steps_of : List Item → ℕ
-steps_of [] = 0
-steps_of (i ∷ rest) = item_steps i + steps_of rest
-
-abbrev pub rest_at : SourceActivation → Stop → List Value → Bool → List Value → List Item → SourceActivation
-rest_at a stop operands waits held items = record {
+-- Where there is no case, nothing is left to do.
+abbrev pub rested : SourceActivation → Option Reached → SourceActivation
+rested a None = record a { pending = false; at_entry = false; variables = []; held = []; items = [] }
+rested a (Some r) = record {
   operation = a.operation;
   own = a.own;
-  stop = stop;
-  operands = operands;
+  stop = r.action;
+  operands = r.operands;
   pending = true;
   at_entry = false;
-  waits = waits;
-  held = held;
-  items = items;
+  variables = r.variables;
+  held = r.held;
+  items = reverse r.items;
 }
 
-abbrev pub settle_by : (List Value → List Item → SourceActivation) → SourceActivation → Silent → SourceActivation
-settle_by next a (Goes held items) = next held items
-settle_by next a (Rests stop operands waits held items) = rest_at a stop operands waits held items
-settle_by next a NoCase = a
+abbrev pub resting : SourceActivation → Common × Option Reached → Common × SourceActivation
+resting a (c, r) = (c, rested a r)
 
--- silent steps up to the next stop
-abbrev pub settle : ℕ → SourceActivation → List Value → List Item → SourceActivation
-settle zero a held items = a
-settle (suc n) a held items = settle_by (settle n a) a (silent held items)
+abbrev pub settled : Source → SourceActivation → State → List Item → Common × SourceActivation
+settled s a st items = resting a (settle s (whose a) (weight items) st items)
 
--- the items behind the stop: at the entry the operation's
-abbrev pub behind_if : Bool → List Item → List Item → List Item
-behind_if true whole items = whole
-behind_if false whole items = items
+-- silent steps from behind a stop to the next one
+abbrev pub source_silent : Source → Common → SourceActivation → Common × SourceActivation
+source_silent s c a = settled s a (state_behind s c a a.at_entry) (items_behind s a a.at_entry)
 
-abbrev pub behind : Program → SourceActivation → List Item
-behind program a = behind_if a.at_entry (items_of program a.operation) a.items
-
--- silent steps change nothing that the world has beside its processes
-abbrev pub source_silent : Program → Common → SourceActivation → Common × SourceActivation
-source_silent program c a = (c, settle (steps_of (behind program a)) a a.held (behind program a))
-
--- ---- the meaning of activations
-
--- a result is held from now on, where one is waited for
-abbrev pub hold_if : SourceActivation → Bool → Value → SourceActivation
-hold_if a true v = record a { pending = false; waits = false; held = a.held ++ v ∷ [] }
-hold_if a false v = record a { pending = false }
-
-abbrev pub finished : SourceActivation → Option Value → SourceActivation
-finished a None = record a { pending = false }
-finished a (Some v) = hold_if a a.waits v
-
-abbrev pub begun : ℕ → ℕ → List Value → SourceActivation
-begun op own args = record {
-  operation = op;
-  own = own;
-  stop = Entry;
-  operands = [];
-  pending = true;
-  at_entry = true;
-  waits = false;
-  held = args;
-  items = [];
-}
-
-abbrev pub source_meaning : ActivationMeaning SourceActivation
-source_meaning = record {
-  operation = λ a. a.operation;
-  own = λ a. a.own;
-  stop = λ a. a.stop;
-  operands = λ a. a.operands;
-  is_pending = λ a. a.pending;
-  begun = begun;
-  finished = finished;
-}
+-- ---- worlds
 
 -- the world in which the program begins, on n nodes
-abbrev pub source_start : Program → ℕ → World SourceActivation
-source_start program n = first_world source_meaning n (classes_of program) (globals_of program)
+abbrev pub source_start : Source → ℕ → World SourceActivation
+source_start s n = first_world source_meaning n (classes_of s) (globals_of s)
+
+-- one turn of a process
+abbrev pub source_turn : Source → World SourceActivation → ℕ → World SourceActivation
+source_turn s w p = Turn source_meaning (source_silent s) w p

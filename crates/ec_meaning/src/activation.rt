@@ -1,6 +1,6 @@
 //! Activations of the source.
 ghost use Rattle.std.specs.Prelude.{◌≡◌};
-ghost use Rattle.ec_meaning.specs.Meaning.{source_meaning};
+ghost use Rattle.ec_meaning.specs.Activations.{source_meaning};
 
 use crate::item::Item;
 use ec_base::list::Seq;
@@ -10,8 +10,8 @@ use ec_world::value::{Oid, OpNo, Value, Values, copy_values};
 use std::alloc::{AllocError, Global};
 
 /// An activation: its operation, its own object, the stop at which it rests with the stop's operands, whether the action
-/// is pending, whether it rests at the entry, whether it waits for a result, the values that are held (the last one
-/// last), and the items behind the stop. At the entry the items are the operation's.
+/// is pending, whether it rests at the entry, its variables, the values that are held (the last one last), and the items
+/// behind the stop (the next one last). At the entry the variables are the arguments, and the items are the operation's.
 #[derive(Drop)]
 pub struct SourceActivation {
     pub operation: OpNo,
@@ -20,7 +20,7 @@ pub struct SourceActivation {
     pub operands: Values,
     pub pending: bool,
     pub at_entry: bool,
-    pub waits: bool,
+    pub variables: Values,
     pub held: Values,
     pub items: Seq<Item>,
 }
@@ -61,8 +61,8 @@ impl Activation for SourceActivation {
             operands: Seq::new(alloc),
             pending: true,
             at_entry: true,
-            waits: false,
-            held: args,
+            variables: args,
+            held: Seq::new(alloc),
             items: Seq::new(alloc),
         })
     }
@@ -72,10 +72,6 @@ impl Activation for SourceActivation {
         let Some(value) = given else {
             return Ok(());
         };
-        if self.waits {
-            self.waits = false;
-            self.held.push(value)?;
-        }
-        Ok(())
+        self.held.push(value)
     }
 }

@@ -11,8 +11,8 @@ use Rattle.ec_world.specs.declared.class.FieldRec.{FieldRec}
 use Rattle.ec_world.specs.declared.object.ObjectRec.{ObjectRec}
 use Rattle.ec_world.specs.declared.event.Event.{Event}
 use Rattle.ec_world.specs.declared.event.Event.TheVariants.{Created, Moved}
-use Rattle.ec_world.specs.declared.stop.Stop.{Stop}
-use Rattle.ec_world.specs.declared.stop.Stop.TheVariants.{Entry, New}
+use Rattle.ec_ir.specs.declared.stop.Stop.{Stop}
+use Rattle.ec_ir.specs.declared.stop.Stop.TheVariants.{Entry, New}
 use Rattle.ec_world.specs.declared.node.Kind.{Kind}
 use Rattle.ec_world.specs.declared.common.Common.{Common}
 use Rattle.ec_world.specs.declared.process.Proc.{Proc}
@@ -26,6 +26,7 @@ use Rattle.ec_ir.specs.declared.code.StopRec.{StopRec}
 use Rattle.ec_ir.specs.declared.code.Operation.{Operation}
 use Rattle.ec_ir.specs.declared.code.Parts.{Parts}
 use Rattle.ec_ir.specs.declared.activation.IrActivation.{IrActivation}
+use Rattle.ec_ir.specs.Stops.{world_stop}
 use Rattle.ec_ir.specs.Meaning.{ir_meaning, begun, live_variables, stop_at, stops_of, variable, live_at}
 use Rattle.ec_ir.specs.Fine.{HasCode, Fine, FineStop}
 use Rattle.ec_stops.specs.Faithful.{LiveTyped}
@@ -145,8 +146,8 @@ module _ {program : Parts} {w : IrWorld} {p : ℕ} {stop : StopRec} {below : Lis
       let operands : top.operands ≡ [] = c.acting.operands ∙ ap (λ (xs : List ℕ). map (variable top.variables) xs) fine_new.3 in
       let there : slice_get w.common.classes k ≡ Some c.class = ap (λ (cs : List ClassRec). slice_get cs k) c.fine.facts.classes ∙ c.class_is in
       action_is w p below top c.acting.is c.acting.flag
-      ∙ ap (λ (s : Stop). acted ir_meaning w p below top (effect_of w.common (who_of ir_meaning p below top) s top.operands)) stopped
-      ∙ ap (λ (vs : List Value). acted ir_meaning w p below top (effect_of w.common (who_of ir_meaning p below top) (New (Made k)) vs)) operands
+      ∙ ap (λ (s : Stop). acted ir_meaning w p below top (effect_of w.common (who_of ir_meaning p below top) (world_stop s) top.operands)) stopped
+      ∙ ap (λ (vs : List Value). acted ir_meaning w p below top (effect_of w.common (who_of ir_meaning p below top) (world_stop (New (Made k))) vs)) operands
       ∙ ap (λ (x : Option ClassRec). acted ir_meaning w p below top (new_effect w.common (who_of ir_meaning p below top) (Made k) [] x)) there
 
   pub no_fields : new_object.fields ≡ []

@@ -5,8 +5,8 @@ use Rattle.std.specs.Prelude.{slice_get, slice_set, nat_lt, if◌then◌else◌}
 use Rattle.ec_base.proofs.Lists.{get_set_same, get_set_other, get_within}
 use Rattle.ec_world.specs.declared.value.Value.{Value}
 use Rattle.ec_world.specs.declared.value.ValueType.{ValueType}
-use Rattle.ec_world.specs.declared.stop.Stop.{Stop}
-use Rattle.ec_world.specs.declared.stop.Stop.TheVariants.{Global}
+use Rattle.ec_ir.specs.declared.stop.Stop.{Stop}
+use Rattle.ec_ir.specs.declared.stop.Stop.TheVariants.{Global}
 use Rattle.ec_world.specs.declared.stop.Effect.TheVariants.{GoesOn}
 use Rattle.ec_world.specs.declared.node.Kind.{Kind}
 use Rattle.ec_world.specs.declared.common.Common.{Common}
@@ -17,6 +17,7 @@ use Rattle.ec_world.specs.Effects.{effect_of}
 use Rattle.ec_ir.specs.declared.code.StopRec.{StopRec}
 use Rattle.ec_ir.specs.declared.code.Parts.{Parts}
 use Rattle.ec_ir.specs.declared.activation.IrActivation.{IrActivation}
+use Rattle.ec_ir.specs.Stops.{world_stop}
 use Rattle.ec_ir.specs.Meaning.{ir_meaning, live_values, variable}
 use Rattle.ec_ir.specs.Fine.{HasCode, HasType, Typed, FineStop}
 use Rattle.ec_stops.specs.Machine.{MachineMeaning}
@@ -183,8 +184,8 @@ defines_after M net net' w p h stop below top index holds e t =
     let stopped : top.stop ≡ Global index = a.stop_same ∙ e.is in
     let is : ir_action w p ≡ w' =
     action_is w p below top a.is a.flag
-    ∙ ap (λ (s : Stop). acted ir_meaning w p below top (effect_of w.common (who_of ir_meaning p below top) s top.operands)) stopped
-    ∙ ap (λ (vs : List Value). acted ir_meaning w p below top (effect_of w.common (who_of ir_meaning p below top) (Global index) vs)) operands
+    ∙ ap (λ (s : Stop). acted ir_meaning w p below top (effect_of w.common (who_of ir_meaning p below top) (world_stop s) top.operands)) stopped
+    ∙ ap (λ (vs : List Value). acted ir_meaning w p below top (effect_of w.common (who_of ir_meaning p below top) (world_stop (Global index)) vs)) operands
     ∙ ap (λ (b : Bool). acted ir_meaning w p below top (if b then Some (set_constant w.common index v, GoesOn None) else None)) (below_true index (length w.common.globals) inside) in
     let middle : ShowsNodes (live_values net.program) (spot net.program net.images) (only_node e.middle) w1 (place w) =
     constant_shows (store_of e.node) e.middle index e.word e.sets

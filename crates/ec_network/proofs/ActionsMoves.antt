@@ -8,7 +8,7 @@ use Rattle.ec_world.specs.declared.event.Event.TheVariants.{Created, Moved}
 use Rattle.ec_world.specs.declared.object.ObjectRec.{ObjectRec}
 use Rattle.ec_world.specs.declared.common.Common.{Common}
 use Rattle.ec_world.specs.declared.node.Kind.{Kind}
-use Rattle.ec_world.specs.Effects.{object_at}
+use Rattle.ec_world.specs.Objects.{object_at}
 use Rattle.ec_world.specs.Group.{Has, InGroup, group_of, any_fixed}
 use Rattle.ec_world.specs.Group.InGroup.{Itself, Linked}
 use Rattle.ec_world.specs.Moves.{OperatorMove, is_idle_move, is_there, moved_unless}

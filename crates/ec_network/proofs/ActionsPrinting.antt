@@ -3,8 +3,8 @@ use Rattle.std.proofs.Common.{◌≡◌, ℕ, List, [], ◌∷◌, ◌++◌, len
 use Rattle.ec_world.specs.declared.value.Value.{Value}
 use Rattle.ec_world.specs.declared.value.Value.TheVariants.{Int, Str, Ref, Nil, Bool as Truth}
 use Rattle.ec_world.specs.declared.value.ValueType.TheVariants.{Bytes}
-use Rattle.ec_world.specs.declared.stop.Stop.{Stop}
-use Rattle.ec_world.specs.declared.stop.Stop.TheVariants.{Print}
+use Rattle.ec_ir.specs.declared.stop.Stop.{Stop}
+use Rattle.ec_ir.specs.declared.stop.Stop.TheVariants.{Print}
 use Rattle.ec_world.specs.declared.common.Common.{Common}
 use Rattle.ec_world.specs.declared.process.Proc.{Proc}
 use Rattle.ec_world.specs.World.{acted, who_of}
@@ -12,6 +12,7 @@ use Rattle.ec_world.specs.Effects.{effect_of}
 use Rattle.ec_ir.specs.declared.code.StopRec.{StopRec}
 use Rattle.ec_ir.specs.declared.code.Parts.{Parts}
 use Rattle.ec_ir.specs.declared.activation.IrActivation.{IrActivation}
+use Rattle.ec_ir.specs.Stops.{world_stop}
 use Rattle.ec_ir.specs.Meaning.{ir_meaning, live_values, variable}
 use Rattle.ec_ir.specs.Fine.{HasCode, HasType, FineStop}
 use Rattle.ec_stops.specs.Machine.{MachineMeaning}
@@ -70,8 +71,8 @@ prints_after M net net' w p h stop below top holds e t =
     let stopped : top.stop ≡ Print = a.stop_same ∙ e.is in
     let is : ir_action w p ≡ w' =
     action_is w p below top a.is a.flag
-    ∙ ap (λ (s : Stop). acted ir_meaning w p below top (effect_of w.common (who_of ir_meaning p below top) s top.operands)) stopped
-    ∙ ap (λ (vs : List Value). acted ir_meaning w p below top (effect_of w.common (who_of ir_meaning p below top) Print vs)) operands in
+    ∙ ap (λ (s : Stop). acted ir_meaning w p below top (effect_of w.common (who_of ir_meaning p below top) (world_stop s) top.operands)) stopped
+    ∙ ap (λ (vs : List Value). acted ir_meaning w p below top (effect_of w.common (who_of ir_meaning p below top) (world_stop Print) vs)) operands in
     let shows : ShowsNodes (live_values net.program) (spot net.program net.images) (stores net') w' (place w) =
     mark_shows net.program net.images holds.steady.slots p h.block below top stop (stores net) (stores net') (store_of e.node) (store_of e.node') w c (place w)
     (alone_net net e.node e.becomes.before) (alone_net net' e.node' e.becomes.after) holds.shows.nodes (record { objects = refl; globals = refl })

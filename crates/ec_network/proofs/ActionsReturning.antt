@@ -8,10 +8,10 @@ use Rattle.ec_world.specs.declared.value.Value.{Value}
 use Rattle.ec_world.specs.declared.value.Value.TheVariants.{Ref}
 use Rattle.ec_world.specs.declared.value.ValueType.{ValueType}
 use Rattle.ec_world.specs.declared.value.ValueType.TheVariants.{Reference}
-use Rattle.ec_world.specs.declared.class.ClassNo.TheVariants.{Node, Program, Made}
+use Rattle.ec_world.specs.declared.class.ClassNo.TheVariants.{Node, Program, Made, Vector}
 use Rattle.ec_world.specs.declared.class.ClassRec.{ClassRec}
-use Rattle.ec_world.specs.declared.stop.Stop.{Stop}
-use Rattle.ec_world.specs.declared.stop.Stop.TheVariants.{Entry, New, Return, Print, Global, End}
+use Rattle.ec_ir.specs.declared.stop.Stop.{Stop}
+use Rattle.ec_ir.specs.declared.stop.Stop.TheVariants.{Entry, New, Return, Print, Global, End}
 use Rattle.ec_world.specs.declared.node.Kind.TheVariants.{Riscv}
 use Rattle.ec_world.specs.declared.process.Proc.{Proc}
 use Rattle.ec_world.specs.Group.{Has}
@@ -22,6 +22,7 @@ use Rattle.ec_ir.specs.declared.code.StopRec.{StopRec}
 use Rattle.ec_ir.specs.declared.code.Operation.{Operation}
 use Rattle.ec_ir.specs.declared.code.Parts.{Parts}
 use Rattle.ec_ir.specs.declared.activation.IrActivation.{IrActivation}
+use Rattle.ec_ir.specs.Stops.{world_stop}
 use Rattle.ec_ir.specs.Meaning.{ir_meaning, live_values, live_variables, variable, put, types_of, operation_at, stop_at, into_variable}
 use Rattle.ec_ir.specs.Fine.{HasCode, HasType, FineStop, FineReturn}
 use Rattle.ec_ir.proofs.Put.{put_same, put_other}
@@ -64,6 +65,7 @@ stop_into classes globals op vars (New (Made k)) xs into x e f =
     ap (λ i. slice_get vars i) (sym same) ∙ r.2
 stop_into classes globals op vars (New Node) xs into x e f = absurd f
 stop_into classes globals op vars (New Program) xs into x e f = absurd f
+stop_into classes globals op vars (New (Vector of)) xs into x e f = absurd f
 stop_into classes globals zero vars (Return gives_self) xs into x e f = absurd f
 stop_into classes globals (suc op) vars (Return true) xs into x e f = cc (f.1)
 stop_into classes globals (suc op) vars (Return false) xs into x e f = absurd f
@@ -218,8 +220,8 @@ module _ {S : Type 0} (M : MachineMeaning S) (net net' : Cluster) (w : IrWorld) 
       let fine : FineReturn top.operation true stop.operands stop.into = subst (λ (s : Stop). FineStop net.program.classes net.program.globals top.operation t.acting.code.operation.variables s stop.operands stop.into) e.is t.acting.code.fine in
       let operands : top.operands ≡ [] = t.acting.operands ∙ ap (λ (xs : List ℕ). map (variable top.variables) xs) (no_operands top.operation stop.operands stop.into fine) in
       action_is w p (lower ++ c ∷ []) top t.acting.is t.acting.flag
-      ∙ ap (λ (s : Stop). acted ir_meaning w p (lower ++ c ∷ []) top (effect_of w.common (who_of ir_meaning p (lower ++ c ∷ []) top) s top.operands)) stopped
-      ∙ ap (λ (vs : List Value). acted ir_meaning w p (lower ++ c ∷ []) top (effect_of w.common (who_of ir_meaning p (lower ++ c ∷ []) top) (Return true) vs)) operands
+      ∙ ap (λ (s : Stop). acted ir_meaning w p (lower ++ c ∷ []) top (effect_of w.common (who_of ir_meaning p (lower ++ c ∷ []) top) (world_stop s) top.operands)) stopped
+      ∙ ap (λ (vs : List Value). acted ir_meaning w p (lower ++ c ∷ []) top (effect_of w.common (who_of ir_meaning p (lower ++ c ∷ []) top) (world_stop (Return true)) vs)) operands
       ∙ ap (λ (xs : List IrActivation). with_process w w.common p (ready_with (finish_top ir_meaning xs (top_of (lower ++ c ∷ [])) (Some (Ref top.own))))) (below_of-push lower c)
       ∙ ap (λ (x : Option IrActivation). with_process w w.common p (ready_with (finish_top ir_meaning lower x (Some (Ref top.own))))) (top_of-push lower c)
       ∙ ap (λ (i : Option ℕ). with_process w w.common p (ready_with (lower ++ into_variable c i (Ref top.own) ∷ []))) (into_below ∙ e.into)

@@ -3,7 +3,7 @@ use Rattle.std.proofs.Common.{◌≡◌, ℕ, suc, ◌+◌, true, false, [], ◌
 use Rattle.std.specs.Prelude.{slice_get, slice_set}
 use Rattle.ec_world.specs.declared.class.ClassNo.TheVariants.{Made}
 use Rattle.ec_world.specs.declared.class.ClassRec.{ClassRec}
-use Rattle.ec_world.specs.declared.stop.Stop.TheVariants.{New, Return}
+use Rattle.ec_ir.specs.declared.stop.Stop.TheVariants.{New, Return}
 use Rattle.ec_ir.specs.declared.code.StopRec.{StopRec}
 use Rattle.ec_ir.specs.Meaning.{stop_at}
 use Rattle.ec_stops.specs.Faithful.{first_slot}

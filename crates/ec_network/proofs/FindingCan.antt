@@ -10,10 +10,10 @@ use Rattle.ec_world.specs.declared.value.Value.TheVariants.{Int, Str, Ref, Nil, 
 use Rattle.ec_world.specs.declared.value.ValueType.{ValueType}
 use Rattle.ec_world.specs.declared.value.ValueType.TheVariants.{Bytes, Reference}
 use Rattle.ec_world.specs.declared.class.ClassNo.{ClassNo}
-use Rattle.ec_world.specs.declared.class.ClassNo.TheVariants.{Node, Program, Made}
+use Rattle.ec_world.specs.declared.class.ClassNo.TheVariants.{Node, Program, Made, Vector}
 use Rattle.ec_world.specs.declared.class.ClassRec.{ClassRec}
-use Rattle.ec_world.specs.declared.stop.Stop.{Stop}
-use Rattle.ec_world.specs.declared.stop.Stop.TheVariants.{Entry, New, Return, Print, Global, End}
+use Rattle.ec_ir.specs.declared.stop.Stop.{Stop}
+use Rattle.ec_ir.specs.declared.stop.Stop.TheVariants.{Entry, New, Return, Print, Global, End}
 use Rattle.ec_world.specs.declared.process.ProcStatus.TheVariants.{Ready}
 use Rattle.ec_world.specs.Group.{Has}
 use Rattle.ec_ir.specs.declared.code.StopRec.{StopRec}
@@ -69,6 +69,7 @@ text_of Nil h = absurd h
 result_of_new : (classes : List ClassRec) (vars : List ValueType) (class : ClassNo) (xs : List ℕ) (into : Option ℕ) (x : ℕ) → FineNew classes vars class xs into → into ≡ Some x → x < length vars
 result_of_new classes vars Node xs into x h e = absurd h
 result_of_new classes vars Program xs into x h e = absurd h
+result_of_new classes vars (Vector of) xs into x h e = absurd h
 result_of_new classes vars (Made k) xs into x h e =
     let same : h.4.0 ≡ x = cc (h.4.1) in
     subst (λ (y : ℕ). y < length vars) same (get_within vars h.4.0 Reference h.4.2)
@@ -230,6 +231,7 @@ module _ {S : Type 0} (M : MachineMeaning S) (net : Cluster) (w : IrWorld) (p : 
   can_make : (class : ClassNo) → FineNew net.program.classes t.acting.code.operation.variables class stop.operands stop.into → length net.places < 2 ^ 32 - 1 → CanMake net p h stop class
   can_make Node fine few = fine
   can_make Program fine few = fine
+  can_make (Vector of) fine few = fine
   can_make (Made k) fine few = can_create k fine.0 fine.1 few
 
   -- the one below the top waits for a result

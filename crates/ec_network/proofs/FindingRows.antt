@@ -5,8 +5,8 @@ use Rattle.std.proofs.lemmas.Bool.Decides.{nat_tests}
 use Rattle.ec_world.specs.declared.class.ClassRec.{ClassRec}
 use Rattle.ec_world.specs.declared.class.FieldRec.{FieldRec}
 use Rattle.ec_world.specs.declared.object.ObjectRec.{ObjectRec}
-use Rattle.ec_world.specs.Effects.{object_at}
-use Rattle.ec_world.specs.Group.{Has, group_of, any_fixed, fixed_if as group_fixed}
+use Rattle.ec_world.specs.Objects.{object_at, fixed_if as group_fixed}
+use Rattle.ec_world.specs.Group.{Has, group_of, any_fixed}
 use Rattle.ec_world.specs.Moves.{is_idle_move, is_there}
 use Rattle.ec_world.proofs.Members.{has_none, object_within}
 use Rattle.ec_world.proofs.Rounds.{group_of_alone, links_of-none, HasNoAttached}

@@ -7,11 +7,11 @@ use Rattle.ec_base.proofs.Lists.{get_there}
 use Rattle.ec_base.proofs.Stacks.{stack_parts}
 use Rattle.ec_world.specs.declared.node.Kind.TheVariants.{Riscv}
 use Rattle.ec_world.specs.declared.class.ClassNo.{ClassNo}
-use Rattle.ec_world.specs.declared.class.ClassNo.TheVariants.{Node, Program, Made}
+use Rattle.ec_world.specs.declared.class.ClassNo.TheVariants.{Node, Program, Made, Vector}
 use Rattle.ec_world.specs.declared.object.ObjectRec.{ObjectRec}
 use Rattle.ec_world.specs.declared.process.ProcStatus.{ProcStatus}
 use Rattle.ec_world.specs.declared.process.Proc.{Proc}
-use Rattle.ec_world.specs.Effects.{object_at}
+use Rattle.ec_world.specs.Objects.{object_at}
 use Rattle.ec_ir.specs.declared.activation.IrActivation.{IrActivation}
 use Rattle.ec_ir.specs.Meaning.{live_values}
 use Rattle.ec_stops.specs.Machine.{MachineMeaning}
@@ -126,6 +126,7 @@ one_item (b ∷ c ∷ cs) e = absurd (omega arith)
 one_block : (c : ClassNo) → c ≢ Node → class_blocks c 0 ≡ 1
 one_block Node h = absurd (h refl)
 one_block Program h = refl
+one_block (Vector of) h = refl
 one_block (Made k) h = refl
 
 -- an object at the one node, in one block

@@ -5,8 +5,8 @@ use Rattle.ec_base.proofs.Lists.{get_there}
 use Rattle.ec_world.specs.declared.value.Value.{Value}
 use Rattle.ec_world.specs.declared.value.ValueType.{ValueType}
 use Rattle.ec_world.specs.declared.value.ValueType.TheVariants.{Bytes}
-use Rattle.ec_world.specs.declared.stop.Stop.{Stop}
-use Rattle.ec_world.specs.declared.stop.Stop.TheVariants.{Entry, New, Return, Print, Global, End}
+use Rattle.ec_ir.specs.declared.stop.Stop.{Stop}
+use Rattle.ec_ir.specs.declared.stop.Stop.TheVariants.{Entry, New, Return, Print, Global, End}
 use Rattle.ec_world.specs.Group.{Has}
 use Rattle.ec_ir.specs.declared.code.IrOp.{IrOp}
 use Rattle.ec_ir.specs.declared.code.IrOp.TheVariants.{Literal, Rest}

@@ -2,7 +2,7 @@
 use Rattle.std.proofs.Common.{◌≡◌, ℕ, Bool, true, false, List, [], ◌∷◌, Option, Some, None, refl, sym, ap, ◌∙◌, subst, Bor}
 use Rattle.std.specs.Prelude.{slice_get, IfSome, IfNone}
 use Rattle.std.specs.Option.{unwrap_or, option_copied}
-use Rattle.ec_world.specs.declared.stop.Stop.TheVariants.{Return, Print, Global}
+use Rattle.ec_ir.specs.declared.stop.Stop.TheVariants.{Return, Print, Global}
 use Rattle.ec_ir.specs.declared.code.StopRec.{StopRec}
 use Rattle.ec_ir.specs.declared.code.Parts.{Parts}
 use Rattle.ec_ir.specs.Meaning.{stop_at}

@@ -1,9 +1,9 @@
 -- What the kernel needs to find at the top frame of a process for the action of its stop.
 use Rattle.std.specs.Prelude.{◌≡◌, ℕ, suc, ◌+◌, ◌-◌, ◌<◌, ◌^◌, ◌≤◌, Bool, true, false, [], ◌∷◌, length, Some, None, Result, Ok, Err}
 use Rattle.ec_world.specs.declared.class.ClassNo.{ClassNo}
-use Rattle.ec_world.specs.declared.class.ClassNo.TheVariants.{Node, Program, Made}
-use Rattle.ec_world.specs.declared.stop.Stop.{Stop}
-use Rattle.ec_world.specs.declared.stop.Stop.TheVariants.{Entry, New, Return, Print, Global, End}
+use Rattle.ec_world.specs.declared.class.ClassNo.TheVariants.{Node, Program, Made, Vector}
+use Rattle.ec_ir.specs.declared.stop.Stop.{Stop}
+use Rattle.ec_ir.specs.declared.stop.Stop.TheVariants.{Entry, New, Return, Print, Global, End}
 use Rattle.ec_ir.specs.declared.code.StopRec.{StopRec}
 use Rattle.ec_ir.specs.Meaning.{stop_at}
 use Rattle.ec_stops.specs.Faithful.{first_slot}
@@ -80,6 +80,7 @@ module _ (net : Cluster) (p : ℕ) (h : Here) (s : StopRec) where
   CanMake (Made k) = CanCreate k
   CanMake Node = ⊥
   CanMake Program = ⊥
+  CanMake (Vector of) = ⊥
 
   abbrev pub CanLeave : Bool → Type 0
   CanLeave true = CanReturn

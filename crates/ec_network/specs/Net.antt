@@ -3,7 +3,7 @@ use Rattle.std.specs.Prelude.{◌≡◌, ℕ, ◌≤◌, ◌^◌, Bool, true, fa
 use Rattle.ec_world.specs.declared.node.NodeSpec.{NodeSpec}
 use Rattle.ec_world.specs.declared.node.Kind.TheVariants.{Riscv}
 use Rattle.ec_world.specs.declared.class.ClassNo.{ClassNo}
-use Rattle.ec_world.specs.declared.class.ClassNo.TheVariants.{Node, Program, Made}
+use Rattle.ec_world.specs.declared.class.ClassNo.TheVariants.{Node, Program, Made, Vector}
 use Rattle.ec_world.specs.declared.class.ClassRec.{ClassRec}
 use Rattle.ec_world.specs.declared.object.ObjectRec.{ObjectRec}
 use Rattle.ec_world.specs.declared.run.RunEntry.{RunEntry}
@@ -57,11 +57,13 @@ abbrev pub made_name : Option ClassRec → List ℕ
 made_name None = []
 made_name (Some c) = c.name
 
--- the name of a class, as it was declared; that of the program's own object is `program`
+-- the name of a class, as it was declared; that of the program's own object is `program`; empty for vectors, which no code
+-- makes yet
 abbrev pub name_of : List ClassRec → ClassNo → List ℕ
 name_of classes Node = node_name
 name_of classes Program = program_name
 name_of classes (Made k) = made_name (slice_get classes k)
+name_of classes (Vector of) = []
 
 abbrev pub name_if : List ClassRec → Option ObjectRec → Option (List ℕ)
 name_if classes None = None

@@ -1,7 +1,7 @@
 -- What a node keeps of an object that a network shows.
 use Rattle.std.specs.Prelude.{◌≡◌, ℕ, Some}
 use Rattle.ec_world.specs.declared.object.ObjectRec.{ObjectRec}
-use Rattle.ec_world.specs.Effects.{object_at}
+use Rattle.ec_world.specs.Objects.{object_at}
 use Rattle.ec_frames.specs.declared.node.Row.{Row}
 use Rattle.ec_network.specs.Shows.{IrWorld}
 

@@ -10,7 +10,7 @@ use Rattle.ec_world.specs.declared.object.ObjectRec.{ObjectRec}
 use Rattle.ec_world.specs.declared.process.ProcStatus.TheVariants.{Ready}
 use Rattle.ec_world.specs.declared.run.RunEntry.{RunEntry}
 use Rattle.ec_world.specs.declared.run.RunEntry.TheVariants.{TurnOf as ATurn, MoveOf as AMove}
-use Rattle.ec_world.specs.Effects.{object_at}
+use Rattle.ec_world.specs.Objects.{object_at}
 use Rattle.ec_world.specs.Group.{Has}
 use Rattle.ec_world.specs.World.{stack_at}
 use Rattle.ec_world.specs.Moves.{OperatorMove}

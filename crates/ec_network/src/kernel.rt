@@ -8,10 +8,10 @@ ghost use Rattle.ec_network.specs.Can.{CanAct, CanReadSlot, CanDefineFrom, CanCr
 
 use crate::cluster::Cluster;
 use ec_ir::code::{Parts, StopRec};
+use ec_ir::stop::Stop;
 use ec_nodes::key::Key;
 use ec_world::class::ClassNo;
 use ec_world::process::ProcStatus;
-use ec_world::stop::Stop;
 use ec_world::value::{Oid, OpNo, Pid, copy_text};
 use std::alloc::AllocError;
 

@@ -73,13 +73,13 @@ impl Model for Network {
 }
 
 impl Network {
-    ghost use Rattle.ec_network.specs.Net.{AreBuilt, IsOneNode, EntryFull, count_of, counts_of, name_if, fixed_if};
+    ghost use Rattle.ec_network.specs.Net.{AreBuilt, IsOneNode, EntryFull, WholeShows, count_of, counts_of, name_if, fixed_if};
     ghost use Rattle.ec_network.specs.Answers.{CanNumber, WhenFull, WhenMemory, LoadAnswer, TurnAnswer, MoveAnswer, ForShown, steps_of};
     ghost use Rattle.ec_network.specs.Shows.{place};
     ghost use Rattle.ec_network.specs.Turns.{LoadFull};
     ghost use Rattle.ec_network.specs.Worlds.{ir_action};
     ghost use Rattle.ec_world.specs.Moves.{OperatorMove};
-    ghost use Rattle.ec_world.specs.Effects.{object_at};
+    ghost use Rattle.ec_world.specs.Objects.{object_at};
     ghost use Rattle.ec_world.specs.Run.{statuses_of};
     ghost use Rattle.rv_codegen.specs.Meaning.{rv_meaning};
 
@@ -94,9 +94,10 @@ impl Network {
         }
     }
 
-    /// Whether a program is loaded and no call since has met want of memory.
+    /// Whether a program is loaded and no call since has met want of memory. A whole network shows a world.
     pub fn is_whole(&self) -> bool
-        ensures { result ≡ self.now.whole }
+        ensures is { result ≡ self.now.whole }
+        ensures shows { IsTrue result → WholeShows rv_meaning self.now.loaded }
     {
         self.whole
     }
@@ -189,7 +190,7 @@ impl Network {
     ghost use Rattle.ec_network.specs.Answers.{ForShown};
     ghost use Rattle.ec_network.specs.Shows.{place};
     ghost use Rattle.ec_network.specs.Worlds.{status_at};
-    ghost use Rattle.ec_world.specs.Effects.{object_at};
+    ghost use Rattle.ec_world.specs.Objects.{object_at};
     ghost use Rattle.ec_world.specs.Run.{statuses_of};
     ghost use Rattle.rv_codegen.specs.Meaning.{rv_meaning};
 
@@ -257,6 +258,3 @@ impl Network {
         }
     }
 }
-
-#[cfg(test)]
-mod tests;

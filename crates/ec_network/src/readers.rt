@@ -2,7 +2,7 @@
 ghost use Rattle.std.specs.Prelude.{◌≡◌, ◌<◌, ◌↔◌, ℕ, IsTrue, IfSome, IfNone, Some, None, length, slice_get};
 ghost use Rattle.ec_world.specs.declared.class.ClassNo.TheVariants.{Made};
 ghost use Rattle.ec_world.specs.declared.process.ProcStatus.TheVariants.{Ready};
-ghost use Rattle.ec_world.specs.Effects.{object_at};
+ghost use Rattle.ec_world.specs.Objects.{object_at};
 ghost use Rattle.ec_world.specs.Moves.{is_idle_move};
 ghost use Rattle.ec_world.specs.Run.{statuses_of};
 ghost use Rattle.rv_codegen.specs.Meaning.{rv_meaning};
@@ -123,6 +123,7 @@ impl Cluster {
             ClassNo::Node => &self.own_names.node,
             ClassNo::Program => &self.own_names.program,
             ClassNo::Made(k) => &self.program.parts().classes.at(k as usize).name,
+            ClassNo::Vector(_) => &self.own_names.none,
         }
     }
 }

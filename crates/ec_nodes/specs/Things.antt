@@ -4,10 +4,10 @@ use Rattle.ec_world.specs.declared.value.Value.{Value}
 use Rattle.ec_world.specs.declared.object.ObjectRec.{ObjectRec}
 use Rattle.ec_world.specs.declared.object.MonitorRec.{MonitorRec}
 use Rattle.ec_world.specs.declared.class.ClassNo.{ClassNo}
-use Rattle.ec_world.specs.declared.class.ClassNo.TheVariants.{Node, Program, Made}
+use Rattle.ec_world.specs.declared.class.ClassNo.TheVariants.{Node, Program, Made, Vector}
 use Rattle.ec_world.specs.declared.process.Proc.{Proc}
 use Rattle.ec_world.specs.declared.world.World.{World}
-use Rattle.ec_world.specs.Effects.{object_at}
+use Rattle.ec_world.specs.Objects.{object_at}
 use Rattle.ec_ir.specs.declared.activation.IrActivation.{IrActivation}
 use Rattle.ec_world.specs.declared.node.Kind.{Kind}
 use Rattle.ec_nodes.specs.declared.key.Key.{Key}
@@ -32,6 +32,7 @@ abbrev pub class_blocks : ClassNo → ℕ → ℕ
 class_blocks Node fields = 0
 class_blocks Program fields = max 1 ((fields + 127) / 128)
 class_blocks (Made k) fields = max 1 ((fields + 127) / 128)
+class_blocks (Vector of) fields = max 1 ((fields + 127) / 128)
 
 abbrev pub blocks_of : ObjectRec → ℕ
 blocks_of o = class_blocks o.class (length o.fields)

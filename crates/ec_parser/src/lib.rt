@@ -239,6 +239,3 @@ fn nesting(symbols: &Pile<Symbol>) -> usize
     }
     open
 }
-
-#[cfg(test)]
-mod tests;

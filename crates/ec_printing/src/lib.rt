@@ -1,5 +1,9 @@
-//! The tree of a program of the printing part of the language: the part that is run today. It prints literals.
+//! The tree of a program of the printing part of the language, the part that is run today, and what it means: its
+//! activations, and the items that are still to do in them. It prints literals.
 #![tactic(auto)]
+
+pub mod activation;
+pub mod item;
 
 use ec_ast::Span;
 use ec_base::list::Seq;

@@ -10,37 +10,38 @@ use Rattle.ec_world.specs.Agree.{SameRest}
 use Rattle.ec_world.specs.Places.{places}
 use Rattle.ec_world.specs.Run.{statuses_of, end_by, end_of}
 use Rattle.ec_world.proofs.Simulation.{statuses_agree}
-use Rattle.ec_meaning.specs.declared.activation.SourceActivation.{SourceActivation}
-use Rattle.ec_meaning.specs.Meaning.{source_meaning}
+use Rattle.ec_printing.specs.declared.activation.SourceActivation.{SourceActivation}
+use Rattle.ec_printing.specs.Meaning.{source_meaning}
 use Rattle.ec_ir.specs.declared.code.Parts.{Parts}
 use Rattle.ec_ir.specs.declared.activation.IrActivation.{IrActivation}
 use Rattle.ec_ir.specs.Meaning.{ir_meaning, ir_start}
 use Rattle.ec_lower.specs.Agreement.{Means, SameRun}
 use Rattle.ec_nodes.specs.declared.room.Part.{Part}
 use Rattle.ec_network.specs.Turns.{LoadFull, Along}
-use Rattle.ec_network.specs.Net.{Net, empty_net, whole_net, counts_of}
+use Rattle.ec_network.specs.Net.{Net, empty_net, whole_net, counts_of, name_of}
 use Rattle.ec_network.specs.Net.Ran.{Refused, Loaded}
 use Rattle.ec_network.specs.declared.cluster.Cluster.{Cluster}
 use Rattle.ec_network.specs.declared.network.NetError.{NetError}
 use Rattle.ec_network.specs.declared.network.NetError.TheVariants.{Full, Memory}
 use Rattle.ec_network.specs.Answers.{WhenFull, LoadAnswer}
 use Rattle.rv_codegen.specs.Meaning.{rv_meaning}
-use Rattle.ec_tool.specs.declared.report.ReportEnd.{ReportEnd}
-use Rattle.ec_tool.specs.declared.report.ReportEnd.TheVariants.{IsFull}
-use Rattle.ec_tool.specs.declared.status.Status.{Status}
-use Rattle.ec_tool.specs.declared.status.Status.TheVariants as statuses
-use Rattle.ec_tool.specs.Report.{report, load_report, turns_line, process_lines, object_lines, node_lines, end_line, line_feed}
-use Rattle.ec_tool.specs.Emerald.{ir_run, source_run, EndsAfter, RunsTo, status_of}
+use Rattle.ec_report.specs.declared.end.ReportEnd.{ReportEnd}
+use Rattle.ec_report.specs.declared.end.ReportEnd.TheVariants.{IsFull}
+use Rattle.ec_report.specs.declared.status.Status.{Status}
+use Rattle.ec_report.specs.declared.status.Status.TheVariants as statuses
+use Rattle.ec_report.specs.Report.{load_report, turns_line, process_lines, object_lines, node_lines, end_line, line_feed}
+use Rattle.ec_report.specs.Status.{status_of}
+use Rattle.ec_tool.specs.Emerald.{ir_run, source_run, EndsAfter, RunsTo, run_report}
 use Rattle.ec_tool.specs.Emerald.EndsAfter.{ByItself, AsFull}
 use Rattle.ec_tool.specs.Emerald.RunsTo.{LoadIsFull, RanUntil}
 use Rattle.ec_tool.specs.Running.{Follows, EndsAt, StopsItself, StopsFull, IsFullEnd, IsReported}
 
 abbrev text_of : Common → List ProcStatus → List NodeSpec → (ℕ → ℕ) → ℕ → ReportEnd → List ℕ
 text_of c ss specs counts turns how =
-    c.output ++ line_feed ++ turns_line turns ++ process_lines 0 ss ++ object_lines c.classes specs (places c.nodes c.events) (suc c.nodes) (drop c.nodes c.objects) ++ node_lines counts 0 specs ++ end_line specs how
+    c.output ++ line_feed ++ turns_line turns ++ process_lines 0 ss ++ object_lines (name_of c.classes) specs (places c.nodes c.events) (suc c.nodes) (drop c.nodes c.objects) ++ node_lines counts 0 specs ++ end_line specs how
 
 -- the report of a world says nothing of activations
-report_same : (w : World SourceActivation) (v : World IrActivation) (specs : List NodeSpec) (counts : ℕ → ℕ) (k : ℕ) (how : ReportEnd) → w.common ≡ v.common → statuses_of w ≡ statuses_of v → report v specs counts k how ≡ report w specs counts k how
+report_same : (w : World SourceActivation) (v : World IrActivation) (specs : List NodeSpec) (counts : ℕ → ℕ) (k : ℕ) (how : ReportEnd) → w.common ≡ v.common → statuses_of w ≡ statuses_of v → run_report v specs counts k how ≡ run_report w specs counts k how
 report_same w v specs counts k how c s =
     ap (λ (x : Common). text_of x (statuses_of v) specs counts k how) (sym c) ∙ ap (λ (x : List ProcStatus). text_of w.common x specs counts k how) (sym s)
 
@@ -81,7 +82,7 @@ module _ (program : Program) (specs : List NodeSpec) (budget : ℕ) (net old net
       let ran = Loaded empty f.start f.now f.loaded along (ap (λ (x : Net). x.loaded) f.is) in
       let runs = RanUntil f.start.program r.done r.how means (λ node need free part h. fits node part need free h) f.fits (ends_after program f.start.program means specs budget r.done r.how f.going r.ended.ends) ran in
       let s : status ≡ status_of (statuses_of (source_run program n [] r.done).world) r.how = r.status_is ∙ ap (λ (x : List ProcStatus). status_of x r.how) (sym ss) in
-      let t : text ≡ report (source_run program n [] r.done).world specs (counts_of net') r.done r.how =
+      let t : text ≡ run_report (source_run program n [] r.done).world specs (counts_of net') r.done r.how =
       r.text_is ∙ report_same (source_run program n [] r.done).world (ir_run f.start.program n [] r.done).world specs (counts_of net') r.done r.how same.worlds.common ss in
       rw (s, t) runs
 

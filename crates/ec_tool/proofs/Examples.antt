@@ -35,13 +35,13 @@ use Rattle.ec_world.specs.declared.node.Kind.TheVariants.{Riscv}
 use Rattle.ec_world.specs.declared.node.NodeSpec.{NodeSpec}
 use Rattle.ec_world.specs.declared.run.RunEnd.TheVariants.{Finished}
 use Rattle.ec_world.specs.Run.{Run, run_after, end_of, statuses_of}
-use Rattle.ec_meaning.specs.Meaning.{source_meaning, source_silent, source_start}
-use Rattle.ec_tool.specs.declared.report.ReportEnd.TheVariants.{Ends}
-use Rattle.ec_tool.specs.declared.status.Status.{Status}
-use Rattle.ec_tool.specs.declared.status.Status.TheVariants as statuses
+use Rattle.ec_printing.specs.Meaning.{source_meaning, source_silent, source_start}
+use Rattle.ec_report.specs.declared.end.ReportEnd.TheVariants.{Ends}
+use Rattle.ec_report.specs.declared.status.Status.{Status}
+use Rattle.ec_report.specs.declared.status.Status.TheVariants as statuses
+use Rattle.ec_report.specs.Status.{status_of}
 use Rattle.ec_tool.specs.Sources.{IsProgram, IsSource}
-use Rattle.ec_tool.specs.Report.{report}
-use Rattle.ec_tool.specs.Emerald.{source_run, status_of}
+use Rattle.ec_tool.specs.Emerald.{source_run, run_report}
 
 -- as many entries as a run does at most where the words don't say
 abbrev budget : ℕ
@@ -61,7 +61,7 @@ status_after program k = status_of (statuses_of (source_run program 1 [] k).worl
 
 -- its report, where the node has run so many instructions
 abbrev text_of : Program → ℕ → ℕ → List ℕ
-text_of program k count = report (source_run program 1 [] k).world (one_node ∷ []) (λ node. count) k (Ends Finished)
+text_of program k count = run_report (source_run program 1 [] k).world (one_node ∷ []) (λ node. count) k (Ends Finished)
 
 -- ---- no constant
 

@@ -31,11 +31,12 @@ use Rattle.ec_network.specs.declared.network.NetError.{NetError}
 use Rattle.ec_network.specs.declared.network.NetError.TheVariants.{Full, Memory}
 use Rattle.ec_network.specs.Answers.{WhenFull, ForShown, LoadAnswer, TurnAnswer}
 use Rattle.rv_codegen.specs.Meaning.{rv_meaning}
-use Rattle.ec_tool.specs.declared.report.ReportEnd.{ReportEnd}
-use Rattle.ec_tool.specs.declared.report.ReportEnd.TheVariants.{Ends, IsFull}
-use Rattle.ec_tool.specs.declared.run.Step.TheVariants.{Stops, Turns}
+use Rattle.ec_report.specs.declared.end.ReportEnd.{ReportEnd}
+use Rattle.ec_report.specs.declared.end.ReportEnd.TheVariants.{Ends, IsFull}
+use Rattle.ec_report.specs.declared.step.Step.TheVariants.{Stops, Turns}
+use Rattle.ec_report.specs.Step.{IsStep}
 use Rattle.ec_tool.specs.Emerald.{ir_run, action_if, next_action, PoolAfter, NextFull}
-use Rattle.ec_tool.specs.Running.{IsShown, IsStep, Follows, IsAfter, StopsItself, StopsFull, IsFullEnd, IsEnded}
+use Rattle.ec_tool.specs.Running.{IsShown, Follows, IsAfter, StopsItself, StopsFull, IsFullEnd, IsEnded}
 use Rattle.ec_tool.proofs.Counting.{no_count, counts_rise}
 use Rattle.ec_tool.proofs.Growth.{GrowsByOne, turn_grows}
 use Rattle.ec_tool.proofs.Rooms.{full_along}

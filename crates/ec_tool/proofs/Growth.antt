@@ -9,11 +9,13 @@ use Rattle.ec_world.specs.declared.class.ClassNo.{ClassNo}
 use Rattle.ec_world.specs.declared.class.ClassRec.{ClassRec}
 use Rattle.ec_world.specs.declared.object.ObjectRec.{ObjectRec}
 use Rattle.ec_world.specs.declared.common.Common.{Common}
-use Rattle.ec_world.specs.declared.stop.Stop.{Stop}
-use Rattle.ec_world.specs.declared.stop.Stop.TheVariants.{Entry, New, Return, Print, Global, End}
+use Rattle.ec_ir.specs.declared.stop.Stop.{Stop}
+use Rattle.ec_ir.specs.declared.stop.Stop.TheVariants.{Entry, New, Return, Print, Global, End}
+use Rattle.ec_ir.specs.Stops.{world_stop}
 use Rattle.ec_world.specs.declared.stop.Who.{Who}
 use Rattle.ec_world.specs.declared.stop.Effect.{Effect}
-use Rattle.ec_world.specs.Effects.{Acted, class_at, new_effect, return_effect, print_effect, global_effect, effect_of}
+use Rattle.ec_world.specs.Effects.{Acted, new_effect, return_effect, print_effect, global_effect, effect_of}
+use Rattle.ec_world.specs.Objects.{class_at}
 use Rattle.ec_world.specs.World.{stack_at, who_of, acted, outcome_of, act_if_pending, act_on, go_on_unless, go_on}
 use Rattle.ec_ir.specs.declared.code.Parts.{Parts}
 use Rattle.ec_ir.specs.declared.activation.IrActivation.{IrActivation}
@@ -55,7 +57,7 @@ global_few c index (v ∷ []) =
     [ true ↦ omega arith | false ↦ omega arith ]
 global_few c index (v ∷ u ∷ vs) = omega arith
 
-effect_few : (c : Common) (who : Who) (stop : Stop) (vs : List Value) → objects_after (length c.objects) (effect_of c who stop vs) ≤ suc (length c.objects)
+effect_few : (c : Common) (who : Who) (stop : Stop) (vs : List Value) → objects_after (length c.objects) (effect_of c who (world_stop stop) vs) ≤ suc (length c.objects)
 effect_few c who Entry vs = omega arith
 effect_few c who (New class) vs = new_few c who class vs (class_at c.classes class)
 effect_few c who (Return gives_self) vs = return_few c who gives_self vs

@@ -3,7 +3,6 @@ pub mod Sources
 pub mod Lifting
 pub mod Verdicts
 pub mod Promised
-pub mod Choosing
 pub mod Counting
 pub mod Growth
 pub mod Rooms

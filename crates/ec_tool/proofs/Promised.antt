@@ -6,23 +6,24 @@ use Rattle.ec_inputs.specs.Words.{RunWords, CheckWords, WordsOf, CommandWords as
 use Rattle.ec_outside.specs.Fault.{HasRisen}
 use Rattle.ec_outside.specs.Whole.{IsWhole}
 use Rattle.ec_network.specs.Net.{Net}
-use Rattle.ec_tool.specs.declared.status.Status.{Status}
-use Rattle.ec_tool.specs.declared.status.Status.TheVariants as statuses
+use Rattle.ec_report.specs.declared.status.Status.{Status}
+use Rattle.ec_report.specs.declared.status.Status.TheVariants as statuses
 use Rattle.ec_tool.specs.Inputs.{usage_line}
-use Rattle.ec_tool.specs.Sources.{IsChecked, IsSource}
-use Rattle.ec_tool.proofs.Sources.{not_faulty, not_refused}
+use Rattle.ec_tool.specs.Sources.{IsChecked, IsSource, IsMeant}
+use Rattle.ec_tool.proofs.Sources.{not_faulty, not_refused, not_unmeant}
 use Rattle.ec_tool.specs.Emerald.{Verdict, Answers, name_of_file, file_limit}
-use Rattle.ec_tool.specs.Emerald.Verdict.{NoCommand, ReadFailed, SourceRefused, NodesRefused, ScheduleRefused, IsRun, CheckReadFailed, CheckRefused, Accepts}
+use Rattle.ec_tool.specs.Emerald.Verdict.{NoCommand, ReadFailed, SourceRefused, NodesRefused, ScheduleRefused, IsRun, MeanReadFailed, Unmeant, MeanNodesRefused, MeanScheduleRefused, IsWorked, CheckReadFailed, CheckRefused, Accepts}
 use Rattle.ec_tool.specs.Emerald.Answers.{Written, Broken}
-use Rattle.ec_tool.specs.Promises.{IsRunStatus, HasReadFault, IsNoSource, IsNoInput, IsAccepted, HasRun, NoneRisen, IsAcceptedCheck, HasAccepted}
-use Rattle.ec_tool.specs.Promises.HasReadFault.{InRun, InCheck}
-use Rattle.ec_tool.specs.Promises.IsNoSource.{ByRun, ByCheck}
+use Rattle.ec_tool.specs.Promises.{IsRunStatus, IsPlainStatus, HasReadFault, IsNoSource, IsNoInput, IsAccepted, HasRun, IsAcceptedMean, HasMeant, HasEnded, NoneRisen, IsAcceptedCheck, HasAccepted}
+use Rattle.ec_tool.specs.Promises.HasReadFault.{InRun, InMean, InCheck}
+use Rattle.ec_tool.specs.Promises.IsNoSource.{ByRun, ByMean, ByCheck}
+use Rattle.ec_tool.specs.Promises.Asks.{ForRun, ForMean}
 use Rattle.ec_tool.specs.Promises.BreaksRule.{ByNodes, BySchedule}
 use Rattle.ec_tool.specs.Promises.IsRunStatus.{Finishes, Fails, Spends, Fills, Sticks}
 use Rattle.ec_tool.specs.Steps.{IsByFiles, Plain, Comes, Came}
 use Rattle.ec_tool.specs.Steps.IsByFiles.{RefusesSource, RefusesInput, EndsRun, AcceptsSource}
 use Rattle.ec_tool.specs.Steps.Plain.{ByWords, ByFault, ByFiles}
-use Rattle.ec_tool.proofs.Verdicts.{run_status}
+use Rattle.ec_tool.proofs.Verdicts.{run_status, plain_status, run_status_from}
 
 -- ---- statuses apart
 
@@ -77,6 +78,7 @@ module _ (words : List (List ℕ)) (faults faults' : List ℕ → ℕ) where
 
   no_fault : {t : List ℕ} → HasReadFault words faults faults' t → WordsOf words ≡ None → ⊥
   no_fault (InRun run file w h) e = cc
+  no_fault (InMean mean file w h) e = cc
   no_fault (InCheck check w h) e = cc
 
   plain_none : {s : Status} {t : List ℕ} → Plain words faults faults' s t → WordsOf words ≡ None → s ≡ statuses.Usage
@@ -95,6 +97,13 @@ module _ (words : List (List ℕ)) (content : List ℕ → Option (List ℕ)) (f
   verdict_source (NodesRefused run source nodes schedule program rule w r i h n) e = cc
   verdict_source (ScheduleRefused run source nodes schedule program specs rule line w r i m h n) e = cc
   verdict_source (IsRun run source nodes schedule program specs entries s t w r i m k runs) e = absurd ((run_is_not (run_status runs)).2 e)
+  verdict_source (MeanReadFailed mean file w h n) e = cc
+  verdict_source (Unmeant mean source nodes schedule refusal at w r h n) e =
+      (ByMean mean source nodes schedule refusal at w r h, n)
+  verdict_source (MeanNodesRefused mean source nodes schedule meant rule w r i h n) e = cc
+  verdict_source (MeanScheduleRefused mean source nodes schedule meant specs rule line w r i m h n) e = cc
+  verdict_source (IsWorked mean source nodes schedule meant specs entries s t w r i m k works n) e =
+      absurd ((run_is_not (run_status_from (plain_status meant specs entries mean.budget s t works))).2 e)
   verdict_source (CheckReadFailed check w h n) e = cc
   verdict_source (CheckRefused check source refusal at w r h n) e = (ByCheck check source refusal at w r h, n)
   verdict_source (Accepts check source w r h n) e = cc
@@ -104,17 +113,27 @@ module _ (words : List (List ℕ)) (content : List ℕ → Option (List ℕ)) (f
   verdict_input (ReadFailed run file w h n) e = cc
   verdict_input (SourceRefused run source nodes schedule refusal at w r h n) e = cc
   verdict_input (NodesRefused run source nodes schedule program rule w r i h n) e =
-      (record { run = run; source = source; nodes = nodes; schedule = schedule; program = program; words_are = w; are_read = r; is_source = i; breaks = ByNodes rule h }, n)
+      (record { run = run; source = source; nodes = nodes; schedule = schedule; asks = ForRun program w i; are_read = r; breaks = ByNodes rule h }, n)
   verdict_input (ScheduleRefused run source nodes schedule program specs rule line w r i m h n) e =
-      (record { run = run; source = source; nodes = nodes; schedule = schedule; program = program; words_are = w; are_read = r; is_source = i; breaks = BySchedule specs rule line m h }, n)
+      (record { run = run; source = source; nodes = nodes; schedule = schedule; asks = ForRun program w i; are_read = r; breaks = BySchedule specs rule line m h }, n)
   verdict_input (IsRun run source nodes schedule program specs entries s t w r i m k runs) e = absurd ((run_is_not (run_status runs)).3 e)
+  verdict_input (MeanReadFailed mean file w h n) e = cc
+  verdict_input (Unmeant mean source nodes schedule refusal at w r h n) e = cc
+  verdict_input (MeanNodesRefused mean source nodes schedule meant rule w r i h n) e =
+      (record { run = mean; source = source; nodes = nodes; schedule = schedule; asks = ForMean meant w i; are_read = r; breaks = ByNodes rule h }, n)
+  verdict_input (MeanScheduleRefused mean source nodes schedule meant specs rule line w r i m h n) e =
+      (record { run = mean; source = source; nodes = nodes; schedule = schedule; asks = ForMean meant w i; are_read = r; breaks = BySchedule specs rule line m h }, n)
+  verdict_input (IsWorked mean source nodes schedule meant specs entries s t w r i m k works n) e =
+      absurd ((run_is_not (run_status_from (plain_status meant specs entries mean.budget s t works))).3 e)
   verdict_input (CheckReadFailed check w h n) e = cc
   verdict_input (CheckRefused check source refusal at w r h n) e = cc
   verdict_input (Accepts check source w r h n) e = cc
 
-  -- a run has ended so, or a check has accepted
+  -- a run or a plain meaning has ended so, or a check has accepted
   abbrev Ended : Status → List ℕ → Type 0
-  Ended s t = HasRun words content net net' s t ⊎ ((s ≡ statuses.Finished) × HasAccepted words content net net' t)
+  Ended s t =
+      HasRun words content net net' s t
+      ⊎ ((IsPlainStatus s × HasMeant words content net net' s t) ⊎ ((s ≡ statuses.Finished) × HasAccepted words content net net' t))
 
   verdict_ended : {s : Status} {t : List ℕ} → Verdict words content faults faults' net net' s t → IsRunStatus s → Ended s t
   verdict_ended (NoCommand w n) e = elim e [ ]
@@ -124,18 +143,31 @@ module _ (words : List (List ℕ)) (content : List ℕ → Option (List ℕ)) (f
   verdict_ended (ScheduleRefused run source nodes schedule program specs rule line w r i m h n) e = elim e [ ]
   verdict_ended (IsRun run source nodes schedule program specs entries s t w r i m k runs) e =
       inl (record { accepted = record { run = run; source = source; nodes = nodes; schedule = schedule; program = program; specs = specs; entries = entries; words_are = w; are_read = r; is_source = i; nodes_are = m; entries_are = k }; runs = runs })
+  verdict_ended (MeanReadFailed mean file w h n) e = elim e [ ]
+  verdict_ended (Unmeant mean source nodes schedule refusal at w r h n) e = elim e [ ]
+  verdict_ended (MeanNodesRefused mean source nodes schedule meant rule w r i h n) e = elim e [ ]
+  verdict_ended (MeanScheduleRefused mean source nodes schedule meant specs rule line w r i m h n) e = elim e [ ]
+  verdict_ended (IsWorked mean source nodes schedule meant specs entries s t w r i m k works n) e =
+      inr (inl (plain_status meant specs entries mean.budget s t works, record { accepted = record { mean = mean; source = source; nodes = nodes; schedule = schedule; meant = meant; specs = specs; entries = entries; words_are = w; are_read = r; is_meant = i; nodes_are = m; entries_are = k }; runs = works; unchanged = n }))
   verdict_ended (CheckReadFailed check w h n) e = elim e [ ]
   verdict_ended (CheckRefused check source refusal at w r h n) e = elim e [ ]
   verdict_ended (Accepts check source w r h n) e =
-      inr (refl, record { accepted = record { check = check; source = source; words_are = w; is_read = r; is_checked = h }; unchanged = n; line = refl })
+      inr (inr (refl, record { accepted = record { check = check; source = source; words_are = w; is_read = r; is_checked = h }; unchanged = n; line = refl }))
 
-  only_run : (s : Status) (t : List ℕ) → (s ≡ statuses.Finished → ⊥) → Ended s t → HasRun words content net net' s t
-  only_run s t n (inl h) = h
-  only_run s t n (inr h) = absurd (n h.0)
+  only_run : (s : Status) (t : List ℕ) → (s ≡ statuses.Finished → ⊥) → (IsPlainStatus s → ⊥) → Ended s t → HasRun words content net net' s t
+  only_run s t n p (inl h) = h
+  only_run s t n p (inr (inl h)) = absurd (p h.0)
+  only_run s t n p (inr (inr h)) = absurd (n h.0)
 
-  either : (s : Status) (t : List ℕ) → Ended s t → HasRun words content net net' s t ⊎ HasAccepted words content net net' t
-  either s t (inl h) = inl h
-  either s t (inr h) = inr h.1
+  only_ended : (s : Status) (t : List ℕ) → (s ≡ statuses.Finished → ⊥) → Ended s t → HasEnded words content net net' s t
+  only_ended s t n (inl h) = inl h
+  only_ended s t n (inr (inl h)) = inr h.1
+  only_ended s t n (inr (inr h)) = absurd (n h.0)
+
+  either : (s : Status) (t : List ℕ) → Ended s t → HasEnded words content net net' s t ⊎ HasAccepted words content net net' t
+  either s t (inl h) = inl (inl h)
+  either s t (inr (inl h)) = inl (inr h.1)
+  either s t (inr (inr h)) = inr h.1
 
   -- a file is read whole in one way
   same_whole : (file : Option (List ℕ)) (limit : ℕ) (a b : List ℕ) → IsWhole file limit a → IsWhole file limit b → a ≡ b
@@ -165,9 +197,46 @@ module _ (words : List (List ℕ)) (content : List ℕ → Option (List ℕ)) (f
       let y : Err (rule, line) ≡ Ok a.entries = sym h ∙ (ap EntriesOf k ∙ a.entries_are) in
       cc
   verdict_accepted (IsRun run source nodes schedule program specs entries s t w r i m k runs) a quiet = run_status runs
+  verdict_accepted (MeanReadFailed mean file w h n) a quiet = let u = a.words_are in cc
+  verdict_accepted (Unmeant mean source nodes schedule refusal at w r h n) a quiet = let u = a.words_are in cc
+  verdict_accepted (MeanNodesRefused mean source nodes schedule meant rule w r i h n) a quiet = let u = a.words_are in cc
+  verdict_accepted (MeanScheduleRefused mean source nodes schedule meant specs rule line w r i m h n) a quiet = let u = a.words_are in cc
+  verdict_accepted (IsWorked mean source nodes schedule meant specs entries s t w r i m k works n) a quiet = let u = a.words_are in cc
   verdict_accepted (CheckReadFailed check w h n) a quiet = let u = a.words_are in cc
   verdict_accepted (CheckRefused check source refusal at w r h n) a quiet = let u = a.words_are in cc
   verdict_accepted (Accepts check source w r h n) a quiet = let u = a.words_are in cc
+
+  same_mean : (mean other : RunWords) → WordsOf words ≡ Some (command.Mean mean) → WordsOf words ≡ Some (command.Mean other) → other ≡ mean
+  same_mean mean other e f = cc
+
+  verdict_meant : {s : Status} {t : List ℕ} → Verdict words content faults faults' net net' s t → (a : IsAcceptedMean words content) → NoneRisen a.mean faults faults' → IsPlainStatus s
+  verdict_meant (NoCommand w n) a quiet = let u = a.words_are in cc
+  verdict_meant (ReadFailed run file w h n) a quiet = let u = a.words_are in cc
+  verdict_meant (SourceRefused run source nodes schedule refusal at w r h n) a quiet = let u = a.words_are in cc
+  verdict_meant (NodesRefused run source nodes schedule program rule w r i h n) a quiet = let u = a.words_are in cc
+  verdict_meant (ScheduleRefused run source nodes schedule program specs rule line w r i m h n) a quiet = let u = a.words_are in cc
+  verdict_meant (IsRun run source nodes schedule program specs entries s t w r i m k runs) a quiet = let u = a.words_are in cc
+  verdict_meant (MeanReadFailed mean file w h n) a quiet =
+      let e : mean ≡ a.mean = same_mean a.mean mean a.words_are w in
+      absurd (quiet file (subst (λ (r : RunWords). HasRisen (faults (name_of_file r file)) (faults' (name_of_file r file))) e h))
+  verdict_meant (Unmeant mean source nodes schedule refusal at w r h n) a quiet =
+      let e : mean ≡ a.mean = same_mean a.mean mean a.words_are w in
+      let f : source ≡ a.source = same_whole (content a.mean.source) file_limit source a.source (subst (λ (k : RunWords). IsWhole (content k.source) file_limit source) e r.source_is) a.are_read.source_is in
+      absurd (not_unmeant (subst (λ (k : List ℕ). IsMeant k a.meant) (sym f) a.is_meant) h)
+  verdict_meant (MeanNodesRefused mean source nodes schedule meant rule w r i h n) a quiet =
+      let e : mean ≡ a.mean = same_mean a.mean mean a.words_are w in
+      let f : nodes ≡ a.nodes = same_whole (content a.mean.nodes) file_limit nodes a.nodes (subst (λ (k : RunWords). IsWhole (content k.nodes) file_limit nodes) e r.nodes_are) a.are_read.nodes_are in
+      let y : Err rule ≡ Ok a.specs = sym h ∙ (ap NodesOf f ∙ a.nodes_are) in
+      cc
+  verdict_meant (MeanScheduleRefused mean source nodes schedule meant specs rule line w r i m h n) a quiet =
+      let e : mean ≡ a.mean = same_mean a.mean mean a.words_are w in
+      let k : schedule ≡ a.schedule = same_whole (content a.mean.schedule) file_limit schedule a.schedule (subst (λ (k : RunWords). IsWhole (content k.schedule) file_limit schedule) e r.schedule_is) a.are_read.schedule_is in
+      let y : Err (rule, line) ≡ Ok a.entries = sym h ∙ (ap EntriesOf k ∙ a.entries_are) in
+      cc
+  verdict_meant (IsWorked mean source nodes schedule meant specs entries s t w r i m k works n) a quiet = plain_status meant specs entries mean.budget s t works
+  verdict_meant (CheckReadFailed check w h n) a quiet = let u = a.words_are in cc
+  verdict_meant (CheckRefused check source refusal at w r h n) a quiet = let u = a.words_are in cc
+  verdict_meant (Accepts check source w r h n) a quiet = let u = a.words_are in cc
 
   same_check : (check other : CheckWords) → WordsOf words ≡ Some (command.Check check) → WordsOf words ≡ Some (command.Check other) → other ≡ check
   same_check check other e f = cc
@@ -180,6 +249,11 @@ module _ (words : List (List ℕ)) (content : List ℕ → Option (List ℕ)) (f
   verdict_checked (NodesRefused run source nodes schedule program rule w r i h n) a quiet = let u = a.words_are in cc
   verdict_checked (ScheduleRefused run source nodes schedule program specs rule line w r i m h n) a quiet = let u = a.words_are in cc
   verdict_checked (IsRun run source nodes schedule program specs entries s t w r i m k runs) a quiet = let u = a.words_are in cc
+  verdict_checked (MeanReadFailed mean file w h n) a quiet = let u = a.words_are in cc
+  verdict_checked (Unmeant mean source nodes schedule refusal at w r h n) a quiet = let u = a.words_are in cc
+  verdict_checked (MeanNodesRefused mean source nodes schedule meant rule w r i h n) a quiet = let u = a.words_are in cc
+  verdict_checked (MeanScheduleRefused mean source nodes schedule meant specs rule line w r i m h n) a quiet = let u = a.words_are in cc
+  verdict_checked (IsWorked mean source nodes schedule meant specs entries s t w r i m k works n) a quiet = let u = a.words_are in cc
   verdict_checked (CheckReadFailed check w h n) a quiet =
       let e : check ≡ a.check = same_check a.check check a.words_are w in
       absurd (quiet (subst (λ (c : CheckWords). HasRisen (faults c.source) (faults' c.source)) e h))
@@ -271,12 +345,17 @@ module _ (FilesTold TakenTold : Type 0) (words : List (List ℕ)) (content : Lis
       let p = verdict_input words content faults faults' net net' (t.outcome.verdict f) t.status_is in
       (t.outcome.text, p.0, p.1, t.written)
 
-  pub ran_of : (s : Status) → IsRunStatus s → (s ≡ statuses.Finished → ⊥) → FilesTold → result ≡ s → (text : List ℕ) × HasRun words content net net' s text × (TakenTold → taken' ≡ taken ++ text)
-  ran_of s r n f e =
+  pub ran_of : (s : Status) → IsRunStatus s → (s ≡ statuses.Finished → ⊥) → (IsPlainStatus s → ⊥) → FilesTold → result ≡ s → (text : List ℕ) × HasRun words content net net' s text × (TakenTold → taken' ≡ taken ++ text)
+  ran_of s r n p f e =
       let t = told_of s (run_is_verdict r) e in
-      (t.outcome.text, only_run words content faults faults' net net' s t.outcome.text n (verdict_ended words content faults faults' net net' (subst (λ (k : Status). Verdict words content faults faults' net net' k t.outcome.text) t.status_is (t.outcome.verdict f)) r), t.written)
+      (t.outcome.text, only_run words content faults faults' net net' s t.outcome.text n p (verdict_ended words content faults faults' net net' (subst (λ (k : Status). Verdict words content faults faults' net net' k t.outcome.text) t.status_is (t.outcome.verdict f)) r), t.written)
 
-  pub finished_of : FilesTold → result ≡ statuses.Finished → (text : List ℕ) × (HasRun words content net net' statuses.Finished text ⊎ HasAccepted words content net net' text) × (TakenTold → taken' ≡ taken ++ text)
+  pub ended_of : (s : Status) → IsRunStatus s → (s ≡ statuses.Finished → ⊥) → FilesTold → result ≡ s → (text : List ℕ) × HasEnded words content net net' s text × (TakenTold → taken' ≡ taken ++ text)
+  ended_of s r n f e =
+      let t = told_of s (run_is_verdict r) e in
+      (t.outcome.text, only_ended words content faults faults' net net' s t.outcome.text n (verdict_ended words content faults faults' net net' (subst (λ (k : Status). Verdict words content faults faults' net net' k t.outcome.text) t.status_is (t.outcome.verdict f)) r), t.written)
+
+  pub finished_of : FilesTold → result ≡ statuses.Finished → (text : List ℕ) × (HasEnded words content net net' statuses.Finished text ⊎ HasAccepted words content net net' text) × (TakenTold → taken' ≡ taken ++ text)
   finished_of f e =
       let t = told_of statuses.Finished (run_is_verdict Finishes) e in
       let v : Verdict words content faults faults' net net' statuses.Finished t.outcome.text = subst (λ (k : Status). Verdict words content faults faults' net net' k t.outcome.text) t.status_is (t.outcome.verdict f) in
@@ -287,6 +366,15 @@ module _ (FilesTold TakenTold : Type 0) (words : List (List ℕ)) (content : Lis
       (λ (h : (result ≡ statuses.NoMemory) × (taken' ≡ taken) × (count' ≡ count)). inr h.0)
       (λ (h : Outcome). ⊎_elim
       (λ (i : result ≡ h.status). inl (subst (λ (k : Status). IsRunStatus k) (sym i) (verdict_accepted words content faults faults' net net' (h.verdict f) a quiet)))
+      (λ (i : (result ≡ statuses.WriteFault) × HasRisen count count'). absurd (calm i.1))
+      h.is)
+      came
+
+  pub complete_mean_of : FilesTold → (a : IsAcceptedMean words content) → NoneRisen a.mean faults faults' → ¬ HasRisen count count' → IsPlainStatus result ⊎ (result ≡ statuses.NoMemory)
+  complete_mean_of f a quiet calm = ⊎_elim
+      (λ (h : (result ≡ statuses.NoMemory) × (taken' ≡ taken) × (count' ≡ count)). inr h.0)
+      (λ (h : Outcome). ⊎_elim
+      (λ (i : result ≡ h.status). inl (subst (λ (k : Status). IsPlainStatus k) (sym i) (verdict_meant words content faults faults' net net' (h.verdict f) a quiet)))
       (λ (i : (result ≡ statuses.WriteFault) × HasRisen count count'). absurd (calm i.1))
       h.is)
       came

@@ -4,6 +4,7 @@ use Rattle.std.specs.Prelude.{option_map}
 use Rattle.ec_printing.specs.declared.Program.{Program}
 use Rattle.ec_world.specs.declared.node.NodeSpec.{NodeSpec}
 use Rattle.ec_world.specs.declared.run.Entry.{Entry}
+use Rattle.ec_world.specs.declared.run.RunEnd.{RunEnd}
 use Rattle.ec_world.specs.declared.run.RunEnd.TheVariants.{Finished, Stuck, Spent}
 use Rattle.ec_world.specs.declared.process.ProcStatus.{ProcStatus}
 use Rattle.ec_world.specs.Run.{statuses_of}
@@ -12,30 +13,34 @@ use Rattle.ec_inputs.specs.declared.schedule.ScheduleRule.{ScheduleRule}
 use Rattle.ec_inputs.specs.Nodes.{NodesOf}
 use Rattle.ec_inputs.specs.Schedules.{EntriesOf}
 use Rattle.ec_inputs.specs.declared.words.Command.{Command}
-use Rattle.ec_inputs.specs.Words.{RunWords, CheckWords, WordsOf, CommandWords, CommandWords as command, command_in}
+use Rattle.ec_inputs.specs.Words.{RunWords, CheckWords, WordsOf, CommandWords as command, command_in}
 use Rattle.ec_inputs.proofs.NoEntries.{no_entries}
 use Rattle.ec_inputs.proofs.OneNode.{one_node}
 use Rattle.ec_outside.specs.Fault.{HasRisen}
 use Rattle.ec_outside.specs.Whole.{IsWhole}
 use Rattle.ec_network.specs.Net.{Net, IsOneNode}
-use Rattle.ec_tool.specs.declared.status.Status.{Status}
-use Rattle.ec_tool.specs.declared.status.Status.TheVariants as statuses
+use Rattle.ec_meaning.specs.Programs.{Source as Meant}
+use Rattle.ec_plain.specs.Plain.{IsPlainRun, source_run as plain_run}
+use Rattle.ec_report.specs.declared.status.Status.{Status}
+use Rattle.ec_report.specs.declared.status.Status.TheVariants as statuses
 use Rattle.ec_tool.specs.declared.files.FileOf.{FileOf}
 use Rattle.ec_tool.specs.declared.files.FileOf.TheVariants.{Source}
-use Rattle.ec_tool.specs.declared.report.ReportEnd.{ReportEnd}
-use Rattle.ec_tool.specs.declared.report.ReportEnd.TheVariants.{Ends, IsFull}
+use Rattle.ec_report.specs.declared.end.ReportEnd.{ReportEnd}
+use Rattle.ec_report.specs.declared.end.ReportEnd.TheVariants.{Ends, IsFull}
+use Rattle.ec_report.specs.Status.{any_failed, finished_status, status_of}
 use Rattle.ec_tool.specs.declared.source.Refusal.{Refusal}
 use Rattle.ec_tool.specs.Inputs.{usage_line}
-use Rattle.ec_tool.specs.Sources.{IsChecked, IsSource, IsFaulty, IsRefused, accepted_line, refused_line}
+use Rattle.ec_tool.specs.Sources.{IsChecked, IsSource, IsMeant, IsFaulty, IsRefused, IsUnmeant, accepted_line, refused_line}
 use Rattle.ec_tool.specs.Refusals.{nodes_line, schedule_line}
-use Rattle.ec_tool.specs.Emerald.{RunsTo, AreRead, Verdict, name_of_file, fault_line, file_limit, any_failed, finished_status, status_of, source_run}
+use Rattle.ec_tool.specs.Emerald.{RunsTo, AreRead, Verdict, name_of_file, fault_line, file_limit, source_run}
 use Rattle.ec_tool.specs.Emerald.RunsTo.{LoadIsFull, RanUntil}
-use Rattle.ec_tool.specs.Emerald.Verdict.{NoCommand, ReadFailed, SourceRefused, NodesRefused, ScheduleRefused, IsRun, CheckReadFailed, CheckRefused, Accepts}
-use Rattle.ec_tool.specs.Promises.{IsRunStatus}
-use Rattle.ec_tool.specs.Promises.HasReadFault.{InRun, InCheck}
-use Rattle.ec_tool.specs.Steps.{Judged, Checked, Plain}
+use Rattle.ec_tool.specs.Emerald.Verdict.{NoCommand, ReadFailed, SourceRefused, NodesRefused, ScheduleRefused, IsRun, MeanReadFailed, Unmeant, MeanNodesRefused, MeanScheduleRefused, IsWorked, CheckReadFailed, CheckRefused, Accepts}
+use Rattle.ec_tool.specs.Promises.{IsRunStatus, IsPlainStatus, IsPlainStatus as plainly}
+use Rattle.ec_tool.specs.Promises.HasReadFault.{InRun, InMean, InCheck}
+use Rattle.ec_tool.specs.Steps.{Judged, Worked, Checked, Plain}
 use Rattle.ec_tool.specs.Promises.IsRunStatus.{Finishes, Fails, Spends, Fills, Sticks}
 use Rattle.ec_tool.specs.Steps.Judged.{NoSource, NoNodes, NoSchedule, Runs}
+use Rattle.ec_tool.specs.Steps.Worked.{NoMeaning, NoNodeFile, NoEntries, Works}
 use Rattle.ec_tool.specs.Steps.Checked.{Faulty, Sound}
 use Rattle.ec_tool.specs.Steps.IsByFiles.{RefusesSource, RefusesInput, EndsRun, AcceptsSource}
 use Rattle.ec_tool.specs.Steps.Plain.{ByWords, ByFault, ByFiles}
@@ -71,6 +76,21 @@ module _ (source nodes schedule : List ℕ) (budget : ℕ) (net net' : Net) (sta
   pub is_run : (program : Program) (specs : List NodeSpec) (entries : List Entry) → IsSource source program → NodesOf nodes ≡ Ok specs → EntriesOf schedule ≡ Ok entries → RunsTo program specs [] budget net net' status text → Judged source nodes schedule budget net net' status text
   is_run program specs entries is n e r = Runs program specs entries status text is n e (subst (λ (es : List Entry). RunsTo program specs es budget net net' status text) (sym (no_entries schedule entries e)) r)
 
+-- ---- the files of a plain meaning
+
+module _ (source nodes schedule : List ℕ) (budget : ℕ) (status : Status) (text : List ℕ) where
+  pub source_unmeant : (refusal : Refusal) (at : ℕ) → IsUnmeant source refusal at → status ≡ statuses.SourceRefused → text ≡ refused_line source refusal at → Worked source nodes schedule budget status text
+  source_unmeant refusal at h s t = rw (s, t) (NoMeaning refusal at h)
+
+  pub mean_nodes_refused : (meant : Meant) (rule : NodeRule) → IsMeant source meant → NodesOf nodes ≡ Err rule → status ≡ statuses.InputRefused → text ≡ nodes_line rule → Worked source nodes schedule budget status text
+  mean_nodes_refused meant rule is h s t = rw (s, t) (NoNodeFile meant rule is h)
+
+  pub mean_schedule_refused : (meant : Meant) (specs : List NodeSpec) (rule : ScheduleRule) (line : Option ℕ) → IsMeant source meant → NodesOf nodes ≡ Ok specs → EntriesOf schedule ≡ Err (rule, line) → status ≡ statuses.InputRefused → text ≡ schedule_line rule line → Worked source nodes schedule budget status text
+  mean_schedule_refused meant specs rule line is m h s t = rw (s, t) (NoEntries meant specs rule line is m h)
+
+  pub is_worked : (meant : Meant) (specs : List NodeSpec) (entries : List Entry) → IsMeant source meant → NodesOf nodes ≡ Ok specs → EntriesOf schedule ≡ Ok entries → IsPlainRun meant specs [] budget status text → Worked source nodes schedule budget status text
+  is_worked meant specs entries is n e r = Works meant specs entries status text is n e (subst (λ (es : List Entry). IsPlainRun meant specs es budget status text) (sym (no_entries schedule entries e)) r)
+
 -- ---- the file of a check
 
 module _ (source : List ℕ) (status : Status) (text : List ℕ) where
@@ -96,6 +116,25 @@ run_status_of ss (IsFull node part need free) = Fills
 pub run_status : {program : Program} {specs : List NodeSpec} {entries : List Entry} {budget : ℕ} {net net' : Net} {status : Status} {text : List ℕ} → RunsTo program specs entries budget net net' status text → IsRunStatus status
 run_status (LoadIsFull ir node need free part m f r) = Fills
 run_status {program} {specs} {entries} (RanUntil ir k how m f n e r) = run_status_of (statuses_of (source_run program (length specs) entries k).world) how
+
+-- so has the end of a plain meaning
+plain_ends : (b : Bool) → IsPlainStatus (finished_status b)
+plain_ends true = plainly.Fails
+plain_ends false = plainly.Finishes
+
+plain_status_of : (ss : List ProcStatus) (how : RunEnd) → IsPlainStatus (status_of ss (Ends how))
+plain_status_of ss Finished = plain_ends (any_failed ss)
+plain_status_of ss Stuck = plainly.Sticks
+plain_status_of ss Spent = plainly.Spends
+
+pub plain_status : (meant : Meant) (specs : List NodeSpec) (entries : List Entry) (budget : ℕ) (status : Status) (text : List ℕ) → IsPlainRun meant specs entries budget status text → IsPlainStatus status
+plain_status meant specs entries budget status text r = rw r.status_is (plain_status_of (statuses_of (plain_run meant (length specs) entries r.entries).world) r.how)
+
+pub run_status_from : {status : Status} → IsPlainStatus status → IsRunStatus status
+run_status_from plainly.Finishes = Finishes
+run_status_from plainly.Fails = Fails
+run_status_from plainly.Spends = Spends
+run_status_from plainly.Sticks = Sticks
 
 -- ---- the call
 
@@ -131,6 +170,19 @@ module _ (words : List (List ℕ)) (content : List ℕ → Option (List ℕ)) (f
     pub judged_plain : (source nodes schedule : List ℕ) → Judged source nodes schedule run.budget net net' status text → Plain words faults faults' status text
     judged_plain source nodes schedule j = judged_plain_of j
 
+  module _ (mean : RunWords) (w : WordsOf words ≡ Some (command.Mean mean)) where
+    pub mean_read_failed : (file : FileOf) → HasRisen (faults (name_of_file mean file)) (faults' (name_of_file mean file)) → net' ≡ net → status ≡ statuses.ReadFault → text ≡ fault_line file → Verdict words content faults faults' net net' status text
+    mean_read_failed file h n s t = rw (s, t) (MeanReadFailed mean file w h n)
+
+    worked_verdict_of : {source nodes schedule : List ℕ} {st : Status} {tx : List ℕ} → AreRead content mean source nodes schedule → net' ≡ net → Worked source nodes schedule mean.budget st tx → Verdict words content faults faults' net net' st tx
+    worked_verdict_of {source} {nodes} {schedule} r n (NoMeaning refusal at h) = Unmeant mean source nodes schedule refusal at w r h n
+    worked_verdict_of {source} {nodes} {schedule} r n (NoNodeFile meant rule is h) = MeanNodesRefused mean source nodes schedule meant rule w r is h n
+    worked_verdict_of {source} {nodes} {schedule} r n (NoEntries meant specs rule line is m h) = MeanScheduleRefused mean source nodes schedule meant specs rule line w r is m h n
+    worked_verdict_of {source} {nodes} {schedule} r n (Works meant specs entries st tx is m e k) = IsWorked mean source nodes schedule meant specs entries st tx w r is m e k n
+
+    pub worked_verdict : (source nodes schedule : List ℕ) → AreRead content mean source nodes schedule → net' ≡ net → Worked source nodes schedule mean.budget status text → Verdict words content faults faults' net net' status text
+    worked_verdict source nodes schedule r n j = worked_verdict_of r n j
+
   module _ (check : CheckWords) (w : WordsOf words ≡ Some (command.Check check)) where
     pub check_failed : HasRisen (faults check.source) (faults' check.source) → net' ≡ net → status ≡ statuses.ReadFault → text ≡ fault_line Source → Verdict words content faults faults' net net' status text
     check_failed h n s t = rw (s, t) (CheckReadFailed check w h n)
@@ -141,6 +193,20 @@ module _ (words : List (List ℕ)) (content : List ℕ → Option (List ℕ)) (f
 
     pub checked_verdict : (source : List ℕ) → IsWhole (content check.source) file_limit source → net' ≡ net → Checked source status text → Verdict words content faults faults' net net' status text
     checked_verdict source r n c = checked_verdict_of r n c
+
+-- of a plain meaning, whether or not the shelf tells its files
+module _ (words : List (List ℕ)) (faults faults' : List ℕ → ℕ) (status : Status) (text : List ℕ) (mean : RunWords) (w : WordsOf words ≡ Some (command.Mean mean)) where
+  pub plain_mean_read_failed : (file : FileOf) → HasRisen (faults (name_of_file mean file)) (faults' (name_of_file mean file)) → status ≡ statuses.ReadFault → text ≡ fault_line file → Plain words faults faults' status text
+  plain_mean_read_failed file h s t = rw (s, t) (ByFault (fault_line file) (InMean mean file w h))
+
+  worked_plain_of : {source nodes schedule : List ℕ} {st : Status} {tx : List ℕ} → Worked source nodes schedule mean.budget st tx → Plain words faults faults' st tx
+  worked_plain_of (NoMeaning refusal at h) = ByFiles (command.Mean mean) _ _ w RefusesSource
+  worked_plain_of (NoNodeFile meant rule is h) = ByFiles (command.Mean mean) _ _ w RefusesInput
+  worked_plain_of (NoEntries meant specs rule line is m h) = ByFiles (command.Mean mean) _ _ w RefusesInput
+  worked_plain_of (Works meant specs entries st tx is m e k) = ByFiles (command.Mean mean) st tx w (EndsRun st (run_status_from (plain_status meant specs entries mean.budget st tx k)))
+
+  pub worked_plain : (source nodes schedule : List ℕ) → Worked source nodes schedule mean.budget status text → Plain words faults faults' status text
+  worked_plain source nodes schedule j = worked_plain_of j
 
 -- of a check, whether or not the shelf tells its file
 module _ (words : List (List ℕ)) (faults faults' : List ℕ → ℕ) (status : Status) (text : List ℕ) (check : CheckWords) (w : WordsOf words ≡ Some (command.Check check)) where

@@ -1,22 +1,21 @@
 -- What a call of the program comes to.
-use Rattle.std.specs.Prelude.{◌≡◌, ℕ, zero, suc, ◌<◌, ◌⊎◌, ◌||◌, Bool, true, false, List, [], ◌∷◌, ◌++◌, length, Option, Some, None, Ok, Err, codes}
+use Rattle.std.specs.Prelude.{◌≡◌, ℕ, zero, suc, ◌<◌, ◌⊎◌, List, [], ◌∷◌, ◌++◌, length, Option, Some, None, Ok, Err, codes}
 use Rattle.ec_printing.specs.declared.Program.{Program}
 use Rattle.ec_world.specs.declared.node.NodeSpec.{NodeSpec}
 use Rattle.ec_world.specs.declared.run.Entry.{Entry}
 use Rattle.ec_world.specs.declared.run.RunEntry.{RunEntry}
 use Rattle.ec_world.specs.declared.run.RunEntry.TheVariants.{TurnOf, MoveOf}
 use Rattle.ec_world.specs.declared.run.RunEnd.{RunEnd}
-use Rattle.ec_world.specs.declared.run.RunEnd.TheVariants.{Finished, Stuck, Spent}
-use Rattle.ec_world.specs.declared.process.ProcStatus.{ProcStatus}
-use Rattle.ec_world.specs.declared.process.ProcStatus.TheVariants.{Ready, Entry as AtEntry, Cond, Urgent, Ended, Failed}
+use Rattle.ec_world.specs.declared.world.World.{World}
 use Rattle.ec_world.specs.Moves.{OperatorMove}
 use Rattle.ec_world.specs.Run.{RunState, Reaches, Run, end_of, next_entry, statuses_of, run_after}
-use Rattle.ec_meaning.specs.declared.activation.SourceActivation.{SourceActivation}
-use Rattle.ec_meaning.specs.Meaning.{source_meaning, source_silent, source_start}
+use Rattle.ec_printing.specs.declared.activation.SourceActivation.{SourceActivation}
+use Rattle.ec_printing.specs.Meaning.{source_meaning, source_silent, source_start}
 use Rattle.ec_ir.specs.declared.code.Parts.{Parts}
 use Rattle.ec_ir.specs.declared.activation.IrActivation.{IrActivation}
 use Rattle.ec_ir.specs.Meaning.{ir_meaning, ir_silent, ir_start}
 use Rattle.ec_lower.specs.Agreement.{Means}
+use Rattle.ec_meaning.specs.Programs.{Source as Meant}
 use Rattle.ec_nodes.specs.declared.room.Part.{Part}
 use Rattle.ec_inputs.specs.declared.nodes.NodeRule.{NodeRule}
 use Rattle.ec_inputs.specs.declared.schedule.ScheduleRule.{ScheduleRule}
@@ -29,18 +28,20 @@ use Rattle.ec_network.specs.Shows.{IrWorld}
 use Rattle.ec_network.specs.Room.{FullAt, Strings, FirstTexts, held}
 use Rattle.ec_network.specs.Worlds.{ir_action}
 use Rattle.ec_network.specs.Turns.{rooms_of, LoadFull}
-use Rattle.ec_network.specs.Net.{Net, Ran, counts_of}
+use Rattle.ec_network.specs.Net.{Net, Ran, counts_of, name_of}
 use Rattle.rv_codegen.specs.Meaning.{rv_meaning}
-use Rattle.ec_tool.specs.declared.status.Status.{Status}
-use Rattle.ec_tool.specs.declared.status.Status.TheVariants as statuses
+use Rattle.ec_report.specs.declared.status.Status.{Status}
+use Rattle.ec_report.specs.declared.status.Status.TheVariants as statuses
 use Rattle.ec_tool.specs.declared.files.FileOf.{FileOf}
 use Rattle.ec_tool.specs.declared.files.FileOf.TheVariants.{Source, Nodes, Schedule}
-use Rattle.ec_tool.specs.declared.report.ReportEnd.{ReportEnd}
-use Rattle.ec_tool.specs.declared.report.ReportEnd.TheVariants.{Ends, IsFull}
-use Rattle.ec_tool.specs.Report.{report, load_report}
+use Rattle.ec_report.specs.declared.end.ReportEnd.{ReportEnd}
+use Rattle.ec_report.specs.declared.end.ReportEnd.TheVariants.{Ends, IsFull}
+use Rattle.ec_report.specs.Report.{node_lines, report, load_report}
+use Rattle.ec_report.specs.Status.{status_of}
 use Rattle.ec_tool.specs.declared.source.Refusal.{Refusal}
 use Rattle.ec_tool.specs.Inputs.{usage_line}
-use Rattle.ec_tool.specs.Sources.{IsChecked, IsSource, IsFaulty, IsRefused, accepted_line, refused_line}
+use Rattle.ec_plain.specs.Plain.{IsPlainRun}
+use Rattle.ec_tool.specs.Sources.{IsChecked, IsSource, IsMeant, IsFaulty, IsRefused, IsUnmeant, accepted_line, refused_line}
 use Rattle.ec_tool.specs.Refusals.{nodes_line, schedule_line}
 
 -- ---- the run of a source, and that of its code
@@ -91,31 +92,11 @@ pub data EndsAfter (program : Program) (ir : Parts) (specs : List NodeSpec) (sch
   ByItself : (how : RunEnd) → Run source_meaning (source_silent program) (source_start program (length specs)) schedule budget k (source_run program (length specs) schedule k) how → EndsAfter program ir specs schedule budget k (Ends how)
   AsFull : (node need free : ℕ) (part : Part) → Reaches source_meaning (source_silent program) (source_start program (length specs)) schedule budget k (source_run program (length specs) schedule k) → end_of budget (source_run program (length specs) schedule k) ≡ None → NextFull ir specs schedule k node part need free → EndsAfter program ir specs schedule budget k (IsFull node part need free)
 
--- ---- the status of an end
-
-abbrev pub has_failed : ProcStatus → Bool
-has_failed Ready = false
-has_failed (AtEntry o) = false
-has_failed (Cond o) = false
-has_failed (Urgent o) = false
-has_failed Ended = false
-has_failed (Failed cause line) = true
-
-abbrev pub any_failed : List ProcStatus → Bool
-any_failed [] = false
-any_failed (s ∷ ss) = has_failed s || any_failed ss
-
-abbrev pub finished_status : Bool → Status
-finished_status true = statuses.SomeFailed
-finished_status false = statuses.Finished
-
-abbrev pub status_of : List ProcStatus → ReportEnd → Status
-status_of ss (Ends Finished) = finished_status (any_failed ss)
-status_of ss (Ends Stuck) = statuses.Stuck
-status_of ss (Ends Spent) = statuses.Spent
-status_of ss (IsFull node part need free) = statuses.Full
-
 -- ---- a run on the network
+
+-- the report of a world, with the counts of instructions of the nodes
+abbrev pub run_report : {A : Type 0} → World A → List NodeSpec → (ℕ → ℕ) → ℕ → ReportEnd → List ℕ
+run_report w specs counts turns how = report (name_of w.common.classes) w specs (node_lines counts 0 specs) turns how
 
 -- What is said of the run of an accepted source on nodes along a schedule: its status and its text. The text is the report
 -- of the run of the source's meaning, with the counts of the network; and turns of the network's own machine code lead
@@ -124,7 +105,7 @@ pub data RunsTo (program : Program) (specs : List NodeSpec) (schedule : List Ent
   -- the load finds no room
   LoadIsFull : (ir : Parts) (node need free : ℕ) (part : Part) → Means program ir → LoadFull ir specs node part need free → Ran rv_meaning ir specs net [] net' → RunsTo program specs schedule budget net net' statuses.Full (load_report specs (IsFull node part need free))
   -- the load finds room, and so does each entry that is done
-  RanUntil : (ir : Parts) (k : ℕ) (how : ReportEnd) → Means program ir → ((node need free : ℕ) (part : Part) → LoadFull ir specs node part need free → ⊥) → NoneFullBefore ir specs schedule k → EndsAfter program ir specs schedule budget k how → Ran rv_meaning ir specs net (source_run program (length specs) schedule k).done net' → RunsTo program specs schedule budget net net' (status_of (statuses_of (source_run program (length specs) schedule k).world) how) (report (source_run program (length specs) schedule k).world specs (counts_of net') k how)
+  RanUntil : (ir : Parts) (k : ℕ) (how : ReportEnd) → Means program ir → ((node need free : ℕ) (part : Part) → LoadFull ir specs node part need free → ⊥) → NoneFullBefore ir specs schedule k → EndsAfter program ir specs schedule budget k how → Ran rv_meaning ir specs net (source_run program (length specs) schedule k).done net' → RunsTo program specs schedule budget net net' (status_of (statuses_of (source_run program (length specs) schedule k).world) how) (run_report (source_run program (length specs) schedule k).world specs (counts_of net') k how)
 
 -- ---- the call
 
@@ -160,6 +141,24 @@ pub data Verdict (words : List (List ℕ)) (content : List ℕ → Option (List 
   NodesRefused : (run : RunWords) (source nodes schedule : List ℕ) (program : Program) (rule : NodeRule) → WordsOf words ≡ Some (command.Run run) → AreRead content run source nodes schedule → IsSource source program → NodesOf nodes ≡ Err rule → net' ≡ net → Verdict words content faults faults' net net' statuses.InputRefused (nodes_line rule)
   ScheduleRefused : (run : RunWords) (source nodes schedule : List ℕ) (program : Program) (specs : List NodeSpec) (rule : ScheduleRule) (line : Option ℕ) → WordsOf words ≡ Some (command.Run run) → AreRead content run source nodes schedule → IsSource source program → NodesOf nodes ≡ Ok specs → EntriesOf schedule ≡ Err (rule, line) → net' ≡ net → Verdict words content faults faults' net net' statuses.InputRefused (schedule_line rule line)
   IsRun : (run : RunWords) (source nodes schedule : List ℕ) (program : Program) (specs : List NodeSpec) (entries : List Entry) (status : Status) (text : List ℕ) → WordsOf words ≡ Some (command.Run run) → AreRead content run source nodes schedule → IsSource source program → NodesOf nodes ≡ Ok specs → EntriesOf schedule ≡ Ok entries → RunsTo program specs entries run.budget net net' status text → Verdict words content faults faults' net net' status text
+  -- the plain meaning
+  MeanReadFailed : (mean : RunWords) (file : FileOf) → WordsOf words ≡ Some (command.Mean mean) →
+      HasRisen (faults (name_of_file mean file)) (faults' (name_of_file mean file)) → net' ≡ net →
+      Verdict words content faults faults' net net' statuses.ReadFault (fault_line file)
+  Unmeant : (mean : RunWords) (source nodes schedule : List ℕ) (refusal : Refusal) (at : ℕ) → WordsOf words ≡ Some (command.Mean mean) →
+      AreRead content mean source nodes schedule → IsUnmeant source refusal at → net' ≡ net →
+      Verdict words content faults faults' net net' statuses.SourceRefused (refused_line source refusal at)
+  MeanNodesRefused : (mean : RunWords) (source nodes schedule : List ℕ) (meant : Meant) (rule : NodeRule) → WordsOf words ≡ Some (command.Mean mean) →
+      AreRead content mean source nodes schedule → IsMeant source meant → NodesOf nodes ≡ Err rule → net' ≡ net →
+      Verdict words content faults faults' net net' statuses.InputRefused (nodes_line rule)
+  MeanScheduleRefused : (mean : RunWords) (source nodes schedule : List ℕ) (meant : Meant) (specs : List NodeSpec) (rule : ScheduleRule) (line : Option ℕ) →
+      WordsOf words ≡ Some (command.Mean mean) → AreRead content mean source nodes schedule → IsMeant source meant →
+      NodesOf nodes ≡ Ok specs → EntriesOf schedule ≡ Err (rule, line) → net' ≡ net →
+      Verdict words content faults faults' net net' statuses.InputRefused (schedule_line rule line)
+  IsWorked : (mean : RunWords) (source nodes schedule : List ℕ) (meant : Meant) (specs : List NodeSpec) (entries : List Entry) (status : Status) (text : List ℕ) →
+      WordsOf words ≡ Some (command.Mean mean) → AreRead content mean source nodes schedule → IsMeant source meant →
+      NodesOf nodes ≡ Ok specs → EntriesOf schedule ≡ Ok entries → IsPlainRun meant specs entries mean.budget status text → net' ≡ net →
+      Verdict words content faults faults' net net' status text
   -- a check
   CheckReadFailed : (check : CheckWords) → WordsOf words ≡ Some (command.Check check) →
       HasRisen (faults check.source) (faults' check.source) → net' ≡ net →

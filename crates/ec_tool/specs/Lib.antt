@@ -1,6 +1,3 @@
-pub mod Status
-pub mod Report
-pub mod ObjectLines
 pub mod Inputs
 pub mod Places
 pub mod Sources

@@ -1,9 +1,8 @@
 -- How far a run has come on a network.
-use Rattle.std.specs.Prelude.{◌≡◌, ℕ, ◌+◌, ◌*◌, ◌^◌, ◌<◌, ◌≤◌, ◌↔◌, List, [], map, length, nat_le, Option, Some, None, IsTrue}
+use Rattle.std.specs.Prelude.{◌≡◌, ℕ, ◌+◌, ◌*◌, ◌^◌, ◌<◌, ◌≤◌, ◌↔◌, List, [], length, Option, Some, None, IsTrue}
 use Rattle.ec_world.specs.declared.node.NodeSpec.{NodeSpec}
-use Rattle.ec_world.specs.declared.process.ProcStatus.{ProcStatus}
 use Rattle.ec_world.specs.declared.run.RunEnd.{RunEnd}
-use Rattle.ec_world.specs.Run.{statuses_of, is_ready, next_ready_of, end_by, end_of}
+use Rattle.ec_world.specs.Run.{statuses_of, end_of}
 use Rattle.ec_ir.specs.declared.code.Parts.{Parts}
 use Rattle.ec_ir.specs.Meaning.{ir_start}
 use Rattle.ec_nodes.specs.declared.room.Part.{Part}
@@ -17,13 +16,11 @@ use Rattle.ec_network.specs.Holds.{Holds}
 use Rattle.ec_network.specs.Turns.{IsLoaded, SameMachines, Along}
 use Rattle.ec_network.specs.Net.{Net, whole_net, count_of, counts_of}
 use Rattle.rv_codegen.specs.Meaning.{rv_meaning}
-use Rattle.ec_tool.specs.declared.status.Status.{Status}
-use Rattle.ec_tool.specs.declared.report.ReportEnd.{ReportEnd}
-use Rattle.ec_tool.specs.declared.report.ReportEnd.TheVariants.{Ends, IsFull}
-use Rattle.ec_tool.specs.declared.run.Step.{Step}
-use Rattle.ec_tool.specs.declared.run.Step.TheVariants.{Stops, Turns}
-use Rattle.ec_tool.specs.Report.{report}
-use Rattle.ec_tool.specs.Emerald.{ir_run, PoolAfter, NextFull, NoneFullBefore, status_of}
+use Rattle.ec_report.specs.declared.status.Status.{Status}
+use Rattle.ec_report.specs.declared.end.ReportEnd.{ReportEnd}
+use Rattle.ec_report.specs.declared.end.ReportEnd.TheVariants.{Ends, IsFull}
+use Rattle.ec_report.specs.Status.{status_of}
+use Rattle.ec_tool.specs.Emerald.{ir_run, PoolAfter, NextFull, NoneFullBefore, run_report}
 
 -- a whole network, with a world that it shows
 pub record IsShown (net : Net) : Type 0 where
@@ -32,13 +29,6 @@ pub record IsShown (net : Net) : Type 0 where
   pub loaded : net.loaded ≡ Some cluster
   pub whole : IsTrue net.whole
   pub holds : Holds rv_meaning cluster world
-
--- what comes next, by the statuses of the processes, the entries done and the process of the last turn: the end of the
--- run, or a turn, for which the budget isn't spent
-abbrev pub IsStep : List ProcStatus → (budget done : ℕ) → Option ℕ → Step → Type 0
-IsStep statuses budget done last (Stops how) = end_by [] statuses (nat_le budget done) ≡ Some how
-IsStep statuses budget done last (Turns p) =
-    (end_by [] statuses (nat_le budget done) ≡ None) × (next_ready_of (map is_ready statuses) last ≡ Some p) × (done < budget)
 
 -- a refused call ends a run where a node was full
 abbrev pub IsFullEnd : NetError → ReportEnd → Type 0
@@ -88,4 +78,4 @@ pub record IsReported (specs : List NodeSpec) (budget : ℕ) (old net : Net) (st
   pub how : ReportEnd
   pub ended : IsEnded specs budget old done how net
   pub status_is : status ≡ status_of (statuses_of (ir_run ended.follows.start.program (length specs) [] done).world) how
-  pub text_is : text ≡ report (ir_run ended.follows.start.program (length specs) [] done).world specs (counts_of net) done how
+  pub text_is : text ≡ run_report (ir_run ended.follows.start.program (length specs) [] done).world specs (counts_of net) done how

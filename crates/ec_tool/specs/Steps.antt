@@ -10,14 +10,16 @@ use Rattle.ec_inputs.specs.Schedules.{EntriesOf}
 use Rattle.ec_inputs.specs.Words.{CommandWords, WordsOf}
 use Rattle.ec_outside.specs.Fault.{HasRisen}
 use Rattle.ec_network.specs.Net.{Net}
-use Rattle.ec_tool.specs.declared.status.Status.{Status}
-use Rattle.ec_tool.specs.declared.status.Status.TheVariants as statuses
+use Rattle.ec_meaning.specs.Programs.{Source as Meant}
+use Rattle.ec_report.specs.declared.status.Status.{Status}
+use Rattle.ec_report.specs.declared.status.Status.TheVariants as statuses
 use Rattle.ec_tool.specs.declared.files.FileOf.{FileOf}
 use Rattle.ec_tool.specs.declared.files.Unread.{Unread}
 use Rattle.ec_tool.specs.declared.files.Unread.TheVariants.{Failed, Memory}
 use Rattle.ec_tool.specs.declared.source.Refusal.{Refusal}
 use Rattle.ec_tool.specs.Inputs.{usage_line}
-use Rattle.ec_tool.specs.Sources.{IsChecked, IsSource, IsFaulty, IsRefused, accepted_line, refused_line}
+use Rattle.ec_plain.specs.Plain.{IsPlainRun}
+use Rattle.ec_tool.specs.Sources.{IsChecked, IsSource, IsMeant, IsFaulty, IsRefused, IsUnmeant, accepted_line, refused_line}
 use Rattle.ec_tool.specs.Refusals.{nodes_line, schedule_line}
 use Rattle.ec_tool.specs.Promises.{IsRunStatus, HasReadFault}
 use Rattle.ec_tool.specs.Emerald.{RunsTo, Verdict, Answers}
@@ -33,6 +35,13 @@ pub data Judged (source nodes schedule : List ℕ) (budget : ℕ) (net net' : Ne
   NoNodes : (program : Program) (rule : NodeRule) → IsSource source program → NodesOf nodes ≡ Err rule → net' ≡ net → Judged source nodes schedule budget net net' statuses.InputRefused (nodes_line rule)
   NoSchedule : (program : Program) (specs : List NodeSpec) (rule : ScheduleRule) (line : Option ℕ) → IsSource source program → NodesOf nodes ≡ Ok specs → EntriesOf schedule ≡ Err (rule, line) → net' ≡ net → Judged source nodes schedule budget net net' statuses.InputRefused (schedule_line rule line)
   Runs : (program : Program) (specs : List NodeSpec) (entries : List Entry) (status : Status) (text : List ℕ) → IsSource source program → NodesOf nodes ≡ Ok specs → EntriesOf schedule ≡ Ok entries → RunsTo program specs entries budget net net' status text → Judged source nodes schedule budget net net' status text
+
+-- the status and the text of a plain meaning whose files were read whole
+pub data Worked (source nodes schedule : List ℕ) (budget : ℕ) : Status → List ℕ → Type 0 where
+  NoMeaning : (refusal : Refusal) (at : ℕ) → IsUnmeant source refusal at → Worked source nodes schedule budget statuses.SourceRefused (refused_line source refusal at)
+  NoNodeFile : (meant : Meant) (rule : NodeRule) → IsMeant source meant → NodesOf nodes ≡ Err rule → Worked source nodes schedule budget statuses.InputRefused (nodes_line rule)
+  NoEntries : (meant : Meant) (specs : List NodeSpec) (rule : ScheduleRule) (line : Option ℕ) → IsMeant source meant → NodesOf nodes ≡ Ok specs → EntriesOf schedule ≡ Err (rule, line) → Worked source nodes schedule budget statuses.InputRefused (schedule_line rule line)
+  Works : (meant : Meant) (specs : List NodeSpec) (entries : List Entry) (status : Status) (text : List ℕ) → IsMeant source meant → NodesOf nodes ≡ Ok specs → EntriesOf schedule ≡ Ok entries → IsPlainRun meant specs entries budget status text → Worked source nodes schedule budget status text
 
 -- the status and the text of a check whose file was read whole
 pub data Checked (source : List ℕ) : Status → List ℕ → Type 0 where

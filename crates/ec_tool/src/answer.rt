@@ -1,7 +1,7 @@
 //! What a call answers.
 ghost use Rattle.std.specs.Prelude.{◌≡◌, IfOk};
 
-use crate::status::Status;
+use ec_report::status::Status;
 use std::alloc::{AllocError, Global};
 
 /// A status, with the whole text that is to be written.

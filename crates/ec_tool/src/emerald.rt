@@ -1,21 +1,21 @@
 //! The call of the program: the files are read, the source is checked and run, and the text is written at the end.
 ghost use Rattle.std.specs.Prelude.{◌≡◌, ◌⊎◌, ℕ, ◌≤◌, List, ◌++◌, None, map, IfOk};
-ghost use Rattle.ec_inputs.specs.Words.{WordsOf, run_in, check_in, Run as ARun, Check as ACheck};
+ghost use Rattle.ec_inputs.specs.Words.{WordsOf, run_in, check_in, Run as ARun, Check as ACheck, Mean as AMean};
 ghost use Rattle.ec_outside.specs.Fault.{HasRisen};
 ghost use Rattle.ec_network.specs.Net.{Net as ANet, empty_net};
-ghost use Rattle.ec_tool.specs.declared.status.Status.{Status as AStatus};
+ghost use Rattle.ec_report.specs.declared.status.Status.{Status as AStatus};
 ghost use Rattle.ec_tool.specs.Emerald.{Verdict, Answers};
 ghost use Rattle.ec_tool.specs.Inputs.{usage_line};
 ghost use Rattle.ec_tool.specs.Sources.{IsSource};
-ghost use Rattle.ec_tool.specs.Promises.{IsRunStatus, HasReadFault, IsNoSource, IsNoInput, IsAccepted, HasRun, NoneRisen, IsAcceptedCheck, HasAccepted};
+ghost use Rattle.ec_tool.specs.Promises.{IsRunStatus, IsPlainStatus, HasReadFault, IsNoSource, IsNoInput, IsAccepted, HasRun, HasEnded, NoneRisen, IsAcceptedMean, IsAcceptedCheck, HasAccepted};
 ghost use Rattle.ec_tool.specs.Steps.{Judged, Checked, Plain, Came, WhereAsked};
 
 use crate::answer::{Answer, answer_with};
 use crate::files::{FileOf, Files, Unread, read_fault, read_file, read_files};
+use crate::mean::work;
 use crate::refusal::{nodes_refused, schedule_refused};
 use crate::run::run;
 use crate::source::{SourceError, check_source, read_source, source_refused};
-use crate::status::Status;
 use ec_inputs::nodes::{NodesError, read_nodes};
 use ec_inputs::schedule::{ScheduleError, read_schedule};
 use ec_inputs::words::{CheckCommand, Command, RunCommand, words_of};
@@ -24,6 +24,7 @@ use ec_outside::shelf::Shelf;
 use ec_outside::sink::Sink;
 use ec_outside::whole::write_whole;
 use ec_printing::Program;
+use ec_report::status::Status;
 use std::alloc::{AllocError, Global};
 
 const USAGE_LINE: &[u8] =
@@ -86,6 +87,22 @@ fn answer_run<F: Shelf>(
     }
 }
 
+/// The status and the text of a plain meaning, which leaves each network as it is.
+fn answer_mean<F: Shelf>(
+    alloc: Global,
+    shelf: &mut F,
+    mean: RunCommand,
+) -> Result<Answer, AllocError>
+    ensures verdict { IfOk result (λ answer. (net : ANet) → F.tells shelf.old → WhereAsked (AMean (run_in mean.entry)) (λ words. Verdict words (F.content shelf.old) (F.faults shelf.old) (F.faults shelf.new) net net answer.status answer.text.items)) }
+    ensures plain { IfOk result (λ answer. WhereAsked (AMean (run_in mean.entry)) (λ words. Plain words (F.faults shelf.old) (F.faults shelf.new) answer.status answer.text.items)) }
+{
+    match read_files(alloc, shelf, mean) {
+        Ok(files) => work(alloc, &files, mean.budget),
+        Err(Unread::Failed(file)) => read_fault(alloc, file),
+        Err(Unread::Memory) => Err(AllocError),
+    }
+}
+
 /// Judges the source of a check that was read whole.
 fn judge_source(alloc: Global, source: &[u8]) -> Result<Answer, AllocError>
     ensures { IfOk result (λ answer. Checked source.now answer.status answer.text.items) }
@@ -127,6 +144,7 @@ fn answer<'a, F: Shelf>(
     match words_of(alloc, words)? {
         Some(Command::Run(run)) => answer_run(alloc, shelf, run, net),
         Some(Command::Check(check)) => answer_check(alloc, shelf, check),
+        Some(Command::Mean(mean)) => answer_mean(alloc, shelf, mean),
         None => answer_with(alloc, Status::Usage, USAGE_LINE),
     }
 }
@@ -192,27 +210,27 @@ pub fn emerald<'a, F: Shelf, K: Sink>(
     ensures no_memory { result ≡ Status.NoMemory →
         (K.taken sink.new ≡ K.taken sink.old) × (K.faults sink.new ≡ K.faults sink.old) }
 
-    // A run without a failure and an accepted check both end so.
+    // A run or a plain meaning without a failure ends so, and an accepted check does.
     ensures finished { F.tells shelf.old → result ≡ Status.Finished →
-        (text : List ℕ) × (HasRun (map (λ word. word.now) words.now) (F.content shelf.old) net.old net.new Status.Finished text ⊎
+        (text : List ℕ) × (HasEnded (map (λ word. word.now) words.now) (F.content shelf.old) net.old net.new Status.Finished text ⊎
         HasAccepted (map (λ word. word.now) words.now) (F.content shelf.old) net.old net.new text) ×
         (K.tells sink.old → K.taken sink.new ≡ K.taken sink.old ++ text) }
 
-    // Only runs end so.
+    // Only runs and plain meanings end so, and with a full node only runs.
     ensures input_refused { F.tells shelf.old → result ≡ Status.InputRefused →
         (text : List ℕ) × IsNoInput (map (λ word. word.now) words.now) (F.content shelf.old) text × (net.new ≡ net.old) ×
         (K.tells sink.old → K.taken sink.new ≡ K.taken sink.old ++ text) }
     ensures some_failed { F.tells shelf.old → result ≡ Status.SomeFailed →
-        (text : List ℕ) × HasRun (map (λ word. word.now) words.now) (F.content shelf.old) net.old net.new Status.SomeFailed text ×
+        (text : List ℕ) × HasEnded (map (λ word. word.now) words.now) (F.content shelf.old) net.old net.new Status.SomeFailed text ×
         (K.tells sink.old → K.taken sink.new ≡ K.taken sink.old ++ text) }
     ensures spent { F.tells shelf.old → result ≡ Status.Spent →
-        (text : List ℕ) × HasRun (map (λ word. word.now) words.now) (F.content shelf.old) net.old net.new Status.Spent text ×
+        (text : List ℕ) × HasEnded (map (λ word. word.now) words.now) (F.content shelf.old) net.old net.new Status.Spent text ×
         (K.tells sink.old → K.taken sink.new ≡ K.taken sink.old ++ text) }
     ensures full { F.tells shelf.old → result ≡ Status.Full →
         (text : List ℕ) × HasRun (map (λ word. word.now) words.now) (F.content shelf.old) net.old net.new Status.Full text ×
         (K.tells sink.old → K.taken sink.new ≡ K.taken sink.old ++ text) }
     ensures stuck { F.tells shelf.old → result ≡ Status.Stuck →
-        (text : List ℕ) × HasRun (map (λ word. word.now) words.now) (F.content shelf.old) net.old net.new Status.Stuck text ×
+        (text : List ℕ) × HasEnded (map (λ word. word.now) words.now) (F.content shelf.old) net.old net.new Status.Stuck text ×
         (K.tells sink.old → K.taken sink.new ≡ K.taken sink.old ++ text) }
 
     // An accepted run is done, where no file and no sink meets a fault and there is memory.
@@ -220,6 +238,12 @@ pub fn emerald<'a, F: Shelf, K: Sink>(
         NoneRisen accepted.run (F.faults shelf.old) (F.faults shelf.new) →
         ¬ HasRisen (K.faults sink.old) (K.faults sink.new) →
         IsRunStatus result ⊎ (result ≡ Status.NoMemory) }
+
+    // An accepted plain meaning is worked out, where no file and no sink meets a fault and there is memory.
+    ensures complete_mean { F.tells shelf.old → (accepted : IsAcceptedMean (map (λ word. word.now) words.now) (F.content shelf.old)) →
+        NoneRisen accepted.mean (F.faults shelf.old) (F.faults shelf.new) →
+        ¬ HasRisen (K.faults sink.old) (K.faults sink.new) →
+        IsPlainStatus result ⊎ (result ≡ Status.NoMemory) }
 
     // An accepted check says so, where neither its file nor the sink meets a fault and there is memory.
     ensures complete_check { F.tells shelf.old → (accepted : IsAcceptedCheck (map (λ word. word.now) words.now) (F.content shelf.old)) →

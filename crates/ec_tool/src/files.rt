@@ -7,10 +7,10 @@ ghost use Rattle.ec_tool.specs.Emerald.{AreRead, file_limit, fault_line, name_of
 ghost use Rattle.ec_tool.specs.Steps.{WhenFailed};
 
 use crate::answer::{Answer, answer_with};
-use crate::status::Status;
 use ec_inputs::words::RunCommand;
 use ec_outside::shelf::Shelf;
 use ec_outside::whole::{ReadError, read_whole};
+use ec_report::status::Status;
 use std::alloc::{AllocError, Global};
 
 /// Files are read up to this many bytes.

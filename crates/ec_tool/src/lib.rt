@@ -4,12 +4,12 @@
 mod answer;
 pub mod emerald;
 pub mod files;
+mod mean;
 mod place;
 mod processes;
 mod refusal;
-pub mod report;
+mod report;
 mod run;
 pub mod source;
-pub mod status;
-#[cfg(test)]
-mod tests;
+
+pub use ec_report::status;

@@ -3,10 +3,10 @@ ghost use Rattle.std.specs.Prelude.{◌≡◌, ◌++◌, OnOk, IfOk};
 ghost use Rattle.ec_tool.specs.Refusals.{node_rule_name, nodes_line, schedule_rule_name, place_text, schedule_line};
 
 use crate::answer::{Answer, answer_with};
-use crate::report::push_number;
-use crate::status::Status;
 use ec_inputs::nodes::NodeRule;
 use ec_inputs::schedule::ScheduleRule;
+use ec_report::lines::push_number;
+use ec_report::status::Status;
 use std::alloc::{AllocError, Global};
 
 /// `refused N3`

@@ -1,37 +1,32 @@
 //! The run of an accepted source: its code is built and loaded, and each Ready process has its turn, up to the end.
-ghost use Rattle.std.specs.Prelude.{◌≡◌, ℕ, ◌-◌, ◌<◌, ◌≤◌, ◌^◌, [], List, Option, Some, None, map, length, IfOk};
-ghost use Rattle.ec_world.specs.Run.{statuses_of, is_ready};
+ghost use Rattle.std.specs.Prelude.{◌≡◌, ◌-◌, ◌<◌, ◌≤◌, ◌^◌, [], length, IfOk};
+ghost use Rattle.ec_world.specs.Run.{statuses_of};
 ghost use Rattle.ec_lower.specs.Short.{IsShort};
 ghost use Rattle.ec_network.specs.Answers.{CanNumber, ForShown};
 ghost use Rattle.ec_network.specs.Net.{AreBuilt, IsOneNode, empty_net, counts_of};
 ghost use Rattle.rv_codegen.specs.Meaning.{rv_meaning};
-ghost use Rattle.ec_tool.specs.Report.{report, load_report};
-ghost use Rattle.ec_tool.specs.Emerald.{RunsTo, status_of};
-ghost use Rattle.ec_tool.specs.Running.{IsShown, IsStep, IsFullEnd, Follows, IsAfter, IsEnded, IsReported};
+ghost use Rattle.ec_report.specs.Report.{load_report};
+ghost use Rattle.ec_report.specs.Status.{status_of};
+ghost use Rattle.ec_report.specs.Step.{IsStep};
+ghost use Rattle.ec_tool.specs.Emerald.{RunsTo, run_report};
+ghost use Rattle.ec_tool.specs.Running.{IsShown, IsFullEnd, Follows, IsAfter, IsEnded, IsReported};
 
 use crate::answer::Answer;
-use crate::processes::{any_failed, are_over, ready_ones, statuses_in};
-use crate::report::{ReportEnd, load_report, report};
-use crate::status::Status;
+use crate::processes::statuses_in;
+use crate::report::{load_report, report};
 use ec_ir::program::IrProgram;
 use ec_lower::lower::lower;
 use ec_network::image::{Image, Images};
 use ec_network::network::{NetError, Network};
 use ec_printing::Program;
+use ec_report::end::ReportEnd;
+use ec_report::processes::ready_ones;
+use ec_report::status::{Status, status_after};
+use ec_report::step::{Step, step_of};
 use ec_world::node::NodeSpec;
-use ec_world::process::ProcStatus;
-use ec_world::robin::next_ready;
-use ec_world::run::RunEnd;
 use ec_world::value::Pid;
 use rv_codegen::generate::build;
 use std::alloc::{AllocError, Global};
-
-/// What comes next in a run: its end, or a turn of a process.
-#[derive(Clone, Copy)]
-pub(crate) enum Step {
-    Stops(RunEnd),
-    Turns(Pid),
-}
 
 /// How many entries a run has done, and how it came to its end.
 #[derive(Clone, Copy)]
@@ -183,31 +178,6 @@ fn next_step(
     Ok(step_of(&statuses, &ready, budget, done, last))
 }
 
-/// What comes next, by the statuses of the processes, the marks of the Ready ones, the budget, the entries done and the
-/// last turn.
-fn step_of(
-    statuses: &[ProcStatus],
-    ready: &[bool],
-    budget: u64,
-    done: u64,
-    last: Option<Pid>,
-) -> Step
-    requires marks { ready.now ≡ map is_ready statuses.now }
-    requires few { length ready.now ≤ 2 ^ 32 }
-    ensures { IsStep statuses.now budget done last result }
-{
-    if are_over(statuses) {
-        return Step::Stops(RunEnd::Finished);
-    }
-    let Some(p) = next_ready(ready, last) else {
-        return Step::Stops(RunEnd::Stuck);
-    };
-    if done >= budget {
-        return Step::Stops(RunEnd::Spent);
-    }
-    Step::Turns(p)
-}
-
 /// The status and the report of a run that has come to its end.
 fn answer_end(
     alloc: Global,
@@ -221,28 +191,10 @@ fn answer_end(
     requires nodes { ForShown rv_meaning net.now (λ c w. w.common.nodes ≡ length specs.now) }
     requires few { length specs.now < 2 ^ 32 - 1 }
     ensures status { IfOk result (λ answer. ForShown rv_meaning net.now (λ c w. answer.status ≡ status_of (statuses_of w) end)) }
-    ensures text { IfOk result (λ answer. ForShown rv_meaning net.now (λ c w. answer.text.items ≡ report w specs.now (counts_of net.now) done end)) }
+    ensures text { IfOk result (λ answer. ForShown rv_meaning net.now (λ c w. answer.text.items ≡ run_report w specs.now (counts_of net.now) done end)) }
 {
     let statuses = statuses_in(alloc, net)?;
     let text = report(alloc, net, specs, &statuses, done, end)?;
     let status = status_after(&statuses, end);
     Ok(Answer { status, text })
-}
-
-/// The status of an end.
-fn status_after(statuses: &[ProcStatus], end: ReportEnd) -> Status
-    ensures { result ≡ status_of statuses.now end }
-{
-    match end {
-        ReportEnd::Ends(RunEnd::Finished) => {
-            if any_failed(statuses) {
-                Status::SomeFailed
-            } else {
-                Status::Finished
-            }
-        }
-        ReportEnd::Ends(RunEnd::Stuck) => Status::Stuck,
-        ReportEnd::Ends(RunEnd::Spent) => Status::Spent,
-        ReportEnd::IsFull { .. } => Status::Full,
-    }
 }

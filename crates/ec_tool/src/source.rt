@@ -1,22 +1,23 @@
 //! A source is judged: its program, or why it is refused and where, and the line that says so.
 ghost use Rattle.std.specs.Prelude.{◌≡◌, ◌<◌, ◌^◌, length, IfOk, IfErr};
+ghost use Rattle.ec_check.specs.Accepted.{HasCore};
 ghost use Rattle.ec_ast.specs.declared.Program.{Program as WholeProgram};
 ghost use Rattle.ec_lexer.specs.Tokens.{HasTokens};
 ghost use Rattle.ec_parser.specs.HasTree as whole;
 ghost use Rattle.ec_parser.specs.Program.{IsShallow};
 ghost use Rattle.ec_subset.specs.Grammar as printing;
-ghost use Rattle.ec_tool.specs.Sources.{IsProgram, IsSource, IsFault, IsCause, place_of, fault_name, rule_name, refusal_name, refused_line};
+ghost use Rattle.ec_tool.specs.Sources.{IsProgram, IsSource, IsMeant, IsFault, IsCause, IsLack, is_later, is_later_word, later_from, place_of, fault_name, rule_name, refusal_name, refused_line};
 
 use crate::answer::Answer;
 use crate::place::push_place;
-use crate::status::Status;
 use ec_base::list::Seq;
-use ec_judge::program::first_fault;
+use ec_check::check::{CheckError, Checked, check};
 use ec_lexer::error::{LexError, LexFault};
 use ec_lexer::lex;
-use ec_lexer::token::Token;
+use ec_lexer::token::{Reserved, Token, TokenKind};
 use ec_parser::{ParseError, parse};
 use ec_printing::Program;
+use ec_report::status::Status;
 use ec_rules::Rule;
 use ec_subset::{SubsetError, read};
 use std::alloc::{AllocError, Global};
@@ -51,17 +52,25 @@ pub(crate) enum SourceError {
     Memory,
 }
 
-/// The tokens of a source that is a program's.
-pub(crate) fn check_source(alloc: Global, text: &[u8]) -> Result<Seq<Token>, SourceError>
-    ensures program { IfOk result (λ tokens. (program : WholeProgram) × IsProgram text.now tokens program) }
+/// A source that is a program's: its tokens, and the program with its core.
+#[derive(Drop)]
+pub(crate) struct Accepted {
+    pub tokens: Seq<Token>,
+    pub checked: Checked,
+}
+
+/// A source that is a program's.
+pub(crate) fn check_source(alloc: Global, text: &[u8]) -> Result<Accepted, SourceError>
+    ensures program { IfOk result (λ accepted. IsProgram text.now accepted.tokens accepted.checked.program) }
+    ensures core { IfOk result (λ accepted. HasCore accepted.checked.program accepted.checked.table accepted.checked.core) }
     ensures refused { IfErr result (IsFault text.now) }
 {
     let tokens = tokens_of(alloc, text)?;
     let program = whole_of(alloc, text, tokens.as_slice())?;
-    match first_fault(alloc, &program) {
-        Ok(None) => Ok(tokens),
-        Ok(Some(fault)) => Err(refuse(Refusal::Static(fault.rule), fault.at.from)),
-        Err(_) => Err(SourceError::Memory),
+    match check(alloc, program) {
+        Ok(checked) => Ok(Accepted { tokens, checked }),
+        Err(CheckError::Fault(fault)) => Err(refuse(Refusal::Static(fault.rule), fault.at.from)),
+        Err(CheckError::Memory) => Err(SourceError::Memory),
     }
 }
 
@@ -70,8 +79,57 @@ pub(crate) fn read_source(alloc: Global, text: &[u8]) -> Result<Program, SourceE
     ensures program { IfOk result (IsSource text.now) }
     ensures refused { IfErr result (IsCause text.now) }
 {
-    let tokens = check_source(alloc, text)?;
-    printing_of(alloc, text, tokens.as_slice())
+    let accepted = check_source(alloc, text)?;
+    printing_of(alloc, text, accepted.tokens.as_slice())
+}
+
+/// The program of a source whose meaning is worked out today, with its core.
+pub(crate) fn meant_source(alloc: Global, text: &[u8]) -> Result<Checked, SourceError>
+    ensures meant { IfOk result (λ checked. IsMeant text.now (record { text = text.now; table = checked.table; core = checked.core })) }
+    ensures refused { IfErr result (IsLack text.now) }
+{
+    let found = check_source(alloc, text)?;
+    let tokens = found.tokens.as_slice();
+    match first_later(tokens) {
+        Some(later) => Err(refuse(Refusal::Later, place_of(text, tokens, later))),
+        None => Ok(found.checked),
+    }
+}
+
+/// The number of the first token of a part whose meaning isn't worked out so far.
+fn first_later(tokens: &[Token]) -> Option<usize>
+    ensures { result ≡ later_from 0 tokens.now }
+{
+    for number in 0..tokens.len() {
+        if is_later(&tokens[number].kind) {
+            return Some(number);
+        }
+    }
+    None
+}
+
+/// Whether conditions, monitors or processes are meant.
+fn is_later(kind: &TokenKind) -> bool
+    ensures { result ≡ is_later kind.now }
+{
+    match kind {
+        TokenKind::Reserved(word) => is_later_word(*word),
+        TokenKind::Name(_) | TokenKind::Integer(_) | TokenKind::Literal(_) | TokenKind::Symbol(_) =>
+            false,
+    }
+}
+
+fn is_later_word(word: Reserved) -> bool
+    ensures { result ≡ is_later_word word }
+{
+    matches!(
+        word,
+        Reserved::Condition
+            | Reserved::Monitor
+            | Reserved::Process
+            | Reserved::Signal
+            | Reserved::Wait
+    )
 }
 
 fn refuse(refusal: Refusal, at: u32) -> SourceError
@@ -215,6 +273,3 @@ pub(crate) fn source_refused(
         text: refused_text(alloc, text, refused)?,
     })
 }
-
-#[cfg(test)]
-mod tests;

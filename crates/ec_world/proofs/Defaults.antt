@@ -1,6 +1,6 @@
 -- The defaults of fields, one by one.
-use Rattle.std.proofs.Common.{◌≡◌, ℕ, zero, suc, ◌+◌, ◌≤◌, List, [], ◌∷◌, ◌++◌, length, drop, Some, refl, sym, ap, ◌∙◌, arith, append_assoc}
-use Rattle.std.specs.Prelude.{slice_get}
+use Rattle.std.proofs.Common.{◌≡◌, ℕ, zero, suc, ◌+◌, ◌≤◌, List, [], ◌∷◌, ◌++◌, length, drop, Some, refl, sym, ap, ◌∙◌, arith, add-one, append_assoc}
+use Rattle.std.specs.Prelude.{slice_get, replicate}
 use Rattle.ec_base.proofs.Lists.{drop_at}
 use Rattle.ec_world.specs.declared.value.Value.{Value}
 use Rattle.ec_world.specs.declared.class.FieldRec.{FieldRec}
@@ -24,3 +24,11 @@ defaults_over values fields i h = ap (λ x. values ++ field_defaults x) (drop_ov
     no_more : (xs : List Value) → xs ++ [] ≡ xs
     no_more [] = refl
     no_more (x ∷ xs) = ap (λ r. x ∷ r) (no_more xs)
+
+-- one more of the same
+pub replicate_next : (n : ℕ) (v : Value) → replicate (n + 1) v ≡ replicate n v ++ v ∷ []
+replicate_next n v = rw add-one (part n)
+  where
+    part : (n : ℕ) → replicate (suc n) v ≡ replicate n v ++ v ∷ []
+    part zero = refl
+    part (suc n) = ap (λ r. v ∷ r) (part n)

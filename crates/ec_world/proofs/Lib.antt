@@ -1,4 +1,8 @@
+pub mod Acting
 pub mod Changes
+pub mod Classes
+pub mod OperandLists
+pub mod TextOrder
 pub mod Defaults
 pub mod Related
 pub mod Simulation

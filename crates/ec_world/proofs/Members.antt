@@ -4,7 +4,7 @@ use Rattle.std.specs.Prelude.{slice_get, IsSome}
 use Rattle.ec_base.proofs.Lists.{get_within, get_there}
 use Rattle.ec_world.specs.declared.object.ObjectRec.{ObjectRec}
 use Rattle.ec_world.specs.declared.common.Common.{Common}
-use Rattle.ec_world.specs.Effects.{object_at}
+use Rattle.ec_world.specs.Objects.{object_at}
 use Rattle.ec_world.specs.Group.{Has, IsRising, IsGroup, MarksGroup, mark_at, marked_from}
 
 module _ {A : Type 0} where

@@ -1,11 +1,10 @@
 -- Places after events, one event at a time.
-use Rattle.std.proofs.Common.{◌≡◌, ℕ, zero, suc, ◌+◌, ◌-◌, ◌<◌, ◌≤◌, List, [], ◌∷◌, ◌++◌, length, drop, Some, refl, ap, ◌∙◌, arith, add-one}
-use Rattle.std.proofs.lemmas.List.{drop_all}
+use Rattle.std.proofs.Common.{◌≡◌, ℕ, zero, suc, ◌+◌, ◌-◌, ◌<◌, ◌≤◌, List, [], ◌∷◌, ◌++◌, length, Some, refl, ap, ◌∙◌, arith, add-one}
 use Rattle.std.specs.Prelude.{slice_get, slice_set}
-use Rattle.ec_base.proofs.Lists.{length_set, drop_at}
+use Rattle.ec_base.proofs.Lists.{length_set}
 use Rattle.ec_world.specs.declared.event.Event.{Event}
 use Rattle.ec_world.specs.declared.event.Event.TheVariants.{Created, Moved}
-use Rattle.ec_world.specs.Places.{numbers_from, first_places, place_in, node_or_first, moved, placed, places_after, places, AreThere, AreEvents}
+use Rattle.ec_world.specs.Places.{numbers_from, first_places, place_in, node_or_first, moved, placed, places_after, places}
 
 -- ---- how many places
 
@@ -15,7 +14,7 @@ made_by [] = 0
 made_by (Created oid maker ∷ es) = suc (made_by es)
 made_by (Moved members target ∷ es) = made_by es
 
-pub length-moved : (ps ms : List ℕ) (k : ℕ) → length (moved ps ms k) ≡ length ps
+length-moved : (ps ms : List ℕ) (k : ℕ) → length (moved ps ms k) ≡ length ps
 length-moved ps [] k = refl
 length-moved ps (m ∷ ms) k = length-moved (slice_set ps (m - 1) k) ms k ∙ length_set ps (m - 1) k
 
@@ -57,41 +56,6 @@ numbers-next i (suc n) =
 -- one number more
 pub numbers_from-next : (k : ℕ) → numbers_from 0 (k + 1) ≡ numbers_from 0 k ++ k ∷ []
 numbers_from-next k = let e : 0 + k ≡ k = omega arith in let n = numbers-next 0 k in rw e at n
-
--- one member more of a group
-pub there_next : (count : ℕ) (ms : List ℕ) (i m : ℕ) → slice_get ms i ≡ Some m → AreThere count (drop i ms) → (0 < m) × (m ≤ count) × AreThere count (drop (i + 1) ms)
-there_next count ms i m e h = rw (drop_at ms i m e) at h
-
-pub moved_next : (ps ms : List ℕ) (k i m : ℕ) → slice_get ms i ≡ Some m → moved ps (drop i ms) k ≡ moved (slice_set ps (m - 1) k) (drop (i + 1) ms) k
-moved_next ps ms k i m e = rw (drop_at ms i m e) refl
-
-pub there_over : (count : ℕ) (ms qs : List ℕ) → length qs ≡ count → AreThere count ms → AreThere (length qs) ms
-there_over count ms qs e h = rw e h
-
-pub moved_over : (ps ms : List ℕ) (k i : ℕ) → length ms ≤ i → moved ps (drop i ms) k ≡ ps
-moved_over ps ms k i l = rw (drop_all i ms l) refl
-
--- the rest of the events, once one has changed the places
-pub events_next : (ps : List ℕ) (e : Event) (es : List Event) → AreEvents (length ps) (e ∷ es) → AreEvents (length (placed ps e)) es
-events_next ps (Created oid maker) es h = rw (length-push ps (node_or_first (place_in ps maker))) h.3
-events_next ps (Moved members target) es h = rw (length-moved ps members (node_or_first (place_in ps target))) h.3
-
-pub event_first : (count : ℕ) (e : Event) (es : List Event) → AreEvents count (e ∷ es) → AreEvents count (e ∷ [])
-event_first count (Created oid maker) es h = (h.0, h.1, h.2, tt)
-event_first count (Moved members target) es h = (h.0, h.1, h.2, tt)
-
--- the events from place i + 1 on, once that at place i has changed the places
-pub placed_next : (ps qs : List ℕ) (es : List Event) (i : ℕ) (e : Event) → slice_get es i ≡ Some e → qs ≡ placed ps e → AreEvents (length ps) (drop i es) → AreEvents (length qs) (drop (i + 1) es)
-placed_next ps qs es i e g q h = rw q (events_next ps e (drop (i + 1) es) (rw (drop_at es i e g) at h))
-
-pub placed_first : (ps : List ℕ) (es : List Event) (i : ℕ) (e : Event) → slice_get es i ≡ Some e → AreEvents (length ps) (drop i es) → AreEvents (length ps) (e ∷ [])
-placed_first ps es i e g h = event_first (length ps) e (drop (i + 1) es) (rw (drop_at es i e g) at h)
-
-pub places_after_next : (ps qs : List ℕ) (es : List Event) (i : ℕ) (e : Event) → slice_get es i ≡ Some e → qs ≡ placed ps e → places_after qs (drop (i + 1) es) ≡ places_after ps (drop i es)
-places_after_next ps qs es i e g q = rw (q, drop_at es i e g) refl
-
-pub events_start : (n : ℕ) (ps : List ℕ) (es : List Event) → ps ≡ first_places n → AreEvents (n + 1) es → AreEvents (length ps) es
-events_start n ps es e h = rw (e, length-first_places n) h
 
 -- ---- on one node
 

@@ -7,11 +7,11 @@ use Rattle.ec_world.specs.declared.value.Value.{Value}
 use Rattle.ec_world.specs.declared.value.Value.TheVariants.{Int, Str, Ref, Nil, Bool as Truth}
 use Rattle.ec_world.specs.declared.class.FieldRec.{FieldRec}
 use Rattle.ec_world.specs.declared.class.ClassNo.{ClassNo}
-use Rattle.ec_world.specs.declared.class.ClassNo.TheVariants.{Node, Program, Made}
+use Rattle.ec_world.specs.declared.class.ClassNo.TheVariants.{Node, Program, Made, Vector}
 use Rattle.ec_world.specs.declared.class.ClassRec.{ClassRec}
 use Rattle.ec_world.specs.declared.object.ObjectRec.{ObjectRec}
 use Rattle.ec_world.specs.declared.common.Common.{Common}
-use Rattle.ec_world.specs.Effects.{object_at, class_at}
+use Rattle.ec_world.specs.Objects.{object_at, class_at}
 use Rattle.ec_world.specs.Group.{Has, InGroup, IsGroup, MarksGroup, link_of, links_in, fields_if, links_if, links_of, mark_at, is_in, wanted, mark_all, spread, rounds, none_marked, group_of}
 use Rattle.ec_world.specs.Group.InGroup.{Itself, Linked}
 use Rattle.ec_world.proofs.Members.{has_none, has_first, has_later, has_parts, has_one, has_front, has_back, has_either, group_same, marked_group, object_within, within_object, mark_within}
@@ -319,6 +319,7 @@ links_in-none (f ∷ fs) (v ∷ vs) h = link_of-none f v (links_in fs vs) (h f (
 fields_if-none : (classes : List ClassRec) (class : ClassNo) → ((k : ClassRec) → Has classes k → HasNoAttached k) → (f : FieldRec) → Has (fields_if (class_at classes class)) f → f.attached ≡ false
 fields_if-none classes Node h f m = absurd (has_none f m)
 fields_if-none classes Program h f m = absurd (has_none f m)
+fields_if-none classes (Vector of) h f m = absurd (has_none f m)
 fields_if-none classes (Made i) h f m = part (slice_get classes i) refl m
   where
     part : (k : Option ClassRec) → slice_get classes i ≡ k → Has (fields_if k) f → f.attached ≡ false

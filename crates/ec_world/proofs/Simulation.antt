@@ -6,7 +6,7 @@ use Rattle.ec_world.specs.declared.process.ProcStatus.{ProcStatus}
 use Rattle.ec_world.specs.declared.process.ProcStatus.TheVariants.{Ready, Entry as AtEntry, Cond, Urgent, Ended, Failed}
 use Rattle.ec_world.specs.declared.process.Proc.{Proc}
 use Rattle.ec_world.specs.declared.stop.Effect.{Effect}
-use Rattle.ec_world.specs.declared.stop.Effect.TheVariants.{GoesOn, Calls, Leaves, Ends}
+use Rattle.ec_world.specs.declared.stop.Effect.TheVariants.{GoesOn, Calls, Leaves, Ends, Fails}
 use Rattle.ec_world.specs.declared.common.Common.{Common}
 use Rattle.ec_world.specs.declared.world.World.{World}
 use Rattle.ec_world.specs.declared.run.Entry.{Entry}
@@ -71,6 +71,7 @@ module _ {A B : Type 0} (M : ActivationMeaning A) (N : ActivationMeaning B) (adv
       record { status = refl; activations = all-append R (xs ++ M.finished a None ∷ []) _ (ys ++ N.finished b None ∷ []) _ below (sim.begun op own args, tt) }
   changed_agree xs ys a b (Leaves r) h k = record { status = refl; activations = finish_tops (below_of xs) (below_of ys) (top_of xs) (top_of ys) r (belows R xs ys h) (tops R xs ys h) }
   changed_agree xs ys a b Ends h k = record { status = refl; activations = tt }
+  changed_agree xs ys a b (Fails why line) h k = record { status = refl; activations = tt }
 
   acted_agree : (w : World A) (v : World B) (p : ℕ) (xs : List A) (ys : List B) (a : A) (b : B) (o : Acted) → AgreeBy R w v → AllTwo R xs ys → R a b → AgreeBy R (acted M w p xs a o) (acted N v p ys b o)
   acted_agree w v p xs ys a b None h k r = h

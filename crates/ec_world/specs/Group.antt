@@ -6,7 +6,7 @@ use Rattle.ec_world.specs.declared.class.FieldRec.{FieldRec}
 use Rattle.ec_world.specs.declared.class.ClassRec.{ClassRec}
 use Rattle.ec_world.specs.declared.object.ObjectRec.{ObjectRec}
 use Rattle.ec_world.specs.declared.common.Common.{Common}
-use Rattle.ec_world.specs.Effects.{object_at, class_at}
+use Rattle.ec_world.specs.Objects.{object_at, class_at, fixed_if}
 
 -- x stands at some place of the list
 pub record Has {A : Type 0} (xs : List A) (x : A) : Type 0 where
@@ -100,10 +100,6 @@ marked_from oid (false ∷ ms) = marked_from (suc oid) ms
 -- the members of x's group: as many rounds as there are objects reach them all; none where x names no object
 abbrev pub group_of : Common → ℕ → List ℕ
 group_of c x = marked_from 1 (rounds c (length c.objects) (mark_all (x ∷ []) 1 (none_marked c.objects)))
-
-abbrev pub fixed_if : Option ObjectRec → Bool
-fixed_if None = false
-fixed_if (Some o) = o.fixed
 
 -- some member is fixed
 abbrev pub any_fixed : Common → List ℕ → Bool

@@ -1,5 +1,8 @@
 pub mod Values
 pub mod Meaning
+pub mod Objects
+pub mod Operands
+pub mod Texts
 pub mod Effects
 pub mod World
 pub mod Places

@@ -4,7 +4,7 @@ use Rattle.ec_world.specs.declared.event.Event.TheVariants.{Moved}
 use Rattle.ec_world.specs.declared.object.ObjectRec.{ObjectRec}
 use Rattle.ec_world.specs.declared.common.Common.{Common}
 use Rattle.ec_world.specs.declared.world.World.{World}
-use Rattle.ec_world.specs.Effects.{object_at}
+use Rattle.ec_world.specs.Objects.{object_at}
 use Rattle.ec_world.specs.Group.{group_of, any_fixed}
 
 abbrev pub is_there : Option ObjectRec → Bool

@@ -1,5 +1,5 @@
 -- Actions, moves by the operator and turns, over any meaning of activations. No case reads a place.
-use Rattle.std.specs.Prelude.{◌≡◌, ℕ, length, IsSome, Bool, true, false, List, [], ◌∷◌, ◌++◌, Option, Some, None, slice_get, slice_set}
+use Rattle.std.specs.Prelude.{◌≡◌, ℕ, length, Bool, true, false, List, [], ◌∷◌, ◌++◌, Option, Some, None, slice_get, slice_set}
 use Rattle.ec_base.specs.Stack.{top_of, below_of}
 use Rattle.ec_world.specs.declared.value.Value.{Value}
 use Rattle.ec_world.specs.declared.process.ProcStatus.{ProcStatus}
@@ -7,7 +7,7 @@ use Rattle.ec_world.specs.declared.process.ProcStatus.TheVariants.{Ready, Entry,
 use Rattle.ec_world.specs.declared.process.Proc.{Proc}
 use Rattle.ec_world.specs.declared.stop.Who.{Who}
 use Rattle.ec_world.specs.declared.stop.Effect.{Effect}
-use Rattle.ec_world.specs.declared.stop.Effect.TheVariants.{GoesOn, Calls, Leaves, Ends}
+use Rattle.ec_world.specs.declared.stop.Effect.TheVariants.{GoesOn, Calls, Leaves, Ends, Fails}
 use Rattle.ec_world.specs.declared.common.Common.{Common}
 use Rattle.ec_world.specs.declared.world.World.{World}
 use Rattle.ec_world.specs.Meaning.{ActivationMeaning}
@@ -48,6 +48,7 @@ module _ {A : Type 0} (M : ActivationMeaning A) where
   changed below top (Leaves given) =
       record { activations = finish_top (below_of below) (top_of below) given; status = Ready }
   changed below top Ends = record { activations = []; status = Ended }
+  changed below top (Fails why line) = record { activations = []; status = Failed why line }
 
   abbrev pub changed_at : List A → Option A → Effect → Option (Proc A)
   changed_at below None e = None
@@ -74,13 +75,12 @@ module _ {A : Type 0} (M : ActivationMeaning A) where
   abbrev pub Action : World A → ℕ → World A
   Action w p = act_on w p (below_of (stack_at w p)) (top_of (stack_at w p))
 
-  -- p is Ready with an activation on top (the stack at a process that isn't there or isn't Ready is empty), the action of
-  -- that activation's stop is pending, and the table has a case for it
-  pub record CanAct (w : World A) (p : ℕ) : Type 0 where
+  -- p is Ready with an activation on top (the stack at a process that isn't there or isn't Ready is empty), and the action of
+  -- that activation's stop is pending
+  pub record IsPending (w : World A) (p : ℕ) : Type 0 where
     pub top : A
     pub is_top : top_of (stack_at w p) ≡ Some top
     pub pending : M.is_pending top ≡ true
-    pub has_case : IsSome (outcome_of w p (below_of (stack_at w p)) top)
 
 -- turns, over what silent steps make of an activation and of what the world has beside its processes
 module _ {A : Type 0} (M : ActivationMeaning A) (advance : Common → A → Common × A) where

@@ -16,8 +16,16 @@ pub fn group<A: Activation>(world: &World<A>, x: Oid) -> Result<Vec<Oid>, AllocE
     ensures is { IfOk result (λ v. v.items ≡ group_of world.now.common x) }
     ensures members { IfOk result (λ v. IsGroup world.now.common x v.items) }
 {
-    let marks = reach(&world.common, x)?;
-    marked(world.common.objects.allocator(), &marks)
+    group_in(&world.common, x)
+}
+
+/// The same, of what a world has beside its processes.
+pub(crate) fn group_in(common: &Common, x: Oid) -> Result<Vec<Oid>, AllocError>
+    ensures is { IfOk result (λ v. v.items ≡ group_of common.now x) }
+    ensures members { IfOk result (λ v. IsGroup common.now x v.items) }
+{
+    let marks = reach(common, x)?;
+    marked(common.objects.allocator(), &marks)
 }
 
 /// Marks of the members of an object's group, one mark an object.
@@ -117,6 +125,3 @@ impl Search {
         Ok(())
     }
 }
-
-#[cfg(test)]
-mod tests;

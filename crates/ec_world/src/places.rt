@@ -1,16 +1,13 @@
 //! Where objects lie after events.
-ghost use Rattle.std.specs.Prelude.{◌≡◌, ◌+◌, ◌<◌, ◌≤◌, IfOk, OnOk, length, [], ◌∷◌};
-ghost use Rattle.ec_world.specs.Places.{AreEvents, AreThere, first_places, moved, placed, places};
+ghost use Rattle.std.specs.Prelude.{◌≡◌, IfOk, OnOk, slice_set};
+ghost use Rattle.ec_world.specs.Places.{first_places, moved, node_or_first, place_in, placed, places};
 
 use crate::event::Event;
-use crate::value::{NodeNo, Oids};
+use crate::value::{NodeNo, Oid, Oids};
 use std::alloc::{AllocError, Global};
 
-/// The node of each object, in the order of their numbers, on `n` nodes (1 to 64) after these events.
+/// The node of each object, in the order of their numbers, on `n` nodes after these events. The error is want of memory.
 pub fn placement_after(alloc: Global, n: u32, events: &[Event]) -> Result<Vec<NodeNo>, AllocError>
-    requires some { 0 < n }
-    requires at_most { n ≤ 64 }
-    requires there { AreEvents (n + 1) events.now }
     ensures { IfOk result (λ v. v.items ≡ places n events.now) }
 {
     let mut placement = first_placement(alloc, n)?;
@@ -18,6 +15,16 @@ pub fn placement_after(alloc: Global, n: u32, events: &[Event]) -> Result<Vec<No
         place(&mut placement, event)?;
     }
     Ok(placement)
+}
+
+/// The node at which an object is, by these nodes of all objects, where it is there.
+pub fn place_of(placement: &[NodeNo], oid: Oid) -> Option<NodeNo>
+    ensures { result ≡ place_in placement.now oid }
+{
+    if oid == 0 {
+        return None;
+    }
+    placement.get(oid as usize - 1).copied()
 }
 
 /// The nodes of the first objects: each node's own is there, and the program's is on node 0.
@@ -34,50 +41,45 @@ fn first_placement(alloc: Global, n: u32) -> Result<Vec<NodeNo>, AllocError>
 
 /// What an event changes.
 fn place(placement: &mut Vec<NodeNo>, event: &Event) -> Result<(), AllocError>
-    requires { AreEvents (length placement.old.items) (event.now ∷ []) }
     ensures { OnOk result (placement.new.items ≡ placed placement.old.items event.now) }
 {
     match event {
         Event::Created { maker, .. } => {
-            let k = placement[*maker as usize - 1];
+            let k = node_at(placement, *maker);
             placement.push(k)?;
         }
         Event::Moved { members, target } => {
-            let k = placement[*target as usize - 1];
+            let k = node_at(placement, *target);
             send(placement, members, k);
         }
     }
     Ok(())
 }
 
-/// The members of a group go to a node.
-fn send(placement: &mut Vec<NodeNo>, members: &Oids, k: NodeNo)
-    requires { AreThere (length placement.old.items) members.now }
-    ensures { placement.new.items ≡ moved placement.old.items members.now k }
+/// The node at which an object is, where it is there; else the first one.
+fn node_at(placement: &[NodeNo], oid: Oid) -> NodeNo
+    ensures { result ≡ node_or_first (place_in placement.now oid) }
 {
-    for i in 0..members.len() {
-        let oid = *members.at(i);
-        placement[oid as usize - 1] = k;
+    match place_of(placement, oid) {
+        Some(k) => k,
+        None => 0,
     }
 }
 
-#[cfg(test)]
-mod tests {
-    use super::*;
-    use ec_base::list::Seq;
-    use std::test::Fail;
+/// The members of a group go to a node.
+fn send(placement: &mut Vec<NodeNo>, members: &Oids, k: NodeNo)
+    ensures { placement.new.items ≡ moved placement.old.items members.now k }
+{
+    for member in members.as_slice() {
+        put(placement, (*member as usize).saturating_sub(1), k);
+    }
+}
 
-    #[test]
-    fn two_objects_move_together(rt: HostRuntime) -> Result<(), Fail> {
-        let members = Seq::from_vec(vec![in rt.alloc(); 4, 5]?);
-        let events = [
-            Event::Created { oid: 4, maker: 3 },
-            Event::Created { oid: 5, maker: 3 },
-            Event::Created { oid: 6, maker: 3 },
-            Event::Moved { members, target: 2 },
-        ];
-        let placement = placement_after(rt.alloc(), 2, &events)?;
-        assert_eq!(rt; placement.as_slice(), [0, 1, 0, 1, 1, 0].as_slice());
-        Ok(())
+/// The node at a place, where there is one.
+fn put(placement: &mut Vec<NodeNo>, at: usize, k: NodeNo)
+    ensures { placement.new.items ≡ slice_set placement.old.items at k }
+{
+    if at < placement.len() {
+        placement[at] = k;
     }
 }

@@ -9,6 +9,31 @@ use crate::value::{Oid, Value};
 use ec_base::list::Seq;
 use std::alloc::{AllocError, Global};
 
+/// Why a process fails.
+#[derive(Clone, Copy, PartialEq, Eq, Debug)]
+pub enum Cause {
+    /// Nil is the receiver of an invocation, a vector, or an operand of a move or its kin.
+    Nil,
+    /// A divisor is 0.
+    ZeroDivisor,
+    /// What is asserted is false.
+    FalseAssertion,
+    /// An index or a slice is out of range.
+    OutOfRange,
+    /// An object is viewed as a type to which its class doesn't conform.
+    NotConforming,
+    /// A member of a group is fixed that is to be fixed elsewhere.
+    GroupFixed,
+    /// A vector is to have fewer than 0 or more than 16,384 elements.
+    VectorSize,
+    /// No node has the number.
+    NoSuchNode,
+    /// A text would have more than 65,535 bytes.
+    LongText,
+    /// A node is to be unfixed or fixed elsewhere.
+    NodeFixed,
+}
+
 /// What a process may do. A blocked one names the object whose monitor it waits for.
 #[derive(Clone, Copy, PartialEq, Eq, Debug)]
 pub enum ProcStatus {
@@ -17,7 +42,7 @@ pub enum ProcStatus {
     Cond(Oid),
     Urgent(Oid),
     Ended,
-    Failed { cause: u8, line: u32 },
+    Failed { cause: Cause, line: u32 },
 }
 
 /// A process: its activations, bottom first, and its status.
@@ -47,6 +72,11 @@ impl<A: Activation> Proc<A> {
             Effect::Ends => {
                 self.activations = Seq::new(alloc);
                 self.status = ProcStatus::Ended;
+                Ok(())
+            }
+            Effect::Fails { cause, line } => {
+                self.activations = Seq::new(alloc);
+                self.status = ProcStatus::Failed { cause, line };
                 Ok(())
             }
         }

@@ -31,24 +31,3 @@ fn first_ready(ready: &[bool], from: usize) -> Option<Pid>
     }
     None
 }
-
-#[cfg(test)]
-mod tests {
-    use super::*;
-
-    #[test]
-    fn goes_round(rt: HostRuntime) {
-        let ready = [true, false, true];
-        let cases = [
-            (None, Some(0)),
-            (Some(0), Some(2)),
-            (Some(1), Some(2)),
-            (Some(2), Some(0)),
-            (Some(u32::MAX), Some(0)),
-        ];
-        for (last, next) in cases {
-            assert_eq!(rt; next_ready(&ready, last), next);
-        }
-        assert_eq!(rt; next_ready(&[false, false], Some(0)), None);
-    }
-}

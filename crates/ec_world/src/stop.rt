@@ -1,22 +1,75 @@
 //! Stops, and what their actions do to activations.
-use crate::class::ClassNo;
+ghost use Rattle.std.specs.Prelude.{◌≡◌};
+
+use crate::class::{ClassNo, NameNo, VectorType, ViewedAs};
+use crate::process::Cause;
 use crate::value::{Oid, OpNo, Pid, Value, Values};
 
-/// A stop, with the numbers that its action needs beside its operands.
+/// How two texts are to stand to each other.
+#[derive(Clone, Copy, PartialEq, Eq, Debug)]
+pub enum Order {
+    Less,
+    LessEqual,
+    More,
+    MoreEqual,
+}
+
+/// A stop, with the numbers that its action needs beside its operands, and the line on which the process fails there, where it
+/// may fail.
 #[derive(Clone, Copy)]
 pub enum Stop {
     /// The start of an operation.
     Entry,
+    /// An operation of an object is invoked, by its name. Operands: the object, and the arguments.
+    Invoke { name: NameNo, line: u32 },
     /// A new object of a class. Operands: captured values, or arguments.
     New { class: ClassNo },
     /// The end of an operation. Operand: the result, where there is one; operation 0 of a class gives the object.
     Return { gives_self: bool },
+    /// A new vector of a type. Operand: how many elements (0 to 16,384).
+    NewVector { of: VectorType, line: u32 },
+    /// An element. Operands: the vector, and the index (from 0).
+    Get { line: u32 },
+    /// An element gets a value. Operands: the vector, the index, and the value.
+    Set { line: u32 },
+    /// How many elements there are. Operand: the vector.
+    Size { line: u32 },
+    /// A text behind another. Operands: the texts (together at most 65,535 bytes).
+    Concat { line: u32 },
+    /// How many bytes there are. Operand: the text.
+    Length,
+    /// Whether two texts stand to each other in an order. Operands: the texts.
+    Compare { order: Order },
+    /// Some bytes of a text. Operands: the text, the place of the first of them (from 0), and how many.
+    GetSlice { line: u32 },
+    /// An Integer or a Boolean as a text. Operand: the value.
+    AsString,
     /// Output. Operand: the text.
     Print,
-    /// A global constant gets its value. Operand: the value.
+    /// A global constant gets its value, by its place among these (from 0). Operand: the value.
     Global { index: u32 },
+    /// The node of a number. Operand: the number (from 0).
+    NodeAt { line: u32 },
+    /// How many nodes there are.
+    NodeCount,
+    /// The group of the first object goes where the second one is. Operands: the objects.
+    Move { line: u32 },
+    /// The same, and the first object is fixed then.
+    Fix { line: u32 },
+    /// The same, also where the first object was fixed.
+    Refix { line: u32 },
+    /// An object is fixed no more. Operand: the object.
+    Unfix { line: u32 },
+    /// Whether an object is fixed. Operand: the object.
+    IsFixed { line: u32 },
+    /// An object is viewed as a type. Operand: the object.
+    View { to: ViewedAs, line: u32 },
+    /// Before each turn of a loop.
+    LoopTop,
     /// The end of a process.
     End,
+    /// The process fails.
+    Fail { cause: Cause, line: u32 },
 }
 
 /// The activation whose stop acts: its process, its depth from the bottom (from 0), its operation and its own object.
@@ -39,4 +92,22 @@ pub enum Effect {
     Leaves(Option<Value>),
     /// The activation goes, and the process has ended.
     Ends,
+    /// All activations go, and the process has failed.
+    Fails { cause: Cause, line: u32 },
+}
+
+impl Effect {
+    /// The action is done, with this result.
+    pub(crate) fn with(value: Value) -> Effect
+        ensures { result ≡ Effect.GoesOn (Some value) }
+    {
+        Effect::GoesOn(Some(value))
+    }
+
+    /// The process has failed.
+    pub(crate) fn failure(cause: Cause, line: u32) -> Effect
+        ensures { result ≡ Effect.Fails cause line }
+    {
+        Effect::Fails { cause, line }
+    }
 }

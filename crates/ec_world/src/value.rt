@@ -1,5 +1,5 @@
 //! Values of the language, and the numbers by which things are named.
-ghost use Rattle.std.specs.Prelude.{◌≡◌, IfOk};
+ghost use Rattle.std.specs.Prelude.{◌≡◌, IfOk, pos};
 ghost use Rattle.ec_world.specs.Values.{default_of};
 
 use ec_base::list::Seq;
@@ -79,6 +79,16 @@ pub(crate) fn number_of(count: usize) -> Result<u32, AllocError>
     ensures { IfOk result (λ number. number ≡ count) }
 {
     match u32::try_from(count) {
+        Ok(number) => Ok(number),
+        Err(_) => Err(AllocError),
+    }
+}
+
+/// A count as an Integer. Want of memory where it is above 2,147,483,647.
+pub(crate) fn integer_of(count: usize) -> Result<i32, AllocError>
+    ensures { IfOk result (λ number. number ≡ pos count) }
+{
+    match i32::try_from(count) {
         Ok(number) => Ok(number),
         Err(_) => Err(AllocError),
     }

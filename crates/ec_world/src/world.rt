@@ -1,10 +1,10 @@
 //! Worlds.
-ghost use Rattle.std.specs.Prelude.{◌≡◌, OnOk};
-ghost use Rattle.ec_world.specs.World.{Action, CanAct};
+ghost use Rattle.std.specs.Prelude.{◌≡◌, OnOk, IfSome, IfNone};
+ghost use Rattle.ec_world.specs.World.{Action, IsPending, stack_at};
 
 use crate::activation::Activation;
 use crate::common::Common;
-use crate::process::Proc;
+use crate::process::{Proc, ProcStatus};
 use crate::stop::Who;
 use crate::value::{Pid, number_of};
 use ec_base::list::Seq;
@@ -19,14 +19,19 @@ pub struct World<A: Activation> {
 
 impl<A: Activation> World<A> {
     /// The action of the stop at which a process rests. An error is want of memory, or a table of numbers of 32 bits that
-    /// is full: the depth of the top activation has more bits, or the number of a new object would have. Nothing is said
-    /// of the world after an error.
+    /// is full: the depth of the top activation has more bits, or the number of a new object or of a group's member would
+    /// have; or a count of bytes, elements or nodes is above 2,147,483,647, so that no Integer is that count. Nothing is
+    /// said of the world after an error.
+    ///
+    /// Nothing changes where no process has that number or it isn't Ready, where the action is done already, and where the
+    /// table of actions has no case for the stop with its operands.
     pub fn act(&mut self, p: Pid) -> Result<(), AllocError>
-        requires { CanAct A.meaning self.old p }
         ensures { OnOk result (self.new ≡ Action A.meaning self.old p) }
     {
         let alloc = self.processes.allocator();
-        let activations = &self.processes.at(p as usize).activations;
+        let Some(activations) = self.pending(p) else {
+            return Ok(());
+        };
         let top = activations.last();
         let who = Who {
             process: p,
@@ -36,8 +41,26 @@ impl<A: Activation> World<A> {
         };
         let stop = top.stop();
         let operands = top.operands()?;
-        let effect = self.common.act(alloc, who, stop, operands)?;
+        let Some(effect) = self.common.act(alloc, who, stop, operands)? else {
+            return Ok(());
+        };
         let process = self.processes.at_mut(p as usize);
         process.take_effect(alloc, effect)
+    }
+
+    /// The activations of a process that is Ready, where the action of the last one's stop is pending.
+    fn pending(&self, p: Pid) -> Option<&Seq<A>>
+        ensures some { IfSome result (λ activations. IsPending A.meaning self.now p × (activations.now ≡ stack_at self.now p)) }
+        ensures none { IfNone result (Action A.meaning self.now p ≡ self.now) }
+    {
+        let process = self.processes.get(p as usize)?;
+        if process.status != ProcStatus::Ready || process.activations.len() == 0 {
+            return None;
+        }
+        if process.activations.last().is_pending() {
+            Some(&process.activations)
+        } else {
+            None
+        }
     }
 }

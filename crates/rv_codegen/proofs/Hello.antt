@@ -6,7 +6,7 @@ use Rattle.ec_world.specs.declared.value.ValueType.{ValueType}
 use Rattle.ec_world.specs.declared.value.ValueType.TheVariants.{Bytes, Reference}
 use Rattle.ec_world.specs.declared.class.ClassRec.{ClassRec}
 use Rattle.ec_world.specs.declared.class.ClassNo.TheVariants.{Made}
-use Rattle.ec_world.specs.declared.stop.Stop.TheVariants.{Entry, New, Return, Print, Global, End}
+use Rattle.ec_ir.specs.declared.stop.Stop.TheVariants.{Entry, New, Return, Print, Global, End}
 use Rattle.ec_ir.specs.declared.code.IrOp.{IrOp}
 use Rattle.ec_ir.specs.declared.code.IrOp.TheVariants.{Literal, Rest}
 use Rattle.ec_ir.specs.declared.code.StopRec.{StopRec}
@@ -59,7 +59,7 @@ initial = record {
 }
 
 abbrev class : ClassRec
-class = record { name = []; initial = 1; fields = [] }
+class = record { name = []; initial = 1; fields = []; operations = []; conforms = [] }
 
 abbrev literals : List (List ℕ)
 literals = (104 ∷ 105 ∷ []) ∷ [] ∷ []

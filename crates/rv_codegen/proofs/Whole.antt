@@ -15,9 +15,9 @@ use Rattle.ec_world.specs.declared.value.ValueType.{ValueType}
 use Rattle.ec_world.specs.declared.value.ValueType.TheVariants as types
 use Rattle.ec_world.specs.declared.class.ClassRec.{ClassRec}
 use Rattle.ec_world.specs.declared.class.ClassNo.{ClassNo}
-use Rattle.ec_world.specs.declared.class.ClassNo.TheVariants.{Node, Program, Made}
-use Rattle.ec_world.specs.declared.stop.Stop.{Stop}
-use Rattle.ec_world.specs.declared.stop.Stop.TheVariants.{Entry, New, Return, Print, Global, End}
+use Rattle.ec_world.specs.declared.class.ClassNo.TheVariants.{Node, Program, Made, Vector}
+use Rattle.ec_ir.specs.declared.stop.Stop.{Stop}
+use Rattle.ec_ir.specs.declared.stop.Stop.TheVariants.{Entry, New, Return, Print, Global, End}
 use Rattle.ec_ir.specs.declared.code.IrOp.{IrOp}
 use Rattle.ec_ir.specs.declared.code.IrOp.TheVariants.{Rest}
 use Rattle.ec_ir.specs.declared.code.StopRec.{StopRec}
@@ -88,6 +88,7 @@ new_within classes vars (Made k) xs into x h e =
     subst (λ z. z < length vars) same (get_within vars t.0 types.Reference t.2)
 new_within classes vars Node xs into x h e = absurd h
 new_within classes vars Program xs into x h e = absurd h
+new_within classes vars (Vector of) xs into x h e = absurd h
 
 return_none : (op : ℕ) (b : Bool) (xs : List ℕ) (into : Option ℕ) → FineReturn op b xs into → into ≡ None
 return_none zero b xs into h = absurd h

@@ -6,12 +6,12 @@ ghost use Rattle.ec_world.specs.declared.value.ValueType.{ValueType};
 use super::*;
 use byteorder::LittleEndian;
 use ec_ir::code::{IrOp, Operation, Parts, StopRec};
+use ec_ir::stop::Stop;
 use ec_memory::blocks::Blocks;
 use ec_target::machine::Machine;
 use ec_target::outcome::Outcome;
 use ec_world::class::{ClassNo, ClassRec};
 use ec_world::memory::Memory;
-use ec_world::stop::Stop;
 use ec_world::value::ValueType;
 use rv_machine::machine::RvMachine;
 use std::test::Fail;
@@ -105,6 +105,8 @@ fn hello(alloc: Global) -> Result<IrProgram, AllocError> {
         name: Seq::new(alloc),
         initial: 1,
         fields: Seq::new(alloc),
+        operations: Seq::new(alloc),
+        conforms: Seq::new(alloc),
     };
     let hi = Seq::from_vec(vec![in alloc; b'h', b'i']?);
     Ok(IrProgram::new(Parts {

@@ -3,7 +3,7 @@ use Rattle.ec_inputs.specs.declared.words.Command.TheVariants as given
 use Rattle.ec_inputs.specs.Words.{run_in, check_in, CommandWords as command}
 use Rattle.ec_network.specs.Net.{Net}
 use Rattle.ec_tool.specs.declared.answer.Answer.{Answer}
-use Rattle.ec_tool.specs.declared.status.Status.TheVariants as statuses
+use Rattle.ec_report.specs.declared.status.Status.TheVariants as statuses
 use Rattle.ec_tool.specs.Inputs.{usage_line}
 use Rattle.ec_tool.specs.Emerald.{Verdict}
 use Rattle.ec_tool.specs.Steps.{Plain, WhereAsked}
@@ -82,4 +82,29 @@ returns-in-Some-Check-clause-plain g c =
     let faults' = g.F.Shelf.faults c.answer_check.new.shelf in
     if_ok_one (λ (a : Answer). WhereAsked (command.Check (check_in check)) (λ asking. Plain asking faults faults' a.status a.text.items)) (λ (a : Answer). Plain words faults faults' a.status a.text.items)
     c.answer_check.result c.answer_check.ensures.plain
+    (λ a h. h words w)
+
+pub returns-in-Some-Mean-clause-verdict : goal.returns-in-Some-Mean-clause-verdict
+returns-in-Some-Mean-clause-verdict g c =
+    let words = map (λ (word : Bor (List ℕ)). word.now) c.args.words.now in
+    let mean = c.in-Some-Mean.mean in
+    let w = words_of_some words c.in_ok-run.field-0 c.in_ok-run.ensures.words (given.Mean mean) (c.in-Some-Mean.is ∙ ap Some c.in-Some-Mean.field-0-is) in
+    let content = g.F.Shelf.content c.args.shelf.now in
+    let faults = g.F.Shelf.faults c.args.shelf.now in
+    let faults' = g.F.Shelf.faults c.answer_mean.new.shelf in
+    let net = c.args.net.now in
+    if_ok_one (λ (a : Answer). (old : Net) → g.F.Shelf.tells c.args.shelf.now → WhereAsked (command.Mean (run_in mean)) (λ asking. Verdict asking content faults faults' old old a.status a.text.items))
+    (λ (a : Answer). g.F.Shelf.tells c.args.shelf.now → Verdict words content faults faults' net net a.status a.text.items)
+    c.answer_mean.result c.answer_mean.ensures.verdict
+    (λ a h told. h net told words w)
+
+pub returns-in-Some-Mean-clause-plain : goal.returns-in-Some-Mean-clause-plain
+returns-in-Some-Mean-clause-plain g c =
+    let words = map (λ (word : Bor (List ℕ)). word.now) c.args.words.now in
+    let mean = c.in-Some-Mean.mean in
+    let w = words_of_some words c.in_ok-run.field-0 c.in_ok-run.ensures.words (given.Mean mean) (c.in-Some-Mean.is ∙ ap Some c.in-Some-Mean.field-0-is) in
+    let faults = g.F.Shelf.faults c.args.shelf.now in
+    let faults' = g.F.Shelf.faults c.answer_mean.new.shelf in
+    if_ok_one (λ (a : Answer). WhereAsked (command.Mean (run_in mean)) (λ asking. Plain asking faults faults' a.status a.text.items)) (λ (a : Answer). Plain words faults faults' a.status a.text.items)
+    c.answer_mean.result c.answer_mean.ensures.plain
     (λ a h. h words w)

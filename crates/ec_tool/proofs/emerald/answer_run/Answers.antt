@@ -1,6 +1,6 @@
-use Rattle.std.proofs.Common.{◌≡◌, ℕ, List, refl}
+use Rattle.std.proofs.Common.{◌≡◌, refl}
 use Rattle.ec_tool.specs.declared.answer.Answer.{Answer}
-use Rattle.ec_tool.specs.declared.status.Status.TheVariants as statuses
+use Rattle.ec_report.specs.declared.status.Status.TheVariants as statuses
 use Rattle.ec_inputs.specs.Words.{run_in, CommandWords as command}
 use Rattle.ec_tool.specs.Emerald.{Verdict, fault_line}
 use Rattle.ec_tool.specs.Steps.{Judged, Plain, WhereAsked}

@@ -1,6 +1,6 @@
 use Rattle.std.proofs.Common.{◌≡◌, refl}
 use Rattle.ec_tool.specs.declared.answer.Answer.{Answer}
-use Rattle.ec_tool.specs.declared.status.Status.TheVariants as statuses
+use Rattle.ec_report.specs.declared.status.Status.TheVariants as statuses
 use Rattle.ec_tool.specs.Sources.{refused_line}
 use Rattle.ec_tool.specs.Steps.{Judged}
 use Rattle.ec_tool.proofs.Lifting.{if_ok_two}

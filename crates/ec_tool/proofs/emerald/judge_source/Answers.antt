@@ -1,6 +1,6 @@
 use Rattle.std.proofs.Common.{◌≡◌}
 use Rattle.ec_tool.specs.declared.answer.Answer.{Answer}
-use Rattle.ec_tool.specs.declared.status.Status.TheVariants as statuses
+use Rattle.ec_report.specs.declared.status.Status.TheVariants as statuses
 use Rattle.ec_tool.specs.Sources.{accepted_line, refused_line}
 use Rattle.ec_tool.specs.Steps.{Checked}
 use Rattle.ec_tool.proofs.Lifting.{if_ok_two}
@@ -13,11 +13,11 @@ returns c =
     let source = c.args.source.now in
     elim c.match-check_source.branch [
       | in-Ok w ↦
-          let found = w.in-Ok.ensures.program in
+          let accepted = w.in-Ok.field-0 in
           rw w.result-is
           (if_ok_two (λ (a : Answer). a.status ≡ statuses.Finished) (λ (a : Answer). a.text.items ≡ accepted_line)
           (λ (a : Answer). Checked source a.status a.text.items) w.answer_with.result w.answer_with.ensures.status w.answer_with.ensures.text
-          (λ a s t. is_sound source a.status a.text.items (record { tokens = w.in-Ok.field-0; program = found.0; is_program = found.1 }) s t))
+          (λ a s t. is_sound source a.status a.text.items (record { tokens = accepted.tokens; program = accepted.checked.program; is_program = w.in-Ok.ensures.program }) s t))
       | in-Err-Refused w ↦
           let refused = w.in-Err-Refused.refused in
           rw w.result-is

@@ -1,6 +1,6 @@
 use Rattle.std.proofs.Common.{◌≡◌, ◌++◌, drop}
 use Rattle.ec_network.specs.Net.{counts_of}
-use Rattle.ec_tool.specs.Report.{node_lines}
+use Rattle.ec_report.specs.Report.{node_lines}
 use Rattle.ec_tool.proofs.report.push_nodes.Given as goal
 
 abbrev pub invariant-loop-k : goal.invariant-loop-k

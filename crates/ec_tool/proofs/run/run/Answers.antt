@@ -1,7 +1,7 @@
 use Rattle.std.proofs.Common.{◌≡◌, []}
 use Rattle.ec_tool.specs.declared.answer.Answer.{Answer}
-use Rattle.ec_tool.specs.declared.status.Status.TheVariants as statuses
-use Rattle.ec_tool.specs.Report.{load_report}
+use Rattle.ec_report.specs.declared.status.Status.TheVariants as statuses
+use Rattle.ec_report.specs.Report.{load_report}
 use Rattle.ec_tool.specs.Emerald.{RunsTo}
 use Rattle.ec_tool.specs.Running.{IsReported}
 use Rattle.ec_tool.proofs.Lifting.{if_ok_one, if_ok_two}

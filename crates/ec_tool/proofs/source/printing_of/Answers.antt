@@ -1,6 +1,6 @@
 use Rattle.std.proofs.Common.{subst, arith}
 use Rattle.ec_subset.specs.Leaving.{IsCause as IsLeavingCause}
-use Rattle.ec_tool.specs.Sources.{later}
+use Rattle.ec_tool.specs.Sources.IsRefused.{later}
 use Rattle.ec_tool.proofs.source.printing_of.Goals as goal
 
 pub place_of-requires : goal.place_of-requires

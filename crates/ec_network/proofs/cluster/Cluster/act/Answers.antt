@@ -1,6 +1,6 @@
 use Rattle.std.proofs.Common.{◌≡◌, [], ◌∷◌, refl, sym, ap, ◌∙◌}
 use Rattle.ec_world.specs.declared.class.ClassNo.{ClassNo}
-use Rattle.ec_world.specs.declared.stop.Stop.TheVariants.{New, Return, Print, Global}
+use Rattle.ec_ir.specs.declared.stop.Stop.TheVariants.{New, Return, Print, Global}
 use Rattle.ec_ir.specs.declared.code.StopRec.{StopRec}
 use Rattle.ec_network.specs.Kernel.Acts.{Entering, Printing, Defining, Creating, Returning, Finishing}
 use Rattle.ec_network.proofs.Stops.{same_stop, operand_is, can_print, can_define, leaves_self}

@@ -1,0 +1,109 @@
+//! Comparisons of the two values that are held last.
+ghost use Rattle.std.specs.Prelude.{◌≡◌, Bool, true, false, IfOk};
+ghost use Rattle.ec_meaning.specs.Running.{after, came, comparison_of, in_number_order};
+ghost use Rattle.ec_meaning.specs.Steps as spec;
+
+use crate::item::Item;
+use crate::state::{Outcome, State};
+use crate::todo::Todo;
+use ec_ast::Comparison;
+use ec_world::stop::{Order, Stop};
+use ec_world::value::{Text, Value};
+use std::alloc::AllocError;
+
+/// A comparison of the two values held last: of numbers at once, of texts by a stop, where it is more than whether they are
+/// the same. The error is want of memory.
+pub(crate) fn compare(
+    op: Comparison,
+    state: &mut State,
+    todo: &mut Todo,
+) -> Result<Outcome, AllocError>
+    ensures { IfOk result (λ o. came o state.new todo.new ≡ after state.old todo.old (spec.last_two state.old (spec.compare op state.old))) }
+{
+    match op {
+        Comparison::Same | Comparison::Equal => same_or_not(true, state, todo),
+        Comparison::NotSame | Comparison::NotEqual => same_or_not(false, state, todo),
+        Comparison::Less => order(Order::Less, state, todo),
+        Comparison::LessEqual => order(Order::LessEqual, state, todo),
+        Comparison::More => order(Order::More, state, todo),
+        Comparison::MoreEqual => order(Order::MoreEqual, state, todo),
+    }
+}
+
+/// Whether the two values held last are the same, or whether they aren't. The error is want of memory.
+fn same_or_not(wanted: bool, state: &mut State, todo: &Todo) -> Result<Outcome, AllocError>
+    ensures { IfOk result (λ o. came o state.new todo.now ≡ after state.old todo.now (spec.last_two state.old (λ under u v. spec.same_or_not under wanted (spec.are_same u v)))) }
+{
+    let Some((u, v)) = state.pop_two() else {
+        return Ok(Outcome::NoCase);
+    };
+    match are_same(u, v) {
+        Some(same) => state.gives(Value::Bool(same == wanted)),
+        None => Ok(Outcome::NoCase),
+    }
+}
+
+/// Whether two values are the same, where they are of one value type, or two references.
+fn are_same(u: Value, v: Value) -> Option<bool>
+    ensures { result ≡ spec.are_same u v }
+{
+    match (u, v) {
+        (Value::Int(a), Value::Int(b)) => Some(is_same_number(a, b)),
+        (Value::Bool(a), Value::Bool(b)) => Some(is_same_truth(a, b)),
+        (Value::Str(a), Value::Str(b)) => Some(is_same_text(&a, &b)),
+        (Value::Ref(a), Value::Ref(b)) => Some(a == b),
+        (Value::Ref(_), Value::Nil) | (Value::Nil, Value::Ref(_)) => Some(false),
+        (Value::Nil, Value::Nil) => Some(true),
+        _ => None,
+    }
+}
+
+fn is_same_number(a: i32, b: i32) -> bool
+    ensures { result ≡ spec.is_same_number a b }
+{
+    a == b
+}
+
+fn is_same_truth(a: bool, b: bool) -> bool
+    ensures { result ≡ spec.is_same_truth a b }
+{
+    a == b
+}
+
+fn is_same_text(a: &Text, b: &Text) -> bool
+    ensures { result ≡ spec.is_same_text a.now b.now }
+{
+    a.as_slice() == b.as_slice()
+}
+
+/// Whether two numbers stand to each other in an order.
+fn in_order(order: Order, a: i32, b: i32) -> bool
+    ensures { result ≡ in_number_order order a b }
+{
+    match order {
+        Order::Less => a < b,
+        Order::LessEqual => a <= b,
+        Order::More => a > b,
+        Order::MoreEqual => a >= b,
+    }
+}
+
+/// Whether the two numbers held last stand to each other in an order; two texts stay held, and their stop is next. The
+/// error is want of memory.
+#[tactic(auto, using(crate::proofs::Held::two_again))]
+fn order(order: Order, state: &mut State, todo: &mut Todo) -> Result<Outcome, AllocError>
+    ensures { IfOk result (λ o. came o state.new todo.new ≡ after state.old todo.old (spec.last_two state.old (spec.compare (comparison_of order) state.old))) }
+{
+    let Some((u, v)) = state.pop_two() else {
+        return Ok(Outcome::NoCase);
+    };
+    match (u, v) {
+        (Value::Int(a), Value::Int(b)) => state.gives(Value::Bool(in_order(order, a, b))),
+        (Value::Str(s), Value::Str(t)) => {
+            state.hold_two(Value::Str(s), Value::Str(t))?;
+            let stop = Stop::Compare { order };
+            todo.then(Item::Rest { stop, takes: 2 })
+        }
+        _ => Ok(Outcome::NoCase),
+    }
+}

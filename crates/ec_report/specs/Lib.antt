@@ -1,0 +1,4 @@
+pub mod Status
+pub mod Step
+pub mod Report
+pub mod ObjectLines

@@ -1,6 +1,0 @@
-use Rattle.std.proofs.Common.{◌≡◌, ◌++◌, drop}
-use Rattle.ec_tool.specs.Report.{process_lines}
-use Rattle.ec_tool.proofs.report.push_processes.Given as goal
-
-abbrev pub invariant-loop-p : goal.invariant-loop-p
-invariant-loop-p l = l.out.items ++ process_lines l.p (drop l.p l.statuses) ≡ l.initial.out.items ++ process_lines 0 l.statuses
