@@ -97,12 +97,12 @@ pub enum Expression {
     /// `(EXPRESSION)`, at its `(`.
     Parenthesised(Boxed<Expression>, Span),
     Constructor(Boxed<ObjectConstructor>),
-    /// `node.at[EXPRESSION]`
-    NodeAt(Boxed<Expression>, Span),
+    /// `node.at[EXPRESSION]`, at its first word; the last place is that of `at`.
+    NodeAt(Boxed<Expression>, Span, Span),
     /// `node.count`
     NodeCount(Span),
-    /// `vector.of[TYPE].create[EXPRESSION]`
-    NewVector(TypeName, Boxed<Expression>, Span),
+    /// `vector.of[TYPE].create[EXPRESSION]`, at its first word; the last place is that of `create`.
+    NewVector(TypeName, Boxed<Expression>, Span, Span),
     /// A primary and its links, at least one.
     Postfix(Boxed<Expression>, Items<Link>),
     Negative(Boxed<Expression>, Span),

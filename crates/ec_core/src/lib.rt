@@ -48,9 +48,9 @@ pub enum Expression {
     Itself,
     Read(Place),
     NodeCount,
-    /// The node with this number.
+    /// The node with this number, at the word `at`.
     NodeAt(Boxed<Expression>, At),
-    /// A vector of this type with so many elements.
+    /// A vector of this type with so many elements, at the word `create`.
     NewVector(StaticType, Boxed<Expression>, At),
     /// A new object of the constructor whose type has this number, with the values that it captures.
     Construct(usize, Items<Place>),
