@@ -1,5 +1,5 @@
 -- The longest symbol that a text begins with.
-use Rattle.std.proofs.Common.{◌≡◌, ℕ, zero, suc, ◌<◌, ◌≤◌, Bool, true, false, cond, not, List, [], ◌∷◌, length, take, map, inl, inr, Option, Some, None, refl, sym, ◌∙◌, ap, subst, arith}
+use Rattle.std.proofs.Common.{◌≡◌, ℕ, zero, suc, ◌<◌, ◌≤◌, Bool, true, false, cond, not, List, [], ◌∷◌, length, take, inl, inr, Option, Some, None, refl, sym, ◌∙◌, ap, subst, arith}
 use Rattle.std.specs.Prelude.{◌==◌, ◌&&◌, nat_le}
 use Rattle.std.specs.Char.{is_ascii_digit}
 use Rattle.std.specs.Cmp.Lexicographic.{same_text}
@@ -10,8 +10,7 @@ use Rattle.ec_lexer.specs.declared.error.LexFault.TheVariants.{StrayByte}
 use Rattle.ec_lexer.specs.declared.lexeme.Form.TheVariants as form
 use Rattle.ec_lexer.specs.declared.lexeme.Lexeme.TheVariants.{Token, Fault}
 use Rattle.ec_lexer.specs.declared.token.Symbol.{Symbol}
-use Rattle.ec_lexer.specs.declared.token.TheConstants.{SYMBOLS}
-use Rattle.ec_lexer.specs.Words.{Bytes, is_blank, begins_word, lookup_symbol, symbol_of}
+use Rattle.ec_lexer.specs.Words.{Bytes, is_blank, begins_word, symbols, lookup_symbol, symbol_of}
 use Rattle.ec_lexer.specs.Lexemes.{or_else, symbol_up_to}
 
 -- ---- what each row of the table passes, each symbol passes
@@ -33,9 +32,6 @@ abbrev begins_not : (ℕ → Bool) → Bytes → Bool
 begins_not test [] = false
 begins_not test (b ∷ bytes) = not (test b)
 
-abbrev rows : List (Bytes × Symbol)
-rows = map (λ row. (row.0.now, row.1)) SYMBOLS
-
 -- the first byte of a symbol starts nothing else
 pub record StartsSymbol (b : ℕ) : Type 0 where
   pub no_blank : is_blank b ≡ false
@@ -47,16 +43,16 @@ pub record StartsSymbol (b : ℕ) : Type 0 where
 pub starts_symbol : (b : ℕ) (bytes : Bytes) (s : Symbol) → symbol_of (b ∷ bytes) ≡ Some s → StartsSymbol b
 unfolding symbol_of
 starts_symbol b bytes s e = record {
-  no_blank = not-true (is_blank b) (passes (begins_not is_blank) rows (b ∷ bytes) s refl e);
-  no_comment = not-true (b == 37) (passes (begins_not (λ x. x == 37)) rows (b ∷ bytes) s refl e);
-  no_word = not-true (begins_word b) (passes (begins_not begins_word) rows (b ∷ bytes) s refl e);
-  no_integer = not-true (is_ascii_digit b) (passes (begins_not is_ascii_digit) rows (b ∷ bytes) s refl e);
-  no_string = not-true (b == 34) (passes (begins_not (λ x. x == 34)) rows (b ∷ bytes) s refl e);
+  no_blank = not-true (is_blank b) (passes (begins_not is_blank) symbols (b ∷ bytes) s refl e);
+  no_comment = not-true (b == 37) (passes (begins_not (λ x. x == 37)) symbols (b ∷ bytes) s refl e);
+  no_word = not-true (begins_word b) (passes (begins_not begins_word) symbols (b ∷ bytes) s refl e);
+  no_integer = not-true (is_ascii_digit b) (passes (begins_not is_ascii_digit) symbols (b ∷ bytes) s refl e);
+  no_string = not-true (b == 34) (passes (begins_not (λ x. x == 34)) symbols (b ∷ bytes) s refl e);
 }
 
 pub short_symbol : (bytes : Bytes) (s : Symbol) → symbol_of bytes ≡ Some s → length bytes ≤ 3
 unfolding symbol_of
-short_symbol bytes s e = leb-true (length bytes) 3 (passes (λ x. nat_le (length x) 3) rows bytes s refl e)
+short_symbol bytes s e = leb-true (length bytes) 3 (passes (λ x. nat_le (length x) 3) symbols bytes s refl e)
 
 pub no_empty_symbol : symbol_of [] ≡ None
 unfolding symbol_of

@@ -1,8 +1,8 @@
-use Rattle.std.proofs.Common.{rules, arith}
-use Rattle.std.proofs.lemmas.Grind.{common_steps}
-use Rattle.ec_lexer.specs.Words.{reserved}
+use Rattle.std.proofs.Common.{◌∙◌, ap}
+use Rattle.ec_lexer.specs.Words.{reserved, lookup_word}
+use Rattle.ec_lexer.proofs.Tables.{reserved_is}
 use Rattle.ec_lexer.proofs.token.reserved_word.Goals as goal
 
 pub returns : goal.returns
 unfolding reserved
-returns c = first_of (search rules, grind (arith, common_steps))
+returns c = c.find_word.ensures ∙ ap (λ rows. lookup_word rows c.args.word.now) reserved_is
