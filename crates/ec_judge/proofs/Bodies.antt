@@ -12,7 +12,7 @@ use Rattle.ec_judge.proofs.Layers.{same_walked}
 use Rattle.ec_judge.proofs.Walks.{walk_of, walked_walked}
 use Rattle.ec_rules.specs.Captures.{captured, uses_outside}
 use Rattle.ec_rules.specs.Judging.{body_finished, body_with, finished_if, first_finished, member_finished, members_finished, process_finished, process_with, uses_within}
-use Rattle.ec_rules.specs.Limits.{many_fields, too_large}
+use Rattle.ec_rules.specs.Limits.{many_fields, measured}
 use Rattle.ec_rules.specs.Members.{fields_of, object_with, parameter_entries, result_entries, scope_of, scope_of_operation}
 use Rattle.ec_rules.specs.Parts.{Finished, Holder, variable, constant, operation, OperationPart, Part, ProcessPart, faults_in, uses_in, value_in}
 use Rattle.ec_rules.specs.Rules.{noted}
@@ -74,41 +74,45 @@ operation_walk w end o inner outer faults i e s f =
 pub process_walk : (w end : Walk) (p : ProcessPart) (inner : Scope) (faults : Faults) →
     inner ≡ in_a_process w.scope →
     end ≡ over_finished (in_scope w inner) (p.block inner) →
-    faults ≡ noted end.faults (too_large p.at 0 (p.block inner).done) →
+    faults ≡ noted end.faults (measured end.scope.table p.at 0 (p.block inner).done) →
     walk_of end.scope faults end.uses ≡ behind_process w (Some p)
 unfolding walked
 process_walk w end p inner faults i e f =
     let first = in_a_process w.scope in
     let block = p.block first in
-    rw (f, e, i) (ap (λ faults. walk_of first faults (w.uses ++ block.uses)) (noted_joined w.faults block.faults (too_large p.at 0 block.done)))
+    rw (f, e, i)
+    (ap (λ faults. walk_of first faults (w.uses ++ block.uses))
+    (noted_joined w.faults block.faults (measured w.scope.table p.at 0 block.done)))
 
 module _ (w : Walk) (holder : Holder) where
   abbrev first_of : Finished
   first_of = first_finished w.scope holder
 
-  abbrev measured : List StaticFault
-  measured = too_large holder.name.at 0 first_of.done
+  abbrev own : List StaticFault
+  own = measured w.scope.table holder.name.at 0 first_of.done
 
   abbrev behind_first : Walk
-  behind_first = walk_of w.scope (noted w.faults (first_of.faults ++ measured)) (w.uses ++ first_of.uses)
+  behind_first = walk_of w.scope (noted w.faults (first_of.faults ++ own)) (w.uses ++ first_of.uses)
 
   by_process : (p : Option ProcessPart) →
       behind_process behind_first p
-      ≡ in_scope (over_finished w (body_with holder.name.at first_of (process_finished w.scope p))) (scope_behind p w.scope)
+      ≡ in_scope (over_finished w (body_with w.scope.table holder.name.at first_of (process_finished w.scope p))) (scope_behind p w.scope)
   unfolding walked
-  by_process None = ap (λ fs. walk_of w.scope (noted w.faults fs) (w.uses ++ first_of.uses)) (sym (append-nil (first_of.faults ++ measured)))
-      ∙ ap (walk_of w.scope (noted w.faults ((first_of.faults ++ measured) ++ []))) (sym (ap (λ us. w.uses ++ us) (append-nil first_of.uses)))
+  by_process None = ap (λ fs. walk_of w.scope (noted w.faults fs) (w.uses ++ first_of.uses)) (sym (append-nil (first_of.faults ++ own)))
+      ∙ ap (walk_of w.scope (noted w.faults ((first_of.faults ++ own) ++ []))) (sym (ap (λ us. w.uses ++ us) (append-nil first_of.uses)))
   by_process (Some p) =
       let block = p.block (in_a_process w.scope) in
-      let rest = process_with p.at block in
-      ap (λ faults. walk_of (in_a_process w.scope) faults ((w.uses ++ first_of.uses) ++ block.uses)) (noted_joined w.faults (first_of.faults ++ measured) rest.faults)
-      ∙ ap (walk_of (in_a_process w.scope) (noted w.faults ((first_of.faults ++ measured) ++ rest.faults))) (append_assoc w.uses first_of.uses block.uses)
+      let rest = process_with w.scope.table p.at block in
+      ap (λ faults. walk_of (in_a_process w.scope) faults ((w.uses ++ first_of.uses) ++ block.uses))
+      (noted_joined w.faults (first_of.faults ++ own) rest.faults)
+      ∙ ap (walk_of (in_a_process w.scope) (noted w.faults ((first_of.faults ++ own) ++ rest.faults)))
+      (append_assoc w.uses first_of.uses block.uses)
 
   -- the members, the `initially` block, the measure of operation 0, the process section
   pub body_walk : (members first end : Walk) (faults : Faults) →
       members ≡ over_finished w (members_finished w.scope holder.is_monitored holder.body.members) →
       first ≡ over_finished members (finished_if w.scope holder.body.initially) →
-      faults ≡ noted first.faults (too_large holder.name.at 0 first_of.done) →
+      faults ≡ noted first.faults (measured first.scope.table holder.name.at 0 first_of.done) →
       end ≡ behind_process (walk_of first.scope faults first.uses) holder.body.process →
       end ≡ behind_body w holder
   unfolding walked
@@ -118,8 +122,8 @@ module _ (w : Walk) (holder : Holder) where
       rw (e, f, i, m)
       (ap (λ t. behind_process t holder.body.process)
       (ap (λ faults. walk_of w.scope faults ((w.uses ++ ms.uses) ++ is.uses))
-      (ap (λ x. noted x measured) (noted_joined w.faults ms.faults is.faults) ∙ noted_joined w.faults first_of.faults measured)
-      ∙ ap (walk_of w.scope (noted w.faults (first_of.faults ++ measured))) (append_assoc w.uses ms.uses is.uses))
+      (ap (λ x. noted x own) (noted_joined w.faults ms.faults is.faults) ∙ noted_joined w.faults first_of.faults own)
+      ∙ ap (walk_of w.scope (noted w.faults (first_of.faults ++ own))) (append_assoc w.uses ms.uses is.uses))
       ∙ by_process holder.body.process)
 
 -- ---- object constructors and classes

@@ -32,9 +32,9 @@ one_operand w p own = simp append-nil refl
 pub parenthesised_walk : (needed : Bool) (w : Walk) (p : Part) (at : Span) → over_part w p ≡ over_layer needed w (Expression-F.Parenthesised p at)
 parenthesised_walk needed w p at = simp append-nil refl
 
-pub node_at_walk : (needed : Bool) (w : Walk) (p : Part) (at : Span) →
-    over_operand w p (wants wanted.Integer (value_in w.scope p)) ≡ over_layer needed w (Expression-F.NodeAt p at)
-node_at_walk needed w p at = one_operand w p (wants wanted.Integer (value_in w.scope p))
+pub node_at_walk : (needed : Bool) (w : Walk) (p : Part) (at word : Span) →
+    over_operand w p (wants wanted.Integer (value_in w.scope p)) ≡ over_layer needed w (Expression-F.NodeAt p at word)
+node_at_walk needed w p at word = one_operand w p (wants wanted.Integer (value_in w.scope p))
 
 pub negative_walk : (needed : Bool) (w : Walk) (p : Part) (at : Span) →
     over_operand w p (wants wanted.Integer (value_in w.scope p)) ≡ over_layer needed w (Expression-F.Negative p at)

@@ -8,7 +8,6 @@ use Rattle.ec_ast.specs.declared.Program.{Program}
 use Rattle.ec_ast.specs.declared.TypeName.{TypeName}
 use Rattle.ec_conform.specs.Declarations.{declarations_of}
 use Rattle.ec_conform.specs.Table.{IsTable, Table}
-use Rattle.ec_conform.specs.declared.declared.Declarations.{Declarations}
 use Rattle.ec_judge.specs.Blocks as blocks
 use Rattle.ec_judge.specs.Holders.{over_holder}
 use Rattle.ec_judge.specs.Programs as programs
@@ -25,7 +24,6 @@ use Rattle.ec_rules.specs.EndNames.{differs, name_of_constant}
 use Rattle.ec_rules.specs.Faults.{HasFaults, StaticFaults, constants_done, faults_in_constant, faults_of_constants, faults_of_program, scope_of_program, too_large_program, value_done}
 use Rattle.ec_rules.specs.Forms.{Form}
 use Rattle.ec_rules.specs.Judging.{faults_in_holder, uses_within}
-use Rattle.ec_rules.specs.Limits.{many_operations, many_types}
 use Rattle.ec_rules.specs.Lists.{each, each_of}
 use Rattle.ec_rules.specs.Names.{unknown_types}
 use Rattle.ec_rules.specs.Operands.{wrong_constant}
@@ -119,28 +117,26 @@ too_large_by_done : (scope : Scope) (cs : List ConstantPart) → programs.too_la
 too_large_by_done scope [] = refl
 too_large_by_done scope (c ∷ cs) = refl
 
-pub first_of_all : (declared : Declarations) (scope : Scope) (cs : List ConstantPart) (first behind last : Faults) (done : Done) →
+pub first_of_all : (scope : Scope) (cs : List ConstantPart) (first behind last : Faults) (done : Done) →
     first ≡ no_faults → behind ≡ noted first (each (faults_of scope) cs) → done ≡ constants_done scope cs →
-    last ≡ noted behind (program_faults declared cs done) → last.first ≡ least_of None (faults_of_constants declared scope cs)
-first_of_all declared scope cs first behind last done n b d l =
+    last ≡ noted behind (program_faults cs done) → last.first ≡ least_of None (faults_of_constants scope cs)
+first_of_all scope cs first behind last done n b d l =
     let all = each (faults_of scope) cs in
-    let others = many_types declared.types ++ many_operations declared.operations in
     ap (λ (f : Faults). f.first)
     (l
-    ∙ ap (λ x. noted x (program_faults declared cs done)) (b ∙ ap (λ x. noted x all) n)
-    ∙ noted_joined no_faults all (program_faults declared cs done)
-    ∙ ap (λ x. noted no_faults (all ++ program_faults declared cs x)) d
-    ∙ ap (λ x. noted no_faults (all ++ (doubled (map (λ c. c.name) cs) ++ (x ++ others)))) (too_large_by_done scope cs))
+    ∙ ap (λ x. noted x (program_faults cs done)) (b ∙ ap (λ x. noted x all) n)
+    ∙ noted_joined no_faults all (program_faults cs done)
+    ∙ ap (λ x. noted no_faults (all ++ program_faults cs x)) d
+    ∙ ap (λ x. noted no_faults (all ++ (doubled (map (λ c. c.name) cs) ++ x))) (too_large_by_done scope cs))
 
-pub first_found : (program : Program) (table : Table) (declared : Declarations) (scope : Scope) (cs : List Constant) (first : Option StaticFault) →
-    declared ≡ declarations_of program → IsTable declared.types table → scope ≡ scope_of_program table (map constant_part cs) →
-    cs ≡ program.constants → first ≡ least_of None (faults_of_constants declared scope (map constant_part cs)) →
+pub first_found : (program : Program) (table : Table) (scope : Scope) (cs : List Constant) (first : Option StaticFault) →
+    IsTable (declarations_of program) table → scope ≡ scope_of_program table (map constant_part cs) →
+    cs ≡ program.constants → first ≡ least_of None (faults_of_constants scope (map constant_part cs)) →
     (faults : List StaticFault) × HasFaults program faults × (first ≡ slice_get faults 0)
-first_found program table declared scope cs first e t s c f =
+first_found program table scope cs first t s c f =
     let least =
     f
-    ∙ ap (λ x. least_of None (faults_of_constants declared x (map constant_part cs))) s
-    ∙ ap (λ ys. least_of None (faults_of_constants declared (scope_of_program table (map constant_part ys)) (map constant_part ys))) c
-    ∙ ap (λ d. least_of None (faults_of_constants d (scope_of_program table (map constant_part program.constants)) (map constant_part program.constants))) e
+    ∙ ap (λ x. least_of None (faults_of_constants x (map constant_part cs))) s
+    ∙ ap (λ ys. least_of None (faults_of_constants (scope_of_program table (map constant_part ys)) (map constant_part ys))) c
     ∙ sym (first_in_order (faults_of_program table program)) in
-    (StaticFaults table program, (table, subst (λ (d : Declarations). IsTable d.types table) e t, refl), least)
+    (StaticFaults table program, (table, t, refl), least)

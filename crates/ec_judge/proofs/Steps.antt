@@ -308,20 +308,21 @@ module _ (w v : Walk) (x : Expression) (head : Judged) (needed : Bool) (e : v �
       ∙ or_walk w (part_of x) needed more
 
 module _ (w v : Walk) (p : Part) (of : TypeName) (at : Span) (found : Judged) (e : v ≡ over_part w p) (f : found ≡ value_in w.scope p) where
-  pub new_vector_found : (made : Option StaticType) (nodes : ℕ) → made ≡ known (vector_of (written_in v.scope of)) → nodes ≡ plus 1 found.nodes →
-      looked_of at made found.height nodes ≡ looked true w.scope (Expression-F.NewVector of p at)
+  pub new_vector_found : (word : Span) (made : Option StaticType) (nodes : ℕ) →
+      made ≡ known (vector_of (written_in v.scope of)) → nodes ≡ plus 1 found.nodes →
+      looked_of at made found.height nodes ≡ looked true w.scope (Expression-F.NewVector of p at word)
   unfolding walked
-  new_vector_found made nodes m n = rw (n, m, f, e) refl
+  new_vector_found word made nodes m n = rw (n, m, f, e) refl
 
   pub view_found : (seen : Option StaticType) (nodes : ℕ) → seen ≡ known (written_in v.scope of) → nodes ≡ plus 1 found.nodes →
       looked_of at seen found.height nodes ≡ looked true w.scope (Expression-F.View p of at)
   unfolding walked
   view_found seen nodes m n = rw (n, m, f, e) refl
 
-  pub new_vector_walked : (next : Walk) → next ≡ noting v (unknown_types v.scope.table of ++ wants wanted.Integer found) →
-      next ≡ over_layer true w (Expression-F.NewVector of p at)
+  pub new_vector_walked : (word : Span) (next : Walk) → next ≡ noting v (unknown_types v.scope.table of ++ wants wanted.Integer found) →
+      next ≡ over_layer true w (Expression-F.NewVector of p at word)
   unfolding walked
-  new_vector_walked next n =
+  new_vector_walked word next n =
       rw (n, f, e)
       (walked_walked w (faults_in w.scope p) (unknown_types w.scope.table of ++ wants wanted.Integer (value_in w.scope p)) (uses_in w.scope p) []
       ∙ same_walked w _ _ _ _ (simp (append-nil, append_assoc) refl) (simp append-nil refl))

@@ -14,11 +14,11 @@ use Rattle.ec_judge.specs.Walks.{walked, over_finished, in_scope}
 use Rattle.ec_judge.specs.declared.holders.Heading.{Heading}
 use Rattle.ec_rules.specs.Attached.{is_of_value}
 use Rattle.ec_rules.specs.Captures.{Use, captured, uses_outside}
-use Rattle.ec_rules.specs.Doubled.{doubled_in_body, doubled_in_operation, doubled_type}
+use Rattle.ec_rules.specs.Doubled.{doubled_in_body, doubled_in_operation}
 use Rattle.ec_rules.specs.EndNames.{end_of_holder, end_of_operation}
 use Rattle.ec_rules.specs.Forms.{Form}
-use Rattle.ec_rules.specs.Judging.{body_finished, faults_in_holder, process_with, uses_within}
-use Rattle.ec_rules.specs.Limits.{count_of, many_fields, many_parameters, too_large, variables_of as variables_of_operation}
+use Rattle.ec_rules.specs.Judging.{body_finished, faults_in_holder, process_with, type_faults, uses_within}
+use Rattle.ec_rules.specs.Limits.{count_of, many_fields, many_parameters, measured, variables_of as variables_of_operation}
 use Rattle.ec_rules.specs.Lists.{each, each_of, plus}
 use Rattle.ec_rules.specs.Members.{conditions_in, constant_type, operations_in, parameter_names}
 use Rattle.ec_rules.specs.Names.{unknown_in_operation, unknown_in_parameters, unknown_types}
@@ -90,7 +90,7 @@ variables_of parameters returned = plus (length parameters) (count_of returned)
 abbrev pub operation_faults : Table → OperationPart → Done → List StaticFault
 operation_faults table o done =
     (doubled_in_operation o
-    ++ (end_of_operation o ++ (many_parameters o.parameters ++ too_large o.name.at (variables_of_operation o) done)))
+    ++ (end_of_operation o ++ (many_parameters o.parameters ++ measured table o.name.at (variables_of_operation o) done)))
     ++ unknown_in_operation table o.parameters o.result
 
 -- ---- bodies
@@ -102,7 +102,7 @@ scope_behind (Some p) scope = in_a_process scope
 abbrev pub behind_process : Walk → Option ProcessPart → Walk
 behind_process walk None = walk
 behind_process walk (Some p) =
-    in_scope (over_finished walk (process_with p.at (p.block (in_a_process walk.scope)))) (in_a_process walk.scope)
+    in_scope (over_finished walk (process_with walk.scope.table p.at (p.block (in_a_process walk.scope)))) (in_a_process walk.scope)
 
 abbrev pub behind_body : Walk → Holder → Walk
 behind_body walk holder = in_scope (over_finished walk (body_finished walk.scope holder)) (scope_behind holder.body.process walk.scope)
@@ -110,7 +110,7 @@ behind_body walk holder = in_scope (over_finished walk (body_finished walk.scope
 abbrev pub heading_faults : Table → Holder → List StaticFault
 heading_faults table holder =
     unknown_in_parameters table holder.parameters
-    ++ (doubled_type table holder.name ++ (doubled_in_body holder ++ (end_of_holder holder ++ many_parameters holder.parameters)))
+    ++ (type_faults table holder.name ++ (doubled_in_body holder ++ (end_of_holder holder ++ many_parameters holder.parameters)))
 
 -- behind all that stands in a body, with the names that are used there
 abbrev pub behind_rules : Walk → List Use → Holder → Walk

@@ -4,17 +4,16 @@ use Rattle.ec_ast.specs.declared.Name.{Name}
 use Rattle.ec_ast.specs.declared.TypeName.{TypeName}
 use Rattle.ec_ast.specs.declared.Typeobject.{Typeobject}
 use Rattle.ec_conform.specs.Table.{Table}
-use Rattle.ec_conform.specs.declared.declared.Declarations.{Declarations}
 use Rattle.ec_judge.specs.Blocks.{wrong_constant}
 use Rattle.ec_judge.specs.Walks.{walked}
 use Rattle.ec_judge.specs.declared.walk.Walk.{Walk}
 use Rattle.ec_rules.specs.Captures.{uses_outside}
-use Rattle.ec_rules.specs.Doubled.{doubled, doubled_in_typeobject, doubled_type}
+use Rattle.ec_rules.specs.Doubled.{doubled, doubled_in_typeobject}
 use Rattle.ec_rules.specs.EndNames.{end_of_typeobject, name_of_constant}
 use Rattle.ec_rules.specs.Faults.{faults_in_constant}
 use Rattle.ec_rules.specs.Forms.{Form}
-use Rattle.ec_rules.specs.Judging.{faults_in_holder, uses_within}
-use Rattle.ec_rules.specs.Limits.{many_operations, many_types, too_large}
+use Rattle.ec_rules.specs.Judging.{faults_in_holder, type_faults, uses_within}
+use Rattle.ec_rules.specs.Limits.{too_large}
 use Rattle.ec_rules.specs.Lists.{each, each_of}
 use Rattle.ec_rules.specs.Names.{unknown_in_signature, unknown_types}
 use Rattle.ec_rules.specs.Parts.{ConstantPart, Holder}
@@ -34,7 +33,7 @@ behind_class walk name holder =
 
 abbrev pub typeobject_faults : Table → Name → Typeobject → List StaticFault
 typeobject_faults table name t =
-    (each (unknown_in_signature table) t.operations ++ (doubled_type table t.name ++ (doubled_in_typeobject t ++ end_of_typeobject t)))
+    (each (unknown_in_signature table) t.operations ++ (type_faults table t.name ++ (doubled_in_typeobject t ++ end_of_typeobject t)))
     ++ name_of_constant name t.name
 
 abbrev pub faults_of : Scope → ConstantPart → List StaticFault
@@ -46,7 +45,5 @@ abbrev pub too_large_program : List ConstantPart → Done → List StaticFault
 too_large_program [] done = []
 too_large_program (c ∷ cs) done = too_large c.at 0 done
 
-abbrev pub program_faults : Declarations → List ConstantPart → Done → List StaticFault
-program_faults declared constants done =
-    doubled (map (λ c. c.name) constants)
-    ++ (too_large_program constants done ++ (many_types declared.types ++ many_operations declared.operations))
+abbrev pub program_faults : List ConstantPart → Done → List StaticFault
+program_faults constants done = doubled (map (λ c. c.name) constants) ++ too_large_program constants done

@@ -104,8 +104,10 @@ fn look<'a>(
         Expression::Variable(name) => look_variable(walk, name),
         Expression::Parenthesised(e, at) => look_parenthesised(alloc, walk, e.get(), *at),
         Expression::Constructor(object) => judge_object(alloc, walk, object.get()),
-        Expression::NodeAt(e, at) => look_prefix(alloc, walk, e.get(), *at, Wanted::Integer, NODE),
-        Expression::NewVector(of, e, at) => look_new_vector(alloc, walk, e.get(), of, *at),
+        Expression::NodeAt(e, at, _) => {
+            look_prefix(alloc, walk, e.get(), *at, Wanted::Integer, NODE)
+        }
+        Expression::NewVector(of, e, at, _) => look_new_vector(alloc, walk, e.get(), of, *at),
         Expression::Postfix(head, links) => {
             let first = look_head(alloc, walk, head.get(), links.as_slice())?;
             look_links(alloc, walk, needed, first, links.as_slice())
@@ -269,8 +271,8 @@ fn look_new_vector<'a>(
     of: &TypeName,
     at: Span,
 ) -> Result<Looked, AllocError>
-    ensures value { IfOk result (λ l. l ≡ spec.looked true walk.old.scope (Expression-F.NewVector of.now (part_of size.now) at)) }
-    ensures walk { OnOk result (walk.new ≡ spec.over_layer true walk.old (Expression-F.NewVector of.now (part_of size.now) at)) }
+    ensures value { (word : Span) → IfOk result (λ l. l ≡ spec.looked true walk.old.scope (Expression-F.NewVector of.now (part_of size.now) at word)) }
+    ensures walk { (word : Span) → OnOk result (walk.new ≡ spec.over_layer true walk.old (Expression-F.NewVector of.now (part_of size.now) at word)) }
 {
     let v = value(alloc, walk, size)?;
     let made = new_vector(walk, of, &v)?;

@@ -36,9 +36,9 @@ use ec_rules::captures::{Uses, captured, use_outside};
 use ec_rules::faults::Faults;
 use ec_rules::form::{Form, constant_type, form_of};
 use ec_rules::judged::{Done, Judged};
-use ec_rules::measures::{few_parameters, plus, small_operation};
+use ec_rules::measures::{few_parameters, measured_operation, plus};
 use ec_rules::names::{
-    distinct, first_type, known_operation, known_parameters, known_type, known_type_if, same_name,
+    distinct, known_operation, known_parameters, known_type, known_type_if, new_type, same_name,
 };
 use ec_scopes::{Entries, Object, Scope};
 use sqlite_items::Items;
@@ -567,7 +567,8 @@ fn operation_rules(
     distinct(alloc, faults, names.as_slice())?;
     same_name(faults, &o.name, &o.end_name);
     few_parameters(faults, parameters);
-    small_operation(faults, o.name.at, variables_of(parameters, &o.result), done);
+    let variables = variables_of(parameters, &o.result);
+    measured_operation(faults, table, o.name.at, variables, done);
     known_operation(faults, table, parameters, &o.result)
 }
 
@@ -622,7 +623,7 @@ fn judge_process<'a>(
         Some(p) => {
             walk.scope.set_in_process();
             let done = judge_block(alloc, walk, &p.block)?;
-            small_operation(&mut walk.faults, p.at, 0, &done);
+            measured_operation(&mut walk.faults, &walk.scope.table, p.at, 0, &done);
             Ok(())
         }
     }
@@ -640,7 +641,13 @@ fn judge_body<'a>(
 {
     let members = judge_members(alloc, walk, body.members.as_slice(), heading.is_monitored)?;
     let first = members.both(judge_block_if(alloc, walk, &body.initially)?);
-    small_operation(&mut walk.faults, heading.name.at, 0, &first);
+    measured_operation(
+        &mut walk.faults,
+        &walk.scope.table,
+        heading.name.at,
+        0,
+        &first,
+    );
     judge_process(alloc, walk, &body.process)
 }
 
@@ -665,7 +672,7 @@ fn heading_rules(
     ensures { OnOk result (faults.new ≡ noted faults.old (holders.heading_faults table.now (holders.holder_of heading.entry body.now))) }
 {
     known_parameters(faults, table, heading.parameters)?;
-    first_type(faults, table, heading.name)?;
+    new_type(faults, table, heading.name)?;
     let mut names = names_of_parameters(alloc, heading.parameters)?;
     add_member_names(&mut names, body.members.as_slice())?;
     distinct(alloc, faults, names.as_slice())?;

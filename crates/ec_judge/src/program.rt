@@ -21,14 +21,13 @@ use ec_ast::{
     Class, Constant, ConstantValue, Expression, Name, Program, Signature, TypeName, Typeobject,
 };
 use ec_conform::TypeTable;
-use ec_conform::declared::{Declarations, declarations_of};
 use ec_rules::StaticFault;
 use ec_rules::captures::Uses;
 use ec_rules::faults::Faults;
 use ec_rules::form::{Form, constant_type, form_of};
 use ec_rules::judged::{Done, Judged};
-use ec_rules::measures::{few_operations, few_types, small_operation};
-use ec_rules::names::{distinct, first_type, known_signature, known_type_if, same_name};
+use ec_rules::measures::small_operation;
+use ec_rules::names::{distinct, known_signature, known_type_if, new_type, same_name};
 use ec_scopes::{ClassMeant, Global as Meant, Globals, Meaning, Scope};
 use sqlite_items::Items;
 use std::alloc::{AllocError, Global};
@@ -175,7 +174,7 @@ fn typeobject_rules(
     ensures { OnOk result (faults.new ≡ noted faults.old (programs.typeobject_faults table.now name.now t.now)) }
 {
     known_signatures(faults, table, t.operations.as_slice())?;
-    first_type(faults, table, &t.name)?;
+    new_type(faults, table, &t.name)?;
     let names = names_of_signatures(alloc, t.operations.as_slice())?;
     distinct(alloc, faults, names.as_slice())?;
     same_name(faults, &t.name, &t.end_name);
@@ -249,17 +248,14 @@ fn small_program(faults: &mut Faults, constants: &[Constant], done: &Done)
 fn program_rules(
     alloc: Global,
     faults: &mut Faults,
-    declared: &Declarations,
     constants: &[Constant],
     done: &Done,
 ) -> Result<(), AllocError>
-    ensures { OnOk result (faults.new ≡ noted faults.old (programs.program_faults declared.now (map constant_part constants.now) done.now)) }
+    ensures { OnOk result (faults.new ≡ noted faults.old (programs.program_faults (map constant_part constants.now) done.now)) }
 {
     let names = names_of_constants(alloc, constants)?;
     distinct(alloc, faults, names.as_slice())?;
     small_program(faults, constants, done);
-    few_types(faults, declared.types.as_slice());
-    few_operations(faults, declared.operations.as_slice());
     Ok(())
 }
 
@@ -267,10 +263,9 @@ fn program_rules(
 pub fn judged_program<'a>(
     alloc: Global,
     scope: Scope,
-    declared: &Declarations,
     constants: &'a [Constant],
 ) -> Result<Walk<'a>, AllocError>
-    ensures first { IfOk result (λ walk. walk.faults.first ≡ least_of None (rules.faults_of_constants declared.now scope (map constant_part constants.now))) }
+    ensures first { IfOk result (λ walk. walk.faults.first ≡ least_of None (rules.faults_of_constants scope (map constant_part constants.now))) }
     ensures scope { IfOk result (λ walk. walk.scope ≡ scope) }
 {
     let mut walk = Walk {
@@ -279,7 +274,7 @@ pub fn judged_program<'a>(
         uses: Uses::new(alloc),
     };
     let done = judge_constants(alloc, &mut walk, constants)?;
-    program_rules(alloc, &mut walk.faults, declared, constants, &done)?;
+    program_rules(alloc, &mut walk.faults, constants, &done)?;
     Ok(walk)
 }
 
@@ -287,10 +282,9 @@ pub fn judged_program<'a>(
 pub fn first_fault(alloc: Global, program: &Program) -> Result<Option<StaticFault>, AllocError>
     ensures { IfOk result (λ first. (faults : List StaticFault) × HasFaults program.now faults × (first ≡ slice_get faults 0)) }
 {
-    let declared = declarations_of(alloc, program)?;
-    let table = TypeTable::build(alloc, &declared)?;
+    let table = TypeTable::build(alloc, program)?;
     let constants = program.constants.as_slice();
     let scope = scope_of(alloc, table, constants)?;
-    let walk = judged_program(alloc, scope, &declared, constants)?;
+    let walk = judged_program(alloc, scope, constants)?;
     Ok(walk.faults.first)
 }

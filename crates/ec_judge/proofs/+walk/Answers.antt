@@ -23,7 +23,7 @@ use Rattle.ec_rules.specs.Captures.{captured}
 use Rattle.ec_rules.specs.Forms.{form_seen}
 use Rattle.ec_rules.specs.Judging as judging
 use Rattle.ec_rules.specs.Judging.{block_finished, member_finished, members_finished, statement_finished}
-use Rattle.ec_rules.specs.Limits.{too_large}
+use Rattle.ec_rules.specs.Limits.{measured}
 use Rattle.ec_rules.specs.Members.{parameter_entries, result_entries, scope_of, scope_of_operation}
 use Rattle.ec_rules.specs.Operands as operands
 use Rattle.ec_rules.specs.Operands.{added_in}
@@ -568,13 +568,19 @@ expressions::look-returns-in-NodeAt-clause-value t c = rw (c.in-NodeAt.is, equat
 pub expressions::look-returns-in-NodeAt-clause-walk : goal.expressions::look-returns-in-NodeAt-clause-walk
 expressions::look-returns-in-NodeAt-clause-walk t c =
     rw (c.in-NodeAt.is, equations.node_at_layer, ← c.get-in-NodeAt.ensures)
-    (subst (λ x. OnOk c.look_prefix.result (c.look_prefix.new.walk ≡ x)) (layers.node_at_walk c.args.needed c.args.walk.now (part_of c.get-in-NodeAt.result.now) c.in-NodeAt.at) c.look_prefix.ensures.walk)
+    (subst (λ x. OnOk c.look_prefix.result (c.look_prefix.new.walk ≡ x))
+    (layers.node_at_walk c.args.needed c.args.walk.now (part_of c.get-in-NodeAt.result.now) c.in-NodeAt.at c.in-NodeAt.field-2)
+    c.look_prefix.ensures.walk)
 
 pub expressions::look-returns-in-NewVector-clause-value : goal.expressions::look-returns-in-NewVector-clause-value
-expressions::look-returns-in-NewVector-clause-value t c = rw (c.in-NewVector.is, equations.new_vector_layer, ← c.get-in-NewVector.ensures) c.look_new_vector.ensures.value
+expressions::look-returns-in-NewVector-clause-value t c =
+    rw (c.in-NewVector.is, equations.new_vector_layer, ← c.get-in-NewVector.ensures)
+    (c.look_new_vector.ensures.value c.in-NewVector.field-3)
 
 pub expressions::look-returns-in-NewVector-clause-walk : goal.expressions::look-returns-in-NewVector-clause-walk
-expressions::look-returns-in-NewVector-clause-walk t c = rw (c.in-NewVector.is, equations.new_vector_layer, ← c.get-in-NewVector.ensures) c.look_new_vector.ensures.walk
+expressions::look-returns-in-NewVector-clause-walk t c =
+    rw (c.in-NewVector.is, equations.new_vector_layer, ← c.get-in-NewVector.ensures)
+    (c.look_new_vector.ensures.walk c.in-NewVector.field-3)
 
 pub expressions::look-returns-in-Negative-clause-value : goal.expressions::look-returns-in-Negative-clause-value
 expressions::look-returns-in-Negative-clause-value t c = rw (c.in-Negative.is, equations.negative_layer, ← c.get-in-Negative.ensures) c.look_prefix-in-Negative.ensures.value
@@ -693,14 +699,14 @@ expressions::look_comparison-returns-clause-walk t c =
     (c.comparison.ensures ∙ ap (λ b. noted c.value.new.walk.faults (operands.comparison_faults c.args.op c.args.a.now b)) c.in_ok-b.ensures.value)
 
 pub expressions::look_new_vector-returns-clause-value : goal.expressions::look_new_vector-returns-clause-value
-expressions::look_new_vector-returns-clause-value t c =
+expressions::look_new_vector-returns-clause-value t c = λ word.
     steps.new_vector_found c.args.walk.now c.value.new.walk (part_of c.args.size.now) c.args.of.now c.args.at c.in_ok-v.v c.in_ok-v.ensures.walk c.in_ok-v.ensures.value
-    c.in_ok-made.made c.plus.result c.in_ok-made.ensures.value c.plus.ensures
+    word c.in_ok-made.made c.plus.result c.in_ok-made.ensures.value c.plus.ensures
 
 pub expressions::look_new_vector-returns-clause-walk : goal.expressions::look_new_vector-returns-clause-walk
-expressions::look_new_vector-returns-clause-walk t c =
+expressions::look_new_vector-returns-clause-walk t c = λ word.
     steps.new_vector_walked c.args.walk.now c.value.new.walk (part_of c.args.size.now) c.args.of.now c.args.at c.in_ok-v.v c.in_ok-v.ensures.walk c.in_ok-v.ensures.value
-    c.new_vector.new.walk c.in_ok-made.ensures.walk
+    word c.new_vector.new.walk c.in_ok-made.ensures.walk
 
 pub expressions::look_prefix-returns-clause-walk : goal.expressions::look_prefix-returns-clause-walk
 expressions::look_prefix-returns-clause-walk t c =
@@ -783,16 +789,17 @@ holders::judge_body-returns t c =
     let members = ap (map member_of) c.as_slice.ensures ∙ sym (ap (λ (b : BodyPart). b.members) step) in
     let initially = sym (ap (λ (b : BodyPart). b.initially) step) in
     let scope = steps.finished_scope w c.judge_members.new.walk _ _ c.in_ok-members.ensures.walk in
-    let first = walk_of c.judge_block_if.new.walk.scope c.small_operation.new.faults c.judge_block_if.new.walk.uses in
+    let first = walk_of c.judge_block_if.new.walk.scope c.measured_operation.new.faults c.judge_block_if.new.walk.uses in
     subst (λ x. OnOk c.judge_process.result (c.judge_process.new.walk ≡ x))
     (ap (holders.behind_process first) (sym (ap (λ (b : BodyPart). b.process) step))
-    ∙ bodies.body_walk w h c.judge_members.new.walk c.judge_block_if.new.walk (holders.behind_process first h.body.process) c.small_operation.new.faults
+    ∙ bodies.body_walk w h c.judge_members.new.walk c.judge_block_if.new.walk (holders.behind_process first h.body.process)
+    c.measured_operation.new.faults
     (c.in_ok-members.ensures.walk ∙ ap (λ ms. over_finished w (members_finished w.scope h.is_monitored ms)) members)
     (c.in_ok-judge_block_if.ensures.walk
     ∙ ap (λ i. over_finished c.judge_members.new.walk (judging.finished_if c.judge_members.new.walk.scope i)) initially
     ∙ ap (λ s. over_finished c.judge_members.new.walk (judging.finished_if s h.body.initially)) scope)
-    (c.small_operation.ensures
-    ∙ ap (λ d. noted c.judge_block_if.new.walk.faults (too_large h.name.at 0 d))
+    (c.measured_operation.ensures
+    ∙ ap (λ d. noted c.judge_block_if.new.walk.faults (measured c.judge_block_if.new.walk.scope.table h.name.at 0 d))
     (c.both-first.ensures
     ∙ ap (λ d. done_both d c.in_ok-judge_block_if.field-0)
     (c.in_ok-members.ensures.done ∙ ap (λ ms. (members_finished w.scope h.is_monitored ms).done) members)
@@ -943,14 +950,16 @@ holders::judge_process-returns-in_ok-done-in-Some t c =
     let w = c.args.walk.now in
     let inner = c.set_in_process.new.self in
     let faults = c.judge_block.new.walk.faults in
+    let table = c.judge_block.new.walk.scope.table in
     let step = process_section_step c.in-Some.p in
     let p = process_of c.in-Some.p in
     rw c.in-Some.is
-    (bodies.process_walk w c.judge_block.new.walk p inner c.small_operation.new.faults c.set_in_process.ensures
+    (bodies.process_walk w c.judge_block.new.walk p inner c.measured_operation.new.faults c.set_in_process.ensures
     (c.in_ok-done-in-Some.ensures.walk ∙ ap (λ (x : ProcessPart). over_finished (in_scope w inner) (x.block inner)) (sym step))
-    (c.small_operation.ensures
-    ∙ ap (λ d. noted faults (too_large c.in-Some.p.at 0 d)) (c.in_ok-done-in-Some.ensures.done ∙ ap (λ (x : ProcessPart). (x.block inner).done) (sym step))
-    ∙ ap (λ (x : ProcessPart). noted faults (too_large x.at 0 (p.block inner).done)) (sym step)))
+    (c.measured_operation.ensures
+    ∙ ap (λ d. noted faults (measured table c.in-Some.p.at 0 d))
+    (c.in_ok-done-in-Some.ensures.done ∙ ap (λ (x : ProcessPart). (x.block inner).done) (sym step))
+    ∙ ap (λ (x : ProcessPart). noted faults (measured table x.at 0 (p.block inner).done)) (sym step)))
 
 -- ---- links
 
