@@ -14,7 +14,6 @@ use Rattle.ec_check.specs.Accepted.{HasCore}
 use Rattle.ec_check.specs.Program.{core_in, core_of, types_of_program}
 use Rattle.ec_conform.specs.Declarations.{declarations_of}
 use Rattle.ec_conform.specs.Table.{Table, IsTable}
-use Rattle.ec_conform.specs.declared.declared.Declarations.{Declarations}
 use Rattle.ec_core.specs.declared.Core.{Core}
 use Rattle.ec_rules.proofs.Order.{first_in_order}
 use Rattle.ec_rules.specs.Faults.{StaticFaults, faults_of_constants, faults_of_program, scope_of_program}
@@ -27,21 +26,16 @@ pub empty_if : (xs : List StaticFault) → slice_get xs 0 ≡ None → xs ≡ []
 empty_if [] e = refl
 empty_if (x ∷ xs) e = cc
 
-module _ (program : Program) (table : Table) (declared : Declarations) (scope : Scope) (cs : List Constant)
-    (d : declared ≡ declarations_of program) (t : IsTable declared.types table) (s : scope ≡ scope_of_program table (map constant_part cs))
-    (c : cs ≡ program.constants) where
-  is_table : IsTable (declarations_of program).types table
-  is_table = subst (λ (x : Declarations). IsTable x.types table) d t
-
-  faultless : (first : Option StaticFault) → first ≡ least_of None (faults_of_constants declared scope (map constant_part cs)) → first ≡ None →
+module _ (program : Program) (table : Table) (scope : Scope) (cs : List Constant) (is_table : IsTable (declarations_of program) table)
+    (s : scope ≡ scope_of_program table (map constant_part cs)) (c : cs ≡ program.constants) where
+  faultless : (first : Option StaticFault) → first ≡ least_of None (faults_of_constants scope (map constant_part cs)) → first ≡ None →
       StaticFaults table program ≡ []
   faultless first f n =
       empty_if (StaticFaults table program)
       (first_in_order (faults_of_program table program)
       ∙ sym
-      (f ∙ ap (λ x. least_of None (faults_of_constants declared x (map constant_part cs))) s
-      ∙ ap (λ ys. least_of None (faults_of_constants declared (scope_of_program table (map constant_part ys)) (map constant_part ys))) c
-      ∙ ap (λ x. least_of None (faults_of_constants x (scope_of_program table (map constant_part program.constants)) (map constant_part program.constants))) d)
+      (f ∙ ap (λ x. least_of None (faults_of_constants x (map constant_part cs))) s
+      ∙ ap (λ ys. least_of None (faults_of_constants (scope_of_program table (map constant_part ys)) (map constant_part ys))) c)
       ∙ n)
 
   -- what the laws say of it
@@ -63,7 +57,7 @@ module _ (program : Program) (table : Table) (declared : Declarations) (scope : 
   kept : (own : Scope) → own ≡ scope_of_program table (map constant_part cs) → own.table ≡ table
   kept own e = ap (λ x. x.table) e
 
-  pub has_core : (first : Option StaticFault) → first ≡ least_of None (faults_of_constants declared scope (map constant_part cs)) → first ≡ None →
+  pub has_core : (first : Option StaticFault) → first ≡ least_of None (faults_of_constants scope (map constant_part cs)) → first ≡ None →
       (walked : Scope) → walked ≡ scope → (core : Core) → core ≡ core_in walked cs → (own : Table) → own ≡ walked.table →
       HasCore program own core
   has_core first f n walked w core k own o =

@@ -9,6 +9,7 @@ use Rattle.ec_conform.specs.Conforms.{operations_at}
 use Rattle.ec_conform.specs.Table.{Table, IsTable}
 use Rattle.ec_conform.specs.Types.{number_from, number_at, places_of, type_with, operations_from}
 use Rattle.ec_conform.specs.declared.declared.DeclaredType.{DeclaredType}
+use Rattle.ec_conform.specs.declared.declared.Declarations.{Declarations}
 use Rattle.ec_names.specs.Names.{Text}
 
 -- ---- numbers below others
@@ -175,32 +176,32 @@ stands_at names all (d ∷ ds) h =
       stands_at names all ds h.1,
     )
 
-pub types_stand : (table : Table) (declared : List DeclaredType) → IsTable declared table → Ascending (places_of declared) →
-    Every (StandsAt table) declared
+pub types_stand : (table : Table) (declared : Declarations) → IsTable declared table → Ascending (places_of declared.types) →
+    Every (StandsAt table) declared.types
 types_stand table declared is h =
     every_weaker
     (λ (d : DeclaredType).
-    operations_at (map (type_with table.names) declared) (number_at (places_of declared) d.name.at.from)
+    operations_at (map (type_with table.names) declared.types) (number_at (places_of declared.types) d.name.at.from)
     ≡ operations_from table.names [] d.operations)
     (StandsAt table)
     (λ d e.
     ap (λ ts. operations_at ts (number_at table.places d.name.at.from))
-    (is.types ∙ ap (λ ns. map (type_with ns) declared) (sym is.names))
-    ∙ ap (λ ps. operations_at (map (type_with table.names) declared) (number_at ps d.name.at.from)) is.places ∙ e)
-    declared (stands_at table.names declared declared (positions 0 declared h))
+    (is.types ∙ ap (λ ns. map (type_with ns) declared.types) (sym is.names))
+    ∙ ap (λ ps. operations_at (map (type_with table.names) declared.types) (number_at ps d.name.at.from)) is.places ∙ e)
+    declared.types (stands_at table.names declared.types declared.types (positions 0 declared.types h))
 
 map_again : (f : ℕ → ℕ) (ds : List DeclaredType) → map (λ (d : DeclaredType). f d.name.at.from) ds ≡ map f (places_of ds)
 map_again f [] = refl
 map_again f (d ∷ ds) = ap (λ ns. f d.name.at.from ∷ ns) (map_again f ds)
 
-pub numbers_rise : (table : Table) (declared : List DeclaredType) → IsTable declared table → Ascending (places_of declared) →
-    Ascending (numbers_declared table declared)
+pub numbers_rise : (table : Table) (declared : Declarations) → IsTable declared table → Ascending (places_of declared.types) →
+    Ascending (numbers_declared table declared.types)
 numbers_rise table declared is h =
     subst Ascending
     (sym
-    (ap (λ ps. numbers_at ps) is.places ∙ map_again (number_at (places_of declared)) declared
-    ∙ numbers_of_places 0 (places_of declared) h))
-    (ascending_from 0 (length (places_of declared)))
+    (ap (λ ps. numbers_at ps) is.places ∙ map_again (number_at (places_of declared.types)) declared.types
+    ∙ numbers_of_places 0 (places_of declared.types) h))
+    (ascending_from 0 (length (places_of declared.types)))
   where
     numbers_at : List ℕ → List ℕ
-    numbers_at ps = map (λ (d : DeclaredType). number_at ps d.name.at.from) declared
+    numbers_at ps = map (λ (d : DeclaredType). number_at ps d.name.at.from) declared.types

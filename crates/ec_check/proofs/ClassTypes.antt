@@ -12,6 +12,7 @@ use Rattle.ec_conform.specs.Declarations.{declarations_of}
 use Rattle.ec_conform.specs.Table.{Table, IsTable}
 use Rattle.ec_conform.specs.Types.{names_of, number_from, number_at, places_of, type_with}
 use Rattle.ec_conform.specs.declared.declared.DeclaredType.{DeclaredType}
+use Rattle.ec_conform.specs.declared.declared.Declarations.{Declarations}
 use Rattle.ec_core.specs.declared.Class.{Class}
 
 -- ---- numbers of types
@@ -36,19 +37,20 @@ all_in [] all w = tt
 all_in (place ∷ places) all w = (w place (inl refl), all_in places all (λ at i. w at (inr i)))
 
 -- each type of the table has a number below their count
-type_below : (declared : List DeclaredType) (table : Table) (d : DeclaredType) → IsTable declared table →
-    IsIn d.name.at.from (places_of declared) → number_at table.places d.name.at.from < length table.types
+type_below : (declared : Declarations) (table : Table) (d : DeclaredType) → IsTable declared table →
+    IsIn d.name.at.from (places_of declared.types) → number_at table.places d.name.at.from < length table.types
 type_below declared table d is i =
     let l : number_from 0 table.places d.name.at.from < 0 + length table.places =
     number_below table.places 0 d.name.at.from (subst (IsIn d.name.at.from) (sym is.places) i) in
-    let places : length table.places ≡ length declared =
-    ap length is.places ∙ length-map declared (λ (d : DeclaredType). d.name.at.from) in
-    let types : length table.types ≡ length declared = ap length is.types ∙ length-map declared (type_with (names_of declared)) in
+    let places : length table.places ≡ length declared.types =
+    ap length is.places ∙ length-map declared.types (λ (d : DeclaredType). d.name.at.from) in
+    let types : length table.types ≡ length declared.types =
+    ap length is.types ∙ length-map declared.types (type_with (names_of declared.types)) in
     omega arith
 
 -- ---- classes
 
-pub classes_are_of_types : (table : Table) (program : Program) → IsTable (declarations_of program).types table →
+pub classes_are_of_types : (table : Table) (program : Program) → IsTable (declarations_of program) table →
     Every (λ (c : Class). ConformsToItself table c.number) (core_of table program).classes
 classes_are_of_types table program is =
     every_unmap (ConformsToItself table) (λ (c : Class). c.number) (core_of table program).classes
@@ -58,8 +60,8 @@ classes_are_of_types table program is =
     (every_weaker (λ d. IsIn d.name.at.from (places_of (declarations_of program).types))
     (λ d. ConformsToItself table (number_at table.places d.name.at.from))
     (λ d i.
-    conforms_to_itself (declarations_of program).types table (number_at table.places d.name.at.from) is
-    (type_below (declarations_of program).types table d is i))
+    conforms_to_itself (declarations_of program) table (number_at table.places d.name.at.from) is
+    (type_below (declarations_of program) table d is i))
     (declarations_of program).types
     (every_unmap (λ at. IsIn at (places_of (declarations_of program).types)) (λ (d : DeclaredType). d.name.at.from)
     (declarations_of program).types

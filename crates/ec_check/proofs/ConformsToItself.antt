@@ -18,6 +18,7 @@ use Rattle.ec_conform.specs.Table.{Table, IsTable}
 use Rattle.ec_conform.specs.Types.{named, vector_of, type_with_number, written, type_of, operation_of, operation_names, operations_from, type_with}
 use Rattle.ec_conform.specs.Types.{names_of, types_of}
 use Rattle.ec_conform.specs.declared.declared.DeclaredType.{DeclaredType}
+use Rattle.ec_conform.specs.declared.declared.Declarations.{Declarations}
 use Rattle.ec_conform.specs.declared.named_type.NamedType.{NamedType}
 use Rattle.ec_conform.specs.declared.operations.NamedOperation.{NamedOperation}
 use Rattle.ec_conform.specs.declared.static_type.Plain.{Plain as PlainType}
@@ -190,11 +191,11 @@ types_there declared =
     (length-map declared (λ d. d.name.text) ∙ sym (length-map declared (type_with (names_of declared))))
     (declared_there (names_of declared) declared)
 
-pub conforms_to_itself : (declared : List DeclaredType) (table : Table) (n : ℕ) → IsTable declared table →
+pub conforms_to_itself : (declared : Declarations) (table : Table) (n : ℕ) → IsTable declared table →
     n < length table.types → ConformsToItself table n
 conforms_to_itself declared table n is l =
     (is.conforms (named n) (named n)).1 (
       itself (length table.types),
-      is_closed table.types (subst (λ types. TypesThere (length types) types) (sym is.types) (types_there declared)),
+      is_closed table.types (subst (λ types. TypesThere (length types) types) (sym is.types) (types_there declared.types)),
       both_hold (n == n) (nat_lt n (length table.types)) (eq-eqb n n refl) (lt-ltb n (length table.types) l),
     )

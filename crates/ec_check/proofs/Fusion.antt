@@ -371,9 +371,9 @@ expression_same (Expression-F.Itself at) = refl
 expression_same (Expression-F.Expression::Variable name) = refl
 expression_same (Expression-F.Parenthesised x at) = one (λ p. Expression-F.Parenthesised p at) x.1
 expression_same (Expression-F.Constructor o) = one (λ p. Expression-F.Constructor p) o.1
-expression_same (Expression-F.NodeAt x at) = one (λ p. Expression-F.NodeAt p at) x.1
+expression_same (Expression-F.NodeAt x at word) = one (λ p. Expression-F.NodeAt p at word) x.1
 expression_same (Expression-F.NodeCount at) = refl
-expression_same (Expression-F.NewVector of x at) = one (λ p. Expression-F.NewVector of p at) x.1
+expression_same (Expression-F.NewVector of x at word) = one (λ p. Expression-F.NewVector of p at word) x.1
 expression_same (Expression-F.Postfix x links) =
     two (λ p ls. Expression-F.Postfix p ls) x.1 (each_same link_of link_judged judged_tree.link_of links)
 expression_same (Expression-F.Negative x at) = one (λ p. Expression-F.Negative p at) x.1

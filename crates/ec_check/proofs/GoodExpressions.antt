@@ -73,9 +73,9 @@ parts_are_sound (Expression-F.Itself at) = tt
 parts_are_sound (Expression-F.Expression::Variable name) = tt
 parts_are_sound (Expression-F.Parenthesised x at) = x.1.0
 parts_are_sound (Expression-F.Constructor o) = o.1.0
-parts_are_sound (Expression-F.NodeAt x at) = x.1.0
+parts_are_sound (Expression-F.NodeAt x at word) = x.1.0
 parts_are_sound (Expression-F.NodeCount at) = tt
-parts_are_sound (Expression-F.NewVector of x at) = x.1.0
+parts_are_sound (Expression-F.NewVector of x at word) = x.1.0
 parts_are_sound (Expression-F.Postfix x links) = (x.1.0, sound_links links)
 parts_are_sound (Expression-F.Negative x at) = x.1.0
 parts_are_sound (Expression-F.View x of at) = x.1.0
@@ -115,9 +115,9 @@ name_declares (Expression-F.Itself at) = tt
 name_declares (Expression-F.Expression::Variable name) = refl
 name_declares (Expression-F.Parenthesised x at) = name_within (part_of x.0).part.form (in_expression x.0)
 name_declares (Expression-F.Constructor o) = tt
-name_declares (Expression-F.NodeAt x at) = tt
+name_declares (Expression-F.NodeAt x at word) = tt
 name_declares (Expression-F.NodeCount at) = tt
-name_declares (Expression-F.NewVector of x at) = tt
+name_declares (Expression-F.NewVector of x at word) = tt
 name_declares (Expression-F.Postfix x links) =
     name_of_chain (part_of x.0).part.form (map link_judged (map link_of (map bare_link links)))
     (declared (Expression-F.Postfix x links))
@@ -144,9 +144,9 @@ layer_declares (Expression-F.Itself at) needed scope e = tt
 layer_declares (Expression-F.Expression::Variable name) needed scope e = tt
 layer_declares (Expression-F.Parenthesised x at) needed scope e = x.1.1.declares true scope (none_left _ _ (none_left _ _ e))
 layer_declares (Expression-F.Constructor o) needed scope e = o.1.1 scope e
-layer_declares (Expression-F.NodeAt x at) needed scope e = x.1.1.declares true scope (none_left _ _ (none_left _ _ e))
+layer_declares (Expression-F.NodeAt x at word) needed scope e = x.1.1.declares true scope (none_left _ _ (none_left _ _ e))
 layer_declares (Expression-F.NodeCount at) needed scope e = tt
-layer_declares (Expression-F.NewVector of x at) needed scope e = x.1.1.declares true scope (none_left _ _ (none_left _ _ e))
+layer_declares (Expression-F.NewVector of x at word) needed scope e = x.1.1.declares true scope (none_left _ _ (none_left _ _ e))
 layer_declares (Expression-F.Postfix x links) needed scope e =
     postfix_declares needed scope (part_of x.0) (map link_of (map bare_link links)) (in_expression x.0)
     (map in_link (map bare_link links)) x.1.1 (link_pairs links) e

@@ -20,9 +20,10 @@ use Rattle.ec_conform.specs.declared.declared.DeclaredType.{DeclaredType}
 use Rattle.ec_core.specs.declared.Class.{Class}
 use Rattle.ec_names.specs.Names.{Text}
 use Rattle.ec_rules.specs.Captures.{captured}
-use Rattle.ec_rules.specs.Doubled.{doubled_in_body, doubled_type}
+use Rattle.ec_rules.specs.Doubled.{doubled_in_body}
 use Rattle.ec_rules.specs.EndNames.{end_of_holder}
 use Rattle.ec_rules.specs.Judging.{body_finished, faults_in_holder, finished_if, heading_faults, members_finished, process_finished}
+use Rattle.ec_rules.specs.Judging.{type_faults}
 use Rattle.ec_rules.specs.Limits.{many_fields, many_parameters}
 use Rattle.ec_rules.specs.Lists.{each}
 use Rattle.ec_rules.specs.Members.{scope_of}
@@ -77,9 +78,9 @@ no_faults_in_body scope h e =
 no_doubled_in : (scope : Scope) (h : judged.Holder) → faults_in_holder scope h ≡ [] → doubled_in_body h ≡ []
 no_doubled_in scope h e =
     none_left (doubled_in_body h) (end_of_holder h ++ many_parameters h.parameters)
-    (none_right (doubled_type scope.table h.name) (doubled_in_body h ++ (end_of_holder h ++ many_parameters h.parameters))
+    (none_right (type_faults scope.table h.name) (doubled_in_body h ++ (end_of_holder h ++ many_parameters h.parameters))
     (none_right (unknown_in_parameters scope.table h.parameters)
-    (doubled_type scope.table h.name ++ (doubled_in_body h ++ (end_of_holder h ++ many_parameters h.parameters)))
+    (type_faults scope.table h.name ++ (doubled_in_body h ++ (end_of_holder h ++ many_parameters h.parameters)))
     (none_left (heading_faults scope h) (many_fields (captured (body_finished (scope_of scope h) h).uses) h)
     (none_right (body_finished (scope_of scope h) h).faults
     (heading_faults scope h ++ many_fields (captured (body_finished (scope_of scope h) h).uses) h) e))))

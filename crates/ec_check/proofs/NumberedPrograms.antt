@@ -113,20 +113,20 @@ constants_numbered scope (c ∷ cs) = both_numbered (constant_numbered scope c.n
 
 -- ---- programs
 
-numbers_ascend : (table : Table) (program : Program) → IsTable (declarations_of program).types table →
+numbers_ascend : (table : Table) (program : Program) → IsTable (declarations_of program) table →
     Ascending (places_of (declarations_of program).types) →
     Ascending (map (λ c. c.number) (core_of table program).classes)
 numbers_ascend table program is places =
     subst Ascending (sym (constants_numbered (outermost table program) program.constants).numbers)
-    (fewer_rise table program.constants (numbers_rise table (declarations_of program).types is places))
+    (fewer_rise table program.constants (numbers_rise table (declarations_of program) is places))
 
-pub classes_rise : (table : Table) (program : Program) → IsTable (declarations_of program).types table →
+pub classes_rise : (table : Table) (program : Program) → IsTable (declarations_of program) table →
     IsRising (places_of (declarations_of program).types) → IsRising (map (λ c. c.number) (core_of table program).classes)
 classes_rise table program is places =
     rising (map (λ c. c.number) (core_of table program).classes)
     (numbers_ascend table program is (ascending (places_of (declarations_of program).types) places))
 
-pub classes_have_operations : (table : Table) (program : Program) → IsTable (declarations_of program).types table →
+pub classes_have_operations : (table : Table) (program : Program) → IsTable (declarations_of program) table →
     StaticFaults table program ≡ [] → IsRising (places_of (declarations_of program).types) →
     All (HasItsOperations table (core_of table program)) (core_of table program).classes
 classes_have_operations table program is none places =
@@ -137,5 +137,5 @@ classes_have_operations table program is none places =
     (λ c h. record { names = h.names; exported = h.exported }) (core_of table program).classes
     ((constants_numbered (outermost table program) program.constants).owned
     (none_left _ _ (none_in_order (faults_of_program table program) none))
-    (fewer_of (StandsAt table) program.constants (types_stand table (declarations_of program).types is rise))
+    (fewer_of (StandsAt table) program.constants (types_stand table (declarations_of program) is rise))
     (numbers_ascend table program is rise)))

@@ -95,9 +95,9 @@ layer_numbered (Expression-F.Expression::Variable name) needed scope = nothing_n
 layer_numbered (Expression-F.Parenthesised x at) needed scope =
     one_numbered (λ e. none_left _ _ (none_left _ _ e)) (x.1 true scope)
 layer_numbered (Expression-F.Constructor o) needed scope = o.1 scope
-layer_numbered (Expression-F.NodeAt x at) needed scope = one_numbered (λ e. none_left _ _ (none_left _ _ e)) (x.1 true scope)
+layer_numbered (Expression-F.NodeAt x at word) needed scope = one_numbered (λ e. none_left _ _ (none_left _ _ e)) (x.1 true scope)
 layer_numbered (Expression-F.NodeCount at) needed scope = nothing_numbered
-layer_numbered (Expression-F.NewVector of x at) needed scope =
+layer_numbered (Expression-F.NewVector of x at word) needed scope =
     one_numbered (λ e. none_left _ _ (none_left _ _ e)) (x.1 true scope)
 layer_numbered (Expression-F.Postfix x links) needed scope =
     postfix_numbered needed scope (part_of x.0) (map link_of (map bare_link links)) (in_expression x.0)

@@ -47,9 +47,9 @@ RangedParts (Expression-F.Itself at) = Unit {0}
 RangedParts (Expression-F.Expression::Variable name) = Unit {0}
 RangedParts (Expression-F.Parenthesised x at) = RangedPart x
 RangedParts (Expression-F.Constructor o) = RangedConstructor o
-RangedParts (Expression-F.NodeAt x at) = RangedPart x
+RangedParts (Expression-F.NodeAt x at word) = RangedPart x
 RangedParts (Expression-F.NodeCount at) = Unit {0}
-RangedParts (Expression-F.NewVector of x at) = RangedPart x
+RangedParts (Expression-F.NewVector of x at word) = RangedPart x
 RangedParts (Expression-F.Postfix x links) = RangedPart x × Every RangedLink links
 RangedParts (Expression-F.Negative x at) = RangedPart x
 RangedParts (Expression-F.View x of at) = RangedPart x
@@ -89,9 +89,9 @@ used_in (Expression-F.Itself at) h scope = tt
 used_in (Expression-F.Expression::Variable name) h scope = held_name scope name
 used_in (Expression-F.Parenthesised x at) h scope = parts_used scope (x ∷ []) (h, tt)
 used_in (Expression-F.Constructor o) h scope = holder_used scope o.holder h
-used_in (Expression-F.NodeAt x at) h scope = parts_used scope (x ∷ []) (h, tt)
+used_in (Expression-F.NodeAt x at word) h scope = parts_used scope (x ∷ []) (h, tt)
 used_in (Expression-F.NodeCount at) h scope = tt
-used_in (Expression-F.NewVector of x at) h scope = parts_used scope (x ∷ []) (h, tt)
+used_in (Expression-F.NewVector of x at word) h scope = parts_used scope (x ∷ []) (h, tt)
 used_in (Expression-F.Postfix x links) h scope =
     subst
     (λ ps. UsesHeld scope (uses_of_head scope (receiver scope x.part (map link_judged links)) x.part ++ each (uses_in scope) ps))
@@ -232,16 +232,16 @@ layer_ranged (Expression-F.Expression::Variable name) h needed limits env r = re
 }
 layer_ranged (Expression-F.Parenthesised x at) h needed limits env r = one_ranged limits env x (x.core env) _ h refl r
 layer_ranged (Expression-F.Constructor o) h needed limits env r = constructor_ranged limits env o.holder h r
-layer_ranged (Expression-F.NodeAt x at) h needed limits env r =
-    one_ranged limits env x (e.NodeAt (x.core env) at.from) _ h
-    (expression_has (e.NodeAt (x.core env) at.from) (Core-F.NodeAt (x.core env) at.from) (e.rolls-NodeAt (x.core env) at.from)) r
+layer_ranged (Expression-F.NodeAt x at word) h needed limits env r =
+    one_ranged limits env x (e.NodeAt (x.core env) word.from) _ h
+    (expression_has (e.NodeAt (x.core env) word.from) (Core-F.NodeAt (x.core env) word.from) (e.rolls-NodeAt (x.core env) word.from)) r
 layer_ranged (Expression-F.NodeCount at) h needed limits env r =
     nothing_ranged e.NodeCount (expression_has e.NodeCount Core-F.NodeCount e.rolls-NodeCount)
-layer_ranged (Expression-F.NewVector of x at) h needed limits env r =
-    one_ranged limits env x (e.NewVector (vector_of (written_in env.scope of)) (x.core env) at.from) _ h
-    (expression_has (e.NewVector (vector_of (written_in env.scope of)) (x.core env) at.from)
-    (Core-F.NewVector (vector_of (written_in env.scope of)) (x.core env) at.from)
-    (e.rolls-NewVector (vector_of (written_in env.scope of)) (x.core env) at.from)) r
+layer_ranged (Expression-F.NewVector of x at word) h needed limits env r =
+    one_ranged limits env x (e.NewVector (vector_of (written_in env.scope of)) (x.core env) word.from) _ h
+    (expression_has (e.NewVector (vector_of (written_in env.scope of)) (x.core env) word.from)
+    (Core-F.NewVector (vector_of (written_in env.scope of)) (x.core env) word.from)
+    (e.rolls-NewVector (vector_of (written_in env.scope of)) (x.core env) word.from)) r
 layer_ranged (Expression-F.Postfix x links) h needed limits env r =
     chain_ranged limits env (receiver env.scope x.part (map link_judged links)) x links
     (creation_is env.scope needed (is_clean (faults_of_head env.scope (receiver env.scope x.part (map link_judged links)) x.part)) x

@@ -36,9 +36,9 @@ SoundParts (Expression-F.Itself at) = Unit {0}
 SoundParts (Expression-F.Expression::Variable name) = Unit {0}
 SoundParts (Expression-F.Parenthesised x at) = SoundPart x
 SoundParts (Expression-F.Constructor o) = SoundConstructor o
-SoundParts (Expression-F.NodeAt x at) = SoundPart x
+SoundParts (Expression-F.NodeAt x at word) = SoundPart x
 SoundParts (Expression-F.NodeCount at) = Unit {0}
-SoundParts (Expression-F.NewVector of x at) = SoundPart x
+SoundParts (Expression-F.NewVector of x at word) = SoundPart x
 SoundParts (Expression-F.Postfix x links) = SoundPart x × Every SoundLink links
 SoundParts (Expression-F.Negative x at) = SoundPart x
 SoundParts (Expression-F.View x of at) = SoundPart x
@@ -82,9 +82,9 @@ form_is_sound (Expression-F.Expression::Variable name) h needed scope e = tt
 form_is_sound (Expression-F.Parenthesised x at) h needed scope e =
     form_within scope x.part.form (h.form true scope (none_left _ _ (none_left _ _ e)))
 form_is_sound (Expression-F.Constructor o) h needed scope e = tt
-form_is_sound (Expression-F.NodeAt x at) h needed scope e = tt
+form_is_sound (Expression-F.NodeAt x at word) h needed scope e = tt
 form_is_sound (Expression-F.NodeCount at) h needed scope e = tt
-form_is_sound (Expression-F.NewVector of x at) h needed scope e =
+form_is_sound (Expression-F.NewVector of x at word) h needed scope e =
     type_is_known scope.table of (none_left _ _ (none_right _ _ e))
 form_is_sound (Expression-F.Postfix x links) h needed scope e =
     chain_form scope x.part.form (map link_judged links)
@@ -114,9 +114,9 @@ types_are_known (Expression-F.Itself at) h needed scope s e = tt
 types_are_known (Expression-F.Expression::Variable name) h needed scope s e = tt
 types_are_known (Expression-F.Parenthesised x at) h needed scope s e = one_within scope x s h (none_left _ _ e)
 types_are_known (Expression-F.Constructor o) h needed scope s e = holder_types scope o.holder s h e
-types_are_known (Expression-F.NodeAt x at) h needed scope s e = one_within scope x s h (none_left _ _ e)
+types_are_known (Expression-F.NodeAt x at word) h needed scope s e = one_within scope x s h (none_left _ _ e)
 types_are_known (Expression-F.NodeCount at) h needed scope s e = tt
-types_are_known (Expression-F.NewVector of x at) h needed scope s e = one_within scope x s h (none_left _ _ e)
+types_are_known (Expression-F.NewVector of x at word) h needed scope s e = one_within scope x s h (none_left _ _ e)
 types_are_known (Expression-F.Postfix x links) h needed scope s e = postfix_within needed scope x links s h.0 h.1 e
 types_are_known (Expression-F.Negative x at) h needed scope s e = one_within scope x s h (none_left _ _ e)
 types_are_known (Expression-F.View x of at) h needed scope s e = one_within scope x s h (none_left _ _ e)
@@ -157,9 +157,9 @@ value_has_type (Expression-F.Expression::Variable name) h scope s e =
     found_has_type (find scope name.text) (test_holds _ _ _ (none_left _ _ e)) (found_is_typed scope name.text s)
 value_has_type (Expression-F.Parenthesised x at) h scope s e = h.value scope s (none_left _ _ (none_left _ _ e))
 value_has_type (Expression-F.Constructor o) h scope s e = refl
-value_has_type (Expression-F.NodeAt x at) h scope s e = refl
+value_has_type (Expression-F.NodeAt x at word) h scope s e = refl
 value_has_type (Expression-F.NodeCount at) h scope s e = refl
-value_has_type (Expression-F.NewVector of x at) h scope s e =
+value_has_type (Expression-F.NewVector of x at word) h scope s e =
     written_is_known (vector_of (written_in scope of))
     (vector_is_written (written_in scope of) (type_is_known scope.table of (none_left _ _ (none_right _ _ e))))
 value_has_type (Expression-F.Postfix x links) h scope s e = postfix_value scope x links s h.0 h.1 e

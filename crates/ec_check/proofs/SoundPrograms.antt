@@ -25,6 +25,7 @@ use Rattle.ec_conform.specs.Declarations.{joined, in_value, in_body, declaration
 use Rattle.ec_conform.specs.Table.{Table, IsTable}
 use Rattle.ec_conform.specs.Types.{type_of, operation_of, operation_names, operations_from, type_with}
 use Rattle.ec_conform.specs.declared.declared.DeclaredType.{DeclaredType}
+use Rattle.ec_conform.specs.declared.declared.Declarations.{Declarations}
 use Rattle.ec_conform.specs.declared.operations.NamedOperation.{NamedOperation}
 use Rattle.ec_names.specs.Names.{has_name}
 use Rattle.ec_rules.specs.Faults.{meaning_of, globals_in, scope_with, scope_of_names, scope_of_program, faults_in_constant, faults_of_program, StaticFaults}
@@ -74,11 +75,11 @@ types_are_sound : (table : Table) (ds : List DeclaredType) → Every (SoundDecla
 types_are_sound table [] h = tt
 types_are_sound table (d ∷ ds) h = (operations_are_known table [] d.operations tt h.0, types_are_sound table ds h.1)
 
-table_is_sound : (declared : List DeclaredType) (table : Table) → IsTable declared table → Every (SoundDeclared table) declared →
+table_is_sound : (declared : Declarations) (table : Table) → IsTable declared table → Every (SoundDeclared table) declared.types →
     SoundTable table
 table_is_sound declared table is h =
     subst (Every SoundType) (sym is.types)
-    (subst (λ names. Every SoundType (map (type_with names) declared)) is.names (types_are_sound table declared h))
+    (subst (λ names. Every SoundType (map (type_with names) declared.types)) is.names (types_are_sound table declared.types h))
 
 -- ---- constants without faults
 
@@ -166,17 +167,17 @@ constants_are_faultless table program none =
     (none_each (λ c. faults_in_constant (outermost table program) c.name c.of c.value) (constant_parts program)
     (none_left _ _ (none_in_order (faults_of_program table program) none)))
 
-pub outermost_is_sound : (table : Table) (program : Program) → IsTable (declarations_of program).types table →
+pub outermost_is_sound : (table : Table) (program : Program) → IsTable (declarations_of program) table →
     StaticFaults table program ≡ [] → SoundScope (outermost table program)
 outermost_is_sound table program is none = record {
   table =
-      table_is_sound (declarations_of program).types table is
+      table_is_sound (declarations_of program) table is
       (constants_declare (outermost table program) program.constants (constants_are_faultless table program none));
   globals = globals_are_typed table (constant_parts program) program.constants (constants_are_faultless table program none);
   objects = tt;
 }
 
-pub types_are_known : (table : Table) (program : Program) → IsTable (declarations_of program).types table →
+pub types_are_known : (table : Table) (program : Program) → IsTable (declarations_of program) table →
     StaticFaults table program ≡ [] → Every HasType (types_of_program table program)
 types_are_known table program is none =
     constants_types (outermost table program) program.constants (outermost_is_sound table program is none)

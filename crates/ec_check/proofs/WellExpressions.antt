@@ -58,9 +58,9 @@ WellParts (Expression-F.Itself at) = Unit {0}
 WellParts (Expression-F.Expression::Variable name) = Unit {0}
 WellParts (Expression-F.Parenthesised x at) = WellPart x
 WellParts (Expression-F.Constructor o) = WellConstructor o
-WellParts (Expression-F.NodeAt x at) = WellPart x
+WellParts (Expression-F.NodeAt x at word) = WellPart x
 WellParts (Expression-F.NodeCount at) = Unit {0}
-WellParts (Expression-F.NewVector of x at) = WellPart x
+WellParts (Expression-F.NewVector of x at word) = WellPart x
 WellParts (Expression-F.Postfix x links) = WellPart x × Every WellLink links
 WellParts (Expression-F.Negative x at) = WellPart x
 WellParts (Expression-F.View x of at) = WellPart x
@@ -222,24 +222,24 @@ layer_well (Expression-F.Parenthesised x at) h needed site env r =
     let v : Valued site env x = one_value site env x _ h r in
     with_one site env x _ (x.core env) (value_in env.scope x.part).of h r (record { has_type = v.has_type; is_well = v.is_well })
 layer_well (Expression-F.Constructor o) h needed site env r = constructor_well site env o.holder h r
-layer_well (Expression-F.NodeAt x at) h needed site env r =
-    with_one site env x _ (e.NodeAt (x.core env) at.from) (Some node) h r
+layer_well (Expression-F.NodeAt x at word) h needed site env r =
+    with_one site env x _ (e.NodeAt (x.core env) word.from) (Some node) h r
     (same_is
-    (expression_has site (e.NodeAt (x.core env) at.from) (Core-F.NodeAt (x.core env) at.from) (e.rolls-NodeAt (x.core env) at.from))
+    (expression_has site (e.NodeAt (x.core env) word.from) (Core-F.NodeAt (x.core env) word.from) (e.rolls-NodeAt (x.core env) word.from))
     (is_if _ (Some node)
     (is_wanted wanted.Integer (typed site (x.core env)) (value_in env.scope x.part) (one_value site env x _ h r)
     (none_left _ _ (none_right _ _ r.faultless)))))
 layer_well (Expression-F.NodeCount at) h needed site env r =
     alone (same_is (expression_has site e.NodeCount Core-F.NodeCount e.rolls-NodeCount) (is_if true (Some integer) refl))
-layer_well (Expression-F.NewVector of x at) h needed site env r =
+layer_well (Expression-F.NewVector of x at word) h needed site env r =
     let w : is_written (written_in env.scope of) ≡ true =
     type_is_known env.scope.table of (none_left _ _ (none_right _ _ r.faultless)) in
-    with_one site env x _ (e.NewVector (vector_of (written_in env.scope of)) (x.core env) at.from)
+    with_one site env x _ (e.NewVector (vector_of (written_in env.scope of)) (x.core env) word.from)
     (known (vector_of (written_in env.scope of))) h r
     (same_is
-    (expression_has site (e.NewVector (vector_of (written_in env.scope of)) (x.core env) at.from)
-    (Core-F.NewVector (vector_of (written_in env.scope of)) (x.core env) at.from)
-    (e.rolls-NewVector (vector_of (written_in env.scope of)) (x.core env) at.from))
+    (expression_has site (e.NewVector (vector_of (written_in env.scope of)) (x.core env) word.from)
+    (Core-F.NewVector (vector_of (written_in env.scope of)) (x.core env) word.from)
+    (e.rolls-NewVector (vector_of (written_in env.scope of)) (x.core env) word.from))
     (is_if_other _ (Some (vector_of (written_in env.scope of))) (known (vector_of (written_in env.scope of)))
     (both_hold (is_vector (vector_of (written_in env.scope of))) (is_of wanted.Integer (typed site (x.core env)))
     (vector_is (written_in env.scope of) w)
@@ -390,9 +390,9 @@ layer_itself (Expression-F.Itself at) h f env = refl
 layer_itself (Expression-F.Expression::Variable name) h f env = cc
 layer_itself (Expression-F.Parenthesised x at) h f env = h.itself (form_within x.part.form f) env
 layer_itself (Expression-F.Constructor o) h f env = cc
-layer_itself (Expression-F.NodeAt x at) h f env = cc
+layer_itself (Expression-F.NodeAt x at word) h f env = cc
 layer_itself (Expression-F.NodeCount at) h f env = cc
-layer_itself (Expression-F.NewVector of x at) h f env = cc
+layer_itself (Expression-F.NewVector of x at word) h f env = cc
 layer_itself (Expression-F.Postfix x links) h f env = absurd (not_chain x.part.form (map link_judged links) f)
 layer_itself (Expression-F.Negative x at) h f env = absurd (not_negated x.part.form f)
 layer_itself (Expression-F.View x of at) h f env = cc
@@ -428,14 +428,14 @@ layer_goes (Expression-F.Constructor o) h site env r = λ there.
     goes site.table (typed site (core_of_expression (Expression-F.Constructor o) env)) (named (number_of_holder env.scope o.holder))
     (well_is (layer_well (Expression-F.Constructor o) h true site env r))
     (class_conforms site.table site.core env.scope.globals (class_core env.scope o.holder) r.suits.globals r.classes.0)
-layer_goes (Expression-F.NodeAt x at) h site env r = λ there. not_both there
+layer_goes (Expression-F.NodeAt x at word) h site env r = λ there. not_both there
 layer_goes (Expression-F.NodeCount at) h site env r = λ there. not_both there
-layer_goes (Expression-F.NewVector of x at) h site env r = λ there.
+layer_goes (Expression-F.NewVector of x at word) h site env r = λ there.
     let w : is_written (written_in env.scope of) ≡ true =
     type_is_known env.scope.table of (none_left _ _ (none_right _ _ r.faultless)) in
-    goes site.table (typed site (core_of_expression (Expression-F.NewVector of x at) env)) (vector_of (written_in env.scope of))
-    (subst (Is (typed site (core_of_expression (Expression-F.NewVector of x at) env))) (vector_known (written_in env.scope of) w)
-    (well_is (layer_well (Expression-F.NewVector of x at) h true site env r)))
+    goes site.table (typed site (core_of_expression (Expression-F.NewVector of x at word) env)) (vector_of (written_in env.scope of))
+    (subst (Is (typed site (core_of_expression (Expression-F.NewVector of x at word) env))) (vector_known (written_in env.scope of) w)
+    (well_is (layer_well (Expression-F.NewVector of x at word) h true site env r)))
     (vector_conforms site.table (written_in env.scope of) w)
 layer_goes (Expression-F.Postfix x links) h site env r =
     let here : faults_of_head env.scope (receiver env.scope x.part (map link_judged links)) x.part ≡ [] = none_left _ _ r.faultless in

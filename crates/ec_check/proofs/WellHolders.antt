@@ -26,10 +26,10 @@ use Rattle.ec_core.specs.declared.Class.{Class}
 use Rattle.ec_core.specs.declared.Core.{Core}
 use Rattle.ec_core.specs.declared.Operation.{Operation}
 use Rattle.ec_rules.specs.Captures.{Use, captured, uses_outside}
-use Rattle.ec_rules.specs.Doubled.{doubled_in_body, doubled_type}
+use Rattle.ec_rules.specs.Doubled.{doubled_in_body}
 use Rattle.ec_rules.specs.EndNames.{end_of_holder}
 use Rattle.ec_rules.specs.Judging.{member_finished, members_finished, finished_if, process_finished, body_finished}
-use Rattle.ec_rules.specs.Judging.{heading_faults, faults_in_holder, uses_within}
+use Rattle.ec_rules.specs.Judging.{heading_faults, faults_in_holder, type_faults, uses_within}
 use Rattle.ec_rules.specs.Limits.{many_fields, many_parameters}
 use Rattle.ec_rules.specs.Lists.{each}
 use Rattle.ec_rules.specs.Members.{scope_of, scope_of_operation}
@@ -185,9 +185,9 @@ record BodyReady (table : Table) (core : Core) (scope : Scope) (h : Holder) : Ty
 undoubled_in : (scope : Scope) (h : judged.Holder) → faults_in_holder scope h ≡ [] → doubled_in_body h ≡ []
 undoubled_in scope h e =
     none_left (doubled_in_body h) (end_of_holder h ++ many_parameters h.parameters)
-    (none_right (doubled_type scope.table h.name) (doubled_in_body h ++ (end_of_holder h ++ many_parameters h.parameters))
+    (none_right (type_faults scope.table h.name) (doubled_in_body h ++ (end_of_holder h ++ many_parameters h.parameters))
     (none_right (unknown_in_parameters scope.table h.parameters)
-    (doubled_type scope.table h.name ++ (doubled_in_body h ++ (end_of_holder h ++ many_parameters h.parameters)))
+    (type_faults scope.table h.name ++ (doubled_in_body h ++ (end_of_holder h ++ many_parameters h.parameters)))
     (none_left (heading_faults scope h) (many_fields (captured (uses_within scope h)) h)
     (none_right (body_finished (scope_of scope h) h).faults (heading_faults scope h ++ many_fields (captured (uses_within scope h)) h) e))))
 

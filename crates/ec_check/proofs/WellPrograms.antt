@@ -238,7 +238,7 @@ module _ (parts : (x : Expression) → WellPart (part_of x)) (bodies : (b : Body
 
 -- ---- programs
 
-globals_suit : (table : Table) (program : Program) → IsTable (declarations_of program).types table →
+globals_suit : (table : Table) (program : Program) → IsTable (declarations_of program) table →
     GlobalsSuit table (core_of table program) (outermost table program).globals
 globals_suit table program is = record {
   values = values_are table (constant_parts program) program.constants (core_of table program) 0 [] tt refl;
@@ -249,7 +249,7 @@ globals_suit table program is = record {
 }
 
 pub program_well : (parts : (x : Expression) → WellPart (part_of x)) (bodies : (b : Body) → WellBody (body_of b))
-    (table : Table) (program : Program) → IsTable (declarations_of program).types table → StaticFaults table program ≡ [] →
+    (table : Table) (program : Program) → IsTable (declarations_of program) table → StaticFaults table program ≡ [] →
     IsWellTyped table (core_of table program)
 program_well parts bodies table program is none = record {
   operations =

@@ -20,7 +20,7 @@ use Rattle.ec_rules.specs.declared.StaticFault.{StaticFault}
 -- which is well typed, and in which each number is in range. Where the names of its types stand at rising places, as they do in
 -- each text, the numbers of its classes rise, and each class has the operations of its type.
 pub record HasCore (program : Program) (table : Table) (core : Core) : Type 0 where
-  pub is_table : IsTable (declarations_of program).types table
+  pub is_table : IsTable (declarations_of program) table
   pub accepted : StaticFaults table program ≡ []
   pub typed : All (λ of. is_some of ≡ true) (types_of_program table program)
   pub resolved : core ≡ core_of table program

@@ -15,7 +15,7 @@ use Rattle.ec_rules.specs.Faults.{StaticFaults}
 abbrev pub EachHasItsType : Type 0
 EachHasItsType =
     (table : Table) (program : Program) →
-    IsTable (declarations_of program).types table →
+    IsTable (declarations_of program) table →
     StaticFaults table program ≡ [] →
     All (λ of. is_some of ≡ true) (types_of_program table program)
 
@@ -23,7 +23,7 @@ EachHasItsType =
 abbrev pub EachNumberIsInRange : Type 0
 EachNumberIsInRange =
     (table : Table) (program : Program) →
-    IsTable (declarations_of program).types table →
+    IsTable (declarations_of program) table →
     StaticFaults table program ≡ [] →
     IsInRange (core_of table program)
 
@@ -31,7 +31,7 @@ EachNumberIsInRange =
 abbrev pub EachCoreIsWellTyped : Type 0
 EachCoreIsWellTyped =
     (table : Table) (program : Program) →
-    IsTable (declarations_of program).types table →
+    IsTable (declarations_of program) table →
     StaticFaults table program ≡ [] →
     IsWellTyped table (core_of table program)
 
@@ -39,7 +39,7 @@ EachCoreIsWellTyped =
 abbrev pub EachClassHasItsNumber : Type 0
 EachClassHasItsNumber =
     (table : Table) (program : Program) →
-    IsTable (declarations_of program).types table →
+    IsTable (declarations_of program) table →
     IsRising (places_of (declarations_of program).types) →
     IsRising (map (λ c. c.number) (core_of table program).classes)
 
@@ -47,7 +47,7 @@ EachClassHasItsNumber =
 abbrev pub EachClassHasItsOperations : Type 0
 EachClassHasItsOperations =
     (table : Table) (program : Program) →
-    IsTable (declarations_of program).types table →
+    IsTable (declarations_of program) table →
     StaticFaults table program ≡ [] →
     IsRising (places_of (declarations_of program).types) →
     All (HasItsOperations table (core_of table program)) (core_of table program).classes

@@ -134,9 +134,10 @@ core_of_expression (Expression-F.Expression::Variable name) env = e.Read (place_
 core_of_expression (Expression-F.Parenthesised x at) env = x.core env
 core_of_expression (Expression-F.Constructor o) env =
     e.Construct (number_of_holder env.scope o.holder) (map (place_of env) (captures_of env.scope o.holder))
-core_of_expression (Expression-F.NodeAt number at) env = e.NodeAt (number.core env) at.from
+core_of_expression (Expression-F.NodeAt number at word) env = e.NodeAt (number.core env) word.from
 core_of_expression (Expression-F.NodeCount at) env = e.NodeCount
-core_of_expression (Expression-F.NewVector of size at) env = e.NewVector (vector_of (written_in env.scope of)) (size.core env) at.from
+core_of_expression (Expression-F.NewVector of size at word) env =
+    e.NewVector (vector_of (written_in env.scope of)) (size.core env) word.from
 core_of_expression (Expression-F.Postfix head links) env = chain_of env head links
 core_of_expression (Expression-F.Negative x at) env = e.Negative (x.core env)
 core_of_expression (Expression-F.View x of at) env = e.View (x.core env) (written_in env.scope of) at.from
@@ -485,8 +486,8 @@ parts_of_chain scope head links = chain_parts (receiver scope head.part (map lin
 
 abbrev pub parts_of : Scope → AnExpression → List Part
 parts_of scope (Expression-F.Parenthesised x at) = x ∷ []
-parts_of scope (Expression-F.NodeAt number at) = number ∷ []
-parts_of scope (Expression-F.NewVector of size at) = size ∷ []
+parts_of scope (Expression-F.NodeAt number at word) = number ∷ []
+parts_of scope (Expression-F.NewVector of size at word) = size ∷ []
 parts_of scope (Expression-F.Postfix head links) = parts_of_chain scope head links
 parts_of scope (Expression-F.Negative x at) = x ∷ []
 parts_of scope (Expression-F.View x of at) = x ∷ []

@@ -2,13 +2,12 @@
 ghost use Rattle.std.specs.Prelude.{◌≡◌, IfErr, IfOk};
 ghost use Rattle.ec_check.specs.Accepted.{HasCore, IsRefused};
 ghost use Rattle.ec_check.specs.declared.check.CheckError.TheVariants.{Memory};
-ghost use Rattle.ec_conform.specs.Declarations.{declarations_of as declared_by};
+ghost use Rattle.ec_conform.specs.Declarations.{declarations_of};
 ghost use Rattle.ec_conform.specs.Table.{IsTable};
 
 use crate::program::core_of;
 use ec_ast::Program;
 use ec_conform::TypeTable;
-use ec_conform::declared::{Declarations, declarations_of};
 use ec_core::Core;
 use ec_judge::program::{judged_program, scope_of};
 use ec_rules::StaticFault;
@@ -47,9 +46,8 @@ pub fn check(alloc: Global, program: Program) -> Result<Checked, CheckError>
     ensures accepted { IfOk result (λ checked. HasCore checked.program checked.table checked.core) }
     ensures refused { IfErr result (IsRefused program) }
 {
-    let declared = declarations_of(alloc, &program)?;
-    let table = TypeTable::build(alloc, &declared)?;
-    let (core, table) = core_if_accepted(alloc, table, &declared, &program)?;
+    let table = TypeTable::build(alloc, &program)?;
+    let (core, table) = core_if_accepted(alloc, table, &program)?;
     Ok(Checked {
         program,
         table,
@@ -57,21 +55,19 @@ pub fn check(alloc: Global, program: Program) -> Result<Checked, CheckError>
     })
 }
 
-/// The core of a program with these declarations and this table of types, if it breaks no static rule, and the table.
+/// The core of a program with this table of types, if it breaks no static rule, and the table.
 fn core_if_accepted(
     alloc: Global,
     table: TypeTable,
-    declared: &Declarations,
     program: &Program,
 ) -> Result<(Core, TypeTable), CheckError>
-    requires declared { declared.now ≡ declared_by program.now }
-    requires table { IsTable declared.now.types table }
+    requires { IsTable (declarations_of program.now) table }
     ensures accepted { IfOk result (λ made. HasCore program.now made.1 made.0) }
     ensures refused { IfErr result (IsRefused program.now) }
 {
     let constants = program.constants.as_slice();
     let scope = scope_of(alloc, table, constants)?;
-    let walk = judged_program(alloc, scope, declared, constants)?;
+    let walk = judged_program(alloc, scope, constants)?;
     match walk.faults.first {
         Some(fault) => Err(CheckError::Fault(fault)),
         None => Ok(core_of(alloc, walk, constants)?),

@@ -35,13 +35,13 @@ pub fn resolve<'a>(
         tree::Expression::Variable(name) => Ok(Expression::Read(r.place_of(name.text.as_slice())?)),
         tree::Expression::Parenthesised(e, _) => resolve(alloc, r, e.get()),
         tree::Expression::Constructor(object) => resolve_object(alloc, r, object.get()),
-        tree::Expression::NodeAt(e, at) => {
-            Ok(Expression::NodeAt(resolve_boxed(alloc, r, e.get())?, at.from))
+        tree::Expression::NodeAt(e, _, word) => {
+            Ok(Expression::NodeAt(resolve_boxed(alloc, r, e.get())?, word.from))
         }
         tree::Expression::NodeCount(_) => Ok(Expression::NodeCount),
-        tree::Expression::NewVector(of, e, at) => {
+        tree::Expression::NewVector(of, e, _, word) => {
             let made = vector_type(&r.walk.scope, of)?;
-            Ok(Expression::NewVector(made, resolve_boxed(alloc, r, e.get())?, at.from))
+            Ok(Expression::NewVector(made, resolve_boxed(alloc, r, e.get())?, word.from))
         }
         tree::Expression::Postfix(head, links) => {
             let before = receiver_before(alloc, &mut r.walk, head.get(), links.as_slice())?;

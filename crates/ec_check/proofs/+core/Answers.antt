@@ -236,23 +236,23 @@ expressions::resolve-returns-in-Constructor-clause-made t c =
 
 pub expressions::resolve-returns-in_ok-resolve_boxed-in-NodeAt-clause-core : goal.expressions::resolve-returns-in_ok-resolve_boxed-in-NodeAt-clause-core
 expressions::resolve-returns-in_ok-resolve_boxed-in-NodeAt-clause-core t c =
-    ap (λ x. e.NodeAt x c.in-NodeAt.at.from) (c.in_ok-resolve_boxed-in-NodeAt.ensures.core ∙ ap (λ x. (part_of x).core (env_of c.args.r.now)) c.get-in-NodeAt.ensures)
-    ∙ core_is c.args.e.now _ _ c.in-NodeAt.is (equations.node_at_layer c.in-NodeAt.e c.in-NodeAt.at) (env_of c.args.r.now)
+    ap (λ x. e.NodeAt x c.in-NodeAt.word.from) (c.in_ok-resolve_boxed-in-NodeAt.ensures.core ∙ ap (λ x. (part_of x).core (env_of c.args.r.now)) c.get-in-NodeAt.ensures)
+    ∙ core_is c.args.e.now _ _ c.in-NodeAt.is (equations.node_at_layer c.in-NodeAt.e _ c.in-NodeAt.word) (env_of c.args.r.now)
 
 pub expressions::resolve-returns-in_ok-resolve_boxed-in-NodeAt-clause-made : goal.expressions::resolve-returns-in_ok-resolve_boxed-in-NodeAt-clause-made
 expressions::resolve-returns-in_ok-resolve_boxed-in-NodeAt-clause-made t c =
-    has_made c.args.e.now _ _ c.in-NodeAt.is (equations.node_at_layer c.in-NodeAt.e c.in-NodeAt.at) c.args.r.now _
+    has_made c.args.e.now _ _ c.in-NodeAt.is (equations.node_at_layer c.in-NodeAt.e _ c.in-NodeAt.word) c.args.r.now _
     (one_made c.args.r.now _ c.get-in-NodeAt.result.now c.in-NodeAt.e c.get-in-NodeAt.ensures c.in_ok-resolve_boxed-in-NodeAt.ensures.made)
 
 pub expressions::resolve-returns-in_ok-resolve_boxed-in-NewVector-clause-core : goal.expressions::resolve-returns-in_ok-resolve_boxed-in-NewVector-clause-core
 expressions::resolve-returns-in_ok-resolve_boxed-in-NewVector-clause-core t c =
-    ap (λ of. e.NewVector of c.in_ok-resolve_boxed-in-NewVector.field-0 c.in-NewVector.at.from) c.in_ok-made-in-NewVector.ensures
-    ∙ ap (λ x. e.NewVector (vector_of (written_in c.args.r.now.walk.scope c.in-NewVector.of)) x c.in-NewVector.at.from) (c.in_ok-resolve_boxed-in-NewVector.ensures.core ∙ ap (λ x. (part_of x).core (env_of c.args.r.now)) c.get-in-NewVector.ensures)
-    ∙ core_is c.args.e.now _ _ c.in-NewVector.is (equations.new_vector_layer c.in-NewVector.of c.in-NewVector.e c.in-NewVector.at) (env_of c.args.r.now)
+    ap (λ of. e.NewVector of c.in_ok-resolve_boxed-in-NewVector.field-0 c.in-NewVector.word.from) c.in_ok-made-in-NewVector.ensures
+    ∙ ap (λ x. e.NewVector (vector_of (written_in c.args.r.now.walk.scope c.in-NewVector.of)) x c.in-NewVector.word.from) (c.in_ok-resolve_boxed-in-NewVector.ensures.core ∙ ap (λ x. (part_of x).core (env_of c.args.r.now)) c.get-in-NewVector.ensures)
+    ∙ core_is c.args.e.now _ _ c.in-NewVector.is (equations.new_vector_layer c.in-NewVector.of c.in-NewVector.e _ c.in-NewVector.word) (env_of c.args.r.now)
 
 pub expressions::resolve-returns-in_ok-resolve_boxed-in-NewVector-clause-made : goal.expressions::resolve-returns-in_ok-resolve_boxed-in-NewVector-clause-made
 expressions::resolve-returns-in_ok-resolve_boxed-in-NewVector-clause-made t c =
-    has_made c.args.e.now _ _ c.in-NewVector.is (equations.new_vector_layer c.in-NewVector.of c.in-NewVector.e c.in-NewVector.at) c.args.r.now _
+    has_made c.args.e.now _ _ c.in-NewVector.is (equations.new_vector_layer c.in-NewVector.of c.in-NewVector.e _ c.in-NewVector.word) c.args.r.now _
     (one_made c.args.r.now _ c.get-in-NewVector.result.now c.in-NewVector.e c.get-in-NewVector.ensures c.in_ok-resolve_boxed-in-NewVector.ensures.made)
 
 pub expressions::resolve-returns-in_ok-resolve_boxed-in-Negative-clause-core : goal.expressions::resolve-returns-in_ok-resolve_boxed-in-Negative-clause-core
