@@ -90,9 +90,9 @@ complete_OtherPlain (a_OtherPlain (IsPrimary.object (IsObject.object_constructor
 complete_OtherPlain (a_OtherPlain (IsPrimary.object (IsObject.object_constructor (IsFlag.with_word h) o b c d f)) u) = absurd (no_monitor u h)
 complete_OtherPlain (a_OtherPlain (IsPrimary.node_at e0 e1 b c d f) u) = took (later (later (later (later (later (later (later (later here)))))))) (keep e0 (token e1 (reads_part (a_NodeRest (IsNodeRest.node_at b c d f)) (finished refl))))
 complete_OtherPlain (a_OtherPlain (IsPrimary.node_count e0 e1 b) u) = took (later (later (later (later (later (later (later (later here)))))))) (keep e0 (token e1 (reads_part (a_NodeRest (IsNodeRest.node_count b)) (finished refl))))
-complete_OtherPlain (a_OtherPlain (IsPrimary.vector e0 e1 e2 e3 h4 e6 e7 e8 e9 h10 e12) u) = took (later (later (later (later (later (later (later (later (later here))))))))) (keep e0 (token e1 (token e2 (bound (token e3 (reads_part (a_Type h4) (bound (token e6 (token e7 (token e8 (bound (token e9 (reads_part (a_Expression h10) (bound (token e12 (made (finished refl)))))))))))))))))
+complete_OtherPlain (a_OtherPlain (IsPrimary.vector e0 e1 e2 e3 h4 e6 e7 e8 e9 h10 e12) u) = took (later (later (later (later (later (later (later (later (later here))))))))) (keep e0 (token e1 (token e2 (bound (token e3 (reads_part (a_Type h4) (bound (token e6 (token e7 (keep e8 (bound (token e9 (reads_part (a_Expression h10) (bound (token e12 (made (finished refl)))))))))))))))))
 
 pub complete_NodeRest : {vs ws : Values} {ts us : List Token} → Means part.NodeRest vs ts us ws → Taken part.NodeRest vs ts us ws
 unfolding rest first_expression first_place
-complete_NodeRest (a_NodeRest (IsNodeRest.node_at e0 e1 h2 e4)) = took here (token e0 (bound (token e1 (reads_part (a_Expression h2) (bound (token e4 (made (finished refl))))))))
+complete_NodeRest (a_NodeRest (IsNodeRest.node_at e0 e1 h2 e4)) = took here (keep e0 (bound (token e1 (reads_part (a_Expression h2) (bound (token e4 (made (finished refl))))))))
 complete_NodeRest (a_NodeRest (IsNodeRest.node_count e0)) = took (later here) (token e0 (made (finished refl)))

@@ -311,7 +311,7 @@ pub data IsAfterDot (name : Name) : List Token → List Token → List Link → 
 -- behind "node" ".": "at" "[" expr "]" | COUNT
 pub data IsNodeRest (at : Span) : List Token → List Token → Expression → Type 0 where
   node_at : {a b c : Token} {ts us : List Token} {x : Expression} →
-      Is t.At a → Is t.OpenBracket b → IsExpr ts (c ∷ us) x → Is t.CloseBracket c → IsNodeRest at (a ∷ b ∷ ts) us (e.NodeAt x at)
+      Is t.At a → Is t.OpenBracket b → IsExpr ts (c ∷ us) x → Is t.CloseBracket c → IsNodeRest at (a ∷ b ∷ ts) us (e.NodeAt x at a.at)
   node_count : {a : Token} {us : List Token} → Is t.Count a → IsNodeRest at (a ∷ us) us (e.NodeCount at)
 
 -- "!" not

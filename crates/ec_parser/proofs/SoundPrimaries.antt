@@ -68,11 +68,11 @@ sound_OtherPlain (later (later (later (later (later here))))) (keep e0 (made (fi
 sound_OtherPlain (later (later (later (later (later (later here)))))) (bound (keep e0 (reads_part (a_Expression h1) (bound (token e3 (made (finished q))))))) = into q (a_OtherPlain (IsPrimary.parenthesised e0 h1 e3) (differs e0 (λ x. cc)))
 sound_OtherPlain (later (later (later (later (later (later (later here))))))) (bound (keep e0 (made (reads_part (a_Name h2) (reads_part (a_Body h3) (bound (token e5 (reads_part (a_Name h6) (made (made (finished q))))))))))) = into q (a_OtherPlain (IsPrimary.object (IsObject.object_constructor IsFlag.without e0 h2 h3 e5 h6)) (differs e0 (λ x. cc)))
 sound_OtherPlain (later (later (later (later (later (later (later (later here)))))))) (keep e0 (token e1 (reads_part (a_NodeRest h2) (finished q)))) = into q (a_OtherPlain (node_rest e0 e1 h2) (differs e0 (λ x. cc)))
-sound_OtherPlain (later (later (later (later (later (later (later (later (later here))))))))) (keep e0 (token e1 (token e2 (bound (token e3 (reads_part (a_Type h4) (bound (token e6 (token e7 (token e8 (bound (token e9 (reads_part (a_Expression h10) (bound (token e12 (made (finished q))))))))))))))))) = into q (a_OtherPlain (IsPrimary.vector e0 e1 e2 e3 h4 e6 e7 e8 e9 h10 e12) (differs e0 (λ x. cc)))
+sound_OtherPlain (later (later (later (later (later (later (later (later (later here))))))))) (keep e0 (token e1 (token e2 (bound (token e3 (reads_part (a_Type h4) (bound (token e6 (token e7 (keep e8 (bound (token e9 (reads_part (a_Expression h10) (bound (token e12 (made (finished q))))))))))))))))) = into q (a_OtherPlain (IsPrimary.vector e0 e1 e2 e3 h4 e6 e7 e8 e9 h10 e12) (differs e0 (λ x. cc)))
 sound_OtherPlain (later (later (later (later (later (later (later (later (later (later x)))))))))) _ = elim x [ ]
 
 pub sound_NodeRest : {r : List Symbol} {vs ws : Values} {ts us : List Token} → IsRule r (rules part.NodeRest) → Seq r vs ts us ws → Means part.NodeRest vs ts us ws
 unfolding rest first_expression first_place
-sound_NodeRest here (token e0 (bound (token e1 (reads_part (a_Expression h2) (bound (token e4 (made (finished q)))))))) = into q (a_NodeRest (IsNodeRest.node_at e0 e1 h2 e4))
+sound_NodeRest here (keep e0 (bound (token e1 (reads_part (a_Expression h2) (bound (token e4 (made (finished q)))))))) = into q (a_NodeRest (IsNodeRest.node_at e0 e1 h2 e4))
 sound_NodeRest (later here) (token e0 (made (finished q))) = into q (a_NodeRest (IsNodeRest.node_count e0))
 sound_NodeRest (later (later x)) _ = elim x [ ]

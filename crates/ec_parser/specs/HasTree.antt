@@ -221,13 +221,13 @@ mutual
     object : {ts us : List Token} {x : ObjectConstructor} → IsObject ts us x → IsPrimary ts us (e.Constructor x) a_primary
     node_at : {a b c d f : Token} {ts us : List Token} {x : Expression} →
         Is t.Node a → Is t.Dot b → Is t.At c → Is t.OpenBracket d → IsExpr ts (f ∷ us) x → Is t.CloseBracket f →
-        IsPrimary (a ∷ b ∷ c ∷ d ∷ ts) us (e.NodeAt x a.at) a_primary
+        IsPrimary (a ∷ b ∷ c ∷ d ∷ ts) us (e.NodeAt x a.at c.at) a_primary
     node_count : {a b c : Token} {us : List Token} →
         Is t.Node a → Is t.Dot b → Is t.Count c → IsPrimary (a ∷ b ∷ c ∷ us) us (e.NodeCount a.at) a_primary
     vector : {a b c d f g h i j : Token} {ts us vs : List Token} {of : TypeName} {x : Expression} →
         Is t.Vector a → Is t.Dot b → Is t.Of c → Is t.OpenBracket d → IsType ts (f ∷ g ∷ h ∷ i ∷ us) of → Is t.CloseBracket f →
         Is t.Dot g → Is t.Create h → Is t.OpenBracket i → IsExpr us (j ∷ vs) x → Is t.CloseBracket j →
-        IsPrimary (a ∷ b ∷ c ∷ d ∷ ts) vs (e.NewVector of x a.at) a_primary
+        IsPrimary (a ∷ b ∷ c ∷ d ∷ ts) vs (e.NewVector of x a.at h.at) a_primary
 
   -- postfix = primary { "." ID [ "[" [ expr { "," expr } ] "]" ] | "[" expr "]" }
   pub data IsPostfix : List Token → List Token → Expression → Ending → Type 0 where

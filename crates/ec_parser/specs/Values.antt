@@ -727,15 +727,17 @@ make_parenthesised vs =
 abbrev pub make_vector : Values → Values
 make_vector vs =
     let x = first_expression vs.expressions in
+    let create = first_name vs.names in
     let of = first_type vs.types in
     let at = first_place vs.places in
-    record vs { expressions = (aExpression.NewVector of x at) ∷ rest vs.expressions; types = rest vs.types; places = rest vs.places }
+    record vs { names = rest vs.names; expressions = (aExpression.NewVector of x at create.at) ∷ rest vs.expressions; types = rest vs.types; places = rest vs.places }
 
 abbrev pub make_node_at : Values → Values
 make_node_at vs =
     let x = first_expression vs.expressions in
-    let at = first_place vs.places in
-    record vs { expressions = (aExpression.NodeAt x at) ∷ rest vs.expressions; places = rest vs.places }
+    let word = first_place vs.places in
+    let at = first_place (rest vs.places) in
+    record vs { expressions = (aExpression.NodeAt x at word) ∷ rest vs.expressions; places = rest (rest vs.places) }
 
 abbrev pub make_node_count : Values → Values
 make_node_count vs =

@@ -1308,7 +1308,7 @@ const OTHER_PLAIN: [Alternative; 10] = [
         Symbol::Bound(Bound::Closes(Opened::Bracket)),
         Symbol::Token(Terminal::CloseBracket),
         Symbol::Token(Terminal::Dot),
-        Symbol::Token(Terminal::Create),
+        Symbol::Keep(Terminal::Create),
         Symbol::Bound(Bound::Opens(Opened::Bracket)),
         Symbol::Token(Terminal::OpenBracket),
         Symbol::Part(Part::Expression),
@@ -1320,7 +1320,7 @@ const OTHER_PLAIN: [Alternative; 10] = [
 
 const NODE_REST: [Alternative; 2] = [
     &[
-        Symbol::Token(Terminal::At),
+        Symbol::Keep(Terminal::At),
         Symbol::Bound(Bound::Opens(Opened::Bracket)),
         Symbol::Token(Terminal::OpenBracket),
         Symbol::Part(Part::Expression),

@@ -1243,28 +1243,32 @@ fn make_parenthesised(alloc: Global, values: &mut Values) -> Result<(), AllocErr
 
 fn make_vector(alloc: Global, values: &mut Values) -> Result<(), AllocError>
     requires x { IsFilled values.old.expressions }
+    requires create { IsFilled values.old.names }
     requires of { IsFilled values.old.types }
     requires at { IsFilled values.old.places }
     ensures { OnOk result (values.new ≡ spec.make_vector values.old) }
 {
     let x = take_expression(&mut values.expressions);
+    let create = take_name(&mut values.names);
     let of = take_type(&mut values.types);
     let at = take_place(&mut values.places);
     values
         .expressions
-        .push(Expression::NewVector(of, Boxed::new(alloc, x)?, at))
+        .push(Expression::NewVector(of, Boxed::new(alloc, x)?, at, create.at))
 }
 
 fn make_node_at(alloc: Global, values: &mut Values) -> Result<(), AllocError>
     requires x { IsFilled values.old.expressions }
-    requires at { IsFilled values.old.places }
+    requires word { IsFilled values.old.places }
+    requires at { IsFilled (rest values.old.places) }
     ensures { OnOk result (values.new ≡ spec.make_node_at values.old) }
 {
     let x = take_expression(&mut values.expressions);
+    let word = take_place(&mut values.places);
     let at = take_place(&mut values.places);
     values
         .expressions
-        .push(Expression::NodeAt(Boxed::new(alloc, x)?, at))
+        .push(Expression::NodeAt(Boxed::new(alloc, x)?, at, word))
 }
 
 fn make_node_count(values: &mut Values) -> Result<(), AllocError>

@@ -43,10 +43,10 @@ mutual
   primary (IsPrimary.parenthesised e h f) = of_expression _ (form.rolls-Parenthesised _ _) (passed (past (expr h) (passed arrived)))
   primary (IsPrimary.object h) = of_expression _ (form.rolls-Constructor _) (object h)
   primary (IsPrimary.node_at e f g i h j) =
-      of_expression _ (form.rolls-NodeAt _ _) (passed (passed (passed (passed (past (expr h) (passed arrived))))))
+      of_expression _ (form.rolls-NodeAt _ _ _) (passed (passed (passed (passed (past (expr h) (passed arrived))))))
   primary (IsPrimary.node_count e f g) = of_expression _ (form.rolls-NodeCount _) (passed (passed (passed arrived)))
   primary (IsPrimary.vector e f g i of j k l n h o) =
-      of_expression _ (form.rolls-NewVector _ _ _)
+      of_expression _ (form.rolls-NewVector _ _ _ _)
       (passed (passed (passed (passed (and_then (type of) (passed (passed (passed (passed (past (expr h) (passed arrived)))))))))))
 
   postfix : {ts us : List Token} {x : Expression} {last : Ending} → IsPostfix ts us x last → Among ts us (in_expression x).types
