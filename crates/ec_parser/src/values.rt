@@ -1252,9 +1252,7 @@ fn make_vector(alloc: Global, values: &mut Values) -> Result<(), AllocError>
     let create = take_name(&mut values.names);
     let of = take_type(&mut values.types);
     let at = take_place(&mut values.places);
-    values
-        .expressions
-        .push(Expression::NewVector(of, Boxed::new(alloc, x)?, at, create.at))
+    values.expressions.push(Expression::NewVector(of, Boxed::new(alloc, x)?, at, create.at))
 }
 
 fn make_node_at(alloc: Global, values: &mut Values) -> Result<(), AllocError>
