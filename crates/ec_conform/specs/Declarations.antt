@@ -87,8 +87,8 @@ abbrev pub expression_step : Expression-F Declarations Declarations MemberPart D
     BodyPart Declarations Declarations MemberPart Declarations → Declarations
 expression_step (Expression-F.Parenthesised e at) = e
 expression_step (Expression-F.Constructor object) = object
-expression_step (Expression-F.NodeAt e at) = e
-expression_step (Expression-F.NewVector of e at) = e
+expression_step (Expression-F.NodeAt e at word) = e
+expression_step (Expression-F.NewVector of e at word) = e
 expression_step (Expression-F.Postfix e links) = both e (joined links)
 expression_step (Expression-F.Negative e at) = e
 expression_step (Expression-F.View e of at) = e

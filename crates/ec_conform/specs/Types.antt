@@ -1,6 +1,7 @@
 -- Types, as the static rules see them, and the types that a list of declarations names.
 use Rattle.std.specs.Prelude.{ℕ, zero, suc, ◌==◌, ◌+◌, ◌&&◌, Bool, true, false, if◌then◌else◌, List, [], ◌∷◌, ◌++◌, map, Option, Some, None, option_map}
 use Rattle.ec_ast.specs.declared.Signature.{Signature}
+use Rattle.ec_ast.specs.declared.Span.{Span}
 use Rattle.ec_ast.specs.declared.TypeName.{TypeName}
 use Rattle.ec_ast.specs.declared.TypeName.TheOpen.{TypeName-F}
 use Rattle.ec_ast.specs.declared.TypeName.TheFolds.{fold-TypeName}
@@ -142,7 +143,7 @@ operations_from names taken (s ∷ ss) =
 abbrev pub type_with : List Text → DeclaredType → NamedType
 type_with names d = record { operations = operations_from names [] d.operations }
 
--- ---- the types of a list of declarations
+-- ---- what is declared
 
 abbrev pub names_of : List DeclaredType → List Text
 names_of declared = map (λ d. d.name.text) declared
@@ -150,6 +151,10 @@ names_of declared = map (λ d. d.name.text) declared
 -- the first bytes of their names
 abbrev pub places_of : List DeclaredType → List ℕ
 places_of declared = map (λ d. d.name.at.from) declared
+
+-- the first bytes of the places of operations
+abbrev pub firsts_of : List Span → List ℕ
+firsts_of places = map (λ at. at.from) places
 
 abbrev pub types_of : List DeclaredType → List NamedType
 types_of declared = map (type_with (names_of declared)) declared

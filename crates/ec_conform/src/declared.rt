@@ -471,8 +471,8 @@ fn in_expression(alloc: Global, e: &Expression, found: &mut Declarations) -> Res
     match e {
         Expression::Constructor(object) => in_constructor(alloc, object.get(), found),
         Expression::Parenthesised(e, _)
-        | Expression::NodeAt(e, _)
-        | Expression::NewVector(_, e, _)
+        | Expression::NodeAt(e, _, _)
+        | Expression::NewVector(_, e, _, _)
         | Expression::Negative(e, _)
         | Expression::View(e, _, _)
         | Expression::IsFixed(e, _)

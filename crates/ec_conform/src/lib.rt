@@ -1,10 +1,11 @@
-//! Which types a program declares, and which types conform to which.
+//! Which types and operations a program declares, and which types conform to which.
 #![tactic(auto)]
 
 ghost use Rattle.std.specs.Prelude.{◌≡◌, ◌↔◌, IfOk, length, option_map, slice_get, true};
 ghost use Rattle.std.specs.Option.{option_copied};
 ghost use Rattle.ec_names.specs.Names.{first_named};
 ghost use Rattle.ec_conform.specs.Conforms.{Conforms, operations_at};
+ghost use Rattle.ec_conform.specs.Declarations.{declarations_of as declared_by};
 ghost use Rattle.ec_conform.specs.Table.{conforms, IsTable};
 ghost use Rattle.ec_conform.specs.Types as spec;
 
@@ -16,10 +17,10 @@ mod pairs;
 mod row;
 pub mod static_type;
 
-use declared::{Declarations, DeclaredType};
-use ec_ast::{Span, TypeName};
+use declared::{Declarations, declarations_of};
+use ec_ast::{Program, Span, TypeName};
 use ec_names::Names;
-use named_type::{names_of, places_of, types_with};
+use named_type::{firsts_of, names_of, places_of, types_with};
 use numbered::NumberedTypes;
 use operations::NamedOperation;
 use pairs::{conforms_by, largest};
@@ -28,7 +29,7 @@ use static_type::{Plain, StaticType};
 use std::alloc::{AllocError, Global};
 use std::marker::Model;
 
-/// The types that a program declares, by their numbers, and which of them conform to which.
+/// The types that a program declares, by their numbers, which of them conform to which, and where its operations stand.
 #[derive(Drop)]
 pub struct TypeTable {
     names: Names,
@@ -37,6 +38,8 @@ pub struct TypeTable {
     types: NumberedTypes,
     /// For each two types, whether the first conforms to the second.
     pairs: Vec<bool>,
+    /// The first bytes of the places of the operations.
+    operations: Vec<usize>,
 }
 
 impl Model for TypeTable {
@@ -45,32 +48,42 @@ impl Model for TypeTable {
 
     ghost Value = { Table };
 
-    ghost view = { λ t. record { names = t.names; places = t.places; types = t.types; pairs = t.pairs.items } };
+    ghost view = { λ t. record {
+      names = t.names;
+      places = t.places;
+      types = t.types;
+      pairs = t.pairs.items;
+      operations = t.operations.items;
+    } };
 
     ghost invariant = { λ t. IsLargest t.types t.pairs.items };
 }
 
 impl TypeTable {
-    /// The table of the types of a program. The error is want of memory.
-    pub fn build(alloc: Global, declarations: &Declarations) -> Result<TypeTable, AllocError>
-        ensures { IfOk result (λ table. IsTable declarations.now.types table) }
+    /// The table of a program. The error is want of memory.
+    pub fn build(alloc: Global, program: &Program) -> Result<TypeTable, AllocError>
+        ensures { IfOk result (λ table. IsTable (declared_by program.now) table) }
     {
-        TypeTable::from_types(alloc, declarations.types.as_slice())
+        let declared = declarations_of(alloc, program)?;
+        TypeTable::of_declarations(alloc, &declared)
     }
 
-    /// The table of declared types. The error is want of memory.
-    pub fn from_types(alloc: Global, declared: &[DeclaredType]) -> Result<TypeTable, AllocError>
+    /// The table of declarations. The error is want of memory.
+    pub fn of_declarations(alloc: Global, declared: &Declarations) -> Result<TypeTable, AllocError>
         ensures { IfOk result (λ table. IsTable declared.now table) }
     {
-        let names = names_of(alloc, declared)?;
-        let places = Row::new(alloc, places_of(alloc, declared)?)?;
-        let types = NumberedTypes::new(alloc, types_with(alloc, &names, declared)?)?;
+        let written = declared.types.as_slice();
+        let names = names_of(alloc, written)?;
+        let places = Row::new(alloc, places_of(alloc, written)?)?;
+        let types = NumberedTypes::new(alloc, types_with(alloc, &names, written)?)?;
         let pairs = largest(alloc, &types)?;
+        let operations = firsts_of(alloc, declared.operations.as_slice())?;
         Ok(TypeTable {
             names,
             places,
             types,
             pairs,
+            operations,
         })
     }
 
@@ -103,6 +116,20 @@ impl TypeTable {
             None => self.places.len(),
             Some(number) => number,
         }
+    }
+
+    /// The first byte of the name of the type with this number.
+    pub fn place(&self, number: usize) -> Option<usize>
+        ensures { result ≡ slice_get self.now.places number }
+    {
+        self.places.get(number)
+    }
+
+    /// The first byte of the place of the operation with this number, of those of objects and classes.
+    pub fn operation_place(&self, number: usize) -> Option<usize>
+        ensures { result ≡ slice_get self.now.operations number }
+    {
+        self.operations.get(number).copied()
     }
 
     /// The type that is written so. The error is want of memory.

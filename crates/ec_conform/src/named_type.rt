@@ -6,7 +6,7 @@ ghost use Rattle.ec_conform.specs.Types as spec;
 use crate::declared::DeclaredType;
 use crate::operations::{NamedOperation, Operations};
 use crate::static_type::{Plain, StaticType, vector_of};
-use ec_ast::{Signature, TypeName};
+use ec_ast::{Signature, Span, TypeName};
 use ec_names::Names;
 use sqlite_items::Items;
 use std::alloc::{AllocError, Global};
@@ -37,6 +37,17 @@ pub fn places_of(alloc: Global, declared: &[DeclaredType]) -> Result<Vec<usize>,
         places.push(d.name.at.from as usize)?;
     }
     Ok(places)
+}
+
+/// The first bytes of places. The error is want of memory.
+pub fn firsts_of(alloc: Global, places: &[Span]) -> Result<Vec<usize>, AllocError>
+    ensures { IfOk result (λ firsts. firsts.items ≡ spec.firsts_of places.now) }
+{
+    let mut firsts = Vec::new(alloc);
+    for at in places {
+        firsts.push(at.from as usize)?;
+    }
+    Ok(firsts)
 }
 
 /// The type that a name names. The error is want of memory.

@@ -101,9 +101,9 @@ expression_mapped (Expression-F.Itself at) = refl
 expression_mapped (Expression-F.Expression::Variable name) = refl
 expression_mapped (Expression-F.Parenthesised x at) = refl
 expression_mapped (Expression-F.Constructor o) = refl
-expression_mapped (Expression-F.NodeAt x at) = refl
+expression_mapped (Expression-F.NodeAt x at word) = refl
 expression_mapped (Expression-F.NodeCount at) = refl
-expression_mapped (Expression-F.NewVector of x at) = refl
+expression_mapped (Expression-F.NewVector of x at word) = refl
 expression_mapped (Expression-F.Postfix x links) = refl
 expression_mapped (Expression-F.Negative x at) = refl
 expression_mapped (Expression-F.View x of at) = refl
@@ -155,15 +155,16 @@ parenthesised_layer x at =
 pub constructor_layer : (o : ObjectConstructor) → layer_of (e.Constructor o) ≡ Expression-F.Constructor (object_of o)
 constructor_layer o = layer_of_expression (e.Constructor o) (Expression-F.Constructor o) (e.rolls-Constructor o)
 
-pub node_at_layer : (x : Expression) (at : Span) → layer_of (e.NodeAt x at) ≡ Expression-F.NodeAt (part_of x) at
-node_at_layer x at = layer_of_expression (e.NodeAt x at) (Expression-F.NodeAt x at) (e.rolls-NodeAt x at)
+pub node_at_layer : (x : Expression) (at word : Span) → layer_of (e.NodeAt x at word) ≡ Expression-F.NodeAt (part_of x) at word
+node_at_layer x at word = layer_of_expression (e.NodeAt x at word) (Expression-F.NodeAt x at word) (e.rolls-NodeAt x at word)
 
 pub node_count_layer : (at : Span) → layer_of (e.NodeCount at) ≡ Expression-F.NodeCount at
 node_count_layer at = layer_of_expression (e.NodeCount at) (Expression-F.NodeCount at) (e.rolls-NodeCount at)
 
-pub new_vector_layer : (of : TypeName) (x : Expression) (at : Span) →
-    layer_of (e.NewVector of x at) ≡ Expression-F.NewVector of (part_of x) at
-new_vector_layer of x at = layer_of_expression (e.NewVector of x at) (Expression-F.NewVector of x at) (e.rolls-NewVector of x at)
+pub new_vector_layer : (of : TypeName) (x : Expression) (at word : Span) →
+    layer_of (e.NewVector of x at word) ≡ Expression-F.NewVector of (part_of x) at word
+new_vector_layer of x at word =
+    layer_of_expression (e.NewVector of x at word) (Expression-F.NewVector of x at word) (e.rolls-NewVector of x at word)
 
 pub postfix_layer : (x : Expression) (links : List Link) →
     layer_of (e.Postfix x links) ≡ Expression-F.Postfix (part_of x) (map link_of links)

@@ -11,7 +11,7 @@ use Rattle.ec_ast.specs.declared.Expression.TheOpen.{Expression-F, Statement-F}
 use Rattle.ec_ast.specs.declared.TypeName.{TypeName}
 use Rattle.ec_ast.specs.declared.TypeName.TheVariants as of_type
 use Rattle.ec_conform.specs.Table.{Table}
-use Rattle.ec_conform.specs.Types.{names_of, places_of, types_of}
+use Rattle.ec_conform.specs.Types.{firsts_of, names_of, places_of, types_of}
 use Rattle.ec_conform.specs.declared.declared.DeclaredType.{DeclaredType}
 use Rattle.ec_rules.specs.declared.Rule.TheVariants as broken
 use Rattle.ec_rules.specs.declared.StaticFault.{StaticFault}
@@ -88,7 +88,8 @@ declared name at operations = record { name = word name at; operations = operati
 
 -- the table of these types, each of which conforms to the types that the row of pairs says
 abbrev table : List DeclaredType → List Bool → Table
-table types pairs = record { names = names_of types; places = places_of types; types = types_of types; pairs = pairs }
+table types pairs =
+    record { names = names_of types; places = places_of types; types = types_of types; pairs = pairs; operations = [] }
 
 -- one type, which conforms to itself
 abbrev alone : DeclaredType → Table
@@ -101,8 +102,7 @@ abbrev main_alone : Table
 main_alone = alone (declared (codes "main") 4 [])
 
 abbrev faults_with : Table → List ConstantPart → List StaticFault
-faults_with types constants =
-    in_order (faults_of_constants (record { types = []; operations = [] }) (scope_of_program types constants) constants)
+faults_with types constants = in_order (faults_of_constants (scope_of_program types constants) constants)
 
 -- ---- constants of a program
 
@@ -541,20 +541,45 @@ first_operation_nodes = refl
 
 -- ---- limits
 
-abbrev one : DeclaredType
-one = declared (codes "a") 1 []
+-- the table of a program whose types and operations begin at these places
+abbrev places : List ℕ → List ℕ → Table
+places types operations = record { names = []; places = types; types = []; pairs = []; operations = operations }
 
-thousand_types : many_types (replicate 1000 one) ≡ []
+thousand_types : many_types (places (replicate 999 2 ++ 4 ∷ []) []) (span 4) ≡ []
 thousand_types = refl
 
-one_type_more : many_types (replicate 1001 one) ≡ fault broken.ManyTypes (span 1)
-one_type_more = refl
+abbrev one_type_more : Table
+one_type_more = places (replicate 1000 2 ++ 4 ∷ []) []
 
-four_thousand_operations : many_operations (replicate 4000 (span 1)) ≡ []
+last_of_the_types : many_types one_type_more (span 4) ≡ fault broken.ManyTypes (span 4)
+last_of_the_types = refl
+
+type_before_the_last : many_types one_type_more (span 2) ≡ []
+type_before_the_last = refl
+
+four_thousand_operations : many_operations (places [] (replicate 3999 2 ++ 4 ∷ [])) (span 4) ≡ []
 four_thousand_operations = refl
 
-one_operation_more : many_operations (replicate 4001 (span 1)) ≡ fault broken.ManyOperations (span 1)
-one_operation_more = refl
+abbrev one_operation_more : Table
+one_operation_more = places [] (replicate 4000 2 ++ 4 ∷ [])
+
+last_of_the_operations : many_operations one_operation_more (span 4) ≡ fault broken.ManyOperations (span 4)
+last_of_the_operations = refl
+
+operation_before_the_last : many_operations one_operation_more (span 2) ≡ []
+operation_before_the_last = refl
+
+-- const z : Integer <- object main end main, which has no type where the limit is passed in it
+abbrev one_too_many : ConstantPart
+one_too_many = constant (codes "z") 1 (Some (of_type.Integer (span 2))) (object (holder (codes "main") 4 false [] [] [] 90))
+
+type_within : faults_with one_type_more (one_too_many ∷ []) ≡ fault broken.ManyTypes (span 4)
+unfolding expression_part block_piece
+type_within = simp (written_integer, type_names_integer) refl
+
+operation_within : faults_with one_operation_more (one_too_many ∷ []) ≡ fault broken.ManyOperations (span 4)
+unfolding expression_part block_piece
+operation_within = simp (written_integer, type_names_integer) refl
 
 abbrev integer_parameter : Parameter
 integer_parameter = record { name = word (codes "k") 2; of = of_type.Integer (span 4) }

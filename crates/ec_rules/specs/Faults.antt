@@ -11,14 +11,13 @@ use Rattle.ec_ast.specs.declared.Typeobject.{Typeobject}
 use Rattle.ec_conform.specs.Declarations.{declarations_of}
 use Rattle.ec_conform.specs.Table.{Table, IsTable}
 use Rattle.ec_conform.specs.Types.{number_at}
-use Rattle.ec_conform.specs.declared.declared.Declarations.{Declarations}
 use Rattle.ec_conform.specs.declared.static_type.StaticType.{StaticType}
 use Rattle.ec_rules.specs.declared.StaticFault.{StaticFault}
 use Rattle.ec_rules.specs.declared.judged.Done.{Done}
-use Rattle.ec_rules.specs.Doubled.{doubled, doubled_in_typeobject, doubled_type}
+use Rattle.ec_rules.specs.Doubled.{doubled, doubled_in_typeobject}
 use Rattle.ec_rules.specs.EndNames.{end_of_typeobject, name_of_constant}
-use Rattle.ec_rules.specs.Judging.{faults_in_holder}
-use Rattle.ec_rules.specs.Limits.{many_operations, many_types, too_large}
+use Rattle.ec_rules.specs.Judging.{faults_in_holder, type_faults}
+use Rattle.ec_rules.specs.Limits.{too_large}
 use Rattle.ec_rules.specs.Lists.{each, each_of}
 use Rattle.ec_rules.specs.Members.{constant_type}
 use Rattle.ec_rules.specs.Names.{unknown_in_signature, unknown_types}
@@ -62,7 +61,7 @@ scope_of_program table constants = scope_with table (globals_in (scope_of_names 
 abbrev pub faults_in_typeobject : Scope → Typeobject → List StaticFault
 faults_in_typeobject scope t =
     each (unknown_in_signature scope.table) t.operations
-    ++ (doubled_type scope.table t.name ++ (doubled_in_typeobject t ++ end_of_typeobject t))
+    ++ (type_faults scope.table t.name ++ (doubled_in_typeobject t ++ end_of_typeobject t))
 
 abbrev pub faults_in_constant : Scope → Name → Option TypeName → ValuePart → List StaticFault
 faults_in_constant scope name of (expression e) =
@@ -86,17 +85,16 @@ too_large_program scope [] = []
 too_large_program scope (c ∷ cs) = too_large c.at 0 (constants_done scope (c ∷ cs))
 
 -- all faults, by part and rule
-abbrev pub faults_of_constants : Declarations → Scope → List ConstantPart → List StaticFault
-faults_of_constants declared scope constants =
+abbrev pub faults_of_constants : Scope → List ConstantPart → List StaticFault
+faults_of_constants scope constants =
     each (λ c. faults_in_constant scope c.name c.of c.value) constants
-    ++ (doubled (map (λ c. c.name) constants)
-    ++ (too_large_program scope constants ++ (many_types declared.types ++ many_operations declared.operations)))
+    ++ (doubled (map (λ c. c.name) constants) ++ too_large_program scope constants)
 
 -- ---- of a program
 
 abbrev pub faults_of_program : Table → Program → List StaticFault
 faults_of_program table program =
-    faults_of_constants (declarations_of program) (scope_of_program table (constant_parts program)) (constant_parts program)
+    faults_of_constants (scope_of_program table (constant_parts program)) (constant_parts program)
 
 -- The static faults of a program, by place, then by rule, with a table of its types.
 abbrev pub StaticFaults : Table → Program → List StaticFault
@@ -104,7 +102,7 @@ StaticFaults table program = in_order (faults_of_program table program)
 
 -- These are the static faults of a program, by place, then by rule.
 abbrev pub HasFaults : Program → List StaticFault → Type 0
-HasFaults program faults = (table : Table) × IsTable (declarations_of program).types table × (StaticFaults table program ≡ faults)
+HasFaults program faults = (table : Table) × IsTable (declarations_of program) table × (StaticFaults table program ≡ faults)
 
 -- the program breaks no static rule
 abbrev pub IsAccepted : Program → Type 0

@@ -47,8 +47,8 @@ postfix_height scope (Typed of) head links = links_height scope (value_in scope 
 -- That of an object constructor depends on what it captures (`constructor_height`).
 abbrev pub height_of : Scope → AnExpression → ℕ
 height_of scope (Expression-F.Parenthesised e at) = (value_in scope e).height
-height_of scope (Expression-F.NodeAt number at) = (value_in scope number).height
-height_of scope (Expression-F.NewVector of size at) = (value_in scope size).height
+height_of scope (Expression-F.NodeAt number at word) = (value_in scope number).height
+height_of scope (Expression-F.NewVector of size at word) = (value_in scope size).height
 height_of scope (Expression-F.Postfix head links) = postfix_height scope (receiver scope head links) head links
 height_of scope (Expression-F.Negative e at) = (value_in scope e).height
 height_of scope (Expression-F.View e of at) = (value_in scope e).height

@@ -2,8 +2,10 @@
 -- each rule.
 use Rattle.std.specs.Prelude.{ℕ, Bool, true, if◌then◌else◌, List, [], ◌∷◌, ◌++◌, codes, map, Option, Some}
 use Rattle.std.specs.Prelude.{None, option_and_then}
+use Rattle.ec_ast.specs.declared.Name.{Name}
 use Rattle.ec_ast.specs.declared.Span.{Span}
 use Rattle.ec_ast.specs.declared.Expression.TheOpen.{Expression-F, Link-F, Member-F, Statement-F}
+use Rattle.ec_conform.specs.Table.{Table}
 use Rattle.ec_conform.specs.Types.{known, named, number_at, vector_of}
 use Rattle.ec_conform.specs.declared.static_type.StaticType.{StaticType}
 use Rattle.ec_conform.specs.declared.static_type.StaticType.TheVariants.{Nil}
@@ -16,7 +18,7 @@ use Rattle.ec_rules.specs.Doubled.{doubled_in_body, doubled_in_operation, double
 use Rattle.ec_rules.specs.EndNames.{end_of_holder, end_of_operation}
 use Rattle.ec_rules.specs.Exits.{exit_outside}
 use Rattle.ec_rules.specs.Heights.{constructor_height, height_of}
-use Rattle.ec_rules.specs.Limits.{long_in_expression, many_fields, many_parameters, too_large, variables_of}
+use Rattle.ec_rules.specs.Limits.{long_in_expression, many_fields, many_parameters, many_types, measured, variables_of}
 use Rattle.ec_rules.specs.Lists.{each}
 use Rattle.ec_rules.specs.Members.{constant_entry, constant_type, scope_of, scope_of_operation, variable_entry}
 use Rattle.ec_rules.specs.Names.{unknown_in_expression, unknown_in_member, unknown_in_parameters, unknown_in_statement}
@@ -48,7 +50,8 @@ abbrev pub operation_faults : Scope → OperationPart → Finished → List Stat
 operation_faults scope o block =
     block.faults
     ++ (doubled_in_operation o
-    ++ (end_of_operation o ++ (many_parameters o.parameters ++ too_large o.name.at (variables_of o) block.done)))
+    ++ (end_of_operation o
+    ++ (many_parameters o.parameters ++ measured scope.table o.name.at (variables_of o) block.done)))
 
 abbrev pub operation_finished : Scope → OperationPart → Finished → Finished
 operation_finished scope o block = record { done = nothing_done; uses = block.uses; faults = operation_faults scope o block }
@@ -93,25 +96,34 @@ abbrev pub first_finished : Scope → Holder → Finished
 first_finished scope holder =
     both (members_finished scope holder.is_monitored holder.body.members) (finished_if scope holder.body.initially)
 
-abbrev pub process_with : Span → Finished → Finished
-process_with at block = record { done = nothing_done; uses = block.uses; faults = block.faults ++ too_large at 0 block.done }
+abbrev pub process_with : Table → Span → Finished → Finished
+process_with table at block = record {
+  done = nothing_done;
+  uses = block.uses;
+  faults = block.faults ++ measured table at 0 block.done;
+}
 
 abbrev pub process_finished : Scope → Option ProcessPart → Finished
 process_finished scope None = nothing_finished
-process_finished scope (Some p) = process_with p.at (p.block (in_a_process scope))
+process_finished scope (Some p) = process_with scope.table p.at (p.block (in_a_process scope))
 
-abbrev pub body_with : Span → Finished → Finished → Finished
-body_with at first process = both (with_faults (too_large at 0 first.done) first) process
+abbrev pub body_with : Table → Span → Finished → Finished → Finished
+body_with table at first process = both (with_faults (measured table at 0 first.done) first) process
 
 -- all that stands in the body, in the scope of the body
 abbrev pub body_finished : Scope → Holder → Finished
-body_finished scope holder = body_with holder.name.at (first_finished scope holder) (process_finished scope holder.body.process)
+body_finished scope holder =
+    body_with scope.table holder.name.at (first_finished scope holder) (process_finished scope holder.body.process)
+
+-- of a typeobject, a class or an object constructor, by its name
+abbrev pub type_faults : Table → Name → List StaticFault
+type_faults table name = doubled_type table name ++ many_types table name.at
 
 -- of its heading and its names, in the scope around it
 abbrev pub heading_faults : Scope → Holder → List StaticFault
 heading_faults scope holder =
     unknown_in_parameters scope.table holder.parameters
-    ++ (doubled_type scope.table holder.name
+    ++ (type_faults scope.table holder.name
     ++ (doubled_in_body holder ++ (end_of_holder holder ++ many_parameters holder.parameters)))
 
 -- all faults of an object constructor or a class, in the scope around it
@@ -136,9 +148,9 @@ first_token (Expression-F.Itself at) = at
 first_token (Expression-F.Expression::Variable name) = name.at
 first_token (Expression-F.Parenthesised e at) = at
 first_token (Expression-F.Constructor object) = object.at
-first_token (Expression-F.NodeAt number at) = at
+first_token (Expression-F.NodeAt number at word) = at
 first_token (Expression-F.NodeCount at) = at
-first_token (Expression-F.NewVector of size at) = at
+first_token (Expression-F.NewVector of size at word) = at
 first_token (Expression-F.Postfix head links) = head.at
 first_token (Expression-F.Negative e at) = at
 first_token (Expression-F.View e of at) = at
@@ -173,7 +185,7 @@ form_of (Expression-F.Itself at) = Itself
 form_of (Expression-F.Expression::Variable name) = NameAlone name
 form_of (Expression-F.Parenthesised e at) = form_in_parentheses e.form
 form_of (Expression-F.Constructor object) = Constructor object.holder.name.at
-form_of (Expression-F.NewVector of size at) = Vector of
+form_of (Expression-F.NewVector of size at word) = Vector of
 form_of (Expression-F.Postfix head links) = form_of_chain head.form links
 form_of (Expression-F.Negative e at) = form_negated e.form
 form_of e = Other
@@ -181,8 +193,8 @@ form_of e = Other
 -- the parts right within an expression
 abbrev pub parts_of : AnExpression → List Part
 parts_of (Expression-F.Parenthesised e at) = e ∷ []
-parts_of (Expression-F.NodeAt number at) = number ∷ []
-parts_of (Expression-F.NewVector of size at) = size ∷ []
+parts_of (Expression-F.NodeAt number at word) = number ∷ []
+parts_of (Expression-F.NewVector of size at word) = size ∷ []
 parts_of (Expression-F.Postfix head links) = head ∷ each link_parts links
 parts_of (Expression-F.Negative e at) = e ∷ []
 parts_of (Expression-F.View e of at) = e ∷ []
@@ -216,9 +228,9 @@ type_of needed scope (Expression-F.Itself at) = type_of_self scope
 type_of needed scope (Expression-F.Expression::Variable name) = type_found (find scope name.text)
 type_of needed scope (Expression-F.Parenthesised e at) = (value_in scope e).of
 type_of needed scope (Expression-F.Constructor object) = Some (named (number_at scope.table.places object.holder.name.at.from))
-type_of needed scope (Expression-F.NodeAt number at) = Some node
+type_of needed scope (Expression-F.NodeAt number at word) = Some node
 type_of needed scope (Expression-F.NodeCount at) = Some integer
-type_of needed scope (Expression-F.NewVector of size at) = known (vector_of (written_in scope of))
+type_of needed scope (Expression-F.NewVector of size at word) = known (vector_of (written_in scope of))
 type_of needed scope (Expression-F.Postfix head links) = chain_type scope needed head links
 type_of needed scope (Expression-F.Negative e at) = Some integer
 type_of needed scope (Expression-F.View e of at) = known (written_in scope of)

@@ -1,10 +1,10 @@
 -- Limits: of types, operations, fields, parameters, named variables with value height, tree nodes, and literals.
-use Rattle.std.specs.Prelude.{ℕ, nat_lt, List, [], ◌++◌, length, slice_get, Option, Some, None}
+use Rattle.std.specs.Prelude.{ℕ, ◌==◌, nat_lt, Bool, false, List, [], ◌++◌, length, slice_get, Option, Some, None}
 use Rattle.ec_ast.specs.declared.Literal.{Literal}
 use Rattle.ec_ast.specs.declared.Parameter.{Parameter}
 use Rattle.ec_ast.specs.declared.Span.{Span}
 use Rattle.ec_ast.specs.declared.Expression.TheOpen.{Expression-F}
-use Rattle.ec_conform.specs.declared.declared.DeclaredType.{DeclaredType}
+use Rattle.ec_conform.specs.Table.{Table}
 use Rattle.ec_names.specs.Names.{Text}
 use Rattle.ec_rules.specs.declared.Rule.TheVariants.{ManyTypes, ManyOperations, ManyFields, ManyParameters, ManyVariables, Size}
 use Rattle.ec_rules.specs.declared.StaticFault.{StaticFault}
@@ -15,14 +15,19 @@ use Rattle.ec_rules.specs.Rules.{fault, fault_if}
 
 -- ---- in document order over the whole program
 
--- The 1,001st typeobject, class or object constructor. The place is its name.
-abbrev pub many_types : List DeclaredType → List StaticFault
-many_types types = each_of (λ t. fault ManyTypes t.name.at) (slice_get types 1000)
+-- what is one too many begins there, if anything is
+abbrev pub begins_at : Option ℕ → Span → Bool
+begins_at None at = false
+begins_at (Some first) at = first == at.from
 
--- The 4,001st operation over all bodies together; those of typeobjects don't count. Each object constructor and class
--- counts one for operation 0 at its name, and one for a process section at its word. The place is that one.
-abbrev pub many_operations : List Span → List StaticFault
-many_operations places = each_of (fault ManyOperations) (slice_get places 4000)
+-- A type with its name there is the 1,001st typeobject, class or object constructor.
+abbrev pub many_types : Table → Span → List StaticFault
+many_types table at = fault_if (begins_at (slice_get table.places 1000) at) ManyTypes at
+
+-- An operation there is the 4,001st over all bodies together; those of typeobjects don't count. Each object constructor
+-- and class counts one for operation 0 at its name, and one for a process section at its word.
+abbrev pub many_operations : Table → Span → List StaticFault
+many_operations table at = fault_if (begins_at (slice_get table.operations 4000) at) ManyOperations at
 
 -- ---- of one object, of one list of parameters
 
@@ -55,6 +60,10 @@ many_nodes at done = fault_if (nat_lt 4000 done.nodes) Size at
 -- So many of its variables are declared outside its block.
 abbrev pub too_large : Span → ℕ → Done → List StaticFault
 too_large at variables done = many_variables at variables done ++ many_nodes at done
+
+-- One of an object or a class counts among the operations of the program too.
+abbrev pub measured : Table → Span → ℕ → Done → List StaticFault
+measured table at variables done = too_large at variables done ++ many_operations table at
 
 abbrev pub count_of : {A : Type 0} → Option A → ℕ
 count_of None = 0

@@ -40,7 +40,7 @@ abbrev pub unknown_in_expression : Scope → AnExpression → List StaticFault
 unknown_in_expression scope (Expression-F.Expression::Variable name) =
     fault_unless (is_found (find scope name.text)) UnknownName name.at
 unknown_in_expression scope (Expression-F.Itself at) = fault_unless (is_some (innermost scope)) UnknownName at
-unknown_in_expression scope (Expression-F.NewVector of size at) = unknown_types scope.table of
+unknown_in_expression scope (Expression-F.NewVector of size at word) = unknown_types scope.table of
 unknown_in_expression scope (Expression-F.View e of at) = unknown_types scope.table of
 unknown_in_expression scope _ = []
 

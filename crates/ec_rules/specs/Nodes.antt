@@ -23,8 +23,8 @@ link_nodes scope (index number at) = plus 1 (nodes_in scope number)
 
 abbrev pub nodes_of : Scope → AnExpression → ℕ
 nodes_of scope (Expression-F.Parenthesised e at) = nodes_in scope e
-nodes_of scope (Expression-F.NodeAt number at) = plus 1 (nodes_in scope number)
-nodes_of scope (Expression-F.NewVector of size at) = plus 1 (nodes_in scope size)
+nodes_of scope (Expression-F.NodeAt number at word) = plus 1 (nodes_in scope number)
+nodes_of scope (Expression-F.NewVector of size at word) = plus 1 (nodes_in scope size)
 nodes_of scope (Expression-F.Postfix head links) = plus (nodes_in scope head) (total (link_nodes scope) links)
 nodes_of scope (Expression-F.Negative e at) = plus 1 (nodes_in scope e)
 nodes_of scope (Expression-F.View e of at) = plus 1 (nodes_in scope e)

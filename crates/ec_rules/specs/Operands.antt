@@ -122,8 +122,8 @@ comparison_faults op left right =
 -- ---- expressions
 
 abbrev pub wrong_in_expression : Scope → AnExpression → List StaticFault
-wrong_in_expression scope (Expression-F.NodeAt number at) = wants Integer (value_in scope number)
-wrong_in_expression scope (Expression-F.NewVector of size at) = wants Integer (value_in scope size)
+wrong_in_expression scope (Expression-F.NodeAt number at word) = wants Integer (value_in scope number)
+wrong_in_expression scope (Expression-F.NewVector of size at word) = wants Integer (value_in scope size)
 wrong_in_expression scope (Expression-F.Negative e at) = wants Integer (value_in scope e)
 wrong_in_expression scope (Expression-F.View e of at) =
     wants Reference (value_in scope e) ++ fault_unless (fits Reference (known (written_in scope of))) Mismatch (type_place of)

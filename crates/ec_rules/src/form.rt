@@ -103,11 +103,11 @@ pub fn form_of(e: &Expression) -> Form<'_>
         Expression::Variable(name) => Form::NameAlone(name),
         Expression::Parenthesised(e, _) => in_parentheses(form_of(e.get())),
         Expression::Constructor(object) => Form::Constructor(object.get().name.at),
-        Expression::NewVector(of, _, _) => Form::Vector(of),
+        Expression::NewVector(of, _, _, _) => Form::Vector(of),
         Expression::Postfix(head, links) => of_chain(form_of(head.get()), links.as_slice()),
         Expression::Negative(e, _) => negated(form_of(e.get())),
         Expression::Nil(_)
-        | Expression::NodeAt(_, _)
+        | Expression::NodeAt(_, _, _)
         | Expression::NodeCount(_)
         | Expression::View(_, _, _)
         | Expression::IsFixed(_, _)

@@ -13,7 +13,7 @@ use crate::faults::Faults;
 use crate::form::Form;
 use crate::judged::{Done, Judged};
 use ec_ast::{Literal, Parameter, Span};
-use ec_conform::declared::DeclaredType;
+use ec_conform::TypeTable;
 
 /// A sum of counts, which stands still at 2^64 - 1.
 pub fn plus(a: usize, b: usize) -> usize
@@ -145,22 +145,31 @@ impl Done {
 
 // ---- limits
 
-/// At most 1,000 typeobjects, classes and object constructors.
-pub fn few_types(faults: &mut Faults, types: &[DeclaredType])
-    ensures { faults.new ≡ noted faults.old (limits.many_types types.now) }
+fn begins_at(first: Option<usize>, at: Span) -> bool
+    ensures { result ≡ limits.begins_at first at }
 {
-    if let Some(t) = types.get(1000) {
-        faults.note(Rule::ManyTypes, t.name.at);
+    match first {
+        None => false,
+        Some(first) => first == at.from as usize,
     }
 }
 
-/// At most 4,000 operations, by their places.
-pub fn few_operations(faults: &mut Faults, places: &[Span])
-    ensures { faults.new ≡ noted faults.old (limits.many_operations places.now) }
+/// At most 1,000 typeobjects, classes and object constructors: that with its name at a place isn't one too many.
+pub fn few_types(faults: &mut Faults, table: &TypeTable, at: Span)
+    ensures { faults.new ≡ noted faults.old (limits.many_types table.now at) }
 {
-    if let Some(at) = places.get(4000) {
-        faults.note(Rule::ManyOperations, *at);
-    }
+    faults.note_if(begins_at(table.place(1000), at), Rule::ManyTypes, at);
+}
+
+/// At most 4,000 operations: that at a place isn't one too many.
+pub fn few_operations(faults: &mut Faults, table: &TypeTable, at: Span)
+    ensures { faults.new ≡ noted faults.old (limits.many_operations table.now at) }
+{
+    faults.note_if(
+        begins_at(table.operation_place(4000), at),
+        Rule::ManyOperations,
+        at,
+    );
 }
 
 /// At most 16 parameters.
@@ -180,6 +189,21 @@ pub fn small_operation(faults: &mut Faults, at: Span, variables: usize, done: &D
     let count = plus(plus(variables, done.variables), done.height);
     faults.note_if(count > 100, Rule::ManyVariables, at);
     faults.note_if(done.nodes > 4000, Rule::Size, at);
+}
+
+/// An operation of an object or a class, at a place: small, and within the operations that a program may have.
+#[tactic(auto, using(crate::proofs::Noted::noted_joined))]
+pub fn measured_operation(
+    faults: &mut Faults,
+    table: &TypeTable,
+    at: Span,
+    variables: usize,
+    done: &Done,
+)
+    ensures { faults.new ≡ noted faults.old (limits.measured table.now at variables done.now) }
+{
+    small_operation(faults, at, variables, done);
+    few_operations(faults, table, at);
 }
 
 /// A string literal of at most 65,535 bytes.

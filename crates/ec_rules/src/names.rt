@@ -2,6 +2,7 @@
 ghost use Rattle.std.specs.Prelude.{◌≡◌, ◌++◌, [], ◌∷◌, OnOk, map};
 ghost use Rattle.ec_rules.specs.Doubled as doubled;
 ghost use Rattle.ec_rules.specs.EndNames as ends;
+ghost use Rattle.ec_rules.specs.Judging as judging;
 ghost use Rattle.ec_rules.specs.Lists.{each, each_of};
 ghost use Rattle.ec_rules.specs.Names as spec;
 ghost use Rattle.ec_rules.specs.Rules.{noted};
@@ -9,6 +10,7 @@ ghost use Rattle.ec_rules.specs.Types as types;
 
 use crate::Rule;
 use crate::faults::Faults;
+use crate::measures::few_types;
 use ec_ast::{Name, Parameter, Signature, Span, TypeName};
 use ec_conform::TypeTable;
 use ec_names::{Names, is_same};
@@ -159,7 +161,7 @@ fn is_first(first: Option<usize>, own: usize) -> bool
 }
 
 /// The name of a type is that of no earlier one. The error is want of memory.
-pub fn first_type(faults: &mut Faults, table: &TypeTable, name: &Name) -> Result<(), AllocError>
+fn first_type(faults: &mut Faults, table: &TypeTable, name: &Name) -> Result<(), AllocError>
     ensures { OnOk result (faults.new ≡ noted faults.old (doubled.doubled_type table.now name.now)) }
 {
     let first = table.first_named(name.text.as_slice())?;
@@ -168,6 +170,17 @@ pub fn first_type(faults: &mut Faults, table: &TypeTable, name: &Name) -> Result
         Rule::DoubledName,
         name.at,
     );
+    Ok(())
+}
+
+/// A typeobject, a class or an object constructor has the name of no earlier one, and isn't one too many. The error is want of
+/// memory.
+#[tactic(auto, using(crate::proofs::Noted::noted_joined))]
+pub fn new_type(faults: &mut Faults, table: &TypeTable, name: &Name) -> Result<(), AllocError>
+    ensures { OnOk result (faults.new ≡ noted faults.old (judging.type_faults table.now name.now)) }
+{
+    first_type(faults, table, name)?;
+    few_types(faults, table, name.at);
     Ok(())
 }
 

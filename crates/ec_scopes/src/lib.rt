@@ -10,6 +10,3 @@ pub use entries::{Entries, Entry};
 pub use globals::{ClassMeant, Global, Globals, Meaning};
 pub use object::Object;
 pub use scope::{Found, Held, Scope};
-
-#[cfg(test)]
-mod tests;

@@ -35,7 +35,7 @@ returns-in-Constructor t c =
     ∙ form_at _ _ _ c.in-Constructor.is (of_form.constructor_layer _)
 
 pub returns-in-NewVector : goal.returns-in-NewVector
-returns-in-NewVector t c = form_at _ _ _ c.in-NewVector.is (of_form.new_vector_layer _ _ _)
+returns-in-NewVector t c = form_at _ _ _ c.in-NewVector.is (of_form.new_vector_layer _ _ _ _)
 
 pub returns-in-Postfix : goal.returns-in-Postfix
 returns-in-Postfix t c =
@@ -57,7 +57,7 @@ returns-in-Nil t c =
       | inl p ↦ form_at _ _ _ p.1 (of_form.nil_layer _)
       | inr q ↦
           elim q [
-            | inl p ↦ form_at _ _ _ p.2 (of_form.node_at_layer _ _)
+            | inl p ↦ form_at _ _ _ p.3 (of_form.node_at_layer _ _ _)
             | inr q ↦
                 elim q [
                   | inl p ↦ form_at _ _ _ p.1 (of_form.node_count_layer _)
