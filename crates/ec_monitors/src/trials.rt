@@ -35,7 +35,7 @@ struct Row {
     after: &'static str,
 }
 
-fn row(
+fn trial(
     before: &'static [(u32, Act)],
     process: u32,
     act: Act,
@@ -136,22 +136,22 @@ fn text_after_travel(alloc: Global, monitor: &Monitor) -> Result<String, AllocEr
 #[test]
 fn each_act_in_each_of_its_states(rt: HostRuntime) -> Result<(), Fail> {
     let rows = [
-        row(&[], 1, Enter, Entered, "1*1"),
-        row(&[(1, Enter)], 1, Enter, Entered, "1*2"),
-        row(&[(1, Enter)], 2, Enter, Queued, "1*1 entry 2"),
-        row(&[(1, Enter), (2, Enter)], 3, Enter, Queued, "1*1 entry 2 3"),
-        row(&[(1, Enter), (2, Enter)], 2, Enter, Refused, "1*1 entry 2"),
-        row(&[(1, Enter), (2, Enter)], 2, Leave, Refused, "1*1 entry 2"),
-        row(&[(1, Enter), (1, Enter)], 1, Leave, Nobody, "1*1"),
-        row(&[(1, Enter)], 1, Leave, Nobody, "free"),
-        row(
+        trial(&[], 1, Enter, Entered, "1*1"),
+        trial(&[(1, Enter)], 1, Enter, Entered, "1*2"),
+        trial(&[(1, Enter)], 2, Enter, Queued, "1*1 entry 2"),
+        trial(&[(1, Enter), (2, Enter)], 3, Enter, Queued, "1*1 entry 2 3"),
+        trial(&[(1, Enter), (2, Enter)], 2, Enter, Refused, "1*1 entry 2"),
+        trial(&[(1, Enter), (2, Enter)], 2, Leave, Refused, "1*1 entry 2"),
+        trial(&[(1, Enter), (1, Enter)], 1, Leave, Nobody, "1*1"),
+        trial(&[(1, Enter)], 1, Leave, Nobody, "free"),
+        trial(
             &[(1, Enter), (2, Enter), (3, Enter)],
             1,
             Leave,
             Grants(2),
             "2*1 entry 3",
         ),
-        row(
+        trial(
             &[
                 (1, Enter),
                 (1, Wait(0)),
@@ -165,7 +165,7 @@ fn each_act_in_each_of_its_states(rt: HostRuntime) -> Result<(), Fail> {
             Grants(2),
             "2*2 entry 3",
         ),
-        row(
+        trial(
             &[
                 (1, Enter),
                 (1, Wait(0)),
@@ -180,35 +180,35 @@ fn each_act_in_each_of_its_states(rt: HostRuntime) -> Result<(), Fail> {
             Grants(1),
             "1*1 urgent 3*1",
         ),
-        row(
+        trial(
             &[(1, Enter), (2, Enter)],
             2,
             Wait(0),
             Refused,
             "1*1 entry 2",
         ),
-        row(
+        trial(
             &[(1, Enter), (1, Enter)],
             1,
             Wait(0),
             Nobody,
             "free first 1*2",
         ),
-        row(
+        trial(
             &[(1, Enter), (2, Enter)],
             1,
             Wait(1),
             Grants(2),
             "2*1 second 1*1",
         ),
-        row(
+        trial(
             &[(1, Enter), (1, Wait(0)), (2, Enter)],
             2,
             Wait(0),
             Nobody,
             "free first 1*1 2*1",
         ),
-        row(
+        trial(
             &[
                 (1, Enter),
                 (1, Wait(0)),
@@ -221,28 +221,28 @@ fn each_act_in_each_of_its_states(rt: HostRuntime) -> Result<(), Fail> {
             Grants(2),
             "2*1 entry 3 first 1*1",
         ),
-        row(
+        trial(
             &[(1, Enter), (2, Enter)],
             2,
             Signal(0),
             Refused,
             "1*1 entry 2",
         ),
-        row(
+        trial(
             &[(1, Enter), (2, Enter)],
             1,
             Signal(0),
             Nobody,
             "1*1 entry 2",
         ),
-        row(
+        trial(
             &[(1, Enter), (1, Wait(1)), (2, Enter)],
             2,
             Signal(0),
             Nobody,
             "2*1 second 1*1",
         ),
-        row(
+        trial(
             &[
                 (1, Enter),
                 (1, Enter),
@@ -256,7 +256,7 @@ fn each_act_in_each_of_its_states(rt: HostRuntime) -> Result<(), Fail> {
             Grants(1),
             "1*2 entry 3 urgent 2*2",
         ),
-        row(
+        trial(
             &[
                 (1, Enter),
                 (1, Wait(0)),
@@ -269,7 +269,7 @@ fn each_act_in_each_of_its_states(rt: HostRuntime) -> Result<(), Fail> {
             Grants(1),
             "1*1 urgent 3*1 first 2*1",
         ),
-        row(
+        trial(
             &[
                 (1, Enter),
                 (1, Wait(0)),
@@ -283,22 +283,22 @@ fn each_act_in_each_of_its_states(rt: HostRuntime) -> Result<(), Fail> {
             Grants(2),
             "2*1 urgent 3*1 1*1",
         ),
-        row(
+        trial(
             &[(1, Enter), (2, Enter)],
             2,
             DropAll,
             Refused,
             "1*1 entry 2",
         ),
-        row(&[(1, Enter), (1, Enter)], 1, DropAll, Nobody, "free"),
-        row(
+        trial(&[(1, Enter), (1, Enter)], 1, DropAll, Nobody, "free"),
+        trial(
             &[(1, Enter), (1, Enter), (2, Enter)],
             1,
             DropAll,
             Grants(2),
             "2*1",
         ),
-        row(
+        trial(
             &[
                 (1, Enter),
                 (1, Wait(0)),
