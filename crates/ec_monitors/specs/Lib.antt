@@ -1,0 +1,4 @@
+pub mod Monitors
+pub mod Room
+pub mod Standing
+pub mod Laws
