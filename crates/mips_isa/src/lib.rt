@@ -1,0 +1,7 @@
+//! Instructions of MIPS I and their words.
+#![tactic(auto)]
+
+pub mod field;
+pub mod instr;
+mod row;
+pub mod word;
