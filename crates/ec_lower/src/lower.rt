@@ -251,6 +251,3 @@ fn is_same(a: &Text, b: &Text) -> bool
 {
     a.as_slice() == b.as_slice()
 }
-
-#[cfg(test)]
-mod tests;
