@@ -62,19 +62,19 @@ files_is_not AcceptsSource = ((λ e. cc), (λ e. cc))
 
 module _ (words : List (List ℕ)) (faults faults' : List ℕ → ℕ) where
   plain_verdict : {s : Status} {t : List ℕ} → Plain words faults faults' s t → IsVerdict s
-  plain_verdict (ByWords w) = record { not_fault = λ e. cc; not_memory = λ e. cc }
+  plain_verdict (ByWords w q) = record { not_fault = λ e. cc; not_memory = λ e. cc }
   plain_verdict (ByFault text h) = record { not_fault = λ e. cc; not_memory = λ e. cc }
-  plain_verdict (ByFiles asked s t w f) = files_verdict f
+  plain_verdict (ByFiles asked s t w f q) = files_verdict f
 
   plain_usage : {s : Status} {t : List ℕ} → Plain words faults faults' s t → s ≡ statuses.Usage → (WordsOf words ≡ None) × (t ≡ usage_line)
-  plain_usage (ByWords w) e = (w, refl)
+  plain_usage (ByWords w q) e = (w, refl)
   plain_usage (ByFault text h) e = cc
-  plain_usage (ByFiles asked s t w f) e = absurd ((files_is_not f).0 e)
+  plain_usage (ByFiles asked s t w f q) e = absurd ((files_is_not f).0 e)
 
   plain_fault : {s : Status} {t : List ℕ} → Plain words faults faults' s t → s ≡ statuses.ReadFault → HasReadFault words faults faults' t
-  plain_fault (ByWords w) e = cc
+  plain_fault (ByWords w q) e = cc
   plain_fault (ByFault text h) e = h
-  plain_fault (ByFiles asked s t w f) e = absurd ((files_is_not f).1 e)
+  plain_fault (ByFiles asked s t w f q) e = absurd ((files_is_not f).1 e)
 
   no_fault : {t : List ℕ} → HasReadFault words faults faults' t → WordsOf words ≡ None → ⊥
   no_fault (InRun run file w h) e = cc
@@ -82,52 +82,58 @@ module _ (words : List (List ℕ)) (faults faults' : List ℕ → ℕ) where
   no_fault (InCheck check w h) e = cc
 
   plain_none : {s : Status} {t : List ℕ} → Plain words faults faults' s t → WordsOf words ≡ None → s ≡ statuses.Usage
-  plain_none (ByWords w) e = refl
+  plain_none (ByWords w q) e = refl
   plain_none (ByFault text h) e = absurd (no_fault h e)
-  plain_none (ByFiles asked s t w f) e = cc
+  plain_none (ByFiles asked s t w f q) e = cc
+
+  -- no count has risen, or a file wasn't read
+  plain_reads : {s : Status} {t : List ℕ} → Plain words faults faults' s t → (faults' ≡ faults) ⊎ (s ≡ statuses.ReadFault)
+  plain_reads (ByWords w q) = inl q
+  plain_reads (ByFault text h) = inr refl
+  plain_reads (ByFiles asked s t w f q) = inl q
 
 -- ---- what a status says where the shelf tells its files
 
 module _ (words : List (List ℕ)) (content : List ℕ → Option (List ℕ)) (faults faults' : List ℕ → ℕ) (net net' : Net) where
   verdict_source : {s : Status} {t : List ℕ} → Verdict words content faults faults' net net' s t → s ≡ statuses.SourceRefused → IsNoSource words content t × (net' ≡ net)
-  verdict_source (NoCommand w n) e = cc
+  verdict_source (NoCommand w n q) e = cc
   verdict_source (ReadFailed run file w h n) e = cc
-  verdict_source (SourceRefused run source nodes schedule refusal at w r h n) e =
+  verdict_source (SourceRefused run source nodes schedule refusal at w r h n q) e =
       (ByRun run source nodes schedule refusal at w r h, n)
-  verdict_source (NodesRefused run source nodes schedule program rule w r i h n) e = cc
-  verdict_source (ScheduleRefused run source nodes schedule program specs rule line w r i m h n) e = cc
-  verdict_source (IsRun run source nodes schedule program specs entries s t w r i m k runs) e = absurd ((run_is_not (run_status runs)).2 e)
+  verdict_source (NodesRefused run source nodes schedule program rule w r i h n q) e = cc
+  verdict_source (ScheduleRefused run source nodes schedule program specs rule line w r i m h n q) e = cc
+  verdict_source (IsRun run source nodes schedule program specs entries s t w r i m k runs q) e = absurd ((run_is_not (run_status runs)).2 e)
   verdict_source (MeanReadFailed mean file w h n) e = cc
-  verdict_source (Unmeant mean source nodes schedule refusal at w r h n) e =
+  verdict_source (Unmeant mean source nodes schedule refusal at w r h n q) e =
       (ByMean mean source nodes schedule refusal at w r h, n)
-  verdict_source (MeanNodesRefused mean source nodes schedule meant rule w r i h n) e = cc
-  verdict_source (MeanScheduleRefused mean source nodes schedule meant specs rule line w r i m h n) e = cc
-  verdict_source (IsWorked mean source nodes schedule meant specs entries s t w r i m k works n) e =
+  verdict_source (MeanNodesRefused mean source nodes schedule meant rule w r i h n q) e = cc
+  verdict_source (MeanScheduleRefused mean source nodes schedule meant specs rule line w r i m h n q) e = cc
+  verdict_source (IsWorked mean source nodes schedule meant specs entries s t w r i m k works n q) e =
       absurd ((run_is_not (run_status_from (plain_status meant specs entries mean.budget s t works))).2 e)
   verdict_source (CheckReadFailed check w h n) e = cc
-  verdict_source (CheckRefused check source refusal at w r h n) e = (ByCheck check source refusal at w r h, n)
-  verdict_source (Accepts check source w r h n) e = cc
+  verdict_source (CheckRefused check source refusal at w r h n q) e = (ByCheck check source refusal at w r h, n)
+  verdict_source (Accepts check source w r h n q) e = cc
 
   verdict_input : {s : Status} {t : List ℕ} → Verdict words content faults faults' net net' s t → s ≡ statuses.InputRefused → IsNoInput words content t × (net' ≡ net)
-  verdict_input (NoCommand w n) e = cc
+  verdict_input (NoCommand w n q) e = cc
   verdict_input (ReadFailed run file w h n) e = cc
-  verdict_input (SourceRefused run source nodes schedule refusal at w r h n) e = cc
-  verdict_input (NodesRefused run source nodes schedule program rule w r i h n) e =
+  verdict_input (SourceRefused run source nodes schedule refusal at w r h n q) e = cc
+  verdict_input (NodesRefused run source nodes schedule program rule w r i h n q) e =
       (record { run = run; source = source; nodes = nodes; schedule = schedule; asks = ForRun program w i; are_read = r; breaks = ByNodes rule h }, n)
-  verdict_input (ScheduleRefused run source nodes schedule program specs rule line w r i m h n) e =
+  verdict_input (ScheduleRefused run source nodes schedule program specs rule line w r i m h n q) e =
       (record { run = run; source = source; nodes = nodes; schedule = schedule; asks = ForRun program w i; are_read = r; breaks = BySchedule specs rule line m h }, n)
-  verdict_input (IsRun run source nodes schedule program specs entries s t w r i m k runs) e = absurd ((run_is_not (run_status runs)).3 e)
+  verdict_input (IsRun run source nodes schedule program specs entries s t w r i m k runs q) e = absurd ((run_is_not (run_status runs)).3 e)
   verdict_input (MeanReadFailed mean file w h n) e = cc
-  verdict_input (Unmeant mean source nodes schedule refusal at w r h n) e = cc
-  verdict_input (MeanNodesRefused mean source nodes schedule meant rule w r i h n) e =
+  verdict_input (Unmeant mean source nodes schedule refusal at w r h n q) e = cc
+  verdict_input (MeanNodesRefused mean source nodes schedule meant rule w r i h n q) e =
       (record { run = mean; source = source; nodes = nodes; schedule = schedule; asks = ForMean meant w i; are_read = r; breaks = ByNodes rule h }, n)
-  verdict_input (MeanScheduleRefused mean source nodes schedule meant specs rule line w r i m h n) e =
+  verdict_input (MeanScheduleRefused mean source nodes schedule meant specs rule line w r i m h n q) e =
       (record { run = mean; source = source; nodes = nodes; schedule = schedule; asks = ForMean meant w i; are_read = r; breaks = BySchedule specs rule line m h }, n)
-  verdict_input (IsWorked mean source nodes schedule meant specs entries s t w r i m k works n) e =
+  verdict_input (IsWorked mean source nodes schedule meant specs entries s t w r i m k works n q) e =
       absurd ((run_is_not (run_status_from (plain_status meant specs entries mean.budget s t works))).3 e)
   verdict_input (CheckReadFailed check w h n) e = cc
-  verdict_input (CheckRefused check source refusal at w r h n) e = cc
-  verdict_input (Accepts check source w r h n) e = cc
+  verdict_input (CheckRefused check source refusal at w r h n q) e = cc
+  verdict_input (Accepts check source w r h n q) e = cc
 
   -- a run or a plain meaning has ended so, or a check has accepted
   abbrev Ended : Status → List ℕ → Type 0
@@ -136,22 +142,22 @@ module _ (words : List (List ℕ)) (content : List ℕ → Option (List ℕ)) (f
       ⊎ ((IsPlainStatus s × HasMeant words content net net' s t) ⊎ ((s ≡ statuses.Finished) × HasAccepted words content net net' t))
 
   verdict_ended : {s : Status} {t : List ℕ} → Verdict words content faults faults' net net' s t → IsRunStatus s → Ended s t
-  verdict_ended (NoCommand w n) e = elim e [ ]
+  verdict_ended (NoCommand w n q) e = elim e [ ]
   verdict_ended (ReadFailed run file w h n) e = elim e [ ]
-  verdict_ended (SourceRefused run source nodes schedule refusal at w r h n) e = elim e [ ]
-  verdict_ended (NodesRefused run source nodes schedule program rule w r i h n) e = elim e [ ]
-  verdict_ended (ScheduleRefused run source nodes schedule program specs rule line w r i m h n) e = elim e [ ]
-  verdict_ended (IsRun run source nodes schedule program specs entries s t w r i m k runs) e =
+  verdict_ended (SourceRefused run source nodes schedule refusal at w r h n q) e = elim e [ ]
+  verdict_ended (NodesRefused run source nodes schedule program rule w r i h n q) e = elim e [ ]
+  verdict_ended (ScheduleRefused run source nodes schedule program specs rule line w r i m h n q) e = elim e [ ]
+  verdict_ended (IsRun run source nodes schedule program specs entries s t w r i m k runs q) e =
       inl (record { accepted = record { run = run; source = source; nodes = nodes; schedule = schedule; program = program; specs = specs; entries = entries; words_are = w; are_read = r; is_source = i; nodes_are = m; entries_are = k }; runs = runs })
   verdict_ended (MeanReadFailed mean file w h n) e = elim e [ ]
-  verdict_ended (Unmeant mean source nodes schedule refusal at w r h n) e = elim e [ ]
-  verdict_ended (MeanNodesRefused mean source nodes schedule meant rule w r i h n) e = elim e [ ]
-  verdict_ended (MeanScheduleRefused mean source nodes schedule meant specs rule line w r i m h n) e = elim e [ ]
-  verdict_ended (IsWorked mean source nodes schedule meant specs entries s t w r i m k works n) e =
+  verdict_ended (Unmeant mean source nodes schedule refusal at w r h n q) e = elim e [ ]
+  verdict_ended (MeanNodesRefused mean source nodes schedule meant rule w r i h n q) e = elim e [ ]
+  verdict_ended (MeanScheduleRefused mean source nodes schedule meant specs rule line w r i m h n q) e = elim e [ ]
+  verdict_ended (IsWorked mean source nodes schedule meant specs entries s t w r i m k works n q) e =
       inr (inl (plain_status meant specs entries mean.budget s t works, record { accepted = record { mean = mean; source = source; nodes = nodes; schedule = schedule; meant = meant; specs = specs; entries = entries; words_are = w; are_read = r; is_meant = i; nodes_are = m; entries_are = k }; runs = works; unchanged = n }))
   verdict_ended (CheckReadFailed check w h n) e = elim e [ ]
-  verdict_ended (CheckRefused check source refusal at w r h n) e = elim e [ ]
-  verdict_ended (Accepts check source w r h n) e =
+  verdict_ended (CheckRefused check source refusal at w r h n q) e = elim e [ ]
+  verdict_ended (Accepts check source w r h n q) e =
       inr (inr (refl, record { accepted = record { check = check; source = source; words_are = w; is_read = r; is_checked = h }; unchanged = n; line = refl }))
 
   only_run : (s : Status) (t : List ℕ) → (s ≡ statuses.Finished → ⊥) → (IsPlainStatus s → ⊥) → Ended s t → HasRun words content net net' s t
@@ -178,90 +184,90 @@ module _ (words : List (List ℕ)) (content : List ℕ → Option (List ℕ)) (f
   same_words run other e f = cc
 
   verdict_accepted : {s : Status} {t : List ℕ} → Verdict words content faults faults' net net' s t → (a : IsAccepted words content) → NoneRisen a.run faults faults' → IsRunStatus s
-  verdict_accepted (NoCommand w n) a quiet = let h = a.words_are in cc
+  verdict_accepted (NoCommand w n q) a quiet = let h = a.words_are in cc
   verdict_accepted (ReadFailed run file w h n) a quiet =
       let e : run ≡ a.run = same_words a.run run a.words_are w in
       absurd (quiet file (subst (λ (r : RunWords). HasRisen (faults (name_of_file r file)) (faults' (name_of_file r file))) e h))
-  verdict_accepted (SourceRefused run source nodes schedule refusal at w r h n) a quiet =
+  verdict_accepted (SourceRefused run source nodes schedule refusal at w r h n q) a quiet =
       let e : run ≡ a.run = same_words a.run run a.words_are w in
       let f : source ≡ a.source = same_whole (content a.run.source) file_limit source a.source (subst (λ (k : RunWords). IsWhole (content k.source) file_limit source) e r.source_is) a.are_read.source_is in
       absurd (not_refused (subst (λ (k : List ℕ). IsSource k a.program) (sym f) a.is_source) h)
-  verdict_accepted (NodesRefused run source nodes schedule program rule w r i h n) a quiet =
+  verdict_accepted (NodesRefused run source nodes schedule program rule w r i h n q) a quiet =
       let e : run ≡ a.run = same_words a.run run a.words_are w in
       let f : nodes ≡ a.nodes = same_whole (content a.run.nodes) file_limit nodes a.nodes (subst (λ (k : RunWords). IsWhole (content k.nodes) file_limit nodes) e r.nodes_are) a.are_read.nodes_are in
       let y : Err rule ≡ Ok a.specs = sym h ∙ (ap NodesOf f ∙ a.nodes_are) in
       cc
-  verdict_accepted (ScheduleRefused run source nodes schedule program specs rule line w r i m h n) a quiet =
+  verdict_accepted (ScheduleRefused run source nodes schedule program specs rule line w r i m h n q) a quiet =
       let e : run ≡ a.run = same_words a.run run a.words_are w in
       let k : schedule ≡ a.schedule = same_whole (content a.run.schedule) file_limit schedule a.schedule (subst (λ (k : RunWords). IsWhole (content k.schedule) file_limit schedule) e r.schedule_is) a.are_read.schedule_is in
       let y : Err (rule, line) ≡ Ok a.entries = sym h ∙ (ap EntriesOf k ∙ a.entries_are) in
       cc
-  verdict_accepted (IsRun run source nodes schedule program specs entries s t w r i m k runs) a quiet = run_status runs
+  verdict_accepted (IsRun run source nodes schedule program specs entries s t w r i m k runs q) a quiet = run_status runs
   verdict_accepted (MeanReadFailed mean file w h n) a quiet = let u = a.words_are in cc
-  verdict_accepted (Unmeant mean source nodes schedule refusal at w r h n) a quiet = let u = a.words_are in cc
-  verdict_accepted (MeanNodesRefused mean source nodes schedule meant rule w r i h n) a quiet = let u = a.words_are in cc
-  verdict_accepted (MeanScheduleRefused mean source nodes schedule meant specs rule line w r i m h n) a quiet = let u = a.words_are in cc
-  verdict_accepted (IsWorked mean source nodes schedule meant specs entries s t w r i m k works n) a quiet = let u = a.words_are in cc
+  verdict_accepted (Unmeant mean source nodes schedule refusal at w r h n q) a quiet = let u = a.words_are in cc
+  verdict_accepted (MeanNodesRefused mean source nodes schedule meant rule w r i h n q) a quiet = let u = a.words_are in cc
+  verdict_accepted (MeanScheduleRefused mean source nodes schedule meant specs rule line w r i m h n q) a quiet = let u = a.words_are in cc
+  verdict_accepted (IsWorked mean source nodes schedule meant specs entries s t w r i m k works n q) a quiet = let u = a.words_are in cc
   verdict_accepted (CheckReadFailed check w h n) a quiet = let u = a.words_are in cc
-  verdict_accepted (CheckRefused check source refusal at w r h n) a quiet = let u = a.words_are in cc
-  verdict_accepted (Accepts check source w r h n) a quiet = let u = a.words_are in cc
+  verdict_accepted (CheckRefused check source refusal at w r h n q) a quiet = let u = a.words_are in cc
+  verdict_accepted (Accepts check source w r h n q) a quiet = let u = a.words_are in cc
 
   same_mean : (mean other : RunWords) → WordsOf words ≡ Some (command.Mean mean) → WordsOf words ≡ Some (command.Mean other) → other ≡ mean
   same_mean mean other e f = cc
 
   verdict_meant : {s : Status} {t : List ℕ} → Verdict words content faults faults' net net' s t → (a : IsAcceptedMean words content) → NoneRisen a.mean faults faults' → IsPlainStatus s
-  verdict_meant (NoCommand w n) a quiet = let u = a.words_are in cc
+  verdict_meant (NoCommand w n q) a quiet = let u = a.words_are in cc
   verdict_meant (ReadFailed run file w h n) a quiet = let u = a.words_are in cc
-  verdict_meant (SourceRefused run source nodes schedule refusal at w r h n) a quiet = let u = a.words_are in cc
-  verdict_meant (NodesRefused run source nodes schedule program rule w r i h n) a quiet = let u = a.words_are in cc
-  verdict_meant (ScheduleRefused run source nodes schedule program specs rule line w r i m h n) a quiet = let u = a.words_are in cc
-  verdict_meant (IsRun run source nodes schedule program specs entries s t w r i m k runs) a quiet = let u = a.words_are in cc
+  verdict_meant (SourceRefused run source nodes schedule refusal at w r h n q) a quiet = let u = a.words_are in cc
+  verdict_meant (NodesRefused run source nodes schedule program rule w r i h n q) a quiet = let u = a.words_are in cc
+  verdict_meant (ScheduleRefused run source nodes schedule program specs rule line w r i m h n q) a quiet = let u = a.words_are in cc
+  verdict_meant (IsRun run source nodes schedule program specs entries s t w r i m k runs q) a quiet = let u = a.words_are in cc
   verdict_meant (MeanReadFailed mean file w h n) a quiet =
       let e : mean ≡ a.mean = same_mean a.mean mean a.words_are w in
       absurd (quiet file (subst (λ (r : RunWords). HasRisen (faults (name_of_file r file)) (faults' (name_of_file r file))) e h))
-  verdict_meant (Unmeant mean source nodes schedule refusal at w r h n) a quiet =
+  verdict_meant (Unmeant mean source nodes schedule refusal at w r h n q) a quiet =
       let e : mean ≡ a.mean = same_mean a.mean mean a.words_are w in
       let f : source ≡ a.source = same_whole (content a.mean.source) file_limit source a.source (subst (λ (k : RunWords). IsWhole (content k.source) file_limit source) e r.source_is) a.are_read.source_is in
       absurd (not_unmeant (subst (λ (k : List ℕ). IsMeant k a.meant) (sym f) a.is_meant) h)
-  verdict_meant (MeanNodesRefused mean source nodes schedule meant rule w r i h n) a quiet =
+  verdict_meant (MeanNodesRefused mean source nodes schedule meant rule w r i h n q) a quiet =
       let e : mean ≡ a.mean = same_mean a.mean mean a.words_are w in
       let f : nodes ≡ a.nodes = same_whole (content a.mean.nodes) file_limit nodes a.nodes (subst (λ (k : RunWords). IsWhole (content k.nodes) file_limit nodes) e r.nodes_are) a.are_read.nodes_are in
       let y : Err rule ≡ Ok a.specs = sym h ∙ (ap NodesOf f ∙ a.nodes_are) in
       cc
-  verdict_meant (MeanScheduleRefused mean source nodes schedule meant specs rule line w r i m h n) a quiet =
+  verdict_meant (MeanScheduleRefused mean source nodes schedule meant specs rule line w r i m h n q) a quiet =
       let e : mean ≡ a.mean = same_mean a.mean mean a.words_are w in
       let k : schedule ≡ a.schedule = same_whole (content a.mean.schedule) file_limit schedule a.schedule (subst (λ (k : RunWords). IsWhole (content k.schedule) file_limit schedule) e r.schedule_is) a.are_read.schedule_is in
       let y : Err (rule, line) ≡ Ok a.entries = sym h ∙ (ap EntriesOf k ∙ a.entries_are) in
       cc
-  verdict_meant (IsWorked mean source nodes schedule meant specs entries s t w r i m k works n) a quiet = plain_status meant specs entries mean.budget s t works
+  verdict_meant (IsWorked mean source nodes schedule meant specs entries s t w r i m k works n q) a quiet = plain_status meant specs entries mean.budget s t works
   verdict_meant (CheckReadFailed check w h n) a quiet = let u = a.words_are in cc
-  verdict_meant (CheckRefused check source refusal at w r h n) a quiet = let u = a.words_are in cc
-  verdict_meant (Accepts check source w r h n) a quiet = let u = a.words_are in cc
+  verdict_meant (CheckRefused check source refusal at w r h n q) a quiet = let u = a.words_are in cc
+  verdict_meant (Accepts check source w r h n q) a quiet = let u = a.words_are in cc
 
   same_check : (check other : CheckWords) → WordsOf words ≡ Some (command.Check check) → WordsOf words ≡ Some (command.Check other) → other ≡ check
   same_check check other e f = cc
 
   verdict_checked : {s : Status} {t : List ℕ} → Verdict words content faults faults' net net' s t → (a : IsAcceptedCheck words content) →
       ¬ HasRisen (faults a.check.source) (faults' a.check.source) → s ≡ statuses.Finished
-  verdict_checked (NoCommand w n) a quiet = let h = a.words_are in cc
+  verdict_checked (NoCommand w n q) a quiet = let h = a.words_are in cc
   verdict_checked (ReadFailed run file w h n) a quiet = let u = a.words_are in cc
-  verdict_checked (SourceRefused run source nodes schedule refusal at w r h n) a quiet = let u = a.words_are in cc
-  verdict_checked (NodesRefused run source nodes schedule program rule w r i h n) a quiet = let u = a.words_are in cc
-  verdict_checked (ScheduleRefused run source nodes schedule program specs rule line w r i m h n) a quiet = let u = a.words_are in cc
-  verdict_checked (IsRun run source nodes schedule program specs entries s t w r i m k runs) a quiet = let u = a.words_are in cc
+  verdict_checked (SourceRefused run source nodes schedule refusal at w r h n q) a quiet = let u = a.words_are in cc
+  verdict_checked (NodesRefused run source nodes schedule program rule w r i h n q) a quiet = let u = a.words_are in cc
+  verdict_checked (ScheduleRefused run source nodes schedule program specs rule line w r i m h n q) a quiet = let u = a.words_are in cc
+  verdict_checked (IsRun run source nodes schedule program specs entries s t w r i m k runs q) a quiet = let u = a.words_are in cc
   verdict_checked (MeanReadFailed mean file w h n) a quiet = let u = a.words_are in cc
-  verdict_checked (Unmeant mean source nodes schedule refusal at w r h n) a quiet = let u = a.words_are in cc
-  verdict_checked (MeanNodesRefused mean source nodes schedule meant rule w r i h n) a quiet = let u = a.words_are in cc
-  verdict_checked (MeanScheduleRefused mean source nodes schedule meant specs rule line w r i m h n) a quiet = let u = a.words_are in cc
-  verdict_checked (IsWorked mean source nodes schedule meant specs entries s t w r i m k works n) a quiet = let u = a.words_are in cc
+  verdict_checked (Unmeant mean source nodes schedule refusal at w r h n q) a quiet = let u = a.words_are in cc
+  verdict_checked (MeanNodesRefused mean source nodes schedule meant rule w r i h n q) a quiet = let u = a.words_are in cc
+  verdict_checked (MeanScheduleRefused mean source nodes schedule meant specs rule line w r i m h n q) a quiet = let u = a.words_are in cc
+  verdict_checked (IsWorked mean source nodes schedule meant specs entries s t w r i m k works n q) a quiet = let u = a.words_are in cc
   verdict_checked (CheckReadFailed check w h n) a quiet =
       let e : check ≡ a.check = same_check a.check check a.words_are w in
       absurd (quiet (subst (λ (c : CheckWords). HasRisen (faults c.source) (faults' c.source)) e h))
-  verdict_checked (CheckRefused check source refusal at w r h n) a quiet =
+  verdict_checked (CheckRefused check source refusal at w r h n q) a quiet =
       let e : check ≡ a.check = same_check a.check check a.words_are w in
       let f : source ≡ a.source = same_whole (content a.check.source) file_limit source a.source (subst (λ (c : CheckWords). IsWhole (content c.source) file_limit source) e r) a.is_read in
       absurd (not_faulty (subst (λ (k : List ℕ). IsChecked k) (sym f) a.is_checked) h)
-  verdict_checked (Accepts check source w r h n) a quiet = refl
+  verdict_checked (Accepts check source w r h n q) a quiet = refl
 
 -- the whole text is written where the sink met no fault
 text_written : {taken taken' text : List ℕ} {count count' : ℕ} {status result : Status} → Answers taken taken' count count' status text result → (result ≡ statuses.WriteFault → ⊥) → taken' ≡ taken ++ text
@@ -332,6 +338,18 @@ module _ (FilesTold TakenTold : Type 0) (words : List (List ℕ)) (content : Lis
   read_fault_of e =
       let t = told_of statuses.ReadFault (record { not_fault = λ k. cc; not_memory = λ k. cc }) e in
       (t.outcome.text, plain_fault words faults faults' t.outcome.plain t.status_is, t.written)
+
+  pub reads_of : (faults' ≡ faults) ⊎ ((result ≡ statuses.ReadFault) ⊎ ((result ≡ statuses.WriteFault) ⊎ (result ≡ statuses.NoMemory)))
+  reads_of = ⊎_elim
+      (λ (h : (result ≡ statuses.NoMemory) × (taken' ≡ taken) × (count' ≡ count)). inr (inr (inr h.0)))
+      (λ (h : Outcome). ⊎_elim
+      (λ (i : result ≡ h.status). ⊎_elim
+      (λ (q : faults' ≡ faults). inl q)
+      (λ (e : h.status ≡ statuses.ReadFault). inr (inl (i ∙ e)))
+      (plain_reads words faults faults' h.plain))
+      (λ (i : (result ≡ statuses.WriteFault) × HasRisen count count'). inr (inr (inl i.0)))
+      h.is)
+      came
 
   pub source_refused_of : FilesTold → result ≡ statuses.SourceRefused → (text : List ℕ) × IsNoSource words content text × (net' ≡ net) × (TakenTold → taken' ≡ taken ++ text)
   source_refused_of f e =

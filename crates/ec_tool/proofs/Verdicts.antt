@@ -139,11 +139,11 @@ run_status_from plainly.Sticks = Sticks
 -- ---- the call
 
 module _ (words : List (List ℕ)) (content : List ℕ → Option (List ℕ)) (faults faults' : List ℕ → ℕ) (net net' : Net) (status : Status) (text : List ℕ) where
-  pub no_command : WordsOf words ≡ None → net' ≡ net → status ≡ statuses.Usage → text ≡ usage_line → Verdict words content faults faults' net net' status text
-  no_command w n s t = rw (s, t) (NoCommand w n)
+  pub no_command : WordsOf words ≡ None → net' ≡ net → faults' ≡ faults → status ≡ statuses.Usage → text ≡ usage_line → Verdict words content faults faults' net net' status text
+  no_command w n q s t = rw (s, t) (NoCommand w n q)
 
-  pub plain_no_command : WordsOf words ≡ None → status ≡ statuses.Usage → text ≡ usage_line → Plain words faults faults' status text
-  plain_no_command w s t = rw (s, t) (ByWords w)
+  pub plain_no_command : WordsOf words ≡ None → faults' ≡ faults → status ≡ statuses.Usage → text ≡ usage_line → Plain words faults faults' status text
+  plain_no_command w q s t = rw (s, t) (ByWords w q)
 
   module _ (run : RunWords) (w : WordsOf words ≡ Some (command.Run run)) where
     pub read_failed : (file : FileOf) → HasRisen (faults (name_of_file run file)) (faults' (name_of_file run file)) → net' ≡ net → status ≡ statuses.ReadFault → text ≡ fault_line file → Verdict words content faults faults' net net' status text
@@ -152,70 +152,70 @@ module _ (words : List (List ℕ)) (content : List ℕ → Option (List ℕ)) (f
     pub plain_read_failed : (file : FileOf) → HasRisen (faults (name_of_file run file)) (faults' (name_of_file run file)) → status ≡ statuses.ReadFault → text ≡ fault_line file → Plain words faults faults' status text
     plain_read_failed file h s t = rw (s, t) (ByFault (fault_line file) (InRun run file w h))
 
-    judged_verdict_of : {source nodes schedule : List ℕ} {st : Status} {tx : List ℕ} → AreRead content run source nodes schedule → Judged source nodes schedule run.budget net net' st tx → Verdict words content faults faults' net net' st tx
-    judged_verdict_of {source} {nodes} {schedule} r (NoSource refusal at h n) = SourceRefused run source nodes schedule refusal at w r h n
-    judged_verdict_of {source} {nodes} {schedule} r (NoNodes program rule is h n) = NodesRefused run source nodes schedule program rule w r is h n
-    judged_verdict_of {source} {nodes} {schedule} r (NoSchedule program specs rule line is m h n) = ScheduleRefused run source nodes schedule program specs rule line w r is m h n
-    judged_verdict_of {source} {nodes} {schedule} r (Runs program specs entries st tx is n e k) = IsRun run source nodes schedule program specs entries st tx w r is n e k
+    judged_verdict_of : {source nodes schedule : List ℕ} {st : Status} {tx : List ℕ} → AreRead content run source nodes schedule → faults' ≡ faults → Judged source nodes schedule run.budget net net' st tx → Verdict words content faults faults' net net' st tx
+    judged_verdict_of {source} {nodes} {schedule} r q (NoSource refusal at h n) = SourceRefused run source nodes schedule refusal at w r h n q
+    judged_verdict_of {source} {nodes} {schedule} r q (NoNodes program rule is h n) = NodesRefused run source nodes schedule program rule w r is h n q
+    judged_verdict_of {source} {nodes} {schedule} r q (NoSchedule program specs rule line is m h n) = ScheduleRefused run source nodes schedule program specs rule line w r is m h n q
+    judged_verdict_of {source} {nodes} {schedule} r q (Runs program specs entries st tx is n e k) = IsRun run source nodes schedule program specs entries st tx w r is n e k q
 
-    pub judged_verdict : (source nodes schedule : List ℕ) → AreRead content run source nodes schedule → Judged source nodes schedule run.budget net net' status text → Verdict words content faults faults' net net' status text
-    judged_verdict source nodes schedule r j = judged_verdict_of r j
+    pub judged_verdict : (source nodes schedule : List ℕ) → AreRead content run source nodes schedule → faults' ≡ faults → Judged source nodes schedule run.budget net net' status text → Verdict words content faults faults' net net' status text
+    judged_verdict source nodes schedule r q j = judged_verdict_of r q j
 
-    judged_plain_of : {source nodes schedule : List ℕ} {st : Status} {tx : List ℕ} → Judged source nodes schedule run.budget net net' st tx → Plain words faults faults' st tx
-    judged_plain_of (NoSource refusal at h n) = ByFiles (command.Run run) _ _ w RefusesSource
-    judged_plain_of (NoNodes program rule is h n) = ByFiles (command.Run run) _ _ w RefusesInput
-    judged_plain_of (NoSchedule program specs rule line is m h n) = ByFiles (command.Run run) _ _ w RefusesInput
-    judged_plain_of (Runs program specs entries st tx is n e k) = ByFiles (command.Run run) st tx w (EndsRun st (run_status k))
+    judged_plain_of : {source nodes schedule : List ℕ} {st : Status} {tx : List ℕ} → faults' ≡ faults → Judged source nodes schedule run.budget net net' st tx → Plain words faults faults' st tx
+    judged_plain_of q (NoSource refusal at h n) = ByFiles (command.Run run) _ _ w RefusesSource q
+    judged_plain_of q (NoNodes program rule is h n) = ByFiles (command.Run run) _ _ w RefusesInput q
+    judged_plain_of q (NoSchedule program specs rule line is m h n) = ByFiles (command.Run run) _ _ w RefusesInput q
+    judged_plain_of q (Runs program specs entries st tx is n e k) = ByFiles (command.Run run) st tx w (EndsRun st (run_status k)) q
 
-    pub judged_plain : (source nodes schedule : List ℕ) → Judged source nodes schedule run.budget net net' status text → Plain words faults faults' status text
-    judged_plain source nodes schedule j = judged_plain_of j
+    pub judged_plain : (source nodes schedule : List ℕ) → faults' ≡ faults → Judged source nodes schedule run.budget net net' status text → Plain words faults faults' status text
+    judged_plain source nodes schedule q j = judged_plain_of q j
 
   module _ (mean : RunWords) (w : WordsOf words ≡ Some (command.Mean mean)) where
     pub mean_read_failed : (file : FileOf) → HasRisen (faults (name_of_file mean file)) (faults' (name_of_file mean file)) → net' ≡ net → status ≡ statuses.ReadFault → text ≡ fault_line file → Verdict words content faults faults' net net' status text
     mean_read_failed file h n s t = rw (s, t) (MeanReadFailed mean file w h n)
 
-    worked_verdict_of : {source nodes schedule : List ℕ} {st : Status} {tx : List ℕ} → AreRead content mean source nodes schedule → net' ≡ net → Worked source nodes schedule mean.budget st tx → Verdict words content faults faults' net net' st tx
-    worked_verdict_of {source} {nodes} {schedule} r n (NoMeaning refusal at h) = Unmeant mean source nodes schedule refusal at w r h n
-    worked_verdict_of {source} {nodes} {schedule} r n (NoNodeFile meant rule is h) = MeanNodesRefused mean source nodes schedule meant rule w r is h n
-    worked_verdict_of {source} {nodes} {schedule} r n (NoEntries meant specs rule line is m h) = MeanScheduleRefused mean source nodes schedule meant specs rule line w r is m h n
-    worked_verdict_of {source} {nodes} {schedule} r n (Works meant specs entries st tx is m e k) = IsWorked mean source nodes schedule meant specs entries st tx w r is m e k n
+    worked_verdict_of : {source nodes schedule : List ℕ} {st : Status} {tx : List ℕ} → AreRead content mean source nodes schedule → net' ≡ net → faults' ≡ faults → Worked source nodes schedule mean.budget st tx → Verdict words content faults faults' net net' st tx
+    worked_verdict_of {source} {nodes} {schedule} r n q (NoMeaning refusal at h) = Unmeant mean source nodes schedule refusal at w r h n q
+    worked_verdict_of {source} {nodes} {schedule} r n q (NoNodeFile meant rule is h) = MeanNodesRefused mean source nodes schedule meant rule w r is h n q
+    worked_verdict_of {source} {nodes} {schedule} r n q (NoEntries meant specs rule line is m h) = MeanScheduleRefused mean source nodes schedule meant specs rule line w r is m h n q
+    worked_verdict_of {source} {nodes} {schedule} r n q (Works meant specs entries st tx is m e k) = IsWorked mean source nodes schedule meant specs entries st tx w r is m e k n q
 
-    pub worked_verdict : (source nodes schedule : List ℕ) → AreRead content mean source nodes schedule → net' ≡ net → Worked source nodes schedule mean.budget status text → Verdict words content faults faults' net net' status text
-    worked_verdict source nodes schedule r n j = worked_verdict_of r n j
+    pub worked_verdict : (source nodes schedule : List ℕ) → AreRead content mean source nodes schedule → net' ≡ net → faults' ≡ faults → Worked source nodes schedule mean.budget status text → Verdict words content faults faults' net net' status text
+    worked_verdict source nodes schedule r n q j = worked_verdict_of r n q j
 
   module _ (check : CheckWords) (w : WordsOf words ≡ Some (command.Check check)) where
     pub check_failed : HasRisen (faults check.source) (faults' check.source) → net' ≡ net → status ≡ statuses.ReadFault → text ≡ fault_line Source → Verdict words content faults faults' net net' status text
     check_failed h n s t = rw (s, t) (CheckReadFailed check w h n)
 
-    checked_verdict_of : {source : List ℕ} {st : Status} {tx : List ℕ} → IsWhole (content check.source) file_limit source → net' ≡ net → Checked source st tx → Verdict words content faults faults' net net' st tx
-    checked_verdict_of {source} r n (Faulty refusal at h) = CheckRefused check source refusal at w r h n
-    checked_verdict_of {source} r n (Sound h) = Accepts check source w r h n
+    checked_verdict_of : {source : List ℕ} {st : Status} {tx : List ℕ} → IsWhole (content check.source) file_limit source → net' ≡ net → faults' ≡ faults → Checked source st tx → Verdict words content faults faults' net net' st tx
+    checked_verdict_of {source} r n q (Faulty refusal at h) = CheckRefused check source refusal at w r h n q
+    checked_verdict_of {source} r n q (Sound h) = Accepts check source w r h n q
 
-    pub checked_verdict : (source : List ℕ) → IsWhole (content check.source) file_limit source → net' ≡ net → Checked source status text → Verdict words content faults faults' net net' status text
-    checked_verdict source r n c = checked_verdict_of r n c
+    pub checked_verdict : (source : List ℕ) → IsWhole (content check.source) file_limit source → net' ≡ net → faults' ≡ faults → Checked source status text → Verdict words content faults faults' net net' status text
+    checked_verdict source r n q c = checked_verdict_of r n q c
 
 -- of a plain meaning, whether or not the shelf tells its files
 module _ (words : List (List ℕ)) (faults faults' : List ℕ → ℕ) (status : Status) (text : List ℕ) (mean : RunWords) (w : WordsOf words ≡ Some (command.Mean mean)) where
   pub plain_mean_read_failed : (file : FileOf) → HasRisen (faults (name_of_file mean file)) (faults' (name_of_file mean file)) → status ≡ statuses.ReadFault → text ≡ fault_line file → Plain words faults faults' status text
   plain_mean_read_failed file h s t = rw (s, t) (ByFault (fault_line file) (InMean mean file w h))
 
-  worked_plain_of : {source nodes schedule : List ℕ} {st : Status} {tx : List ℕ} → Worked source nodes schedule mean.budget st tx → Plain words faults faults' st tx
-  worked_plain_of (NoMeaning refusal at h) = ByFiles (command.Mean mean) _ _ w RefusesSource
-  worked_plain_of (NoNodeFile meant rule is h) = ByFiles (command.Mean mean) _ _ w RefusesInput
-  worked_plain_of (NoEntries meant specs rule line is m h) = ByFiles (command.Mean mean) _ _ w RefusesInput
-  worked_plain_of (Works meant specs entries st tx is m e k) = ByFiles (command.Mean mean) st tx w (EndsRun st (run_status_from (plain_status meant specs entries mean.budget st tx k)))
+  worked_plain_of : {source nodes schedule : List ℕ} {st : Status} {tx : List ℕ} → faults' ≡ faults → Worked source nodes schedule mean.budget st tx → Plain words faults faults' st tx
+  worked_plain_of q (NoMeaning refusal at h) = ByFiles (command.Mean mean) _ _ w RefusesSource q
+  worked_plain_of q (NoNodeFile meant rule is h) = ByFiles (command.Mean mean) _ _ w RefusesInput q
+  worked_plain_of q (NoEntries meant specs rule line is m h) = ByFiles (command.Mean mean) _ _ w RefusesInput q
+  worked_plain_of q (Works meant specs entries st tx is m e k) = ByFiles (command.Mean mean) st tx w (EndsRun st (run_status_from (plain_status meant specs entries mean.budget st tx k))) q
 
-  pub worked_plain : (source nodes schedule : List ℕ) → Worked source nodes schedule mean.budget status text → Plain words faults faults' status text
-  worked_plain source nodes schedule j = worked_plain_of j
+  pub worked_plain : (source nodes schedule : List ℕ) → faults' ≡ faults → Worked source nodes schedule mean.budget status text → Plain words faults faults' status text
+  worked_plain source nodes schedule q j = worked_plain_of q j
 
 -- of a check, whether or not the shelf tells its file
 module _ (words : List (List ℕ)) (faults faults' : List ℕ → ℕ) (status : Status) (text : List ℕ) (check : CheckWords) (w : WordsOf words ≡ Some (command.Check check)) where
   pub plain_check_failed : HasRisen (faults check.source) (faults' check.source) → status ≡ statuses.ReadFault → text ≡ fault_line Source → Plain words faults faults' status text
   plain_check_failed h s t = rw (s, t) (ByFault (fault_line Source) (InCheck check w h))
 
-  checked_plain_of : {source : List ℕ} {st : Status} {tx : List ℕ} → Checked source st tx → Plain words faults faults' st tx
-  checked_plain_of (Faulty refusal at h) = ByFiles (command.Check check) _ _ w RefusesSource
-  checked_plain_of (Sound h) = ByFiles (command.Check check) _ _ w AcceptsSource
+  checked_plain_of : {source : List ℕ} {st : Status} {tx : List ℕ} → faults' ≡ faults → Checked source st tx → Plain words faults faults' st tx
+  checked_plain_of q (Faulty refusal at h) = ByFiles (command.Check check) _ _ w RefusesSource q
+  checked_plain_of q (Sound h) = ByFiles (command.Check check) _ _ w AcceptsSource q
 
-  pub checked_plain : (source : List ℕ) → Checked source status text → Plain words faults faults' status text
-  checked_plain source c = checked_plain_of c
+  pub checked_plain : (source : List ℕ) → faults' ≡ faults → Checked source status text → Plain words faults faults' status text
+  checked_plain source q c = checked_plain_of q c

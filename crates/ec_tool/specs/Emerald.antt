@@ -132,42 +132,42 @@ pub record AreRead (content : List ℕ → Option (List ℕ)) (words : RunWords)
 
 -- What a call comes to before anything is written: its status and its text, by the words, what the shelf tells, the counts
 -- of its faults before and after, and the network before and after. One case a row of the answers, each where no earlier
--- one came.
+-- one came. Where each read was well, no count has risen.
 pub data Verdict (words : List (List ℕ)) (content : List ℕ → Option (List ℕ)) (faults faults' : List ℕ → ℕ) (net net' : Net) : Status → List ℕ → Type 0 where
-  NoCommand : WordsOf words ≡ None → net' ≡ net → Verdict words content faults faults' net net' statuses.Usage usage_line
+  NoCommand : WordsOf words ≡ None → net' ≡ net → faults' ≡ faults → Verdict words content faults faults' net net' statuses.Usage usage_line
   -- a run
   ReadFailed : (run : RunWords) (file : FileOf) → WordsOf words ≡ Some (command.Run run) → HasRisen (faults (name_of_file run file)) (faults' (name_of_file run file)) → net' ≡ net → Verdict words content faults faults' net net' statuses.ReadFault (fault_line file)
-  SourceRefused : (run : RunWords) (source nodes schedule : List ℕ) (refusal : Refusal) (at : ℕ) → WordsOf words ≡ Some (command.Run run) → AreRead content run source nodes schedule → IsRefused source refusal at → net' ≡ net → Verdict words content faults faults' net net' statuses.SourceRefused (refused_line source refusal at)
-  NodesRefused : (run : RunWords) (source nodes schedule : List ℕ) (program : Program) (rule : NodeRule) → WordsOf words ≡ Some (command.Run run) → AreRead content run source nodes schedule → IsSource source program → NodesOf nodes ≡ Err rule → net' ≡ net → Verdict words content faults faults' net net' statuses.InputRefused (nodes_line rule)
-  ScheduleRefused : (run : RunWords) (source nodes schedule : List ℕ) (program : Program) (specs : List NodeSpec) (rule : ScheduleRule) (line : Option ℕ) → WordsOf words ≡ Some (command.Run run) → AreRead content run source nodes schedule → IsSource source program → NodesOf nodes ≡ Ok specs → EntriesOf schedule ≡ Err (rule, line) → net' ≡ net → Verdict words content faults faults' net net' statuses.InputRefused (schedule_line rule line)
-  IsRun : (run : RunWords) (source nodes schedule : List ℕ) (program : Program) (specs : List NodeSpec) (entries : List Entry) (status : Status) (text : List ℕ) → WordsOf words ≡ Some (command.Run run) → AreRead content run source nodes schedule → IsSource source program → NodesOf nodes ≡ Ok specs → EntriesOf schedule ≡ Ok entries → RunsTo program specs entries run.budget net net' status text → Verdict words content faults faults' net net' status text
+  SourceRefused : (run : RunWords) (source nodes schedule : List ℕ) (refusal : Refusal) (at : ℕ) → WordsOf words ≡ Some (command.Run run) → AreRead content run source nodes schedule → IsRefused source refusal at → net' ≡ net → faults' ≡ faults → Verdict words content faults faults' net net' statuses.SourceRefused (refused_line source refusal at)
+  NodesRefused : (run : RunWords) (source nodes schedule : List ℕ) (program : Program) (rule : NodeRule) → WordsOf words ≡ Some (command.Run run) → AreRead content run source nodes schedule → IsSource source program → NodesOf nodes ≡ Err rule → net' ≡ net → faults' ≡ faults → Verdict words content faults faults' net net' statuses.InputRefused (nodes_line rule)
+  ScheduleRefused : (run : RunWords) (source nodes schedule : List ℕ) (program : Program) (specs : List NodeSpec) (rule : ScheduleRule) (line : Option ℕ) → WordsOf words ≡ Some (command.Run run) → AreRead content run source nodes schedule → IsSource source program → NodesOf nodes ≡ Ok specs → EntriesOf schedule ≡ Err (rule, line) → net' ≡ net → faults' ≡ faults → Verdict words content faults faults' net net' statuses.InputRefused (schedule_line rule line)
+  IsRun : (run : RunWords) (source nodes schedule : List ℕ) (program : Program) (specs : List NodeSpec) (entries : List Entry) (status : Status) (text : List ℕ) → WordsOf words ≡ Some (command.Run run) → AreRead content run source nodes schedule → IsSource source program → NodesOf nodes ≡ Ok specs → EntriesOf schedule ≡ Ok entries → RunsTo program specs entries run.budget net net' status text → faults' ≡ faults → Verdict words content faults faults' net net' status text
   -- the plain meaning
   MeanReadFailed : (mean : RunWords) (file : FileOf) → WordsOf words ≡ Some (command.Mean mean) →
       HasRisen (faults (name_of_file mean file)) (faults' (name_of_file mean file)) → net' ≡ net →
       Verdict words content faults faults' net net' statuses.ReadFault (fault_line file)
   Unmeant : (mean : RunWords) (source nodes schedule : List ℕ) (refusal : Refusal) (at : ℕ) → WordsOf words ≡ Some (command.Mean mean) →
-      AreRead content mean source nodes schedule → IsUnmeant source refusal at → net' ≡ net →
+      AreRead content mean source nodes schedule → IsUnmeant source refusal at → net' ≡ net → faults' ≡ faults →
       Verdict words content faults faults' net net' statuses.SourceRefused (refused_line source refusal at)
   MeanNodesRefused : (mean : RunWords) (source nodes schedule : List ℕ) (meant : Meant) (rule : NodeRule) → WordsOf words ≡ Some (command.Mean mean) →
-      AreRead content mean source nodes schedule → IsMeant source meant → NodesOf nodes ≡ Err rule → net' ≡ net →
+      AreRead content mean source nodes schedule → IsMeant source meant → NodesOf nodes ≡ Err rule → net' ≡ net → faults' ≡ faults →
       Verdict words content faults faults' net net' statuses.InputRefused (nodes_line rule)
   MeanScheduleRefused : (mean : RunWords) (source nodes schedule : List ℕ) (meant : Meant) (specs : List NodeSpec) (rule : ScheduleRule) (line : Option ℕ) →
       WordsOf words ≡ Some (command.Mean mean) → AreRead content mean source nodes schedule → IsMeant source meant →
-      NodesOf nodes ≡ Ok specs → EntriesOf schedule ≡ Err (rule, line) → net' ≡ net →
+      NodesOf nodes ≡ Ok specs → EntriesOf schedule ≡ Err (rule, line) → net' ≡ net → faults' ≡ faults →
       Verdict words content faults faults' net net' statuses.InputRefused (schedule_line rule line)
   IsWorked : (mean : RunWords) (source nodes schedule : List ℕ) (meant : Meant) (specs : List NodeSpec) (entries : List Entry) (status : Status) (text : List ℕ) →
       WordsOf words ≡ Some (command.Mean mean) → AreRead content mean source nodes schedule → IsMeant source meant →
-      NodesOf nodes ≡ Ok specs → EntriesOf schedule ≡ Ok entries → IsPlainRun meant specs entries mean.budget status text → net' ≡ net →
+      NodesOf nodes ≡ Ok specs → EntriesOf schedule ≡ Ok entries → IsPlainRun meant specs entries mean.budget status text → net' ≡ net → faults' ≡ faults →
       Verdict words content faults faults' net net' status text
   -- a check
   CheckReadFailed : (check : CheckWords) → WordsOf words ≡ Some (command.Check check) →
       HasRisen (faults check.source) (faults' check.source) → net' ≡ net →
       Verdict words content faults faults' net net' statuses.ReadFault (fault_line Source)
   CheckRefused : (check : CheckWords) (source : List ℕ) (refusal : Refusal) (at : ℕ) → WordsOf words ≡ Some (command.Check check) →
-      IsWhole (content check.source) file_limit source → IsFaulty source refusal at → net' ≡ net →
+      IsWhole (content check.source) file_limit source → IsFaulty source refusal at → net' ≡ net → faults' ≡ faults →
       Verdict words content faults faults' net net' statuses.SourceRefused (refused_line source refusal at)
   Accepts : (check : CheckWords) (source : List ℕ) → WordsOf words ≡ Some (command.Check check) →
-      IsWhole (content check.source) file_limit source → IsChecked source → net' ≡ net →
+      IsWhole (content check.source) file_limit source → IsChecked source → net' ≡ net → faults' ≡ faults →
       Verdict words content faults faults' net net' statuses.Finished accepted_line
 
 -- what the call answers of a verdict: the status and the whole text written, or a fault of the sink and a front of it

@@ -57,9 +57,9 @@ pub data IsByFiles : Status → Type 0 where
 
 -- what a verdict says whether or not the shelf tells what its files hold
 pub data Plain (words : List (List ℕ)) (faults faults' : List ℕ → ℕ) : Status → List ℕ → Type 0 where
-  ByWords : WordsOf words ≡ None → Plain words faults faults' statuses.Usage usage_line
+  ByWords : WordsOf words ≡ None → faults' ≡ faults → Plain words faults faults' statuses.Usage usage_line
   ByFault : (text : List ℕ) → HasReadFault words faults faults' text → Plain words faults faults' statuses.ReadFault text
-  ByFiles : (asked : CommandWords) (status : Status) (text : List ℕ) → WordsOf words ≡ Some asked → IsByFiles status → Plain words faults faults' status text
+  ByFiles : (asked : CommandWords) (status : Status) (text : List ℕ) → WordsOf words ≡ Some asked → IsByFiles status → faults' ≡ faults → Plain words faults faults' status text
 
 -- so it is for all words that ask for this command
 abbrev pub WhereAsked : CommandWords → (List (List ℕ) → Type 0) → Type 0

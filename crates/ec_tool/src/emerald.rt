@@ -210,6 +210,10 @@ pub fn emerald<'a, F: Shelf, K: Sink>(
     ensures no_memory { result ≡ Status.NoMemory →
         (K.taken sink.new ≡ K.taken sink.old) × (K.faults sink.new ≡ K.faults sink.old) }
 
+    // No count of a file's faults has risen, but where a file wasn't read, or where no text was written whole.
+    ensures reads { (F.faults shelf.new ≡ F.faults shelf.old) ⊎
+        ((result ≡ Status.ReadFault) ⊎ ((result ≡ Status.WriteFault) ⊎ (result ≡ Status.NoMemory))) }
+
     // A run or a plain meaning without a failure ends so, and an accepted check does.
     ensures finished { F.tells shelf.old → result ≡ Status.Finished →
         (text : List ℕ) × (HasEnded (map (λ word. word.now) words.now) (F.content shelf.old) net.old net.new Status.Finished text ⊎

@@ -46,6 +46,7 @@ pub(crate) fn read_files<F: Shelf>(
     run: RunCommand,
 ) -> Result<Files, Unread>
     ensures read { IfOk result (λ files. F.tells shelf.old → AreRead (F.content shelf.old) (run_in run.entry) files.source.items files.nodes.items files.schedule.items) }
+    ensures ok { OnOk result (F.faults shelf.new ≡ F.faults shelf.old) }
     ensures failed { IfErr result (λ e. WhenFailed e (λ file. HasRisen (F.faults shelf.old (name_of_file (run_in run.entry) file)) (F.faults shelf.new (name_of_file (run_in run.entry) file)))) }
 {
     let source = read_file(alloc, shelf, run.source, FileOf::Source)?;

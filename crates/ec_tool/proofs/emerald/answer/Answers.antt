@@ -20,7 +20,7 @@ returns-in-None-clause-verdict g c =
     let net = c.args.net.now in
     if_ok_two (λ (a : Answer). a.status ≡ statuses.Usage) (λ (a : Answer). a.text.items ≡ usage_line) (λ (a : Answer). g.F.Shelf.tells c.args.shelf.now → Verdict words content faults faults net net a.status a.text.items)
     c.answer_with.result c.answer_with.ensures.status c.answer_with.ensures.text
-    (λ a s t told. no_command words content faults faults net net a.status a.text.items none refl s t)
+    (λ a s t told. no_command words content faults faults net net a.status a.text.items none refl refl s t)
 
 pub returns-in-None-clause-plain : goal.returns-in-None-clause-plain
 returns-in-None-clause-plain g c =
@@ -31,7 +31,7 @@ returns-in-None-clause-plain g c =
     let net = c.args.net.now in
     if_ok_two (λ (a : Answer). a.status ≡ statuses.Usage) (λ (a : Answer). a.text.items ≡ usage_line) (λ (a : Answer). Plain words faults faults a.status a.text.items)
     c.answer_with.result c.answer_with.ensures.status c.answer_with.ensures.text
-    (λ a s t. plain_no_command words content faults faults net net a.status a.text.items none s t)
+    (λ a s t. plain_no_command words content faults faults net net a.status a.text.items none refl s t)
 
 pub returns-in-Some-Run-clause-verdict : goal.returns-in-Some-Run-clause-verdict
 returns-in-Some-Run-clause-verdict g c =

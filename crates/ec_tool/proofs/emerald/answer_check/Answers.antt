@@ -20,7 +20,7 @@ returns-in-Ok-clause-verdict g c =
     if_ok_one (λ (a : Answer). Checked source a.status a.text.items)
     (λ (a : Answer). (net : Net) → g.F.Shelf.tells c.args.shelf.now → WhereAsked (command.Check check) (λ words. Verdict words content faults faults' net net a.status a.text.items))
     c.judge_source.result (rw c.deref.ensures.value at c.judge_source.ensures)
-    (λ a j net told words w. checked_verdict words content faults faults' net net a.status a.text.items check w source (c.in-Ok.ensures.read told) refl j)
+    (λ a j net told words w. checked_verdict words content faults faults' net net a.status a.text.items check w source (c.in-Ok.ensures.read told) refl c.in-Ok.ensures.ok j)
 
 pub returns-in-Ok-clause-plain : goal.returns-in-Ok-clause-plain
 returns-in-Ok-clause-plain g c =
@@ -31,7 +31,7 @@ returns-in-Ok-clause-plain g c =
     if_ok_one (λ (a : Answer). Checked source a.status a.text.items)
     (λ (a : Answer). WhereAsked (command.Check check) (λ words. Plain words faults faults' a.status a.text.items))
     c.judge_source.result (rw c.deref.ensures.value at c.judge_source.ensures)
-    (λ a j words w. checked_plain words faults faults' a.status a.text.items check w source j)
+    (λ a j words w. checked_plain words faults faults' a.status a.text.items check w source c.in-Ok.ensures.ok j)
 
 pub returns-in-Err-Failed-clause-verdict : goal.returns-in-Err-Failed-clause-verdict
 returns-in-Err-Failed-clause-verdict g c =

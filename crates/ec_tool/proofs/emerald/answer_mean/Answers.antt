@@ -19,7 +19,7 @@ returns-in-Ok-clause-verdict g c =
     if_ok_one (λ (a : Answer). Worked f.source.items f.nodes.items f.schedule.items mean.budget a.status a.text.items)
     (λ (a : Answer). (net : Net) → g.F.Shelf.tells c.args.shelf.now → WhereAsked (command.Mean mean) (λ words. Verdict words content faults faults' net net a.status a.text.items))
     c.work.result c.work.ensures
-    (λ a j net told words w. worked_verdict words content faults faults' net net a.status a.text.items mean w f.source.items f.nodes.items f.schedule.items (c.in-Ok.ensures.read told) refl j)
+    (λ a j net told words w. worked_verdict words content faults faults' net net a.status a.text.items mean w f.source.items f.nodes.items f.schedule.items (c.in-Ok.ensures.read told) refl c.in-Ok.ensures.ok j)
 
 pub returns-in-Ok-clause-plain : goal.returns-in-Ok-clause-plain
 returns-in-Ok-clause-plain g c =
@@ -30,7 +30,7 @@ returns-in-Ok-clause-plain g c =
     if_ok_one (λ (a : Answer). Worked f.source.items f.nodes.items f.schedule.items mean.budget a.status a.text.items)
     (λ (a : Answer). WhereAsked (command.Mean mean) (λ words. Plain words faults faults' a.status a.text.items))
     c.work.result c.work.ensures
-    (λ a j words w. worked_plain words faults faults' a.status a.text.items mean w f.source.items f.nodes.items f.schedule.items j)
+    (λ a j words w. worked_plain words faults faults' a.status a.text.items mean w f.source.items f.nodes.items f.schedule.items c.in-Ok.ensures.ok j)
 
 pub returns-in-Err-Failed-clause-verdict : goal.returns-in-Err-Failed-clause-verdict
 returns-in-Err-Failed-clause-verdict g c =

@@ -20,7 +20,7 @@ returns-in-Ok-clause-verdict g c =
     if_ok_one (λ (a : Answer). Judged f.source.items f.nodes.items f.schedule.items run.budget net net' a.status a.text.items)
     (λ (a : Answer). g.F.Shelf.tells c.args.shelf.now → WhereAsked (command.Run run) (λ words. Verdict words content faults faults' net net' a.status a.text.items))
     c.judge.result c.judge.ensures
-    (λ a j told words w. judged_verdict words content faults faults' net net' a.status a.text.items run w f.source.items f.nodes.items f.schedule.items (c.in-Ok.ensures.read told) j)
+    (λ a j told words w. judged_verdict words content faults faults' net net' a.status a.text.items run w f.source.items f.nodes.items f.schedule.items (c.in-Ok.ensures.read told) c.in-Ok.ensures.ok j)
 
 pub returns-in-Ok-clause-plain : goal.returns-in-Ok-clause-plain
 returns-in-Ok-clause-plain g c =
@@ -34,7 +34,7 @@ returns-in-Ok-clause-plain g c =
     if_ok_one (λ (a : Answer). Judged f.source.items f.nodes.items f.schedule.items run.budget net net' a.status a.text.items)
     (λ (a : Answer). WhereAsked (command.Run run) (λ words. Plain words faults faults' a.status a.text.items))
     c.judge.result c.judge.ensures
-    (λ a j words w. judged_plain words content faults faults' net net' a.status a.text.items run w f.source.items f.nodes.items f.schedule.items j)
+    (λ a j words w. judged_plain words content faults faults' net net' a.status a.text.items run w f.source.items f.nodes.items f.schedule.items c.in-Ok.ensures.ok j)
 
 pub returns-in-Err-Failed-clause-verdict : goal.returns-in-Err-Failed-clause-verdict
 returns-in-Err-Failed-clause-verdict g c =

@@ -1,7 +1,7 @@
 use Rattle.std.proofs.Common.{ℕ, Bor, List, map}
 use Rattle.ec_report.specs.declared.status.Status.TheVariants as statuses
 use Rattle.ec_tool.specs.Promises.IsRunStatus.{Fails, Spends, Fills, Sticks}
-use Rattle.ec_tool.proofs.Promised.{answer_of, no_memory_of, write_fault_of, usage_of, no_command_of, read_fault_of, source_refused_of, input_refused_of, finished_of, ran_of, ended_of, complete_of, complete_mean_of, complete_check_of}
+use Rattle.ec_tool.proofs.Promised.{answer_of, no_memory_of, write_fault_of, usage_of, no_command_of, read_fault_of, source_refused_of, input_refused_of, finished_of, ran_of, ended_of, complete_of, complete_mean_of, complete_check_of, reads_of}
 use Rattle.ec_tool.proofs.emerald.emerald.Goals as goal
 
 pub returns-clause-answer : goal.returns-clause-answer
@@ -51,3 +51,6 @@ returns-clause-complete_mean g c = let F = g.F.Shelf in let K = g.K.Sink in comp
 
 pub returns-clause-complete_check : goal.returns-clause-complete_check
 returns-clause-complete_check g c = let F = g.F.Shelf in let K = g.K.Sink in complete_check_of (F.tells c.args.shelf.now) (K.tells c.args.sink.now) (map (λ (word : Bor (List ℕ)). word.now) c.args.words.now) (F.content c.args.shelf.now) (F.faults c.args.shelf.now) (F.faults c.call.new.shelf) c.args.net.now c.call.new.net (K.taken c.args.sink.now) (K.taken c.call.new.sink) (K.faults c.args.sink.now) (K.faults c.call.new.sink) c.call.result c.call.ensures
+
+pub returns-clause-reads : goal.returns-clause-reads
+returns-clause-reads g c = let F = g.F.Shelf in let K = g.K.Sink in reads_of (F.tells c.args.shelf.now) (K.tells c.args.sink.now) (map (λ (word : Bor (List ℕ)). word.now) c.args.words.now) (F.content c.args.shelf.now) (F.faults c.args.shelf.now) (F.faults c.call.new.shelf) c.args.net.now c.call.new.net (K.taken c.args.sink.now) (K.taken c.call.new.sink) (K.faults c.args.sink.now) (K.faults c.call.new.sink) c.call.result c.call.ensures
