@@ -1,5 +1,5 @@
 -- A plain run, one entry after the other.
-use Rattle.std.proofs.Common.{◌≡◌, ℕ, zero, suc, ◌+◌, ◌<◌, ◌≤◌, List, [], ◌∷◌, ◌++◌, length, nat_le, Option, Some, None, below_none, below_more, length-append, Result, Ok, Err, IfOk, refl, sym, ap, subst, ◌∙◌, arith, add-one}
+use Rattle.std.proofs.Common.{◌≡◌, ℕ, zero, suc, ◌+◌, ◌<◌, ◌≤◌, List, [], ◌∷◌, ◌++◌, length, nat_le, Option, Some, None, below_none, below_more, length-append, refl, sym, ap, subst, ◌∙◌, arith, add-one}
 use Rattle.ec_meaning.specs.Activations.{source_meaning}
 use Rattle.ec_meaning.specs.ClassNames.{class_name}
 use Rattle.ec_meaning.specs.Meaning.{source_silent, source_start, source_turn}
@@ -108,7 +108,3 @@ told_of s t u specs n budget k how w same again nodes h status text st tx =
       status_is = st ∙ ap (λ (v : World SourceActivation). status_of (statuses_of v) (Ends how)) f.world_is;
       text_is = x ∙ ap (λ (v : World SourceActivation). report (class_name s) v specs [] k (Ends how)) f.world_is;
     }
-
-pub if_ok_two : {A E : Type 0} (P Q R : A → Type 0) (r : Result A E) → IfOk r P → IfOk r Q → ((v : A) → P v → Q v → R v) → IfOk r R
-if_ok_two P Q R (Ok v) p q f = f v p q
-if_ok_two P Q R (Err e) p q f = tt

@@ -14,22 +14,16 @@ ghost use Rattle.ec_world.specs.Run.{statuses_of};
 use crate::report::report;
 use ec_meaning::meaning::Meaning;
 use ec_meaning::source::Program;
+use ec_report::answer::Answer;
 use ec_report::end::ReportEnd;
 use ec_report::processes::ready_ones;
-use ec_report::status::{Status, status_after};
+use ec_report::status::status_after;
 use ec_report::step::{Step, step_of};
 use ec_world::node::NodeSpec;
 use ec_world::process::ProcStatus;
 use ec_world::run::RunEnd;
 use ec_world::value::Pid;
 use std::alloc::{AllocError, Global};
-
-/// The status of a run that has ended, and its report.
-#[derive(Drop)]
-pub struct Told {
-    pub status: Status,
-    pub text: Vec<u8>,
-}
 
 /// How many entries a run has done, and how it has ended.
 #[derive(Clone, Copy)]
@@ -45,10 +39,10 @@ pub fn run(
     program: Program<'_>,
     specs: &[NodeSpec],
     budget: u64,
-) -> Result<Told, AllocError>
+) -> Result<Answer, AllocError>
     requires some { 0 < length specs.now }
     requires at_most { length specs.now ≤ 64 }
-    ensures { IfOk result (λ told. IsPlainRun (source_of program.entry) specs.now [] budget told.status told.text.items) }
+    ensures { IfOk result (λ answer. IsPlainRun (source_of program.entry) specs.now [] budget answer.status answer.text.items) }
 {
     let mut meaning = Meaning::start(alloc, program, specs.len() as u32)?;
     let ended = run_entries(alloc, &mut meaning, budget)?;
@@ -112,14 +106,14 @@ fn tell(
     meaning: &Meaning<'_>,
     specs: &[NodeSpec],
     ended: Ended,
-) -> Result<Told, AllocError>
-    ensures status { IfOk result (λ told. told.status ≡ status_of (statuses_of meaning.now.world) (Ends ended.how)) }
-    ensures text { IfOk result (λ told. told.text.items ≡ report (class_name (source_of meaning.now.program)) meaning.now.world specs.now [] ended.done (Ends ended.how)) }
+) -> Result<Answer, AllocError>
+    ensures status { IfOk result (λ answer. answer.status ≡ status_of (statuses_of meaning.now.world) (Ends ended.how)) }
+    ensures text { IfOk result (λ answer. answer.text.items ≡ report (class_name (source_of meaning.now.program)) meaning.now.world specs.now [] ended.done (Ends ended.how)) }
 {
     let statuses = statuses_in(alloc, meaning)?;
     let end = ReportEnd::Ends(ended.how);
     let text = report(alloc, meaning, specs, &statuses, ended.done, end)?;
-    Ok(Told {
+    Ok(Answer {
         status: status_after(&statuses, end),
         text,
     })

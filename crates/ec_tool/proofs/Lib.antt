@@ -1,11 +1,2 @@
-pub mod Shown
-pub mod Sources
-pub mod Lifting
+pub mod Taking
 pub mod Verdicts
-pub mod Promised
-pub mod Counting
-pub mod Growth
-pub mod Rooms
-pub mod Following
-pub mod Ending
-pub mod Examples

@@ -1,56 +1,17 @@
--- From what the steps of a call come to, to what the call promises of each status.
-use Rattle.std.proofs.Common.{◌≡◌, ℕ, Bool, true, false, List, [], length, Option, Some, None, Ok, Err, sym, ap, ◌∙◌, subst, arith}
+-- From what was read and judged to the verdict of the call.
+use Rattle.std.proofs.Common.{◌≡◌, ℕ, List, Option, Some, None, refl, sym, ap, ◌∙◌, subst}
 use Rattle.std.specs.Prelude.{option_map}
-use Rattle.ec_printing.specs.declared.Program.{Program}
-use Rattle.ec_world.specs.declared.node.NodeSpec.{NodeSpec}
-use Rattle.ec_world.specs.declared.run.Entry.{Entry}
-use Rattle.ec_world.specs.declared.run.RunEnd.{RunEnd}
-use Rattle.ec_world.specs.declared.run.RunEnd.TheVariants.{Finished, Stuck, Spent}
-use Rattle.ec_world.specs.declared.process.ProcStatus.{ProcStatus}
-use Rattle.ec_world.specs.Run.{statuses_of}
-use Rattle.ec_inputs.specs.declared.nodes.NodeRule.{NodeRule}
-use Rattle.ec_inputs.specs.declared.schedule.ScheduleRule.{ScheduleRule}
-use Rattle.ec_inputs.specs.Nodes.{NodesOf}
-use Rattle.ec_inputs.specs.Schedules.{EntriesOf}
+use Rattle.ec_answers.specs.Asked.{name_in, name_of, file_limit, AreRead}
+use Rattle.ec_answers.specs.declared.file.FileOf.{FileOf}
+use Rattle.ec_answers.specs.declared.file.FileOf.TheVariants.{Source, Nodes, Schedule}
 use Rattle.ec_inputs.specs.declared.words.Command.{Command}
-use Rattle.ec_inputs.specs.Words.{RunWords, CheckWords, WordsOf, CommandWords as command, command_in}
-use Rattle.ec_inputs.proofs.NoEntries.{no_entries}
-use Rattle.ec_inputs.proofs.OneNode.{one_node}
-use Rattle.ec_outside.specs.Fault.{HasRisen}
+use Rattle.ec_inputs.specs.Words.{RunWords, CheckWords, CommandWords, WordsOf, command_in}
+use Rattle.ec_inputs.specs.Words.CommandWords as command
 use Rattle.ec_outside.specs.Whole.{IsWhole}
-use Rattle.ec_network.specs.Net.{Net, IsOneNode}
-use Rattle.ec_meaning.specs.Programs.{Source as Meant}
-use Rattle.ec_plain.specs.Plain.{IsPlainRun, source_run as plain_run}
-use Rattle.ec_report.specs.declared.status.Status.{Status}
-use Rattle.ec_report.specs.declared.status.Status.TheVariants as statuses
-use Rattle.ec_tool.specs.declared.files.FileOf.{FileOf}
-use Rattle.ec_tool.specs.declared.files.FileOf.TheVariants.{Source}
-use Rattle.ec_report.specs.declared.end.ReportEnd.{ReportEnd}
-use Rattle.ec_report.specs.declared.end.ReportEnd.TheVariants.{Ends, IsFull}
-use Rattle.ec_report.specs.Status.{any_failed, finished_status, status_of}
-use Rattle.ec_tool.specs.declared.source.Refusal.{Refusal}
-use Rattle.ec_tool.specs.Inputs.{usage_line}
-use Rattle.ec_tool.specs.Sources.{IsChecked, IsSource, IsMeant, IsFaulty, IsRefused, IsUnmeant, accepted_line, refused_line}
-use Rattle.ec_tool.specs.Refusals.{nodes_line, schedule_line}
-use Rattle.ec_tool.specs.Emerald.{RunsTo, AreRead, Verdict, name_of_file, fault_line, file_limit, source_run}
-use Rattle.ec_tool.specs.Emerald.RunsTo.{LoadIsFull, RanUntil}
-use Rattle.ec_tool.specs.Emerald.Verdict.{NoCommand, ReadFailed, SourceRefused, NodesRefused, ScheduleRefused, IsRun, MeanReadFailed, Unmeant, MeanNodesRefused, MeanScheduleRefused, IsWorked, CheckReadFailed, CheckRefused, Accepts}
-use Rattle.ec_tool.specs.Promises.{IsRunStatus, IsPlainStatus, IsPlainStatus as plainly}
-use Rattle.ec_tool.specs.Promises.HasReadFault.{InRun, InMean, InCheck}
-use Rattle.ec_tool.specs.Steps.{Judged, Worked, Checked, Plain}
-use Rattle.ec_tool.specs.Promises.IsRunStatus.{Finishes, Fails, Spends, Fills, Sticks}
-use Rattle.ec_tool.specs.Steps.Judged.{NoSource, NoNodes, NoSchedule, Runs}
-use Rattle.ec_tool.specs.Steps.Worked.{NoMeaning, NoNodeFile, NoEntries, Works}
-use Rattle.ec_tool.specs.Steps.Checked.{Faulty, Sound}
-use Rattle.ec_tool.specs.Steps.IsByFiles.{RefusesSource, RefusesInput, EndsRun, AcceptsSource}
-use Rattle.ec_tool.specs.Steps.Plain.{ByWords, ByFault, ByFiles}
-
--- ---- what the inputs that are read so far give
-
-pub one_node_read : (nodes : List ℕ) (specs : List NodeSpec) → NodesOf nodes ≡ Ok specs → IsOneNode specs
-one_node_read nodes specs e =
-    let one = one_node nodes specs e in
-    record { spec = one.spec; one = one.one; kind = one.sized.kind; blocks = one.sized.blocks; text = (let t = one.sized.text in omega arith) }
+use Rattle.ec_tool.specs.Reading.{AreAllRead, only}
+use Rattle.ec_tool.specs.Taking.{asked_of}
+use Rattle.ec_tool.specs.declared.take.Work.{Work}
+use Rattle.ec_tool.specs.declared.take.Work.TheVariants.{Run, Mean}
 
 -- ---- words
 
@@ -61,161 +22,31 @@ module _ (words : List (List ℕ)) (found : Option Command) (read : option_map c
   pub words_of_none : found ≡ None → WordsOf words ≡ None
   words_of_none e = sym read ∙ ap (λ (o : Option Command). option_map command_in o) e
 
--- ---- the files of a run
+-- ---- files
 
-module _ (source nodes schedule : List ℕ) (budget : ℕ) (net net' : Net) (status : Status) (text : List ℕ) where
-  pub source_refused : (refusal : Refusal) (at : ℕ) → IsRefused source refusal at → net' ≡ net → status ≡ statuses.SourceRefused → text ≡ refused_line source refusal at → Judged source nodes schedule budget net net' status text
-  source_refused refusal at h n s t = rw (s, t) (NoSource refusal at h n)
+-- each file of a run or a plain meaning has a name
+pub named : (work : Work) (words : RunWords) (file : FileOf) → name_of (asked_of work words) file ≡ Some (name_in words file)
+named Run words file = refl
+named Mean words file = refl
 
-  pub nodes_refused : (program : Program) (rule : NodeRule) → IsSource source program → NodesOf nodes ≡ Err rule → net' ≡ net → status ≡ statuses.InputRefused → text ≡ nodes_line rule → Judged source nodes schedule budget net net' status text
-  nodes_refused program rule is h n s t = rw (s, t) (NoNodes program rule is h n)
+each_read : (content : List ℕ → Option (List ℕ)) (words : RunWords) (held : FileOf → List ℕ) → AreAllRead content words held → (file : FileOf) →
+    IsWhole (content (name_in words file)) file_limit (held file)
+each_read content words held r Source = r.source_is
+each_read content words held r Nodes = r.nodes_are
+each_read content words held r Schedule = r.schedule_is
 
-  pub schedule_refused : (program : Program) (specs : List NodeSpec) (rule : ScheduleRule) (line : Option ℕ) → IsSource source program → NodesOf nodes ≡ Ok specs → EntriesOf schedule ≡ Err (rule, line) → net' ≡ net → status ≡ statuses.InputRefused → text ≡ schedule_line rule line → Judged source nodes schedule budget net net' status text
-  schedule_refused program specs rule line is m h n s t = rw (s, t) (NoSchedule program specs rule line is m h n)
+pub all_read : (content : List ℕ → Option (List ℕ)) (work : Work) (words : RunWords) (held : FileOf → List ℕ) → AreAllRead content words held →
+    AreRead content (asked_of work words) held
+all_read content work words held r file name e =
+    let same : Some (name_in words file) ≡ Some name = sym (named work words file) ∙ e in
+    let is : name_in words file ≡ name = cc in
+    subst (λ (n : List ℕ). IsWhole (content n) file_limit (held file)) is (each_read content words held r file)
 
-  pub is_run : (program : Program) (specs : List NodeSpec) (entries : List Entry) → IsSource source program → NodesOf nodes ≡ Ok specs → EntriesOf schedule ≡ Ok entries → RunsTo program specs [] budget net net' status text → Judged source nodes schedule budget net net' status text
-  is_run program specs entries is n e r = Runs program specs entries status text is n e (subst (λ (es : List Entry). RunsTo program specs es budget net net' status text) (sym (no_entries schedule entries e)) r)
-
--- ---- the files of a plain meaning
-
-module _ (source nodes schedule : List ℕ) (budget : ℕ) (status : Status) (text : List ℕ) where
-  pub source_unmeant : (refusal : Refusal) (at : ℕ) → IsUnmeant source refusal at → status ≡ statuses.SourceRefused → text ≡ refused_line source refusal at → Worked source nodes schedule budget status text
-  source_unmeant refusal at h s t = rw (s, t) (NoMeaning refusal at h)
-
-  pub mean_nodes_refused : (meant : Meant) (rule : NodeRule) → IsMeant source meant → NodesOf nodes ≡ Err rule → status ≡ statuses.InputRefused → text ≡ nodes_line rule → Worked source nodes schedule budget status text
-  mean_nodes_refused meant rule is h s t = rw (s, t) (NoNodeFile meant rule is h)
-
-  pub mean_schedule_refused : (meant : Meant) (specs : List NodeSpec) (rule : ScheduleRule) (line : Option ℕ) → IsMeant source meant → NodesOf nodes ≡ Ok specs → EntriesOf schedule ≡ Err (rule, line) → status ≡ statuses.InputRefused → text ≡ schedule_line rule line → Worked source nodes schedule budget status text
-  mean_schedule_refused meant specs rule line is m h s t = rw (s, t) (NoEntries meant specs rule line is m h)
-
-  pub is_worked : (meant : Meant) (specs : List NodeSpec) (entries : List Entry) → IsMeant source meant → NodesOf nodes ≡ Ok specs → EntriesOf schedule ≡ Ok entries → IsPlainRun meant specs [] budget status text → Worked source nodes schedule budget status text
-  is_worked meant specs entries is n e r = Works meant specs entries status text is n e (subst (λ (es : List Entry). IsPlainRun meant specs es budget status text) (sym (no_entries schedule entries e)) r)
-
--- ---- the file of a check
-
-module _ (source : List ℕ) (status : Status) (text : List ℕ) where
-  pub is_faulty : (refusal : Refusal) (at : ℕ) → IsFaulty source refusal at → status ≡ statuses.SourceRefused → text ≡ refused_line source refusal at → Checked source status text
-  is_faulty refusal at h s t = rw (s, t) (Faulty refusal at h)
-
-  pub is_sound : IsChecked source → status ≡ statuses.Finished → text ≡ accepted_line → Checked source status text
-  is_sound h s t = rw (s, t) (Sound h)
-
--- ---- the statuses of a run
-
--- the end of a run has the status of one
-status_ends : (b : Bool) → IsRunStatus (finished_status b)
-status_ends true = Fails
-status_ends false = Finishes
-
-run_status_of : (ss : List ProcStatus) (how : ReportEnd) → IsRunStatus (status_of ss how)
-run_status_of ss (Ends Finished) = status_ends (any_failed ss)
-run_status_of ss (Ends Stuck) = Sticks
-run_status_of ss (Ends Spent) = Spends
-run_status_of ss (IsFull node part need free) = Fills
-
-pub run_status : {program : Program} {specs : List NodeSpec} {entries : List Entry} {budget : ℕ} {net net' : Net} {status : Status} {text : List ℕ} → RunsTo program specs entries budget net net' status text → IsRunStatus status
-run_status (LoadIsFull ir node need free part m f r) = Fills
-run_status {program} {specs} {entries} (RanUntil ir k how m f n e r) = run_status_of (statuses_of (source_run program (length specs) entries k).world) how
-
--- so has the end of a plain meaning
-plain_ends : (b : Bool) → IsPlainStatus (finished_status b)
-plain_ends true = plainly.Fails
-plain_ends false = plainly.Finishes
-
-plain_status_of : (ss : List ProcStatus) (how : RunEnd) → IsPlainStatus (status_of ss (Ends how))
-plain_status_of ss Finished = plain_ends (any_failed ss)
-plain_status_of ss Stuck = plainly.Sticks
-plain_status_of ss Spent = plainly.Spends
-
-pub plain_status : (meant : Meant) (specs : List NodeSpec) (entries : List Entry) (budget : ℕ) (status : Status) (text : List ℕ) → IsPlainRun meant specs entries budget status text → IsPlainStatus status
-plain_status meant specs entries budget status text r = rw r.status_is (plain_status_of (statuses_of (plain_run meant (length specs) entries r.entries).world) r.how)
-
-pub run_status_from : {status : Status} → IsPlainStatus status → IsRunStatus status
-run_status_from plainly.Finishes = Finishes
-run_status_from plainly.Fails = Fails
-run_status_from plainly.Spends = Spends
-run_status_from plainly.Sticks = Sticks
-
--- ---- the call
-
-module _ (words : List (List ℕ)) (content : List ℕ → Option (List ℕ)) (faults faults' : List ℕ → ℕ) (net net' : Net) (status : Status) (text : List ℕ) where
-  pub no_command : WordsOf words ≡ None → net' ≡ net → status ≡ statuses.Usage → text ≡ usage_line → Verdict words content faults faults' net net' status text
-  no_command w n s t = rw (s, t) (NoCommand w n)
-
-  pub plain_no_command : WordsOf words ≡ None → status ≡ statuses.Usage → text ≡ usage_line → Plain words faults faults' status text
-  plain_no_command w s t = rw (s, t) (ByWords w)
-
-  module _ (run : RunWords) (w : WordsOf words ≡ Some (command.Run run)) where
-    pub read_failed : (file : FileOf) → HasRisen (faults (name_of_file run file)) (faults' (name_of_file run file)) → net' ≡ net → status ≡ statuses.ReadFault → text ≡ fault_line file → Verdict words content faults faults' net net' status text
-    read_failed file h n s t = rw (s, t) (ReadFailed run file w h n)
-
-    pub plain_read_failed : (file : FileOf) → HasRisen (faults (name_of_file run file)) (faults' (name_of_file run file)) → status ≡ statuses.ReadFault → text ≡ fault_line file → Plain words faults faults' status text
-    plain_read_failed file h s t = rw (s, t) (ByFault (fault_line file) (InRun run file w h))
-
-    judged_verdict_of : {source nodes schedule : List ℕ} {st : Status} {tx : List ℕ} → AreRead content run source nodes schedule → Judged source nodes schedule run.budget net net' st tx → Verdict words content faults faults' net net' st tx
-    judged_verdict_of {source} {nodes} {schedule} r (NoSource refusal at h n) = SourceRefused run source nodes schedule refusal at w r h n
-    judged_verdict_of {source} {nodes} {schedule} r (NoNodes program rule is h n) = NodesRefused run source nodes schedule program rule w r is h n
-    judged_verdict_of {source} {nodes} {schedule} r (NoSchedule program specs rule line is m h n) = ScheduleRefused run source nodes schedule program specs rule line w r is m h n
-    judged_verdict_of {source} {nodes} {schedule} r (Runs program specs entries st tx is n e k) = IsRun run source nodes schedule program specs entries st tx w r is n e k
-
-    pub judged_verdict : (source nodes schedule : List ℕ) → AreRead content run source nodes schedule → Judged source nodes schedule run.budget net net' status text → Verdict words content faults faults' net net' status text
-    judged_verdict source nodes schedule r j = judged_verdict_of r j
-
-    judged_plain_of : {source nodes schedule : List ℕ} {st : Status} {tx : List ℕ} → Judged source nodes schedule run.budget net net' st tx → Plain words faults faults' st tx
-    judged_plain_of (NoSource refusal at h n) = ByFiles (command.Run run) _ _ w RefusesSource
-    judged_plain_of (NoNodes program rule is h n) = ByFiles (command.Run run) _ _ w RefusesInput
-    judged_plain_of (NoSchedule program specs rule line is m h n) = ByFiles (command.Run run) _ _ w RefusesInput
-    judged_plain_of (Runs program specs entries st tx is n e k) = ByFiles (command.Run run) st tx w (EndsRun st (run_status k))
-
-    pub judged_plain : (source nodes schedule : List ℕ) → Judged source nodes schedule run.budget net net' status text → Plain words faults faults' status text
-    judged_plain source nodes schedule j = judged_plain_of j
-
-  module _ (mean : RunWords) (w : WordsOf words ≡ Some (command.Mean mean)) where
-    pub mean_read_failed : (file : FileOf) → HasRisen (faults (name_of_file mean file)) (faults' (name_of_file mean file)) → net' ≡ net → status ≡ statuses.ReadFault → text ≡ fault_line file → Verdict words content faults faults' net net' status text
-    mean_read_failed file h n s t = rw (s, t) (MeanReadFailed mean file w h n)
-
-    worked_verdict_of : {source nodes schedule : List ℕ} {st : Status} {tx : List ℕ} → AreRead content mean source nodes schedule → net' ≡ net → Worked source nodes schedule mean.budget st tx → Verdict words content faults faults' net net' st tx
-    worked_verdict_of {source} {nodes} {schedule} r n (NoMeaning refusal at h) = Unmeant mean source nodes schedule refusal at w r h n
-    worked_verdict_of {source} {nodes} {schedule} r n (NoNodeFile meant rule is h) = MeanNodesRefused mean source nodes schedule meant rule w r is h n
-    worked_verdict_of {source} {nodes} {schedule} r n (NoEntries meant specs rule line is m h) = MeanScheduleRefused mean source nodes schedule meant specs rule line w r is m h n
-    worked_verdict_of {source} {nodes} {schedule} r n (Works meant specs entries st tx is m e k) = IsWorked mean source nodes schedule meant specs entries st tx w r is m e k n
-
-    pub worked_verdict : (source nodes schedule : List ℕ) → AreRead content mean source nodes schedule → net' ≡ net → Worked source nodes schedule mean.budget status text → Verdict words content faults faults' net net' status text
-    worked_verdict source nodes schedule r n j = worked_verdict_of r n j
-
-  module _ (check : CheckWords) (w : WordsOf words ≡ Some (command.Check check)) where
-    pub check_failed : HasRisen (faults check.source) (faults' check.source) → net' ≡ net → status ≡ statuses.ReadFault → text ≡ fault_line Source → Verdict words content faults faults' net net' status text
-    check_failed h n s t = rw (s, t) (CheckReadFailed check w h n)
-
-    checked_verdict_of : {source : List ℕ} {st : Status} {tx : List ℕ} → IsWhole (content check.source) file_limit source → net' ≡ net → Checked source st tx → Verdict words content faults faults' net net' st tx
-    checked_verdict_of {source} r n (Faulty refusal at h) = CheckRefused check source refusal at w r h n
-    checked_verdict_of {source} r n (Sound h) = Accepts check source w r h n
-
-    pub checked_verdict : (source : List ℕ) → IsWhole (content check.source) file_limit source → net' ≡ net → Checked source status text → Verdict words content faults faults' net net' status text
-    checked_verdict source r n c = checked_verdict_of r n c
-
--- of a plain meaning, whether or not the shelf tells its files
-module _ (words : List (List ℕ)) (faults faults' : List ℕ → ℕ) (status : Status) (text : List ℕ) (mean : RunWords) (w : WordsOf words ≡ Some (command.Mean mean)) where
-  pub plain_mean_read_failed : (file : FileOf) → HasRisen (faults (name_of_file mean file)) (faults' (name_of_file mean file)) → status ≡ statuses.ReadFault → text ≡ fault_line file → Plain words faults faults' status text
-  plain_mean_read_failed file h s t = rw (s, t) (ByFault (fault_line file) (InMean mean file w h))
-
-  worked_plain_of : {source nodes schedule : List ℕ} {st : Status} {tx : List ℕ} → Worked source nodes schedule mean.budget st tx → Plain words faults faults' st tx
-  worked_plain_of (NoMeaning refusal at h) = ByFiles (command.Mean mean) _ _ w RefusesSource
-  worked_plain_of (NoNodeFile meant rule is h) = ByFiles (command.Mean mean) _ _ w RefusesInput
-  worked_plain_of (NoEntries meant specs rule line is m h) = ByFiles (command.Mean mean) _ _ w RefusesInput
-  worked_plain_of (Works meant specs entries st tx is m e k) = ByFiles (command.Mean mean) st tx w (EndsRun st (run_status_from (plain_status meant specs entries mean.budget st tx k)))
-
-  pub worked_plain : (source nodes schedule : List ℕ) → Worked source nodes schedule mean.budget status text → Plain words faults faults' status text
-  worked_plain source nodes schedule j = worked_plain_of j
-
--- of a check, whether or not the shelf tells its file
-module _ (words : List (List ℕ)) (faults faults' : List ℕ → ℕ) (status : Status) (text : List ℕ) (check : CheckWords) (w : WordsOf words ≡ Some (command.Check check)) where
-  pub plain_check_failed : HasRisen (faults check.source) (faults' check.source) → status ≡ statuses.ReadFault → text ≡ fault_line Source → Plain words faults faults' status text
-  plain_check_failed h s t = rw (s, t) (ByFault (fault_line Source) (InCheck check w h))
-
-  checked_plain_of : {source : List ℕ} {st : Status} {tx : List ℕ} → Checked source st tx → Plain words faults faults' st tx
-  checked_plain_of (Faulty refusal at h) = ByFiles (command.Check check) _ _ w RefusesSource
-  checked_plain_of (Sound h) = ByFiles (command.Check check) _ _ w AcceptsSource
-
-  pub checked_plain : (source : List ℕ) → Checked source status text → Plain words faults faults' status text
-  checked_plain source c = checked_plain_of c
+-- a check reads its source alone
+pub source_read : (content : List ℕ → Option (List ℕ)) (check : CheckWords) (source : List ℕ) → IsWhole (content check.source) file_limit source →
+    AreRead content (command.Check check) (only source)
+source_read content check source r Source name e =
+    let is : check.source ≡ name = cc in
+    subst (λ (n : List ℕ). IsWhole (content n) file_limit source) is r
+source_read content check source r Nodes name e = cc
+source_read content check source r Schedule name e = cc

@@ -1,28 +1,19 @@
 //! The files of a call, each read whole.
 ghost use Rattle.std.specs.Prelude.{◌≡◌, IfOk, IfErr, OnOk};
+ghost use Rattle.ec_answers.specs.Asked.{file_limit, name_in};
 ghost use Rattle.ec_inputs.specs.Words.{run_in};
 ghost use Rattle.ec_outside.specs.Fault.{HasRisen};
 ghost use Rattle.ec_outside.specs.Whole.{IsWhole};
-ghost use Rattle.ec_tool.specs.Emerald.{AreRead, file_limit, fault_line, name_of_file};
-ghost use Rattle.ec_tool.specs.Steps.{WhenFailed};
+ghost use Rattle.ec_tool.specs.Reading.{AreAllRead, WhenFailed, held_in};
 
-use crate::answer::{Answer, answer_with};
+use ec_answers::file::FileOf;
 use ec_inputs::words::RunCommand;
 use ec_outside::shelf::Shelf;
 use ec_outside::whole::{ReadError, read_whole};
-use ec_report::status::Status;
-use std::alloc::{AllocError, Global};
+use std::alloc::Global;
 
 /// Files are read up to this many bytes.
 const FILE_LIMIT: usize = 1_048_577;
-
-/// The three files of a run.
-#[derive(Clone, Copy, PartialEq, Eq, Debug)]
-pub enum FileOf {
-    Source,
-    Nodes,
-    Schedule,
-}
 
 /// What the three files hold.
 #[derive(Drop)]
@@ -39,14 +30,15 @@ pub(crate) enum Unread {
     Memory,
 }
 
-/// Reads the three files of a run, each whole.
+/// Reads the three files of a run or a plain meaning, each whole.
 pub(crate) fn read_files<F: Shelf>(
     alloc: Global,
     shelf: &mut F,
     run: RunCommand,
 ) -> Result<Files, Unread>
-    ensures read { IfOk result (λ files. F.tells shelf.old → AreRead (F.content shelf.old) (run_in run.entry) files.source.items files.nodes.items files.schedule.items) }
-    ensures failed { IfErr result (λ e. WhenFailed e (λ file. HasRisen (F.faults shelf.old (name_of_file (run_in run.entry) file)) (F.faults shelf.new (name_of_file (run_in run.entry) file)))) }
+    ensures read { IfOk result (λ files. F.tells shelf.old → AreAllRead (F.content shelf.old) (run_in run.entry) (held_in files)) }
+    ensures ok { OnOk result (F.faults shelf.new ≡ F.faults shelf.old) }
+    ensures failed { IfErr result (λ e. WhenFailed e (λ file. HasRisen (F.faults shelf.old (name_in (run_in run.entry) file)) (F.faults shelf.new (name_in (run_in run.entry) file)))) }
 {
     let source = read_file(alloc, shelf, run.source, FileOf::Source)?;
     let nodes = read_file(alloc, shelf, run.nodes, FileOf::Nodes)?;
@@ -75,17 +67,5 @@ pub(crate) fn read_file<F: Shelf>(
         Ok(bytes) => Ok(bytes),
         Err(ReadError::Failed) => Err(Unread::Failed(file)),
         Err(ReadError::Memory) => Err(Unread::Memory),
-    }
-}
-
-/// `read fault source`
-pub(crate) fn read_fault(alloc: Global, file: FileOf) -> Result<Answer, AllocError>
-    ensures status { IfOk result (λ answer. answer.status ≡ Status.ReadFault) }
-    ensures text { IfOk result (λ answer. answer.text.items ≡ fault_line file) }
-{
-    match file {
-        FileOf::Source => answer_with(alloc, Status::ReadFault, b"read fault source\n"),
-        FileOf::Nodes => answer_with(alloc, Status::ReadFault, b"read fault nodes\n"),
-        FileOf::Schedule => answer_with(alloc, Status::ReadFault, b"read fault schedule\n"),
     }
 }

@@ -1,15 +1,9 @@
 //! The whole program, from files to report.
 #![tactic(auto)]
 
-mod answer;
 pub mod emerald;
-pub mod files;
-mod mean;
-mod place;
-mod processes;
-mod refusal;
-mod report;
-mod run;
-pub mod source;
+mod files;
+mod judge;
+mod take;
 
 pub use ec_report::status;

@@ -1,0 +1,4 @@
+pub mod Statuses
+pub mod Judging
+pub mod Promised
+pub mod Examples

@@ -1,0 +1,4 @@
+pub mod Lines
+pub mod Asked
+pub mod Verdict
+pub mod Promises

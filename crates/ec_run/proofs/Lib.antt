@@ -1,0 +1,6 @@
+pub mod Shown
+pub mod Counting
+pub mod Growth
+pub mod Rooms
+pub mod Following
+pub mod Ending

@@ -1,0 +1,291 @@
+-- A source is judged in one way only: it is one program's, or it is refused for one reason at one place.
+use Rattle.std.proofs.Common.{◌≡◌, ℕ, zero, suc, ◌+◌, ◌^◌, ◌<◌, ◌≤◌, List, [], ◌∷◌, ◌++◌, length, take, drop, ◌⊎◌, inl, inr, Some, None, refl, sym, ◌∙◌, ap, subst, arith, append_assoc, length-append}
+use Rattle.std.specs.Prelude.{slice_get}
+use Rattle.std.proofs.lemmas.Bool.{cases_lt}
+use Rattle.std.proofs.lemmas.List.{take-append-drop, take-take}
+use Rattle.ec_ast.specs.declared.Program.{Program as WholeProgram}
+use Rattle.ec_lexer.specs.declared.error.LexFault.{LexFault}
+use Rattle.ec_lexer.specs.declared.lexeme.Lexeme.TheVariants.{Separator}
+use Rattle.ec_lexer.specs.declared.token.Token.{Token}
+use Rattle.ec_lexer.specs.declared.token.TokenKind.{TokenKind}
+use Rattle.ec_lexer.specs.Faults.{IsFault, HasFaultFrom, faulty, behind_separator, behind_token, HasFault, too_long, first}
+use Rattle.ec_lexer.specs.Lexemes.{begins}
+use Rattle.ec_lexer.specs.Tokens.{HasTokens, IsToken}
+use Rattle.ec_lexer.specs.Words.{Bytes}
+use Rattle.ec_lexer.proofs.Lexing.{reads_separator, reads_token, reads_fault}
+use Rattle.ec_lexer.proofs.Reading.{few_tokens, same_tokens, no_tokens}
+use Rattle.ec_parser.specs.HasTree as whole
+use Rattle.ec_parser.specs.declared.grammar.Opened.{Opened}
+use Rattle.ec_parser.specs.Nesting.{Behind, behind, other, open_at, nestings_from, nestings_of}
+use Rattle.ec_parser.specs.Terminals.{terminal_of}
+use Rattle.ec_parser.specs.Program.{AreShallow, Begins, BeginsNone, IsDeep, IsShallow, IsSyntax}
+use Rattle.ec_parser.proofs.OneTree.{same_tree as same_whole_tree}
+use Rattle.ec_printing.specs.declared.Program.{Program}
+use Rattle.ec_printing.specs.declared.Statement.{Statement}
+use Rattle.ec_subset.specs.Grammar as printing
+use Rattle.ec_subset.specs.Leaving.{IsOutside}
+use Rattle.ec_subset.proofs.Outside.{same_place}
+use Rattle.ec_subset.proofs.Trees.{same_tree}
+use Rattle.ec_rules.specs.declared.StaticFault.{StaticFault}
+use Rattle.ec_rules.specs.Faults.{HasFaults}
+use Rattle.ec_rules.proofs.OneList.{same_faults}
+use Rattle.ec_lower.specs.Short.{IsShort}
+use Rattle.ec_meaning.specs.Programs.{Source as Meant}
+use Rattle.ec_sources.specs.declared.source.Refusal.{Refusal}
+use Rattle.ec_sources.specs.declared.source.Refusal.TheVariants.{Lexical, Syntax, Deep, Static}
+use Rattle.ec_sources.specs.declared.source.SourceError.{SourceError}
+use Rattle.ec_sources.specs.declared.source.SourceError.TheVariants.{Refused, Memory}
+use Rattle.ec_sources.specs.Sources.{IsProgram, IsChecked, IsSource, IsFaulty, IsRefused, IsFault as IsFaultIn, IsCause, IsLack, IsMeant, IsUnmeant, IsUnmeant as unmeant, later_from, lexical, syntax, deep, static_rule, place_of}
+use Rattle.ec_sources.specs.Sources.IsRefused.{faulty as is_faulty, later}
+
+-- ---- a text has at most one first fault
+
+fault_of_separator : {at p : ℕ} {z : Bytes} {k : LexFault} → (n : ℕ) → begins z ≡ Separator n → HasFaultFrom at z p k → HasFaultFrom (at + n) (drop n z) p k
+fault_of_separator n e (faulty i) = let f = reads_fault i in cc
+fault_of_separator {at} {p} {z} {k} n e (behind_separator {n = m} s r) =
+    let f = reads_separator s in
+    let same : m ≡ n = cc in subst (λ x. HasFaultFrom (at + x) (drop x z) p k) same r
+fault_of_separator n e (behind_token t r) = let f = (reads_token t).is_read in cc
+
+fault_of_token : {at p n : ℕ} {z : Bytes} {k : LexFault} {kind : TokenKind} → IsToken z kind n → HasFaultFrom at z p k → HasFaultFrom (at + n) (drop n z) p k
+fault_of_token t (faulty i) =
+    let f = reads_fault i in
+    let e = (reads_token t).is_read in
+    cc
+fault_of_token t (behind_separator s r) =
+    let f = reads_separator s in
+    let e = (reads_token t).is_read in
+    cc
+fault_of_token {at} {p} {n} {z} {k} t (behind_token {n = m} u r) =
+    let f = (reads_token u).is_read in
+    let e = (reads_token t).is_read in
+    let same : m ≡ n = cc in subst (λ x. HasFaultFrom (at + x) (drop x z) p k) same r
+
+fault_here : {at p n : ℕ} {z : Bytes} {j k : LexFault} → IsFault z j n → HasFaultFrom at z p k → (at + n ≡ p) × (j ≡ k)
+fault_here i (faulty {n = m} h) =
+    let e = reads_fault i in
+    let f = reads_fault h in
+    (cc, cc)
+fault_here i (behind_separator s r) =
+    let e = reads_fault i in
+    let f = reads_separator s in
+    absurd (cc)
+fault_here i (behind_token t r) =
+    let e = reads_fault i in
+    let f = (reads_token t).is_read in
+    absurd (cc)
+
+same_fault_from : {at p q : ℕ} {z : Bytes} {j k : LexFault} → HasFaultFrom at z p j → HasFaultFrom at z q k → (p ≡ q) × (j ≡ k)
+same_fault_from (faulty i) d = fault_here i d
+same_fault_from (behind_separator {n = n} s r) d = same_fault_from r (fault_of_separator n (reads_separator s) d)
+same_fault_from (behind_token t r) d = same_fault_from r (fault_of_token t d)
+
+-- a text has at most one first fault
+same_lexical : (text : Bytes) (p q : ℕ) (j k : LexFault) → HasFault text p j → HasFault text q k → (p ≡ q) × (j ≡ k)
+same_lexical text p q j k (too_long l) (too_long m) = (refl, refl)
+same_lexical text p q j k (too_long l) (first m f) = absurd (omega arith)
+same_lexical text p q j k (first l f) (too_long m) = absurd (omega arith)
+same_lexical text p q j k (first l f) (first m g) = same_fault_from f g
+
+-- ---- tokens fail to be a program's at one place only
+
+-- the nesting at a token is that of the tokens up to it
+nestings-take : (os : List Opened) (b : Behind) (ts : List Token) (k : ℕ) → nestings_from os b (take k ts) ≡ take k (nestings_from os b ts)
+nestings-take os b ts zero = refl
+nestings-take os b [] (suc k) = refl
+nestings-take os b (t ∷ ts) (suc k) =
+    ap (λ ns. length (open_at b (terminal_of t) os) ∷ ns) (nestings-take (open_at b (terminal_of t) os) (behind (terminal_of t)) ts k)
+
+front_nestings : (ts : List Token) (k : ℕ) → nestings_of (take k ts) ≡ take k (nestings_of ts)
+unfolding nestings_of
+front_nestings ts k = nestings-take [] other ts k
+
+shallow_at : (ns : List ℕ) (i n : ℕ) → AreShallow ns → slice_get ns i ≡ Some n → n ≤ 64
+shallow_at [] i n s e = cc
+shallow_at (m ∷ ns) zero n s e = let same : m ≡ n = cc in subst (λ x. x ≤ 64) same s.0
+shallow_at (m ∷ ns) (suc i) n s e = shallow_at ns i n s.1 e
+
+at_front : (ns : List ℕ) (k i : ℕ) → i < k → slice_get (take k ns) i ≡ slice_get ns i
+at_front ns zero i h = absurd (omega arith)
+at_front [] (suc k) i h = refl
+at_front (n ∷ ns) (suc k) zero h = refl
+at_front (n ∷ ns) (suc k) (suc i) h = at_front ns k i (omega arith)
+
+-- none of the tokens before a place is deep, and one of them is
+no_deep_before : (ts : List Token) (j k : ℕ) → j < k → IsShallow (take k ts) → IsDeep ts j → ⊥
+no_deep_before ts j k h s d =
+    let ns : AreShallow (take k (nestings_of ts)) = subst AreShallow (front_nestings ts k) s in
+    let n = shallow_at (take k (nestings_of ts)) j d.nesting ns (at_front (nestings_of ts) k j h ∙ d.nesting_is) in
+    let m = d.deep in
+    omega arith
+
+no_deep : (ts : List Token) (j : ℕ) → IsShallow ts → IsDeep ts j → ⊥
+no_deep ts j s d =
+    let n = shallow_at (nestings_of ts) j d.nesting s d.nesting_is in
+    let m = d.deep in
+    omega arith
+
+-- up to a token they begin no program, and up to a later place they begin one
+begins_later : (ts : List Token) (j k : ℕ) → j < k → BeginsNone (take (j + 1) ts) → Begins (take k ts) → ⊥
+begins_later ts j k h n b =
+    let split : take k ts ≡ take (j + 1) ts ++ drop (j + 1) (take k ts) =
+    sym (take-append-drop (j + 1) (take k ts)) ∙ ap (λ x. x ++ drop (j + 1) (take k ts)) (take-take (j + 1) k ts (omega arith)) in
+    n (drop (j + 1) (take k ts) ++ b.more) b.program
+    (subst (λ x. whole.HasTree x b.program) (ap (λ x. x ++ b.more) split ∙ append_assoc (take (j + 1) ts) (drop (j + 1) (take k ts)) b.more) b.has_tree)
+
+neither_less : (j k : ℕ) → (j < k → ⊥) → (k < j → ⊥) → (j < k) ⊎ (k ≤ j) → (k < j) ⊎ (j ≤ k) → j ≡ k
+neither_less j k h l (inl a) b = absurd (h a)
+neither_less j k h l (inr a) (inl b) = absurd (l b)
+neither_less j k h l (inr a) (inr b) = omega arith
+
+same_by : (j k : ℕ) → (j < k → ⊥) → (k < j → ⊥) → j ≡ k
+same_by j k h l = neither_less j k h l (cases_lt j k) (cases_lt k j)
+
+same_syntax : (ts : List Token) (j k : ℕ) → IsSyntax ts j → IsSyntax ts k → j ≡ k
+same_syntax ts j k a b =
+    same_by j k
+    (λ h. let l = b.within in begins_later ts j k h (a.after (omega arith)) b.before)
+    (λ h. let l = a.within in begins_later ts k j h (b.after (omega arith)) a.before)
+
+same_deep : (ts : List Token) (j k : ℕ) → IsDeep ts j → IsDeep ts k → j ≡ k
+same_deep ts j k a b = same_by j k (λ h. no_deep_before ts j k h b.shallow a) (λ h. no_deep_before ts k j h a.shallow b)
+
+syntax_or_deep : (ts : List Token) (j k : ℕ) → IsSyntax ts j → IsDeep ts k → (k < j) ⊎ (j ≤ k) → ⊥
+syntax_or_deep ts j k a b (inl h) = no_deep_before ts k j h a.shallow b
+syntax_or_deep ts j k a b (inr h) = let l = b.within in begins_later ts j (k + 1) (omega arith) (a.after (omega arith)) b.begins
+
+-- ---- a text is judged in one way only
+
+-- how a text that has tokens is no program's
+data IsFaultyOn (text : List ℕ) (ts : List Token) : Refusal → ℕ → Type 0 where
+  by_syntax : {k : ℕ} → IsSyntax ts k → IsFaultyOn text ts Syntax (place_of text ts k)
+  by_depth : {k : ℕ} → IsDeep ts k → IsFaultyOn text ts Deep (place_of text ts k)
+  by_rule : {w : WholeProgram} {faults : List StaticFault} {fault : StaticFault} → whole.HasTree ts w → IsShallow ts → HasFaults w faults →
+      slice_get faults 0 ≡ Some fault → IsFaultyOn text ts (Static fault.rule) fault.at.from
+
+faulty_on : {text : List ℕ} {r : Refusal} {at : ℕ} → IsFaulty text r at → (ts : List Token) → HasTokens text ts → IsFaultyOn text ts r at
+faulty_on (lexical f) ts h = absurd (no_tokens f ts h)
+faulty_on {text} {r} {at} (syntax {tokens} g s) ts h = subst (λ us. IsFaultyOn text us r at) (same_tokens text tokens ts g h) (by_syntax s)
+faulty_on {text} {r} {at} (deep {tokens} g d) ts h = subst (λ us. IsFaultyOn text us r at) (same_tokens text tokens ts g h) (by_depth d)
+faulty_on {text} {r} {at} (static_rule {tokens} g w s f e) ts h = subst (λ us. IsFaultyOn text us r at) (same_tokens text tokens ts g h) (by_rule w s f e)
+
+-- the first fault of tokens is one
+same_first : (ts : List Token) (w v : WholeProgram) (fs gs : List StaticFault) (f g : StaticFault) → whole.HasTree ts w → whole.HasTree ts v →
+    HasFaults w fs → HasFaults v gs → slice_get fs 0 ≡ Some f → slice_get gs 0 ≡ Some g → f ≡ g
+same_first ts w v fs gs f g t u has have e d =
+    let as_v = subst (λ x. HasFaults x fs) (same_whole_tree ts w v t u) has in
+    let same : fs ≡ gs = same_faults v fs gs as_v have in
+    let first : slice_get fs 0 ≡ slice_get gs 0 = ap (λ x. slice_get x 0) same in
+    cc
+
+same_on : {text : List ℕ} {ts : List Token} {r s : Refusal} {at to : ℕ} → IsFaultyOn text ts r at → IsFaultyOn text ts s to → (r ≡ s) × (at ≡ to)
+same_on {text} {ts} (by_syntax {k = j} a) (by_syntax {k} b) = (refl, ap (λ x. place_of text ts x) (same_syntax ts j k a b))
+same_on {text} {ts} (by_syntax {k = j} a) (by_depth {k} b) = absurd (syntax_or_deep ts j k a b (cases_lt k j))
+same_on (by_syntax a) (by_rule {w} h s f e) = absurd (a.no_program w h)
+same_on {text} {ts} (by_depth {k = j} a) (by_syntax {k} b) = absurd (syntax_or_deep ts k j b a (cases_lt j k))
+same_on {text} {ts} (by_depth {k = j} a) (by_depth {k} b) = (refl, ap (λ x. place_of text ts x) (same_deep ts j k a b))
+same_on {text} {ts} (by_depth {k = j} a) (by_rule h s f e) = absurd (no_deep ts j s a)
+same_on (by_rule {w} h s f e) (by_syntax b) = absurd (b.no_program w h)
+same_on {text} {ts} (by_rule h s f e) (by_depth {k} b) = absurd (no_deep ts k s b)
+same_on {text} {ts} (by_rule {w} {faults = fs} {fault = f} h s a e) (by_rule {w = v} {faults = gs} {fault = g} i u b d) =
+    let same = same_first ts w v fs gs f g h i a b e d in
+    (ap (λ x. Static x.rule) same, ap (λ x. x.at.from) same)
+
+-- a text is no program's for one reason at one place only
+pub same_fault : {text : List ℕ} {r s : Refusal} {at to : ℕ} → IsFaulty text r at → IsFaulty text s to → (r ≡ s) × (at ≡ to)
+same_fault {text} (lexical {at = p} {fault = j} f) (lexical {at = q} {fault = k} g) =
+    let same = same_lexical text p q j k f g in
+    (ap Lexical same.1, same.0)
+same_fault (lexical f) (syntax {tokens} g s) = absurd (no_tokens f tokens g)
+same_fault (lexical f) (deep {tokens} g d) = absurd (no_tokens f tokens g)
+same_fault (lexical f) (static_rule {tokens} g w s h e) = absurd (no_tokens f tokens g)
+same_fault (syntax {tokens} g s) d = same_on (by_syntax s) (faulty_on d tokens g)
+same_fault (deep {tokens} g s) d = same_on (by_depth s) (faulty_on d tokens g)
+same_fault (static_rule {tokens} g w s h e) d = same_on (by_rule w s h e) (faulty_on d tokens g)
+
+no_fault_on : {text : List ℕ} {ts : List Token} {w : WholeProgram} {r : Refusal} {at : ℕ} → IsProgram text ts w → IsFaultyOn text ts r at → ⊥
+no_fault_on {w = w} p (by_syntax a) = a.no_program w p.has_tree
+no_fault_on {ts = ts} p (by_depth {k} a) = no_deep ts k p.shallow a
+no_fault_on {ts = ts} {w = w} p (by_rule {w = v} {faults = fs} h s a e) =
+    let as_w = subst (λ x. HasFaults x fs) (same_whole_tree ts v w h p.has_tree) a in
+    let none : fs ≡ [] = same_faults w fs [] as_w p.is_accepted in
+    let first : slice_get fs 0 ≡ None = ap (λ x. slice_get x 0) none in
+    cc
+
+-- the text of a program is not faulty
+pub not_faulty : {text : List ℕ} {r : Refusal} {at : ℕ} → IsChecked text → IsFaulty text r at → ⊥
+not_faulty c f = no_fault_on c.is_program (faulty_on f c.tokens c.is_program.has_tokens)
+
+-- the tokens of a text are one list, wherever they leave the printing part
+outside_on : {text : List ℕ} {ts us : List Token} {w : WholeProgram} {k : ℕ} → IsProgram text us w → HasTokens text ts → IsOutside us k → IsOutside ts k
+outside_on {text} {ts} {us} {k = k} p h o = subst (λ x. IsOutside x k) (same_tokens text us ts p.has_tokens h) o
+
+-- a text is refused for one reason at one place only
+pub same_refusal : {text : List ℕ} {r s : Refusal} {at to : ℕ} → IsRefused text r at → IsRefused text s to → (r ≡ s) × (at ≡ to)
+same_refusal (is_faulty f) (is_faulty g) = same_fault f g
+same_refusal (is_faulty f) (later {tokens} {program} p o) = absurd (not_faulty (record { tokens = tokens; program = program; is_program = p }) f)
+same_refusal (later {tokens} {program} p o) (is_faulty f) = absurd (not_faulty (record { tokens = tokens; program = program; is_program = p }) f)
+same_refusal {text} (later {tokens = ts} {k = j} p o) (later {tokens = us} {k} q n) =
+    let same : us ≡ ts = same_tokens text us ts q.has_tokens p.has_tokens in
+    (refl, ap (λ x. place_of text ts x) (same_place ts j k o (outside_on q p.has_tokens n)) ∙ ap (λ x. place_of text x k) (sym same))
+
+-- the text of a program that is run today is not refused
+pub not_refused : {text : List ℕ} {program : Program} {r : Refusal} {at : ℕ} → IsSource text program → IsRefused text r at → ⊥
+not_refused s (is_faulty f) = not_faulty (record { tokens = s.tokens; program = s.whole_program; is_program = s.is_program }) f
+not_refused {program = program} s (later p o) = (outside_on p s.is_program.has_tokens o).no_program program s.is_printing
+
+-- the text of a program whose meaning is worked out today is not refused for it
+pub not_unmeant : {text : List ℕ} {source : Meant} {r : Refusal} {at : ℕ} → IsMeant text source → IsUnmeant text r at → ⊥
+not_unmeant m (unmeant.faulty f) = not_faulty (record { tokens = m.tokens; program = m.program; is_program = m.is_program }) f
+not_unmeant {text} m (unmeant.later {tokens} {k = k} p l) =
+    let same : tokens ≡ m.tokens = same_tokens text tokens m.tokens p.has_tokens m.is_program.has_tokens in
+    let none : later_from 0 tokens ≡ None = ap (later_from 0) same ∙ m.none_later in
+    cc
+
+-- a text's meaning isn't worked out for one reason at one place only
+pub same_lack : {text : List ℕ} {r s : Refusal} {at to : ℕ} → IsUnmeant text r at → IsUnmeant text s to → (r ≡ s) × (at ≡ to)
+same_lack (unmeant.faulty f) (unmeant.faulty g) = same_fault f g
+same_lack (unmeant.faulty f) (unmeant.later {tokens} {program} p l) = absurd (not_faulty (record { tokens = tokens; program = program; is_program = p }) f)
+same_lack (unmeant.later {tokens} {program} p l) (unmeant.faulty f) = absurd (not_faulty (record { tokens = tokens; program = program; is_program = p }) f)
+same_lack {text} (unmeant.later {tokens = ts} {k = j} p l) (unmeant.later {tokens = us} {k} q m) =
+    let same : ts ≡ us = same_tokens text ts us p.has_tokens q.has_tokens in
+    let first : later_from 0 ts ≡ later_from 0 us = ap (later_from 0) same in
+    let number : j ≡ k = cc in
+    (refl, ap (λ x. place_of text x j) same ∙ ap (λ x. place_of text us x) number)
+
+-- a text is one program's only
+pub same_program : (text : List ℕ) (p q : Program) → IsSource text p → IsSource text q → p ≡ q
+same_program text p q s t =
+    same_tree t.tokens p q (subst (λ ts. printing.HasTree ts p) (same_tokens text s.tokens t.tokens s.is_program.has_tokens t.is_program.has_tokens) s.is_printing) t.is_printing
+
+-- ---- what the steps of judging a text find
+
+-- why a text is no program's is also why it isn't run
+pub cause_of : (text : List ℕ) (e : SourceError) → IsFaultIn text e → IsCause text e
+cause_of text (Refused refused) f = is_faulty f
+cause_of text Memory f = tt
+
+-- and why its meaning isn't worked out
+pub lack_of : (text : List ℕ) (e : SourceError) → IsFaultIn text e → IsLack text e
+lack_of text (Refused refused) f = unmeant.faulty f
+lack_of text Memory f = tt
+
+-- ---- a program is short enough to be lowered
+
+-- a statement has a token
+few_statements : {tokens : List Token} {statements : List Statement} → printing.AreStatements tokens statements → length statements ≤ length tokens
+few_statements printing.none = omega arith
+few_statements (printing.more (printing.print p) others) = let few = few_statements others in omega arith
+
+short_tree : {tokens : List Token} {program : Program} → length tokens ≤ 2 ^ 20 → printing.HasTree tokens program → IsShort program
+short_tree l printing.empty = tt
+short_tree l (printing.with_constant (printing.constant (printing.object a b c d e f g are))) =
+    let few = few_statements are in
+    let long = simp length-append at l in
+    omega arith
+
+pub short_source : (text : List ℕ) (program : Program) → IsSource text program → IsShort program
+short_source text program s =
+    let few = few_tokens s.is_program.has_tokens in
+    let short = s.is_program.has_tokens.short in
+    short_tree (omega arith) s.is_printing
