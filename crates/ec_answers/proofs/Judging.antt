@@ -13,7 +13,7 @@ use Rattle.ec_answers.proofs.Statuses.IsByFiles.{RefusesSource, RefusesInput, En
 use Rattle.ec_inputs.specs.Nodes.{NodesOf}
 use Rattle.ec_inputs.specs.Schedules.{EntriesOf}
 use Rattle.ec_inputs.specs.Words.{CommandWords}
-use Rattle.ec_inputs.specs.Words.CommandWords as command
+use Rattle.ec_inputs.specs.Words.{CommandWords as command}
 use Rattle.ec_inputs.specs.declared.nodes.NodeRule.{NodeRule}
 use Rattle.ec_inputs.specs.declared.schedule.ScheduleRule.{ScheduleRule}
 use Rattle.ec_network.specs.Net.{Net}

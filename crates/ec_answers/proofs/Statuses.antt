@@ -5,7 +5,7 @@ use Rattle.ec_answers.specs.Promises.{IsRunStatus, IsPlainStatus, EndsWith, IsRu
 use Rattle.ec_answers.specs.Promises.IsRunStatus.{Finishes, Fails, Spends, Fills, Sticks}
 use Rattle.ec_answers.specs.Promises.IsPlainStatus as plainly
 use Rattle.ec_inputs.specs.Words.{CommandWords}
-use Rattle.ec_inputs.specs.Words.CommandWords as command
+use Rattle.ec_inputs.specs.Words.{CommandWords as command}
 use Rattle.ec_meaning.specs.Programs.{Source as Meant}
 use Rattle.ec_network.specs.Net.{Net}
 use Rattle.ec_plain.specs.Plain.{IsPlainRun, source_run as plain_run}

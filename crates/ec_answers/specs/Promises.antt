@@ -7,7 +7,7 @@ use Rattle.ec_answers.specs.declared.file.FileOf.TheVariants.{Source, Nodes, Sch
 use Rattle.ec_inputs.specs.Nodes.{NodesOf}
 use Rattle.ec_inputs.specs.Schedules.{EntriesOf}
 use Rattle.ec_inputs.specs.Words.{RunWords, CommandWords, WordsOf}
-use Rattle.ec_inputs.specs.Words.CommandWords as command
+use Rattle.ec_inputs.specs.Words.{CommandWords as command}
 use Rattle.ec_inputs.specs.declared.nodes.NodeRule.{NodeRule}
 use Rattle.ec_inputs.specs.declared.schedule.ScheduleRule.{ScheduleRule}
 use Rattle.ec_network.specs.Net.{Net}

@@ -6,7 +6,7 @@ use Rattle.ec_answers.specs.declared.file.FileOf.{FileOf}
 use Rattle.ec_answers.specs.declared.file.FileOf.TheVariants.{Source, Nodes, Schedule}
 use Rattle.ec_inputs.specs.declared.words.Command.{Command}
 use Rattle.ec_inputs.specs.Words.{RunWords, CheckWords, CommandWords, WordsOf, command_in}
-use Rattle.ec_inputs.specs.Words.CommandWords as command
+use Rattle.ec_inputs.specs.Words.{CommandWords as command}
 use Rattle.ec_outside.specs.Whole.{IsWhole}
 use Rattle.ec_tool.specs.Reading.{AreAllRead, only}
 use Rattle.ec_tool.specs.Taking.{asked_of}

@@ -2,7 +2,7 @@
 use Rattle.std.specs.Prelude.{◌≡◌, ℕ, List, []}
 use Rattle.ec_check.specs.declared.check.Checked.{Checked}
 use Rattle.ec_inputs.specs.Words.{RunWords, CommandWords}
-use Rattle.ec_inputs.specs.Words.CommandWords as command
+use Rattle.ec_inputs.specs.Words.{CommandWords as command}
 use Rattle.ec_lower.specs.Short.{IsShort}
 use Rattle.ec_meaning.specs.Programs.{Source as Meant}
 use Rattle.ec_network.specs.Net.{Net}

@@ -4,7 +4,7 @@ use Rattle.ec_answers.specs.Verdict.{Verdict}
 use Rattle.ec_answers.specs.Verdict.Verdict.{NoCommand}
 use Rattle.ec_inputs.specs.declared.words.Command.TheVariants as given
 use Rattle.ec_inputs.specs.Words.{run_in, check_in}
-use Rattle.ec_inputs.specs.Words.CommandWords as command
+use Rattle.ec_inputs.specs.Words.{CommandWords as command}
 use Rattle.ec_network.specs.Net.{Net}
 use Rattle.ec_report.proofs.Lifting.{said, implied}
 use Rattle.ec_report.specs.declared.status.Status.{Status}

@@ -4,7 +4,7 @@ use Rattle.ec_answers.specs.Verdict.{Judged, Verdict}
 use Rattle.ec_answers.specs.Verdict.Verdict.{ReadFailed, IsJudged}
 use Rattle.ec_answers.specs.declared.file.FileOf.TheVariants.{Source}
 use Rattle.ec_inputs.specs.Words.{CheckWords, check_in}
-use Rattle.ec_inputs.specs.Words.CommandWords as command
+use Rattle.ec_inputs.specs.Words.{CommandWords as command}
 use Rattle.ec_network.specs.Net.{Net}
 use Rattle.ec_report.proofs.Lifting.{said, implied}
 use Rattle.ec_report.specs.declared.status.Status.{Status}

@@ -2,7 +2,7 @@ use Rattle.std.proofs.Common.{refl, ℕ, List}
 use Rattle.ec_answers.specs.Verdict.{Judged}
 use Rattle.ec_answers.specs.Verdict.Judged.{SourceRefused, Accepts}
 use Rattle.ec_inputs.specs.Words.{CheckWords}
-use Rattle.ec_inputs.specs.Words.CommandWords as command
+use Rattle.ec_inputs.specs.Words.{CommandWords as command}
 use Rattle.ec_network.specs.Net.{Net}
 use Rattle.ec_report.proofs.Lifting.{said}
 use Rattle.ec_report.specs.declared.status.Status.{Status}
