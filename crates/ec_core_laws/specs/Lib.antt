@@ -1,0 +1,4 @@
+pub mod Exits
+pub mod Headings
+pub mod Laws
+pub mod Waiting

@@ -1,0 +1,17 @@
+//! What lowering may rest on, in the core of every program that breaks no static rule.
+ghost use Rattle.ec_core_laws.specs.Laws.{EachExitStandsInALoop, EachHeadingFits, EachUsesItsConditions};
+
+/// Parameters and result of each operation have variables of their own.
+pub fn each_heading_fits()
+    ensures { EachHeadingFits }
+{}
+
+/// Each `exit` stands in a loop of its own operation.
+pub fn each_exit_stands_in_a_loop()
+    ensures { EachExitStandsInALoop }
+{}
+
+/// Operations wait and signal on conditions of their own monitored class alone, and process sections don't.
+pub fn each_uses_its_conditions()
+    ensures { EachUsesItsConditions }
+{}
