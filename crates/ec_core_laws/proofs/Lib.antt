@@ -1,8 +1,12 @@
+pub mod Beginnings
 pub mod Bodies
 pub mod Exits
+pub mod Expressions
 pub mod Headings
 pub mod Operations
 pub mod Programs
+pub mod Small
+pub mod SmallExpressions
 pub mod Statements
 pub mod Trees
 pub mod Waiting

@@ -4,10 +4,13 @@ use Rattle.ec_ast.specs.declared.Program.{Program}
 use Rattle.ec_check.specs.Program.{core_of}
 use Rattle.ec_conform.specs.Declarations.{declarations_of}
 use Rattle.ec_conform.specs.Table.{Table, IsTable}
+use Rattle.ec_conform.specs.Types.{places_of}
 use Rattle.ec_core.specs.declared.Operation.{Operation}
+use Rattle.ec_core_laws.specs.Beginnings.{BeginsOnce}
 use Rattle.ec_core_laws.specs.Exits.{leaves_block}
 use Rattle.ec_core_laws.specs.Headings.{HeadingFits}
 use Rattle.ec_core_laws.specs.Waiting.{UsesItsConditions}
+use Rattle.ec_places.specs.Rising.{IsRising}
 use Rattle.ec_rules.specs.Faults.{StaticFaults}
 
 -- Each of its operations has variables for its parameters and its result.
@@ -33,3 +36,12 @@ EachUsesItsConditions =
     IsTable (declarations_of program).types table →
     StaticFaults table program ≡ [] →
     All (UsesItsConditions (core_of table program).classes) (core_of table program).operations
+
+-- Each of its classes has one operation 0, and at most one process section, where the places of its types' names rise.
+abbrev pub EachClassBeginsOnce : Type 0
+EachClassBeginsOnce =
+    (table : Table) (program : Program) →
+    IsTable (declarations_of program).types table →
+    StaticFaults table program ≡ [] →
+    IsRising (places_of (declarations_of program).types) →
+    All (BeginsOnce (core_of table program).operations) (core_of table program).classes

@@ -1,4 +1,6 @@
+pub mod Beginnings
 pub mod Exits
 pub mod Headings
 pub mod Laws
+pub mod Measures
 pub mod Waiting

@@ -1,5 +1,5 @@
 //! What lowering may rest on, in the core of every program that breaks no static rule.
-ghost use Rattle.ec_core_laws.specs.Laws.{EachExitStandsInALoop, EachHeadingFits, EachUsesItsConditions};
+ghost use Rattle.ec_core_laws.specs.Laws.{EachClassBeginsOnce, EachExitStandsInALoop, EachHeadingFits, EachUsesItsConditions};
 
 /// Parameters and result of each operation have variables of their own.
 pub fn each_heading_fits()
@@ -14,4 +14,9 @@ pub fn each_exit_stands_in_a_loop()
 /// Operations wait and signal on conditions of their own monitored class alone, and process sections don't.
 pub fn each_uses_its_conditions()
     ensures { EachUsesItsConditions }
+{}
+
+/// Each class has one operation 0 and at most one process section, where the places of the types' names rise.
+pub fn each_class_begins_once()
+    ensures { EachClassBeginsOnce }
 {}
