@@ -7,6 +7,8 @@ pub mod Operations
 pub mod Programs
 pub mod Small
 pub mod SmallExpressions
+pub mod SmallOperations
+pub mod SmallStatements
 pub mod Statements
 pub mod Trees
 pub mod Waiting

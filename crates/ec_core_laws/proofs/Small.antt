@@ -3,9 +3,9 @@ use Rattle.std.proofs.Common.{◌≡◌, ℕ, ◌+◌, ◌≤◌, max, List, [],
 use Rattle.ec_rules.specs.Lists.{plus}
 
 -- Its size and its height are no more than these, where these are within the limits.
-pub record Small (size height nodes values : ℕ) : Type 0 where
-  pub size : nodes ≤ 4000 → size ≤ nodes
-  pub height : values ≤ 100 → height ≤ values
+pub record Small (s h n v : ℕ) : Type 0 where
+  pub size : n ≤ 4000 → s ≤ n
+  pub height : v ≤ 100 → h ≤ v
 
 pub none_small : Small 0 0 0 0
 none_small = record { size = λ l. omega arith; height = λ l. omega arith }

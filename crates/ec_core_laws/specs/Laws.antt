@@ -9,6 +9,7 @@ use Rattle.ec_core.specs.declared.Operation.{Operation}
 use Rattle.ec_core_laws.specs.Beginnings.{BeginsOnce}
 use Rattle.ec_core_laws.specs.Exits.{leaves_block}
 use Rattle.ec_core_laws.specs.Headings.{HeadingFits}
+use Rattle.ec_core_laws.specs.Measures.{IsSmall}
 use Rattle.ec_core_laws.specs.Waiting.{UsesItsConditions}
 use Rattle.ec_places.specs.Rising.{IsRising}
 use Rattle.ec_rules.specs.Faults.{StaticFaults}
@@ -45,3 +46,11 @@ EachClassBeginsOnce =
     StaticFaults table program ≡ [] →
     IsRising (places_of (declarations_of program).types) →
     All (BeginsOnce (core_of table program).operations) (core_of table program).classes
+
+-- Each of its operations has no more nodes, and no more variables and values at one time, than the static rules allow.
+abbrev pub EachOperationIsSmall : Type 0
+EachOperationIsSmall =
+    (table : Table) (program : Program) →
+    IsTable (declarations_of program).types table →
+    StaticFaults table program ≡ [] →
+    All IsSmall (core_of table program).operations

@@ -1,5 +1,5 @@
 -- How large the parts of the core are: their nodes, as the tree's are counted, and how many values they hold at one time.
-use Rattle.std.specs.Prelude.{ℕ, ◌+◌, max, List, [], ◌∷◌, length, Option, Some, None}
+use Rattle.std.specs.Prelude.{ℕ, ◌+◌, ◌≤◌, max, List, [], ◌∷◌, length, Option, Some, None}
 use Rattle.ec_core.specs.declared.Addend.{Addend, fold-Addend}
 use Rattle.ec_core.specs.declared.Arm.{Arm, fold-Arm}
 use Rattle.ec_core.specs.declared.Block.{Block, fold-Block}
@@ -7,6 +7,7 @@ use Rattle.ec_core.specs.declared.Expression.{Expression, fold-Expression}
 use Rattle.ec_core.specs.declared.Expression.TheOpen.{Expression-F, Link-F, Addend-F, Factor-F}
 use Rattle.ec_core.specs.declared.Factor.{Factor, fold-Factor}
 use Rattle.ec_core.specs.declared.Link.{Link, fold-Link}
+use Rattle.ec_core.specs.declared.Operation.{Operation}
 use Rattle.ec_core.specs.declared.Statement.{Statement, fold-Statement}
 use Rattle.ec_core.specs.declared.Statement.TheOpen.{Statement-F, Arm-F, Block-F}
 
@@ -196,3 +197,10 @@ height_of_arm = fold-Arm ℕ ℕ ℕ statement_height arm_height block_height
 
 abbrev pub height_of_block : Block → ℕ
 height_of_block = fold-Block ℕ ℕ ℕ statement_height arm_height block_height
+
+-- ---- operations
+
+-- Its block has no more than 4,000 nodes, and its variables and the values that it holds at one time are no more than 100.
+pub record IsSmall (o : Operation) : Type 0 where
+  pub size : size_of_block o.block ≤ 4000
+  pub values : length o.variables + height_of_block o.block ≤ 100

@@ -1,5 +1,5 @@
 //! What lowering may rest on, in the core of every program that breaks no static rule.
-ghost use Rattle.ec_core_laws.specs.Laws.{EachClassBeginsOnce, EachExitStandsInALoop, EachHeadingFits, EachUsesItsConditions};
+ghost use Rattle.ec_core_laws.specs.Laws.{EachClassBeginsOnce, EachExitStandsInALoop, EachHeadingFits, EachOperationIsSmall, EachUsesItsConditions};
 
 /// Parameters and result of each operation have variables of their own.
 pub fn each_heading_fits()
@@ -19,4 +19,9 @@ pub fn each_uses_its_conditions()
 /// Each class has one operation 0 and at most one process section, where the places of the types' names rise.
 pub fn each_class_begins_once()
     ensures { EachClassBeginsOnce }
+{}
+
+/// Each operation is within the static rules' limits: at most 4,000 nodes, and at most 100 variables and values at one time.
+pub fn each_operation_is_small()
+    ensures { EachOperationIsSmall }
 {}
