@@ -9,6 +9,7 @@ use Rattle.ec_core.specs.declared.Operation.{Operation}
 use Rattle.ec_core_laws.specs.Beginnings.{BeginsOnce}
 use Rattle.ec_core_laws.specs.Exits.{leaves_block}
 use Rattle.ec_core_laws.specs.Headings.{HeadingFits}
+use Rattle.ec_core_laws.specs.Literals.{HasShortTexts}
 use Rattle.ec_core_laws.specs.Measures.{IsSmall}
 use Rattle.ec_core_laws.specs.Waiting.{UsesItsConditions}
 use Rattle.ec_places.specs.Rising.{IsRising}
@@ -54,3 +55,11 @@ EachOperationIsSmall =
     IsTable (declarations_of program).types table →
     StaticFaults table program ≡ [] →
     All IsSmall (core_of table program).operations
+
+-- Each of its literal texts has at most 65,535 bytes.
+abbrev pub EachTextIsShort : Type 0
+EachTextIsShort =
+    (table : Table) (program : Program) →
+    IsTable (declarations_of program).types table →
+    StaticFaults table program ≡ [] →
+    HasShortTexts (core_of table program)

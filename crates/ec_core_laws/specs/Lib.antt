@@ -2,5 +2,6 @@ pub mod Beginnings
 pub mod Exits
 pub mod Headings
 pub mod Laws
+pub mod Literals
 pub mod Measures
 pub mod Waiting

@@ -1,5 +1,5 @@
 //! What lowering may rest on, in the core of every program that breaks no static rule.
-ghost use Rattle.ec_core_laws.specs.Laws.{EachClassBeginsOnce, EachExitStandsInALoop, EachHeadingFits, EachOperationIsSmall, EachUsesItsConditions};
+ghost use Rattle.ec_core_laws.specs.Laws.{EachClassBeginsOnce, EachExitStandsInALoop, EachHeadingFits, EachOperationIsSmall, EachTextIsShort, EachUsesItsConditions};
 
 /// Parameters and result of each operation have variables of their own.
 pub fn each_heading_fits()
@@ -24,4 +24,9 @@ pub fn each_class_begins_once()
 /// Each operation is within the static rules' limits: at most 4,000 nodes, and at most 100 variables and values at one time.
 pub fn each_operation_is_small()
     ensures { EachOperationIsSmall }
+{}
+
+/// Each literal text has at most 65,535 bytes.
+pub fn each_text_is_short()
+    ensures { EachTextIsShort }
 {}
