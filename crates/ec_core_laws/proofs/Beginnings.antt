@@ -1,18 +1,17 @@
 -- Each class of an accepted program has one operation 0 and no more than one process section, where the classes' numbers rise.
-use Rattle.std.proofs.Common.{◌≡◌, ℕ, ◌==◌, ◌&&◌, ◌+◌, ◌<◌, ◌≤◌, Bool, true, false, if◌then◌else◌, List, [], ◌∷◌, ◌++◌, map, refl, sym, ap, ◌∙◌, subst, All, arith}
+use Rattle.std.proofs.Common.{◌≡◌, ℕ, ◌==◌, ◌+◌, ◌<◌, ◌≤◌, Bool, true, false, if◌then◌else◌, List, [], ◌∷◌, ◌++◌, map, refl, sym, ap, ◌∙◌, All, arith}
 use Rattle.std.proofs.lemmas.Bool.{eqb-true, eq-eqb}
 use Rattle.ec_ast.specs.declared.Program.{Program}
 use Rattle.ec_check.proofs.Every.{Every, every_weaker, all_of, not_both}
-use Rattle.ec_check.specs.Parts.{Made, nothing_made, both_made, OperationPart, ProcessPart, Holder}
+use Rattle.ec_check.specs.Parts.{Made, both_made, OperationPart, ProcessPart, Holder}
 use Rattle.ec_check.specs.Program.{constants_made, outermost, core_of}
-use Rattle.ec_check.specs.Resolving.{class_core, just_operation, number_of_holder}
+use Rattle.ec_check.specs.Resolving.{just_operation, number_of_holder}
 use Rattle.ec_conform.specs.Table.{Table}
 use Rattle.ec_core.specs.declared.Class.{Class}
 use Rattle.ec_core.specs.declared.Kind.{Kind}
 use Rattle.ec_core.specs.declared.Operation.{Operation}
-use Rattle.ec_core_laws.proofs.Operations.{Known, Steps, OperationFaultless, ProcessFaultless, first_of, named_of, process_of, holder_with, process_with}
+use Rattle.ec_core_laws.proofs.Operations.{named_of, process_of, holder_with, process_with}
 use Rattle.ec_core_laws.proofs.Programs.{made_holds}
-use Rattle.ec_core_laws.proofs.Trees.{IsPiece}
 use Rattle.ec_core_laws.specs.Beginnings.{is_initial, is_process, count_of_class, BeginsOnce}
 use Rattle.ec_places.specs.Rising.{IsRising}
 use Rattle.ec_rules.specs.Faults.{StaticFaults}

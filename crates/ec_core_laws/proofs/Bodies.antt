@@ -1,5 +1,5 @@
 -- What of a body without faults is without faults, and the innermost object of the scopes in it.
-use Rattle.std.proofs.Common.{◌≡◌, ℕ, ◌+◌, ◌≤◌, Bool, true, false, if◌then◌else◌, List, [], ◌∷◌, ◌++◌, length, map, Option, Some, None, option_map, refl, sym, ap, ◌∙◌, arith}
+use Rattle.std.proofs.Common.{◌≡◌, ℕ, ◌+◌, ◌≤◌, Bool, true, false, if◌then◌else◌, List, [], ◌∷◌, ◌++◌, length, map, Some, option_map, arith}
 use Rattle.std.proofs.lemmas.List.{length-append}
 use Rattle.ec_base.proofs.Stacks.{top_of-push}
 use Rattle.ec_check.proofs.Every.{none_left, none_right}

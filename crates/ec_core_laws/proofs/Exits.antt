@@ -5,13 +5,13 @@ use Rattle.ec_ast.specs.declared.Program.{Program}
 use Rattle.ec_check.proofs.Every.{Every, Where, every_joined, none_left, none_right, not_both}
 use Rattle.ec_check.proofs.KnownTypes.{test_holds}
 use Rattle.ec_check.specs.Layers.{statement_judged}
-use Rattle.ec_check.specs.Parts.{Part, Piece, StatementPart, ArmPart, MemberPart, variable, constant, condition, operation, OperationPart, ProcessPart, Holder}
-use Rattle.ec_check.specs.Parts.{AnExpression, AStatement, ABlock, arm_judged, operation_judged}
+use Rattle.ec_check.specs.Parts.{Part, Piece, StatementPart, ArmPart, MemberPart, variable, constant, condition, operation, Holder}
+use Rattle.ec_check.specs.Parts.{AnExpression, AStatement, ABlock, arm_judged}
 use Rattle.ec_check.specs.Places.{Env, condition_named, field_named}
 use Rattle.ec_check.specs.Program.{core_of}
 use Rattle.ec_check.specs.Resolving.{assigned, further, in_scope, arms_core, locals_of_arms, core_of_statement, behind, statements_core}
-use Rattle.ec_check.specs.Resolving.{at_start, env_in, env_of_body, env_of_operation, heading_entries, field_stored, initially_core, initial_block}
-use Rattle.ec_check.specs.Tree.{expression_step, statement_step, block_step, block_of, body_of}
+use Rattle.ec_check.specs.Resolving.{at_start, env_in, env_of_body, env_of_operation, heading_entries, field_stored, initially_core}
+use Rattle.ec_check.specs.Tree.{expression_step, statement_step, block_step}
 use Rattle.ec_conform.specs.Table.{Table}
 use Rattle.ec_core.specs.declared.Arm.{Arm}
 use Rattle.ec_core.specs.declared.Block.{Block, out-Block}
@@ -23,23 +23,23 @@ use Rattle.ec_core.specs.declared.Statement.{Statement, roll-Statement, map-Stat
 use Rattle.ec_core.specs.declared.Statement.TheOpen.{Statement-F as Core-F}
 use Rattle.ec_core.specs.declared.Statement.TheVariants as s
 use Rattle.ec_core_laws.proofs.Bodies.{block_faultless, section_faultless, initially_faultless, innermost_in, innermost_declared, innermost_process}
-use Rattle.ec_core_laws.proofs.Operations.{Known, scope_in, first_of, named_of, process_of, OperationFaultless, ProcessFaultless}
+use Rattle.ec_core_laws.proofs.Operations.{Known, scope_in, first_of}
 use Rattle.ec_core_laws.proofs.Programs.{each_operation}
 use Rattle.ec_core_laws.proofs.Statements.{statement_is, arm_is, block_is, statements_are, becomes}
 use Rattle.ec_core_laws.proofs.Trees as trees
 use Rattle.ec_core_laws.proofs.Trees.{IsPiece}
-use Rattle.ec_core_laws.specs.Exits.{some_leave, leaves_if, statement_leaves, arm_leaves, block_leaves, leaves_statement, leaves_arm, leaves_block}
+use Rattle.ec_core_laws.specs.Exits.{some_leave, statement_leaves, arm_leaves, block_leaves, leaves_statement, leaves_arm, leaves_block}
 use Rattle.ec_rules.specs.Assignments.{assignment_in_statement}
 use Rattle.ec_rules.specs.Conditions.{condition_in_statement}
 use Rattle.ec_rules.specs.Doubled.{doubled_in_statement}
 use Rattle.ec_rules.specs.Exits.{exit_outside}
 use Rattle.ec_rules.specs.Faults.{StaticFaults}
-use Rattle.ec_rules.specs.Judging.{expression_part, statement_part, statement_finished, own_faults, block_finished, finished_if}
+use Rattle.ec_rules.specs.Judging.{statement_part, statement_finished, own_faults, block_finished, finished_if}
 use Rattle.ec_rules.specs.Lists.{each}
 use Rattle.ec_rules.specs.Names.{unknown_in_statement}
 use Rattle.ec_rules.specs.Operands.{wrong_in_statement}
 use Rattle.ec_rules.specs.Parts as judged
-use Rattle.ec_rules.specs.Statements.{piece_of_arm, pieces_of, pieces_of_block}
+use Rattle.ec_rules.specs.Statements.{piece_of_arm, pieces_of_block}
 use Rattle.ec_rules.specs.declared.StaticFault.{StaticFault}
 use Rattle.ec_scopes.specs.declared.entries.Entry.{Entry}
 use Rattle.ec_scopes.specs.declared.object.Object.{Object}

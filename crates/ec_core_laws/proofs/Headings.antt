@@ -1,14 +1,14 @@
 -- Each operation of an accepted program has variables for its parameters and its result.
-use Rattle.std.proofs.Common.{◌≡◌, ℕ, ◌+◌, ◌≤◌, List, [], ◌++◌, length, Option, Some, None, is_some, All, refl, arith}
+use Rattle.std.proofs.Common.{◌≡◌, ◌+◌, ◌≤◌, List, [], ◌++◌, length, Option, Some, None, is_some, All, refl, arith}
 use Rattle.std.proofs.lemmas.List.{length-append, length-map}
 use Rattle.ec_ast.specs.declared.Parameter.{Parameter}
 use Rattle.ec_ast.specs.declared.Program.{Program}
-use Rattle.ec_check.specs.Parts.{OperationPart, Holder, operation_judged}
+use Rattle.ec_check.specs.Parts.{operation_judged}
 use Rattle.ec_check.specs.Program.{core_of}
 use Rattle.ec_check.specs.Resolving.{types_written, result_written, heading_types}
 use Rattle.ec_conform.specs.Table.{Table}
 use Rattle.ec_conform.specs.declared.static_type.StaticType.{StaticType}
-use Rattle.ec_core_laws.proofs.Operations.{named_of, scope_in}
+use Rattle.ec_core_laws.proofs.Operations.{scope_in}
 use Rattle.ec_core_laws.proofs.Programs.{each_operation}
 use Rattle.ec_core_laws.specs.Headings.{HeadingFits, result_count}
 use Rattle.ec_rules.specs.Faults.{StaticFaults}

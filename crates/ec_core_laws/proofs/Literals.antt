@@ -1,5 +1,5 @@
 -- The literal texts of an accepted program are short.
-use Rattle.std.proofs.Common.{◌≡◌, ℕ, suc, ◌≤◌, Bool, true, false, List, [], ◌∷◌, ◌++◌, length, map, Option, Some, None, option_map, refl, sym, ap, ◌∙◌, subst, All, ltb-false, append_assoc}
+use Rattle.std.proofs.Common.{◌≡◌, ℕ, suc, Bool, true, false, List, [], ◌∷◌, ◌++◌, length, map, Option, Some, None, option_map, refl, sym, ap, ◌∙◌, subst, All, ltb-false, append_assoc}
 use Rattle.ec_ast.specs.declared.Constant.{Constant}
 use Rattle.ec_ast.specs.declared.ConstantValue.{ConstantValue}
 use Rattle.ec_ast.specs.declared.ConstantValue.TheVariants as stands
@@ -10,13 +10,12 @@ use Rattle.ec_ast.specs.declared.Program.{Program}
 use Rattle.ec_ast.specs.declared.Span.{Span}
 use Rattle.ec_ast.specs.declared.TypeName.{TypeName}
 use Rattle.ec_base.specs.Stack.{top_of, below_of}
-use Rattle.ec_check.proofs.Every.{Every, Where, every_joined, every_left, every_right, all_of, none_left, none_right, not_both}
+use Rattle.ec_check.proofs.Every.{Every, Where, every_joined, every_left, every_right, all_of, none_left, none_right}
 use Rattle.ec_check.proofs.Fusion.{same_part}
 use Rattle.ec_check.proofs.RangedChains.{chain_faultless}
-use Rattle.ec_check.proofs.RangedParts.{values_same}
 use Rattle.ec_check.specs.Layers.{expression_judged, statement_judged}
 use Rattle.ec_check.specs.Parts.{Part, Piece, StatementPart, LinkPart, call, index, FactorPart, AddendPart, ArmPart}
-use Rattle.ec_check.specs.Parts.{MemberPart, variable, constant, condition, operation, OperationPart, ProcessPart, Holder}
+use Rattle.ec_check.specs.Parts.{MemberPart, variable, constant, condition, operation, Holder}
 use Rattle.ec_check.specs.Parts.{AnExpression, AStatement, ABlock, link_judged, factor_judged, addend_judged, arm_judged, member_judged}
 use Rattle.ec_check.specs.Places.{Env, condition_named, field_named, place_of, type_or}
 use Rattle.ec_check.specs.Program.{constant_core, constants_core, outermost, core_of}
@@ -52,10 +51,9 @@ use Rattle.ec_core_laws.proofs.Programs.{Faultless, constants_faultless, each_op
 use Rattle.ec_core_laws.proofs.Statements.{statement_is, arm_is, block_is, statements_are}
 use Rattle.ec_core_laws.proofs.Trees as trees
 use Rattle.ec_core_laws.proofs.Trees.{IsPart, IsPiece}
-use Rattle.ec_core_laws.specs.Literals.{Texts, joined, if_there, expression_texts, link_texts, addend_texts, factor_texts, statement_texts, arm_texts, block_texts}
+use Rattle.ec_core_laws.specs.Literals.{Texts, joined, expression_texts, link_texts, addend_texts, factor_texts, statement_texts, arm_texts, block_texts}
 use Rattle.ec_core_laws.specs.Literals.{texts_of, texts_of_link, texts_of_addend, texts_of_factor, texts_of_statement, texts_of_arm, texts_of_block}
 use Rattle.ec_core_laws.specs.Literals.{IsShort, HasShortTexts}
-use Rattle.ec_names.specs.Names.{Text}
 use Rattle.ec_rules.specs.Calls.{Receiver, Creation, Own, Typed, callee, receiver, link_type, type_of_receiver, type_indexed, faults_of_head}
 use Rattle.ec_rules.specs.Calls as calls
 use Rattle.ec_rules.specs.Faults.{StaticFaults, faults_in_constant}
@@ -70,7 +68,7 @@ use Rattle.ec_rules.specs.Tree.{value_part}
 use Rattle.ec_rules.specs.declared.Rule.{Rule}
 use Rattle.ec_rules.specs.declared.StaticFault.{StaticFault}
 use Rattle.ec_scopes.specs.declared.scope.Scope.{Scope}
-use Rattle.ec_scopes.specs.Scopes.{class_named, written_in, declaring, in_a_loop, in_a_process}
+use Rattle.ec_scopes.specs.Scopes.{class_named, written_in, in_a_loop, in_a_process}
 
 abbrev AreShort : Texts → Type 0
 AreShort ts = Every IsShort ts

@@ -13,10 +13,9 @@ use Rattle.ec_check.specs.Parts.{Made, nothing_made, both_made, Part, Piece, Sta
 use Rattle.ec_check.specs.Parts.{ArmPart, ProcessPart, OperationPart, MemberPart, variable, constant, condition, operation, Holder}
 use Rattle.ec_check.specs.Parts.{AnExpression, AStatement, ABlock, link_judged, factor_judged, addend_judged, arm_judged}
 use Rattle.ec_check.specs.Parts.{member_judged, operation_judged, process_judged, holder_judged}
-use Rattle.ec_check.specs.Places.{Env}
 use Rattle.ec_check.specs.Resolving.{operation_core, initial_operation, process_operation, just_operation, just_class, class_core}
-use Rattle.ec_check.specs.Resolving.{number_of_holder, env_of_body, holder_made, body_made, member_made, members_made, process_made, initially_made}
-use Rattle.ec_check.specs.Resolving.{made_if, all_made, arms_made, expression_made, statement_made, statements_made, parts_of_links, chain_parts, link_parts}
+use Rattle.ec_check.specs.Resolving.{number_of_holder, env_of_body, holder_made, member_made, members_made, process_made, initially_made}
+use Rattle.ec_check.specs.Resolving.{all_made, arms_made, expression_made, statement_made, statements_made, parts_of_links, chain_parts}
 use Rattle.ec_check.specs.Tree.{expression_step, statement_step, block_step, part_of, body_of}
 use Rattle.ec_core.specs.declared.Class.{Class}
 use Rattle.ec_core.specs.declared.Operation.{Operation}

@@ -10,14 +10,13 @@ use Rattle.ec_ast.specs.declared.TypeName.{TypeName}
 use Rattle.ec_check.proofs.Every.{Every, every_joined, every_left, every_right, every_unmap, all_of, none_left, none_each}
 use Rattle.ec_check.proofs.Fusion.{same_part, same_class}
 use Rattle.ec_check.proofs.RangedPrograms.{none_in_order, each_contained}
-use Rattle.ec_check.specs.Parts.{Made, nothing_made, both_made, ProcessPart, OperationPart, Holder}
+use Rattle.ec_check.specs.Parts.{Made, ProcessPart, OperationPart, Holder}
 use Rattle.ec_check.specs.Program.{constant_made, constants_made, outermost, core_of}
-use Rattle.ec_check.specs.Resolving.{just_operation}
 use Rattle.ec_check.specs.Tree.{class_part}
 use Rattle.ec_conform.specs.Table.{Table}
 use Rattle.ec_core.specs.declared.Class.{Class}
 use Rattle.ec_core.specs.declared.Operation.{Operation}
-use Rattle.ec_core_laws.proofs.Operations.{Known, Steps, OperationFaultless, ProcessFaultless, first_of, named_of, process_of, holder_with, process_with}
+use Rattle.ec_core_laws.proofs.Operations.{Known, Steps, OperationFaultless, ProcessFaultless, first_of, named_of, process_of, process_with}
 use Rattle.ec_core_laws.proofs.Operations.{part_made, body_made_of, holder_has_made}
 use Rattle.ec_core_laws.proofs.Trees.{IsPiece}
 use Rattle.ec_rules.specs.Faults.{faults_in_constant, faults_of_program, StaticFaults}

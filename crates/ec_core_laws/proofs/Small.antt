@@ -1,5 +1,5 @@
 -- A part of the core is no larger than the part of the tree that it is made of, where that is within the limits.
-use Rattle.std.proofs.Common.{◌≡◌, ℕ, ◌+◌, ◌≤◌, max, List, [], ◌∷◌, sym, subst, arith}
+use Rattle.std.proofs.Common.{◌≡◌, ℕ, ◌+◌, ◌≤◌, max, sym, subst, arith}
 use Rattle.ec_rules.specs.Lists.{plus}
 
 -- Its size and its height are no more than these, where these are within the limits.

@@ -1,5 +1,5 @@
 -- An expression of the core is no larger than the expression that it is made of.
-use Rattle.std.proofs.Common.{◌≡◌, ℕ, ◌+◌, ◌≤◌, ◌&&◌, max, Bool, true, false, List, [], ◌∷◌, ◌++◌, length, map, Option, Some, None, is_some, if◌then◌else◌, refl, sym, ap, ◌∙◌, subst, codes, arith}
+use Rattle.std.proofs.Common.{◌≡◌, ℕ, ◌+◌, ◌≤◌, ◌&&◌, max, Bool, true, false, List, [], ◌∷◌, length, map, Option, Some, None, is_some, if◌then◌else◌, refl, sym, ap, ◌∙◌, subst, codes, arith}
 use Rattle.std.proofs.lemmas.List.{length-map}
 use Rattle.ec_ast.specs.declared.Expression.TheOpen.{Expression-F}
 use Rattle.ec_ast.specs.declared.Name.{Name}
@@ -7,9 +7,9 @@ use Rattle.ec_check.proofs.Every.{Every, not_both, first_holds}
 use Rattle.ec_check.proofs.RangedChains.{creation_arguments}
 use Rattle.ec_check.specs.Layers.{expression_judged}
 use Rattle.ec_check.specs.Parts.{Part, Piece, StatementPart, LinkPart, call, index, FactorPart, AddendPart, AnExpression, Holder}
-use Rattle.ec_check.specs.Parts.{link_judged, factor_judged, addend_judged, holder_judged}
+use Rattle.ec_check.specs.Parts.{link_judged, factor_judged, addend_judged}
 use Rattle.ec_check.specs.Places.{Env, place_of, type_or}
-use Rattle.ec_check.specs.Resolving.{cores_of, builtin_of, called, link_core, links_core, chained, number_of_class, arguments_in, created, chain_core}
+use Rattle.ec_check.specs.Resolving.{cores_of, builtin_of, called, link_core, links_core, chained, number_of_class, arguments_in, chain_core}
 use Rattle.ec_check.specs.Resolving.{factor_core, addend_core, captures_of, number_of_holder, core_of_expression}
 use Rattle.ec_check.specs.Tree.{expression_step}
 use Rattle.ec_conform.specs.Types.{vector_of}
@@ -20,7 +20,7 @@ use Rattle.ec_core.specs.declared.Expression.{Expression, roll-Expression, map-E
 use Rattle.ec_core.specs.declared.Expression.TheOpen.{Expression-F as Core-F, Link-F as CoreLink-F}
 use Rattle.ec_core.specs.declared.Expression.TheVariants as e
 use Rattle.ec_core.specs.declared.Factor.{Factor}
-use Rattle.ec_core.specs.declared.Link.{Link, roll-Link, map-Link, out-Link}
+use Rattle.ec_core.specs.declared.Link.{Link, out-Link}
 use Rattle.ec_core.specs.declared.Link.TheVariants as l
 use Rattle.ec_core.specs.declared.Place.{Place}
 use Rattle.ec_core_laws.proofs.Expressions.{expression_is, link_is, addend_is, factor_is}
@@ -32,7 +32,6 @@ use Rattle.ec_core_laws.specs.Measures.{size_of, size_of_link, size_of_factor, s
 use Rattle.ec_rules.specs.Calls.{Receiver, Creation, Own, Typed, callee, is_creation, class_created, receiver_if, receiver, link_type, type_of_receiver, type_indexed}
 use Rattle.ec_rules.specs.Calls as calls
 use Rattle.ec_rules.specs.Forms.{Form, Literal, Negated, Constructor, Vector, Created, Itself, NameAlone, Other}
-use Rattle.ec_rules.specs.Heights as rules
 use Rattle.ec_rules.specs.Heights.{stacked, links_height, postfix_height}
 use Rattle.ec_rules.specs.Judging.{expression_part, form_of, form_of_chain, form_in_parentheses, form_negated, height_in}
 use Rattle.ec_rules.specs.Lists.{greatest, plus, total}

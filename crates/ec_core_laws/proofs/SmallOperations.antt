@@ -1,20 +1,17 @@
 -- The operations of an accepted program are within the limits of the static rules.
-use Rattle.std.proofs.Common.{◌≡◌, ℕ, ◌+◌, ◌≤◌, max, nat_lt, Bool, true, false, List, [], ◌∷◌, ◌++◌, length, map, Option, Some, None, option_map, is_some, refl, sym, ap, ◌∙◌, subst, All, ltb-false, arith}
+use Rattle.std.proofs.Common.{◌≡◌, ℕ, ◌+◌, ◌≤◌, max, Bool, true, false, List, [], ◌∷◌, ◌++◌, length, map, Option, Some, None, option_map, refl, sym, ap, ◌∙◌, subst, All, ltb-false, arith}
 use Rattle.std.proofs.lemmas.List.{length-append, length-map}
 use Rattle.ec_ast.specs.declared.Parameter.{Parameter}
 use Rattle.ec_ast.specs.declared.Program.{Program}
 use Rattle.ec_ast.specs.declared.Span.{Span}
-use Rattle.ec_check.proofs.Every.{Every, Where, none_left, none_right, not_both}
-use Rattle.ec_check.specs.Parts.{Part, Piece, StatementPart, MemberPart, variable, constant, condition, operation, OperationPart, ProcessPart, Holder}
+use Rattle.ec_check.proofs.Every.{Every, Where, none_left, none_right}
+use Rattle.ec_check.specs.Parts.{Part, Piece, MemberPart, variable, constant, condition, operation, OperationPart, ProcessPart, Holder}
 use Rattle.ec_check.specs.Parts.{member_judged, operation_judged, holder_judged}
 use Rattle.ec_check.specs.Places.{Env, field_named}
 use Rattle.ec_check.specs.Program.{core_of}
-use Rattle.ec_check.specs.Resolving.{at_start, env_in, env_of_body, env_of_operation, field_stored, initially_core, initial_block, locals_of_block}
+use Rattle.ec_check.specs.Resolving.{at_start, env_in, env_of_body, env_of_operation, field_stored, initially_core, locals_of_block}
 use Rattle.ec_check.specs.Resolving.{types_written, result_written, heading_types}
-use Rattle.ec_check.specs.Tree.{body_of}
 use Rattle.ec_conform.specs.Table.{Table}
-use Rattle.ec_conform.specs.declared.static_type.StaticType.{StaticType}
-use Rattle.ec_core.specs.declared.Block.{Block, out-Block}
 use Rattle.ec_core.specs.declared.Class.{Class}
 use Rattle.ec_core.specs.declared.Place.TheVariants as place
 use Rattle.ec_core.specs.declared.Statement.{Statement}
@@ -30,7 +27,7 @@ use Rattle.ec_core_laws.proofs.SmallStatements.{SmallDone, SmallStatement, Small
 use Rattle.ec_core_laws.proofs.Statements.{statement_is, block_is, statements_are}
 use Rattle.ec_core_laws.proofs.Trees as trees
 use Rattle.ec_core_laws.proofs.Trees.{IsPiece, IsBody}
-use Rattle.ec_core_laws.specs.Measures.{all_of, greatest_of, size_of, height_of, statement_size, arm_size, block_size, statement_height, arm_height, block_height}
+use Rattle.ec_core_laws.specs.Measures.{all_of, greatest_of, statement_size, arm_size, block_size, statement_height, arm_height, block_height}
 use Rattle.ec_core_laws.specs.Measures.{size_of_statement, size_of_block, height_of_statement, height_of_block, IsSmall}
 use Rattle.ec_rules.specs.Faults.{StaticFaults}
 use Rattle.ec_rules.specs.Judging.{member_finished, members_finished, finished_if, first_finished}

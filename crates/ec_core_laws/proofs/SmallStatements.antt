@@ -7,9 +7,9 @@ use Rattle.ec_check.proofs.Every.{Every, Where}
 use Rattle.ec_check.specs.Layers.{statement_judged}
 use Rattle.ec_check.specs.Parts.{Part, Piece, StatementPart, ArmPart, AStatement, ABlock, arm_judged}
 use Rattle.ec_check.specs.Places.{Env, condition_named}
-use Rattle.ec_check.specs.Resolving.{chained, element_set, element_set_if, assigned, further, in_scope, arms_core, locals_of_arms, locals_of_block, locals_of}
+use Rattle.ec_check.specs.Resolving.{chained, element_set, element_set_if, assigned, in_scope, arms_core, locals_of_arms, locals_of_block, locals_of}
 use Rattle.ec_check.specs.Resolving.{core_of_statement, behind, statements_core, locals_of_statements}
-use Rattle.ec_check.specs.Tree.{statement_step, block_step, block_of, body_of}
+use Rattle.ec_check.specs.Tree.{statement_step, block_step}
 use Rattle.ec_conform.specs.declared.static_type.StaticType.{StaticType}
 use Rattle.ec_core.specs.declared.Addend.{Addend}
 use Rattle.ec_core.specs.declared.Arm.{Arm}
@@ -24,7 +24,7 @@ use Rattle.ec_core.specs.declared.Statement.{Statement, roll-Statement, map-Stat
 use Rattle.ec_core.specs.declared.Statement.TheOpen.{Statement-F as Core-F}
 use Rattle.ec_core.specs.declared.Statement.TheVariants as s
 use Rattle.ec_core_laws.proofs.Expressions.{expression_is, out_is, link_out_is}
-use Rattle.ec_core_laws.proofs.Small.{Small, none_small, leaf_small, more_small, both_small, pair_small, same_small}
+use Rattle.ec_core_laws.proofs.Small.{Small, none_small, more_small, both_small, same_small}
 use Rattle.ec_core_laws.proofs.SmallExpressions as expressions
 use Rattle.ec_core_laws.proofs.SmallExpressions.{SmallPart, is_alone}
 use Rattle.ec_core_laws.proofs.Statements.{statement_is, arm_is, block_is}
@@ -39,7 +39,6 @@ use Rattle.ec_rules.specs.Forms.{Form, Literal, Negated, Constructor, Vector, Cr
 use Rattle.ec_rules.specs.Judging.{statement_part, statement_finished, block_finished}
 use Rattle.ec_rules.specs.Lists.{greatest, plus, total}
 use Rattle.ec_rules.specs.Parts as judged
-use Rattle.ec_rules.specs.Statements as rules
 use Rattle.ec_rules.specs.Statements.{piece_of_arm, pieces_of_block, assigned_height}
 use Rattle.ec_rules.specs.declared.judged.Done.{Done}
 use Rattle.ec_scopes.specs.declared.scope.Scope.{Scope}

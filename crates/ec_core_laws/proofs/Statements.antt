@@ -1,5 +1,5 @@
 -- What a fold gives of a statement, an arm or a block of the core, and what an assignment becomes.
-use Rattle.std.proofs.Common.{◌≡◌, ℕ, List, Option, Some, None, sym, ap, ◌∙◌, map, option_map}
+use Rattle.std.proofs.Common.{◌≡◌, ℕ, List, Option, Some, None, sym, ap, ◌∙◌}
 use Rattle.ec_base.specs.Stack.{top_of, below_of}
 use Rattle.ec_check.specs.Resolving.{chained, element_set, element_set_if, assigned}
 use Rattle.ec_core.specs.declared.Addend.{Addend}

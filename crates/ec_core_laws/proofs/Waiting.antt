@@ -1,5 +1,5 @@
 -- The operations of an accepted program wait and signal as they may.
-use Rattle.std.proofs.Common.{◌≡◌, ℕ, ◌<◌, ◌≤◌, ◌&&◌, not, Bool, true, false, List, [], ◌∷◌, ◌++◌, length, map, Option, Some, None, option_map, refl, sym, ap, ◌∙◌, subst, All, append_assoc, arith}
+use Rattle.std.proofs.Common.{◌≡◌, ℕ, ◌<◌, ◌≤◌, not, Bool, true, false, List, [], ◌∷◌, ◌++◌, length, map, Option, Some, None, option_map, refl, sym, ap, ◌∙◌, subst, All, append_assoc, arith}
 use Rattle.ec_ast.specs.declared.Expression.TheOpen.{Statement-F}
 use Rattle.ec_ast.specs.declared.Name.{Name}
 use Rattle.ec_ast.specs.declared.Program.{Program}
@@ -9,12 +9,12 @@ use Rattle.ec_check.proofs.KnownTypes.{test_holds}
 use Rattle.ec_check.proofs.RangedParts.{any_of}
 use Rattle.ec_check.specs.Layers.{statement_judged}
 use Rattle.ec_check.specs.Parts.{Part, Piece, StatementPart, ArmPart, MemberPart, variable, constant, condition, operation, OperationPart, ProcessPart, Holder}
-use Rattle.ec_check.specs.Parts.{AnExpression, AStatement, ABlock, arm_judged, operation_judged}
+use Rattle.ec_check.specs.Parts.{AnExpression, AStatement, ABlock, arm_judged}
 use Rattle.ec_check.specs.Places.{Env, condition_named, conditions_of, field_named, number_named}
 use Rattle.ec_check.specs.Program.{core_of}
 use Rattle.ec_check.specs.Resolving.{assigned, further, in_scope, arms_core, locals_of_arms, core_of_statement, behind, statements_core}
-use Rattle.ec_check.specs.Resolving.{at_start, env_in, env_of_body, env_of_operation, heading_entries, field_stored, initially_core, initial_block, class_core}
-use Rattle.ec_check.specs.Tree.{expression_step, statement_step, block_step, block_of, body_of}
+use Rattle.ec_check.specs.Resolving.{at_start, env_in, env_of_body, env_of_operation, heading_entries, field_stored, initially_core, class_core}
+use Rattle.ec_check.specs.Tree.{expression_step, statement_step, block_step}
 use Rattle.ec_conform.specs.Table.{Table}
 use Rattle.ec_core.specs.declared.Arm.{Arm}
 use Rattle.ec_core.specs.declared.Block.{Block, out-Block}
@@ -34,19 +34,19 @@ use Rattle.ec_core_laws.proofs.Programs.{each_operation}
 use Rattle.ec_core_laws.proofs.Statements.{statement_is, arm_is, block_is, statements_are, becomes}
 use Rattle.ec_core_laws.proofs.Trees as trees
 use Rattle.ec_core_laws.proofs.Trees.{IsPiece}
-use Rattle.ec_core_laws.specs.Waiting.{all_of as all_conditions, those_of, statement_conditions, arm_conditions, block_conditions, IsNoProcess, MayUse, UsesItsConditions}
+use Rattle.ec_core_laws.specs.Waiting.{all_of as all_conditions, statement_conditions, arm_conditions, block_conditions, IsNoProcess, MayUse, UsesItsConditions}
 use Rattle.ec_core_laws.specs.Waiting.{conditions_of_statement, conditions_of_arm, conditions_of_block}
 use Rattle.ec_rules.specs.Assignments.{assignment_in_statement}
 use Rattle.ec_rules.specs.Conditions.{condition_in_statement}
 use Rattle.ec_rules.specs.Doubled.{doubled_in_statement}
 use Rattle.ec_rules.specs.Exits.{exit_outside}
 use Rattle.ec_rules.specs.Faults.{StaticFaults}
-use Rattle.ec_rules.specs.Judging.{expression_part, statement_part, statement_finished, own_faults, block_finished, finished_if}
+use Rattle.ec_rules.specs.Judging.{statement_part, statement_finished, own_faults, block_finished, finished_if}
 use Rattle.ec_rules.specs.Lists.{each}
 use Rattle.ec_rules.specs.Names.{unknown_in_statement}
 use Rattle.ec_rules.specs.Operands.{wrong_in_statement}
 use Rattle.ec_rules.specs.Parts as judged
-use Rattle.ec_rules.specs.Statements.{piece_of_arm, pieces_of, pieces_of_block}
+use Rattle.ec_rules.specs.Statements.{piece_of_arm, pieces_of_block}
 use Rattle.ec_rules.specs.declared.StaticFault.{StaticFault}
 use Rattle.ec_scopes.specs.declared.entries.Entry.{Entry}
 use Rattle.ec_scopes.specs.declared.object.Object.{Object}

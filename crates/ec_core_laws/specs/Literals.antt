@@ -1,5 +1,5 @@
 -- The literal texts of the core are no longer than the static rules allow.
-use Rattle.std.specs.Prelude.{ℕ, ◌≤◌, List, [], ◌∷◌, ◌++◌, length, Option, Some, None, All}
+use Rattle.std.specs.Prelude.{◌≤◌, List, [], ◌∷◌, ◌++◌, length, Option, Some, None, All}
 use Rattle.ec_core.specs.declared.Addend.{Addend, fold-Addend}
 use Rattle.ec_core.specs.declared.Arm.{Arm, fold-Arm}
 use Rattle.ec_core.specs.declared.Block.{Block, fold-Block}
