@@ -3,6 +3,7 @@ pub mod Bodies
 pub mod Exits
 pub mod Expressions
 pub mod Headings
+pub mod Known
 pub mod Literals
 pub mod Operations
 pub mod Programs

@@ -75,7 +75,8 @@ one_total s h n v k = record {
   height = λ l. let r : h ≤ v = k.height (omega arith) in omega arith;
 }
 
-two_total : (s h n v t i m w a b : ℕ) → Small s h n v → Small t i m w → Small a b 0 0 → Small (1 + (s + t)) (max h (1 + i)) (plus 1 (plus n (plus m 0))) (max v (plus 1 w))
+two_total : (s h n v t i m w a b : ℕ) → Small s h n v → Small t i m w → Small a b 0 0 →
+    Small (1 + (s + t)) (max h (1 + i)) (plus 1 (plus n (plus m 0))) (max v (plus 1 w))
 two_total s h n v t i m w a b k j z = record {
   size = λ l. let r : s ≤ n = k.size (omega arith) in let q : t ≤ m = j.size (omega arith) in omega arith;
   height = λ l. let r : h ≤ v = k.height (omega arith) in let q : i ≤ w = j.height (omega arith) in omega arith;

@@ -9,6 +9,7 @@ use Rattle.ec_core.specs.declared.Operation.{Operation}
 use Rattle.ec_core_laws.specs.Beginnings.{BeginsOnce}
 use Rattle.ec_core_laws.specs.Exits.{leaves_block}
 use Rattle.ec_core_laws.specs.Headings.{HeadingFits}
+use Rattle.ec_core_laws.specs.Known.{KnowsItsTypes}
 use Rattle.ec_core_laws.specs.Literals.{HasShortTexts}
 use Rattle.ec_core_laws.specs.Measures.{IsSmall}
 use Rattle.ec_core_laws.specs.Waiting.{UsesItsConditions}
@@ -63,3 +64,11 @@ EachTextIsShort =
     IsTable (declarations_of program).types table →
     StaticFaults table program ≡ [] →
     HasShortTexts (core_of table program)
+
+-- No type in its code is unknown.
+abbrev pub EachTypeInCodeIsKnown : Type 0
+EachTypeInCodeIsKnown =
+    (table : Table) (program : Program) →
+    IsTable (declarations_of program).types table →
+    StaticFaults table program ≡ [] →
+    KnowsItsTypes (core_of table program)

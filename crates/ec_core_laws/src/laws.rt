@@ -1,5 +1,6 @@
 //! What lowering may rest on, in the core of every program that breaks no static rule.
-ghost use Rattle.ec_core_laws.specs.Laws.{EachClassBeginsOnce, EachExitStandsInALoop, EachHeadingFits, EachOperationIsSmall, EachTextIsShort, EachUsesItsConditions};
+ghost use Rattle.ec_core_laws.specs.Laws.{EachClassBeginsOnce, EachExitStandsInALoop, EachHeadingFits, EachOperationIsSmall};
+ghost use Rattle.ec_core_laws.specs.Laws.{EachTextIsShort, EachTypeInCodeIsKnown, EachUsesItsConditions};
 
 /// Parameters and result of each operation have variables of their own.
 pub fn each_heading_fits()
@@ -29,4 +30,9 @@ pub fn each_operation_is_small()
 /// Each literal text has at most 65,535 bytes.
 pub fn each_text_is_short()
     ensures { EachTextIsShort }
+{}
+
+/// No type in the code of operations and constants is unknown: of new vectors, views, elements and results.
+pub fn each_type_in_code_is_known()
+    ensures { EachTypeInCodeIsKnown }
 {}
