@@ -35,10 +35,11 @@ operation_small scope h o e =
     let within : operation_faults (scope_in scope h) (operation_judged o)
     (o.block.piece (scope_of_operation (scope_in scope h) (operation_judged o))) ≡ [] =
     none_left _ (member_faults (scope_in scope h) h.is_monitored (judged.operation (operation_judged o))) e in
-    none_right (many_parameters o.parameters) _
+    none_left _ _
+    (none_right (many_parameters o.parameters) _
     (none_right (end_of_operation (operation_judged o)) _
     (none_right (doubled_in_operation (operation_judged o)) _
-    (none_right (o.block.piece (scope_of_operation (scope_in scope h) (operation_judged o))).faults _ within)))
+    (none_right (o.block.piece (scope_of_operation (scope_in scope h) (operation_judged o))).faults _ within))))
 
 pub section_faultless : (scope : Scope) (h : Holder) (p : ProcessPart) → ProcessFaultless scope h p →
     (p.block.piece (in_a_process (scope_in scope h))).faults ≡ []
@@ -46,7 +47,7 @@ section_faultless scope h p e = none_left _ _ e
 
 pub section_small : (scope : Scope) (h : Holder) (p : ProcessPart) → ProcessFaultless scope h p →
     too_large p.at 0 (p.block.piece (in_a_process (scope_in scope h))).done ≡ []
-section_small scope h p e = none_right _ _ e
+section_small scope h p e = none_left _ _ (none_right _ _ e)
 
 pub members_faultless : {classes : List Class} (scope : Scope) (h : Holder) → Known classes scope h →
     (members_finished (scope_in scope h) h.is_monitored (map member_judged h.body.members)).faults ≡ []
@@ -58,7 +59,7 @@ initially_faultless scope h k = none_right _ _ (none_left _ _ (none_left _ _ (no
 
 pub first_small : {classes : List Class} (scope : Scope) (h : Holder) → Known classes scope h →
     too_large h.name.at 0 (first_finished (scope_in scope h) (holder_judged h)).done ≡ []
-first_small scope h k = none_right _ _ (none_left _ _ (none_left _ _ k.faultless))
+first_small scope h k = none_left _ _ (none_right _ _ (none_left _ _ (none_left _ _ k.faultless)))
 
 -- ---- the innermost object
 

@@ -273,14 +273,14 @@ layer_short (Expression-F.Constructor o) h needed env f =
     short (e.Construct (number_of_holder env.scope o.holder) (map (place_of env) (captures_of env.scope o.holder)))
     (Form-F.Construct (number_of_holder env.scope o.holder) (map (place_of env) (captures_of env.scope o.holder)))
     (e.rolls-Construct (number_of_holder env.scope o.holder) (map (place_of env) (captures_of env.scope o.holder))) tt
-layer_short (Expression-F.NodeAt x at) h needed env f =
-    short (e.NodeAt (x.core env) at.from) (Form-F.NodeAt (x.core env) at.from) (e.rolls-NodeAt (x.core env) at.from)
+layer_short (Expression-F.NodeAt x at word) h needed env f =
+    short (e.NodeAt (x.core env) word.from) (Form-F.NodeAt (x.core env) word.from) (e.rolls-NodeAt (x.core env) word.from)
     (h.1 true env (none_left _ _ (none_left _ _ f)))
 layer_short (Expression-F.NodeCount at) h needed env f = short e.NodeCount Form-F.NodeCount e.rolls-NodeCount tt
-layer_short (Expression-F.NewVector of x at) h needed env f =
-    short (e.NewVector (vector_of (written_in env.scope of)) (x.core env) at.from)
-    (Form-F.NewVector (vector_of (written_in env.scope of)) (x.core env) at.from)
-    (e.rolls-NewVector (vector_of (written_in env.scope of)) (x.core env) at.from) (h.1 true env (none_left _ _ (none_left _ _ f)))
+layer_short (Expression-F.NewVector of x at word) h needed env f =
+    short (e.NewVector (vector_of (written_in env.scope of)) (x.core env) word.from)
+    (Form-F.NewVector (vector_of (written_in env.scope of)) (x.core env) word.from)
+    (e.rolls-NewVector (vector_of (written_in env.scope of)) (x.core env) word.from) (h.1 true env (none_left _ _ (none_left _ _ f)))
 layer_short (Expression-F.Postfix x links) h needed env f =
     chain_short env (receiver env.scope x.part (map link_judged links)) x links h.0 h.1 (none_left _ _ f)
     (chain_faultless env.scope x.part.at needed (receiver env.scope x.part (map link_judged links))

@@ -287,9 +287,9 @@ module _ (classes : List Class) (M : Made → Type 0) (steps : Steps classes M) 
   layer_made (Expression-F.Expression::Variable name) h needed scope t = steps.nothing
   layer_made (Expression-F.Parenthesised x at) h needed scope t = list_made scope (x ∷ []) (x.part ∷ []) _ (h, tt) refl t
   layer_made (Expression-F.Constructor o) h needed scope t = holder_has_made scope o.holder h.0 h.1 t
-  layer_made (Expression-F.NodeAt x at) h needed scope t = list_made scope (x ∷ []) (x.part ∷ []) _ (h, tt) refl t
+  layer_made (Expression-F.NodeAt x at word) h needed scope t = list_made scope (x ∷ []) (x.part ∷ []) _ (h, tt) refl t
   layer_made (Expression-F.NodeCount at) h needed scope t = steps.nothing
-  layer_made (Expression-F.NewVector of x at) h needed scope t = list_made scope (x ∷ []) (x.part ∷ []) _ (h, tt) refl t
+  layer_made (Expression-F.NewVector of x at word) h needed scope t = list_made scope (x ∷ []) (x.part ∷ []) _ (h, tt) refl t
   layer_made (Expression-F.Postfix x links) h needed scope t =
       chain_made scope (receiver scope x.part (map link_judged links)) x links h.0 h.1
       (record {

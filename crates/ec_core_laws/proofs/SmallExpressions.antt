@@ -116,9 +116,9 @@ alone_is (Expression-F.Itself at) is env = not_both is
 alone_is (Expression-F.Expression::Variable name) is env = (place_of env name.text, refl)
 alone_is (Expression-F.Parenthesised x at) is env = not_both (sym (no_longer_alone x.part.form) ∙ is)
 alone_is (Expression-F.Constructor o) is env = not_both is
-alone_is (Expression-F.NodeAt x at) is env = not_both is
+alone_is (Expression-F.NodeAt x at word) is env = not_both is
 alone_is (Expression-F.NodeCount at) is env = not_both is
-alone_is (Expression-F.NewVector of x at) is env = not_both is
+alone_is (Expression-F.NewVector of x at word) is env = not_both is
 alone_is (Expression-F.Postfix x links) is env = not_both (sym (chain_not_alone x.part.form (map link_judged links)) ∙ is)
 alone_is (Expression-F.Negative x at) is env = not_both (sym (negated_not_alone x.part.form) ∙ is)
 alone_is (Expression-F.View x of at) is env = not_both is
@@ -429,14 +429,14 @@ module _ (S : StatementPart → Type 0) (B : Piece → Type 0) where
       (Core-F.Construct (number_of_holder env.scope o.holder) (map (place_of env) (captures_of env.scope o.holder)))
       (e.rolls-Construct (number_of_holder env.scope o.holder) (map (place_of env) (captures_of env.scope o.holder))) _ _
       (constructed env o.holder)
-  layer_small (Expression-F.NodeAt x at) h env =
-      measured (e.NodeAt (x.core env) at.from) (Core-F.NodeAt (x.core env) at.from) (e.rolls-NodeAt (x.core env) at.from) _ _
+  layer_small (Expression-F.NodeAt x at word) h env =
+      measured (e.NodeAt (x.core env) word.from) (Core-F.NodeAt (x.core env) word.from) (e.rolls-NodeAt (x.core env) word.from) _ _
       (more_small _ _ _ _ (small_in env x h))
   layer_small (Expression-F.NodeCount at) h env = measured e.NodeCount Core-F.NodeCount e.rolls-NodeCount _ _ leaf_small
-  layer_small (Expression-F.NewVector of x at) h env =
-      measured (e.NewVector (vector_of (written_in env.scope of)) (x.core env) at.from)
-      (Core-F.NewVector (vector_of (written_in env.scope of)) (x.core env) at.from)
-      (e.rolls-NewVector (vector_of (written_in env.scope of)) (x.core env) at.from) _ _ (more_small _ _ _ _ (small_in env x h))
+  layer_small (Expression-F.NewVector of x at word) h env =
+      measured (e.NewVector (vector_of (written_in env.scope of)) (x.core env) word.from)
+      (Core-F.NewVector (vector_of (written_in env.scope of)) (x.core env) word.from)
+      (e.rolls-NewVector (vector_of (written_in env.scope of)) (x.core env) word.from) _ _ (more_small _ _ _ _ (small_in env x h))
   layer_small (Expression-F.Postfix x links) h env =
       chain_small env (receiver env.scope x.part (map link_judged links)) x links (begins env.scope x links) h.0 h.1
   layer_small (Expression-F.Negative x at) h env =
@@ -486,9 +486,9 @@ module _ (S : StatementPart → Type 0) (B : Piece → Type 0) where
   some_nodes (Expression-F.Expression::Variable name) h scope = omega arith
   some_nodes (Expression-F.Parenthesised x at) h scope = h.1.some true scope
   some_nodes (Expression-F.Constructor o) h scope = omega arith
-  some_nodes (Expression-F.NodeAt x at) h scope = one_more _
+  some_nodes (Expression-F.NodeAt x at word) h scope = one_more _
   some_nodes (Expression-F.NodeCount at) h scope = omega arith
-  some_nodes (Expression-F.NewVector of x at) h scope = one_more _
+  some_nodes (Expression-F.NewVector of x at word) h scope = one_more _
   some_nodes (Expression-F.Postfix x links) h scope = at_least _ _ (h.0.1.some true scope)
   some_nodes (Expression-F.Negative x at) h scope = one_more _
   some_nodes (Expression-F.View x of at) h scope = one_more _

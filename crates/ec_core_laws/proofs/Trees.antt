@@ -92,9 +92,9 @@ module _ (P : Part → Type 0) (S : StatementPart → Type 0) (B : Piece → Typ
   ExpressionHas (Expression-F.Expression::Variable name) = Unit {0}
   ExpressionHas (Expression-F.Parenthesised x at) = PartHas x
   ExpressionHas (Expression-F.Constructor o) = ObjectHas o
-  ExpressionHas (Expression-F.NodeAt x at) = PartHas x
+  ExpressionHas (Expression-F.NodeAt x at word) = PartHas x
   ExpressionHas (Expression-F.NodeCount at) = Unit {0}
-  ExpressionHas (Expression-F.NewVector of x at) = PartHas x
+  ExpressionHas (Expression-F.NewVector of x at word) = PartHas x
   ExpressionHas (Expression-F.Postfix x links) = PartHas x × Every LinkHas links
   ExpressionHas (Expression-F.Negative x at) = PartHas x
   ExpressionHas (Expression-F.View x of at) = PartHas x
@@ -423,9 +423,9 @@ module _ (P : Part → Type 0) (S : StatementPart → Type 0) (B : Piece → Typ
     parts_are (Expression-F.Expression::Variable name) = tt
     parts_are (Expression-F.Parenthesised x at) = x.1
     parts_are (Expression-F.Constructor o) = o.1
-    parts_are (Expression-F.NodeAt x at) = x.1
+    parts_are (Expression-F.NodeAt x at word) = x.1
     parts_are (Expression-F.NodeCount at) = tt
-    parts_are (Expression-F.NewVector of x at) = x.1
+    parts_are (Expression-F.NewVector of x at word) = x.1
     parts_are (Expression-F.Postfix x links) = (x.1, each_held link_of LinkHas links)
     parts_are (Expression-F.Negative x at) = x.1
     parts_are (Expression-F.View x of at) = x.1

@@ -20,7 +20,7 @@ use Rattle.ec_rules.specs.Faults.{StaticFaults}
 abbrev pub EachHeadingFits : Type 0
 EachHeadingFits =
     (table : Table) (program : Program) →
-    IsTable (declarations_of program).types table →
+    IsTable (declarations_of program) table →
     StaticFaults table program ≡ [] →
     All HeadingFits (core_of table program).operations
 
@@ -28,7 +28,7 @@ EachHeadingFits =
 abbrev pub EachExitStandsInALoop : Type 0
 EachExitStandsInALoop =
     (table : Table) (program : Program) →
-    IsTable (declarations_of program).types table →
+    IsTable (declarations_of program) table →
     StaticFaults table program ≡ [] →
     All (λ (o : Operation). leaves_block o.block ≡ false) (core_of table program).operations
 
@@ -36,7 +36,7 @@ EachExitStandsInALoop =
 abbrev pub EachUsesItsConditions : Type 0
 EachUsesItsConditions =
     (table : Table) (program : Program) →
-    IsTable (declarations_of program).types table →
+    IsTable (declarations_of program) table →
     StaticFaults table program ≡ [] →
     All (UsesItsConditions (core_of table program).classes) (core_of table program).operations
 
@@ -44,7 +44,7 @@ EachUsesItsConditions =
 abbrev pub EachClassBeginsOnce : Type 0
 EachClassBeginsOnce =
     (table : Table) (program : Program) →
-    IsTable (declarations_of program).types table →
+    IsTable (declarations_of program) table →
     StaticFaults table program ≡ [] →
     IsRising (places_of (declarations_of program).types) →
     All (BeginsOnce (core_of table program).operations) (core_of table program).classes
@@ -53,7 +53,7 @@ EachClassBeginsOnce =
 abbrev pub EachOperationIsSmall : Type 0
 EachOperationIsSmall =
     (table : Table) (program : Program) →
-    IsTable (declarations_of program).types table →
+    IsTable (declarations_of program) table →
     StaticFaults table program ≡ [] →
     All IsSmall (core_of table program).operations
 
@@ -61,7 +61,7 @@ EachOperationIsSmall =
 abbrev pub EachTextIsShort : Type 0
 EachTextIsShort =
     (table : Table) (program : Program) →
-    IsTable (declarations_of program).types table →
+    IsTable (declarations_of program) table →
     StaticFaults table program ≡ [] →
     HasShortTexts (core_of table program)
 
@@ -69,6 +69,6 @@ EachTextIsShort =
 abbrev pub EachTypeInCodeIsKnown : Type 0
 EachTypeInCodeIsKnown =
     (table : Table) (program : Program) →
-    IsTable (declarations_of program).types table →
+    IsTable (declarations_of program) table →
     StaticFaults table program ≡ [] →
     KnowsItsTypes (core_of table program)
