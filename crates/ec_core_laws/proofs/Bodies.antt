@@ -30,7 +30,8 @@ pub block_faultless : (scope : Scope) (h : Holder) (o : OperationPart) → Opera
 block_faultless scope h o e = none_left _ _ (none_left _ _ e)
 
 pub operation_small : (scope : Scope) (h : Holder) (o : OperationPart) → OperationFaultless scope h o →
-    too_large o.name.at (variables_of (operation_judged o)) (o.block.piece (scope_of_operation (scope_in scope h) (operation_judged o))).done ≡ []
+    too_large o.name.at (variables_of (operation_judged o)) (o.block.piece (scope_of_operation (scope_in scope h)
+    (operation_judged o))).done ≡ []
 operation_small scope h o e =
     let within : operation_faults (scope_in scope h) (operation_judged o)
     (o.block.piece (scope_of_operation (scope_in scope h) (operation_judged o))) ≡ [] =

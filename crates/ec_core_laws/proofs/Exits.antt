@@ -1,5 +1,6 @@
 -- In the operations of an accepted program each `exit` stands in a loop.
-use Rattle.std.proofs.Common.{◌≡◌, ◌||◌, Bool, true, false, List, [], ◌∷◌, ◌++◌, length, map, Option, Some, None, option_map, refl, sym, ap, ◌∙◌, subst, All, append_assoc}
+use Rattle.std.proofs.Common.{◌≡◌, ◌||◌, Bool, true, false, List, [], ◌∷◌, ◌++◌, length, map, Option, Some, None, option_map, refl, sym}
+use Rattle.std.proofs.Common.{ap, ◌∙◌, subst, All, append_assoc}
 use Rattle.ec_ast.specs.declared.Expression.TheOpen.{Statement-F}
 use Rattle.ec_ast.specs.declared.Program.{Program}
 use Rattle.ec_check.proofs.Every.{Every, Where, every_joined, none_left, none_right, not_both}
@@ -22,7 +23,8 @@ use Rattle.ec_core.specs.declared.Place.TheVariants as place
 use Rattle.ec_core.specs.declared.Statement.{Statement, roll-Statement, map-Statement}
 use Rattle.ec_core.specs.declared.Statement.TheOpen.{Statement-F as Core-F}
 use Rattle.ec_core.specs.declared.Statement.TheVariants as s
-use Rattle.ec_core_laws.proofs.Bodies.{block_faultless, section_faultless, initially_faultless, innermost_in, innermost_declared, innermost_process}
+use Rattle.ec_core_laws.proofs.Bodies.{block_faultless, section_faultless, initially_faultless, innermost_in, innermost_declared}
+use Rattle.ec_core_laws.proofs.Bodies.{innermost_process}
 use Rattle.ec_core_laws.proofs.Operations.{Known, scope_in, first_of}
 use Rattle.ec_core_laws.proofs.Programs.{each_operation}
 use Rattle.ec_core_laws.proofs.Statements.{statement_is, arm_is, block_is, statements_are, becomes}
@@ -148,9 +150,11 @@ arms_stay env (a ∷ arms) h l e =
     ∙ h.0.1.1 env l (none_right _ _ (none_right _ _ (none_left _ _ e))))
     (arms_stay (further (length (a.block.locals env.scope)) env) arms h.1 l (none_right _ _ e))
 
-choice_stays : (env : Env) (arms : List ArmPart) (other : Option Piece) (own : List StaticFault) → Every ArmHas arms → Where PieceHas other →
+choice_stays : (env : Env) (arms : List ArmPart) (other : Option Piece) (own : List StaticFault) → Every ArmHas arms →
+    Where PieceHas other →
     is_in_loop env.scope ≡ false →
-    each (piece_faults env.scope) (map piece_of_arm (map arm_judged arms) ++ pieces_of_block (option_map (λ b. b.piece) other)) ++ own ≡ [] →
+    each (piece_faults env.scope) (map piece_of_arm (map arm_judged arms) ++ pieces_of_block (option_map (λ b. b.piece) other)) ++ own
+    ≡ [] →
     Stays
     (s.If (arms_core env arms) (option_map (λ b. b.core (further (length (locals_of_arms env.scope arms)) env)) other))
 choice_stays env arms None own h k l e =

@@ -1,12 +1,16 @@
 -- No type in the code of a well-typed core is unknown.
-use Rattle.std.proofs.Common.{◌≡◌, ℕ, zero, suc, ◌==◌, ◌&&◌, ◌||◌, Bool, true, false, List, [], ◌∷◌, map, Option, Some, None, option_and_then, refl, sym, ◌∙◌, subst, slice_get, get_or}
+use Rattle.std.proofs.Common.{◌≡◌, ℕ, zero, suc, ◌==◌, ◌&&◌, ◌||◌, Bool, true, false, List, [], ◌∷◌, map, Option, Some, None}
+use Rattle.std.proofs.Common.{option_and_then, refl, sym, ◌∙◌, subst, slice_get, get_or}
 use Rattle.ec_check.proofs.Every.{not_both, first_holds, second_holds}
 use Rattle.ec_check.proofs.TypedRolled.{typed_layer, expression_rolled, typed_link_layer, link_rolled, addend_rolled, factor_rolled}
 use Rattle.ec_check.proofs.TypedRolled.{well_layer, statement_rolled, arm_rolled, block_rolled}
 use Rattle.ec_check.proofs.WellValues.{both_hold, result_is}
-use Rattle.ec_check.specs.WellTyped.{Site, Typed, AfterLink, TypedAddend, typed, typed_link, typed_addend, typed_factor, expression_typed, link_typed}
-use Rattle.ec_check.specs.WellTyped.{is_same_result, along, added, is_of, all_are, go_in, some_class, some_operation, is_own, can_be_called, fits_operation}
-use Rattle.ec_check.specs.WellTyped.{type_has, own_has, call_typed, are_none, are_two_integers, parameters_of_class, is_named, parameters_of, result_of}
+use Rattle.ec_check.specs.WellTyped.{Site, Typed, AfterLink, TypedAddend, typed, typed_link, typed_addend, typed_factor, expression_typed}
+use Rattle.ec_check.specs.WellTyped.{link_typed}
+use Rattle.ec_check.specs.WellTyped.{is_same_result, along, added, is_of, all_are, go_in, some_class, some_operation, is_own}
+use Rattle.ec_check.specs.WellTyped.{can_be_called, fits_operation}
+use Rattle.ec_check.specs.WellTyped.{type_has, own_has, call_typed, are_none, are_two_integers, parameters_of_class, is_named}
+use Rattle.ec_check.specs.WellTyped.{parameters_of, result_of}
 use Rattle.ec_check.specs.WellTyped.{holds_if, all_well, goes_in_if, are_references, type_at, statement_is_well, is_well_statement}
 use Rattle.ec_check.specs.WellTyped.{is_well_arm, is_well_block, site_in, site_outside, IsWellOperation, IsWellConstant, IsWellTyped}
 use Rattle.ec_conform.specs.Table.{Table}
@@ -243,7 +247,8 @@ builtin_known site before Size xs e = (first_holds _ _ (first_holds _ _ e), none
 link_layer_known : (y : Link-F ExpressionHeld LinkHeld AddendHeld FactorHeld) (site : Site) (before : Typed) →
     (link_typed site (typed_link_layer site (bare_link y)) before).is_well ≡ true →
     (before.is_well ≡ true)
-    × (link_known (map-Link Expression Link Addend Factor Bool Bool Bool Bool knows knows_link knows_addend knows_factor (bare_link y)) ≡ true)
+    × (link_known (map-Link Expression Link Addend Factor Bool Bool Bool Bool knows knows_link knows_addend knows_factor (bare_link y))
+    ≡ true)
 link_layer_known (Link-F.Invoke name xs result at) site before e = (
   first_holds _ _ e,
   one_of _ _ (λ h. own_known site site.own name xs result (second_holds _ _ h)) (has_known site before.of name xs result)

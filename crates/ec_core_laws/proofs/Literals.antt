@@ -1,5 +1,6 @@
 -- The literal texts of an accepted program are short.
-use Rattle.std.proofs.Common.{◌≡◌, ℕ, suc, Bool, true, false, List, [], ◌∷◌, ◌++◌, length, map, Option, Some, None, option_map, refl, sym, ap, ◌∙◌, subst, All, ltb-false, append_assoc}
+use Rattle.std.proofs.Common.{◌≡◌, ℕ, suc, Bool, true, false, List, [], ◌∷◌, ◌++◌, length, map, Option, Some, None, option_map, refl, sym}
+use Rattle.std.proofs.Common.{ap, ◌∙◌, subst, All, ltb-false, append_assoc}
 use Rattle.ec_ast.specs.declared.Constant.{Constant}
 use Rattle.ec_ast.specs.declared.ConstantValue.{ConstantValue}
 use Rattle.ec_ast.specs.declared.ConstantValue.TheVariants as stands
@@ -19,8 +20,10 @@ use Rattle.ec_check.specs.Parts.{MemberPart, variable, constant, condition, oper
 use Rattle.ec_check.specs.Parts.{AnExpression, AStatement, ABlock, link_judged, factor_judged, addend_judged, arm_judged, member_judged}
 use Rattle.ec_check.specs.Places.{Env, condition_named, field_named, place_of, type_or}
 use Rattle.ec_check.specs.Program.{constant_core, constants_core, outermost, core_of}
-use Rattle.ec_check.specs.Resolving.{cores_of, builtin_of, called, link_core, links_core, chained, number_of_class, arguments_in, created, chain_core}
-use Rattle.ec_check.specs.Resolving.{factor_core, addend_core, captures_of, number_of_holder, core_of_expression, parts_of_links, link_parts}
+use Rattle.ec_check.specs.Resolving.{cores_of, builtin_of, called, link_core, links_core, chained, number_of_class, arguments_in, created}
+use Rattle.ec_check.specs.Resolving.{chain_core}
+use Rattle.ec_check.specs.Resolving.{factor_core, addend_core, captures_of, number_of_holder, core_of_expression, parts_of_links}
+use Rattle.ec_check.specs.Resolving.{link_parts}
 use Rattle.ec_check.specs.Resolving.{element_set, element_set_if, assigned, further, in_scope, arms_core, locals_of_arms, core_of_statement}
 use Rattle.ec_check.specs.Resolving.{behind, statements_core, at_start, env_in, env_of_body, env_of_operation, field_stored, initially_core}
 use Rattle.ec_check.specs.Tree.{expression_step, statement_step, block_step, part_of}
@@ -51,10 +54,13 @@ use Rattle.ec_core_laws.proofs.Programs.{Faultless, constants_faultless, each_op
 use Rattle.ec_core_laws.proofs.Statements.{statement_is, arm_is, block_is, statements_are}
 use Rattle.ec_core_laws.proofs.Trees as trees
 use Rattle.ec_core_laws.proofs.Trees.{IsPart, IsPiece}
-use Rattle.ec_core_laws.specs.Literals.{Texts, joined, expression_texts, link_texts, addend_texts, factor_texts, statement_texts, arm_texts, block_texts}
-use Rattle.ec_core_laws.specs.Literals.{texts_of, texts_of_link, texts_of_addend, texts_of_factor, texts_of_statement, texts_of_arm, texts_of_block}
+use Rattle.ec_core_laws.specs.Literals.{Texts, joined, expression_texts, link_texts, addend_texts, factor_texts, statement_texts}
+use Rattle.ec_core_laws.specs.Literals.{arm_texts, block_texts}
+use Rattle.ec_core_laws.specs.Literals.{texts_of, texts_of_link, texts_of_addend, texts_of_factor, texts_of_statement, texts_of_arm}
+use Rattle.ec_core_laws.specs.Literals.{texts_of_block}
 use Rattle.ec_core_laws.specs.Literals.{IsShort, HasShortTexts}
-use Rattle.ec_rules.specs.Calls.{Receiver, Creation, Own, Typed, callee, receiver, link_type, type_of_receiver, type_indexed, faults_of_head}
+use Rattle.ec_rules.specs.Calls.{Receiver, Creation, Own, Typed, callee, receiver, link_type, type_of_receiver, type_indexed}
+use Rattle.ec_rules.specs.Calls.{faults_of_head}
 use Rattle.ec_rules.specs.Calls as calls
 use Rattle.ec_rules.specs.Faults.{StaticFaults, faults_in_constant}
 use Rattle.ec_rules.specs.Judging.{expression_part, statement_part, statement_finished, faults_of, block_finished, finished_if}
@@ -418,8 +424,10 @@ arms_short env (a ∷ arms) h f =
     (h.0.1.1 env (none_right _ _ (none_right _ _ (none_left _ _ f))))))
     (arms_short (further (length (a.block.locals env.scope)) env) arms h.1 (none_right _ _ f))
 
-choice_short : (env : Env) (arms : List ArmPart) (other : Option Piece) (own : List StaticFault) → Every ArmHas arms → Where PieceHas other →
-    each (piece_faults env.scope) (map piece_of_arm (map arm_judged arms) ++ pieces_of_block (option_map (λ b. b.piece) other)) ++ own ≡ [] →
+choice_short : (env : Env) (arms : List ArmPart) (other : Option Piece) (own : List StaticFault) → Every ArmHas arms →
+    Where PieceHas other →
+    each (piece_faults env.scope) (map piece_of_arm (map arm_judged arms) ++ pieces_of_block (option_map (λ b. b.piece) other)) ++ own
+    ≡ [] →
     ShortStatement
     (s.If (arms_core env arms) (option_map (λ b. b.core (further (length (locals_of_arms env.scope arms)) env)) other))
 choice_short env arms None own h k f =
@@ -474,7 +482,8 @@ statement_layer_short (Statement-F.Print x at) h env f =
 statement_layer_short (Statement-F.If arms other at) h env f = choice_short env arms other _ h.0 h.1 f
 statement_layer_short (Statement-F.Loop b at) h env f =
     has (s.Loop (b.core (in_scope (in_a_loop env.scope) env))) (Core-F.Loop (b.core (in_scope (in_a_loop env.scope) env)))
-    (s.rolls-Loop (b.core (in_scope (in_a_loop env.scope) env))) (h.1 (in_scope (in_a_loop env.scope) env) (none_left _ _ (none_left _ _ f)))
+    (s.rolls-Loop (b.core (in_scope (in_a_loop env.scope) env))) (h.1 (in_scope (in_a_loop env.scope) env) (none_left _ _
+    (none_left _ _ f)))
 statement_layer_short (Statement-F.Exit None at) h env f =
     has (s.Exit None) (Core-F.Exit None)
     (s.rolls-Exit None) (tt)
@@ -563,7 +572,8 @@ initially_short env (Some b) h f =
     each_short texts_of_statement (out-Block (b.core env)).statements
     (subst AreShort (statements_are Texts statement_texts arm_texts block_texts (b.core env)) (h.1 env f))
 
-first_short : {classes : List Class} (scope : Scope) (h : Holder) → Known classes scope h → AreShort (texts_of_block (first_of scope h).block)
+first_short : {classes : List Class} (scope : Scope) (h : Holder) → Known classes scope h → AreShort (texts_of_block
+    (first_of scope h).block)
 first_short scope h known =
     let body : trees.BodyHas ShortPart ShortStatementPart ShortPiece h.body =
     subst (trees.BodyHas ShortPart ShortStatementPart ShortPiece) known.tree.1

@@ -1,6 +1,7 @@
 -- What is made of the classes, object constructors and operations of a tree: one induction over all kinds of parts, by what
 -- holds of what one body makes.
-use Rattle.std.proofs.Common.{◌≡◌, Bool, true, false, List, [], ◌∷◌, ◌++◌, map, Option, Some, None, option_map, refl, sym, ap, ◌∙◌, subst, append_assoc}
+use Rattle.std.proofs.Common.{◌≡◌, Bool, true, false, List, [], ◌∷◌, ◌++◌, map, Option, Some, None, option_map, refl, sym, ap, ◌∙◌, subst}
+use Rattle.std.proofs.Common.{append_assoc}
 use Rattle.std.specs.Prelude.{Contains}
 use Rattle.ec_ast.specs.declared.Body.{Body}
 use Rattle.ec_ast.specs.declared.Expression.{Expression}

@@ -36,7 +36,8 @@ constants_faultless table program none =
     (none_left _ _ (none_in_order (faults_of_program table program) none)))
 
 module _ (classes : List Class) (M : Made → Type 0) (steps : Steps classes M) where
-  value_holds : (scope : Scope) (name : Name) (of : Option TypeName) (v : ConstantValue) → faults_in_constant scope name of (value_part v) ≡ [] →
+  value_holds : (scope : Scope) (name : Name) (of : Option TypeName) (v : ConstantValue) → faults_in_constant scope name of
+      (value_part v) ≡ [] →
       Every (Contains classes) (constant_made scope v).classes → M (constant_made scope v)
   value_holds scope name of (stands.Expression x) e w =
       part_made classes M steps x true scope
@@ -81,8 +82,11 @@ module _ (classes : List Class) (Q : Operation → Type 0) (each : EachStep clas
     both = λ a b h k. every_joined Q a.operations b.operations h k;
     named = λ scope h known o tree e. (each.named scope h known o tree e, tt);
     without = λ scope h known m k. (each.first scope h known, k);
-    section = λ scope h known p tree e m n k l.
-        (each.first scope h known, every_joined Q m.operations (process_with scope h p n).operations k (each.process scope h known p tree e, l));
+    section = λ scope h known p tree e m n k l. (
+      each.first scope h known,
+      every_joined Q m.operations (process_with scope h p n).operations k
+          (each.process scope h known p tree e, l),
+    );
   }
 
 pub each_operation : (table : Table) (program : Program) (Q : Operation → Type 0) → StaticFaults table program ≡ [] →

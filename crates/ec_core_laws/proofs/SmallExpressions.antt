@@ -1,5 +1,6 @@
 -- An expression of the core is no larger than the expression that it is made of.
-use Rattle.std.proofs.Common.{◌≡◌, ℕ, ◌+◌, ◌≤◌, ◌&&◌, max, Bool, true, false, List, [], ◌∷◌, length, map, Option, Some, None, is_some, if◌then◌else◌, refl, sym, ap, ◌∙◌, subst, codes, arith}
+use Rattle.std.proofs.Common.{◌≡◌, ℕ, ◌+◌, ◌≤◌, ◌&&◌, max, Bool, true, false, List, [], ◌∷◌, length, map, Option, Some, None, is_some}
+use Rattle.std.proofs.Common.{if◌then◌else◌, refl, sym, ap, ◌∙◌, subst, codes, arith}
 use Rattle.std.proofs.lemmas.List.{length-map}
 use Rattle.ec_ast.specs.declared.Expression.TheOpen.{Expression-F}
 use Rattle.ec_ast.specs.declared.Name.{Name}
@@ -9,7 +10,8 @@ use Rattle.ec_check.specs.Layers.{expression_judged}
 use Rattle.ec_check.specs.Parts.{Part, Piece, StatementPart, LinkPart, call, index, FactorPart, AddendPart, AnExpression, Holder}
 use Rattle.ec_check.specs.Parts.{link_judged, factor_judged, addend_judged}
 use Rattle.ec_check.specs.Places.{Env, place_of, type_or}
-use Rattle.ec_check.specs.Resolving.{cores_of, builtin_of, called, link_core, links_core, chained, number_of_class, arguments_in, chain_core}
+use Rattle.ec_check.specs.Resolving.{cores_of, builtin_of, called, link_core, links_core, chained, number_of_class, arguments_in}
+use Rattle.ec_check.specs.Resolving.{chain_core}
 use Rattle.ec_check.specs.Resolving.{factor_core, addend_core, captures_of, number_of_holder, core_of_expression}
 use Rattle.ec_check.specs.Tree.{expression_step}
 use Rattle.ec_conform.specs.Types.{vector_of}
@@ -28,8 +30,10 @@ use Rattle.ec_core_laws.proofs.Small.{Small, none_small, leaf_small, more_small,
 use Rattle.ec_core_laws.proofs.Trees as trees
 use Rattle.ec_core_laws.specs.Measures.{all_of, all_behind, greatest_of, stacked_of, expression_size, link_size, factor_size, addend_size}
 use Rattle.ec_core_laws.specs.Measures.{expression_height, link_height, factor_height, addend_height}
-use Rattle.ec_core_laws.specs.Measures.{size_of, size_of_link, size_of_factor, size_of_addend, height_of, height_of_link, height_of_factor, height_of_addend}
-use Rattle.ec_rules.specs.Calls.{Receiver, Creation, Own, Typed, callee, is_creation, class_created, receiver_if, receiver, link_type, type_of_receiver, type_indexed}
+use Rattle.ec_core_laws.specs.Measures.{size_of, size_of_link, size_of_factor, size_of_addend, height_of, height_of_link}
+use Rattle.ec_core_laws.specs.Measures.{height_of_factor, height_of_addend}
+use Rattle.ec_rules.specs.Calls.{Receiver, Creation, Own, Typed, callee, is_creation, class_created, receiver_if, receiver, link_type}
+use Rattle.ec_rules.specs.Calls.{type_of_receiver, type_indexed}
 use Rattle.ec_rules.specs.Calls as calls
 use Rattle.ec_rules.specs.Forms.{Form, Literal, Negated, Constructor, Vector, Created, Itself, NameAlone, Other}
 use Rattle.ec_rules.specs.Heights.{stacked, links_height, postfix_height}

@@ -1,5 +1,6 @@
 -- The operations of an accepted program are within the limits of the static rules.
-use Rattle.std.proofs.Common.{◌≡◌, ℕ, ◌+◌, ◌≤◌, max, Bool, true, false, List, [], ◌∷◌, ◌++◌, length, map, Option, Some, None, option_map, refl, sym, ap, ◌∙◌, subst, All, ltb-false, arith}
+use Rattle.std.proofs.Common.{◌≡◌, ℕ, ◌+◌, ◌≤◌, max, Bool, true, false, List, [], ◌∷◌, ◌++◌, length, map, Option, Some, None, option_map}
+use Rattle.std.proofs.Common.{refl, sym, ap, ◌∙◌, subst, All, ltb-false, arith}
 use Rattle.std.proofs.lemmas.List.{length-append, length-map}
 use Rattle.ec_ast.specs.declared.Parameter.{Parameter}
 use Rattle.ec_ast.specs.declared.Program.{Program}
@@ -27,7 +28,8 @@ use Rattle.ec_core_laws.proofs.SmallStatements.{SmallDone, SmallStatement, Small
 use Rattle.ec_core_laws.proofs.Statements.{statement_is, block_is, statements_are}
 use Rattle.ec_core_laws.proofs.Trees as trees
 use Rattle.ec_core_laws.proofs.Trees.{IsPiece, IsBody}
-use Rattle.ec_core_laws.specs.Measures.{all_of, greatest_of, statement_size, arm_size, block_size, statement_height, arm_height, block_height}
+use Rattle.ec_core_laws.specs.Measures.{all_of, greatest_of, statement_size, arm_size, block_size, statement_height, arm_height}
+use Rattle.ec_core_laws.specs.Measures.{block_height}
 use Rattle.ec_core_laws.specs.Measures.{size_of_statement, size_of_block, height_of_statement, height_of_block, IsSmall}
 use Rattle.ec_rules.specs.Faults.{StaticFaults}
 use Rattle.ec_rules.specs.Judging.{member_finished, members_finished, finished_if, first_finished}
@@ -53,7 +55,8 @@ few_values at variables done e =
     ltb-false 100 (plus (plus variables done.variables) done.height) (none_breaks _ _ _ (none_left (many_variables at variables done) _ e))
 
 few_nodes : (at : Span) (variables : ℕ) (done : Done) → too_large at variables done ≡ [] → done.nodes ≤ 4000
-few_nodes at variables done e = ltb-false 4000 done.nodes (none_breaks _ _ _ (none_right (many_variables at variables done) (many_nodes at done) e))
+few_nodes at variables done e = ltb-false 4000 done.nodes (none_breaks _ _ _ (none_right (many_variables at variables done)
+    (many_nodes at done) e))
 
 -- a block within the limits, with so many variables outside it
 within : (at : Span) (outer : ℕ) (n s h l : ℕ) (done : Done) → SmallDone s h l done → too_large at outer done ≡ [] →
@@ -95,10 +98,12 @@ named_small scope h known o tree e =
     ≡ length (heading_types (scope_in scope h) o.parameters o.result) + length (o.block.locals inner) =
     length-append (heading_types (scope_in scope h) o.parameters o.result) (o.block.locals inner) in
     let w : (size_of_block (o.block.core env) ≤ 4000)
-    × ((length (heading_types (scope_in scope h) o.parameters o.result) + length (o.block.locals inner)) + height_of_block (o.block.core env) ≤ 100) =
+    × ((length (heading_types (scope_in scope h) o.parameters o.result) + length (o.block.locals inner)) + height_of_block
+    (o.block.core env) ≤ 100) =
     within o.name.at (variables_of (operation_judged o)) _ _ _ _ (o.block.piece inner).done d (operation_small scope h o e)
     (λ l. omega arith) in
-    let v : (length (heading_types (scope_in scope h) o.parameters o.result) + length (o.block.locals inner)) + height_of_block (o.block.core env)
+    let v : (length (heading_types (scope_in scope h) o.parameters o.result) + length (o.block.locals inner)) + height_of_block
+    (o.block.core env)
     ≤ 100 = w.1 in
     record { size = w.0; values = omega arith }
 
@@ -127,7 +132,8 @@ sizes_joined (x ∷ xs) ys =
     omega arith
 
 heights_joined : (xs ys : List Statement) →
-    greatest_of (map height_of_statement (xs ++ ys)) ≡ max (greatest_of (map height_of_statement xs)) (greatest_of (map height_of_statement ys))
+    greatest_of (map height_of_statement (xs ++ ys)) ≡ max (greatest_of (map height_of_statement xs)) (greatest_of
+    (map height_of_statement ys))
 heights_joined [] ys = omega arith
 heights_joined (x ∷ xs) ys =
     let e : greatest_of (map height_of_statement (xs ++ ys))
@@ -222,7 +228,8 @@ first_is_small scope h known =
     } in
     let w : (size_of_block (first_of scope h).block ≤ 4000)
     × ((0 + length (locals_of_block env.scope h.body.initially)) + height_of_block (first_of scope h).block ≤ 100) =
-    within h.name.at 0 0 _ _ _ (first_finished (scope_in scope h) (holder_judged h)).done d (first_small scope h known) (λ l. omega arith) in
+    within h.name.at 0 0 _ _ _ (first_finished (scope_in scope h) (holder_judged h)).done d (first_small scope h known)
+    (λ l. omega arith) in
     let v : (0 + length (locals_of_block env.scope h.body.initially)) + height_of_block (first_of scope h).block ≤ 100 = w.1 in
     record { size = w.0; values = omega arith }
 

@@ -1,5 +1,6 @@
 -- A statement or a block of the core is no larger than the one that it is made of, and has no more locals.
-use Rattle.std.proofs.Common.{◌≡◌, ℕ, ◌+◌, ◌≤◌, max, Bool, true, false, List, [], ◌∷◌, ◌++◌, length, map, Option, Some, None, option_map, refl, sym, ap, ◌∙◌, subst, arith}
+use Rattle.std.proofs.Common.{◌≡◌, ℕ, ◌+◌, ◌≤◌, max, Bool, true, false, List, [], ◌∷◌, ◌++◌, length, map, Option, Some, None, option_map}
+use Rattle.std.proofs.Common.{refl, sym, ap, ◌∙◌, subst, arith}
 use Rattle.std.proofs.lemmas.List.{length-append}
 use Rattle.ec_ast.specs.declared.Expression.TheOpen.{Statement-F}
 use Rattle.ec_base.specs.Stack.{top_of, below_of}
@@ -7,7 +8,8 @@ use Rattle.ec_check.proofs.Every.{Every, Where}
 use Rattle.ec_check.specs.Layers.{statement_judged}
 use Rattle.ec_check.specs.Parts.{Part, Piece, StatementPart, ArmPart, AStatement, ABlock, arm_judged}
 use Rattle.ec_check.specs.Places.{Env, condition_named}
-use Rattle.ec_check.specs.Resolving.{chained, element_set, element_set_if, assigned, in_scope, arms_core, locals_of_arms, locals_of_block, locals_of}
+use Rattle.ec_check.specs.Resolving.{chained, element_set, element_set_if, assigned, in_scope, arms_core, locals_of_arms, locals_of_block}
+use Rattle.ec_check.specs.Resolving.{locals_of}
 use Rattle.ec_check.specs.Resolving.{core_of_statement, behind, statements_core, locals_of_statements}
 use Rattle.ec_check.specs.Tree.{statement_step, block_step}
 use Rattle.ec_conform.specs.declared.static_type.StaticType.{StaticType}
@@ -31,9 +33,11 @@ use Rattle.ec_core_laws.proofs.Statements.{statement_is, arm_is, block_is}
 use Rattle.ec_core_laws.proofs.Trees as trees
 use Rattle.ec_core_laws.proofs.Trees.{IsPiece, IsBody}
 use Rattle.ec_core_laws.specs.Measures.{all_of, greatest_of, if_there, expression_size, link_size, factor_size, addend_size}
-use Rattle.ec_core_laws.specs.Measures.{expression_height, link_height, factor_height, addend_height, size_of_link, size_of_factor, size_of_addend}
+use Rattle.ec_core_laws.specs.Measures.{expression_height, link_height, factor_height, addend_height, size_of_link, size_of_factor}
+use Rattle.ec_core_laws.specs.Measures.{size_of_addend}
 use Rattle.ec_core_laws.specs.Measures.{height_of_link, height_of_factor, height_of_addend}
-use Rattle.ec_core_laws.specs.Measures.{size_of, height_of, statement_size, arm_size, block_size, statement_height, arm_height, block_height}
+use Rattle.ec_core_laws.specs.Measures.{size_of, height_of, statement_size, arm_size, block_size, statement_height, arm_height}
+use Rattle.ec_core_laws.specs.Measures.{block_height}
 use Rattle.ec_core_laws.specs.Measures.{size_of_statement, size_of_arm, size_of_block, height_of_statement, height_of_arm, height_of_block}
 use Rattle.ec_rules.specs.Forms.{Form, Literal, Negated, Constructor, Vector, Created, Itself, NameAlone, Other}
 use Rattle.ec_rules.specs.Judging.{statement_part, statement_finished, block_finished}
@@ -241,7 +245,8 @@ read_small place value head n m w v k =
     let is : assigned (out-Expression (e.Read place)) value ≡ s.Assign place value =
     ap (λ t. assigned t value) (ap out-Expression (sym (e.rolls-Read place)) ∙ out-roll-Expression (CoreExpression-F.Read place)) in
     subst (λ x. Small (size_of_statement x) (height_of_statement x) (plus 1 (plus n (plus m 0))) w) (sym is)
-    (measured (s.Assign place value) (Core-F.Assign place value) (s.rolls-Assign place value) _ _ (more (size_of value) (height_of value) n m w k))
+    (measured (s.Assign place value) (Core-F.Assign place value) (s.rolls-Assign place value) _ _ (more (size_of value)
+    (height_of value) n m w k))
   where
     more : (s h n m w : ℕ) → Small s h m w → Small (1 + s) h (plus 1 (plus n (plus m 0))) w
     more s h n m w k = record {
@@ -498,17 +503,22 @@ layer_small : (x : AStatement) → trees.StatementHas SmallPart SmallStatement S
     (length (locals_of x env.scope)) (layer_done x env)
 layer_small (Statement-F.LocalVariable name of None) h env =
     record {
-      small = same_small (sized (s.Declare env.count None) (Core-F.Declare env.count None) (s.rolls-Declare env.count None)) (high (s.Declare env.count None) (Core-F.Declare env.count None) (s.rolls-Declare env.count None)) leaf_total;
+      small = same_small (sized (s.Declare env.count None) (Core-F.Declare env.count None) (s.rolls-Declare env.count None)) (high
+          (s.Declare env.count None) (Core-F.Declare env.count None) (s.rolls-Declare env.count None)) leaf_total;
       locals = λ l. omega arith;
     }
 layer_small (Statement-F.LocalVariable name of (Some x)) h env =
     declared_done (s.Declare env.count (Some (x.core env))) x env h.1
-    (sized (s.Declare env.count (Some (x.core env))) (Core-F.Declare env.count (Some (x.core env))) (s.rolls-Declare env.count (Some (x.core env))))
-    (high (s.Declare env.count (Some (x.core env))) (Core-F.Declare env.count (Some (x.core env))) (s.rolls-Declare env.count (Some (x.core env))))
+    (sized (s.Declare env.count (Some (x.core env))) (Core-F.Declare env.count (Some (x.core env))) (s.rolls-Declare env.count (Some
+    (x.core env))))
+    (high (s.Declare env.count (Some (x.core env))) (Core-F.Declare env.count (Some (x.core env))) (s.rolls-Declare env.count (Some
+    (x.core env))))
 layer_small (Statement-F.LocalConstant name of x) h env =
     declared_done (s.Declare env.count (Some (x.core env))) x env h.1
-    (sized (s.Declare env.count (Some (x.core env))) (Core-F.Declare env.count (Some (x.core env))) (s.rolls-Declare env.count (Some (x.core env))))
-    (high (s.Declare env.count (Some (x.core env))) (Core-F.Declare env.count (Some (x.core env))) (s.rolls-Declare env.count (Some (x.core env))))
+    (sized (s.Declare env.count (Some (x.core env))) (Core-F.Declare env.count (Some (x.core env))) (s.rolls-Declare env.count (Some
+    (x.core env))))
+    (high (s.Declare env.count (Some (x.core env))) (Core-F.Declare env.count (Some (x.core env))) (s.rolls-Declare env.count (Some
+    (x.core env))))
 layer_small (Statement-F.Assign x y) h env =
     record { small = assigned_small env x y h.0.1 h.1.1 x.part.form refl; locals = λ l. omega arith }
 layer_small (Statement-F.Invoke x) h env =
@@ -547,12 +557,14 @@ layer_small (Statement-F.Exit None at) h env =
     leaf_done (s.Exit None) (sized (s.Exit None) (Core-F.Exit None) (s.rolls-Exit None))
     (high (s.Exit None) (Core-F.Exit None) (s.rolls-Exit None)) 0
 layer_small (Statement-F.Exit (Some x) at) h env =
-    one_done (s.Exit (Some (x.core env))) x true env h.1 (sized (s.Exit (Some (x.core env))) (Core-F.Exit (Some (x.core env))) (s.rolls-Exit (Some (x.core env))))
+    one_done (s.Exit (Some (x.core env))) x true env h.1 (sized (s.Exit (Some (x.core env))) (Core-F.Exit (Some (x.core env)))
+    (s.rolls-Exit (Some (x.core env))))
     (high (s.Exit (Some (x.core env))) (Core-F.Exit (Some (x.core env))) (s.rolls-Exit (Some (x.core env))))
 layer_small (Statement-F.Return at) h env =
     leaf_done s.Return (sized s.Return Core-F.Return s.rolls-Return) (high s.Return Core-F.Return s.rolls-Return) 0
 layer_small (Statement-F.Assert x at) h env =
-    one_done (s.Assert (x.core env) at.from) x true env h.1 (sized (s.Assert (x.core env) at.from) (Core-F.Assert (x.core env) at.from) (s.rolls-Assert (x.core env) at.from))
+    one_done (s.Assert (x.core env) at.from) x true env h.1 (sized (s.Assert (x.core env) at.from) (Core-F.Assert (x.core env) at.from)
+    (s.rolls-Assert (x.core env) at.from))
     (high (s.Assert (x.core env) at.from) (Core-F.Assert (x.core env) at.from) (s.rolls-Assert (x.core env) at.from))
 layer_small (Statement-F.Move x y at) h env =
     pair_done (s.Move (x.core env) (y.core env) at.from) x y env h.0.1 h.1.1
@@ -573,16 +585,21 @@ layer_small (Statement-F.Refix x y at) h env =
     (high (s.Refix (x.core env) (y.core env) at.from) (Core-F.Refix (x.core env) (y.core env) at.from)
     (s.rolls-Refix (x.core env) (y.core env) at.from))
 layer_small (Statement-F.Unfix x at) h env =
-    one_done (s.Unfix (x.core env) at.from) x true env h.1 (sized (s.Unfix (x.core env) at.from) (Core-F.Unfix (x.core env) at.from) (s.rolls-Unfix (x.core env) at.from))
+    one_done (s.Unfix (x.core env) at.from) x true env h.1 (sized (s.Unfix (x.core env) at.from) (Core-F.Unfix (x.core env) at.from)
+    (s.rolls-Unfix (x.core env) at.from))
     (high (s.Unfix (x.core env) at.from) (Core-F.Unfix (x.core env) at.from) (s.rolls-Unfix (x.core env) at.from))
 layer_small (Statement-F.Wait name at) h env =
     leaf_done (s.Wait (condition_named env name.text))
-    (sized (s.Wait (condition_named env name.text)) (Core-F.Wait (condition_named env name.text)) (s.rolls-Wait (condition_named env name.text)))
-    (high (s.Wait (condition_named env name.text)) (Core-F.Wait (condition_named env name.text)) (s.rolls-Wait (condition_named env name.text))) 0
+    (sized (s.Wait (condition_named env name.text)) (Core-F.Wait (condition_named env name.text)) (s.rolls-Wait
+    (condition_named env name.text)))
+    (high (s.Wait (condition_named env name.text)) (Core-F.Wait (condition_named env name.text)) (s.rolls-Wait
+    (condition_named env name.text))) 0
 layer_small (Statement-F.Signal name at) h env =
     leaf_done (s.Signal (condition_named env name.text))
-    (sized (s.Signal (condition_named env name.text)) (Core-F.Signal (condition_named env name.text)) (s.rolls-Signal (condition_named env name.text)))
-    (high (s.Signal (condition_named env name.text)) (Core-F.Signal (condition_named env name.text)) (s.rolls-Signal (condition_named env name.text))) 0
+    (sized (s.Signal (condition_named env name.text)) (Core-F.Signal (condition_named env name.text)) (s.rolls-Signal
+    (condition_named env name.text)))
+    (high (s.Signal (condition_named env name.text)) (Core-F.Signal (condition_named env name.text)) (s.rolls-Signal
+    (condition_named env name.text))) 0
 
 pub statement_has : (x : AStatement) → trees.StatementHas SmallPart SmallStatement SmallPiece x → SmallStatement (statement_step x)
 unfolding statement_step statement_part

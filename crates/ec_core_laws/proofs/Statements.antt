@@ -51,7 +51,8 @@ module _ (Q : Statement → Type 0)
   element_becomes vector (CoreLink-F.Invoke name arguments of at) v = dropped v
   element_becomes vector (CoreLink-F.Call builtin arguments at) v = dropped v
 
-  element_if_becomes : (head : Expression) (before : List Link) (last : Option Link) (v : Expression) → Q (element_set_if head before last v)
+  element_if_becomes : (head : Expression) (before : List Link) (last : Option Link) (v : Expression) → Q
+      (element_set_if head before last v)
   element_if_becomes head before None v = dropped v
   element_if_becomes head before (Some last) v = element_becomes (chained head before) (out-Link last) v
 

@@ -1,19 +1,23 @@
 -- The operations of an accepted program wait and signal as they may.
-use Rattle.std.proofs.Common.{◌≡◌, ℕ, ◌<◌, ◌≤◌, not, Bool, true, false, List, [], ◌∷◌, ◌++◌, length, map, Option, Some, None, option_map, refl, sym, ap, ◌∙◌, subst, All, append_assoc, arith}
+use Rattle.std.proofs.Common.{◌≡◌, ℕ, ◌<◌, ◌≤◌, not, Bool, true, false, List, [], ◌∷◌, ◌++◌, length, map, Option, Some, None, option_map}
+use Rattle.std.proofs.Common.{refl, sym, ap, ◌∙◌, subst, All, append_assoc, arith}
 use Rattle.ec_ast.specs.declared.Expression.TheOpen.{Statement-F}
 use Rattle.ec_ast.specs.declared.Name.{Name}
 use Rattle.ec_ast.specs.declared.Program.{Program}
-use Rattle.ec_check.proofs.Every.{Every, Where, every_joined, every_left, every_right, every_weaker, all_of, none_left, none_right, not_both, first_holds, second_holds}
+use Rattle.ec_check.proofs.Every.{Every, Where, every_joined, every_left, every_right, every_weaker, all_of, none_left, none_right}
+use Rattle.ec_check.proofs.Every.{not_both, first_holds, second_holds}
 use Rattle.ec_check.proofs.FoundPlaces.{named_below, some_names}
 use Rattle.ec_check.proofs.KnownTypes.{test_holds}
 use Rattle.ec_check.proofs.RangedParts.{any_of}
 use Rattle.ec_check.specs.Layers.{statement_judged}
-use Rattle.ec_check.specs.Parts.{Part, Piece, StatementPart, ArmPart, MemberPart, variable, constant, condition, operation, OperationPart, ProcessPart, Holder}
+use Rattle.ec_check.specs.Parts.{Part, Piece, StatementPart, ArmPart, MemberPart, variable, constant, condition, operation, OperationPart}
+use Rattle.ec_check.specs.Parts.{ProcessPart, Holder}
 use Rattle.ec_check.specs.Parts.{AnExpression, AStatement, ABlock, arm_judged}
 use Rattle.ec_check.specs.Places.{Env, condition_named, conditions_of, field_named, number_named}
 use Rattle.ec_check.specs.Program.{core_of}
 use Rattle.ec_check.specs.Resolving.{assigned, further, in_scope, arms_core, locals_of_arms, core_of_statement, behind, statements_core}
-use Rattle.ec_check.specs.Resolving.{at_start, env_in, env_of_body, env_of_operation, heading_entries, field_stored, initially_core, class_core}
+use Rattle.ec_check.specs.Resolving.{at_start, env_in, env_of_body, env_of_operation, heading_entries, field_stored, initially_core}
+use Rattle.ec_check.specs.Resolving.{class_core}
 use Rattle.ec_check.specs.Tree.{expression_step, statement_step, block_step}
 use Rattle.ec_conform.specs.Table.{Table}
 use Rattle.ec_core.specs.declared.Arm.{Arm}
@@ -34,7 +38,8 @@ use Rattle.ec_core_laws.proofs.Programs.{each_operation}
 use Rattle.ec_core_laws.proofs.Statements.{statement_is, arm_is, block_is, statements_are, becomes}
 use Rattle.ec_core_laws.proofs.Trees as trees
 use Rattle.ec_core_laws.proofs.Trees.{IsPiece}
-use Rattle.ec_core_laws.specs.Waiting.{all_of as all_conditions, statement_conditions, arm_conditions, block_conditions, IsNoProcess, MayUse, UsesItsConditions}
+use Rattle.ec_core_laws.specs.Waiting.{all_of as all_conditions, statement_conditions, arm_conditions, block_conditions, IsNoProcess}
+use Rattle.ec_core_laws.specs.Waiting.{MayUse, UsesItsConditions}
 use Rattle.ec_core_laws.specs.Waiting.{conditions_of_statement, conditions_of_arm, conditions_of_block}
 use Rattle.ec_rules.specs.Assignments.{assignment_in_statement}
 use Rattle.ec_rules.specs.Conditions.{condition_in_statement}
@@ -179,7 +184,8 @@ arms_use env (a ∷ arms) h e =
     (arms_use (further (length (a.block.locals env.scope)) env) arms h.1 (none_right _ _ e))
 
 choice_uses : (env : Env) (arms : List ArmPart) (other : Option Piece) (own : List StaticFault) → Every ArmHas arms → Where PieceHas other →
-    each (piece_faults env.scope) (map piece_of_arm (map arm_judged arms) ++ pieces_of_block (option_map (λ b. b.piece) other)) ++ own ≡ [] →
+    each (piece_faults env.scope) (map piece_of_arm (map arm_judged arms) ++ pieces_of_block (option_map (λ b. b.piece) other)) ++ own
+    ≡ [] →
     AreUsable env.scope
     (conditions_of_statement
     (s.If (arms_core env arms) (option_map (λ b. b.core (further (length (locals_of_arms env.scope arms)) env)) other)))
@@ -211,7 +217,8 @@ layer_uses (Statement-F.LocalConstant name of x) h env e =
     (s.rolls-Declare env.count (Some (x.core env))) tt
 layer_uses (Statement-F.Assign x y) h env e = assigned_uses env.scope (x.core env) (y.core env)
 layer_uses (Statement-F.Invoke x) h env e = has env.scope (s.Drop (x.core env)) (Core-F.Drop (x.core env)) (s.rolls-Drop (x.core env)) tt
-layer_uses (Statement-F.Print x at) h env e = has env.scope (s.Print (x.core env)) (Core-F.Print (x.core env)) (s.rolls-Print (x.core env)) tt
+layer_uses (Statement-F.Print x at) h env e = has env.scope (s.Print (x.core env)) (Core-F.Print (x.core env)) (s.rolls-Print
+    (x.core env)) tt
 layer_uses (Statement-F.If arms other at) h env e = choice_uses env arms other _ h.0 h.1 e
 layer_uses (Statement-F.Loop b at) h env e =
     has env.scope (s.Loop (b.core (in_scope (in_a_loop env.scope) env))) (Core-F.Loop (b.core (in_scope (in_a_loop env.scope) env)))
@@ -268,7 +275,8 @@ block_has : (b : ABlock) → Every StatementUses b.statements → PieceUses (blo
 unfolding block_step
 block_has b h env e =
     subst (AreUsable env.scope)
-    (sym (block_is (List ℕ) statement_conditions arm_conditions block_conditions (record { statements = statements_core b.statements env })))
+    (sym (block_is (List ℕ) statement_conditions arm_conditions block_conditions
+    (record { statements = statements_core b.statements env })))
     (statements_use b.statements h env e)
 
 piece_uses : (b : Piece) → IsPiece b → PieceUses b
