@@ -1,0 +1,16 @@
+pub mod Beginnings
+pub mod Bodies
+pub mod Exits
+pub mod Expressions
+pub mod Headings
+pub mod Known
+pub mod Literals
+pub mod Operations
+pub mod Programs
+pub mod Small
+pub mod SmallExpressions
+pub mod SmallOperations
+pub mod SmallStatements
+pub mod Statements
+pub mod Trees
+pub mod Waiting
