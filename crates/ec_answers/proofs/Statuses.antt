@@ -3,7 +3,7 @@ use Rattle.std.proofs.Common.{◌≡◌, ℕ, Bool, true, false, List, length, r
 use Rattle.ec_answers.specs.Asked.{ComesTo}
 use Rattle.ec_answers.specs.Promises.{IsRunStatus, IsPlainStatus, EndsWith, IsRun}
 use Rattle.ec_answers.specs.Promises.IsRunStatus.{Finishes, Fails, Spends, Fills, Sticks}
-use Rattle.ec_answers.specs.Promises.IsPlainStatus as plainly
+use Rattle.ec_answers.specs.Promises.{IsPlainStatus as plainly}
 use Rattle.ec_inputs.specs.Words.{CommandWords}
 use Rattle.ec_inputs.specs.Words.{CommandWords as command}
 use Rattle.ec_meaning.specs.Programs.{Source as Meant}
