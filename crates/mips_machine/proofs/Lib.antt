@@ -1,0 +1,5 @@
+pub mod Answered
+pub mod Comes
+pub mod Divisions
+pub mod Products
+pub mod Sums

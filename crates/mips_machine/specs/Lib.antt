@@ -1,0 +1,6 @@
+pub mod Hazards
+pub mod Laws
+pub mod Machine
+pub mod MachineLaws
+pub mod Step
+pub mod Values

@@ -1,0 +1,8 @@
+//! A MIPS machine: its registers, what each instruction does to them and to a memory, and where it leads.
+#![tactic(auto)]
+
+mod access;
+pub mod arithmetic;
+mod execute;
+pub mod flow;
+pub mod machine;
