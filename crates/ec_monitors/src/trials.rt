@@ -25,29 +25,19 @@ enum Answer {
     Refused,
 }
 
-/// An act of a process, after others.
-#[derive(Clone, Copy)]
-struct Row {
-    before: &'static [(u32, Act)],
-    process: u32,
-    act: Act,
-    answer: Answer,
-    after: &'static str,
+fn digit(b: u8) -> u32 {
+    b.wrapping_sub(b'0') as u32
 }
 
-fn trial(
-    before: &'static [(u32, Act)],
-    process: u32,
-    act: Act,
-    answer: Answer,
-    after: &'static str,
-) -> Row {
-    Row {
-        before,
-        process,
-        act,
-        answer,
-        after,
+/// A process and its act: `1e` for enter, `1l` for leave, `1d` for drop all, `1w0` and `1s0` for wait and signal.
+fn act_of(word: &[u8]) -> Option<(u32, Act)> {
+    match word {
+        [p, b'e'] => Some((digit(*p), Enter)),
+        [p, b'l'] => Some((digit(*p), Leave)),
+        [p, b'd'] => Some((digit(*p), DropAll)),
+        [p, b'w', c] => Some((digit(*p), Wait(digit(*c) as usize))),
+        [p, b's', c] => Some((digit(*p), Signal(digit(*c) as usize))),
+        _ => None,
     }
 }
 
@@ -133,203 +123,91 @@ fn text_after_travel(alloc: Global, monitor: &Monitor) -> Result<String, AllocEr
     text_of(alloc, &arrived)
 }
 
+/// The answer of the last of these acts, where there is one.
+fn play(monitor: &mut Monitor, words: &str) -> Result<Option<Answer>, AllocError> {
+    let mut last = None;
+    for word in words.as_bytes().split(|b| *b == b' ') {
+        if let Some((p, act)) = act_of(word) {
+            last = Some(acts(monitor, p, act)?);
+        }
+    }
+    Ok(last)
+}
+
+/// What an act answers after others, and the monitor then, as it is and as it arrives.
+fn trial(
+    alloc: Global,
+    before: &str,
+    act: &str,
+) -> Result<(Option<Answer>, String, String), AllocError> {
+    let mut monitor = Monitor::new(alloc, 2)?;
+    play(&mut monitor, before)?;
+    let answer = play(&mut monitor, act)?;
+    let text = text_of(alloc, &monitor)?;
+    let arrived = text_after_travel(alloc, &monitor)?;
+    Ok((answer, text, arrived))
+}
+
 #[test]
 fn each_act_in_each_of_its_states(rt: HostRuntime) -> Result<(), Fail> {
     let rows = [
-        trial(&[], 1, Enter, Entered, "1*1"),
-        trial(&[(1, Enter)], 1, Enter, Entered, "1*2"),
-        trial(&[(1, Enter)], 2, Enter, Queued, "1*1 entry 2"),
-        trial(&[(1, Enter), (2, Enter)], 3, Enter, Queued, "1*1 entry 2 3"),
-        trial(&[(1, Enter), (2, Enter)], 2, Enter, Refused, "1*1 entry 2"),
-        trial(&[(1, Enter), (2, Enter)], 2, Leave, Refused, "1*1 entry 2"),
-        trial(&[(1, Enter), (1, Enter)], 1, Leave, Nobody, "1*1"),
-        trial(&[(1, Enter)], 1, Leave, Nobody, "free"),
-        trial(
-            &[(1, Enter), (2, Enter), (3, Enter)],
-            1,
-            Leave,
-            Grants(2),
-            "2*1 entry 3",
-        ),
-        trial(
-            &[
-                (1, Enter),
-                (1, Wait(0)),
-                (2, Enter),
-                (2, Enter),
-                (2, Signal(0)),
-                (3, Enter),
-            ],
-            1,
-            Leave,
-            Grants(2),
-            "2*2 entry 3",
-        ),
-        trial(
-            &[
-                (1, Enter),
-                (1, Wait(0)),
-                (2, Enter),
-                (2, Wait(1)),
-                (3, Enter),
-                (3, Signal(0)),
-                (1, Signal(1)),
-            ],
-            2,
-            Leave,
+        ("", "1e", Entered, "1*1"),
+        ("1e", "1e", Entered, "1*2"),
+        ("1e", "2e", Queued, "1*1 entry 2"),
+        ("1e 2e", "3e", Queued, "1*1 entry 2 3"),
+        ("1e 2e", "2e", Refused, "1*1 entry 2"),
+        ("1e 2e", "2l", Refused, "1*1 entry 2"),
+        ("1e 1e", "1l", Nobody, "1*1"),
+        ("1e", "1l", Nobody, "free"),
+        ("1e 2e 3e", "1l", Grants(2), "2*1 entry 3"),
+        ("1e 1w0 2e 2e 2s0 3e", "1l", Grants(2), "2*2 entry 3"),
+        (
+            "1e 1w0 2e 2w1 3e 3s0 1s1",
+            "2l",
             Grants(1),
             "1*1 urgent 3*1",
         ),
-        trial(
-            &[(1, Enter), (2, Enter)],
-            2,
-            Wait(0),
-            Refused,
-            "1*1 entry 2",
-        ),
-        trial(
-            &[(1, Enter), (1, Enter)],
-            1,
-            Wait(0),
-            Nobody,
-            "free first 1*2",
-        ),
-        trial(
-            &[(1, Enter), (2, Enter)],
-            1,
-            Wait(1),
-            Grants(2),
-            "2*1 second 1*1",
-        ),
-        trial(
-            &[(1, Enter), (1, Wait(0)), (2, Enter)],
-            2,
-            Wait(0),
-            Nobody,
-            "free first 1*1 2*1",
-        ),
-        trial(
-            &[
-                (1, Enter),
-                (1, Wait(0)),
-                (2, Enter),
-                (2, Signal(0)),
-                (3, Enter),
-            ],
-            1,
-            Wait(0),
+        ("1e 2e", "2w0", Refused, "1*1 entry 2"),
+        ("1e 1e", "1w0", Nobody, "free first 1*2"),
+        ("1e 2e", "1w1", Grants(2), "2*1 second 1*1"),
+        ("1e 1w0 2e", "2w0", Nobody, "free first 1*1 2*1"),
+        (
+            "1e 1w0 2e 2s0 3e",
+            "1w0",
             Grants(2),
             "2*1 entry 3 first 1*1",
         ),
-        trial(
-            &[(1, Enter), (2, Enter)],
-            2,
-            Signal(0),
-            Refused,
-            "1*1 entry 2",
-        ),
-        trial(
-            &[(1, Enter), (2, Enter)],
-            1,
-            Signal(0),
-            Nobody,
-            "1*1 entry 2",
-        ),
-        trial(
-            &[(1, Enter), (1, Wait(1)), (2, Enter)],
-            2,
-            Signal(0),
-            Nobody,
-            "2*1 second 1*1",
-        ),
-        trial(
-            &[
-                (1, Enter),
-                (1, Enter),
-                (1, Wait(0)),
-                (2, Enter),
-                (2, Enter),
-                (3, Enter),
-            ],
-            2,
-            Signal(0),
+        ("1e 2e", "2s0", Refused, "1*1 entry 2"),
+        ("1e 2e", "1s0", Nobody, "1*1 entry 2"),
+        ("1e 1w1 2e", "2s0", Nobody, "2*1 second 1*1"),
+        (
+            "1e 1e 1w0 2e 2e 3e",
+            "2s0",
             Grants(1),
             "1*2 entry 3 urgent 2*2",
         ),
-        trial(
-            &[
-                (1, Enter),
-                (1, Wait(0)),
-                (2, Enter),
-                (2, Wait(0)),
-                (3, Enter),
-            ],
-            3,
-            Signal(0),
+        (
+            "1e 1w0 2e 2w0 3e",
+            "3s0",
             Grants(1),
             "1*1 urgent 3*1 first 2*1",
         ),
-        trial(
-            &[
-                (1, Enter),
-                (1, Wait(0)),
-                (2, Enter),
-                (2, Wait(1)),
-                (3, Enter),
-                (3, Signal(0)),
-            ],
-            1,
-            Signal(1),
+        (
+            "1e 1w0 2e 2w1 3e 3s0",
+            "1s1",
             Grants(2),
             "2*1 urgent 3*1 1*1",
         ),
-        trial(
-            &[(1, Enter), (2, Enter)],
-            2,
-            DropAll,
-            Refused,
-            "1*1 entry 2",
-        ),
-        trial(&[(1, Enter), (1, Enter)], 1, DropAll, Nobody, "free"),
-        trial(
-            &[(1, Enter), (1, Enter), (2, Enter)],
-            1,
-            DropAll,
-            Grants(2),
-            "2*1",
-        ),
-        trial(
-            &[
-                (1, Enter),
-                (1, Wait(0)),
-                (2, Enter),
-                (2, Signal(0)),
-                (3, Enter),
-                (1, Enter),
-            ],
-            1,
-            DropAll,
-            Grants(2),
-            "2*1 entry 3",
-        ),
+        ("1e 2e", "2d", Refused, "1*1 entry 2"),
+        ("1e 1e", "1d", Nobody, "free"),
+        ("1e 1e 2e", "1d", Grants(2), "2*1"),
+        ("1e 1w0 2e 2s0 3e 1e", "1d", Grants(2), "2*1 entry 3"),
     ];
-    for row in rows {
-        let mut monitor = Monitor::new(rt.alloc(), 2)?;
-        for (p, act) in row.before {
-            let answer = acts(&mut monitor, *p, *act)?;
-            assert!(rt;
-                answer != Refused,
-                "before {:?} of {}",
-                row.act,
-                row.process
-            );
-        }
-        let answer = acts(&mut monitor, row.process, row.act)?;
-        let text = text_of(rt.alloc(), &monitor)?;
-        let arrived = text_after_travel(rt.alloc(), &monitor)?;
-        assert_eq!(rt; answer, row.answer, "to {}", row.after);
-        assert_eq!(rt; text.as_str(), row.after);
-        assert_eq!(rt; arrived.as_str(), row.after);
+    for (before, act, wanted, after) in rows {
+        let (answer, text, arrived) = trial(rt.alloc(), before, act)?;
+        assert_eq!(rt; answer, Some(wanted), "{act} after {before}");
+        assert_eq!(rt; text.as_str(), after, "{act} after {before}");
+        assert_eq!(rt; arrived.as_str(), after, "{act} after {before}");
     }
     Ok(())
 }
@@ -346,44 +224,48 @@ fn turns(monitor: &mut Monitor, p: u32, plan: &[Act], next: &mut usize) -> Resul
     Ok(())
 }
 
-/// Process 1 enters, waits and leaves; process 2 enters, signals and leaves.
+/// Process 1 enters, waits and leaves; process 2 enters, signals and leaves. The monitor at the end of their turns.
+fn end_of(alloc: Global, order: &str) -> Result<String, AllocError> {
+    let mut monitor = Monitor::new(alloc, 1)?;
+    let mut first = 0;
+    let mut second = 0;
+    for who in order.as_bytes() {
+        if *who == b'1' {
+            turns(&mut monitor, 1, &[Enter, Wait(0), Leave], &mut first)?;
+        } else {
+            turns(&mut monitor, 2, &[Enter, Signal(0), Leave], &mut second)?;
+        }
+    }
+    text_of(alloc, &monitor)
+}
+
 #[test]
 fn two_processes_in_every_order(rt: HostRuntime) -> Result<(), Fail> {
     let ends = [
-        (b"111222", "1*1 urgent 2*1"),
-        (b"112122", "1*1 urgent 2*1"),
-        (b"112212", "free"),
-        (b"112221", "2*1"),
-        (b"121122", "1*1 urgent 2*1"),
-        (b"121212", "free"),
-        (b"121221", "2*1"),
-        (b"122112", "1*1 urgent 2*1"),
-        (b"122121", "2*1"),
-        (b"122211", "2*1 first 1*1"),
-        (b"211122", "1*1"),
-        (b"211212", "1*1"),
-        (b"211221", "free first 1*1"),
-        (b"212112", "1*1"),
-        (b"212121", "free first 1*1"),
-        (b"212211", "free first 1*1"),
-        (b"221112", "1*1"),
-        (b"221121", "free first 1*1"),
-        (b"221211", "free first 1*1"),
-        (b"222111", "free first 1*1"),
+        ("111222", "1*1 urgent 2*1"),
+        ("112122", "1*1 urgent 2*1"),
+        ("112212", "free"),
+        ("112221", "2*1"),
+        ("121122", "1*1 urgent 2*1"),
+        ("121212", "free"),
+        ("121221", "2*1"),
+        ("122112", "1*1 urgent 2*1"),
+        ("122121", "2*1"),
+        ("122211", "2*1 first 1*1"),
+        ("211122", "1*1"),
+        ("211212", "1*1"),
+        ("211221", "free first 1*1"),
+        ("212112", "1*1"),
+        ("212121", "free first 1*1"),
+        ("212211", "free first 1*1"),
+        ("221112", "1*1"),
+        ("221121", "free first 1*1"),
+        ("221211", "free first 1*1"),
+        ("222111", "free first 1*1"),
     ];
     for (order, end) in ends {
-        let mut monitor = Monitor::new(rt.alloc(), 1)?;
-        let mut first = 0;
-        let mut second = 0;
-        for who in order {
-            if *who == b'1' {
-                turns(&mut monitor, 1, &[Enter, Wait(0), Leave], &mut first)?;
-            } else {
-                turns(&mut monitor, 2, &[Enter, Signal(0), Leave], &mut second)?;
-            }
-        }
-        let text = text_of(rt.alloc(), &monitor)?;
-        assert_eq!(rt; text.as_str(), end);
+        let text = end_of(rt.alloc(), order)?;
+        assert_eq!(rt; text.as_str(), end, "{order}");
     }
     Ok(())
 }
