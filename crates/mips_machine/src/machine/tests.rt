@@ -252,172 +252,172 @@ const FIRST_BYTES: [(u32, u32, u32, Option<Cause>); 26] = [
 
 /// Four words with $9 = 2^31 - 1, $10 = 1, $12 = -2^31, $13 = -1 and $29 = 0x10000000, how many are done, and the trap behind them, if
 /// any.
-const PROGRAMS: [([u32; 4], u32, Option<Cause>); 28] = [
+const PROGRAMS: [((u32, u32, u32, u32), u32, Option<Cause>); 28] = [
     // lw $8, 4($29); addu $9, $8, $8
     (
-        [0x8FA8_0004, 0x0108_4821, 0x0000_0000, 0x0000_0000],
+        (0x8FA8_0004, 0x0108_4821, 0x0000_0000, 0x0000_0000),
         1,
         Some(Cause::LoadDelay),
     ),
     // lw $8, 4($29); ori $8, $0, 1
     (
-        [0x8FA8_0004, 0x3408_0001, 0x0000_0000, 0x0000_0000],
+        (0x8FA8_0004, 0x3408_0001, 0x0000_0000, 0x0000_0000),
         1,
         Some(Cause::LoadDelay),
     ),
     // lw $8, 4($29); nop; addu $9, $8, $8
     (
-        [0x8FA8_0004, 0x0000_0000, 0x0108_4821, 0x0000_0000],
+        (0x8FA8_0004, 0x0000_0000, 0x0108_4821, 0x0000_0000),
         4,
         None,
     ),
     // lw $0, 4($29); addu $9, $0, $0
     (
-        [0x8FA0_0004, 0x0000_4821, 0x0000_0000, 0x0000_0000],
+        (0x8FA0_0004, 0x0000_4821, 0x0000_0000, 0x0000_0000),
         4,
         None,
     ),
     // lw $31, 4($29); jal
     (
-        [0x8FBF_0004, 0x0C10_0004, 0x0000_0000, 0x0000_0000],
+        (0x8FBF_0004, 0x0C10_0004, 0x0000_0000, 0x0000_0000),
         1,
         Some(Cause::LoadDelay),
     ),
     // beq $0, $0, .+12; j 0
     (
-        [0x1000_0002, 0x0800_0000, 0x0000_0000, 0x0000_0000],
+        (0x1000_0002, 0x0800_0000, 0x0000_0000, 0x0000_0000),
         1,
         Some(Cause::Slot),
     ),
     // bgtz $0, .+12, which isn't taken; syscall
     (
-        [0x1C00_0002, 0x0000_000C, 0x0000_0000, 0x0000_0000],
+        (0x1C00_0002, 0x0000_000C, 0x0000_0000, 0x0000_0000),
         1,
         Some(Cause::Slot),
     ),
     // mflo $11; mult $9, $10
     (
-        [0x0000_5812, 0x012A_0018, 0x0000_0000, 0x0000_0000],
+        (0x0000_5812, 0x012A_0018, 0x0000_0000, 0x0000_0000),
         1,
         Some(Cause::HiLo),
     ),
     // mfhi $11; nop; div $9, $10
     (
-        [0x0000_5810, 0x0000_0000, 0x012A_001A, 0x0000_0000],
+        (0x0000_5810, 0x0000_0000, 0x012A_001A, 0x0000_0000),
         2,
         Some(Cause::HiLo),
     ),
     // mflo $11; nop; mtlo $9
     (
-        [0x0000_5812, 0x0000_0000, 0x0120_0013, 0x0000_0000],
+        (0x0000_5812, 0x0000_0000, 0x0120_0013, 0x0000_0000),
         2,
         Some(Cause::HiLo),
     ),
     // mflo $11; nop; nop; mthi $9
     (
-        [0x0000_5812, 0x0000_0000, 0x0000_0000, 0x0120_0011],
+        (0x0000_5812, 0x0000_0000, 0x0000_0000, 0x0120_0011),
         4,
         None,
     ),
     // mflo $11; lw $8, 4($29); mult $8, $9
     (
-        [0x0000_5812, 0x8FA8_0004, 0x0109_0018, 0x0000_0000],
+        (0x0000_5812, 0x8FA8_0004, 0x0109_0018, 0x0000_0000),
         2,
         Some(Cause::LoadDelay),
     ),
     // mflo $11; div $9, $0
     (
-        [0x0000_5812, 0x0120_001A, 0x0000_0000, 0x0000_0000],
+        (0x0000_5812, 0x0120_001A, 0x0000_0000, 0x0000_0000),
         1,
         Some(Cause::HiLo),
     ),
     // div $9, $0
     (
-        [0x0120_001A, 0x0000_0000, 0x0000_0000, 0x0000_0000],
+        (0x0120_001A, 0x0000_0000, 0x0000_0000, 0x0000_0000),
         0,
         Some(Cause::Divide),
     ),
     // divu $9, $0
     (
-        [0x0120_001B, 0x0000_0000, 0x0000_0000, 0x0000_0000],
+        (0x0120_001B, 0x0000_0000, 0x0000_0000, 0x0000_0000),
         0,
         Some(Cause::Divide),
     ),
     // div $12, $13, which are -2^31 and -1
     (
-        [0x018D_001A, 0x0000_0000, 0x0000_0000, 0x0000_0000],
+        (0x018D_001A, 0x0000_0000, 0x0000_0000, 0x0000_0000),
         0,
         Some(Cause::Divide),
     ),
     // divu $12, $13
     (
-        [0x018D_001B, 0x0000_0000, 0x0000_0000, 0x0000_0000],
+        (0x018D_001B, 0x0000_0000, 0x0000_0000, 0x0000_0000),
         4,
         None,
     ),
     // add $8, $9, $10
     (
-        [0x012A_4020, 0x0000_0000, 0x0000_0000, 0x0000_0000],
+        (0x012A_4020, 0x0000_0000, 0x0000_0000, 0x0000_0000),
         0,
         Some(Cause::Overflow),
     ),
     // addi $8, $9, 1
     (
-        [0x2128_0001, 0x0000_0000, 0x0000_0000, 0x0000_0000],
+        (0x2128_0001, 0x0000_0000, 0x0000_0000, 0x0000_0000),
         0,
         Some(Cause::Overflow),
     ),
     // sub $8, $12, $10
     (
-        [0x018A_4022, 0x0000_0000, 0x0000_0000, 0x0000_0000],
+        (0x018A_4022, 0x0000_0000, 0x0000_0000, 0x0000_0000),
         0,
         Some(Cause::Overflow),
     ),
     // addu $8, $9, $10
     (
-        [0x012A_4021, 0x0000_0000, 0x0000_0000, 0x0000_0000],
+        (0x012A_4021, 0x0000_0000, 0x0000_0000, 0x0000_0000),
         4,
         None,
     ),
     // addiu $8, $9, 1
     (
-        [0x2528_0001, 0x0000_0000, 0x0000_0000, 0x0000_0000],
+        (0x2528_0001, 0x0000_0000, 0x0000_0000, 0x0000_0000),
         4,
         None,
     ),
     // subu $8, $12, $10
     (
-        [0x018A_4023, 0x0000_0000, 0x0000_0000, 0x0000_0000],
+        (0x018A_4023, 0x0000_0000, 0x0000_0000, 0x0000_0000),
         4,
         None,
     ),
     // lw $8, 2($29)
     (
-        [0x8FA8_0002, 0x0000_0000, 0x0000_0000, 0x0000_0000],
+        (0x8FA8_0002, 0x0000_0000, 0x0000_0000, 0x0000_0000),
         0,
         Some(Cause::Unaligned),
     ),
     // sw $8, 1($0)
     (
-        [0xAC08_0001, 0x0000_0000, 0x0000_0000, 0x0000_0000],
+        (0xAC08_0001, 0x0000_0000, 0x0000_0000, 0x0000_0000),
         0,
         Some(Cause::Unaligned),
     ),
     // sw $8, 0($0)
     (
-        [0xAC08_0000, 0x0000_0000, 0x0000_0000, 0x0000_0000],
+        (0xAC08_0000, 0x0000_0000, 0x0000_0000, 0x0000_0000),
         0,
         Some(Cause::Outside),
     ),
     // jalr $9, $9
     (
-        [0x0120_4809, 0x0000_0000, 0x0000_0000, 0x0000_0000],
+        (0x0120_4809, 0x0000_0000, 0x0000_0000, 0x0000_0000),
         0,
         Some(Cause::Unlisted),
     ),
     // jr $9, whose target is odd; nop
     (
-        [0x0120_0008, 0x0000_0000, 0x0000_0000, 0x0000_0000],
+        (0x0120_0008, 0x0000_0000, 0x0000_0000, 0x0000_0000),
         2,
         Some(Cause::Fetch),
     ),
@@ -551,17 +551,26 @@ fn any_first_byte(rt: HostRuntime) -> Result<(), Fail> {
     Ok(())
 }
 
+// How many instructions are done before one that isn't, up to four.
+fn done_in(machine: &mut MipsMachine, code: &[u32], memory: &mut Blocks<BigEndian>) -> u32 {
+    for done in 0..4 {
+        if machine.step(code, memory) != Outcome::Went {
+            return done;
+        }
+    }
+    4
+}
+
 #[test]
 fn traps_in_their_order(rt: HostRuntime) -> Result<(), Fail> {
     let mut memory: Blocks<BigEndian> = Blocks::new(rt.alloc(), 1, 0)?;
-    for (code, done, cause) in PROGRAMS {
+    for ((first, second, third, fourth), done, cause) in PROGRAMS {
+        let code = [first, second, third, fourth];
         let mut machine = here(0x7FFF_FFFF, 1);
         machine.set_reg(12, 0x8000_0000);
         machine.set_reg(13, 0xFFFF_FFFF);
         machine.set_reg(29, BLOCK);
-        for _ in 0..done {
-            assert_eq!(rt; machine.step(&code, &mut memory), Outcome::Went);
-        }
+        assert_eq!(rt; done_in(&mut machine, &code, &mut memory), done);
         if let Some(cause) = cause {
             let pc = machine.pc();
             assert_eq!(rt;
