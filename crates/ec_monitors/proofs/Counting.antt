@@ -1,13 +1,13 @@
 -- Each act keeps who stands in a monitor, but for who comes in and who goes for good.
-use Rattle.std.proofs.Common.{◌≡◌, ℕ, ◌+◌, ◌-◌, ◌<◌, ◌==◌, Bool, true, false, List, [], ◌∷◌, ◌++◌, length, Option, Some, None, refl, sym, ap, ◌∙◌, arith}
+use Rattle.std.proofs.Common.{◌≡◌, ℕ, ◌+◌, ◌<◌, ◌==◌, Bool, true, false, List, [], ◌∷◌, ◌++◌, length, Option, Some, None, refl, ap, arith}
 use Rattle.std.specs.Prelude.{slice_set, nat_lt, cond, if◌then◌else◌}
 use Rattle.std.proofs.lemmas.Bool.Decides.{nat_tests}
-use Rattle.ec_base.specs.Stack.{top_of, below_of}
+use Rattle.ec_base.specs.Stack.{top_of}
 use Rattle.ec_monitors.specs.declared.record.MonitorRec.{MonitorRec}
 use Rattle.ec_monitors.specs.declared.record.Hold.{Hold}
-use Rattle.ec_monitors.specs.Monitors.{is_held_by, is_hold_of, entered, enter_by, enter_held, left, leave_by, leave_held, waited, wait_by, signalled, signal_by, resumed, dropped, released, top_of_urgent, first_of_entry, waiting_for}
-use Rattle.ec_monitors.specs.Standing.{one_if, times_held, times_entering, times_waiting, times_in_queues, times_behind, times_in}
-use Rattle.ec_monitors.specs.Laws.{times_coming, times_going, going_by, NobodyIsLost}
+use Rattle.ec_monitors.specs.Monitors.{is_hold_of, enter_by, enter_held, leave_by, leave_held, wait_by, signal_by, resumed, released, top_of_urgent, first_of_entry, waiting_for}
+use Rattle.ec_monitors.specs.Standing.{one_if, times_held, times_entering, times_waiting, times_behind, times_in}
+use Rattle.ec_monitors.specs.Laws.{going_by, NobodyIsLost}
 use Rattle.ec_monitors.proofs.Standing.{entering-push, waiting-push, waiting-top, queues-set}
 
 -- releasing: those that waited stand in it still

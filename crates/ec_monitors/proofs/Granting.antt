@@ -1,5 +1,5 @@
 -- Whom a release grants.
-use Rattle.std.proofs.Common.{◌≡◌, ℕ, List, [], ◌∷◌, Option, Some, None, refl, sym, ap, ◌∙◌}
+use Rattle.std.proofs.Common.{◌≡◌, ℕ, List, [], ◌∷◌, Option, Some, None, refl, sym}
 use Rattle.ec_base.specs.Stack.{top_of, below_of}
 use Rattle.ec_base.proofs.Stacks.{top_of_none}
 use Rattle.ec_monitors.specs.declared.record.Hold.{Hold}

@@ -1,12 +1,12 @@
 -- What every act keeps.
-use Rattle.std.proofs.Common.{◌≡◌, ℕ, zero, suc, ◌+◌, ◌-◌, ◌<◌, ◌≤◌, ◌==◌, Bool, true, false, List, [], ◌∷◌, ◌++◌, length, Option, Some, None, refl, sym, ap, subst, ◌∙◌, arith}
-use Rattle.std.specs.Prelude.{slice_get, slice_set, replicate, nat_lt, cond}
+use Rattle.std.proofs.Common.{◌≡◌, ℕ, ◌+◌, ◌≤◌, ◌==◌, Bool, true, false, List, [], ◌∷◌, ◌++◌, Option, Some, None, refl, ap, arith}
+use Rattle.std.specs.Prelude.{slice_set, nat_lt, cond}
 use Rattle.std.proofs.lemmas.Bool.Decides.{nat_tests}
-use Rattle.ec_base.specs.Stack.{top_of, below_of}
+use Rattle.ec_base.specs.Stack.{top_of}
 use Rattle.ec_base.proofs.Stacks.{top_of_none}
 use Rattle.ec_monitors.specs.declared.record.MonitorRec.{MonitorRec}
 use Rattle.ec_monitors.specs.declared.record.Hold.{Hold}
-use Rattle.ec_monitors.specs.Monitors.{made, is_held_by, is_hold_of, entered, enter_by, enter_held, left, leave_by, leave_held, waited, wait_by, signalled, signal_by, resumed, dropped, released, top_of_urgent, first_of_entry, waiting_for, queue_at}
+use Rattle.ec_monitors.specs.Monitors.{is_held_by, is_hold_of, enter_by, enter_held, leave_by, leave_held, wait_by, signal_by, resumed, released, top_of_urgent, first_of_entry, waiting_for}
 use Rattle.ec_monitors.specs.Standing.{one_if, times_in, times_behind, times_held, StandsOnce}
 use Rattle.ec_monitors.specs.Laws.{KeptByEachAct, FreeIsEmpty, times_coming}
 use Rattle.ec_monitors.proofs.Standing.{queues-none}

@@ -1,4 +1,4 @@
-use Rattle.std.proofs.Common.{◌≡◌, ◌≤◌, Some, arith}
+use Rattle.std.proofs.Common.{arith}
 use Rattle.ec_monitors.proofs.Queues.{got, room_set, first_is, none_is, first_count}
 use Rattle.ec_monitors.proofs.lists.first_at.Goals as goal
 

@@ -1,5 +1,4 @@
-use Rattle.std.proofs.Common.{◌≡◌, ◌≤◌, Some, arith}
-use Rattle.std.specs.Prelude.{slice_get}
+use Rattle.std.proofs.Common.{arith}
 use Rattle.ec_monitors.proofs.Queues.{got, count_at_least, room_at, room_set, pushed, pushed_count}
 use Rattle.ec_monitors.proofs.lists.push_at.Goals as goal
 

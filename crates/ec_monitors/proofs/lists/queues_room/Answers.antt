@@ -1,4 +1,4 @@
-use Rattle.std.proofs.Common.{◌≡◌, ◌<◌, Some, arith, ◌∙◌, length}
+use Rattle.std.proofs.Common.{arith, ◌∙◌}
 use Rattle.ec_base.proofs.Lists.{length_set}
 use Rattle.ec_monitors.proofs.Queues.{got, room_set, same_queues, same_count, room_take}
 use Rattle.ec_monitors.proofs.lists.queues_room.Goals as goal

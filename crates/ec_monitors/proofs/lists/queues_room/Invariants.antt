@@ -1,4 +1,4 @@
-use Rattle.std.proofs.Common.{◌≡◌, ℕ, ◌+◌, take, length}
+use Rattle.std.proofs.Common.{◌≡◌, ℕ, take, length}
 use Rattle.ec_monitors.specs.Room.{waiting_count, queues, EachHasRoom}
 use Rattle.ec_monitors.proofs.lists.queues_room.Given as goal
 

@@ -1,4 +1,4 @@
-use Rattle.std.proofs.Common.{◌≡◌, ◌≤◌, length, ap, arith}
+use Rattle.std.proofs.Common.{length, ap, arith}
 use Rattle.ec_monitors.proofs.monitor.Monitor.enter.Goals as goal
 
 pub invariant_of-self : goal.invariant_of-self

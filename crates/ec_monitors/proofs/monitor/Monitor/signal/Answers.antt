@@ -1,5 +1,4 @@
-use Rattle.std.proofs.Common.{◌≡◌, ◌≤◌, Some, None, arith}
-use Rattle.ec_monitors.specs.Room.{present}
+use Rattle.std.proofs.Common.{arith}
 use Rattle.ec_monitors.proofs.Queues.{signal_fits, none_fits}
 use Rattle.ec_monitors.proofs.monitor.Monitor.signal.Goals as goal
 

@@ -1,5 +1,3 @@
-use Rattle.std.proofs.Common.{◌≡◌, ◌≤◌, Some, None, arith}
-use Rattle.ec_monitors.specs.Room.{present}
 use Rattle.ec_monitors.proofs.Queues.{wait_room, wait_fits}
 use Rattle.ec_monitors.proofs.monitor.Monitor.wait.Goals as goal
 
