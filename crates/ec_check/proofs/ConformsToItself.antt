@@ -114,7 +114,7 @@ is_closed types h = record {
   right = λ a b e.
       let same : a ≡ b = eqb-true a b (first_holds (a == b) (nat_lt a (length types)) e) in
       subst (λ n. n < length types) same (ltb-true a (length types) (second_holds (a == b) (nat_lt a (length types)) e));
-  clauses = λ a b e.
+  clauses = λ a b x y e.
       subst (λ n. meets types (itself (length types)) a n ≡ true) (eqb-true a b (first_holds (a == b) (nat_lt a (length types)) e))
       (operations_themselves types (length types) (operations_at types a) (operations_there (length types) types a h));
 }

@@ -1,10 +1,11 @@
 -- Relations of named types: what more pairs allow, and what striking one out of a table does.
-use Rattle.std.proofs.Common.{◌≡◌, ◌↔◌, ℕ, ◌+◌, ◌*◌, ◌/◌, ◌%◌, ◌<◌, ◌≤◌, Bool, true, false, ◌&&◌, ◌||◌, ◌⊎◌, ⊎_elim, inl, inr, ltb, List, [], ◌∷◌, length, get_or, set, Option, Some, None, refl, sym, ◌∙◌, ap, subst, arith, length-set, length-append, ◌++◌, get_or-set_other, zero, suc}
-use Rattle.std.proofs.lemmas.Bool.{cases_lt}
-use Rattle.std.proofs.lemmas.Nat.{div-mul-add, mod-mul-add}
+use Rattle.std.proofs.Common.{◌≡◌, ◌↔◌, ℕ, ◌+◌, ◌*◌, ◌/◌, ◌%◌, ◌<◌, ◌≤◌, Bool, true, false, ◌&&◌, ◌||◌, ◌⊎◌, ⊎_elim, inl, inr, ltb, List, [], ◌∷◌, length, get_or, set, Option, Some, None, refl, sym, ◌∙◌, ap, subst, arith, length-set, length-append, ◌++◌, get_or-set_other, replicate, zero, suc}
+use Rattle.std.proofs.lemmas.Bool.{cases_lt, lt-ltb, le-ltb}
+use Rattle.std.proofs.lemmas.Nat.{div-mul-add, mod-mul-add, mul-add-lt}
+use Rattle.std.proofs.lemmas.List.{get_or-replicate}
 use borrow.Author.Tests.{ltb-true}
-use Rattle.ec_conform.specs.Conforms.{Relation, named_conforms, plain_conforms, conforms_to_plain, conforms_in, parameters_fit, results_fit, stands_for, has_operation, has_operations, operations_at, meets, Conforms}
-use Rattle.ec_conform.specs.Pairs.{in_table, IsStable, KeepsClosed, IsWrong, IsRight, IsLargest, Follows, Fewer, Passed, Struck, count_true}
+use Rattle.ec_conform.specs.Conforms.{Relation, named_conforms, plain_conforms, conforms_to_plain, conforms_in, parameters_fit, results_fit, stands_for, has_operation, has_operations, operations_at, meets, most_types, IsClosed, Conforms}
+use Rattle.ec_conform.specs.Pairs.{compared, in_rows, in_table, rows, IsFull, IsStable, IsWithin, KeepsClosed, IsWrong, IsRight, IsLargest, Follows, Fewer, Passed, Struck, count_true}
 use Rattle.ec_conform.specs.declared.named_type.NamedType.{NamedType}
 use Rattle.ec_conform.specs.declared.operations.NamedOperation.{NamedOperation}
 use Rattle.ec_conform.specs.declared.static_type.Plain.{Plain as PlainType}
@@ -105,6 +106,21 @@ in_left n table a b h = ltb-true _ _ (and_left (ltb a n) _ h)
 in_right : (n : ℕ) (table : List Bool) (a b : ℕ) → in_table n table a b ≡ true → b < n
 in_right n table a b h = ltb-true _ _ (and_left (ltb b n) _ (and_right (ltb a n) _ h))
 
+-- the types that are compared
+within_most : (n a : ℕ) → a < compared n → a < most_types
+within_most n a h = omega arith
+
+among_compared : (n a : ℕ) → a < n → a < most_types → a < compared n
+among_compared n a h k = omega arith
+
+-- what the rows say of two types that have one
+in_place : (m : ℕ) (table : List Bool) (a b : ℕ) → a < m → b < m → in_rows m table a b ≡ true → get_or table (a * m + b) false ≡ true
+in_place m table a b i j h = rw (lt-ltb a m i, lt-ltb b m j) at h
+
+at_place : (n : ℕ) (table : List Bool) (a b : ℕ) → a < compared n → b < compared n → in_table n table a b ≡ true
+    → get_or table (a * compared n + b) false ≡ true
+at_place n table a b i j h = in_place (compared n) table a b i j (and_right (ltb b n) _ (and_right (ltb a n) _ h))
+
 pub answers : (types : List NamedType) (table : List Bool) → IsLargest types table → (s t : StaticType) →
     (conforms_in types (in_table (length types) table) s t ≡ true) ↔ Conforms types s t
 answers types table largest s t = (
@@ -120,11 +136,41 @@ answers types table largest s t = (
   λ c. conforms_more types c.0 (in_table (length types) table) (largest.within c.0 c.1) s t c.2,
 )
 
-kept : (n : ℕ) (table : List Bool) (i a b : ℕ) → in_table n table a b ≡ true → (a * n + b ≡ i → ⊥)
-    → in_table n (set table i false) a b ≡ true
+-- the table from which nothing is struck yet
+all_in_rows : (m a b : ℕ) → in_rows m (replicate (m * m) true) a b ≡ true
+all_in_rows m a b = by (cases_lt a m) (cases_lt b m)
+  where
+    by : (a < m) ⊎ (m ≤ a) → (b < m) ⊎ (m ≤ b) → in_rows m (replicate (m * m) true) a b ≡ true
+    by (inl x) (inl y) =
+        let here = get_or-replicate (m * m) (a * m + b) true false (mul-add-lt a m b m x y) in
+        rw (lt-ltb a m x, lt-ltb b m y) here
+    by (inl x) (inr y) = rw (lt-ltb a m x, le-ltb b m y) refl
+    by (inr x) y = rw (le-ltb a m x) refl
+
+pub all_within : (types : List NamedType) (table : List Bool) → table ≡ replicate (rows types * rows types) true
+    → (r : Relation) → IsClosed types r → IsWithin r (length types) table
+all_within types table is r closed a b h =
+    let n = length types in
+    let all = subst (λ t. in_rows (rows types) t a b ≡ true) (sym is) (all_in_rows (rows types) a b) in
+    both (ltb a n) _ (lt-ltb a n (closed.left a b h)) (both (ltb b n) _ (lt-ltb b n (closed.right a b h)) all)
+
+kept_in_rows : (m : ℕ) (table : List Bool) (i a b : ℕ) → in_rows m table a b ≡ true
+    → (a < m → b < m → a * m + b ≡ i → ⊥) → in_rows m (set table i false) a b ≡ true
+kept_in_rows m table i a b h other = by (cases_lt a m) (cases_lt b m)
+  where
+    by : (a < m) ⊎ (m ≤ a) → (b < m) ⊎ (m ≤ b) → in_rows m (set table i false) a b ≡ true
+    by (inl x) (inl y) =
+        let here = get_or-set_other table i (a * m + b) false false (other x y) in
+        let old = in_place m table a b x y h in
+        rw (lt-ltb a m x, lt-ltb b m y) (here ∙ old)
+    by (inl x) (inr y) = rw (lt-ltb a m x, le-ltb b m y) refl
+    by (inr x) y = rw (le-ltb a m x) refl
+
+kept : (n : ℕ) (table : List Bool) (i a b : ℕ) → in_table n table a b ≡ true
+    → (a < compared n → b < compared n → a * compared n + b ≡ i → ⊥) → in_table n (set table i false) a b ≡ true
 kept n table i a b h other =
     both (ltb a n) _ (and_left (ltb a n) _ h) (both (ltb b n) _ (and_left (ltb b n) _ (and_right (ltb a n) _ h))
-    (rw (get_or-set_other table i (a * n + b) false false other) (and_right (ltb b n) _ (and_right (ltb a n) _ h))))
+    (kept_in_rows (compared n) table i a b (and_right (ltb b n) _ (and_right (ltb a n) _ h)) other))
 
 module _ (types : List NamedType) (init table : List Bool) (i : ℕ) where
   pub struck_keeps : KeepsClosed types init table → IsWrong types table i → KeepsClosed types init (set table i false)
@@ -133,14 +179,14 @@ module _ (types : List NamedType) (init table : List Bool) (i : ℕ) where
       meet : ℕ → ℕ → Bool
       meet = meets types (in_table (length types) table)
 
-      clash : a * length types + b ≡ i → ⊥
-      clash e =
+      clash : a < rows types → b < rows types → a * rows types + b ≡ i → ⊥
+      clash x y e =
           let m : meet a b ≡ true =
-          meets_more types r (in_table (length types) table) (keeps r closed within) a b (closed.clauses a b h) in
-          let small : b < length types = closed.right a b h in
-          let left : i / length types ≡ a = ap (λ k. k / length types) (sym e) ∙ div-mul-add a (length types) b small in
-          let right : i % length types ≡ b = ap (λ k. k % length types) (sym e) ∙ mod-mul-add a (length types) b small in
-          let w : meet (i / length types) b ≡ false = subst (λ y. meet (i / length types) y ≡ false) right wrong.1 in
+          meets_more types r (in_table (length types) table) (keeps r closed within) a b
+          (closed.clauses a b (within_most (length types) a x) (within_most (length types) b y) h) in
+          let left : i / rows types ≡ a = ap (λ k. k / rows types) (sym e) ∙ div-mul-add a (rows types) b y in
+          let right : i % rows types ≡ b = ap (λ k. k % rows types) (sym e) ∙ mod-mul-add a (rows types) b y in
+          let w : meet (i / rows types) b ≡ false = subst (λ y. meet (i / rows types) y ≡ false) right wrong.1 in
           let apart : meet a b ≡ false = subst (λ x. meet x b ≡ false) left w in
           cc
 
@@ -153,7 +199,7 @@ count_set (false ∷ xs) (suc i) h = count_set xs i h
 
 -- ---- what follows a pair that is struck
 
-pub follows_none : (types : List NamedType) (table : List Bool) (struck : List ℕ) → length table ≡ length types * length types
+pub follows_none : (types : List NamedType) (table : List Bool) (struck : List ℕ) → IsFull types table
     → Follows types table struck table struck
 follows_none types table struck full = record {
   full = full;
@@ -163,7 +209,7 @@ follows_none types table struck full = record {
 }
 
 pub follows_one : (types : List NamedType) (table : List Bool) (struck : List ℕ) (i : ℕ) →
-    length table ≡ length types * length types → IsWrong types table i
+    IsFull types table → IsWrong types table i
     → Follows types table struck (set table i false) (struck ++ i ∷ [])
 follows_one types table struck i full wrong = record {
   full = length-set table i false ∙ full;
@@ -192,7 +238,7 @@ fewer_by f h = record {
 -- ---- a pass over the table
 
 pub passed_none : (types : List NamedType) (table : List Bool) (top bottom left right : ℕ)
-    → length table ≡ length types * length types → ((a b : ℕ) → top ≤ a → a < bottom → left ≤ b → b < right → ⊥)
+    → IsFull types table → ((a b : ℕ) → top ≤ a → a < bottom → left ≤ b → b < right → ⊥)
     → Passed types table top bottom left right false table
 passed_none types table top bottom left right full none = record {
   full = full;
@@ -235,7 +281,7 @@ module _ (types : List NamedType) (old mid new : List Bool) where
     fewer = λ e. omega (arith, q.least, p.fewer e);
     same = λ e. q.same refl ∙ p.same e;
     seen = λ e i j h k y z small. ⊎_elim
-        (λ w. subst (λ table. IsRight types table (i * length types + j)) (sym (q.same refl))
+        (λ w. subst (λ table. IsRight types table (i * rows types + j)) (sym (q.same refl))
         (p.seen e i j w.0 w.1 w.2 w.3 small))
         (λ w. q.seen refl i j w.0 w.1 w.2 w.3 small) (cover i j h k y z);
   }
@@ -251,8 +297,8 @@ module _ (types : List NamedType) (old mid new : List Bool) where
       passed_more p q (λ i j h k y z. ⊎_elim (λ l. inl (h, k, y, l)) (λ l. inr (h, k, l, z)) (cases_lt j middle))
 
 -- one pair
-pub passed_one : (types : List NamedType) (table : List Bool) (s t : ℕ) → length table ≡ length types * length types
-    → IsRight types table (s * length types + t) → Passed types table s (s + 1) t (t + 1) false table
+pub passed_one : (types : List NamedType) (table : List Bool) (s t : ℕ) → IsFull types table
+    → IsRight types table (s * rows types + t) → Passed types table s (s + 1) t (t + 1) false table
 passed_one types table s t full right = record {
   full = full;
   keeps = λ r closed w. w;
@@ -262,13 +308,13 @@ passed_one types table s t full right = record {
   seen = λ e a b h i j k small.
       let row : s ≡ a = omega arith in
       let column : t ≡ b = omega arith in
-      subst (λ c. IsRight types table (c * length types + b)) row
-      (subst (λ c. IsRight types table (s * length types + c)) column right);
+      subst (λ c. IsRight types table (c * rows types + b)) row
+      (subst (λ c. IsRight types table (s * rows types + c)) column right);
 }
 
 -- There are no more columns.
 pub passed_wide : {types : List NamedType} {old new : List Bool} {top bottom left right : ℕ} {x : Bool} (more : ℕ)
-    → Passed types old top bottom left right x new → ((b : ℕ) → b < more → b < length types → b < right)
+    → Passed types old top bottom left right x new → ((b : ℕ) → b < more → b < rows types → b < right)
     → Passed types old top bottom left more x new
 passed_wide more p within = record {
   full = p.full;
@@ -280,24 +326,22 @@ passed_wide more p within = record {
 }
 
 stable_from : (types : List NamedType) (table : List Bool)
-    → ((a b : ℕ) → a < length types → b < length types → IsRight types table (a * length types + b)) → IsStable types table
-stable_from types table seen a b h =
-    let small_a : a < length types = in_left (length types) table a b h in
-    let small_b : b < length types = in_right (length types) table a b h in
-    let g : get_or table (a * length types + b) false ≡ true =
-    and_right (ltb b (length types)) _ (and_right (ltb a (length types)) _ h) in
-    let m = seen a b small_a small_b g in
-    subst (λ x. meets types (in_table (length types) table) x b ≡ true) (div-mul-add a (length types) b small_b)
-    (subst (λ y. meets types (in_table (length types) table) ((a * length types + b) / length types) y ≡ true)
-    (mod-mul-add a (length types) b small_b) m)
+    → ((a b : ℕ) → a < rows types → b < rows types → IsRight types table (a * rows types + b)) → IsStable types table
+stable_from types table seen a b i j h =
+    let x : a < rows types = among_compared (length types) a (in_left (length types) table a b h) i in
+    let y : b < rows types = among_compared (length types) b (in_right (length types) table a b h) j in
+    let m = seen a b x y (at_place (length types) table a b x y h) in
+    subst (λ row. meets types (in_table (length types) table) row b ≡ true) (div-mul-add a (rows types) b y)
+    (subst (λ column. meets types (in_table (length types) table) ((a * rows types + b) / rows types) column ≡ true)
+    (mod-mul-add a (rows types) b y) m)
 
 -- all pairs
-pub struck_from : {types : List NamedType} {old new : List Bool} {x : Bool} (columns : ℕ) → length types ≤ columns
-    → Passed types old 0 (length types) 0 columns x new → Struck types old x new
+pub struck_from : {types : List NamedType} {old new : List Bool} {x : Bool} (columns : ℕ) → rows types ≤ columns
+    → Passed types old 0 (rows types) 0 columns x new → Struck types old x new
 struck_from {types} {new} columns wide p = record {
   full = p.full;
   keeps = p.keeps;
   fewer = p.fewer;
   stable = λ e. stable_from types new
-      (λ a b small_a small_b. p.seen e a b (omega arith) small_a (omega arith) (omega arith) small_b);
+      (λ a b x y. p.seen e a b (omega arith) x (omega arith) (omega arith) y);
 }

@@ -1,12 +1,12 @@
 -- Declarations have one table, and how it comes about.
-use Rattle.std.proofs.Common.{◌≡◌, ◌↔◌, ℕ, ◌+◌, ◌*◌, ◌/◌, ◌%◌, ◌<◌, Bool, true, false, ◌&&◌, List, length, map, get_or}
+use Rattle.std.proofs.Common.{◌≡◌, ◌↔◌, ℕ, ◌+◌, ◌*◌, ◌/◌, ◌%◌, ◌<◌, ◌≤◌, Bool, true, false, ◌&&◌, List, length, map, get_or}
 use Rattle.std.proofs.Common.{refl, sym, ◌∙◌, ap, subst, arith}
 use Rattle.std.specs.Prelude.{nat_lt}
-use Rattle.std.proofs.lemmas.Bool.Decides.{nat_tests}
+use Rattle.std.proofs.lemmas.Bool.{lt-ltb}
 use Rattle.std.proofs.lemmas.Grind.{common_steps}
 use Rattle.std.proofs.lemmas.List.{ext_get_or}
 use Rattle.ec_conform.specs.Conforms.{Conforms}
-use Rattle.ec_conform.specs.Pairs.{in_table, IsLargest}
+use Rattle.ec_conform.specs.Pairs.{compared, in_rows, in_table, rows, IsLargest}
 use Rattle.ec_conform.specs.Table.{Table, IsTable, conforms}
 use Rattle.ec_conform.specs.Types.{firsts_of, named, names_of, places_of, type_with}
 use Rattle.ec_conform.specs.declared.declared.Declarations.{Declarations}
@@ -21,26 +21,32 @@ same_answer true false f g = sym (g.1 (f.0 refl))
 same_answer false true f g = f.1 (g.0 refl)
 same_answer false false f g = refl
 
-within : (n i : ℕ) → i < n * n → (i / n < n) × (i % n < n) × ((i / n) * n + i % n ≡ i)
-within n i h = grind (arith, common_steps)
+within : (m i : ℕ) → i < m * m → (i / m < m) × (i % m < m) × ((i / m) * m + i % m ≡ i)
+within m i h = grind (arith, common_steps)
 
-at_pair : (n : ℕ) (pairs : List Bool) (i : ℕ) → i < n * n → in_table n pairs (i / n) (i % n) ≡ get_or pairs i false
-at_pair n pairs i h =
-    let w = within n i h in
-    let left : nat_lt (i / n) n ≡ true = (let l = w.0 in grind (arith, nat_tests)) in
-    let right : nat_lt (i % n) n ≡ true = (let r = w.1 in grind (arith, nat_tests)) in
-    rw (left, right, w.2) refl
+at_pair : (n : ℕ) (pairs : List Bool) (i : ℕ) → i < compared n * compared n
+    → in_table n pairs (i / compared n) (i % compared n) ≡ get_or pairs i false
+at_pair n pairs i h = by (compared n) (omega arith) h
+  where
+    by : (m : ℕ) → m ≤ n → i < m * m → nat_lt (i / m) n && (nat_lt (i % m) n && in_rows m pairs (i / m) (i % m)) ≡ get_or pairs i false
+    by m few h =
+        let w = within m i h in
+        let row : i / m < m = w.0 in
+        let column : i % m < m = w.1 in
+        rw (lt-ltb (i / m) n (omega arith), lt-ltb (i % m) n (omega arith), lt-ltb (i / m) m row, lt-ltb (i % m) m column, w.2) refl
 
 same_pairs : {declared : Declarations} (a b : Table) → IsTable declared a → IsTable declared b → a.types ≡ b.types → a.pairs ≡ b.pairs
 same_pairs a b p q types =
-    ext_get_or false a.pairs b.pairs (p.full ∙ ap (λ ts. length ts * length ts) types ∙ sym q.full)
+    ext_get_or false a.pairs b.pairs (p.full ∙ ap (λ ts. rows ts * rows ts) types ∙ sym q.full)
     (λ i h.
     let n = length a.types in
-    let h' : i < n * n = subst (λ l. i < l) p.full h in
-    let answer = same_answer (conforms a (named (i / n)) (named (i % n))) (conforms b (named (i / n)) (named (i % n)))
-    (p.conforms (named (i / n)) (named (i % n)))
-    (subst (λ ts. (conforms b (named (i / n)) (named (i % n)) ≡ true) ↔ Conforms ts (named (i / n)) (named (i % n))) (sym types) (q.conforms (named (i / n)) (named (i % n)))) in
-    sym (at_pair n a.pairs i h') ∙ answer ∙ ap (λ m. in_table m b.pairs (i / n) (i % n)) (ap length (sym types)) ∙ at_pair n b.pairs i h')
+    let s = named (i / compared n) in
+    let t = named (i % compared n) in
+    let h' : i < compared n * compared n = subst (λ l. i < l) p.full h in
+    let other = subst (λ ts. (conforms b s t ≡ true) ↔ Conforms ts s t) (sym types) (q.conforms s t) in
+    let answer = same_answer (conforms a s t) (conforms b s t) (p.conforms s t) other in
+    let same_count = ap (λ m. in_table m b.pairs (i / compared n) (i % compared n)) (ap length (sym types)) in
+    sym (at_pair n a.pairs i h') ∙ answer ∙ same_count ∙ at_pair n b.pairs i h')
 
 abbrev pub made : List Text → List ℕ → List NamedType → List Bool → List ℕ → Table
 made names places types pairs operations =

@@ -113,11 +113,16 @@ meets types r s t = has_operations types r (operations_at types s) (operations_a
 
 -- ---- the largest relation
 
--- each pair is of types that are there, and meets the clauses with pairs of the relation
+-- So many types a program may have.
+abbrev pub most_types : ℕ
+most_types = 1000
+
+-- Each pair is of types that are there, and meets the clauses with pairs of the relation. The types behind the thousandth
+-- are compared with nothing: each of them conforms to each type, and each to them. A program with so many is refused.
 pub record IsClosed (types : List NamedType) (r : Relation) : Type 0 where
   pub left : (a b : ℕ) → r a b ≡ true → a < length types
   pub right : (a b : ℕ) → r a b ≡ true → b < length types
-  pub clauses : (a b : ℕ) → r a b ≡ true → meets types r a b ≡ true
+  pub clauses : (a b : ℕ) → a < most_types → b < most_types → r a b ≡ true → meets types r a b ≡ true
 
 -- Some relation of pairs that meet the clauses lets the one type conform to the other.
 abbrev pub Conforms : List NamedType → StaticType → StaticType → Type 0

@@ -2,14 +2,15 @@
 use Rattle.std.specs.Prelude.{◌≡◌, ◌↔◌, ℕ, ◌*◌, Bool, true, List, length}
 use Rattle.ec_names.specs.Names.{Text}
 use Rattle.ec_conform.specs.Conforms.{Conforms, conforms_in}
-use Rattle.ec_conform.specs.Pairs.{in_table}
+use Rattle.ec_conform.specs.Pairs.{compared, in_table}
 use Rattle.ec_conform.specs.Types.{firsts_of, names_of, places_of, types_of}
 use Rattle.ec_conform.specs.declared.declared.Declarations.{Declarations}
 use Rattle.ec_conform.specs.declared.named_type.NamedType.{NamedType}
 use Rattle.ec_conform.specs.declared.static_type.StaticType.{StaticType}
 
 -- The names of types, the first bytes of these, and their operations, each by the types' numbers; row by row, which of
--- them conform to which; and the first bytes of the operations of objects and classes, in the order of the text.
+-- those that are compared with one another conform to which; and the first bytes of the operations of objects and
+-- classes, in the order of the text.
 pub record Table : Type 0 where
   pub names : List Text
   pub places : List ℕ
@@ -27,6 +28,6 @@ pub record IsTable (declared : Declarations) (table : Table) : Type 0 where
   pub places : table.places ≡ places_of declared.types
   pub types : table.types ≡ types_of declared.types
   pub operations : table.operations ≡ firsts_of declared.operations
-  -- a place for each two types
-  pub full : length table.pairs ≡ length table.types * length table.types
+  -- a place for each two of the types that are compared with one another
+  pub full : length table.pairs ≡ compared (length table.types) * compared (length table.types)
   pub conforms : (s t : StaticType) → (conforms table s t ≡ true) ↔ Conforms table.types s t

@@ -10,8 +10,8 @@ use crate::operations::NamedOperation;
 use crate::static_type::{Plain, StaticType, is_reference, is_same};
 use std::alloc::{AllocError, Global};
 
-/// More types than these have more pairs than can be counted.
-const MOST_TYPES: usize = 4_294_967_295;
+/// So many types a program may have. Those behind them are compared with nothing: such a program is refused.
+pub const MOST_TYPES: usize = 1_000;
 
 /// So many types at a time are compared with each of the others, so that what is read of them stays near.
 const BLOCK: usize = 32;
@@ -20,17 +20,21 @@ const BLOCK: usize = 32;
 pub fn largest(alloc: Global, types: &NumberedTypes) -> Result<Vec<bool>, AllocError>
     ensures { IfOk result (λ pairs. table.IsLargest types.now pairs.items) }
 {
-    let n = types.len();
-    if n > MOST_TYPES {
-        return Err(AllocError);
-    }
-    let users = users_of(alloc, types.as_slice())?;
-    let mut pairs = vec![in alloc; true; n * n]?;
+    let m = compared(types.len());
+    let users = users_of(alloc, types.as_slice(), m)?;
+    let mut pairs = vec![in alloc; true; m * m]?;
     'striking: loop {
         if !strike(alloc, types, users.as_slice(), &mut pairs)? {
             return Ok(pairs);
         }
     }
+}
+
+/// How many of n types are compared with one another: the first ones.
+fn compared(n: usize) -> usize
+    ensures { result ≡ table.compared n }
+{
+    n.min(MOST_TYPES)
 }
 
 /// Strikes out each pair that does not meet the clauses, and what follows, and says whether there was one.
@@ -40,12 +44,11 @@ fn strike(
     users: &[Vec<usize>],
     pairs: &mut Vec<bool>,
 ) -> Result<bool, AllocError>
-    requires small { length types.now < 4294967296 }
-    requires full { length pairs.old.items ≡ length types.now * length types.now }
+    requires full { table.IsFull types.now pairs.old.items }
     ensures { IfOk result (λ struck. table.Struck types.now pairs.old.items struck pairs.new.items) }
 {
     let mut struck = false;
-    for block in 0..types.len() / BLOCK + 1 {
+    for block in 0..compared(types.len()) / BLOCK + 1 {
         if strike_block(alloc, types, users, pairs, block * BLOCK)? {
             struck = true;
         }
@@ -61,13 +64,12 @@ fn strike_block(
     pairs: &mut Vec<bool>,
     from: usize,
 ) -> Result<bool, AllocError>
-    requires small { length types.now < 4294967296 }
-    requires full { length pairs.old.items ≡ length types.now * length types.now }
-    requires near { from ≤ length types.now }
-    ensures { IfOk result (λ struck. table.Passed types.now pairs.old.items 0 (length types.now) from (from + BLOCK) struck pairs.new.items) }
+    requires full { table.IsFull types.now pairs.old.items }
+    requires near { from ≤ table.rows types.now }
+    ensures { IfOk result (λ struck. table.Passed types.now pairs.old.items 0 (table.rows types.now) from (from + BLOCK) struck pairs.new.items) }
 {
     let mut struck = false;
-    for s in 0..types.len() {
+    for s in 0..compared(types.len()) {
         if strike_row(alloc, types, users, pairs, s, from)? {
             struck = true;
         }
@@ -84,17 +86,16 @@ fn strike_row(
     s: usize,
     from: usize,
 ) -> Result<bool, AllocError>
-    requires small { length types.now < 4294967296 }
-    requires full { length pairs.old.items ≡ length types.now * length types.now }
-    requires s_in { s < length types.now }
-    requires near { from ≤ length types.now }
+    requires full { table.IsFull types.now pairs.old.items }
+    requires s_in { s < table.rows types.now }
+    requires near { from ≤ table.rows types.now }
     ensures { IfOk result (λ struck. table.Passed types.now pairs.old.items s (s + 1) from (from + BLOCK) struck pairs.new.items) }
 {
-    let n = types.len();
+    let m = compared(types.len());
     let mut struck = false;
-    for t in from..n.min(from + BLOCK) {
-        if is_wrong(types, pairs.as_slice(), s * n + t) {
-            follow(alloc, types, users, pairs, s * n + t)?;
+    for t in from..m.min(from + BLOCK) {
+        if is_wrong(types, pairs.as_slice(), s * m + t) {
+            follow(alloc, types, users, pairs, s * m + t)?;
             struck = true;
         }
     }
@@ -109,19 +110,19 @@ fn follow(
     pairs: &mut Vec<bool>,
     first: usize,
 ) -> Result<(), AllocError>
-    requires small { length types.now < 4294967296 }
-    requires full { length pairs.old.items ≡ length types.now * length types.now }
+    requires full { table.IsFull types.now pairs.old.items }
     requires inside { first < length pairs.old.items }
     requires wrong { table.IsWrong types.now pairs.old.items first }
     ensures { OnOk result (table.Fewer types.now pairs.old.items pairs.new.items) }
 {
+    let m = compared(types.len());
     let mut struck = Vec::new(alloc);
     struck.push(first)?;
     pairs[first] = false;
     let mut next = 0;
     while next < struck.len() {
-        let s = struck[next] / types.len();
-        let t = struck[next] % types.len();
+        let s = struck[next] / m;
+        let t = struck[next] % m;
         check_users(types, users, pairs, s, t, &mut struck)?;
         check_users(types, users, pairs, t, s, &mut struck)?;
         next += 1;
@@ -138,8 +139,7 @@ fn check_users(
     t: usize,
     struck: &mut Vec<usize>,
 ) -> Result<(), AllocError>
-    requires small { length types.now < 4294967296 }
-    requires full { length pairs.old.items ≡ length types.now * length types.now }
+    requires full { table.IsFull types.now pairs.old.items }
     ensures { OnOk result (table.Follows types.now pairs.old.items struck.old.items pairs.new.items struck.new.items) }
 {
     if s < users.len() && t < users.len() {
@@ -158,14 +158,13 @@ fn check_row(
     others: &[usize],
     struck: &mut Vec<usize>,
 ) -> Result<(), AllocError>
-    requires small { length types.now < 4294967296 }
-    requires full { length pairs.old.items ≡ length types.now * length types.now }
+    requires full { table.IsFull types.now pairs.old.items }
     ensures { OnOk result (table.Follows types.now pairs.old.items struck.old.items pairs.new.items struck.new.items) }
 {
-    let n = types.len();
+    let m = compared(types.len());
     for b in others {
-        if a < n && *b < n {
-            check(types, pairs, a * n + *b, struck)?;
+        if a < m && *b < m {
+            check(types, pairs, a * m + *b, struck)?;
         }
     }
     Ok(())
@@ -178,8 +177,7 @@ fn check(
     i: usize,
     struck: &mut Vec<usize>,
 ) -> Result<(), AllocError>
-    requires small { length types.now < 4294967296 }
-    requires full { length pairs.old.items ≡ length types.now * length types.now }
+    requires full { table.IsFull types.now pairs.old.items }
     requires inside { i < length pairs.old.items }
     ensures { OnOk result (table.Follows types.now pairs.old.items struck.old.items pairs.new.items struck.new.items) }
 {
@@ -190,18 +188,22 @@ fn check(
     Ok(())
 }
 
-/// For each type, those with an operation that takes or gives it.
-fn users_of(alloc: Global, types: &[NamedType]) -> Result<Vec<Vec<usize>>, AllocError> {
-    let mut users = nobody(alloc, types.len())?;
-    for (user, t) in types.iter().enumerate() {
+/// For each of the first so many types, those of them with an operation that takes or gives it.
+fn users_of(
+    alloc: Global,
+    types: &[NamedType],
+    count: usize,
+) -> Result<Vec<Vec<usize>>, AllocError> {
+    let mut users = nobody(alloc, count)?;
+    for (user, t) in types.iter().take(count).enumerate() {
         add_operations(t.operations.as_slice(), user, &mut users)?;
     }
     Ok(users)
 }
 
-fn nobody(alloc: Global, n: usize) -> Result<Vec<Vec<usize>>, AllocError> {
+fn nobody(alloc: Global, count: usize) -> Result<Vec<Vec<usize>>, AllocError> {
     let mut users = Vec::new(alloc);
-    for _ in 0..n {
+    for _ in 0..count {
         users.push(Vec::new(alloc))?;
     }
     Ok(users)
@@ -252,15 +254,14 @@ fn is_last(users: &[usize], user: usize) -> bool {
 
 /// Whether the pair at an index is in the table, and does not meet the clauses.
 fn is_wrong(types: &NumberedTypes, pairs: &[bool], i: usize) -> bool
-    requires small { length types.now < 4294967296 }
-    requires full { length pairs.now ≡ length types.now * length types.now }
+    requires full { table.IsFull types.now pairs.now }
     requires inside { i < length pairs.now }
     ensures wrong { result ≡ true → table.IsWrong types.now pairs.now i }
     ensures right { result ≡ false → table.IsRight types.now pairs.now i }
 {
-    let n = types.len();
+    let m = compared(types.len());
     if pairs[i] {
-        !meets(types, pairs, i / n, i % n)
+        !meets(types, pairs, i / m, i % m)
     } else {
         false
     }
@@ -268,8 +269,7 @@ fn is_wrong(types: &NumberedTypes, pairs: &[bool], i: usize) -> bool
 
 /// Whether the one type has for each operation of the other one that stands for it.
 fn meets(types: &NumberedTypes, pairs: &[bool], s: usize, t: usize) -> bool
-    requires small { length types.now < 4294967296 }
-    requires full { length pairs.now ≡ length types.now * length types.now }
+    requires full { table.IsFull types.now pairs.now }
     ensures { result ≡ spec.meets types.now (table.in_table (length types.now) pairs.now) s t }
 {
     let wanted = types.operations(t);
@@ -288,8 +288,7 @@ fn one_fits(
     own: Option<&NamedOperation>,
     wanted: &NamedOperation,
 ) -> bool
-    requires small { length types.now < 4294967296 }
-    requires full { length pairs.now ≡ length types.now * length types.now }
+    requires full { table.IsFull types.now pairs.now }
     ensures { result ≡ table.one_fits types.now (table.in_table (length types.now) pairs.now) (option_copied own.entry) wanted.now }
 {
     match own {
@@ -300,8 +299,7 @@ fn one_fits(
 
 /// Whether an operation takes what the wanted one takes, and gives what it gives.
 fn fits(types: &NumberedTypes, pairs: &[bool], wanted: &NamedOperation, o: &NamedOperation) -> bool
-    requires small { length types.now < 4294967296 }
-    requires full { length pairs.now ≡ length types.now * length types.now }
+    requires full { table.IsFull types.now pairs.now }
     ensures { result ≡ table.fits types.now (table.in_table (length types.now) pairs.now) wanted.now o.now }
 {
     parameters_fit(
@@ -318,8 +316,7 @@ fn parameters_fit(
     wanted: &[StaticType],
     given: &[StaticType],
 ) -> bool
-    requires small { length types.now < 4294967296 }
-    requires full { length pairs.now ≡ length types.now * length types.now }
+    requires full { table.IsFull types.now pairs.now }
     ensures { result ≡ spec.parameters_fit types.now (table.in_table (length types.now) pairs.now) wanted.now given.now }
 {
     if wanted.len() != given.len() {
@@ -339,8 +336,7 @@ fn results_fit(
     given: Option<StaticType>,
     wanted: Option<StaticType>,
 ) -> bool
-    requires small { length types.now < 4294967296 }
-    requires full { length pairs.now ≡ length types.now * length types.now }
+    requires full { table.IsFull types.now pairs.now }
     ensures { result ≡ spec.results_fit types.now (table.in_table (length types.now) pairs.now) given wanted }
 {
     match (given, wanted) {
@@ -352,8 +348,7 @@ fn results_fit(
 
 /// Whether a type conforms to another, where the pairs of the table are the named types that do.
 pub fn conforms_by(types: &NumberedTypes, pairs: &[bool], s: StaticType, t: StaticType) -> bool
-    requires small { length types.now < 4294967296 }
-    requires full { length pairs.now ≡ length types.now * length types.now }
+    requires full { table.IsFull types.now pairs.now }
     ensures { result ≡ spec.conforms_in types.now (table.in_table (length types.now) pairs.now) s t }
 {
     match t {
@@ -365,8 +360,7 @@ pub fn conforms_by(types: &NumberedTypes, pairs: &[bool], s: StaticType, t: Stat
 }
 
 fn conforms_to_plain(types: &NumberedTypes, pairs: &[bool], s: StaticType, t: Plain) -> bool
-    requires small { length types.now < 4294967296 }
-    requires full { length pairs.now ≡ length types.now * length types.now }
+    requires full { table.IsFull types.now pairs.now }
     ensures { result ≡ spec.conforms_to_plain types.now (table.in_table (length types.now) pairs.now) s t }
 {
     match s {
@@ -397,8 +391,7 @@ fn conforms_to_nil(s: StaticType) -> bool
 }
 
 fn plain_conforms(types: &NumberedTypes, pairs: &[bool], s: Plain, t: Plain) -> bool
-    requires small { length types.now < 4294967296 }
-    requires full { length pairs.now ≡ length types.now * length types.now }
+    requires full { table.IsFull types.now pairs.now }
     ensures { result ≡ spec.plain_conforms types.now (table.in_table (length types.now) pairs.now) s t }
 {
     match s {
@@ -410,8 +403,7 @@ fn plain_conforms(types: &NumberedTypes, pairs: &[bool], s: Plain, t: Plain) -> 
 }
 
 fn named_conforms(n: usize, pairs: &[bool], own: usize, t: Plain) -> bool
-    requires small { n < 4294967296 }
-    requires full { length pairs.now ≡ n * n }
+    requires full { length pairs.now ≡ table.compared n * table.compared n }
     ensures { result ≡ spec.named_conforms (table.in_table n pairs.now) own t }
 {
     match t {
@@ -433,9 +425,21 @@ fn asks_nothing(types: &NumberedTypes, t: Plain) -> bool
 }
 
 fn holds(n: usize, pairs: &[bool], a: usize, b: usize) -> bool
-    requires small { n < 4294967296 }
-    requires full { length pairs.now ≡ n * n }
+    requires full { length pairs.now ≡ table.compared n * table.compared n }
     ensures { result ≡ table.in_table n pairs.now a b }
 {
-    a < n && b < n && pairs[a * n + b]
+    a < n && b < n && holds_in_rows(compared(n), pairs, a, b)
+}
+
+/// What m rows say of two types. A type behind them conforms to each, and each to it.
+fn holds_in_rows(m: usize, pairs: &[bool], a: usize, b: usize) -> bool
+    requires few { m ≤ 1000 }
+    requires full { length pairs.now ≡ m * m }
+    ensures { result ≡ table.in_rows m pairs.now a b }
+{
+    if a < m && b < m {
+        pairs[a * m + b]
+    } else {
+        true
+    }
 }

@@ -14,7 +14,7 @@ loop-t-preserved c = elim c.if-is_wrong.branch [
       rw (w.pairs-is, w.struck-is)
       (passed_columns _ _ _ _ c.loop-t.invariant
       (passed_one _ _ c.args.s c.loop-t.t c.loop-t.invariant.full
-      (rw (c.as_slice.ensures.value, c.len-n.ensures) at (w.if-is_wrong.ensures.right refl))))
+      (rw (c.as_slice.ensures.value, c.compared-m.ensures, c.len.ensures) at (w.if-is_wrong.ensures.right refl))))
 ]
 
 pub returns : goal.returns
