@@ -118,7 +118,8 @@ abbrev pub most_types : ℕ
 most_types = 1000
 
 -- Each pair is of types that are there, and meets the clauses with pairs of the relation. The types behind the thousandth
--- are compared with nothing: each of them conforms to each type, and each to them. A program with so many is refused.
+-- are compared with nothing: each of them conforms to each named type, and each of these to it. A program that has such
+-- types is refused.
 pub record IsClosed (types : List NamedType) (r : Relation) : Type 0 where
   pub left : (a b : ℕ) → r a b ≡ true → a < length types
   pub right : (a b : ℕ) → r a b ≡ true → b < length types

@@ -17,7 +17,7 @@ one_fits types r (Some o) wanted = fits types r wanted o
 abbrev pub compared : ℕ → ℕ
 compared n = min n most_types
 
--- what m rows say of two types: a type behind them conforms to each, and each to it
+-- what m rows say of two named types: a type behind them conforms to each, and each to it
 abbrev pub in_rows : ℕ → List Bool → Relation
 in_rows m table a b = if nat_lt a m && nat_lt b m then slice_index_or table (a * m + b) false else true
 
