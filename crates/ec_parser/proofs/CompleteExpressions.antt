@@ -7,8 +7,6 @@ use Rattle.ec_parser.specs.Reads.{first as here, later}
 use Rattle.ec_parser.specs.Filled.{rest, top_or}
 use Rattle.ec_parser.specs.HasTree.{IsComparison, IsAdditive, IsMultiplicative, IsUnary, IsTerm, AreFactors, IsSum, AreAddends, IsRel}
 use Rattle.ec_parser.specs.HasTree.{IsNot, IsAnd, AreNots, IsExpr, AreAnds}
-use Rattle.ec_parser.specs.Tops.{first_place, first_comparison, first_additive, first_multiplicative, first_type, first_expression}
-use Rattle.ec_parser.specs.Tops.{first_expression_list, first_addend_list, first_factor_list}
 use Rattle.ec_parser.proofs.Meaning.{Means, a_Type, a_Expression, a_OrTail, a_And, a_AndTail, a_Not, a_NotPrefix, a_Rel, a_CompareTail}
 use Rattle.ec_parser.proofs.Meaning.{a_CompareWord, a_Sum, a_SumTail, a_SumWord, a_Term, a_TermTail, a_TermWord, a_Unary, a_UnaryPrefix}
 use Rattle.ec_parser.proofs.Meaning.{a_Postfix, no_compare, IsNotPrefix, IsUnaryPrefix}

@@ -7,8 +7,6 @@ use Rattle.ec_parser.specs.declared.values.Values.{Values}
 use Rattle.ec_parser.specs.Reads.{first as here, later}
 use Rattle.ec_parser.specs.Filled.{rest, top_or}
 use Rattle.ec_parser.specs.HasTree.{MayIndex, Ending, IsFlag, IsPrimary, IsPostfix, AreLinks, AreArguments, AreMoreArguments, IsObject}
-use Rattle.ec_parser.specs.Tops.{first_name, first_number, first_literal, first_place, first_flag, first_type, first_expression}
-use Rattle.ec_parser.specs.Tops.{first_body, first_object, first_expression_list, first_link_list}
 use Rattle.ec_parser.proofs.Meaning.{Means, a_Name, a_Type, a_ObjectRest, a_Body, a_Expression, a_Postfix, a_PostfixTail, a_AfterDot}
 use Rattle.ec_parser.proofs.Meaning.{a_Arguments, a_MoreArguments, a_Primary, a_Plain, a_OtherPlain, a_NodeRest, Linked, IsObjectRest}
 use Rattle.ec_parser.proofs.Meaning.{IsAfterDot, IsNodeRest}

@@ -14,9 +14,6 @@ use Rattle.ec_parser.specs.Chains.{postfix_of}
 use Rattle.ec_parser.specs.Filled.{rest, top_or}
 use Rattle.ec_parser.specs.HasTree.{Is, IsTarget, IsInvocation, an_index, a_call, a_field, Ending, IsFlag, IsPrimary, IsPostfix, AreLinks}
 use Rattle.ec_parser.specs.HasTree.{IsExpr, IsStmt, AreArms, IsElse, IsBlock, IsObject}
-use Rattle.ec_parser.specs.Tops.{first_name, first_place, first_flag, first_type, first_maybe_type, first_expression}
-use Rattle.ec_parser.specs.Tops.{first_maybe_expression, first_statement, first_maybe_block, first_object, first_link_list}
-use Rattle.ec_parser.specs.Tops.{first_statement_list, first_arm_list}
 use Rattle.ec_parser.proofs.Meaning.{Means, a_Name, a_Type, a_ObjectRest, a_Initial, a_TypedValue, a_Block, a_Statements, a_Declaration}
 use Rattle.ec_parser.proofs.Meaning.{a_Statement, a_AfterName, a_AfterOther, a_ElseIfs, a_Else, a_When, a_Expression, a_OtherPlain}
 use Rattle.ec_parser.proofs.Meaning.{IsObjectRest, IsTypedValue, IsDeclaration, IsWhen, IsRest, put_statement}

@@ -6,7 +6,6 @@ use Rattle.ec_parser.specs.declared.values.Values.{Values}
 use Rattle.ec_parser.specs.Reads.{first as here, later}
 use Rattle.ec_parser.specs.Chains.{postfix_of}
 use Rattle.ec_parser.specs.Filled.{rest, top_or}
-use Rattle.ec_parser.specs.Tops.{first_name, first_place, first_expression, first_expression_list, first_link_list}
 use Rattle.ec_parser.proofs.Meaning.{Means, a_Name, a_AfterName, a_AfterOther, a_AfterIndex, a_AfterField, a_AfterCall, a_Expression}
 use Rattle.ec_parser.proofs.Meaning.{a_Arguments, IsRest, IsAfterField}
 use Rattle.ec_parser.proofs.Seq.{finished, token, keep, part as reads_part, bound, made, Taken, took}

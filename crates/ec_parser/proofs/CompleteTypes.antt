@@ -6,7 +6,6 @@ use Rattle.ec_parser.specs.declared.values.Values.{Values}
 use Rattle.ec_parser.specs.Reads.{first as here, later}
 use Rattle.ec_parser.specs.Filled.{rest, top_or}
 use Rattle.ec_parser.specs.HasTree.{IsOpword, IsType, IsSig, AreMoreSigs, AreSigs, IsSigList, IsSigResult, AreSignatures, IsTypeobj}
-use Rattle.ec_parser.specs.Tops.{first_name, first_place, first_type, first_maybe_type, first_type_list, first_signature_list}
 use Rattle.ec_parser.proofs.Meaning.{Means, a_Name, a_Typeobject, a_Signatures, a_SignatureParameters, a_Sigs, a_MoreSigs}
 use Rattle.ec_parser.proofs.Meaning.{a_SignatureResult, a_OperationWord, a_Sig, a_AfterSigName, a_Type, a_PlainType, IsPlainType}
 use Rattle.ec_parser.proofs.Meaning.{IsAfterSigName}

@@ -15,7 +15,7 @@ use Rattle.ec_parser.specs.declared.grammar.Symbol.TheVariants.{Token, Keep, Par
 use Rattle.ec_parser.specs.declared.values.Values.{Values}
 use Rattle.ec_parser.specs.Rules.{rules}
 use Rattle.ec_parser.specs.Reads.{IsRule, first as here, later}
-use Rattle.ec_parser.specs.Filled.{IsFilled, rest}
+use Rattle.ec_parser.specs.Filled.{rest}
 use Rattle.ec_parser.specs.Values.{act, keep, no_values}
 use Rattle.ec_parser.specs.Fits.{Stack, all_stacks, number, a_name, has_top, without, without_all, Holds, below, kept_as, takes, gives}
 use Rattle.ec_parser.specs.Fits.{part_takes, part_gives, run, Fits, Finds, a_program}

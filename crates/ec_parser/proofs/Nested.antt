@@ -1,5 +1,5 @@
 -- The nesting at each token is the one that the tokens themselves tell.
-use Rattle.std.proofs.Common.{◌≡◌, ℕ, zero, suc, Bool, true, false, not, ◌&&◌, cond, List, [], ◌∷◌, length, take, Option, Some, None, refl}
+use Rattle.std.proofs.Common.{◌≡◌, ℕ, Bool, true, false, not, ◌&&◌, cond, List, [], ◌∷◌, length, Option, Some, None, refl}
 use Rattle.std.proofs.Common.{sym, ◌∙◌, ap, rules}
 use denote.Enum.Bare.{same_true}
 use Rattle.ec_parser.specs.contracts.grammar.Opened.{the_type as opened_type}

@@ -8,8 +8,6 @@ use Rattle.ec_parser.specs.Rules.{rules}
 use Rattle.ec_parser.specs.Reads.{IsRule, first as here, later}
 use Rattle.ec_parser.specs.Filled.{rest, top_or}
 use Rattle.ec_parser.specs.HasTree.{IsParam, AreMoreParams, AreParams, IsParamsOption, AreMembers, IsInitially, IsProcess, IsBody}
-use Rattle.ec_parser.specs.Tops.{first_name, first_place, first_flag, first_type, first_member, first_maybe_block, first_maybe_process}
-use Rattle.ec_parser.specs.Tops.{first_body, first_parameter_list, first_member_list, first_statement_list}
 use Rattle.ec_parser.proofs.Meaning.{Means, a_Name, a_Type, a_ClassRest, a_ObjectRest, a_Parameters, a_ParameterList, a_MoreParameters}
 use Rattle.ec_parser.proofs.Meaning.{a_Parameter, a_Body, a_Members, a_Initially, a_Process, a_Member, a_Block, IsClassRest, IsObjectRest}
 use Rattle.ec_parser.proofs.Seq.{Seq, finished, token, keep, part as reads_part, bound, made, into, same_as}

@@ -8,9 +8,6 @@ use Rattle.ec_parser.specs.Rules.{rules}
 use Rattle.ec_parser.specs.Reads.{IsRule, first as here, later}
 use Rattle.ec_parser.specs.Filled.{rest, top_or}
 use Rattle.ec_parser.specs.HasTree.{IsId, IsFlag, AreConstants}
-use Rattle.ec_parser.specs.Tops.{first_name, first_place, first_flag, first_type, first_maybe_type, first_expression, first_object}
-use Rattle.ec_parser.specs.Tops.{first_class, first_value, first_expression_list, first_addend_list, first_factor_list, first_link_list}
-use Rattle.ec_parser.specs.Tops.{first_constant_list}
 use Rattle.ec_parser.proofs.Meaning.{Means, a_Program, a_Constants, a_ConstantRest, a_ConstantValue, a_AfterMonitor, a_TermRest, a_AndRest}
 use Rattle.ec_parser.proofs.Meaning.{a_Name, a_Typeobject, a_Type, a_ClassRest, a_ObjectRest, a_Expression, a_OrTail, a_AndTail}
 use Rattle.ec_parser.proofs.Meaning.{a_NotPrefix, a_CompareTail, a_SumTail, a_TermTail, a_UnaryPrefix, a_PostfixTail, a_Plain, no_compare}

@@ -8,8 +8,6 @@ use Rattle.ec_parser.specs.Rules.{rules}
 use Rattle.ec_parser.specs.Reads.{IsRule, first as here, later}
 use Rattle.ec_parser.specs.Filled.{rest, top_or}
 use Rattle.ec_parser.specs.HasTree.{IsTypeOption, IsParam, IsResult, IsFlag, IsBrackets, IsInitial, IsMember}
-use Rattle.ec_parser.specs.Tops.{first_name, first_flag, first_type, first_maybe_type, first_maybe_parameter, first_expression}
-use Rattle.ec_parser.specs.Tops.{first_maybe_expression, first_parameter_list, first_statement_list}
 use Rattle.ec_parser.proofs.Meaning.{Means, a_Name, a_OperationWord, a_Type, a_Parameters, a_Member, a_AttachedField, a_ConstantField}
 use Rattle.ec_parser.proofs.Meaning.{a_FieldValue, a_ConditionTail, a_OperationRest, a_OperationResult, a_Initial, a_TypedValue, a_Block}
 use Rattle.ec_parser.proofs.Meaning.{a_Expression, IsTypedValue, IsAttachedField, IsFieldValue, IsConstantField, IsOperationRest}

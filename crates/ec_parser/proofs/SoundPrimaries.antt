@@ -8,8 +8,6 @@ use Rattle.ec_parser.specs.Rules.{rules}
 use Rattle.ec_parser.specs.Reads.{IsRule, first as here, later}
 use Rattle.ec_parser.specs.Filled.{rest, top_or}
 use Rattle.ec_parser.specs.HasTree.{IsFlag, IsPrimary, AreLinks, AreArguments, AreMoreArguments, IsObject}
-use Rattle.ec_parser.specs.Tops.{first_name, first_number, first_literal, first_place, first_flag, first_type, first_expression}
-use Rattle.ec_parser.specs.Tops.{first_body, first_object, first_expression_list, first_link_list}
 use Rattle.ec_parser.proofs.Meaning.{Means, a_Name, a_Type, a_ObjectRest, a_Body, a_Expression, a_PostfixTail, a_AfterDot, a_Arguments}
 use Rattle.ec_parser.proofs.Meaning.{a_MoreArguments, a_Primary, a_Plain, a_OtherPlain, a_NodeRest, Linked, IsAfterDot, IsNodeRest}
 use Rattle.ec_parser.proofs.Seq.{Seq, finished, token, keep, part as reads_part, bound, made, into, same_as}

@@ -9,9 +9,6 @@ use Rattle.ec_parser.specs.Reads.{IsRule, first as here, later}
 use Rattle.ec_parser.specs.Chains.{postfix_of}
 use Rattle.ec_parser.specs.Filled.{rest, top_or}
 use Rattle.ec_parser.specs.HasTree.{IsPrimary, IsStmt, AreArms, IsElse, IsBlock}
-use Rattle.ec_parser.specs.Tops.{first_name, first_place, first_flag, first_type, first_maybe_type, first_expression}
-use Rattle.ec_parser.specs.Tops.{first_maybe_expression, first_statement, first_maybe_block, first_object, first_link_list}
-use Rattle.ec_parser.specs.Tops.{first_statement_list, first_arm_list}
 use Rattle.ec_parser.proofs.Meaning.{Means, a_Name, a_Type, a_ObjectRest, a_Initial, a_TypedValue, a_Block, a_Statements, a_Declaration}
 use Rattle.ec_parser.proofs.Meaning.{a_Statement, a_AfterName, a_AfterOther, a_ElseIfs, a_Else, a_When, a_Expression, a_OtherPlain}
 use Rattle.ec_parser.proofs.Meaning.{IsDeclaration, IsWhen}

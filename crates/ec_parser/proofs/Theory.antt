@@ -18,7 +18,7 @@ use Rattle.ec_parser.specs.Choose.{has_kind, same_kind, choose}
 use Rattle.ec_parser.specs.Sizes.{first, nullable, follow, weight}
 use Rattle.ec_parser.proofs.Shortest.{rank}
 use Rattle.ec_parser.specs.Reads.{IsRule, open_in, Reads, finished, token, keep, part, bound, made}
-use Rattle.ec_parser.specs.Follow.{starts_with, starts_of, weight_of, head, Follows, Same, ReadsNone, Goes, Refuses, EndsWith, EndsNowhere}
+use Rattle.ec_parser.specs.Follow.{starts_with, starts_of, weight_of, head, Follows, Same, ReadsNone, Goes, Refuses, EndsWith}
 use Rattle.ec_parser.proofs.Table.{all_nullable, is_subset, follows_in, ends_below, lookahead, implies}
 use Rattle.ec_parser.specs.Fits.{Fits, Finds}
 use Rattle.ec_parser.proofs.Tokens.{some_token, some_is}

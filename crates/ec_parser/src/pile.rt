@@ -47,7 +47,7 @@ impl<T> Pile<T> {
         self.items.pop()
     }
 
-    /// The top, taken off where there is one.
+    /// The top, taken off a stack that has one.
     #[tactic(auto, unfolding(crate::specs::Filled::top_or, crate::specs::Filled::rest))]
     pub(crate) fn take(&mut self) -> T
         requires { IsFilled self.old }

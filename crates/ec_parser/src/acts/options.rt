@@ -1,4 +1,4 @@
-//! What may stand or be left out, and words that may.
+//! What may be left out, and whether a word stands.
 
 ghost use Rattle.std.specs.Prelude.{◌≡◌, OnOk};
 ghost use Rattle.ec_parser.specs.Filled.{IsFilled};
