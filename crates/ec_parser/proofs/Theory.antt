@@ -305,9 +305,6 @@ ends_here s₀ v₀ v h fit = record {
 no_token : {k : Terminal} {s : List Symbol} {vs ws : Values} {ns : List ℕ} → Reads (Token k ∷ s) vs [] ns ws → ⊥
 no_token d = elim d [ ]
 
-no_keep : {k : Terminal} {s : List Symbol} {vs ws : Values} {ns : List ℕ} → Reads (Keep k ∷ s) vs [] ns ws → ⊥
-no_keep d = elim d [ ]
-
 -- ---- each list of symbols reads some tokens
 
 abbrev pub Reaches : List Symbol → Type 0
