@@ -288,22 +288,12 @@ pub other_keep : (t : Word) (k : Terminal) (s₀ : List Symbol) (v₀ : Values) 
     Same (terminal_of t) s₀ v₀ (Keep k ∷ s) v × Follows s × Fits (Keep k ∷ s) v → Refuses t s₀ v₀
 other_keep t k s₀ v₀ s v n h ts ns ws d = n (of_keep (h.0.forth (t ∷ ts) ns ws refl d)).0
 
-pub no_more : (t : Word) (s₀ : List Symbol) (v₀ : Values) (v : Values) →
-    Same (terminal_of t) s₀ v₀ [] v → Refuses t s₀ v₀
-no_more t s₀ v₀ v h ts ns ws d = go (of_nothing (h.forth (t ∷ ts) ns ws refl d)).0
-  where
-    go : ◌≡◌ {A = List Word} (t ∷ ts) [] → ⊥
-    go e = cc
-
 pub ends_here : (s₀ : List Symbol) (v₀ v : Values) → Same kind.EndOfText s₀ v₀ [] v → Fits [] v → EndsWith s₀ v₀ v
 ends_here s₀ v₀ v h fit = record {
   fits = fit;
   made = h.back [] [] v refl finished;
   only = λ ns ws d. ((of_nothing (h.forth [] ns ws refl d)).1, (of_nothing (h.forth [] ns ws refl d)).2);
 }
-
-no_token : {k : Terminal} {s : List Symbol} {vs ws : Values} {ns : List ℕ} → Reads (Token k ∷ s) vs [] ns ws → ⊥
-no_token d = elim d [ ]
 
 -- ---- each list of symbols reads some tokens
 
