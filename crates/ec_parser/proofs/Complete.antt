@@ -6,14 +6,28 @@ use Rattle.ec_parser.specs.declared.grammar.Part.TheVariants as part
 use Rattle.ec_parser.specs.declared.values.Values.{Values}
 use Rattle.ec_parser.proofs.Meaning.{Means}
 use Rattle.ec_parser.proofs.Seq.{Taken}
-use Rattle.ec_parser.proofs.CompleteConstants.{complete_Program, complete_Constants, complete_ConstantRest, complete_ConstantValue, complete_AfterMonitor, complete_TermRest, complete_AndRest, complete_Name}
-use Rattle.ec_parser.proofs.CompleteTypes.{complete_Typeobject, complete_Signatures, complete_SignatureParameters, complete_Sigs, complete_MoreSigs, complete_SignatureResult, complete_OperationWord, complete_Sig, complete_AfterSigName, complete_Type, complete_PlainType}
-use Rattle.ec_parser.proofs.CompleteClasses.{complete_ClassRest, complete_ObjectRest, complete_Parameters, complete_ParameterList, complete_MoreParameters, complete_Parameter, complete_Body, complete_Members, complete_Initially, complete_Process}
-use Rattle.ec_parser.proofs.CompleteMembers.{complete_Member, complete_AttachedField, complete_ConstantField, complete_FieldValue, complete_ConditionTail, complete_OperationRest, complete_OperationResult, complete_Initial, complete_TypedValue}
-use Rattle.ec_parser.proofs.CompleteStatements.{complete_Block, complete_Statements, complete_Declaration, complete_Statement, complete_ElseIfs, complete_Else, complete_When}
-use Rattle.ec_parser.proofs.CompleteTargets.{complete_AfterName, complete_AfterOther, complete_AfterIndex, complete_AfterField, complete_AfterCall}
-use Rattle.ec_parser.proofs.CompleteExpressions.{complete_Expression, complete_OrTail, complete_And, complete_AndTail, complete_Not, complete_NotPrefix, complete_Rel, complete_CompareTail, complete_CompareWord, complete_Sum, complete_SumTail, complete_SumWord, complete_Term, complete_TermTail, complete_TermWord, complete_Unary, complete_UnaryPrefix}
-use Rattle.ec_parser.proofs.CompletePrimaries.{complete_Postfix, complete_PostfixTail, complete_AfterDot, complete_Arguments, complete_MoreArguments, complete_Primary, complete_Plain, complete_OtherPlain, complete_NodeRest}
+use Rattle.ec_parser.proofs.CompleteConstants.{complete_Program, complete_Constants, complete_ConstantRest, complete_ConstantValue}
+use Rattle.ec_parser.proofs.CompleteConstants.{complete_AfterMonitor, complete_TermRest, complete_AndRest, complete_Name}
+use Rattle.ec_parser.proofs.CompleteTypes.{complete_Typeobject, complete_Signatures, complete_SignatureParameters, complete_Sigs}
+use Rattle.ec_parser.proofs.CompleteTypes.{complete_MoreSigs, complete_SignatureResult, complete_OperationWord, complete_Sig}
+use Rattle.ec_parser.proofs.CompleteTypes.{complete_AfterSigName, complete_Type, complete_PlainType}
+use Rattle.ec_parser.proofs.CompleteClasses.{complete_ClassRest, complete_ObjectRest, complete_Parameters, complete_ParameterList}
+use Rattle.ec_parser.proofs.CompleteClasses.{complete_MoreParameters, complete_Parameter, complete_Body, complete_Members}
+use Rattle.ec_parser.proofs.CompleteClasses.{complete_Initially, complete_Process}
+use Rattle.ec_parser.proofs.CompleteMembers.{complete_Member, complete_AttachedField, complete_ConstantField, complete_FieldValue}
+use Rattle.ec_parser.proofs.CompleteMembers.{complete_ConditionTail, complete_OperationRest, complete_OperationResult, complete_Initial}
+use Rattle.ec_parser.proofs.CompleteMembers.{complete_TypedValue}
+use Rattle.ec_parser.proofs.CompleteStatements.{complete_Block, complete_Statements, complete_Declaration, complete_Statement}
+use Rattle.ec_parser.proofs.CompleteStatements.{complete_ElseIfs, complete_Else, complete_When}
+use Rattle.ec_parser.proofs.CompleteTargets.{complete_AfterName, complete_AfterOther, complete_AfterIndex, complete_AfterField}
+use Rattle.ec_parser.proofs.CompleteTargets.{complete_AfterCall}
+use Rattle.ec_parser.proofs.CompleteExpressions.{complete_Expression, complete_OrTail, complete_And, complete_AndTail, complete_Not}
+use Rattle.ec_parser.proofs.CompleteExpressions.{complete_NotPrefix, complete_Rel, complete_CompareTail, complete_CompareWord, complete_Sum}
+use Rattle.ec_parser.proofs.CompleteExpressions.{complete_SumTail, complete_SumWord, complete_Term, complete_TermTail, complete_TermWord}
+use Rattle.ec_parser.proofs.CompleteExpressions.{complete_Unary, complete_UnaryPrefix}
+use Rattle.ec_parser.proofs.CompletePrimaries.{complete_Postfix, complete_PostfixTail, complete_AfterDot, complete_Arguments}
+use Rattle.ec_parser.proofs.CompletePrimaries.{complete_MoreArguments, complete_Primary, complete_Plain, complete_OtherPlain}
+use Rattle.ec_parser.proofs.CompletePrimaries.{complete_NodeRest}
 
 pub complete : (p : Part_of) (vs ws : Values) (ts us : List Token) → Means p vs ts us ws → Taken p vs ts us ws
 complete part.Program vs ws ts us m = complete_Program m

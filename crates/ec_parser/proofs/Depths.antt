@@ -5,7 +5,8 @@ use Rattle.ec_parser.specs.Terminals.{terminal_of}
 use Rattle.ec_parser.specs.declared.grammar.Opened.{Opened}
 use Rattle.ec_parser.specs.Nesting.{Behind, behind, open_at, nestings_from, nestings_of}
 
-from_append : (os : List Opened) (b : Behind) (xs ys : List Token) → (zs : List ℕ) × (nestings_from os b (xs ++ ys) ≡ nestings_from os b xs ++ zs)
+from_append : (os : List Opened) (b : Behind) (xs ys : List Token) →
+    (zs : List ℕ) × (nestings_from os b (xs ++ ys) ≡ nestings_from os b xs ++ zs)
 from_append os b [] ys = (nestings_from os b ys, refl)
 from_append os b (t ∷ xs) ys =
     let r = from_append (open_at b (terminal_of t) os) (behind (terminal_of t)) xs ys in

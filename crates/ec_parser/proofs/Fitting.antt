@@ -1,5 +1,6 @@
 -- Each act and part finds the values that it takes.
-use Rattle.std.proofs.Common.{◌≡◌, Bool, true, false, ◌&&◌, cond, List, [], ◌∷◌, ◌++◌, Option, Some, None, eqb, eqb-true, get_or, refl, sym, ◌∙◌, ap, subst, append_assoc}
+use Rattle.std.proofs.Common.{◌≡◌, Bool, true, false, ◌&&◌, cond, List, [], ◌∷◌, ◌++◌, Option, Some, None, eqb, eqb-true, get_or, refl, sym}
+use Rattle.std.proofs.Common.{◌∙◌, ap, subst, append_assoc}
 use Rattle.std.specs.Prelude.{option_and_then}
 use Rattle.ec_parser.specs.declared.terminal.Terminal.{Terminal}
 use Rattle.ec_parser.specs.declared.terminal.Terminal.TheVariants as terminal
@@ -14,9 +15,10 @@ use Rattle.ec_parser.specs.declared.grammar.Symbol.TheVariants.{Token, Keep, Par
 use Rattle.ec_parser.specs.declared.values.Values.{Values}
 use Rattle.ec_parser.specs.Rules.{rules}
 use Rattle.ec_parser.specs.Reads.{IsRule, first as here, later}
-use Rattle.ec_parser.specs.Filled.{IsFilled, rest}
+use Rattle.ec_parser.specs.Filled.{rest}
 use Rattle.ec_parser.specs.Values.{act, keep, no_values}
-use Rattle.ec_parser.specs.Fits.{Stack, all_stacks, number, a_name, has_top, without, without_all, Holds, below, kept_as, takes, gives, part_takes, part_gives, run, Fits, Finds, a_program}
+use Rattle.ec_parser.specs.Fits.{Stack, all_stacks, number, a_name, has_top, without, without_all, Holds, below, kept_as, takes, gives}
+use Rattle.ec_parser.specs.Fits.{part_takes, part_gives, run, Fits, Finds, a_program}
 use Rattle.ec_parser.proofs.Sets.{and_left, and_right}
 
 abbrev same_list : List Stack → List Stack → Bool
@@ -58,9 +60,12 @@ gives_same : (o : Option (List Stack)) (ys : List Stack) → gives_list o ys ≡
 gives_same None ys h = absurd (let f : false ≡ true = h in cc)
 gives_same (Some xs) ys h = ap Some (is_same xs ys h)
 
-fits_in : (p : Part_of) (r : List Symbol) (rs : List (List Symbol)) → IsRule r rs → all_fit p rs ≡ true → run r (part_takes p) ≡ Some (part_gives p)
-fits_in p r _ (here {rs = rs}) h = gives_same (run r (part_takes p)) (part_gives p) (and_left (gives_list (run r (part_takes p)) (part_gives p)) (all_fit p rs) h)
-fits_in p r _ (later {q = q} {rs = rs} m) h = fits_in p r rs m (and_right (gives_list (run q (part_takes p)) (part_gives p)) (all_fit p rs) h)
+fits_in : (p : Part_of) (r : List Symbol) (rs : List (List Symbol)) → IsRule r rs → all_fit p rs ≡ true →
+    run r (part_takes p) ≡ Some (part_gives p)
+fits_in p r _ (here {rs = rs}) h =
+    gives_same (run r (part_takes p)) (part_gives p) (and_left (gives_list (run r (part_takes p)) (part_gives p)) (all_fit p rs) h)
+fits_in p r _ (later {q = q} {rs = rs} m) h =
+    fits_in p r rs m (and_right (gives_list (run q (part_takes p)) (part_gives p)) (all_fit p rs) h)
 
 fits : (p : Part_of) (r : List Symbol) → IsRule r (rules p) → run r (part_takes p) ≡ Some (part_gives p)
 fits p r m = fits_in p r (rules p) m (fitting p)
@@ -97,7 +102,8 @@ below_more [] ks more left e = let f : ks ≡ left = cc in ap (λ x. Some (x ++ 
 below_more (t ∷ ts) [] more left e = cc
 below_more (t ∷ ts) (k ∷ ks) more left e = go (eqb (number t) (number k)) e (λ f. below_more ts ks more left f)
   where
-    go : (b : Bool) → cond b (below ts ks) None ≡ Some left → (below ts ks ≡ Some left → below ts (ks ++ more) ≡ Some (left ++ more)) → cond b (below ts (ks ++ more)) None ≡ Some (left ++ more)
+    go : (b : Bool) → cond b (below ts ks) None ≡ Some left → (below ts ks ≡ Some left → below ts (ks ++ more) ≡ Some (left ++ more)) →
+        cond b (below ts (ks ++ more)) None ≡ Some (left ++ more)
     go true e f = f e
     go false e f = cc
 
@@ -106,7 +112,8 @@ below_split [] ks left e = cc
 below_split (t ∷ ts) [] left e = cc
 below_split (t ∷ ts) (k ∷ ks) left e = go (eqb (number t) (number k)) refl e (λ f. below_split ts ks left f)
   where
-    go : (b : Bool) → eqb (number t) (number k) ≡ b → cond b (below ts ks) None ≡ Some left → (below ts ks ≡ Some left → ks ≡ ts ++ left) → k ∷ ks ≡ t ∷ (ts ++ left)
+    go : (b : Bool) → eqb (number t) (number k) ≡ b → cond b (below ts ks) None ≡ Some left → (below ts ks ≡ Some left → ks ≡ ts ++ left) →
+        k ∷ ks ≡ t ∷ (ts ++ left)
     go true q e f = let same : t ≡ k = same_stack t k q in let tail : ks ≡ ts ++ left = f e in cc
     go false q e f = cc
 
@@ -119,7 +126,8 @@ framed (Bound o ∷ xs) s ks more out e = framed xs s ks more out e
 framed (Part p ∷ xs) s ks more out e = go (below (part_takes p) ks) refl e (λ left f. framed xs s (part_gives p ++ left) more out f)
   where
     go : (o : Option (List Stack)) → below (part_takes p) ks ≡ o → option_and_then (λ left. run xs (part_gives p ++ left)) o ≡ Some out →
-        ((left : List Stack) → run xs (part_gives p ++ left) ≡ Some out → run (xs ++ s) ((part_gives p ++ left) ++ more) ≡ run s (out ++ more)) →
+        ((left : List Stack) → run xs (part_gives p ++ left) ≡ Some out →
+        run (xs ++ s) ((part_gives p ++ left) ++ more) ≡ run s (out ++ more)) →
         option_and_then (λ left. run (xs ++ s) (part_gives p ++ left)) (below (part_takes p) (ks ++ more)) ≡ run s (out ++ more)
     go None b e f = cc
     go (Some left) b e f = rw (below_more (part_takes p) ks more left b, ← append_assoc (part_gives p) left more) (f left e)
@@ -131,10 +139,12 @@ framed (Do a ∷ xs) s ks more out e = go (below (takes a) ks) refl e (λ left f
     go None b e f = cc
     go (Some left) b e f = rw (below_more (takes a) ks more left b) (f left e)
 
-expands : (p : Part_of) (r : List Symbol) (s : List Symbol) (ks out : List Stack) → IsRule r (rules p) → run (Part p ∷ s) ks ≡ Some out → run (r ++ s) ks ≡ Some out
+expands : (p : Part_of) (r : List Symbol) (s : List Symbol) (ks out : List Stack) → IsRule r (rules p) → run (Part p ∷ s) ks ≡ Some out →
+    run (r ++ s) ks ≡ Some out
 expands p r s ks out m h = go (below (part_takes p) ks) refl h
   where
-    go : (o : Option (List Stack)) → below (part_takes p) ks ≡ o → option_and_then (λ left. run s (part_gives p ++ left)) o ≡ Some out → run (r ++ s) ks ≡ Some out
+    go : (o : Option (List Stack)) → below (part_takes p) ks ≡ o → option_and_then (λ left. run s (part_gives p ++ left)) o ≡ Some out →
+        run (r ++ s) ks ≡ Some out
     go None b h = cc
     go (Some left) b h = rw (below_split (part_takes p) ks left b) (framed r s (part_takes p) left (part_gives p) (fits p r m) ∙ h)
 
@@ -157,7 +167,8 @@ record Found (a : Act) (s : List Symbol) (vs : Values) : Type 0 where
 found : (a : Act) (s : List Symbol) (vs : Values) → Fits (Do a ∷ s) vs → Found a s vs
 found a s vs h = go (below (takes a) h.0) refl h.2
   where
-    go : (o : Option (List Stack)) → below (takes a) h.0 ≡ o → option_and_then (λ left. run s (gives a ∷ left)) o ≡ Some (a_program ∷ []) → Found a s vs
+    go : (o : Option (List Stack)) → below (takes a) h.0 ≡ o → option_and_then (λ left. run s (gives a ∷ left)) o ≡ Some (a_program ∷ []) →
+        Found a s vs
     go None b e = cc
     go (Some left) b e =
         let all : Holds (takes a ++ left) vs = subst (λ ks. Holds ks vs) (below_split (takes a) h.0 left b) h.1 in
@@ -174,11 +185,3 @@ fits_act a s vs h = (found a s vs h).fits
 
 pub fits_start : Fits (Part part.Program ∷ []) no_values
 fits_start = ([], tt, refl)
-
-pub fits_end : (vs : Values) → Fits [] vs → IsFilled vs.programs
-fits_end vs h =
-    let e : h.0 ≡ a_program ∷ [] = some_is h.0 (a_program ∷ []) h.2 in
-    (subst (λ ks. Holds ks vs) e h.1).0
-  where
-    some_is : (xs ys : List Stack) → Some xs ≡ Some ys → xs ≡ ys
-    some_is xs ys e = cc

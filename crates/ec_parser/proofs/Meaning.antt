@@ -39,8 +39,13 @@ use Rattle.ec_parser.specs.declared.grammar.Part.TheVariants as part
 use Rattle.ec_parser.specs.declared.values.Values.{Values}
 use Rattle.ec_parser.specs.Chains.{or_of, and_of, sum_of, term_of, postfix_of}
 use Rattle.ec_parser.specs.Filled.{rest}
-use Rattle.ec_parser.specs.HasTree.{Is, MayIndex, IsTarget, IsInvocation, a_name, a_primary, an_index, a_call, a_field, IsId, IsOpword, IsType, IsTypeOption, IsSig, AreMoreSigs, AreSigs, IsSigList, IsSigResult, AreSignatures, IsTypeobj, IsParam, AreMoreParams, AreParams, IsParamsOption, IsResult, IsComparison, IsAdditive, IsMultiplicative, Ending, IsBrackets, IsPrimary, IsPostfix, AreLinks, AreArguments, AreMoreArguments, IsUnary, IsTerm, AreFactors, IsSum, AreAddends, IsRel, IsNot, IsAnd, AreNots, IsExpr, AreAnds, IsInitial, IsStmt, AreArms, IsElse, IsBlock, IsMember, AreMembers, IsInitially, IsProcess, IsBody, IsClass, AreConstants}
-use Rattle.ec_parser.specs.Values.{first_name, first_place, first_flag, first_expression, first_link_list, first_parameter_list}
+use Rattle.ec_parser.specs.HasTree.{Is, MayIndex, IsTarget, IsInvocation, a_name, a_primary, an_index, a_call, a_field, IsId, IsOpword}
+use Rattle.ec_parser.specs.HasTree.{IsType, IsTypeOption, IsSig, AreMoreSigs, AreSigs, IsSigList, IsSigResult, AreSignatures, IsTypeobj}
+use Rattle.ec_parser.specs.HasTree.{IsParam, AreMoreParams, AreParams, IsParamsOption, IsResult, IsComparison, IsAdditive, IsMultiplicative}
+use Rattle.ec_parser.specs.HasTree.{Ending, IsBrackets, IsPrimary, IsPostfix, AreLinks, AreArguments, AreMoreArguments, IsUnary, IsTerm}
+use Rattle.ec_parser.specs.HasTree.{AreFactors, IsSum, AreAddends, IsRel, IsNot, IsAnd, AreNots, IsExpr, AreAnds, IsInitial, IsStmt}
+use Rattle.ec_parser.specs.HasTree.{AreArms, IsElse, IsBlock, IsMember, AreMembers, IsInitially, IsProcess, IsBody, IsClass, AreConstants}
+use Rattle.ec_parser.specs.Tops.{first_name, first_place, first_flag, first_expression, first_link_list, first_parameter_list}
 
 -- one value more
 abbrev pub put_name : Name → Values → Values
@@ -211,7 +216,8 @@ pub data IsClassRest : List Token → List Token → Bool → Class → Type 0 w
 pub data IsObjectRest : List Token → List Token → Bool → Span → ObjectConstructor → Type 0 where
   object : {a b c d : Token} {ts us : List Token} {flag : Bool} {at : Span} {name end_name : Name} {x : Body} →
       Is t.Object a → IsId b name → IsBody ts (c ∷ d ∷ us) x → Is t.End c → IsId d end_name →
-      IsObjectRest (a ∷ b ∷ ts) us flag at (roll-ObjectConstructor (record { at = at; is_monitored = flag; name = name; body = x; end_name = end_name }))
+      IsObjectRest (a ∷ b ∷ ts) us flag at
+      (roll-ObjectConstructor (record { at = at; is_monitored = flag; name = name; body = x; end_name = end_name }))
 
 -- behind a sum x: [ ( "==" | .. | ">=" ) sum ]; the last index is the whole, here and below
 pub data IsCompareTail (x : Expression) : List Token → List Token → Expression → Type 0 where
@@ -221,18 +227,21 @@ pub data IsCompareTail (x : Expression) : List Token → List Token → Expressi
 
 -- behind a not x: { "and" not } { "or" and }
 pub data IsAndRest (x : Expression) : List Token → List Token → Expression → Type 0 where
-  rest_of : {ts us vs : List Token} {xs ys : List Expression} → AreNots ts us xs → AreAnds us vs ys → IsAndRest x ts vs (or_of (and_of x xs) ys)
+  rest_of : {ts us vs : List Token} {xs ys : List Expression} → AreNots ts us xs → AreAnds us vs ys →
+      IsAndRest x ts vs (or_of (and_of x xs) ys)
 
 -- behind a unary x: the rest of its term, of its sum, of its rel, of its and, and of its expr
 pub data IsTermRest (x : Expression) : List Token → List Token → Expression → Type 0 where
   rest_of : {ts us vs ws zs : List Token} {xs : List Factor} {ys : List Addend} {y z : Expression} →
-      AreFactors ts us xs → AreAddends us vs ys → IsCompareTail (sum_of (term_of x xs) ys) vs ws y → IsAndRest y ws zs z → IsTermRest x ts zs z
+      AreFactors ts us xs → AreAddends us vs ys → IsCompareTail (sum_of (term_of x xs) ys) vs ws y → IsAndRest y ws zs z →
+      IsTermRest x ts zs z
 
 -- behind `monitor`, which stands at the place: a class, or an object and the rest of its expr
 pub data IsAfterMonitor (flag : Bool) (at : Span) : List Token → List Token → ConstantValue → Type 0 where
   class : {ts us : List Token} {x : Class} → IsClassRest ts us flag x → IsAfterMonitor flag at ts us (value.Class x)
   object : {ts us vs ws : List Token} {x : ObjectConstructor} {links : List Link} {y : Expression} →
-      IsObjectRest ts us flag at x → Linked a_call us vs links → IsTermRest (postfix_of (e.Constructor x) links) vs ws y → IsAfterMonitor flag at ts ws (value.Expression y)
+      IsObjectRest ts us flag at x → Linked a_call us vs links → IsTermRest (postfix_of (e.Constructor x) links) vs ws y →
+      IsAfterMonitor flag at ts ws (value.Expression y)
 
 -- behind an ID where a sig begins: ":" type, or nothing, and then the ID is the type
 pub data IsAfterSigName (name : Name) : List Token → List Token → TypeName → Type 0 where
@@ -241,36 +250,52 @@ pub data IsAfterSigName (name : Name) : List Token → List Token → TypeName �
 
 -- [ ":" type ] "<-" expr
 pub data IsTypedValue : List Token → List Token → Option TypeName → Expression → Type 0 where
-  typed : {a : Token} {ts us vs : List Token} {of : Option TypeName} {x : Expression} → IsTypeOption ts (a ∷ us) of → Is t.Arrow a → IsExpr us vs x → IsTypedValue ts vs of x
+  typed : {a : Token} {ts us vs : List Token} {of : Option TypeName} {x : Expression} → IsTypeOption ts (a ∷ us) of → Is t.Arrow a →
+      IsExpr us vs x → IsTypedValue ts vs of x
 
 -- behind `attached`: "var" ID ":" type [ "<-" expr ] | "const" ID [ ":" type ] "<-" expr
 pub data IsAttachedField (flag : Bool) : List Token → List Token → Member → Type 0 where
   var : {a b c : Token} {ts us vs : List Token} {name : Name} {of : TypeName} {x : Option Expression} →
-      Is t.Var a → IsId b name → Is t.Colon c → IsType ts us of → IsInitial us vs x → IsAttachedField flag (a ∷ b ∷ c ∷ ts) vs (m.Variable flag name of x)
+      Is t.Var a → IsId b name → Is t.Colon c → IsType ts us of → IsInitial us vs x →
+      IsAttachedField flag (a ∷ b ∷ c ∷ ts) vs (m.Variable flag name of x)
   const : {a b : Token} {ts us : List Token} {name : Name} {of : Option TypeName} {x : Expression} →
       Is t.Const a → IsId b name → IsTypedValue ts us of x → IsAttachedField flag (a ∷ b ∷ ts) us (m.Constant flag name of x)
 
 -- behind "const" ID "<-" in a body: "condition" "." CREATE [ "[" "]" ] | expr
 pub data IsFieldValue (flag : Bool) (name : Name) : List Token → List Token → Member → Type 0 where
-  condition : {a b c : Token} {ts us : List Token} → Is t.Condition a → Is t.Dot b → Is t.Create c → IsBrackets ts us → IsFieldValue flag name (a ∷ b ∷ c ∷ ts) us (m.Condition name)
+  condition : {a b c : Token} {ts us : List Token} → Is t.Condition a → Is t.Dot b → Is t.Create c → IsBrackets ts us →
+      IsFieldValue flag name (a ∷ b ∷ c ∷ ts) us (m.Condition name)
   expr : {ts us : List Token} {x : Expression} → IsExpr ts us x → IsFieldValue flag name ts us (m.Constant flag name None x)
 
 -- behind "const" ID in a body: ":" type "<-" expr | "<-" and a value
 pub data IsConstantField (flag : Bool) (name : Name) : List Token → List Token → Member → Type 0 where
   typed : {a b : Token} {ts us vs : List Token} {of : TypeName} {x : Expression} →
-      Is t.Colon a → IsType ts (b ∷ us) of → Is t.Arrow b → IsExpr us vs x → IsConstantField flag name (a ∷ ts) vs (m.Constant flag name (Some of) x)
-  plain : {a : Token} {ts us : List Token} {x : Member} → Is t.Arrow a → IsFieldValue flag name ts us x → IsConstantField flag name (a ∷ ts) us x
+      Is t.Colon a → IsType ts (b ∷ us) of → Is t.Arrow b → IsExpr us vs x →
+      IsConstantField flag name (a ∷ ts) vs (m.Constant flag name (Some of) x)
+  plain : {a : Token} {ts us : List Token} {x : Member} → Is t.Arrow a → IsFieldValue flag name ts us x →
+      IsConstantField flag name (a ∷ ts) us x
 
 -- an operation without its `export`
 pub data IsOperationRest (flag : Bool) : List Token → List Token → Member → Type 0 where
-  operation : {a b c d : Token} {ts us vs ws : List Token} {name end_name : Name} {xs : List Parameter} {x : Option Parameter} {block : List Statement} →
+  operation : {a b c d : Token} {ts us vs ws : List Token} {name end_name : Name} {xs : List Parameter} {x : Option Parameter}
+      {block : List Statement} →
       IsOpword a → IsId b name → IsParamsOption ts us xs → IsResult us vs x → IsBlock vs (c ∷ d ∷ ws) block → Is t.End c → IsId d end_name →
-      IsOperationRest flag (a ∷ b ∷ ts) ws (m.Operation (roll-Operation (record { is_exported = flag; name = name; parameters = xs; result = x; block = roll-Block (record { statements = block }); end_name = end_name })))
+      IsOperationRest flag (a ∷ b ∷ ts) ws
+      (m.Operation (roll-Operation
+      (record {
+        is_exported = flag;
+        name = name;
+        parameters = xs;
+        result = x;
+        block = roll-Block (record { statements = block });
+        end_name = end_name;
+      })))
 
 -- "var" ID ":" type [ "<-" expr ] | "const" ID [ ":" type ] "<-" expr | stmt
 pub data IsDeclaration : List Token → List Token → Statement → Type 0 where
   var : {a b c : Token} {ts us vs : List Token} {name : Name} {of : TypeName} {x : Option Expression} →
-      Is t.Var a → IsId b name → Is t.Colon c → IsType ts us of → IsInitial us vs x → IsDeclaration (a ∷ b ∷ c ∷ ts) vs (s.LocalVariable name of x)
+      Is t.Var a → IsId b name → Is t.Colon c → IsType ts us of → IsInitial us vs x →
+      IsDeclaration (a ∷ b ∷ c ∷ ts) vs (s.LocalVariable name of x)
   const : {a b : Token} {ts us : List Token} {name : Name} {of : Option TypeName} {x : Expression} →
       Is t.Const a → IsId b name → IsTypedValue ts us of x → IsDeclaration (a ∷ b ∷ ts) us (s.LocalConstant name of x)
   stmt : {ts us : List Token} {x : Statement} → IsStmt ts us x → IsDeclaration ts us x
@@ -285,10 +310,13 @@ pub data IsWhen : List Token → List Token → Option Expression → Type 0 whe
 pub data IsRest (first : Expression) : Ending → List Link → List Token → List Token → Statement → Type 0 where
   assign : {a : Token} {ending : Ending} {ts us : List Token} {links : List Link} {y : Expression} → IsTarget ending →
       Is t.Arrow a → IsExpr ts us y → IsRest first ending links (a ∷ ts) us (s.Assign (postfix_of first links) y)
-  invoke : {ending : Ending} {us : List Token} {links : List Link} → IsInvocation ending → IsRest first ending links us us (s.Invoke (postfix_of first links))
+  invoke : {ending : Ending} {us : List Token} {links : List Link} → IsInvocation ending →
+      IsRest first ending links us us (s.Invoke (postfix_of first links))
   field : {a b : Token} {ending : Ending} {ts us : List Token} {links : List Link} {name : Name} {x : Statement} →
-      Is t.Dot a → IsId b name → IsRest first a_field (links ++ link.Call name [] ∷ []) ts us x → IsRest first ending links (a ∷ b ∷ ts) us x
-  call : {a b c d : Token} {ending : Ending} {ts us vs : List Token} {links : List Link} {name : Name} {xs : List Expression} {x : Statement} →
+      Is t.Dot a → IsId b name → IsRest first a_field (links ++ link.Call name [] ∷ []) ts us x →
+      IsRest first ending links (a ∷ b ∷ ts) us x
+  call : {a b c d : Token} {ending : Ending} {ts us vs : List Token} {links : List Link} {name : Name} {xs : List Expression}
+      {x : Statement} →
       Is t.Dot a → IsId b name → Is t.OpenBracket c → AreArguments ts (d ∷ us) xs → Is t.CloseBracket d →
       IsRest first a_call (links ++ link.Call name xs ∷ []) us vs x → IsRest first ending links (a ∷ b ∷ c ∷ ts) vs x
   index : {a b : Token} {ending : Ending} {ts us vs : List Token} {links : List Link} {y : Expression} {x : Statement} →
@@ -297,7 +325,8 @@ pub data IsRest (first : Expression) : Ending → List Link → List Token → L
 
 -- behind "." ID in a statement: [ "[" [ expr { "," expr } ] "]" ], and what stands behind it
 pub data IsAfterField (first : Expression) (links : List Link) (name : Name) : List Token → List Token → Statement → Type 0 where
-  field : {ts us : List Token} {x : Statement} → IsRest first a_field (links ++ link.Call name [] ∷ []) ts us x → IsAfterField first links name ts us x
+  field : {ts us : List Token} {x : Statement} → IsRest first a_field (links ++ link.Call name [] ∷ []) ts us x →
+      IsAfterField first links name ts us x
   call : {a b : Token} {ts us vs : List Token} {xs : List Expression} {x : Statement} →
       Is t.OpenBracket a → AreArguments ts (b ∷ us) xs → Is t.CloseBracket b →
       IsRest first a_call (links ++ link.Call name xs ∷ []) us vs x → IsAfterField first links name (a ∷ ts) vs x
@@ -306,7 +335,8 @@ pub data IsAfterField (first : Expression) (links : List Link) (name : Name) : L
 pub data IsAfterDot (name : Name) : List Token → List Token → List Link → Type 0 where
   field : {ts us : List Token} {links : List Link} → Linked a_field ts us links → IsAfterDot name ts us (link.Call name [] ∷ links)
   call : {a b : Token} {ts us vs : List Token} {xs : List Expression} {links : List Link} →
-      Is t.OpenBracket a → AreArguments ts (b ∷ us) xs → Is t.CloseBracket b → Linked a_call us vs links → IsAfterDot name (a ∷ ts) vs (link.Call name xs ∷ links)
+      Is t.OpenBracket a → AreArguments ts (b ∷ us) xs → Is t.CloseBracket b → Linked a_call us vs links →
+      IsAfterDot name (a ∷ ts) vs (link.Call name xs ∷ links)
 
 -- behind "node" ".": "at" "[" expr "]" | COUNT
 pub data IsNodeRest (at : Span) : List Token → List Token → Expression → Type 0 where
@@ -323,85 +353,147 @@ pub data IsUnaryPrefix : List Token → List Token → Expression → Type 0 whe
   minus : {a : Token} {ts us : List Token} {x : Expression} → Is t.Minus a → IsUnary ts us x → IsUnaryPrefix (a ∷ ts) us (e.Negative x a.at)
   view : {a b : Token} {ts us vs : List Token} {x : Expression} {of : TypeName} →
       Is t.View a → IsUnary ts (b ∷ us) x → Is t.As b → IsType us vs of → IsUnaryPrefix (a ∷ ts) vs (e.View x of a.at)
-  is_fixed : {a : Token} {ts us : List Token} {x : Expression} → Is t.Isfixed a → IsUnary ts us x → IsUnaryPrefix (a ∷ ts) us (e.IsFixed x a.at)
+  is_fixed : {a : Token} {ts us : List Token} {x : Expression} → Is t.Isfixed a → IsUnary ts us x →
+      IsUnaryPrefix (a ∷ ts) us (e.IsFixed x a.at)
 
 -- what a part means
 pub data Means : Part_of → Values → List Token → List Token → Values → Type 0 where
-  a_Program : {vs : Values} {ts us : List Token} {xs : List Constant} → AreConstants ts us xs → Means part.Program vs ts us (put_program (record { constants = xs }) vs)
-  a_Constants : {vs : Values} {ts us : List Token} {xs : List Constant} → AreConstants ts us xs → Means part.Constants vs ts us (add_constant xs vs)
-  a_ConstantRest : {vs : Values} {ts us : List Token} {of : Option TypeName} {x : ConstantValue} → IsConstantRest ts us of x → Means part.ConstantRest vs ts us (put_value x (put_maybe_type of vs))
-  a_ConstantValue : {vs : Values} {ts us : List Token} {x : ConstantValue} → IsValue ts us x → Means part.ConstantValue vs ts us (put_value x vs)
-  a_AfterMonitor : {vs : Values} {ts us : List Token} {x : ConstantValue} → IsAfterMonitor (first_flag vs.flags) (first_place vs.places) ts us x → Means part.AfterMonitor vs ts us (put_value x (drop_place (drop_flag vs)))
-  a_TermRest : {vs : Values} {ts us : List Token} {x : Expression} → IsTermRest (first_expression vs.expressions) ts us x → Means part.TermRest vs ts us (replace_expression x vs)
-  a_AndRest : {vs : Values} {ts us : List Token} {x : Expression} → IsAndRest (first_expression vs.expressions) ts us x → Means part.AndRest vs ts us (replace_expression x vs)
+  a_Program : {vs : Values} {ts us : List Token} {xs : List Constant} → AreConstants ts us xs →
+      Means part.Program vs ts us (put_program (record { constants = xs }) vs)
+  a_Constants : {vs : Values} {ts us : List Token} {xs : List Constant} → AreConstants ts us xs →
+      Means part.Constants vs ts us (add_constant xs vs)
+  a_ConstantRest : {vs : Values} {ts us : List Token} {of : Option TypeName} {x : ConstantValue} → IsConstantRest ts us of x →
+      Means part.ConstantRest vs ts us (put_value x (put_maybe_type of vs))
+  a_ConstantValue : {vs : Values} {ts us : List Token} {x : ConstantValue} → IsValue ts us x →
+      Means part.ConstantValue vs ts us (put_value x vs)
+  a_AfterMonitor : {vs : Values} {ts us : List Token} {x : ConstantValue} →
+      IsAfterMonitor (first_flag vs.flags) (first_place vs.places) ts us x →
+      Means part.AfterMonitor vs ts us (put_value x (drop_place (drop_flag vs)))
+  a_TermRest : {vs : Values} {ts us : List Token} {x : Expression} → IsTermRest (first_expression vs.expressions) ts us x →
+      Means part.TermRest vs ts us (replace_expression x vs)
+  a_AndRest : {vs : Values} {ts us : List Token} {x : Expression} → IsAndRest (first_expression vs.expressions) ts us x →
+      Means part.AndRest vs ts us (replace_expression x vs)
   a_Name : {vs : Values} {us : List Token} {a : Token} {x : Name} → IsId a x → Means part.Name vs (a ∷ us) us (put_name x vs)
-  a_Typeobject : {vs : Values} {ts us : List Token} {x : Typeobject} → IsTypeobj ts us x → Means part.Typeobject vs ts us (put_value (value.Typeobject x) vs)
-  a_Signatures : {vs : Values} {ts us : List Token} {xs : List Signature} → AreSignatures ts us xs → Means part.Signatures vs ts us (add_signature xs vs)
-  a_SignatureParameters : {vs : Values} {ts us : List Token} {xs : List TypeName} → IsSigList ts us xs → Means part.SignatureParameters vs ts us (put_type_list xs vs)
+  a_Typeobject : {vs : Values} {ts us : List Token} {x : Typeobject} → IsTypeobj ts us x →
+      Means part.Typeobject vs ts us (put_value (value.Typeobject x) vs)
+  a_Signatures : {vs : Values} {ts us : List Token} {xs : List Signature} → AreSignatures ts us xs →
+      Means part.Signatures vs ts us (add_signature xs vs)
+  a_SignatureParameters : {vs : Values} {ts us : List Token} {xs : List TypeName} → IsSigList ts us xs →
+      Means part.SignatureParameters vs ts us (put_type_list xs vs)
   a_Sigs : {vs : Values} {ts us : List Token} {xs : List TypeName} → AreSigs ts us xs → Means part.Sigs vs ts us (add_type xs vs)
-  a_MoreSigs : {vs : Values} {ts us : List Token} {xs : List TypeName} → AreMoreSigs ts us xs → Means part.MoreSigs vs ts us (add_type xs vs)
-  a_SignatureResult : {vs : Values} {ts us : List Token} {x : Option TypeName} → IsSigResult ts us x → Means part.SignatureResult vs ts us (put_maybe_type x vs)
+  a_MoreSigs : {vs : Values} {ts us : List Token} {xs : List TypeName} → AreMoreSigs ts us xs →
+      Means part.MoreSigs vs ts us (add_type xs vs)
+  a_SignatureResult : {vs : Values} {ts us : List Token} {x : Option TypeName} → IsSigResult ts us x →
+      Means part.SignatureResult vs ts us (put_maybe_type x vs)
   a_OperationWord : {vs : Values} {us : List Token} {a : Token} → IsOpword a → Means part.OperationWord vs (a ∷ us) us (vs)
   a_Sig : {vs : Values} {ts us : List Token} {x : TypeName} → IsSig ts us x → Means part.Sig vs ts us (put_type x vs)
-  a_AfterSigName : {vs : Values} {ts us : List Token} {x : TypeName} → IsAfterSigName (first_name vs.names) ts us x → Means part.AfterSigName vs ts us (put_type x (drop_name vs))
+  a_AfterSigName : {vs : Values} {ts us : List Token} {x : TypeName} → IsAfterSigName (first_name vs.names) ts us x →
+      Means part.AfterSigName vs ts us (put_type x (drop_name vs))
   a_Type : {vs : Values} {ts us : List Token} {x : TypeName} → IsType ts us x → Means part.Type vs ts us (put_type x vs)
   a_PlainType : {vs : Values} {ts us : List Token} {x : TypeName} → IsPlainType ts us x → Means part.PlainType vs ts us (put_type x vs)
-  a_ClassRest : {vs : Values} {ts us : List Token} {x : Class} → IsClassRest ts us (first_flag vs.flags) x → Means part.ClassRest vs ts us (put_class x (drop_flag vs))
-  a_ObjectRest : {vs : Values} {ts us : List Token} {x : ObjectConstructor} → IsObjectRest ts us (first_flag vs.flags) (first_place vs.places) x → Means part.ObjectRest vs ts us (put_object x (drop_place (drop_flag vs)))
-  a_Parameters : {vs : Values} {ts us : List Token} {xs : List Parameter} → IsParamsOption ts us xs → Means part.Parameters vs ts us (put_parameter_list xs vs)
-  a_ParameterList : {vs : Values} {ts us : List Token} {xs : List Parameter} → AreParams ts us xs → Means part.ParameterList vs ts us (add_parameter xs vs)
-  a_MoreParameters : {vs : Values} {ts us : List Token} {xs : List Parameter} → AreMoreParams ts us xs → Means part.MoreParameters vs ts us (add_parameter xs vs)
-  a_Parameter : {vs : Values} {ts us : List Token} {x : Parameter} → IsParam ts us x → Means part.Parameter vs ts us (record vs { parameter_lists = (first_parameter_list vs.parameter_lists ++ x ∷ []) ∷ rest vs.parameter_lists })
+  a_ClassRest : {vs : Values} {ts us : List Token} {x : Class} → IsClassRest ts us (first_flag vs.flags) x →
+      Means part.ClassRest vs ts us (put_class x (drop_flag vs))
+  a_ObjectRest : {vs : Values} {ts us : List Token} {x : ObjectConstructor} →
+      IsObjectRest ts us (first_flag vs.flags) (first_place vs.places) x →
+      Means part.ObjectRest vs ts us (put_object x (drop_place (drop_flag vs)))
+  a_Parameters : {vs : Values} {ts us : List Token} {xs : List Parameter} → IsParamsOption ts us xs →
+      Means part.Parameters vs ts us (put_parameter_list xs vs)
+  a_ParameterList : {vs : Values} {ts us : List Token} {xs : List Parameter} → AreParams ts us xs →
+      Means part.ParameterList vs ts us (add_parameter xs vs)
+  a_MoreParameters : {vs : Values} {ts us : List Token} {xs : List Parameter} → AreMoreParams ts us xs →
+      Means part.MoreParameters vs ts us (add_parameter xs vs)
+  a_Parameter : {vs : Values} {ts us : List Token} {x : Parameter} → IsParam ts us x →
+      Means part.Parameter vs ts us
+      (record vs { parameter_lists = (first_parameter_list vs.parameter_lists ++ x ∷ []) ∷ rest vs.parameter_lists })
   a_Body : {vs : Values} {ts us : List Token} {x : Body} → IsBody ts us x → Means part.Body vs ts us (put_body x vs)
   a_Members : {vs : Values} {ts us : List Token} {xs : List Member} → AreMembers ts us xs → Means part.Members vs ts us (add_member xs vs)
-  a_Initially : {vs : Values} {ts us : List Token} {x : Option Block} → IsInitially ts us x → Means part.Initially vs ts us (put_maybe_block x vs)
-  a_Process : {vs : Values} {ts us : List Token} {x : Option ProcessSection} → IsProcess ts us x → Means part.Process vs ts us (put_maybe_process x vs)
+  a_Initially : {vs : Values} {ts us : List Token} {x : Option Block} → IsInitially ts us x →
+      Means part.Initially vs ts us (put_maybe_block x vs)
+  a_Process : {vs : Values} {ts us : List Token} {x : Option ProcessSection} → IsProcess ts us x →
+      Means part.Process vs ts us (put_maybe_process x vs)
   a_Member : {vs : Values} {ts us : List Token} {x : Member} → IsMember ts us x → Means part.Member vs ts us (put_member x vs)
-  a_AttachedField : {vs : Values} {ts us : List Token} {x : Member} → IsAttachedField (first_flag vs.flags) ts us x → Means part.AttachedField vs ts us (put_member x (drop_flag vs))
-  a_ConstantField : {vs : Values} {ts us : List Token} {x : Member} → IsConstantField (first_flag vs.flags) (first_name vs.names) ts us x → Means part.ConstantField vs ts us (put_member x (drop_name (drop_flag vs)))
-  a_FieldValue : {vs : Values} {ts us : List Token} {x : Member} → IsFieldValue (first_flag vs.flags) (first_name vs.names) ts us x → Means part.FieldValue vs ts us (put_member x (drop_name (drop_flag vs)))
+  a_AttachedField : {vs : Values} {ts us : List Token} {x : Member} → IsAttachedField (first_flag vs.flags) ts us x →
+      Means part.AttachedField vs ts us (put_member x (drop_flag vs))
+  a_ConstantField : {vs : Values} {ts us : List Token} {x : Member} → IsConstantField (first_flag vs.flags) (first_name vs.names) ts us x →
+      Means part.ConstantField vs ts us (put_member x (drop_name (drop_flag vs)))
+  a_FieldValue : {vs : Values} {ts us : List Token} {x : Member} → IsFieldValue (first_flag vs.flags) (first_name vs.names) ts us x →
+      Means part.FieldValue vs ts us (put_member x (drop_name (drop_flag vs)))
   a_ConditionTail : {vs : Values} {ts us : List Token} → IsBrackets ts us → Means part.ConditionTail vs ts us (vs)
-  a_OperationRest : {vs : Values} {ts us : List Token} {x : Member} → IsOperationRest (first_flag vs.flags) ts us x → Means part.OperationRest vs ts us (put_member x (drop_flag vs))
-  a_OperationResult : {vs : Values} {ts us : List Token} {x : Option Parameter} → IsResult ts us x → Means part.OperationResult vs ts us (put_maybe_parameter x vs)
-  a_Initial : {vs : Values} {ts us : List Token} {x : Option Expression} → IsInitial ts us x → Means part.Initial vs ts us (put_maybe_expression x vs)
-  a_TypedValue : {vs : Values} {ts us : List Token} {of : Option TypeName} {x : Expression} → IsTypedValue ts us of x → Means part.TypedValue vs ts us (put_expression x (put_maybe_type of vs))
-  a_Block : {vs : Values} {ts us : List Token} {xs : List Statement} → IsBlock ts us xs → Means part.Block vs ts us (put_statement_list xs vs)
-  a_Statements : {vs : Values} {ts us : List Token} {xs : List Statement} → IsBlock ts us xs → Means part.Statements vs ts us (add_statement xs vs)
-  a_Declaration : {vs : Values} {ts us : List Token} {x : Statement} → IsDeclaration ts us x → Means part.Declaration vs ts us (put_statement x vs)
+  a_OperationRest : {vs : Values} {ts us : List Token} {x : Member} → IsOperationRest (first_flag vs.flags) ts us x →
+      Means part.OperationRest vs ts us (put_member x (drop_flag vs))
+  a_OperationResult : {vs : Values} {ts us : List Token} {x : Option Parameter} → IsResult ts us x →
+      Means part.OperationResult vs ts us (put_maybe_parameter x vs)
+  a_Initial : {vs : Values} {ts us : List Token} {x : Option Expression} → IsInitial ts us x →
+      Means part.Initial vs ts us (put_maybe_expression x vs)
+  a_TypedValue : {vs : Values} {ts us : List Token} {of : Option TypeName} {x : Expression} → IsTypedValue ts us of x →
+      Means part.TypedValue vs ts us (put_expression x (put_maybe_type of vs))
+  a_Block : {vs : Values} {ts us : List Token} {xs : List Statement} → IsBlock ts us xs →
+      Means part.Block vs ts us (put_statement_list xs vs)
+  a_Statements : {vs : Values} {ts us : List Token} {xs : List Statement} → IsBlock ts us xs →
+      Means part.Statements vs ts us (add_statement xs vs)
+  a_Declaration : {vs : Values} {ts us : List Token} {x : Statement} → IsDeclaration ts us x →
+      Means part.Declaration vs ts us (put_statement x vs)
   a_Statement : {vs : Values} {ts us : List Token} {x : Statement} → IsStmt ts us x → Means part.Statement vs ts us (put_statement x vs)
-  a_AfterName : {vs : Values} {ts us : List Token} {x : Statement} → IsRest (first_expression vs.expressions) a_name [] ts us x → Means part.AfterName vs ts us (put_statement x (drop_expression vs))
-  a_AfterOther : {vs : Values} {ts us : List Token} {x : Statement} → IsRest (first_expression vs.expressions) a_primary (first_link_list vs.link_lists) ts us x → Means part.AfterOther vs ts us (put_statement x (drop_expression (drop_link_list vs)))
-  a_AfterIndex : {vs : Values} {ts us : List Token} {x : Statement} → IsRest (first_expression vs.expressions) an_index (first_link_list vs.link_lists) ts us x → Means part.AfterIndex vs ts us (put_statement x (drop_expression (drop_link_list vs)))
-  a_AfterField : {vs : Values} {ts us : List Token} {x : Statement} → IsAfterField (first_expression vs.expressions) (first_link_list vs.link_lists) (first_name vs.names) ts us x → Means part.AfterField vs ts us (put_statement x (drop_expression (drop_link_list (drop_name vs))))
-  a_AfterCall : {vs : Values} {ts us : List Token} {x : Statement} → IsRest (first_expression vs.expressions) a_call (first_link_list vs.link_lists) ts us x → Means part.AfterCall vs ts us (put_statement x (drop_expression (drop_link_list vs)))
+  a_AfterName : {vs : Values} {ts us : List Token} {x : Statement} → IsRest (first_expression vs.expressions) a_name [] ts us x →
+      Means part.AfterName vs ts us (put_statement x (drop_expression vs))
+  a_AfterOther : {vs : Values} {ts us : List Token} {x : Statement} →
+      IsRest (first_expression vs.expressions) a_primary (first_link_list vs.link_lists) ts us x →
+      Means part.AfterOther vs ts us (put_statement x (drop_expression (drop_link_list vs)))
+  a_AfterIndex : {vs : Values} {ts us : List Token} {x : Statement} →
+      IsRest (first_expression vs.expressions) an_index (first_link_list vs.link_lists) ts us x →
+      Means part.AfterIndex vs ts us (put_statement x (drop_expression (drop_link_list vs)))
+  a_AfterField : {vs : Values} {ts us : List Token} {x : Statement} →
+      IsAfterField (first_expression vs.expressions) (first_link_list vs.link_lists) (first_name vs.names) ts us x →
+      Means part.AfterField vs ts us (put_statement x (drop_expression (drop_link_list (drop_name vs))))
+  a_AfterCall : {vs : Values} {ts us : List Token} {x : Statement} →
+      IsRest (first_expression vs.expressions) a_call (first_link_list vs.link_lists) ts us x →
+      Means part.AfterCall vs ts us (put_statement x (drop_expression (drop_link_list vs)))
   a_ElseIfs : {vs : Values} {ts us : List Token} {xs : List Arm} → AreArms ts us xs → Means part.ElseIfs vs ts us (add_arm xs vs)
   a_Else : {vs : Values} {ts us : List Token} {x : Option Block} → IsElse ts us x → Means part.Else vs ts us (put_maybe_block x vs)
-  a_When : {vs : Values} {ts us : List Token} {x : Option Expression} → IsWhen ts us x → Means part.When vs ts us (put_maybe_expression x vs)
+  a_When : {vs : Values} {ts us : List Token} {x : Option Expression} → IsWhen ts us x →
+      Means part.When vs ts us (put_maybe_expression x vs)
   a_Expression : {vs : Values} {ts us : List Token} {x : Expression} → IsExpr ts us x → Means part.Expression vs ts us (put_expression x vs)
-  a_OrTail : {vs : Values} {ts us : List Token} {xs : List Expression} → AreAnds ts us xs → Means part.OrTail vs ts us (add_expression xs vs)
+  a_OrTail : {vs : Values} {ts us : List Token} {xs : List Expression} → AreAnds ts us xs →
+      Means part.OrTail vs ts us (add_expression xs vs)
   a_And : {vs : Values} {ts us : List Token} {x : Expression} → IsAnd ts us x → Means part.And vs ts us (put_expression x vs)
-  a_AndTail : {vs : Values} {ts us : List Token} {xs : List Expression} → AreNots ts us xs → Means part.AndTail vs ts us (add_expression xs vs)
+  a_AndTail : {vs : Values} {ts us : List Token} {xs : List Expression} → AreNots ts us xs →
+      Means part.AndTail vs ts us (add_expression xs vs)
   a_Not : {vs : Values} {ts us : List Token} {x : Expression} → IsNot ts us x → Means part.Not vs ts us (put_expression x vs)
-  a_NotPrefix : {vs : Values} {ts us : List Token} {x : Expression} → IsNotPrefix ts us x → Means part.NotPrefix vs ts us (put_expression x vs)
+  a_NotPrefix : {vs : Values} {ts us : List Token} {x : Expression} → IsNotPrefix ts us x →
+      Means part.NotPrefix vs ts us (put_expression x vs)
   a_Rel : {vs : Values} {ts us : List Token} {x : Expression} → IsRel ts us x → Means part.Rel vs ts us (put_expression x vs)
   no_compare : {vs : Values} {us : List Token} → Means part.CompareTail vs us us vs
-  a_CompareTail : {vs : Values} {a : Token} {ts us : List Token} {operator : Comparison} {y : Expression} → IsComparison a operator → IsSum ts us y →
+  a_CompareTail : {vs : Values} {a : Token} {ts us : List Token} {operator : Comparison} {y : Expression} → IsComparison a operator →
+      IsSum ts us y →
       Means part.CompareTail vs (a ∷ ts) us (replace_expression (e.Compare (first_expression vs.expressions) operator a.at y) vs)
-  a_CompareWord : {vs : Values} {us : List Token} {a : Token} {x : Comparison} → IsComparison a x → Means part.CompareWord vs (a ∷ us) us (put_comparison x (put_place a.at vs))
+  a_CompareWord : {vs : Values} {us : List Token} {a : Token} {x : Comparison} → IsComparison a x →
+      Means part.CompareWord vs (a ∷ us) us (put_comparison x (put_place a.at vs))
   a_Sum : {vs : Values} {ts us : List Token} {x : Expression} → IsSum ts us x → Means part.Sum vs ts us (put_expression x vs)
   a_SumTail : {vs : Values} {ts us : List Token} {xs : List Addend} → AreAddends ts us xs → Means part.SumTail vs ts us (add_addend xs vs)
-  a_SumWord : {vs : Values} {us : List Token} {a : Token} {x : Additive} → IsAdditive a x → Means part.SumWord vs (a ∷ us) us (put_additive x (put_place a.at vs))
+  a_SumWord : {vs : Values} {us : List Token} {a : Token} {x : Additive} → IsAdditive a x →
+      Means part.SumWord vs (a ∷ us) us (put_additive x (put_place a.at vs))
   a_Term : {vs : Values} {ts us : List Token} {x : Expression} → IsTerm ts us x → Means part.Term vs ts us (put_expression x vs)
   a_TermTail : {vs : Values} {ts us : List Token} {xs : List Factor} → AreFactors ts us xs → Means part.TermTail vs ts us (add_factor xs vs)
-  a_TermWord : {vs : Values} {us : List Token} {a : Token} {x : Multiplicative} → IsMultiplicative a x → Means part.TermWord vs (a ∷ us) us (put_multiplicative x (put_place a.at vs))
+  a_TermWord : {vs : Values} {us : List Token} {a : Token} {x : Multiplicative} → IsMultiplicative a x →
+      Means part.TermWord vs (a ∷ us) us (put_multiplicative x (put_place a.at vs))
   a_Unary : {vs : Values} {ts us : List Token} {x : Expression} → IsUnary ts us x → Means part.Unary vs ts us (put_expression x vs)
-  a_UnaryPrefix : {vs : Values} {ts us : List Token} {x : Expression} → IsUnaryPrefix ts us x → Means part.UnaryPrefix vs ts us (put_expression x vs)
-  a_Postfix : {vs : Values} {ts us : List Token} {x : Expression} {last : Ending} → IsPostfix ts us x last → Means part.Postfix vs ts us (put_expression x vs)
-  a_PostfixTail : {vs : Values} {ts us : List Token} {xs : List Link} → Linked a_call ts us xs → Means part.PostfixTail vs ts us (add_link xs vs)
-  a_AfterDot : {vs : Values} {ts us : List Token} {xs : List Link} → IsAfterDot (first_name vs.names) ts us xs → Means part.AfterDot vs ts us (add_link xs (drop_name vs))
-  a_Arguments : {vs : Values} {ts us : List Token} {xs : List Expression} → AreArguments ts us xs → Means part.Arguments vs ts us (add_expression xs vs)
-  a_MoreArguments : {vs : Values} {ts us : List Token} {xs : List Expression} → AreMoreArguments ts us xs → Means part.MoreArguments vs ts us (add_expression xs vs)
-  a_Primary : {vs : Values} {ts us : List Token} {x : Expression} {last : Ending} → MayIndex last → IsPrimary ts us x last → Means part.Primary vs ts us (put_expression x vs)
-  a_Plain : {vs : Values} {ts us : List Token} {x : Expression} {last : Ending} → MayIndex last → IsPrimary ts us x last → NotMonitor ts → Means part.Plain vs ts us (put_expression x vs)
-  a_OtherPlain : {vs : Values} {ts us : List Token} {x : Expression} → IsPrimary ts us x a_primary → NotMonitor ts → Means part.OtherPlain vs ts us (put_expression x vs)
-  a_NodeRest : {vs : Values} {ts us : List Token} {x : Expression} → IsNodeRest (first_place vs.places) ts us x → Means part.NodeRest vs ts us (put_expression x (drop_place vs))
+  a_UnaryPrefix : {vs : Values} {ts us : List Token} {x : Expression} → IsUnaryPrefix ts us x →
+      Means part.UnaryPrefix vs ts us (put_expression x vs)
+  a_Postfix : {vs : Values} {ts us : List Token} {x : Expression} {last : Ending} → IsPostfix ts us x last →
+      Means part.Postfix vs ts us (put_expression x vs)
+  a_PostfixTail : {vs : Values} {ts us : List Token} {xs : List Link} → Linked a_call ts us xs →
+      Means part.PostfixTail vs ts us (add_link xs vs)
+  a_AfterDot : {vs : Values} {ts us : List Token} {xs : List Link} → IsAfterDot (first_name vs.names) ts us xs →
+      Means part.AfterDot vs ts us (add_link xs (drop_name vs))
+  a_Arguments : {vs : Values} {ts us : List Token} {xs : List Expression} → AreArguments ts us xs →
+      Means part.Arguments vs ts us (add_expression xs vs)
+  a_MoreArguments : {vs : Values} {ts us : List Token} {xs : List Expression} → AreMoreArguments ts us xs →
+      Means part.MoreArguments vs ts us (add_expression xs vs)
+  a_Primary : {vs : Values} {ts us : List Token} {x : Expression} {last : Ending} → MayIndex last → IsPrimary ts us x last →
+      Means part.Primary vs ts us (put_expression x vs)
+  a_Plain : {vs : Values} {ts us : List Token} {x : Expression} {last : Ending} → MayIndex last → IsPrimary ts us x last → NotMonitor ts →
+      Means part.Plain vs ts us (put_expression x vs)
+  a_OtherPlain : {vs : Values} {ts us : List Token} {x : Expression} → IsPrimary ts us x a_primary → NotMonitor ts →
+      Means part.OtherPlain vs ts us (put_expression x vs)
+  a_NodeRest : {vs : Values} {ts us : List Token} {x : Expression} → IsNodeRest (first_place vs.places) ts us x →
+      Means part.NodeRest vs ts us (put_expression x (drop_place vs))

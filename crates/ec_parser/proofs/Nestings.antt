@@ -23,26 +23,32 @@ unfolding nestings_of terminal_of_kind terminal_of_name
 negative_first = refl
 
 -- ! a - - b [ c ] . d and e
-not_first : at_each (token.Symbol symbol.Bang ∷ name ∷ token.Symbol symbol.Minus ∷ token.Symbol symbol.Minus ∷ name ∷ token.Symbol symbol.OpenBracket ∷ name ∷
+not_first : at_each (token.Symbol symbol.Bang ∷ name ∷ token.Symbol symbol.Minus ∷ token.Symbol symbol.Minus ∷ name ∷
+    token.Symbol symbol.OpenBracket ∷ name ∷
     token.Symbol symbol.CloseBracket ∷ token.Symbol symbol.Dot ∷ name ∷ token.Reserved word.And ∷ name ∷ []) ≡
     1 ∷ 1 ∷ 1 ∷ 2 ∷ 2 ∷ 3 ∷ 3 ∷ 2 ∷ 2 ∷ 2 ∷ 0 ∷ 0 ∷ []
 unfolding nestings_of terminal_of_kind terminal_of_name
 not_first = refl
 
 -- view - a as b ( - c )
-view_first : at_each (token.Reserved word.View ∷ token.Symbol symbol.Minus ∷ name ∷ token.Reserved word.As ∷ name ∷ token.Symbol symbol.OpenParenthesis ∷
+view_first : at_each (token.Reserved word.View ∷ token.Symbol symbol.Minus ∷ name ∷ token.Reserved word.As ∷ name ∷
+    token.Symbol symbol.OpenParenthesis ∷
     token.Symbol symbol.Minus ∷ name ∷ token.Symbol symbol.CloseParenthesis ∷ []) ≡ 1 ∷ 2 ∷ 2 ∷ 0 ∷ 0 ∷ 1 ∷ 2 ∷ 2 ∷ 0 ∷ []
 unfolding nestings_of terminal_of_kind terminal_of_name
 view_first = refl
 
 -- object a operation b if c then end if end b end a
-in_words : at_each (token.Reserved word.Object ∷ name ∷ token.Reserved word.Operation ∷ name ∷ token.Reserved word.If ∷ name ∷ token.Reserved word.Then ∷ token.Reserved word.End ∷
-    token.Reserved word.If ∷ token.Reserved word.End ∷ name ∷ token.Reserved word.End ∷ name ∷ []) ≡ 1 ∷ 1 ∷ 2 ∷ 2 ∷ 3 ∷ 3 ∷ 3 ∷ 2 ∷ 2 ∷ 1 ∷ 1 ∷ 0 ∷ 0 ∷ []
+in_words : at_each (token.Reserved word.Object ∷ name ∷ token.Reserved word.Operation ∷ name ∷ token.Reserved word.If ∷ name ∷
+    token.Reserved word.Then ∷ token.Reserved word.End ∷
+    token.Reserved word.If ∷ token.Reserved word.End ∷ name ∷ token.Reserved word.End ∷ name ∷ []) ≡ 1 ∷ 1 ∷ 2 ∷ 2 ∷ 3 ∷ 3 ∷ 3 ∷ 2 ∷ 2 ∷ 1 ∷
+    1 ∷ 0 ∷ 0 ∷ []
 unfolding nestings_of terminal_of_kind terminal_of_name
 in_words = refl
 
 -- typeobject a operation b [ c ] end a
-in_typeobject : at_each (token.Reserved word.Typeobject ∷ name ∷ token.Reserved word.Operation ∷ name ∷ token.Symbol symbol.OpenBracket ∷ name ∷ token.Symbol symbol.CloseBracket ∷
+in_typeobject : at_each
+    (token.Reserved word.Typeobject ∷ name ∷ token.Reserved word.Operation ∷ name ∷ token.Symbol symbol.OpenBracket ∷ name ∷
+    token.Symbol symbol.CloseBracket ∷
     token.Reserved word.End ∷ name ∷ []) ≡ 1 ∷ 1 ∷ 1 ∷ 1 ∷ 2 ∷ 2 ∷ 1 ∷ 0 ∷ 0 ∷ []
 unfolding nestings_of terminal_of_kind terminal_of_name
 in_typeobject = refl

@@ -11,7 +11,9 @@ use Rattle.ec_parser.specs.Follow.{Follows, head}
 use Rattle.ec_parser.specs.HasTree.{HasTree}
 use Rattle.ec_parser.specs.Reads.{IsRule, Reads, finished, token, keep, part, bound, made}
 use Rattle.ec_parser.specs.Rules.{rules}
-use Rattle.ec_parser.specs.Values.{no_values, first_program}
+use Rattle.ec_parser.specs.Filled.{top_or}
+use Rattle.ec_parser.specs.Tops.{first_program}
+use Rattle.ec_parser.specs.Values.{no_values}
 use Rattle.ec_parser.proofs.Bridge.{read_of}
 use Rattle.ec_parser.proofs.Meaning.{put_program}
 use Rattle.ec_parser.proofs.Theory.{begins, chosen, follows_expand}
@@ -25,19 +27,22 @@ one_rule p s q r {ts = ts} f i j d e =
     cc
 
 -- symbols make the same values of the same tokens
-same_values : {s : List Symbol} {vs ws zs : Values} {ts : List Word} {ns ms : List ℕ} → Follows s → Reads s vs ts ns ws → Reads s vs ts ms zs → ws ≡ zs
+same_values : {s : List Symbol} {vs ws zs : Values} {ts : List Word} {ns ms : List ℕ} → Follows s → Reads s vs ts ns ws →
+    Reads s vs ts ms zs → ws ≡ zs
 same_values f finished finished = refl
 same_values f (token e d) (token g h) = same_values f.1 d h
 same_values f (keep e d) (keep g h) = same_values f.1 d h
 same_values {vs = vs} {zs = zs} {ts = ts} {ms = ms} f (part {p = p} {s = s} r i d) (part q j h) =
     let same : q ≡ r = one_rule p s q r f j i h d in
-    same_values (follows_expand p s (head ts) r (chosen p s (head ts) r f i (begins d)) f) d (subst (λ x. Reads (x ++ s) vs ts ms zs) same h)
+    same_values (follows_expand p s (head ts) r (chosen p s (head ts) r f i (begins d)) f) d
+    (subst (λ x. Reads (x ++ s) vs ts ms zs) same h)
 same_values f (bound d) (bound h) = same_values f d h
 same_values f (made d) (made h) = same_values f d h
 
 -- tokens have one tree only
 pub same_tree : (ts : List Word) (a b : Program) → HasTree ts a → HasTree ts b → a ≡ b
-unfolding first_program
+unfolding top_or
 same_tree ts a b g h =
-    let same : put_program a no_values ≡ put_program b no_values = same_values (λ k i. i, tt) (read_of ts a g).reads (read_of ts b h).reads in
+    let same : put_program a no_values ≡ put_program b no_values =
+    same_values (λ k i. i, tt) (read_of ts a g).reads (read_of ts b h).reads in
     ap (λ (x : Values). first_program x.programs) same

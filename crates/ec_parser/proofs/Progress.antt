@@ -1,5 +1,6 @@
 -- What a loop over the tokens keeps, and what it says where it stops.
-use Rattle.std.proofs.Common.{◌≡◌, ℕ, ◌+◌, ◌<◌, ◌≤◌, List, [], ◌∷◌, ◌++◌, length, take, drop, refl, sym, ◌∙◌, ap, subst, arith, append_assoc, append-nil, length-append, take-append-drop}
+use Rattle.std.proofs.Common.{◌≡◌, ℕ, ◌+◌, ◌<◌, ◌≤◌, List, [], ◌∷◌, ◌++◌, length, take, drop, refl, sym, ◌∙◌, ap, subst, arith}
+use Rattle.std.proofs.Common.{append_assoc, append-nil, length-append, take-append-drop}
 use Rattle.ec_parser.specs.declared.grammar.Part.TheVariants as part
 use Rattle.ec_lexer.specs.declared.token.Token.{Token as Word}
 use Rattle.ec_parser.specs.declared.values.Values.{Values}
@@ -20,7 +21,8 @@ pub record Reached (ts : List Word) (s : List Symbol) (vs : Values) : Type 0 whe
   pub nestings : List ℕ
   pub long : length nestings ≡ length ts
   pub shallow : AreShallow nestings
-  pub forth : (us : List Word) (ms : List ℕ) (ws : Values) → IsProgram (ts ++ us) ms ws → (rest : List ℕ) × (ms ≡ nestings ++ rest) × Reads s vs us rest ws
+  pub forth : (us : List Word) (ms : List ℕ) (ws : Values) → IsProgram (ts ++ us) ms ws →
+      (rest : List ℕ) × (ms ≡ nestings ++ rest) × Reads s vs us rest ws
   pub back : (us : List Word) (rest : List ℕ) (ws : Values) → Reads s vs us rest ws → IsProgram (ts ++ us) (nestings ++ rest) ws
 
 pub start : Reached [] (Part part.Program ∷ []) no_values
@@ -65,8 +67,11 @@ module _ (ts : List Word) (s : List Symbol) (vs : Values) (r : Reached ts s vs) 
         let j = g.forth us i.0 ws i.2 in
         (j.0, i.1 ∙ ap (λ x. r.nestings ++ x) j.1 ∙ sym (append_assoc r.nestings (open_in s' ∷ []) j.0), j.2)
 
-    back_more : (us : List Word) (rest : List ℕ) (ws : Values) → Reads s' vs' us rest ws → IsProgram ((ts ++ t ∷ []) ++ us) ((r.nestings ++ open_in s' ∷ []) ++ rest) ws
-    back_more us rest ws d = rw (append_assoc ts (t ∷ []) us, append_assoc r.nestings (open_in s' ∷ []) rest) (r.back (t ∷ us) (open_in s' ∷ rest) ws (g.back us rest ws d))
+    back_more : (us : List Word) (rest : List ℕ) (ws : Values) → Reads s' vs' us rest ws →
+        IsProgram ((ts ++ t ∷ []) ++ us) ((r.nestings ++ open_in s' ∷ []) ++ rest) ws
+    back_more us rest ws d =
+        rw (append_assoc ts (t ∷ []) us, append_assoc r.nestings (open_in s' ∷ []) rest)
+        (r.back (t ∷ us) (open_in s' ∷ rest) ws (g.back us rest ws d))
 
     pub goes_on : open_in s' ≤ 64 → Reached (ts ++ t ∷ []) s' vs'
     goes_on h = record {
@@ -85,7 +90,8 @@ module _ (tokens : List Word) (i : ℕ) (s : List Symbol) (vs : Values) (r : Rea
     none_from n = rw more (refused (take i tokens) s vs r t n)
 
     pub no_program_from : Refuses t s vs → (ns : List ℕ) (ws : Values) → IsProgram tokens ns ws → ⊥
-    no_program_from n ns ws d = none_from n (drop (i + 1) tokens) ns ws (subst (λ us. IsProgram us ns ws) (sym (take-append-drop (i + 1) tokens)) d)
+    no_program_from n ns ws d =
+        none_from n (drop (i + 1) tokens) ns ws (subst (λ us. IsProgram us ns ws) (sym (take-append-drop (i + 1) tokens)) d)
 
     pub syntax_at : Refuses t s vs → IsSyntax tokens i
     syntax_at n = record {
@@ -103,7 +109,8 @@ module _ (tokens : List Word) (i : ℕ) (s : List Symbol) (vs : Values) (r : Rea
         pub not_deep : (ns : List ℕ) (ws : Values) → IsProgram tokens ns ws → AreShallow ns → ⊥
         not_deep ns ws d h =
             let e : take (i + 1) tokens ++ drop (i + 1) tokens ≡ tokens = take-append-drop (i + 1) tokens in
-            let d' : IsProgram ((take i tokens ++ t ∷ []) ++ drop (i + 1) tokens) ns ws = subst (λ us. IsProgram us ns ws) (sym e ∙ ap (λ x. x ++ drop (i + 1) tokens) more) d in
+            let d' : IsProgram ((take i tokens ++ t ∷ []) ++ drop (i + 1) tokens) ns ws =
+            subst (λ us. IsProgram us ns ws) (sym e ∙ ap (λ x. x ++ drop (i + 1) tokens) more) d in
             let f = forth_more (take i tokens) s vs r t s' vs' g (drop (i + 1) tokens) ns ws d' in
             not_shallow r.nestings (open_in s') f.0 (omega arith) (subst AreShallow (f.1 ∙ append_assoc r.nestings (open_in s' ∷ []) f.0) h)
 
@@ -118,7 +125,8 @@ module _ (tokens : List Word) (i : ℕ) (s : List Symbol) (vs : Values) (r : Rea
           long = r.long ∙ l;
           shallow = r.shallow;
           deep = omega arith;
-          program = rw (more, ← append_assoc r.nestings (open_in s' ∷ []) e.1) (back_more (take i tokens) s vs r t s' vs' g e.0 e.1 e.2 e.3);
+          program = rw (more, ← append_assoc r.nestings (open_in s' ∷ []) e.1)
+              (back_more (take i tokens) s vs r t s' vs' g e.0 e.1 e.2 e.3);
         }
 
 module _ (tokens : List Word) (s : List Symbol) (vs : Values) (r : Reached tokens s vs) where
@@ -135,7 +143,12 @@ module _ (tokens : List Word) (s : List Symbol) (vs : Values) (r : Reached token
 
 module _ (tokens : List Word) (s : List Symbol) (vs ws : Values) (r : Reached tokens s vs) (e : EndsWith s vs ws) where
   pub whole_found : (ns : List ℕ) × IsProgram tokens ns ws × AreShallow ns
-  whole_found = (r.nestings, subst (λ us. IsProgram us r.nestings ws) (append-nil tokens) (subst (λ ns. IsProgram (tokens ++ []) ns ws) (append-nil r.nestings) (r.back [] [] ws e.made)), r.shallow)
+  whole_found = (
+    r.nestings,
+    subst (λ us. IsProgram us r.nestings ws) (append-nil tokens)
+        (subst (λ ns. IsProgram (tokens ++ []) ns ws) (append-nil r.nestings) (r.back [] [] ws e.made)),
+    r.shallow,
+  )
 
   pub whole_only : (ns : List ℕ) (other : Values) → IsProgram tokens ns other → ws ≡ other
   whole_only ns other d = let f = r.forth [] ns other (rw append-nil d) in sym (e.only f.0 other f.2).1

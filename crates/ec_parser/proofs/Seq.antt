@@ -37,13 +37,19 @@ pub record Split (xs s : List Symbol) (vs : Values) (ts us : List Word) (zs : Va
 
 pub split : (xs s : List Symbol) {vs zs : Values} {ts us : List Word} → Seq (xs ++ s) vs ts us zs → Split xs s vs ts us zs
 split [] s {vs = vs} {ts = ts} d = record { between = ts; values = vs; front = finished refl; back = d }
-split (Token k ∷ xs) s (token e d) = let h = split xs s d in record { between = h.between; values = h.values; front = token e h.front; back = h.back }
-split (Keep k ∷ xs) s (keep e d) = let h = split xs s d in record { between = h.between; values = h.values; front = keep e h.front; back = h.back }
-split (Part p ∷ xs) s (part m d) = let h = split xs s d in record { between = h.between; values = h.values; front = part m h.front; back = h.back }
-split (Bound o ∷ xs) s (bound d) = let h = split xs s d in record { between = h.between; values = h.values; front = bound h.front; back = h.back }
-split (Do a ∷ xs) s (made d) = let h = split xs s d in record { between = h.between; values = h.values; front = made h.front; back = h.back }
+split (Token k ∷ xs) s (token e d) = let h = split xs s d in
+    record { between = h.between; values = h.values; front = token e h.front; back = h.back }
+split (Keep k ∷ xs) s (keep e d) = let h = split xs s d in
+    record { between = h.between; values = h.values; front = keep e h.front; back = h.back }
+split (Part p ∷ xs) s (part m d) = let h = split xs s d in
+    record { between = h.between; values = h.values; front = part m h.front; back = h.back }
+split (Bound o ∷ xs) s (bound d) = let h = split xs s d in
+    record { between = h.between; values = h.values; front = bound h.front; back = h.back }
+split (Do a ∷ xs) s (made d) = let h = split xs s d in
+    record { between = h.between; values = h.values; front = made h.front; back = h.back }
 
-pub joined : {xs s : List Symbol} {vs ws zs : Values} {ts ms us : List Word} → Seq xs vs ts ms ws → Seq s ws ms us zs → Seq (xs ++ s) vs ts us zs
+pub joined : {xs s : List Symbol} {vs ws zs : Values} {ts ms us : List Word} → Seq xs vs ts ms ws → Seq s ws ms us zs →
+    Seq (xs ++ s) vs ts us zs
 joined {s = s} {zs = zs} {ms = ms} {us = us} (finished e) d = subst (λ v. Seq s v ms us zs) (sym e) d
 joined (token e c) d = token e (joined c d)
 joined (keep e c) d = keep e (joined c d)
@@ -64,7 +70,8 @@ pub record Taken (p : Part_of) (vs : Values) (ts us : List Word) (ws : Values) :
 abbrev pub Complete : Type 0
 Complete = (p : Part_of) (vs ws : Values) (ts us : List Word) → Means p vs ts us ws → Taken p vs ts us ws
 
-pub took : {p : Part_of} {r : List Symbol} {vs ws : Values} {ts us : List Word} → IsRule r (rules p) → Seq r vs ts us ws → Taken p vs ts us ws
+pub took : {p : Part_of} {r : List Symbol} {vs ws : Values} {ts us : List Word} → IsRule r (rules p) → Seq r vs ts us ws →
+    Taken p vs ts us ws
 took {r = r} m d = record { alternative = r; is_rule = m; takes = d }
 
 -- the same at values that are equal
@@ -95,7 +102,8 @@ pub record IsRead (s : List Symbol) (vs : Values) (ts : List Word) (ws : Values)
 abbrev Shorter : ℕ → Type 0
 Shorter n = (s : List Symbol) (vs ws : Values) (ts : List Word) → length ts < n → Seq s vs ts [] ws → IsRead s vs ts ws
 
-by_weight : Complete → (n : ℕ) → Shorter n → (w : ℕ) (s : List Symbol) (vs ws : Values) (ts : List Word) → length ts < suc n → weight_of s < w → Seq s vs ts [] ws → IsRead s vs ts ws
+by_weight : Complete → (n : ℕ) → Shorter n → (w : ℕ) (s : List Symbol) (vs ws : Values) (ts : List Word) → length ts < suc n →
+    weight_of s < w → Seq s vs ts [] ws → IsRead s vs ts ws
 by_weight complete n shorter zero s vs ws ts h l d = absurd (omega (arith, l))
 by_weight complete n shorter (suc w) _ _ _ _ h l (finished {vs = vs} e) =
     record { nestings = []; reads = subst (λ v. Reads [] vs [] [] v) e reads.finished }
@@ -105,12 +113,15 @@ by_weight complete n shorter (suc w) _ _ ws _ h l (keep {k = k} {s = s} {vs = vs
     let i = shorter s (kept k t vs) ws ts (omega (arith, h)) d in record { nestings = open_in s ∷ i.nestings; reads = reads.keep e i.reads }
 by_weight complete n shorter (suc w) _ vs ws ts h l (part {p = p} {s = s} {ws = vs'} {ms = ms} m d) =
     let c = complete p vs vs' ts ms m in
-    let i = by_weight complete n shorter w (c.alternative ++ s) vs ws ts h (omega (arith, l, lighter_rule p s c.alternative c.is_rule)) (joined c.takes d) in
+    let i = by_weight complete n shorter w (c.alternative ++ s) vs ws ts h (omega (arith, l, lighter_rule p s c.alternative c.is_rule))
+    (joined c.takes d) in
     record { nestings = i.nestings; reads = reads.part c.alternative c.is_rule i.reads }
 by_weight complete n shorter (suc w) _ vs ws ts h l (bound {s = s} d) =
-    let i = by_weight complete n shorter w s vs ws ts h (omega (arith, l)) d in record { nestings = i.nestings; reads = reads.bound i.reads }
+    let i = by_weight complete n shorter w s vs ws ts h (omega (arith, l)) d in
+    record { nestings = i.nestings; reads = reads.bound i.reads }
 by_weight complete n shorter (suc w) _ vs ws ts h l (made {a = a} {s = s} d) =
-    let i = by_weight complete n shorter w s (act a vs) ws ts h (omega (arith, l)) d in record { nestings = i.nestings; reads = reads.made i.reads }
+    let i = by_weight complete n shorter w s (act a vs) ws ts h (omega (arith, l)) d in
+    record { nestings = i.nestings; reads = reads.made i.reads }
 
 by_length : Complete → (n : ℕ) → Shorter n
 by_length complete zero s vs ws ts h d = absurd (omega (arith, h))

@@ -9,16 +9,26 @@ use Rattle.ec_parser.specs.Rules.{rules}
 use Rattle.ec_parser.specs.Reads.{IsRule}
 use Rattle.ec_parser.proofs.Meaning.{Means}
 use Rattle.ec_parser.proofs.Seq.{Seq}
-use Rattle.ec_parser.proofs.SoundConstants.{sound_Program, sound_Constants, sound_ConstantRest, sound_ConstantValue, sound_AfterMonitor, sound_TermRest, sound_AndRest, sound_Name}
-use Rattle.ec_parser.proofs.SoundTypes.{sound_Typeobject, sound_Signatures, sound_SignatureParameters, sound_Sigs, sound_MoreSigs, sound_SignatureResult, sound_OperationWord, sound_Sig, sound_AfterSigName, sound_Type, sound_PlainType}
-use Rattle.ec_parser.proofs.SoundClasses.{sound_ClassRest, sound_ObjectRest, sound_Parameters, sound_ParameterList, sound_MoreParameters, sound_Parameter, sound_Body, sound_Members, sound_Initially, sound_Process}
-use Rattle.ec_parser.proofs.SoundMembers.{sound_Member, sound_AttachedField, sound_ConstantField, sound_FieldValue, sound_ConditionTail, sound_OperationRest, sound_OperationResult, sound_Initial, sound_TypedValue}
-use Rattle.ec_parser.proofs.SoundStatements.{sound_Block, sound_Statements, sound_Declaration, sound_Statement, sound_ElseIfs, sound_Else, sound_When}
+use Rattle.ec_parser.proofs.SoundConstants.{sound_Program, sound_Constants, sound_ConstantRest, sound_ConstantValue, sound_AfterMonitor}
+use Rattle.ec_parser.proofs.SoundConstants.{sound_TermRest, sound_AndRest, sound_Name}
+use Rattle.ec_parser.proofs.SoundTypes.{sound_Typeobject, sound_Signatures, sound_SignatureParameters, sound_Sigs, sound_MoreSigs}
+use Rattle.ec_parser.proofs.SoundTypes.{sound_SignatureResult, sound_OperationWord, sound_Sig, sound_AfterSigName, sound_Type}
+use Rattle.ec_parser.proofs.SoundTypes.{sound_PlainType}
+use Rattle.ec_parser.proofs.SoundClasses.{sound_ClassRest, sound_ObjectRest, sound_Parameters, sound_ParameterList, sound_MoreParameters}
+use Rattle.ec_parser.proofs.SoundClasses.{sound_Parameter, sound_Body, sound_Members, sound_Initially, sound_Process}
+use Rattle.ec_parser.proofs.SoundMembers.{sound_Member, sound_AttachedField, sound_ConstantField, sound_FieldValue, sound_ConditionTail}
+use Rattle.ec_parser.proofs.SoundMembers.{sound_OperationRest, sound_OperationResult, sound_Initial, sound_TypedValue}
+use Rattle.ec_parser.proofs.SoundStatements.{sound_Block, sound_Statements, sound_Declaration, sound_Statement, sound_ElseIfs, sound_Else}
+use Rattle.ec_parser.proofs.SoundStatements.{sound_When}
 use Rattle.ec_parser.proofs.SoundTargets.{sound_AfterName, sound_AfterOther, sound_AfterIndex, sound_AfterField, sound_AfterCall}
-use Rattle.ec_parser.proofs.SoundExpressions.{sound_Expression, sound_OrTail, sound_And, sound_AndTail, sound_Not, sound_NotPrefix, sound_Rel, sound_CompareTail, sound_CompareWord, sound_Sum, sound_SumTail, sound_SumWord, sound_Term, sound_TermTail, sound_TermWord, sound_Unary, sound_UnaryPrefix}
-use Rattle.ec_parser.proofs.SoundPrimaries.{sound_Postfix, sound_PostfixTail, sound_AfterDot, sound_Arguments, sound_MoreArguments, sound_Primary, sound_Plain, sound_OtherPlain, sound_NodeRest}
+use Rattle.ec_parser.proofs.SoundExpressions.{sound_Expression, sound_OrTail, sound_And, sound_AndTail, sound_Not, sound_NotPrefix}
+use Rattle.ec_parser.proofs.SoundExpressions.{sound_Rel, sound_CompareTail, sound_CompareWord, sound_Sum, sound_SumTail, sound_SumWord}
+use Rattle.ec_parser.proofs.SoundExpressions.{sound_Term, sound_TermTail, sound_TermWord, sound_Unary, sound_UnaryPrefix}
+use Rattle.ec_parser.proofs.SoundPrimaries.{sound_Postfix, sound_PostfixTail, sound_AfterDot, sound_Arguments, sound_MoreArguments}
+use Rattle.ec_parser.proofs.SoundPrimaries.{sound_Primary, sound_Plain, sound_OtherPlain, sound_NodeRest}
 
-pub sound : (p : Part_of) (r : List Symbol) (vs ws : Values) (ts us : List Token) → IsRule r (rules p) → Seq r vs ts us ws → Means p vs ts us ws
+pub sound : (p : Part_of) (r : List Symbol) (vs ws : Values) (ts us : List Token) → IsRule r (rules p) → Seq r vs ts us ws →
+    Means p vs ts us ws
 sound part.Program r vs ws ts us m d = sound_Program m d
 sound part.Constants r vs ws ts us m d = sound_Constants m d
 sound part.ConstantRest r vs ws ts us m d = sound_ConstantRest m d

@@ -216,7 +216,8 @@ walks e f t place (Keep k ∷ s) = suits place k t (opened s) && walks e f t (pl
 walks e f t place (Part p ∷ s) = fits place p t (opened s) && each p (λ b. walks e f t (plain b) s)
 walks e f t place (Bound (Opens x) ∷ s) = is_plain place && walks e f t (opening (stood place)) s
 walks e f t place (Bound (Closes x) ∷ s) = is_plain place &&
-    (if ends_alone x then is_operand (stood place) && (none_goes_on x (starts_with s f) && walks e f t place s) else walks e f t (closing x (stood place)) s)
+    (if ends_alone x then is_operand (stood place) && (none_goes_on x (starts_with s f) && walks e f t place s) else walks e f t
+    (closing x (stood place)) s)
 walks e f t place (Do a ∷ s) = walks e f t place s
 
 -- what is opened in the list is there to be opened
@@ -243,7 +244,8 @@ abbrev pub walks_at : Part_of → Behind → Option Opened → Bool
 walks_at p b t = implies (stands p b t) (all_of (walks (leaves p) (follow p) t (plain b)) (rules p))
 
 abbrev pub for_tops : (Option Opened → Bool) → Bool
-for_tops f = f None && (f (Some o.Bracket) && (f (Some o.Word) && (f (Some o.Typeobject) && (f (Some o.Operand) && (f (Some o.View) && f (Some o.Not))))))
+for_tops f = f None &&
+    (f (Some o.Bracket) && (f (Some o.Word) && (f (Some o.Typeobject) && (f (Some o.Operand) && (f (Some o.View) && f (Some o.Not))))))
 
 abbrev pub all_walk : Part_of → Bool
 all_walk p = for_tops (walks_at p operand) && (for_tops (walks_at p end) && for_tops (walks_at p other))

@@ -43,7 +43,8 @@ abbrev pub follows_in : List Symbol → Part_of → Bool
 follows_in [] p = true
 follows_in (Token k ∷ s) p = is_of_token k && follows_in s p
 follows_in (Keep k ∷ s) p = is_of_token k && follows_in s p
-follows_in (Part q ∷ s) p = is_subset (starts_with s []) (follow q) && implies (all_nullable s) (is_subset (follow p) (follow q)) && follows_in s p
+follows_in (Part q ∷ s) p = is_subset (starts_with s []) (follow q) && implies (all_nullable s) (is_subset (follow p) (follow q)) &&
+    follows_in s p
 follows_in (Bound o ∷ s) p = follows_in s p
 follows_in (Do a ∷ s) p = follows_in s p
 
@@ -60,7 +61,9 @@ abbrev pub lookahead : Part_of → List Symbol → List Terminal
 lookahead p r = starts_with r [] ++ (if all_nullable r then follow p else [])
 
 abbrev pub is_good : Part_of → List (List Symbol) → ℕ → List Symbol → Bool
-is_good p rs n r = chosen_at rs n (lookahead p r) && (is_subset (starts_with r []) (first p) && (implies (all_nullable r) (nullable p) && (follows_in r p && nat_lt (weight_of r) (weight p))))
+is_good p rs n r = chosen_at rs n (lookahead p r) &&
+    (is_subset (starts_with r []) (first p) &&
+    (implies (all_nullable r) (nullable p) && (follows_in r p && nat_lt (weight_of r) (weight p))))
 
 abbrev pub all_good : Part_of → List (List Symbol) → ℕ → List (List Symbol) → Bool
 all_good p all n [] = true

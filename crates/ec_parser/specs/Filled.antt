@@ -10,3 +10,8 @@ IsFilled (x ∷ xs) = Unit {0}
 unfoldable pub rest : {A : Type 0} → List A → List A
 rest [] = []
 rest (x ∷ xs) = xs
+
+-- the top, or this one where there is none
+unfoldable pub top_or : {A : Type 0} → A → List A → A
+top_or other [] = other
+top_or other (x ∷ xs) = x

@@ -48,7 +48,10 @@ pub data Stack : Type 0 where
   a_constant_list : Stack
 
 abbrev pub all_stacks : List Stack
-all_stacks = a_name ∷ a_number ∷ a_literal ∷ a_place ∷ a_comparison ∷ a_additive ∷ a_multiplicative ∷ a_flag ∷ a_type ∷ a_maybe_type ∷ a_maybe_parameter ∷ a_expression ∷ a_maybe_expression ∷ a_member ∷ a_statement ∷ a_maybe_block ∷ a_maybe_process ∷ a_body ∷ a_object ∷ a_class ∷ a_value ∷ a_program ∷ a_expression_list ∷ a_addend_list ∷ a_factor_list ∷ a_link_list ∷ a_type_list ∷ a_parameter_list ∷ a_member_list ∷ a_statement_list ∷ a_arm_list ∷ a_signature_list ∷ a_constant_list ∷ []
+all_stacks = a_name ∷ a_number ∷ a_literal ∷ a_place ∷ a_comparison ∷ a_additive ∷ a_multiplicative ∷ a_flag ∷ a_type ∷ a_maybe_type ∷
+    a_maybe_parameter ∷ a_expression ∷ a_maybe_expression ∷ a_member ∷ a_statement ∷ a_maybe_block ∷ a_maybe_process ∷ a_body ∷ a_object ∷
+    a_class ∷ a_value ∷ a_program ∷ a_expression_list ∷ a_addend_list ∷ a_factor_list ∷ a_link_list ∷ a_type_list ∷ a_parameter_list ∷
+    a_member_list ∷ a_statement_list ∷ a_arm_list ∷ a_signature_list ∷ a_constant_list ∷ []
 
 -- the number of a stack
 abbrev pub number : Stack → ℕ

@@ -209,8 +209,10 @@ mutual
   --         | "node" "." "at" "[" expr "]" | "node" "." COUNT
   --         | "vector" "." "of" "[" type "]" "." CREATE "[" expr "]"
   pub data IsPrimary : List Token → List Token → Expression → Ending → Type 0 where
-    int : {a : Token} {us : List Token} → Is t.Number a → IsPrimary (a ∷ us) us (e.Number (record { value = number_of a; at = a.at })) a_primary
-    string : {a : Token} {us : List Token} → Is t.Literal a → IsPrimary (a ∷ us) us (e.Literal (record { text = text_of a; at = a.at })) a_primary
+    int : {a : Token} {us : List Token} → Is t.Number a →
+        IsPrimary (a ∷ us) us (e.Number (record { value = number_of a; at = a.at })) a_primary
+    string : {a : Token} {us : List Token} → Is t.Literal a →
+        IsPrimary (a ∷ us) us (e.Literal (record { text = text_of a; at = a.at })) a_primary
     true_word : {a : Token} {us : List Token} → Is t.True a → IsPrimary (a ∷ us) us (e.Truth true a.at) a_primary
     false_word : {a : Token} {us : List Token} → Is t.False a → IsPrimary (a ∷ us) us (e.Truth false a.at) a_primary
     nil_word : {a : Token} {us : List Token} → Is t.Nil a → IsPrimary (a ∷ us) us (e.Nil a.at) a_primary
@@ -240,7 +242,8 @@ mutual
     field : {a b : Token} {us vs : List Token} {name : Name} {links : List Link} {before last : Ending} →
         Is t.Dot a → IsId b name → AreLinks a_field us vs links last → AreLinks before (a ∷ b ∷ us) vs (link.Call name [] ∷ links) last
     call : {a b c d : Token} {ts us vs : List Token} {name : Name} {xs : List Expression} {links : List Link} {before last : Ending} →
-        Is t.Dot a → IsId b name → Is t.OpenBracket c → AreArguments ts (d ∷ us) xs → Is t.CloseBracket d → AreLinks a_call us vs links last →
+        Is t.Dot a → IsId b name → Is t.OpenBracket c → AreArguments ts (d ∷ us) xs → Is t.CloseBracket d →
+        AreLinks a_call us vs links last →
         AreLinks before (a ∷ b ∷ c ∷ ts) vs (link.Call name xs ∷ links) last
     index : {a b : Token} {ts us vs : List Token} {x : Expression} {links : List Link} {before last : Ending} →
         MayIndex before → Is t.OpenBracket a → IsExpr ts (b ∷ us) x → Is t.CloseBracket b → AreLinks an_index us vs links last →
@@ -342,10 +345,12 @@ mutual
     print : {a b c d f : Token} {ts us : List Token} {x : Expression} →
         Is t.Stdout a → Is t.Dot b → Is t.Putstring c → Is t.OpenBracket d → IsExpr ts (f ∷ us) x → Is t.CloseBracket f →
         IsStmt (a ∷ b ∷ c ∷ d ∷ ts) us (s.Print x a.at)
-    if_word : {a b c d : Token} {ts us vs ws zs : List Token} {x : Expression} {xs : List Statement} {arms : List Arm} {otherwise : Option Block} →
+    if_word : {a b c d : Token} {ts us vs ws zs : List Token} {x : Expression} {xs : List Statement} {arms : List Arm}
+        {otherwise : Option Block} →
         Is t.If a → IsExpr ts (b ∷ us) x → Is t.Then b → IsBlock us vs xs → AreArms vs ws arms → IsElse ws (c ∷ d ∷ zs) otherwise →
         Is t.End c → Is t.If d →
-        IsStmt (a ∷ ts) zs (s.If ((roll-Arm (record { condition = x; block = roll-Block (record { statements = xs }) })) ∷ arms) otherwise a.at)
+        IsStmt (a ∷ ts) zs (s.If ((roll-Arm (record { condition = x; block = roll-Block (record { statements = xs }) })) ∷ arms) otherwise
+        a.at)
     loop : {a b c : Token} {ts us : List Token} {xs : List Statement} →
         Is t.Loop a → IsBlock ts (b ∷ c ∷ us) xs → Is t.End b → Is t.Loop c →
         IsStmt (a ∷ ts) us (s.Loop (roll-Block (record { statements = xs })) a.at)
@@ -402,10 +407,19 @@ mutual
     condition : {a b c d f g : Token} {us vs : List Token} {name : Name} →
         Is t.Const a → IsId b name → Is t.Arrow c → Is t.Condition d → Is t.Dot f → Is t.Create g → IsBrackets us vs →
         IsMember (a ∷ b ∷ c ∷ d ∷ f ∷ g ∷ us) vs (m.Condition name)
-    operation_member : {a b c d : Token} {ts us vs ws zs : List Token} {flag : Bool} {name end_name : Name} {xs : List Parameter} {x : Option Parameter} {block : List Statement} →
+    operation_member : {a b c d : Token} {ts us vs ws zs : List Token} {flag : Bool} {name end_name : Name} {xs : List Parameter}
+        {x : Option Parameter} {block : List Statement} →
         IsFlag t.Export zs (a ∷ b ∷ ts) flag → IsOpword a → IsId b name → IsParamsOption ts us xs → IsResult us vs x →
         IsBlock vs (c ∷ d ∷ ws) block → Is t.End c → IsId d end_name →
-        IsMember zs ws (m.Operation (roll-Operation (record { is_exported = flag; name = name; parameters = xs; result = x; block = roll-Block (record { statements = block }); end_name = end_name })))
+        IsMember zs ws (m.Operation
+        (roll-Operation (record {
+          is_exported = flag;
+          name = name;
+          parameters = xs;
+          result = x;
+          block = roll-Block (record { statements = block });
+          end_name = end_name;
+        })))
 
   -- { member }
   pub data AreMembers : List Token → List Token → List Member → Type 0 where
@@ -435,8 +449,10 @@ mutual
   -- object = [ "monitor" ] "object" ID body "end" ID
   pub data IsObject : List Token → List Token → ObjectConstructor → Type 0 where
     object_constructor : {a b c d z : Token} {ts us zs : List Token} {flag : Bool} {name end_name : Name} {x : Body} →
-        IsFlag t.Monitor (z ∷ zs) (a ∷ b ∷ ts) flag → Is t.Object a → IsId b name → IsBody ts (c ∷ d ∷ us) x → Is t.End c → IsId d end_name →
-        IsObject (z ∷ zs) us (roll-ObjectConstructor (record { at = z.at; is_monitored = flag; name = name; body = x; end_name = end_name }))
+        IsFlag t.Monitor (z ∷ zs) (a ∷ b ∷ ts) flag → Is t.Object a → IsId b name → IsBody ts (c ∷ d ∷ us) x → Is t.End c →
+        IsId d end_name →
+        IsObject (z ∷ zs) us (roll-ObjectConstructor
+        (record { at = z.at; is_monitored = flag; name = name; body = x; end_name = end_name }))
 
 -- class = [ "monitor" ] "class" ID [ params ] body "end" ID
 pub data IsClass : List Token → List Token → Class → Type 0 where

@@ -1,3 +1,4 @@
+pub mod Acts
 pub mod Chains
 pub mod Choose
 pub mod Filled
@@ -11,4 +12,5 @@ pub mod Reads
 pub mod Rules
 pub mod Sizes
 pub mod Terminals
+pub mod Tops
 pub mod Values

@@ -142,7 +142,8 @@ open_at b k os = turned b k (left b k os)
 -- the nesting at each token, where these are open before the first
 abbrev pub nestings_from : List Opened → Behind → List Token → List ℕ
 nestings_from os b [] = []
-nestings_from os b (t ∷ ts) = length (open_at b (terminal_of t) os) ∷ nestings_from (open_at b (terminal_of t) os) (behind (terminal_of t)) ts
+nestings_from os b (t ∷ ts) = length (open_at b (terminal_of t) os) ∷
+    nestings_from (open_at b (terminal_of t) os) (behind (terminal_of t)) ts
 
 -- the nesting at each token
 unfoldable pub nestings_of : List Token → List ℕ

@@ -10,21 +10,29 @@ abbrev pub first : Part → List Terminal
 first part.Program = terminal.Const ∷ []
 first part.Constants = terminal.Const ∷ []
 first part.ConstantRest = terminal.Arrow ∷ terminal.Colon ∷ []
-first part.ConstantValue = terminal.Class ∷ terminal.False ∷ terminal.Isfixed ∷ terminal.Monitor ∷ terminal.Nil ∷ terminal.Node ∷ terminal.Object ∷ terminal.Self_ ∷ terminal.True ∷ terminal.Typeobject ∷ terminal.Vector ∷ terminal.View ∷ terminal.Name ∷ terminal.Create ∷ terminal.Putstring ∷ terminal.Count ∷ terminal.Number ∷ terminal.Literal ∷ terminal.OpenParenthesis ∷ terminal.Minus ∷ terminal.Bang ∷ []
+first part.ConstantValue = terminal.Class ∷ terminal.False ∷ terminal.Isfixed ∷ terminal.Monitor ∷ terminal.Nil ∷ terminal.Node ∷
+    terminal.Object ∷ terminal.Self_ ∷ terminal.True ∷ terminal.Typeobject ∷ terminal.Vector ∷ terminal.View ∷ terminal.Name ∷
+    terminal.Create ∷ terminal.Putstring ∷ terminal.Count ∷ terminal.Number ∷ terminal.Literal ∷ terminal.OpenParenthesis ∷
+    terminal.Minus ∷ terminal.Bang ∷ []
 first part.AfterMonitor = terminal.Class ∷ terminal.Object ∷ []
-first part.TermRest = terminal.And ∷ terminal.Or ∷ terminal.Plus ∷ terminal.Minus ∷ terminal.Times ∷ terminal.Over ∷ terminal.Remainder ∷ terminal.Concat ∷ terminal.Same ∷ terminal.NotSame ∷ terminal.Equal ∷ terminal.NotEqual ∷ terminal.Less ∷ terminal.LessEqual ∷ terminal.More ∷ terminal.MoreEqual ∷ []
+first part.TermRest = terminal.And ∷ terminal.Or ∷ terminal.Plus ∷ terminal.Minus ∷ terminal.Times ∷ terminal.Over ∷ terminal.Remainder ∷
+    terminal.Concat ∷ terminal.Same ∷ terminal.NotSame ∷ terminal.Equal ∷ terminal.NotEqual ∷ terminal.Less ∷ terminal.LessEqual ∷
+    terminal.More ∷ terminal.MoreEqual ∷ []
 first part.AndRest = terminal.And ∷ terminal.Or ∷ []
 first part.Name = terminal.Name ∷ terminal.Create ∷ terminal.Putstring ∷ terminal.Count ∷ []
 first part.Typeobject = terminal.Typeobject ∷ []
 first part.Signatures = terminal.Function ∷ terminal.Operation ∷ []
 first part.SignatureParameters = terminal.OpenBracket ∷ []
-first part.Sigs = terminal.Any ∷ terminal.Boolean ∷ terminal.Integer ∷ terminal.Node ∷ terminal.String ∷ terminal.Vector ∷ terminal.Name ∷ terminal.Create ∷ terminal.Putstring ∷ terminal.Count ∷ []
+first part.Sigs = terminal.Any ∷ terminal.Boolean ∷ terminal.Integer ∷ terminal.Node ∷ terminal.String ∷ terminal.Vector ∷ terminal.Name ∷
+    terminal.Create ∷ terminal.Putstring ∷ terminal.Count ∷ []
 first part.MoreSigs = terminal.Comma ∷ []
 first part.SignatureResult = terminal.ResultArrow ∷ []
 first part.OperationWord = terminal.Function ∷ terminal.Operation ∷ []
-first part.Sig = terminal.Any ∷ terminal.Boolean ∷ terminal.Integer ∷ terminal.Node ∷ terminal.String ∷ terminal.Vector ∷ terminal.Name ∷ terminal.Create ∷ terminal.Putstring ∷ terminal.Count ∷ []
+first part.Sig = terminal.Any ∷ terminal.Boolean ∷ terminal.Integer ∷ terminal.Node ∷ terminal.String ∷ terminal.Vector ∷ terminal.Name ∷
+    terminal.Create ∷ terminal.Putstring ∷ terminal.Count ∷ []
 first part.AfterSigName = terminal.Colon ∷ []
-first part.Type = terminal.Any ∷ terminal.Boolean ∷ terminal.Integer ∷ terminal.Node ∷ terminal.String ∷ terminal.Vector ∷ terminal.Name ∷ terminal.Create ∷ terminal.Putstring ∷ terminal.Count ∷ []
+first part.Type = terminal.Any ∷ terminal.Boolean ∷ terminal.Integer ∷ terminal.Node ∷ terminal.String ∷ terminal.Vector ∷ terminal.Name ∷
+    terminal.Create ∷ terminal.Putstring ∷ terminal.Count ∷ []
 first part.PlainType = terminal.Any ∷ terminal.Boolean ∷ terminal.Integer ∷ terminal.Node ∷ terminal.String ∷ terminal.Vector ∷ []
 first part.ClassRest = terminal.Class ∷ []
 first part.ObjectRest = terminal.Object ∷ []
@@ -32,23 +40,42 @@ first part.Parameters = terminal.OpenBracket ∷ []
 first part.ParameterList = terminal.Name ∷ terminal.Create ∷ terminal.Putstring ∷ terminal.Count ∷ []
 first part.MoreParameters = terminal.Comma ∷ []
 first part.Parameter = terminal.Name ∷ terminal.Create ∷ terminal.Putstring ∷ terminal.Count ∷ []
-first part.Body = terminal.Attached ∷ terminal.Const ∷ terminal.Export ∷ terminal.Function ∷ terminal.Initially ∷ terminal.Operation ∷ terminal.Process ∷ terminal.Var ∷ []
+first part.Body = terminal.Attached ∷ terminal.Const ∷ terminal.Export ∷ terminal.Function ∷ terminal.Initially ∷ terminal.Operation ∷
+    terminal.Process ∷ terminal.Var ∷ []
 first part.Members = terminal.Attached ∷ terminal.Const ∷ terminal.Export ∷ terminal.Function ∷ terminal.Operation ∷ terminal.Var ∷ []
 first part.Initially = terminal.Initially ∷ []
 first part.Process = terminal.Process ∷ []
 first part.Member = terminal.Attached ∷ terminal.Const ∷ terminal.Export ∷ terminal.Function ∷ terminal.Operation ∷ terminal.Var ∷ []
 first part.AttachedField = terminal.Const ∷ terminal.Var ∷ []
 first part.ConstantField = terminal.Arrow ∷ terminal.Colon ∷ []
-first part.FieldValue = terminal.Condition ∷ terminal.False ∷ terminal.Isfixed ∷ terminal.Monitor ∷ terminal.Nil ∷ terminal.Node ∷ terminal.Object ∷ terminal.Self_ ∷ terminal.True ∷ terminal.Vector ∷ terminal.View ∷ terminal.Name ∷ terminal.Create ∷ terminal.Putstring ∷ terminal.Count ∷ terminal.Number ∷ terminal.Literal ∷ terminal.OpenParenthesis ∷ terminal.Minus ∷ terminal.Bang ∷ []
+first part.FieldValue = terminal.Condition ∷ terminal.False ∷ terminal.Isfixed ∷ terminal.Monitor ∷ terminal.Nil ∷ terminal.Node ∷
+    terminal.Object ∷ terminal.Self_ ∷ terminal.True ∷ terminal.Vector ∷ terminal.View ∷ terminal.Name ∷ terminal.Create ∷
+    terminal.Putstring ∷ terminal.Count ∷ terminal.Number ∷ terminal.Literal ∷ terminal.OpenParenthesis ∷ terminal.Minus ∷
+    terminal.Bang ∷ []
 first part.ConditionTail = terminal.OpenBracket ∷ []
 first part.OperationRest = terminal.Function ∷ terminal.Operation ∷ []
 first part.OperationResult = terminal.ResultArrow ∷ []
 first part.Initial = terminal.Arrow ∷ []
 first part.TypedValue = terminal.Arrow ∷ terminal.Colon ∷ []
-first part.Block = terminal.Assert ∷ terminal.Const ∷ terminal.Exit ∷ terminal.False ∷ terminal.Fix ∷ terminal.If ∷ terminal.Loop ∷ terminal.Monitor ∷ terminal.Move ∷ terminal.Nil ∷ terminal.Node ∷ terminal.Object ∷ terminal.Refix ∷ terminal.Return ∷ terminal.Self_ ∷ terminal.Signal ∷ terminal.Stdout ∷ terminal.True ∷ terminal.Unfix ∷ terminal.Var ∷ terminal.Vector ∷ terminal.Wait ∷ terminal.Name ∷ terminal.Create ∷ terminal.Putstring ∷ terminal.Count ∷ terminal.Number ∷ terminal.Literal ∷ terminal.OpenParenthesis ∷ []
-first part.Statements = terminal.Assert ∷ terminal.Const ∷ terminal.Exit ∷ terminal.False ∷ terminal.Fix ∷ terminal.If ∷ terminal.Loop ∷ terminal.Monitor ∷ terminal.Move ∷ terminal.Nil ∷ terminal.Node ∷ terminal.Object ∷ terminal.Refix ∷ terminal.Return ∷ terminal.Self_ ∷ terminal.Signal ∷ terminal.Stdout ∷ terminal.True ∷ terminal.Unfix ∷ terminal.Var ∷ terminal.Vector ∷ terminal.Wait ∷ terminal.Name ∷ terminal.Create ∷ terminal.Putstring ∷ terminal.Count ∷ terminal.Number ∷ terminal.Literal ∷ terminal.OpenParenthesis ∷ []
-first part.Declaration = terminal.Assert ∷ terminal.Const ∷ terminal.Exit ∷ terminal.False ∷ terminal.Fix ∷ terminal.If ∷ terminal.Loop ∷ terminal.Monitor ∷ terminal.Move ∷ terminal.Nil ∷ terminal.Node ∷ terminal.Object ∷ terminal.Refix ∷ terminal.Return ∷ terminal.Self_ ∷ terminal.Signal ∷ terminal.Stdout ∷ terminal.True ∷ terminal.Unfix ∷ terminal.Var ∷ terminal.Vector ∷ terminal.Wait ∷ terminal.Name ∷ terminal.Create ∷ terminal.Putstring ∷ terminal.Count ∷ terminal.Number ∷ terminal.Literal ∷ terminal.OpenParenthesis ∷ []
-first part.Statement = terminal.Assert ∷ terminal.Exit ∷ terminal.False ∷ terminal.Fix ∷ terminal.If ∷ terminal.Loop ∷ terminal.Monitor ∷ terminal.Move ∷ terminal.Nil ∷ terminal.Node ∷ terminal.Object ∷ terminal.Refix ∷ terminal.Return ∷ terminal.Self_ ∷ terminal.Signal ∷ terminal.Stdout ∷ terminal.True ∷ terminal.Unfix ∷ terminal.Vector ∷ terminal.Wait ∷ terminal.Name ∷ terminal.Create ∷ terminal.Putstring ∷ terminal.Count ∷ terminal.Number ∷ terminal.Literal ∷ terminal.OpenParenthesis ∷ []
+first part.Block = terminal.Assert ∷ terminal.Const ∷ terminal.Exit ∷ terminal.False ∷ terminal.Fix ∷ terminal.If ∷ terminal.Loop ∷
+    terminal.Monitor ∷ terminal.Move ∷ terminal.Nil ∷ terminal.Node ∷ terminal.Object ∷ terminal.Refix ∷ terminal.Return ∷ terminal.Self_ ∷
+    terminal.Signal ∷ terminal.Stdout ∷ terminal.True ∷ terminal.Unfix ∷ terminal.Var ∷ terminal.Vector ∷ terminal.Wait ∷
+    terminal.Name ∷ terminal.Create ∷ terminal.Putstring ∷ terminal.Count ∷ terminal.Number ∷ terminal.Literal ∷
+    terminal.OpenParenthesis ∷ []
+first part.Statements = terminal.Assert ∷ terminal.Const ∷ terminal.Exit ∷ terminal.False ∷ terminal.Fix ∷ terminal.If ∷ terminal.Loop ∷
+    terminal.Monitor ∷ terminal.Move ∷ terminal.Nil ∷ terminal.Node ∷ terminal.Object ∷ terminal.Refix ∷ terminal.Return ∷ terminal.Self_ ∷
+    terminal.Signal ∷ terminal.Stdout ∷ terminal.True ∷ terminal.Unfix ∷ terminal.Var ∷ terminal.Vector ∷ terminal.Wait ∷
+    terminal.Name ∷ terminal.Create ∷ terminal.Putstring ∷ terminal.Count ∷ terminal.Number ∷ terminal.Literal ∷
+    terminal.OpenParenthesis ∷ []
+first part.Declaration = terminal.Assert ∷ terminal.Const ∷ terminal.Exit ∷ terminal.False ∷ terminal.Fix ∷ terminal.If ∷ terminal.Loop ∷
+    terminal.Monitor ∷ terminal.Move ∷ terminal.Nil ∷ terminal.Node ∷ terminal.Object ∷ terminal.Refix ∷ terminal.Return ∷ terminal.Self_ ∷
+    terminal.Signal ∷ terminal.Stdout ∷ terminal.True ∷ terminal.Unfix ∷ terminal.Var ∷ terminal.Vector ∷ terminal.Wait ∷
+    terminal.Name ∷ terminal.Create ∷ terminal.Putstring ∷ terminal.Count ∷ terminal.Number ∷ terminal.Literal ∷
+    terminal.OpenParenthesis ∷ []
+first part.Statement = terminal.Assert ∷ terminal.Exit ∷ terminal.False ∷ terminal.Fix ∷ terminal.If ∷ terminal.Loop ∷ terminal.Monitor ∷
+    terminal.Move ∷ terminal.Nil ∷ terminal.Node ∷ terminal.Object ∷ terminal.Refix ∷ terminal.Return ∷ terminal.Self_ ∷ terminal.Signal ∷
+    terminal.Stdout ∷ terminal.True ∷ terminal.Unfix ∷ terminal.Vector ∷ terminal.Wait ∷ terminal.Name ∷ terminal.Create ∷
+    terminal.Putstring ∷ terminal.Count ∷ terminal.Number ∷ terminal.Literal ∷ terminal.OpenParenthesis ∷ []
 first part.AfterName = terminal.Arrow ∷ terminal.OpenBracket ∷ terminal.Dot ∷ []
 first part.AfterOther = terminal.OpenBracket ∷ terminal.Dot ∷ []
 first part.AfterIndex = terminal.Arrow ∷ terminal.OpenBracket ∷ terminal.Dot ∷ []
@@ -57,31 +84,56 @@ first part.AfterCall = terminal.OpenBracket ∷ terminal.Dot ∷ []
 first part.ElseIfs = terminal.Elseif ∷ []
 first part.Else = terminal.Else ∷ []
 first part.When = terminal.When ∷ []
-first part.Expression = terminal.False ∷ terminal.Isfixed ∷ terminal.Monitor ∷ terminal.Nil ∷ terminal.Node ∷ terminal.Object ∷ terminal.Self_ ∷ terminal.True ∷ terminal.Vector ∷ terminal.View ∷ terminal.Name ∷ terminal.Create ∷ terminal.Putstring ∷ terminal.Count ∷ terminal.Number ∷ terminal.Literal ∷ terminal.OpenParenthesis ∷ terminal.Minus ∷ terminal.Bang ∷ []
+first part.Expression = terminal.False ∷ terminal.Isfixed ∷ terminal.Monitor ∷ terminal.Nil ∷ terminal.Node ∷ terminal.Object ∷
+    terminal.Self_ ∷ terminal.True ∷ terminal.Vector ∷ terminal.View ∷ terminal.Name ∷ terminal.Create ∷ terminal.Putstring ∷
+    terminal.Count ∷ terminal.Number ∷ terminal.Literal ∷ terminal.OpenParenthesis ∷ terminal.Minus ∷ terminal.Bang ∷ []
 first part.OrTail = terminal.Or ∷ []
-first part.And = terminal.False ∷ terminal.Isfixed ∷ terminal.Monitor ∷ terminal.Nil ∷ terminal.Node ∷ terminal.Object ∷ terminal.Self_ ∷ terminal.True ∷ terminal.Vector ∷ terminal.View ∷ terminal.Name ∷ terminal.Create ∷ terminal.Putstring ∷ terminal.Count ∷ terminal.Number ∷ terminal.Literal ∷ terminal.OpenParenthesis ∷ terminal.Minus ∷ terminal.Bang ∷ []
+first part.And = terminal.False ∷ terminal.Isfixed ∷ terminal.Monitor ∷ terminal.Nil ∷ terminal.Node ∷ terminal.Object ∷ terminal.Self_ ∷
+    terminal.True ∷ terminal.Vector ∷ terminal.View ∷ terminal.Name ∷ terminal.Create ∷ terminal.Putstring ∷ terminal.Count ∷
+    terminal.Number ∷ terminal.Literal ∷ terminal.OpenParenthesis ∷ terminal.Minus ∷ terminal.Bang ∷ []
 first part.AndTail = terminal.And ∷ []
-first part.Not = terminal.False ∷ terminal.Isfixed ∷ terminal.Monitor ∷ terminal.Nil ∷ terminal.Node ∷ terminal.Object ∷ terminal.Self_ ∷ terminal.True ∷ terminal.Vector ∷ terminal.View ∷ terminal.Name ∷ terminal.Create ∷ terminal.Putstring ∷ terminal.Count ∷ terminal.Number ∷ terminal.Literal ∷ terminal.OpenParenthesis ∷ terminal.Minus ∷ terminal.Bang ∷ []
+first part.Not = terminal.False ∷ terminal.Isfixed ∷ terminal.Monitor ∷ terminal.Nil ∷ terminal.Node ∷ terminal.Object ∷ terminal.Self_ ∷
+    terminal.True ∷ terminal.Vector ∷ terminal.View ∷ terminal.Name ∷ terminal.Create ∷ terminal.Putstring ∷ terminal.Count ∷
+    terminal.Number ∷ terminal.Literal ∷ terminal.OpenParenthesis ∷ terminal.Minus ∷ terminal.Bang ∷ []
 first part.NotPrefix = terminal.Bang ∷ []
-first part.Rel = terminal.False ∷ terminal.Isfixed ∷ terminal.Monitor ∷ terminal.Nil ∷ terminal.Node ∷ terminal.Object ∷ terminal.Self_ ∷ terminal.True ∷ terminal.Vector ∷ terminal.View ∷ terminal.Name ∷ terminal.Create ∷ terminal.Putstring ∷ terminal.Count ∷ terminal.Number ∷ terminal.Literal ∷ terminal.OpenParenthesis ∷ terminal.Minus ∷ []
-first part.CompareTail = terminal.Same ∷ terminal.NotSame ∷ terminal.Equal ∷ terminal.NotEqual ∷ terminal.Less ∷ terminal.LessEqual ∷ terminal.More ∷ terminal.MoreEqual ∷ []
-first part.CompareWord = terminal.Same ∷ terminal.NotSame ∷ terminal.Equal ∷ terminal.NotEqual ∷ terminal.Less ∷ terminal.LessEqual ∷ terminal.More ∷ terminal.MoreEqual ∷ []
-first part.Sum = terminal.False ∷ terminal.Isfixed ∷ terminal.Monitor ∷ terminal.Nil ∷ terminal.Node ∷ terminal.Object ∷ terminal.Self_ ∷ terminal.True ∷ terminal.Vector ∷ terminal.View ∷ terminal.Name ∷ terminal.Create ∷ terminal.Putstring ∷ terminal.Count ∷ terminal.Number ∷ terminal.Literal ∷ terminal.OpenParenthesis ∷ terminal.Minus ∷ []
+first part.Rel = terminal.False ∷ terminal.Isfixed ∷ terminal.Monitor ∷ terminal.Nil ∷ terminal.Node ∷ terminal.Object ∷ terminal.Self_ ∷
+    terminal.True ∷ terminal.Vector ∷ terminal.View ∷ terminal.Name ∷ terminal.Create ∷ terminal.Putstring ∷ terminal.Count ∷
+    terminal.Number ∷ terminal.Literal ∷ terminal.OpenParenthesis ∷ terminal.Minus ∷ []
+first part.CompareTail = terminal.Same ∷ terminal.NotSame ∷ terminal.Equal ∷ terminal.NotEqual ∷ terminal.Less ∷ terminal.LessEqual ∷
+    terminal.More ∷ terminal.MoreEqual ∷ []
+first part.CompareWord = terminal.Same ∷ terminal.NotSame ∷ terminal.Equal ∷ terminal.NotEqual ∷ terminal.Less ∷ terminal.LessEqual ∷
+    terminal.More ∷ terminal.MoreEqual ∷ []
+first part.Sum = terminal.False ∷ terminal.Isfixed ∷ terminal.Monitor ∷ terminal.Nil ∷ terminal.Node ∷ terminal.Object ∷ terminal.Self_ ∷
+    terminal.True ∷ terminal.Vector ∷ terminal.View ∷ terminal.Name ∷ terminal.Create ∷ terminal.Putstring ∷ terminal.Count ∷
+    terminal.Number ∷ terminal.Literal ∷ terminal.OpenParenthesis ∷ terminal.Minus ∷ []
 first part.SumTail = terminal.Plus ∷ terminal.Minus ∷ terminal.Concat ∷ []
 first part.SumWord = terminal.Plus ∷ terminal.Minus ∷ terminal.Concat ∷ []
-first part.Term = terminal.False ∷ terminal.Isfixed ∷ terminal.Monitor ∷ terminal.Nil ∷ terminal.Node ∷ terminal.Object ∷ terminal.Self_ ∷ terminal.True ∷ terminal.Vector ∷ terminal.View ∷ terminal.Name ∷ terminal.Create ∷ terminal.Putstring ∷ terminal.Count ∷ terminal.Number ∷ terminal.Literal ∷ terminal.OpenParenthesis ∷ terminal.Minus ∷ []
+first part.Term = terminal.False ∷ terminal.Isfixed ∷ terminal.Monitor ∷ terminal.Nil ∷ terminal.Node ∷ terminal.Object ∷ terminal.Self_ ∷
+    terminal.True ∷ terminal.Vector ∷ terminal.View ∷ terminal.Name ∷ terminal.Create ∷ terminal.Putstring ∷ terminal.Count ∷
+    terminal.Number ∷ terminal.Literal ∷ terminal.OpenParenthesis ∷ terminal.Minus ∷ []
 first part.TermTail = terminal.Times ∷ terminal.Over ∷ terminal.Remainder ∷ []
 first part.TermWord = terminal.Times ∷ terminal.Over ∷ terminal.Remainder ∷ []
-first part.Unary = terminal.False ∷ terminal.Isfixed ∷ terminal.Monitor ∷ terminal.Nil ∷ terminal.Node ∷ terminal.Object ∷ terminal.Self_ ∷ terminal.True ∷ terminal.Vector ∷ terminal.View ∷ terminal.Name ∷ terminal.Create ∷ terminal.Putstring ∷ terminal.Count ∷ terminal.Number ∷ terminal.Literal ∷ terminal.OpenParenthesis ∷ terminal.Minus ∷ []
+first part.Unary = terminal.False ∷ terminal.Isfixed ∷ terminal.Monitor ∷ terminal.Nil ∷ terminal.Node ∷ terminal.Object ∷ terminal.Self_ ∷
+    terminal.True ∷ terminal.Vector ∷ terminal.View ∷ terminal.Name ∷ terminal.Create ∷ terminal.Putstring ∷ terminal.Count ∷
+    terminal.Number ∷ terminal.Literal ∷ terminal.OpenParenthesis ∷ terminal.Minus ∷ []
 first part.UnaryPrefix = terminal.Isfixed ∷ terminal.View ∷ terminal.Minus ∷ []
-first part.Postfix = terminal.False ∷ terminal.Monitor ∷ terminal.Nil ∷ terminal.Node ∷ terminal.Object ∷ terminal.Self_ ∷ terminal.True ∷ terminal.Vector ∷ terminal.Name ∷ terminal.Create ∷ terminal.Putstring ∷ terminal.Count ∷ terminal.Number ∷ terminal.Literal ∷ terminal.OpenParenthesis ∷ []
+first part.Postfix = terminal.False ∷ terminal.Monitor ∷ terminal.Nil ∷ terminal.Node ∷ terminal.Object ∷ terminal.Self_ ∷ terminal.True ∷
+    terminal.Vector ∷ terminal.Name ∷ terminal.Create ∷ terminal.Putstring ∷ terminal.Count ∷ terminal.Number ∷ terminal.Literal ∷
+    terminal.OpenParenthesis ∷ []
 first part.PostfixTail = terminal.OpenBracket ∷ terminal.Dot ∷ []
 first part.AfterDot = terminal.OpenBracket ∷ terminal.Dot ∷ []
-first part.Arguments = terminal.False ∷ terminal.Isfixed ∷ terminal.Monitor ∷ terminal.Nil ∷ terminal.Node ∷ terminal.Object ∷ terminal.Self_ ∷ terminal.True ∷ terminal.Vector ∷ terminal.View ∷ terminal.Name ∷ terminal.Create ∷ terminal.Putstring ∷ terminal.Count ∷ terminal.Number ∷ terminal.Literal ∷ terminal.OpenParenthesis ∷ terminal.Minus ∷ terminal.Bang ∷ []
+first part.Arguments = terminal.False ∷ terminal.Isfixed ∷ terminal.Monitor ∷ terminal.Nil ∷ terminal.Node ∷ terminal.Object ∷
+    terminal.Self_ ∷ terminal.True ∷ terminal.Vector ∷ terminal.View ∷ terminal.Name ∷ terminal.Create ∷ terminal.Putstring ∷
+    terminal.Count ∷ terminal.Number ∷ terminal.Literal ∷ terminal.OpenParenthesis ∷ terminal.Minus ∷ terminal.Bang ∷ []
 first part.MoreArguments = terminal.Comma ∷ []
-first part.Primary = terminal.False ∷ terminal.Monitor ∷ terminal.Nil ∷ terminal.Node ∷ terminal.Object ∷ terminal.Self_ ∷ terminal.True ∷ terminal.Vector ∷ terminal.Name ∷ terminal.Create ∷ terminal.Putstring ∷ terminal.Count ∷ terminal.Number ∷ terminal.Literal ∷ terminal.OpenParenthesis ∷ []
-first part.Plain = terminal.False ∷ terminal.Nil ∷ terminal.Node ∷ terminal.Object ∷ terminal.Self_ ∷ terminal.True ∷ terminal.Vector ∷ terminal.Name ∷ terminal.Create ∷ terminal.Putstring ∷ terminal.Count ∷ terminal.Number ∷ terminal.Literal ∷ terminal.OpenParenthesis ∷ []
-first part.OtherPlain = terminal.False ∷ terminal.Nil ∷ terminal.Node ∷ terminal.Object ∷ terminal.Self_ ∷ terminal.True ∷ terminal.Vector ∷ terminal.Number ∷ terminal.Literal ∷ terminal.OpenParenthesis ∷ []
+first part.Primary = terminal.False ∷ terminal.Monitor ∷ terminal.Nil ∷ terminal.Node ∷ terminal.Object ∷ terminal.Self_ ∷ terminal.True ∷
+    terminal.Vector ∷ terminal.Name ∷ terminal.Create ∷ terminal.Putstring ∷ terminal.Count ∷ terminal.Number ∷ terminal.Literal ∷
+    terminal.OpenParenthesis ∷ []
+first part.Plain = terminal.False ∷ terminal.Nil ∷ terminal.Node ∷ terminal.Object ∷ terminal.Self_ ∷ terminal.True ∷ terminal.Vector ∷
+    terminal.Name ∷ terminal.Create ∷ terminal.Putstring ∷ terminal.Count ∷ terminal.Number ∷ terminal.Literal ∷ terminal.OpenParenthesis ∷
+    []
+first part.OtherPlain = terminal.False ∷ terminal.Nil ∷ terminal.Node ∷ terminal.Object ∷ terminal.Self_ ∷ terminal.True ∷ terminal.Vector ∷
+    terminal.Number ∷ terminal.Literal ∷ terminal.OpenParenthesis ∷ []
 first part.NodeRest = terminal.At ∷ terminal.Count ∷ []
 
 abbrev pub nullable : Part → Bool
@@ -170,7 +222,17 @@ follow part.ConstantValue = terminal.Const ∷ terminal.EndOfText ∷ []
 follow part.AfterMonitor = terminal.Const ∷ terminal.EndOfText ∷ []
 follow part.TermRest = terminal.Const ∷ terminal.EndOfText ∷ []
 follow part.AndRest = terminal.Const ∷ terminal.EndOfText ∷ []
-follow part.Name = terminal.And ∷ terminal.As ∷ terminal.Assert ∷ terminal.At ∷ terminal.Attached ∷ terminal.Const ∷ terminal.Else ∷ terminal.Elseif ∷ terminal.End ∷ terminal.Exit ∷ terminal.Export ∷ terminal.False ∷ terminal.Fix ∷ terminal.Function ∷ terminal.If ∷ terminal.Initially ∷ terminal.Loop ∷ terminal.Monitor ∷ terminal.Move ∷ terminal.Nil ∷ terminal.Node ∷ terminal.Object ∷ terminal.Operation ∷ terminal.Or ∷ terminal.Process ∷ terminal.Refix ∷ terminal.Return ∷ terminal.Self_ ∷ terminal.Signal ∷ terminal.Stdout ∷ terminal.Then ∷ terminal.To ∷ terminal.True ∷ terminal.Unfix ∷ terminal.Var ∷ terminal.Vector ∷ terminal.Wait ∷ terminal.Name ∷ terminal.Create ∷ terminal.Putstring ∷ terminal.Count ∷ terminal.Number ∷ terminal.Literal ∷ terminal.Arrow ∷ terminal.ResultArrow ∷ terminal.OpenParenthesis ∷ terminal.CloseParenthesis ∷ terminal.OpenBracket ∷ terminal.CloseBracket ∷ terminal.Comma ∷ terminal.Colon ∷ terminal.Dot ∷ terminal.Plus ∷ terminal.Minus ∷ terminal.Times ∷ terminal.Over ∷ terminal.Remainder ∷ terminal.Concat ∷ terminal.Same ∷ terminal.NotSame ∷ terminal.Equal ∷ terminal.NotEqual ∷ terminal.Less ∷ terminal.LessEqual ∷ terminal.More ∷ terminal.MoreEqual ∷ terminal.EndOfText ∷ []
+follow part.Name = terminal.And ∷ terminal.As ∷ terminal.Assert ∷ terminal.At ∷ terminal.Attached ∷ terminal.Const ∷ terminal.Else ∷
+    terminal.Elseif ∷ terminal.End ∷ terminal.Exit ∷ terminal.Export ∷ terminal.False ∷ terminal.Fix ∷ terminal.Function ∷ terminal.If ∷
+    terminal.Initially ∷ terminal.Loop ∷ terminal.Monitor ∷ terminal.Move ∷ terminal.Nil ∷ terminal.Node ∷ terminal.Object ∷
+    terminal.Operation ∷ terminal.Or ∷ terminal.Process ∷ terminal.Refix ∷ terminal.Return ∷ terminal.Self_ ∷ terminal.Signal ∷
+    terminal.Stdout ∷ terminal.Then ∷ terminal.To ∷ terminal.True ∷ terminal.Unfix ∷ terminal.Var ∷ terminal.Vector ∷
+    terminal.Wait ∷ terminal.Name ∷ terminal.Create ∷ terminal.Putstring ∷ terminal.Count ∷ terminal.Number ∷
+    terminal.Literal ∷ terminal.Arrow ∷ terminal.ResultArrow ∷ terminal.OpenParenthesis ∷ terminal.CloseParenthesis ∷
+    terminal.OpenBracket ∷ terminal.CloseBracket ∷ terminal.Comma ∷ terminal.Colon ∷ terminal.Dot ∷ terminal.Plus ∷
+    terminal.Minus ∷ terminal.Times ∷ terminal.Over ∷ terminal.Remainder ∷ terminal.Concat ∷ terminal.Same ∷
+    terminal.NotSame ∷ terminal.Equal ∷ terminal.NotEqual ∷ terminal.Less ∷ terminal.LessEqual ∷
+    terminal.More ∷ terminal.MoreEqual ∷ terminal.EndOfText ∷ []
 follow part.Typeobject = terminal.Const ∷ terminal.EndOfText ∷ []
 follow part.Signatures = terminal.End ∷ []
 follow part.SignatureParameters = terminal.End ∷ terminal.Function ∷ terminal.Operation ∷ terminal.ResultArrow ∷ []
@@ -180,11 +242,44 @@ follow part.SignatureResult = terminal.End ∷ terminal.Function ∷ terminal.Op
 follow part.OperationWord = terminal.Name ∷ terminal.Create ∷ terminal.Putstring ∷ terminal.Count ∷ []
 follow part.Sig = terminal.CloseBracket ∷ terminal.Comma ∷ []
 follow part.AfterSigName = terminal.CloseBracket ∷ terminal.Comma ∷ []
-follow part.Type = terminal.And ∷ terminal.As ∷ terminal.Assert ∷ terminal.At ∷ terminal.Attached ∷ terminal.Const ∷ terminal.Else ∷ terminal.Elseif ∷ terminal.End ∷ terminal.Exit ∷ terminal.Export ∷ terminal.False ∷ terminal.Fix ∷ terminal.Function ∷ terminal.If ∷ terminal.Initially ∷ terminal.Loop ∷ terminal.Monitor ∷ terminal.Move ∷ terminal.Nil ∷ terminal.Node ∷ terminal.Object ∷ terminal.Operation ∷ terminal.Or ∷ terminal.Process ∷ terminal.Refix ∷ terminal.Return ∷ terminal.Self_ ∷ terminal.Signal ∷ terminal.Stdout ∷ terminal.Then ∷ terminal.To ∷ terminal.True ∷ terminal.Unfix ∷ terminal.Var ∷ terminal.Vector ∷ terminal.Wait ∷ terminal.Name ∷ terminal.Create ∷ terminal.Putstring ∷ terminal.Count ∷ terminal.Number ∷ terminal.Literal ∷ terminal.Arrow ∷ terminal.OpenParenthesis ∷ terminal.CloseParenthesis ∷ terminal.CloseBracket ∷ terminal.Comma ∷ terminal.Plus ∷ terminal.Minus ∷ terminal.Times ∷ terminal.Over ∷ terminal.Remainder ∷ terminal.Concat ∷ terminal.Same ∷ terminal.NotSame ∷ terminal.Equal ∷ terminal.NotEqual ∷ terminal.Less ∷ terminal.LessEqual ∷ terminal.More ∷ terminal.MoreEqual ∷ terminal.EndOfText ∷ []
-follow part.PlainType = terminal.And ∷ terminal.As ∷ terminal.Assert ∷ terminal.At ∷ terminal.Attached ∷ terminal.Const ∷ terminal.Else ∷ terminal.Elseif ∷ terminal.End ∷ terminal.Exit ∷ terminal.Export ∷ terminal.False ∷ terminal.Fix ∷ terminal.Function ∷ terminal.If ∷ terminal.Initially ∷ terminal.Loop ∷ terminal.Monitor ∷ terminal.Move ∷ terminal.Nil ∷ terminal.Node ∷ terminal.Object ∷ terminal.Operation ∷ terminal.Or ∷ terminal.Process ∷ terminal.Refix ∷ terminal.Return ∷ terminal.Self_ ∷ terminal.Signal ∷ terminal.Stdout ∷ terminal.Then ∷ terminal.To ∷ terminal.True ∷ terminal.Unfix ∷ terminal.Var ∷ terminal.Vector ∷ terminal.Wait ∷ terminal.Name ∷ terminal.Create ∷ terminal.Putstring ∷ terminal.Count ∷ terminal.Number ∷ terminal.Literal ∷ terminal.Arrow ∷ terminal.OpenParenthesis ∷ terminal.CloseParenthesis ∷ terminal.CloseBracket ∷ terminal.Comma ∷ terminal.Plus ∷ terminal.Minus ∷ terminal.Times ∷ terminal.Over ∷ terminal.Remainder ∷ terminal.Concat ∷ terminal.Same ∷ terminal.NotSame ∷ terminal.Equal ∷ terminal.NotEqual ∷ terminal.Less ∷ terminal.LessEqual ∷ terminal.More ∷ terminal.MoreEqual ∷ terminal.EndOfText ∷ []
+follow part.Type = terminal.And ∷ terminal.As ∷ terminal.Assert ∷ terminal.At ∷ terminal.Attached ∷ terminal.Const ∷ terminal.Else ∷
+    terminal.Elseif ∷ terminal.End ∷ terminal.Exit ∷ terminal.Export ∷ terminal.False ∷ terminal.Fix ∷ terminal.Function ∷ terminal.If ∷
+    terminal.Initially ∷ terminal.Loop ∷ terminal.Monitor ∷ terminal.Move ∷ terminal.Nil ∷ terminal.Node ∷ terminal.Object ∷
+    terminal.Operation ∷ terminal.Or ∷ terminal.Process ∷ terminal.Refix ∷ terminal.Return ∷ terminal.Self_ ∷ terminal.Signal ∷
+    terminal.Stdout ∷ terminal.Then ∷ terminal.To ∷ terminal.True ∷ terminal.Unfix ∷ terminal.Var ∷ terminal.Vector ∷
+    terminal.Wait ∷ terminal.Name ∷ terminal.Create ∷ terminal.Putstring ∷ terminal.Count ∷ terminal.Number ∷
+    terminal.Literal ∷ terminal.Arrow ∷ terminal.OpenParenthesis ∷ terminal.CloseParenthesis ∷ terminal.CloseBracket ∷
+    terminal.Comma ∷ terminal.Plus ∷ terminal.Minus ∷ terminal.Times ∷ terminal.Over ∷ terminal.Remainder ∷
+    terminal.Concat ∷ terminal.Same ∷ terminal.NotSame ∷ terminal.Equal ∷ terminal.NotEqual ∷ terminal.Less ∷
+    terminal.LessEqual ∷ terminal.More ∷ terminal.MoreEqual ∷ terminal.EndOfText ∷ []
+follow part.PlainType = terminal.And ∷ terminal.As ∷ terminal.Assert ∷ terminal.At ∷ terminal.Attached ∷ terminal.Const ∷ terminal.Else ∷
+    terminal.Elseif ∷ terminal.End ∷ terminal.Exit ∷ terminal.Export ∷ terminal.False ∷ terminal.Fix ∷ terminal.Function ∷ terminal.If ∷
+    terminal.Initially ∷ terminal.Loop ∷ terminal.Monitor ∷ terminal.Move ∷ terminal.Nil ∷ terminal.Node ∷ terminal.Object ∷
+    terminal.Operation ∷ terminal.Or ∷ terminal.Process ∷ terminal.Refix ∷ terminal.Return ∷ terminal.Self_ ∷ terminal.Signal ∷
+    terminal.Stdout ∷ terminal.Then ∷ terminal.To ∷ terminal.True ∷ terminal.Unfix ∷ terminal.Var ∷ terminal.Vector ∷
+    terminal.Wait ∷ terminal.Name ∷ terminal.Create ∷ terminal.Putstring ∷ terminal.Count ∷ terminal.Number ∷
+    terminal.Literal ∷ terminal.Arrow ∷ terminal.OpenParenthesis ∷ terminal.CloseParenthesis ∷ terminal.CloseBracket ∷
+    terminal.Comma ∷ terminal.Plus ∷ terminal.Minus ∷ terminal.Times ∷ terminal.Over ∷ terminal.Remainder ∷
+    terminal.Concat ∷ terminal.Same ∷ terminal.NotSame ∷ terminal.Equal ∷ terminal.NotEqual ∷ terminal.Less ∷
+    terminal.LessEqual ∷ terminal.More ∷ terminal.MoreEqual ∷ terminal.EndOfText ∷ []
 follow part.ClassRest = terminal.Const ∷ terminal.EndOfText ∷ []
-follow part.ObjectRest = terminal.And ∷ terminal.As ∷ terminal.Assert ∷ terminal.At ∷ terminal.Attached ∷ terminal.Const ∷ terminal.Else ∷ terminal.Elseif ∷ terminal.End ∷ terminal.Exit ∷ terminal.Export ∷ terminal.False ∷ terminal.Fix ∷ terminal.Function ∷ terminal.If ∷ terminal.Initially ∷ terminal.Loop ∷ terminal.Monitor ∷ terminal.Move ∷ terminal.Nil ∷ terminal.Node ∷ terminal.Object ∷ terminal.Operation ∷ terminal.Or ∷ terminal.Process ∷ terminal.Refix ∷ terminal.Return ∷ terminal.Self_ ∷ terminal.Signal ∷ terminal.Stdout ∷ terminal.Then ∷ terminal.To ∷ terminal.True ∷ terminal.Unfix ∷ terminal.Var ∷ terminal.Vector ∷ terminal.Wait ∷ terminal.Name ∷ terminal.Create ∷ terminal.Putstring ∷ terminal.Count ∷ terminal.Number ∷ terminal.Literal ∷ terminal.OpenParenthesis ∷ terminal.CloseParenthesis ∷ terminal.OpenBracket ∷ terminal.CloseBracket ∷ terminal.Comma ∷ terminal.Dot ∷ terminal.Plus ∷ terminal.Minus ∷ terminal.Times ∷ terminal.Over ∷ terminal.Remainder ∷ terminal.Concat ∷ terminal.Same ∷ terminal.NotSame ∷ terminal.Equal ∷ terminal.NotEqual ∷ terminal.Less ∷ terminal.LessEqual ∷ terminal.More ∷ terminal.MoreEqual ∷ terminal.EndOfText ∷ []
-follow part.Parameters = terminal.Assert ∷ terminal.Attached ∷ terminal.Const ∷ terminal.End ∷ terminal.Exit ∷ terminal.Export ∷ terminal.False ∷ terminal.Fix ∷ terminal.Function ∷ terminal.If ∷ terminal.Initially ∷ terminal.Loop ∷ terminal.Monitor ∷ terminal.Move ∷ terminal.Nil ∷ terminal.Node ∷ terminal.Object ∷ terminal.Operation ∷ terminal.Process ∷ terminal.Refix ∷ terminal.Return ∷ terminal.Self_ ∷ terminal.Signal ∷ terminal.Stdout ∷ terminal.True ∷ terminal.Unfix ∷ terminal.Var ∷ terminal.Vector ∷ terminal.Wait ∷ terminal.Name ∷ terminal.Create ∷ terminal.Putstring ∷ terminal.Count ∷ terminal.Number ∷ terminal.Literal ∷ terminal.ResultArrow ∷ terminal.OpenParenthesis ∷ []
+follow part.ObjectRest = terminal.And ∷ terminal.As ∷ terminal.Assert ∷ terminal.At ∷ terminal.Attached ∷ terminal.Const ∷ terminal.Else ∷
+    terminal.Elseif ∷ terminal.End ∷ terminal.Exit ∷ terminal.Export ∷ terminal.False ∷ terminal.Fix ∷ terminal.Function ∷ terminal.If ∷
+    terminal.Initially ∷ terminal.Loop ∷ terminal.Monitor ∷ terminal.Move ∷ terminal.Nil ∷ terminal.Node ∷ terminal.Object ∷
+    terminal.Operation ∷ terminal.Or ∷ terminal.Process ∷ terminal.Refix ∷ terminal.Return ∷ terminal.Self_ ∷ terminal.Signal ∷
+    terminal.Stdout ∷ terminal.Then ∷ terminal.To ∷ terminal.True ∷ terminal.Unfix ∷ terminal.Var ∷ terminal.Vector ∷
+    terminal.Wait ∷ terminal.Name ∷ terminal.Create ∷ terminal.Putstring ∷ terminal.Count ∷ terminal.Number ∷
+    terminal.Literal ∷ terminal.OpenParenthesis ∷ terminal.CloseParenthesis ∷ terminal.OpenBracket ∷
+    terminal.CloseBracket ∷ terminal.Comma ∷ terminal.Dot ∷ terminal.Plus ∷ terminal.Minus ∷ terminal.Times ∷
+    terminal.Over ∷ terminal.Remainder ∷ terminal.Concat ∷ terminal.Same ∷ terminal.NotSame ∷ terminal.Equal ∷
+    terminal.NotEqual ∷ terminal.Less ∷ terminal.LessEqual ∷ terminal.More ∷ terminal.MoreEqual ∷
+    terminal.EndOfText ∷ []
+follow part.Parameters = terminal.Assert ∷ terminal.Attached ∷ terminal.Const ∷ terminal.End ∷ terminal.Exit ∷ terminal.Export ∷
+    terminal.False ∷ terminal.Fix ∷ terminal.Function ∷ terminal.If ∷ terminal.Initially ∷ terminal.Loop ∷ terminal.Monitor ∷
+    terminal.Move ∷ terminal.Nil ∷ terminal.Node ∷ terminal.Object ∷ terminal.Operation ∷ terminal.Process ∷ terminal.Refix ∷
+    terminal.Return ∷ terminal.Self_ ∷ terminal.Signal ∷ terminal.Stdout ∷ terminal.True ∷ terminal.Unfix ∷ terminal.Var ∷
+    terminal.Vector ∷ terminal.Wait ∷ terminal.Name ∷ terminal.Create ∷ terminal.Putstring ∷ terminal.Count ∷ terminal.Number ∷
+    terminal.Literal ∷ terminal.ResultArrow ∷ terminal.OpenParenthesis ∷ []
 follow part.ParameterList = terminal.CloseBracket ∷ []
 follow part.MoreParameters = terminal.CloseBracket ∷ []
 follow part.Parameter = terminal.CloseBracket ∷ terminal.Comma ∷ []
@@ -192,53 +287,280 @@ follow part.Body = terminal.End ∷ []
 follow part.Members = terminal.End ∷ terminal.Initially ∷ terminal.Process ∷ []
 follow part.Initially = terminal.End ∷ terminal.Process ∷ []
 follow part.Process = terminal.End ∷ []
-follow part.Member = terminal.Attached ∷ terminal.Const ∷ terminal.End ∷ terminal.Export ∷ terminal.Function ∷ terminal.Initially ∷ terminal.Operation ∷ terminal.Process ∷ terminal.Var ∷ []
-follow part.AttachedField = terminal.Attached ∷ terminal.Const ∷ terminal.End ∷ terminal.Export ∷ terminal.Function ∷ terminal.Initially ∷ terminal.Operation ∷ terminal.Process ∷ terminal.Var ∷ []
-follow part.ConstantField = terminal.Attached ∷ terminal.Const ∷ terminal.End ∷ terminal.Export ∷ terminal.Function ∷ terminal.Initially ∷ terminal.Operation ∷ terminal.Process ∷ terminal.Var ∷ []
-follow part.FieldValue = terminal.Attached ∷ terminal.Const ∷ terminal.End ∷ terminal.Export ∷ terminal.Function ∷ terminal.Initially ∷ terminal.Operation ∷ terminal.Process ∷ terminal.Var ∷ []
-follow part.ConditionTail = terminal.Attached ∷ terminal.Const ∷ terminal.End ∷ terminal.Export ∷ terminal.Function ∷ terminal.Initially ∷ terminal.Operation ∷ terminal.Process ∷ terminal.Var ∷ []
-follow part.OperationRest = terminal.Attached ∷ terminal.Const ∷ terminal.End ∷ terminal.Export ∷ terminal.Function ∷ terminal.Initially ∷ terminal.Operation ∷ terminal.Process ∷ terminal.Var ∷ []
-follow part.OperationResult = terminal.Assert ∷ terminal.Const ∷ terminal.End ∷ terminal.Exit ∷ terminal.False ∷ terminal.Fix ∷ terminal.If ∷ terminal.Loop ∷ terminal.Monitor ∷ terminal.Move ∷ terminal.Nil ∷ terminal.Node ∷ terminal.Object ∷ terminal.Refix ∷ terminal.Return ∷ terminal.Self_ ∷ terminal.Signal ∷ terminal.Stdout ∷ terminal.True ∷ terminal.Unfix ∷ terminal.Var ∷ terminal.Vector ∷ terminal.Wait ∷ terminal.Name ∷ terminal.Create ∷ terminal.Putstring ∷ terminal.Count ∷ terminal.Number ∷ terminal.Literal ∷ terminal.OpenParenthesis ∷ []
-follow part.Initial = terminal.Assert ∷ terminal.Attached ∷ terminal.Const ∷ terminal.Else ∷ terminal.Elseif ∷ terminal.End ∷ terminal.Exit ∷ terminal.Export ∷ terminal.False ∷ terminal.Fix ∷ terminal.Function ∷ terminal.If ∷ terminal.Initially ∷ terminal.Loop ∷ terminal.Monitor ∷ terminal.Move ∷ terminal.Nil ∷ terminal.Node ∷ terminal.Object ∷ terminal.Operation ∷ terminal.Process ∷ terminal.Refix ∷ terminal.Return ∷ terminal.Self_ ∷ terminal.Signal ∷ terminal.Stdout ∷ terminal.True ∷ terminal.Unfix ∷ terminal.Var ∷ terminal.Vector ∷ terminal.Wait ∷ terminal.Name ∷ terminal.Create ∷ terminal.Putstring ∷ terminal.Count ∷ terminal.Number ∷ terminal.Literal ∷ terminal.OpenParenthesis ∷ []
-follow part.TypedValue = terminal.Assert ∷ terminal.Attached ∷ terminal.Const ∷ terminal.Else ∷ terminal.Elseif ∷ terminal.End ∷ terminal.Exit ∷ terminal.Export ∷ terminal.False ∷ terminal.Fix ∷ terminal.Function ∷ terminal.If ∷ terminal.Initially ∷ terminal.Loop ∷ terminal.Monitor ∷ terminal.Move ∷ terminal.Nil ∷ terminal.Node ∷ terminal.Object ∷ terminal.Operation ∷ terminal.Process ∷ terminal.Refix ∷ terminal.Return ∷ terminal.Self_ ∷ terminal.Signal ∷ terminal.Stdout ∷ terminal.True ∷ terminal.Unfix ∷ terminal.Var ∷ terminal.Vector ∷ terminal.Wait ∷ terminal.Name ∷ terminal.Create ∷ terminal.Putstring ∷ terminal.Count ∷ terminal.Number ∷ terminal.Literal ∷ terminal.OpenParenthesis ∷ []
+follow part.Member = terminal.Attached ∷ terminal.Const ∷ terminal.End ∷ terminal.Export ∷ terminal.Function ∷ terminal.Initially ∷
+    terminal.Operation ∷ terminal.Process ∷ terminal.Var ∷ []
+follow part.AttachedField = terminal.Attached ∷ terminal.Const ∷ terminal.End ∷ terminal.Export ∷ terminal.Function ∷ terminal.Initially ∷
+    terminal.Operation ∷ terminal.Process ∷ terminal.Var ∷ []
+follow part.ConstantField = terminal.Attached ∷ terminal.Const ∷ terminal.End ∷ terminal.Export ∷ terminal.Function ∷ terminal.Initially ∷
+    terminal.Operation ∷ terminal.Process ∷ terminal.Var ∷ []
+follow part.FieldValue = terminal.Attached ∷ terminal.Const ∷ terminal.End ∷ terminal.Export ∷ terminal.Function ∷ terminal.Initially ∷
+    terminal.Operation ∷ terminal.Process ∷ terminal.Var ∷ []
+follow part.ConditionTail = terminal.Attached ∷ terminal.Const ∷ terminal.End ∷ terminal.Export ∷ terminal.Function ∷ terminal.Initially ∷
+    terminal.Operation ∷ terminal.Process ∷ terminal.Var ∷ []
+follow part.OperationRest = terminal.Attached ∷ terminal.Const ∷ terminal.End ∷ terminal.Export ∷ terminal.Function ∷ terminal.Initially ∷
+    terminal.Operation ∷ terminal.Process ∷ terminal.Var ∷ []
+follow part.OperationResult = terminal.Assert ∷ terminal.Const ∷ terminal.End ∷ terminal.Exit ∷ terminal.False ∷ terminal.Fix ∷
+    terminal.If ∷ terminal.Loop ∷ terminal.Monitor ∷ terminal.Move ∷ terminal.Nil ∷ terminal.Node ∷ terminal.Object ∷ terminal.Refix ∷
+    terminal.Return ∷ terminal.Self_ ∷ terminal.Signal ∷ terminal.Stdout ∷ terminal.True ∷ terminal.Unfix ∷ terminal.Var ∷
+    terminal.Vector ∷ terminal.Wait ∷ terminal.Name ∷ terminal.Create ∷ terminal.Putstring ∷ terminal.Count ∷ terminal.Number ∷
+    terminal.Literal ∷ terminal.OpenParenthesis ∷ []
+follow part.Initial = terminal.Assert ∷ terminal.Attached ∷ terminal.Const ∷ terminal.Else ∷ terminal.Elseif ∷ terminal.End ∷
+    terminal.Exit ∷ terminal.Export ∷ terminal.False ∷ terminal.Fix ∷ terminal.Function ∷ terminal.If ∷ terminal.Initially ∷ terminal.Loop ∷
+    terminal.Monitor ∷ terminal.Move ∷ terminal.Nil ∷ terminal.Node ∷ terminal.Object ∷ terminal.Operation ∷ terminal.Process ∷
+    terminal.Refix ∷ terminal.Return ∷ terminal.Self_ ∷ terminal.Signal ∷ terminal.Stdout ∷ terminal.True ∷ terminal.Unfix ∷
+    terminal.Var ∷ terminal.Vector ∷ terminal.Wait ∷ terminal.Name ∷ terminal.Create ∷ terminal.Putstring ∷ terminal.Count ∷
+    terminal.Number ∷ terminal.Literal ∷ terminal.OpenParenthesis ∷ []
+follow part.TypedValue = terminal.Assert ∷ terminal.Attached ∷ terminal.Const ∷ terminal.Else ∷ terminal.Elseif ∷ terminal.End ∷
+    terminal.Exit ∷ terminal.Export ∷ terminal.False ∷ terminal.Fix ∷ terminal.Function ∷ terminal.If ∷ terminal.Initially ∷ terminal.Loop ∷
+    terminal.Monitor ∷ terminal.Move ∷ terminal.Nil ∷ terminal.Node ∷ terminal.Object ∷ terminal.Operation ∷ terminal.Process ∷
+    terminal.Refix ∷ terminal.Return ∷ terminal.Self_ ∷ terminal.Signal ∷ terminal.Stdout ∷ terminal.True ∷ terminal.Unfix ∷
+    terminal.Var ∷ terminal.Vector ∷ terminal.Wait ∷ terminal.Name ∷ terminal.Create ∷ terminal.Putstring ∷ terminal.Count ∷
+    terminal.Number ∷ terminal.Literal ∷ terminal.OpenParenthesis ∷ []
 follow part.Block = terminal.Else ∷ terminal.Elseif ∷ terminal.End ∷ []
 follow part.Statements = terminal.Else ∷ terminal.Elseif ∷ terminal.End ∷ []
-follow part.Declaration = terminal.Assert ∷ terminal.Const ∷ terminal.Else ∷ terminal.Elseif ∷ terminal.End ∷ terminal.Exit ∷ terminal.False ∷ terminal.Fix ∷ terminal.If ∷ terminal.Loop ∷ terminal.Monitor ∷ terminal.Move ∷ terminal.Nil ∷ terminal.Node ∷ terminal.Object ∷ terminal.Refix ∷ terminal.Return ∷ terminal.Self_ ∷ terminal.Signal ∷ terminal.Stdout ∷ terminal.True ∷ terminal.Unfix ∷ terminal.Var ∷ terminal.Vector ∷ terminal.Wait ∷ terminal.Name ∷ terminal.Create ∷ terminal.Putstring ∷ terminal.Count ∷ terminal.Number ∷ terminal.Literal ∷ terminal.OpenParenthesis ∷ []
-follow part.Statement = terminal.Assert ∷ terminal.Const ∷ terminal.Else ∷ terminal.Elseif ∷ terminal.End ∷ terminal.Exit ∷ terminal.False ∷ terminal.Fix ∷ terminal.If ∷ terminal.Loop ∷ terminal.Monitor ∷ terminal.Move ∷ terminal.Nil ∷ terminal.Node ∷ terminal.Object ∷ terminal.Refix ∷ terminal.Return ∷ terminal.Self_ ∷ terminal.Signal ∷ terminal.Stdout ∷ terminal.True ∷ terminal.Unfix ∷ terminal.Var ∷ terminal.Vector ∷ terminal.Wait ∷ terminal.Name ∷ terminal.Create ∷ terminal.Putstring ∷ terminal.Count ∷ terminal.Number ∷ terminal.Literal ∷ terminal.OpenParenthesis ∷ []
-follow part.AfterName = terminal.Assert ∷ terminal.Const ∷ terminal.Else ∷ terminal.Elseif ∷ terminal.End ∷ terminal.Exit ∷ terminal.False ∷ terminal.Fix ∷ terminal.If ∷ terminal.Loop ∷ terminal.Monitor ∷ terminal.Move ∷ terminal.Nil ∷ terminal.Node ∷ terminal.Object ∷ terminal.Refix ∷ terminal.Return ∷ terminal.Self_ ∷ terminal.Signal ∷ terminal.Stdout ∷ terminal.True ∷ terminal.Unfix ∷ terminal.Var ∷ terminal.Vector ∷ terminal.Wait ∷ terminal.Name ∷ terminal.Create ∷ terminal.Putstring ∷ terminal.Count ∷ terminal.Number ∷ terminal.Literal ∷ terminal.OpenParenthesis ∷ []
-follow part.AfterOther = terminal.Assert ∷ terminal.Const ∷ terminal.Else ∷ terminal.Elseif ∷ terminal.End ∷ terminal.Exit ∷ terminal.False ∷ terminal.Fix ∷ terminal.If ∷ terminal.Loop ∷ terminal.Monitor ∷ terminal.Move ∷ terminal.Nil ∷ terminal.Node ∷ terminal.Object ∷ terminal.Refix ∷ terminal.Return ∷ terminal.Self_ ∷ terminal.Signal ∷ terminal.Stdout ∷ terminal.True ∷ terminal.Unfix ∷ terminal.Var ∷ terminal.Vector ∷ terminal.Wait ∷ terminal.Name ∷ terminal.Create ∷ terminal.Putstring ∷ terminal.Count ∷ terminal.Number ∷ terminal.Literal ∷ terminal.OpenParenthesis ∷ []
-follow part.AfterIndex = terminal.Assert ∷ terminal.Const ∷ terminal.Else ∷ terminal.Elseif ∷ terminal.End ∷ terminal.Exit ∷ terminal.False ∷ terminal.Fix ∷ terminal.If ∷ terminal.Loop ∷ terminal.Monitor ∷ terminal.Move ∷ terminal.Nil ∷ terminal.Node ∷ terminal.Object ∷ terminal.Refix ∷ terminal.Return ∷ terminal.Self_ ∷ terminal.Signal ∷ terminal.Stdout ∷ terminal.True ∷ terminal.Unfix ∷ terminal.Var ∷ terminal.Vector ∷ terminal.Wait ∷ terminal.Name ∷ terminal.Create ∷ terminal.Putstring ∷ terminal.Count ∷ terminal.Number ∷ terminal.Literal ∷ terminal.OpenParenthesis ∷ []
-follow part.AfterField = terminal.Assert ∷ terminal.Const ∷ terminal.Else ∷ terminal.Elseif ∷ terminal.End ∷ terminal.Exit ∷ terminal.False ∷ terminal.Fix ∷ terminal.If ∷ terminal.Loop ∷ terminal.Monitor ∷ terminal.Move ∷ terminal.Nil ∷ terminal.Node ∷ terminal.Object ∷ terminal.Refix ∷ terminal.Return ∷ terminal.Self_ ∷ terminal.Signal ∷ terminal.Stdout ∷ terminal.True ∷ terminal.Unfix ∷ terminal.Var ∷ terminal.Vector ∷ terminal.Wait ∷ terminal.Name ∷ terminal.Create ∷ terminal.Putstring ∷ terminal.Count ∷ terminal.Number ∷ terminal.Literal ∷ terminal.OpenParenthesis ∷ []
-follow part.AfterCall = terminal.Assert ∷ terminal.Const ∷ terminal.Else ∷ terminal.Elseif ∷ terminal.End ∷ terminal.Exit ∷ terminal.False ∷ terminal.Fix ∷ terminal.If ∷ terminal.Loop ∷ terminal.Monitor ∷ terminal.Move ∷ terminal.Nil ∷ terminal.Node ∷ terminal.Object ∷ terminal.Refix ∷ terminal.Return ∷ terminal.Self_ ∷ terminal.Signal ∷ terminal.Stdout ∷ terminal.True ∷ terminal.Unfix ∷ terminal.Var ∷ terminal.Vector ∷ terminal.Wait ∷ terminal.Name ∷ terminal.Create ∷ terminal.Putstring ∷ terminal.Count ∷ terminal.Number ∷ terminal.Literal ∷ terminal.OpenParenthesis ∷ []
+follow part.Declaration = terminal.Assert ∷ terminal.Const ∷ terminal.Else ∷ terminal.Elseif ∷ terminal.End ∷ terminal.Exit ∷
+    terminal.False ∷ terminal.Fix ∷ terminal.If ∷ terminal.Loop ∷ terminal.Monitor ∷ terminal.Move ∷ terminal.Nil ∷ terminal.Node ∷
+    terminal.Object ∷ terminal.Refix ∷ terminal.Return ∷ terminal.Self_ ∷ terminal.Signal ∷ terminal.Stdout ∷ terminal.True ∷
+    terminal.Unfix ∷ terminal.Var ∷ terminal.Vector ∷ terminal.Wait ∷ terminal.Name ∷ terminal.Create ∷ terminal.Putstring ∷
+    terminal.Count ∷ terminal.Number ∷ terminal.Literal ∷ terminal.OpenParenthesis ∷ []
+follow part.Statement = terminal.Assert ∷ terminal.Const ∷ terminal.Else ∷ terminal.Elseif ∷ terminal.End ∷ terminal.Exit ∷ terminal.False ∷
+    terminal.Fix ∷ terminal.If ∷ terminal.Loop ∷ terminal.Monitor ∷ terminal.Move ∷ terminal.Nil ∷ terminal.Node ∷ terminal.Object ∷
+    terminal.Refix ∷ terminal.Return ∷ terminal.Self_ ∷ terminal.Signal ∷ terminal.Stdout ∷ terminal.True ∷ terminal.Unfix ∷
+    terminal.Var ∷ terminal.Vector ∷ terminal.Wait ∷ terminal.Name ∷ terminal.Create ∷ terminal.Putstring ∷ terminal.Count ∷
+    terminal.Number ∷ terminal.Literal ∷ terminal.OpenParenthesis ∷ []
+follow part.AfterName = terminal.Assert ∷ terminal.Const ∷ terminal.Else ∷ terminal.Elseif ∷ terminal.End ∷ terminal.Exit ∷ terminal.False ∷
+    terminal.Fix ∷ terminal.If ∷ terminal.Loop ∷ terminal.Monitor ∷ terminal.Move ∷ terminal.Nil ∷ terminal.Node ∷ terminal.Object ∷
+    terminal.Refix ∷ terminal.Return ∷ terminal.Self_ ∷ terminal.Signal ∷ terminal.Stdout ∷ terminal.True ∷ terminal.Unfix ∷
+    terminal.Var ∷ terminal.Vector ∷ terminal.Wait ∷ terminal.Name ∷ terminal.Create ∷ terminal.Putstring ∷ terminal.Count ∷
+    terminal.Number ∷ terminal.Literal ∷ terminal.OpenParenthesis ∷ []
+follow part.AfterOther = terminal.Assert ∷ terminal.Const ∷ terminal.Else ∷ terminal.Elseif ∷ terminal.End ∷ terminal.Exit ∷
+    terminal.False ∷ terminal.Fix ∷ terminal.If ∷ terminal.Loop ∷ terminal.Monitor ∷ terminal.Move ∷ terminal.Nil ∷ terminal.Node ∷
+    terminal.Object ∷ terminal.Refix ∷ terminal.Return ∷ terminal.Self_ ∷ terminal.Signal ∷ terminal.Stdout ∷ terminal.True ∷
+    terminal.Unfix ∷ terminal.Var ∷ terminal.Vector ∷ terminal.Wait ∷ terminal.Name ∷ terminal.Create ∷ terminal.Putstring ∷
+    terminal.Count ∷ terminal.Number ∷ terminal.Literal ∷ terminal.OpenParenthesis ∷ []
+follow part.AfterIndex = terminal.Assert ∷ terminal.Const ∷ terminal.Else ∷ terminal.Elseif ∷ terminal.End ∷ terminal.Exit ∷
+    terminal.False ∷ terminal.Fix ∷ terminal.If ∷ terminal.Loop ∷ terminal.Monitor ∷ terminal.Move ∷ terminal.Nil ∷ terminal.Node ∷
+    terminal.Object ∷ terminal.Refix ∷ terminal.Return ∷ terminal.Self_ ∷ terminal.Signal ∷ terminal.Stdout ∷ terminal.True ∷
+    terminal.Unfix ∷ terminal.Var ∷ terminal.Vector ∷ terminal.Wait ∷ terminal.Name ∷ terminal.Create ∷ terminal.Putstring ∷
+    terminal.Count ∷ terminal.Number ∷ terminal.Literal ∷ terminal.OpenParenthesis ∷ []
+follow part.AfterField = terminal.Assert ∷ terminal.Const ∷ terminal.Else ∷ terminal.Elseif ∷ terminal.End ∷ terminal.Exit ∷
+    terminal.False ∷ terminal.Fix ∷ terminal.If ∷ terminal.Loop ∷ terminal.Monitor ∷ terminal.Move ∷ terminal.Nil ∷ terminal.Node ∷
+    terminal.Object ∷ terminal.Refix ∷ terminal.Return ∷ terminal.Self_ ∷ terminal.Signal ∷ terminal.Stdout ∷ terminal.True ∷
+    terminal.Unfix ∷ terminal.Var ∷ terminal.Vector ∷ terminal.Wait ∷ terminal.Name ∷ terminal.Create ∷ terminal.Putstring ∷
+    terminal.Count ∷ terminal.Number ∷ terminal.Literal ∷ terminal.OpenParenthesis ∷ []
+follow part.AfterCall = terminal.Assert ∷ terminal.Const ∷ terminal.Else ∷ terminal.Elseif ∷ terminal.End ∷ terminal.Exit ∷ terminal.False ∷
+    terminal.Fix ∷ terminal.If ∷ terminal.Loop ∷ terminal.Monitor ∷ terminal.Move ∷ terminal.Nil ∷ terminal.Node ∷ terminal.Object ∷
+    terminal.Refix ∷ terminal.Return ∷ terminal.Self_ ∷ terminal.Signal ∷ terminal.Stdout ∷ terminal.True ∷ terminal.Unfix ∷
+    terminal.Var ∷ terminal.Vector ∷ terminal.Wait ∷ terminal.Name ∷ terminal.Create ∷ terminal.Putstring ∷ terminal.Count ∷
+    terminal.Number ∷ terminal.Literal ∷ terminal.OpenParenthesis ∷ []
 follow part.ElseIfs = terminal.Else ∷ terminal.End ∷ []
 follow part.Else = terminal.End ∷ []
-follow part.When = terminal.Assert ∷ terminal.Const ∷ terminal.Else ∷ terminal.Elseif ∷ terminal.End ∷ terminal.Exit ∷ terminal.False ∷ terminal.Fix ∷ terminal.If ∷ terminal.Loop ∷ terminal.Monitor ∷ terminal.Move ∷ terminal.Nil ∷ terminal.Node ∷ terminal.Object ∷ terminal.Refix ∷ terminal.Return ∷ terminal.Self_ ∷ terminal.Signal ∷ terminal.Stdout ∷ terminal.True ∷ terminal.Unfix ∷ terminal.Var ∷ terminal.Vector ∷ terminal.Wait ∷ terminal.Name ∷ terminal.Create ∷ terminal.Putstring ∷ terminal.Count ∷ terminal.Number ∷ terminal.Literal ∷ terminal.OpenParenthesis ∷ []
-follow part.Expression = terminal.Assert ∷ terminal.At ∷ terminal.Attached ∷ terminal.Const ∷ terminal.Else ∷ terminal.Elseif ∷ terminal.End ∷ terminal.Exit ∷ terminal.Export ∷ terminal.False ∷ terminal.Fix ∷ terminal.Function ∷ terminal.If ∷ terminal.Initially ∷ terminal.Loop ∷ terminal.Monitor ∷ terminal.Move ∷ terminal.Nil ∷ terminal.Node ∷ terminal.Object ∷ terminal.Operation ∷ terminal.Process ∷ terminal.Refix ∷ terminal.Return ∷ terminal.Self_ ∷ terminal.Signal ∷ terminal.Stdout ∷ terminal.Then ∷ terminal.To ∷ terminal.True ∷ terminal.Unfix ∷ terminal.Var ∷ terminal.Vector ∷ terminal.Wait ∷ terminal.Name ∷ terminal.Create ∷ terminal.Putstring ∷ terminal.Count ∷ terminal.Number ∷ terminal.Literal ∷ terminal.OpenParenthesis ∷ terminal.CloseParenthesis ∷ terminal.CloseBracket ∷ terminal.Comma ∷ terminal.EndOfText ∷ []
-follow part.OrTail = terminal.Assert ∷ terminal.At ∷ terminal.Attached ∷ terminal.Const ∷ terminal.Else ∷ terminal.Elseif ∷ terminal.End ∷ terminal.Exit ∷ terminal.Export ∷ terminal.False ∷ terminal.Fix ∷ terminal.Function ∷ terminal.If ∷ terminal.Initially ∷ terminal.Loop ∷ terminal.Monitor ∷ terminal.Move ∷ terminal.Nil ∷ terminal.Node ∷ terminal.Object ∷ terminal.Operation ∷ terminal.Process ∷ terminal.Refix ∷ terminal.Return ∷ terminal.Self_ ∷ terminal.Signal ∷ terminal.Stdout ∷ terminal.Then ∷ terminal.To ∷ terminal.True ∷ terminal.Unfix ∷ terminal.Var ∷ terminal.Vector ∷ terminal.Wait ∷ terminal.Name ∷ terminal.Create ∷ terminal.Putstring ∷ terminal.Count ∷ terminal.Number ∷ terminal.Literal ∷ terminal.OpenParenthesis ∷ terminal.CloseParenthesis ∷ terminal.CloseBracket ∷ terminal.Comma ∷ terminal.EndOfText ∷ []
-follow part.And = terminal.Assert ∷ terminal.At ∷ terminal.Attached ∷ terminal.Const ∷ terminal.Else ∷ terminal.Elseif ∷ terminal.End ∷ terminal.Exit ∷ terminal.Export ∷ terminal.False ∷ terminal.Fix ∷ terminal.Function ∷ terminal.If ∷ terminal.Initially ∷ terminal.Loop ∷ terminal.Monitor ∷ terminal.Move ∷ terminal.Nil ∷ terminal.Node ∷ terminal.Object ∷ terminal.Operation ∷ terminal.Or ∷ terminal.Process ∷ terminal.Refix ∷ terminal.Return ∷ terminal.Self_ ∷ terminal.Signal ∷ terminal.Stdout ∷ terminal.Then ∷ terminal.To ∷ terminal.True ∷ terminal.Unfix ∷ terminal.Var ∷ terminal.Vector ∷ terminal.Wait ∷ terminal.Name ∷ terminal.Create ∷ terminal.Putstring ∷ terminal.Count ∷ terminal.Number ∷ terminal.Literal ∷ terminal.OpenParenthesis ∷ terminal.CloseParenthesis ∷ terminal.CloseBracket ∷ terminal.Comma ∷ terminal.EndOfText ∷ []
-follow part.AndTail = terminal.Assert ∷ terminal.At ∷ terminal.Attached ∷ terminal.Const ∷ terminal.Else ∷ terminal.Elseif ∷ terminal.End ∷ terminal.Exit ∷ terminal.Export ∷ terminal.False ∷ terminal.Fix ∷ terminal.Function ∷ terminal.If ∷ terminal.Initially ∷ terminal.Loop ∷ terminal.Monitor ∷ terminal.Move ∷ terminal.Nil ∷ terminal.Node ∷ terminal.Object ∷ terminal.Operation ∷ terminal.Or ∷ terminal.Process ∷ terminal.Refix ∷ terminal.Return ∷ terminal.Self_ ∷ terminal.Signal ∷ terminal.Stdout ∷ terminal.Then ∷ terminal.To ∷ terminal.True ∷ terminal.Unfix ∷ terminal.Var ∷ terminal.Vector ∷ terminal.Wait ∷ terminal.Name ∷ terminal.Create ∷ terminal.Putstring ∷ terminal.Count ∷ terminal.Number ∷ terminal.Literal ∷ terminal.OpenParenthesis ∷ terminal.CloseParenthesis ∷ terminal.CloseBracket ∷ terminal.Comma ∷ terminal.EndOfText ∷ []
-follow part.Not = terminal.And ∷ terminal.Assert ∷ terminal.At ∷ terminal.Attached ∷ terminal.Const ∷ terminal.Else ∷ terminal.Elseif ∷ terminal.End ∷ terminal.Exit ∷ terminal.Export ∷ terminal.False ∷ terminal.Fix ∷ terminal.Function ∷ terminal.If ∷ terminal.Initially ∷ terminal.Loop ∷ terminal.Monitor ∷ terminal.Move ∷ terminal.Nil ∷ terminal.Node ∷ terminal.Object ∷ terminal.Operation ∷ terminal.Or ∷ terminal.Process ∷ terminal.Refix ∷ terminal.Return ∷ terminal.Self_ ∷ terminal.Signal ∷ terminal.Stdout ∷ terminal.Then ∷ terminal.To ∷ terminal.True ∷ terminal.Unfix ∷ terminal.Var ∷ terminal.Vector ∷ terminal.Wait ∷ terminal.Name ∷ terminal.Create ∷ terminal.Putstring ∷ terminal.Count ∷ terminal.Number ∷ terminal.Literal ∷ terminal.OpenParenthesis ∷ terminal.CloseParenthesis ∷ terminal.CloseBracket ∷ terminal.Comma ∷ terminal.EndOfText ∷ []
-follow part.NotPrefix = terminal.And ∷ terminal.Assert ∷ terminal.At ∷ terminal.Attached ∷ terminal.Const ∷ terminal.Else ∷ terminal.Elseif ∷ terminal.End ∷ terminal.Exit ∷ terminal.Export ∷ terminal.False ∷ terminal.Fix ∷ terminal.Function ∷ terminal.If ∷ terminal.Initially ∷ terminal.Loop ∷ terminal.Monitor ∷ terminal.Move ∷ terminal.Nil ∷ terminal.Node ∷ terminal.Object ∷ terminal.Operation ∷ terminal.Or ∷ terminal.Process ∷ terminal.Refix ∷ terminal.Return ∷ terminal.Self_ ∷ terminal.Signal ∷ terminal.Stdout ∷ terminal.Then ∷ terminal.To ∷ terminal.True ∷ terminal.Unfix ∷ terminal.Var ∷ terminal.Vector ∷ terminal.Wait ∷ terminal.Name ∷ terminal.Create ∷ terminal.Putstring ∷ terminal.Count ∷ terminal.Number ∷ terminal.Literal ∷ terminal.OpenParenthesis ∷ terminal.CloseParenthesis ∷ terminal.CloseBracket ∷ terminal.Comma ∷ terminal.EndOfText ∷ []
-follow part.Rel = terminal.And ∷ terminal.Assert ∷ terminal.At ∷ terminal.Attached ∷ terminal.Const ∷ terminal.Else ∷ terminal.Elseif ∷ terminal.End ∷ terminal.Exit ∷ terminal.Export ∷ terminal.False ∷ terminal.Fix ∷ terminal.Function ∷ terminal.If ∷ terminal.Initially ∷ terminal.Loop ∷ terminal.Monitor ∷ terminal.Move ∷ terminal.Nil ∷ terminal.Node ∷ terminal.Object ∷ terminal.Operation ∷ terminal.Or ∷ terminal.Process ∷ terminal.Refix ∷ terminal.Return ∷ terminal.Self_ ∷ terminal.Signal ∷ terminal.Stdout ∷ terminal.Then ∷ terminal.To ∷ terminal.True ∷ terminal.Unfix ∷ terminal.Var ∷ terminal.Vector ∷ terminal.Wait ∷ terminal.Name ∷ terminal.Create ∷ terminal.Putstring ∷ terminal.Count ∷ terminal.Number ∷ terminal.Literal ∷ terminal.OpenParenthesis ∷ terminal.CloseParenthesis ∷ terminal.CloseBracket ∷ terminal.Comma ∷ terminal.EndOfText ∷ []
-follow part.CompareTail = terminal.And ∷ terminal.Assert ∷ terminal.At ∷ terminal.Attached ∷ terminal.Const ∷ terminal.Else ∷ terminal.Elseif ∷ terminal.End ∷ terminal.Exit ∷ terminal.Export ∷ terminal.False ∷ terminal.Fix ∷ terminal.Function ∷ terminal.If ∷ terminal.Initially ∷ terminal.Loop ∷ terminal.Monitor ∷ terminal.Move ∷ terminal.Nil ∷ terminal.Node ∷ terminal.Object ∷ terminal.Operation ∷ terminal.Or ∷ terminal.Process ∷ terminal.Refix ∷ terminal.Return ∷ terminal.Self_ ∷ terminal.Signal ∷ terminal.Stdout ∷ terminal.Then ∷ terminal.To ∷ terminal.True ∷ terminal.Unfix ∷ terminal.Var ∷ terminal.Vector ∷ terminal.Wait ∷ terminal.Name ∷ terminal.Create ∷ terminal.Putstring ∷ terminal.Count ∷ terminal.Number ∷ terminal.Literal ∷ terminal.OpenParenthesis ∷ terminal.CloseParenthesis ∷ terminal.CloseBracket ∷ terminal.Comma ∷ terminal.EndOfText ∷ []
-follow part.CompareWord = terminal.False ∷ terminal.Isfixed ∷ terminal.Monitor ∷ terminal.Nil ∷ terminal.Node ∷ terminal.Object ∷ terminal.Self_ ∷ terminal.True ∷ terminal.Vector ∷ terminal.View ∷ terminal.Name ∷ terminal.Create ∷ terminal.Putstring ∷ terminal.Count ∷ terminal.Number ∷ terminal.Literal ∷ terminal.OpenParenthesis ∷ terminal.Minus ∷ []
-follow part.Sum = terminal.And ∷ terminal.Assert ∷ terminal.At ∷ terminal.Attached ∷ terminal.Const ∷ terminal.Else ∷ terminal.Elseif ∷ terminal.End ∷ terminal.Exit ∷ terminal.Export ∷ terminal.False ∷ terminal.Fix ∷ terminal.Function ∷ terminal.If ∷ terminal.Initially ∷ terminal.Loop ∷ terminal.Monitor ∷ terminal.Move ∷ terminal.Nil ∷ terminal.Node ∷ terminal.Object ∷ terminal.Operation ∷ terminal.Or ∷ terminal.Process ∷ terminal.Refix ∷ terminal.Return ∷ terminal.Self_ ∷ terminal.Signal ∷ terminal.Stdout ∷ terminal.Then ∷ terminal.To ∷ terminal.True ∷ terminal.Unfix ∷ terminal.Var ∷ terminal.Vector ∷ terminal.Wait ∷ terminal.Name ∷ terminal.Create ∷ terminal.Putstring ∷ terminal.Count ∷ terminal.Number ∷ terminal.Literal ∷ terminal.OpenParenthesis ∷ terminal.CloseParenthesis ∷ terminal.CloseBracket ∷ terminal.Comma ∷ terminal.Same ∷ terminal.NotSame ∷ terminal.Equal ∷ terminal.NotEqual ∷ terminal.Less ∷ terminal.LessEqual ∷ terminal.More ∷ terminal.MoreEqual ∷ terminal.EndOfText ∷ []
-follow part.SumTail = terminal.And ∷ terminal.Assert ∷ terminal.At ∷ terminal.Attached ∷ terminal.Const ∷ terminal.Else ∷ terminal.Elseif ∷ terminal.End ∷ terminal.Exit ∷ terminal.Export ∷ terminal.False ∷ terminal.Fix ∷ terminal.Function ∷ terminal.If ∷ terminal.Initially ∷ terminal.Loop ∷ terminal.Monitor ∷ terminal.Move ∷ terminal.Nil ∷ terminal.Node ∷ terminal.Object ∷ terminal.Operation ∷ terminal.Or ∷ terminal.Process ∷ terminal.Refix ∷ terminal.Return ∷ terminal.Self_ ∷ terminal.Signal ∷ terminal.Stdout ∷ terminal.Then ∷ terminal.To ∷ terminal.True ∷ terminal.Unfix ∷ terminal.Var ∷ terminal.Vector ∷ terminal.Wait ∷ terminal.Name ∷ terminal.Create ∷ terminal.Putstring ∷ terminal.Count ∷ terminal.Number ∷ terminal.Literal ∷ terminal.OpenParenthesis ∷ terminal.CloseParenthesis ∷ terminal.CloseBracket ∷ terminal.Comma ∷ terminal.Same ∷ terminal.NotSame ∷ terminal.Equal ∷ terminal.NotEqual ∷ terminal.Less ∷ terminal.LessEqual ∷ terminal.More ∷ terminal.MoreEqual ∷ terminal.EndOfText ∷ []
-follow part.SumWord = terminal.False ∷ terminal.Isfixed ∷ terminal.Monitor ∷ terminal.Nil ∷ terminal.Node ∷ terminal.Object ∷ terminal.Self_ ∷ terminal.True ∷ terminal.Vector ∷ terminal.View ∷ terminal.Name ∷ terminal.Create ∷ terminal.Putstring ∷ terminal.Count ∷ terminal.Number ∷ terminal.Literal ∷ terminal.OpenParenthesis ∷ terminal.Minus ∷ []
-follow part.Term = terminal.And ∷ terminal.Assert ∷ terminal.At ∷ terminal.Attached ∷ terminal.Const ∷ terminal.Else ∷ terminal.Elseif ∷ terminal.End ∷ terminal.Exit ∷ terminal.Export ∷ terminal.False ∷ terminal.Fix ∷ terminal.Function ∷ terminal.If ∷ terminal.Initially ∷ terminal.Loop ∷ terminal.Monitor ∷ terminal.Move ∷ terminal.Nil ∷ terminal.Node ∷ terminal.Object ∷ terminal.Operation ∷ terminal.Or ∷ terminal.Process ∷ terminal.Refix ∷ terminal.Return ∷ terminal.Self_ ∷ terminal.Signal ∷ terminal.Stdout ∷ terminal.Then ∷ terminal.To ∷ terminal.True ∷ terminal.Unfix ∷ terminal.Var ∷ terminal.Vector ∷ terminal.Wait ∷ terminal.Name ∷ terminal.Create ∷ terminal.Putstring ∷ terminal.Count ∷ terminal.Number ∷ terminal.Literal ∷ terminal.OpenParenthesis ∷ terminal.CloseParenthesis ∷ terminal.CloseBracket ∷ terminal.Comma ∷ terminal.Plus ∷ terminal.Minus ∷ terminal.Concat ∷ terminal.Same ∷ terminal.NotSame ∷ terminal.Equal ∷ terminal.NotEqual ∷ terminal.Less ∷ terminal.LessEqual ∷ terminal.More ∷ terminal.MoreEqual ∷ terminal.EndOfText ∷ []
-follow part.TermTail = terminal.And ∷ terminal.Assert ∷ terminal.At ∷ terminal.Attached ∷ terminal.Const ∷ terminal.Else ∷ terminal.Elseif ∷ terminal.End ∷ terminal.Exit ∷ terminal.Export ∷ terminal.False ∷ terminal.Fix ∷ terminal.Function ∷ terminal.If ∷ terminal.Initially ∷ terminal.Loop ∷ terminal.Monitor ∷ terminal.Move ∷ terminal.Nil ∷ terminal.Node ∷ terminal.Object ∷ terminal.Operation ∷ terminal.Or ∷ terminal.Process ∷ terminal.Refix ∷ terminal.Return ∷ terminal.Self_ ∷ terminal.Signal ∷ terminal.Stdout ∷ terminal.Then ∷ terminal.To ∷ terminal.True ∷ terminal.Unfix ∷ terminal.Var ∷ terminal.Vector ∷ terminal.Wait ∷ terminal.Name ∷ terminal.Create ∷ terminal.Putstring ∷ terminal.Count ∷ terminal.Number ∷ terminal.Literal ∷ terminal.OpenParenthesis ∷ terminal.CloseParenthesis ∷ terminal.CloseBracket ∷ terminal.Comma ∷ terminal.Plus ∷ terminal.Minus ∷ terminal.Concat ∷ terminal.Same ∷ terminal.NotSame ∷ terminal.Equal ∷ terminal.NotEqual ∷ terminal.Less ∷ terminal.LessEqual ∷ terminal.More ∷ terminal.MoreEqual ∷ terminal.EndOfText ∷ []
-follow part.TermWord = terminal.False ∷ terminal.Isfixed ∷ terminal.Monitor ∷ terminal.Nil ∷ terminal.Node ∷ terminal.Object ∷ terminal.Self_ ∷ terminal.True ∷ terminal.Vector ∷ terminal.View ∷ terminal.Name ∷ terminal.Create ∷ terminal.Putstring ∷ terminal.Count ∷ terminal.Number ∷ terminal.Literal ∷ terminal.OpenParenthesis ∷ terminal.Minus ∷ []
-follow part.Unary = terminal.And ∷ terminal.As ∷ terminal.Assert ∷ terminal.At ∷ terminal.Attached ∷ terminal.Const ∷ terminal.Else ∷ terminal.Elseif ∷ terminal.End ∷ terminal.Exit ∷ terminal.Export ∷ terminal.False ∷ terminal.Fix ∷ terminal.Function ∷ terminal.If ∷ terminal.Initially ∷ terminal.Loop ∷ terminal.Monitor ∷ terminal.Move ∷ terminal.Nil ∷ terminal.Node ∷ terminal.Object ∷ terminal.Operation ∷ terminal.Or ∷ terminal.Process ∷ terminal.Refix ∷ terminal.Return ∷ terminal.Self_ ∷ terminal.Signal ∷ terminal.Stdout ∷ terminal.Then ∷ terminal.To ∷ terminal.True ∷ terminal.Unfix ∷ terminal.Var ∷ terminal.Vector ∷ terminal.Wait ∷ terminal.Name ∷ terminal.Create ∷ terminal.Putstring ∷ terminal.Count ∷ terminal.Number ∷ terminal.Literal ∷ terminal.OpenParenthesis ∷ terminal.CloseParenthesis ∷ terminal.CloseBracket ∷ terminal.Comma ∷ terminal.Plus ∷ terminal.Minus ∷ terminal.Times ∷ terminal.Over ∷ terminal.Remainder ∷ terminal.Concat ∷ terminal.Same ∷ terminal.NotSame ∷ terminal.Equal ∷ terminal.NotEqual ∷ terminal.Less ∷ terminal.LessEqual ∷ terminal.More ∷ terminal.MoreEqual ∷ terminal.EndOfText ∷ []
-follow part.UnaryPrefix = terminal.And ∷ terminal.As ∷ terminal.Assert ∷ terminal.At ∷ terminal.Attached ∷ terminal.Const ∷ terminal.Else ∷ terminal.Elseif ∷ terminal.End ∷ terminal.Exit ∷ terminal.Export ∷ terminal.False ∷ terminal.Fix ∷ terminal.Function ∷ terminal.If ∷ terminal.Initially ∷ terminal.Loop ∷ terminal.Monitor ∷ terminal.Move ∷ terminal.Nil ∷ terminal.Node ∷ terminal.Object ∷ terminal.Operation ∷ terminal.Or ∷ terminal.Process ∷ terminal.Refix ∷ terminal.Return ∷ terminal.Self_ ∷ terminal.Signal ∷ terminal.Stdout ∷ terminal.Then ∷ terminal.To ∷ terminal.True ∷ terminal.Unfix ∷ terminal.Var ∷ terminal.Vector ∷ terminal.Wait ∷ terminal.Name ∷ terminal.Create ∷ terminal.Putstring ∷ terminal.Count ∷ terminal.Number ∷ terminal.Literal ∷ terminal.OpenParenthesis ∷ terminal.CloseParenthesis ∷ terminal.CloseBracket ∷ terminal.Comma ∷ terminal.Plus ∷ terminal.Minus ∷ terminal.Times ∷ terminal.Over ∷ terminal.Remainder ∷ terminal.Concat ∷ terminal.Same ∷ terminal.NotSame ∷ terminal.Equal ∷ terminal.NotEqual ∷ terminal.Less ∷ terminal.LessEqual ∷ terminal.More ∷ terminal.MoreEqual ∷ terminal.EndOfText ∷ []
-follow part.Postfix = terminal.And ∷ terminal.As ∷ terminal.Assert ∷ terminal.At ∷ terminal.Attached ∷ terminal.Const ∷ terminal.Else ∷ terminal.Elseif ∷ terminal.End ∷ terminal.Exit ∷ terminal.Export ∷ terminal.False ∷ terminal.Fix ∷ terminal.Function ∷ terminal.If ∷ terminal.Initially ∷ terminal.Loop ∷ terminal.Monitor ∷ terminal.Move ∷ terminal.Nil ∷ terminal.Node ∷ terminal.Object ∷ terminal.Operation ∷ terminal.Or ∷ terminal.Process ∷ terminal.Refix ∷ terminal.Return ∷ terminal.Self_ ∷ terminal.Signal ∷ terminal.Stdout ∷ terminal.Then ∷ terminal.To ∷ terminal.True ∷ terminal.Unfix ∷ terminal.Var ∷ terminal.Vector ∷ terminal.Wait ∷ terminal.Name ∷ terminal.Create ∷ terminal.Putstring ∷ terminal.Count ∷ terminal.Number ∷ terminal.Literal ∷ terminal.OpenParenthesis ∷ terminal.CloseParenthesis ∷ terminal.CloseBracket ∷ terminal.Comma ∷ terminal.Plus ∷ terminal.Minus ∷ terminal.Times ∷ terminal.Over ∷ terminal.Remainder ∷ terminal.Concat ∷ terminal.Same ∷ terminal.NotSame ∷ terminal.Equal ∷ terminal.NotEqual ∷ terminal.Less ∷ terminal.LessEqual ∷ terminal.More ∷ terminal.MoreEqual ∷ terminal.EndOfText ∷ []
-follow part.PostfixTail = terminal.And ∷ terminal.As ∷ terminal.Assert ∷ terminal.At ∷ terminal.Attached ∷ terminal.Const ∷ terminal.Else ∷ terminal.Elseif ∷ terminal.End ∷ terminal.Exit ∷ terminal.Export ∷ terminal.False ∷ terminal.Fix ∷ terminal.Function ∷ terminal.If ∷ terminal.Initially ∷ terminal.Loop ∷ terminal.Monitor ∷ terminal.Move ∷ terminal.Nil ∷ terminal.Node ∷ terminal.Object ∷ terminal.Operation ∷ terminal.Or ∷ terminal.Process ∷ terminal.Refix ∷ terminal.Return ∷ terminal.Self_ ∷ terminal.Signal ∷ terminal.Stdout ∷ terminal.Then ∷ terminal.To ∷ terminal.True ∷ terminal.Unfix ∷ terminal.Var ∷ terminal.Vector ∷ terminal.Wait ∷ terminal.Name ∷ terminal.Create ∷ terminal.Putstring ∷ terminal.Count ∷ terminal.Number ∷ terminal.Literal ∷ terminal.OpenParenthesis ∷ terminal.CloseParenthesis ∷ terminal.CloseBracket ∷ terminal.Comma ∷ terminal.Plus ∷ terminal.Minus ∷ terminal.Times ∷ terminal.Over ∷ terminal.Remainder ∷ terminal.Concat ∷ terminal.Same ∷ terminal.NotSame ∷ terminal.Equal ∷ terminal.NotEqual ∷ terminal.Less ∷ terminal.LessEqual ∷ terminal.More ∷ terminal.MoreEqual ∷ terminal.EndOfText ∷ []
-follow part.AfterDot = terminal.And ∷ terminal.As ∷ terminal.Assert ∷ terminal.At ∷ terminal.Attached ∷ terminal.Const ∷ terminal.Else ∷ terminal.Elseif ∷ terminal.End ∷ terminal.Exit ∷ terminal.Export ∷ terminal.False ∷ terminal.Fix ∷ terminal.Function ∷ terminal.If ∷ terminal.Initially ∷ terminal.Loop ∷ terminal.Monitor ∷ terminal.Move ∷ terminal.Nil ∷ terminal.Node ∷ terminal.Object ∷ terminal.Operation ∷ terminal.Or ∷ terminal.Process ∷ terminal.Refix ∷ terminal.Return ∷ terminal.Self_ ∷ terminal.Signal ∷ terminal.Stdout ∷ terminal.Then ∷ terminal.To ∷ terminal.True ∷ terminal.Unfix ∷ terminal.Var ∷ terminal.Vector ∷ terminal.Wait ∷ terminal.Name ∷ terminal.Create ∷ terminal.Putstring ∷ terminal.Count ∷ terminal.Number ∷ terminal.Literal ∷ terminal.OpenParenthesis ∷ terminal.CloseParenthesis ∷ terminal.CloseBracket ∷ terminal.Comma ∷ terminal.Plus ∷ terminal.Minus ∷ terminal.Times ∷ terminal.Over ∷ terminal.Remainder ∷ terminal.Concat ∷ terminal.Same ∷ terminal.NotSame ∷ terminal.Equal ∷ terminal.NotEqual ∷ terminal.Less ∷ terminal.LessEqual ∷ terminal.More ∷ terminal.MoreEqual ∷ terminal.EndOfText ∷ []
+follow part.When = terminal.Assert ∷ terminal.Const ∷ terminal.Else ∷ terminal.Elseif ∷ terminal.End ∷ terminal.Exit ∷ terminal.False ∷
+    terminal.Fix ∷ terminal.If ∷ terminal.Loop ∷ terminal.Monitor ∷ terminal.Move ∷ terminal.Nil ∷ terminal.Node ∷ terminal.Object ∷
+    terminal.Refix ∷ terminal.Return ∷ terminal.Self_ ∷ terminal.Signal ∷ terminal.Stdout ∷ terminal.True ∷ terminal.Unfix ∷
+    terminal.Var ∷ terminal.Vector ∷ terminal.Wait ∷ terminal.Name ∷ terminal.Create ∷ terminal.Putstring ∷ terminal.Count ∷
+    terminal.Number ∷ terminal.Literal ∷ terminal.OpenParenthesis ∷ []
+follow part.Expression = terminal.Assert ∷ terminal.At ∷ terminal.Attached ∷ terminal.Const ∷ terminal.Else ∷ terminal.Elseif ∷
+    terminal.End ∷ terminal.Exit ∷ terminal.Export ∷ terminal.False ∷ terminal.Fix ∷ terminal.Function ∷ terminal.If ∷ terminal.Initially ∷
+    terminal.Loop ∷ terminal.Monitor ∷ terminal.Move ∷ terminal.Nil ∷ terminal.Node ∷ terminal.Object ∷ terminal.Operation ∷
+    terminal.Process ∷ terminal.Refix ∷ terminal.Return ∷ terminal.Self_ ∷ terminal.Signal ∷ terminal.Stdout ∷ terminal.Then ∷
+    terminal.To ∷ terminal.True ∷ terminal.Unfix ∷ terminal.Var ∷ terminal.Vector ∷ terminal.Wait ∷ terminal.Name ∷
+    terminal.Create ∷ terminal.Putstring ∷ terminal.Count ∷ terminal.Number ∷ terminal.Literal ∷ terminal.OpenParenthesis ∷
+    terminal.CloseParenthesis ∷ terminal.CloseBracket ∷ terminal.Comma ∷ terminal.EndOfText ∷ []
+follow part.OrTail = terminal.Assert ∷ terminal.At ∷ terminal.Attached ∷ terminal.Const ∷ terminal.Else ∷ terminal.Elseif ∷ terminal.End ∷
+    terminal.Exit ∷ terminal.Export ∷ terminal.False ∷ terminal.Fix ∷ terminal.Function ∷ terminal.If ∷ terminal.Initially ∷ terminal.Loop ∷
+    terminal.Monitor ∷ terminal.Move ∷ terminal.Nil ∷ terminal.Node ∷ terminal.Object ∷ terminal.Operation ∷ terminal.Process ∷
+    terminal.Refix ∷ terminal.Return ∷ terminal.Self_ ∷ terminal.Signal ∷ terminal.Stdout ∷ terminal.Then ∷ terminal.To ∷
+    terminal.True ∷ terminal.Unfix ∷ terminal.Var ∷ terminal.Vector ∷ terminal.Wait ∷ terminal.Name ∷ terminal.Create ∷
+    terminal.Putstring ∷ terminal.Count ∷ terminal.Number ∷ terminal.Literal ∷ terminal.OpenParenthesis ∷
+    terminal.CloseParenthesis ∷ terminal.CloseBracket ∷ terminal.Comma ∷ terminal.EndOfText ∷ []
+follow part.And = terminal.Assert ∷ terminal.At ∷ terminal.Attached ∷ terminal.Const ∷ terminal.Else ∷ terminal.Elseif ∷ terminal.End ∷
+    terminal.Exit ∷ terminal.Export ∷ terminal.False ∷ terminal.Fix ∷ terminal.Function ∷ terminal.If ∷ terminal.Initially ∷ terminal.Loop ∷
+    terminal.Monitor ∷ terminal.Move ∷ terminal.Nil ∷ terminal.Node ∷ terminal.Object ∷ terminal.Operation ∷ terminal.Or ∷
+    terminal.Process ∷ terminal.Refix ∷ terminal.Return ∷ terminal.Self_ ∷ terminal.Signal ∷ terminal.Stdout ∷ terminal.Then ∷
+    terminal.To ∷ terminal.True ∷ terminal.Unfix ∷ terminal.Var ∷ terminal.Vector ∷ terminal.Wait ∷ terminal.Name ∷
+    terminal.Create ∷ terminal.Putstring ∷ terminal.Count ∷ terminal.Number ∷ terminal.Literal ∷ terminal.OpenParenthesis ∷
+    terminal.CloseParenthesis ∷ terminal.CloseBracket ∷ terminal.Comma ∷ terminal.EndOfText ∷ []
+follow part.AndTail = terminal.Assert ∷ terminal.At ∷ terminal.Attached ∷ terminal.Const ∷ terminal.Else ∷ terminal.Elseif ∷ terminal.End ∷
+    terminal.Exit ∷ terminal.Export ∷ terminal.False ∷ terminal.Fix ∷ terminal.Function ∷ terminal.If ∷ terminal.Initially ∷ terminal.Loop ∷
+    terminal.Monitor ∷ terminal.Move ∷ terminal.Nil ∷ terminal.Node ∷ terminal.Object ∷ terminal.Operation ∷ terminal.Or ∷
+    terminal.Process ∷ terminal.Refix ∷ terminal.Return ∷ terminal.Self_ ∷ terminal.Signal ∷ terminal.Stdout ∷ terminal.Then ∷
+    terminal.To ∷ terminal.True ∷ terminal.Unfix ∷ terminal.Var ∷ terminal.Vector ∷ terminal.Wait ∷ terminal.Name ∷
+    terminal.Create ∷ terminal.Putstring ∷ terminal.Count ∷ terminal.Number ∷ terminal.Literal ∷ terminal.OpenParenthesis ∷
+    terminal.CloseParenthesis ∷ terminal.CloseBracket ∷ terminal.Comma ∷ terminal.EndOfText ∷ []
+follow part.Not = terminal.And ∷ terminal.Assert ∷ terminal.At ∷ terminal.Attached ∷ terminal.Const ∷ terminal.Else ∷ terminal.Elseif ∷
+    terminal.End ∷ terminal.Exit ∷ terminal.Export ∷ terminal.False ∷ terminal.Fix ∷ terminal.Function ∷ terminal.If ∷ terminal.Initially ∷
+    terminal.Loop ∷ terminal.Monitor ∷ terminal.Move ∷ terminal.Nil ∷ terminal.Node ∷ terminal.Object ∷ terminal.Operation ∷
+    terminal.Or ∷ terminal.Process ∷ terminal.Refix ∷ terminal.Return ∷ terminal.Self_ ∷ terminal.Signal ∷ terminal.Stdout ∷
+    terminal.Then ∷ terminal.To ∷ terminal.True ∷ terminal.Unfix ∷ terminal.Var ∷ terminal.Vector ∷ terminal.Wait ∷
+    terminal.Name ∷ terminal.Create ∷ terminal.Putstring ∷ terminal.Count ∷ terminal.Number ∷ terminal.Literal ∷
+    terminal.OpenParenthesis ∷ terminal.CloseParenthesis ∷ terminal.CloseBracket ∷ terminal.Comma ∷ terminal.EndOfText ∷
+    []
+follow part.NotPrefix = terminal.And ∷ terminal.Assert ∷ terminal.At ∷ terminal.Attached ∷ terminal.Const ∷ terminal.Else ∷
+    terminal.Elseif ∷ terminal.End ∷ terminal.Exit ∷ terminal.Export ∷ terminal.False ∷ terminal.Fix ∷ terminal.Function ∷ terminal.If ∷
+    terminal.Initially ∷ terminal.Loop ∷ terminal.Monitor ∷ terminal.Move ∷ terminal.Nil ∷ terminal.Node ∷ terminal.Object ∷
+    terminal.Operation ∷ terminal.Or ∷ terminal.Process ∷ terminal.Refix ∷ terminal.Return ∷ terminal.Self_ ∷ terminal.Signal ∷
+    terminal.Stdout ∷ terminal.Then ∷ terminal.To ∷ terminal.True ∷ terminal.Unfix ∷ terminal.Var ∷ terminal.Vector ∷
+    terminal.Wait ∷ terminal.Name ∷ terminal.Create ∷ terminal.Putstring ∷ terminal.Count ∷ terminal.Number ∷
+    terminal.Literal ∷ terminal.OpenParenthesis ∷ terminal.CloseParenthesis ∷ terminal.CloseBracket ∷ terminal.Comma ∷
+    terminal.EndOfText ∷ []
+follow part.Rel = terminal.And ∷ terminal.Assert ∷ terminal.At ∷ terminal.Attached ∷ terminal.Const ∷ terminal.Else ∷ terminal.Elseif ∷
+    terminal.End ∷ terminal.Exit ∷ terminal.Export ∷ terminal.False ∷ terminal.Fix ∷ terminal.Function ∷ terminal.If ∷ terminal.Initially ∷
+    terminal.Loop ∷ terminal.Monitor ∷ terminal.Move ∷ terminal.Nil ∷ terminal.Node ∷ terminal.Object ∷ terminal.Operation ∷
+    terminal.Or ∷ terminal.Process ∷ terminal.Refix ∷ terminal.Return ∷ terminal.Self_ ∷ terminal.Signal ∷ terminal.Stdout ∷
+    terminal.Then ∷ terminal.To ∷ terminal.True ∷ terminal.Unfix ∷ terminal.Var ∷ terminal.Vector ∷ terminal.Wait ∷
+    terminal.Name ∷ terminal.Create ∷ terminal.Putstring ∷ terminal.Count ∷ terminal.Number ∷ terminal.Literal ∷
+    terminal.OpenParenthesis ∷ terminal.CloseParenthesis ∷ terminal.CloseBracket ∷ terminal.Comma ∷ terminal.EndOfText ∷
+    []
+follow part.CompareTail = terminal.And ∷ terminal.Assert ∷ terminal.At ∷ terminal.Attached ∷ terminal.Const ∷ terminal.Else ∷
+    terminal.Elseif ∷ terminal.End ∷ terminal.Exit ∷ terminal.Export ∷ terminal.False ∷ terminal.Fix ∷ terminal.Function ∷ terminal.If ∷
+    terminal.Initially ∷ terminal.Loop ∷ terminal.Monitor ∷ terminal.Move ∷ terminal.Nil ∷ terminal.Node ∷ terminal.Object ∷
+    terminal.Operation ∷ terminal.Or ∷ terminal.Process ∷ terminal.Refix ∷ terminal.Return ∷ terminal.Self_ ∷ terminal.Signal ∷
+    terminal.Stdout ∷ terminal.Then ∷ terminal.To ∷ terminal.True ∷ terminal.Unfix ∷ terminal.Var ∷ terminal.Vector ∷
+    terminal.Wait ∷ terminal.Name ∷ terminal.Create ∷ terminal.Putstring ∷ terminal.Count ∷ terminal.Number ∷
+    terminal.Literal ∷ terminal.OpenParenthesis ∷ terminal.CloseParenthesis ∷ terminal.CloseBracket ∷ terminal.Comma ∷
+    terminal.EndOfText ∷ []
+follow part.CompareWord = terminal.False ∷ terminal.Isfixed ∷ terminal.Monitor ∷ terminal.Nil ∷ terminal.Node ∷ terminal.Object ∷
+    terminal.Self_ ∷ terminal.True ∷ terminal.Vector ∷ terminal.View ∷ terminal.Name ∷ terminal.Create ∷ terminal.Putstring ∷
+    terminal.Count ∷ terminal.Number ∷ terminal.Literal ∷ terminal.OpenParenthesis ∷ terminal.Minus ∷ []
+follow part.Sum = terminal.And ∷ terminal.Assert ∷ terminal.At ∷ terminal.Attached ∷ terminal.Const ∷ terminal.Else ∷ terminal.Elseif ∷
+    terminal.End ∷ terminal.Exit ∷ terminal.Export ∷ terminal.False ∷ terminal.Fix ∷ terminal.Function ∷ terminal.If ∷ terminal.Initially ∷
+    terminal.Loop ∷ terminal.Monitor ∷ terminal.Move ∷ terminal.Nil ∷ terminal.Node ∷ terminal.Object ∷ terminal.Operation ∷
+    terminal.Or ∷ terminal.Process ∷ terminal.Refix ∷ terminal.Return ∷ terminal.Self_ ∷ terminal.Signal ∷ terminal.Stdout ∷
+    terminal.Then ∷ terminal.To ∷ terminal.True ∷ terminal.Unfix ∷ terminal.Var ∷ terminal.Vector ∷ terminal.Wait ∷
+    terminal.Name ∷ terminal.Create ∷ terminal.Putstring ∷ terminal.Count ∷ terminal.Number ∷ terminal.Literal ∷
+    terminal.OpenParenthesis ∷ terminal.CloseParenthesis ∷ terminal.CloseBracket ∷ terminal.Comma ∷ terminal.Same ∷
+    terminal.NotSame ∷ terminal.Equal ∷ terminal.NotEqual ∷ terminal.Less ∷ terminal.LessEqual ∷ terminal.More ∷
+    terminal.MoreEqual ∷ terminal.EndOfText ∷ []
+follow part.SumTail = terminal.And ∷ terminal.Assert ∷ terminal.At ∷ terminal.Attached ∷ terminal.Const ∷ terminal.Else ∷ terminal.Elseif ∷
+    terminal.End ∷ terminal.Exit ∷ terminal.Export ∷ terminal.False ∷ terminal.Fix ∷ terminal.Function ∷ terminal.If ∷ terminal.Initially ∷
+    terminal.Loop ∷ terminal.Monitor ∷ terminal.Move ∷ terminal.Nil ∷ terminal.Node ∷ terminal.Object ∷ terminal.Operation ∷
+    terminal.Or ∷ terminal.Process ∷ terminal.Refix ∷ terminal.Return ∷ terminal.Self_ ∷ terminal.Signal ∷ terminal.Stdout ∷
+    terminal.Then ∷ terminal.To ∷ terminal.True ∷ terminal.Unfix ∷ terminal.Var ∷ terminal.Vector ∷ terminal.Wait ∷
+    terminal.Name ∷ terminal.Create ∷ terminal.Putstring ∷ terminal.Count ∷ terminal.Number ∷ terminal.Literal ∷
+    terminal.OpenParenthesis ∷ terminal.CloseParenthesis ∷ terminal.CloseBracket ∷ terminal.Comma ∷ terminal.Same ∷
+    terminal.NotSame ∷ terminal.Equal ∷ terminal.NotEqual ∷ terminal.Less ∷ terminal.LessEqual ∷ terminal.More ∷
+    terminal.MoreEqual ∷ terminal.EndOfText ∷ []
+follow part.SumWord = terminal.False ∷ terminal.Isfixed ∷ terminal.Monitor ∷ terminal.Nil ∷ terminal.Node ∷ terminal.Object ∷
+    terminal.Self_ ∷ terminal.True ∷ terminal.Vector ∷ terminal.View ∷ terminal.Name ∷ terminal.Create ∷ terminal.Putstring ∷
+    terminal.Count ∷ terminal.Number ∷ terminal.Literal ∷ terminal.OpenParenthesis ∷ terminal.Minus ∷ []
+follow part.Term = terminal.And ∷ terminal.Assert ∷ terminal.At ∷ terminal.Attached ∷ terminal.Const ∷ terminal.Else ∷ terminal.Elseif ∷
+    terminal.End ∷ terminal.Exit ∷ terminal.Export ∷ terminal.False ∷ terminal.Fix ∷ terminal.Function ∷ terminal.If ∷ terminal.Initially ∷
+    terminal.Loop ∷ terminal.Monitor ∷ terminal.Move ∷ terminal.Nil ∷ terminal.Node ∷ terminal.Object ∷ terminal.Operation ∷
+    terminal.Or ∷ terminal.Process ∷ terminal.Refix ∷ terminal.Return ∷ terminal.Self_ ∷ terminal.Signal ∷ terminal.Stdout ∷
+    terminal.Then ∷ terminal.To ∷ terminal.True ∷ terminal.Unfix ∷ terminal.Var ∷ terminal.Vector ∷ terminal.Wait ∷
+    terminal.Name ∷ terminal.Create ∷ terminal.Putstring ∷ terminal.Count ∷ terminal.Number ∷ terminal.Literal ∷
+    terminal.OpenParenthesis ∷ terminal.CloseParenthesis ∷ terminal.CloseBracket ∷ terminal.Comma ∷ terminal.Plus ∷
+    terminal.Minus ∷ terminal.Concat ∷ terminal.Same ∷ terminal.NotSame ∷ terminal.Equal ∷ terminal.NotEqual ∷
+    terminal.Less ∷ terminal.LessEqual ∷ terminal.More ∷ terminal.MoreEqual ∷ terminal.EndOfText ∷ []
+follow part.TermTail = terminal.And ∷ terminal.Assert ∷ terminal.At ∷ terminal.Attached ∷ terminal.Const ∷ terminal.Else ∷ terminal.Elseif ∷
+    terminal.End ∷ terminal.Exit ∷ terminal.Export ∷ terminal.False ∷ terminal.Fix ∷ terminal.Function ∷ terminal.If ∷ terminal.Initially ∷
+    terminal.Loop ∷ terminal.Monitor ∷ terminal.Move ∷ terminal.Nil ∷ terminal.Node ∷ terminal.Object ∷ terminal.Operation ∷
+    terminal.Or ∷ terminal.Process ∷ terminal.Refix ∷ terminal.Return ∷ terminal.Self_ ∷ terminal.Signal ∷ terminal.Stdout ∷
+    terminal.Then ∷ terminal.To ∷ terminal.True ∷ terminal.Unfix ∷ terminal.Var ∷ terminal.Vector ∷ terminal.Wait ∷
+    terminal.Name ∷ terminal.Create ∷ terminal.Putstring ∷ terminal.Count ∷ terminal.Number ∷ terminal.Literal ∷
+    terminal.OpenParenthesis ∷ terminal.CloseParenthesis ∷ terminal.CloseBracket ∷ terminal.Comma ∷ terminal.Plus ∷
+    terminal.Minus ∷ terminal.Concat ∷ terminal.Same ∷ terminal.NotSame ∷ terminal.Equal ∷ terminal.NotEqual ∷
+    terminal.Less ∷ terminal.LessEqual ∷ terminal.More ∷ terminal.MoreEqual ∷ terminal.EndOfText ∷ []
+follow part.TermWord = terminal.False ∷ terminal.Isfixed ∷ terminal.Monitor ∷ terminal.Nil ∷ terminal.Node ∷ terminal.Object ∷
+    terminal.Self_ ∷ terminal.True ∷ terminal.Vector ∷ terminal.View ∷ terminal.Name ∷ terminal.Create ∷ terminal.Putstring ∷
+    terminal.Count ∷ terminal.Number ∷ terminal.Literal ∷ terminal.OpenParenthesis ∷ terminal.Minus ∷ []
+follow part.Unary = terminal.And ∷ terminal.As ∷ terminal.Assert ∷ terminal.At ∷ terminal.Attached ∷ terminal.Const ∷ terminal.Else ∷
+    terminal.Elseif ∷ terminal.End ∷ terminal.Exit ∷ terminal.Export ∷ terminal.False ∷ terminal.Fix ∷ terminal.Function ∷ terminal.If ∷
+    terminal.Initially ∷ terminal.Loop ∷ terminal.Monitor ∷ terminal.Move ∷ terminal.Nil ∷ terminal.Node ∷ terminal.Object ∷
+    terminal.Operation ∷ terminal.Or ∷ terminal.Process ∷ terminal.Refix ∷ terminal.Return ∷ terminal.Self_ ∷ terminal.Signal ∷
+    terminal.Stdout ∷ terminal.Then ∷ terminal.To ∷ terminal.True ∷ terminal.Unfix ∷ terminal.Var ∷ terminal.Vector ∷
+    terminal.Wait ∷ terminal.Name ∷ terminal.Create ∷ terminal.Putstring ∷ terminal.Count ∷ terminal.Number ∷
+    terminal.Literal ∷ terminal.OpenParenthesis ∷ terminal.CloseParenthesis ∷ terminal.CloseBracket ∷ terminal.Comma ∷
+    terminal.Plus ∷ terminal.Minus ∷ terminal.Times ∷ terminal.Over ∷ terminal.Remainder ∷ terminal.Concat ∷
+    terminal.Same ∷ terminal.NotSame ∷ terminal.Equal ∷ terminal.NotEqual ∷ terminal.Less ∷ terminal.LessEqual ∷
+    terminal.More ∷ terminal.MoreEqual ∷ terminal.EndOfText ∷ []
+follow part.UnaryPrefix = terminal.And ∷ terminal.As ∷ terminal.Assert ∷ terminal.At ∷ terminal.Attached ∷ terminal.Const ∷ terminal.Else ∷
+    terminal.Elseif ∷ terminal.End ∷ terminal.Exit ∷ terminal.Export ∷ terminal.False ∷ terminal.Fix ∷ terminal.Function ∷ terminal.If ∷
+    terminal.Initially ∷ terminal.Loop ∷ terminal.Monitor ∷ terminal.Move ∷ terminal.Nil ∷ terminal.Node ∷ terminal.Object ∷
+    terminal.Operation ∷ terminal.Or ∷ terminal.Process ∷ terminal.Refix ∷ terminal.Return ∷ terminal.Self_ ∷ terminal.Signal ∷
+    terminal.Stdout ∷ terminal.Then ∷ terminal.To ∷ terminal.True ∷ terminal.Unfix ∷ terminal.Var ∷ terminal.Vector ∷
+    terminal.Wait ∷ terminal.Name ∷ terminal.Create ∷ terminal.Putstring ∷ terminal.Count ∷ terminal.Number ∷
+    terminal.Literal ∷ terminal.OpenParenthesis ∷ terminal.CloseParenthesis ∷ terminal.CloseBracket ∷ terminal.Comma ∷
+    terminal.Plus ∷ terminal.Minus ∷ terminal.Times ∷ terminal.Over ∷ terminal.Remainder ∷ terminal.Concat ∷
+    terminal.Same ∷ terminal.NotSame ∷ terminal.Equal ∷ terminal.NotEqual ∷ terminal.Less ∷ terminal.LessEqual ∷
+    terminal.More ∷ terminal.MoreEqual ∷ terminal.EndOfText ∷ []
+follow part.Postfix = terminal.And ∷ terminal.As ∷ terminal.Assert ∷ terminal.At ∷ terminal.Attached ∷ terminal.Const ∷ terminal.Else ∷
+    terminal.Elseif ∷ terminal.End ∷ terminal.Exit ∷ terminal.Export ∷ terminal.False ∷ terminal.Fix ∷ terminal.Function ∷ terminal.If ∷
+    terminal.Initially ∷ terminal.Loop ∷ terminal.Monitor ∷ terminal.Move ∷ terminal.Nil ∷ terminal.Node ∷ terminal.Object ∷
+    terminal.Operation ∷ terminal.Or ∷ terminal.Process ∷ terminal.Refix ∷ terminal.Return ∷ terminal.Self_ ∷ terminal.Signal ∷
+    terminal.Stdout ∷ terminal.Then ∷ terminal.To ∷ terminal.True ∷ terminal.Unfix ∷ terminal.Var ∷ terminal.Vector ∷
+    terminal.Wait ∷ terminal.Name ∷ terminal.Create ∷ terminal.Putstring ∷ terminal.Count ∷ terminal.Number ∷
+    terminal.Literal ∷ terminal.OpenParenthesis ∷ terminal.CloseParenthesis ∷ terminal.CloseBracket ∷ terminal.Comma ∷
+    terminal.Plus ∷ terminal.Minus ∷ terminal.Times ∷ terminal.Over ∷ terminal.Remainder ∷ terminal.Concat ∷
+    terminal.Same ∷ terminal.NotSame ∷ terminal.Equal ∷ terminal.NotEqual ∷ terminal.Less ∷ terminal.LessEqual ∷
+    terminal.More ∷ terminal.MoreEqual ∷ terminal.EndOfText ∷ []
+follow part.PostfixTail = terminal.And ∷ terminal.As ∷ terminal.Assert ∷ terminal.At ∷ terminal.Attached ∷ terminal.Const ∷ terminal.Else ∷
+    terminal.Elseif ∷ terminal.End ∷ terminal.Exit ∷ terminal.Export ∷ terminal.False ∷ terminal.Fix ∷ terminal.Function ∷ terminal.If ∷
+    terminal.Initially ∷ terminal.Loop ∷ terminal.Monitor ∷ terminal.Move ∷ terminal.Nil ∷ terminal.Node ∷ terminal.Object ∷
+    terminal.Operation ∷ terminal.Or ∷ terminal.Process ∷ terminal.Refix ∷ terminal.Return ∷ terminal.Self_ ∷ terminal.Signal ∷
+    terminal.Stdout ∷ terminal.Then ∷ terminal.To ∷ terminal.True ∷ terminal.Unfix ∷ terminal.Var ∷ terminal.Vector ∷
+    terminal.Wait ∷ terminal.Name ∷ terminal.Create ∷ terminal.Putstring ∷ terminal.Count ∷ terminal.Number ∷
+    terminal.Literal ∷ terminal.OpenParenthesis ∷ terminal.CloseParenthesis ∷ terminal.CloseBracket ∷ terminal.Comma ∷
+    terminal.Plus ∷ terminal.Minus ∷ terminal.Times ∷ terminal.Over ∷ terminal.Remainder ∷ terminal.Concat ∷
+    terminal.Same ∷ terminal.NotSame ∷ terminal.Equal ∷ terminal.NotEqual ∷ terminal.Less ∷ terminal.LessEqual ∷
+    terminal.More ∷ terminal.MoreEqual ∷ terminal.EndOfText ∷ []
+follow part.AfterDot = terminal.And ∷ terminal.As ∷ terminal.Assert ∷ terminal.At ∷ terminal.Attached ∷ terminal.Const ∷ terminal.Else ∷
+    terminal.Elseif ∷ terminal.End ∷ terminal.Exit ∷ terminal.Export ∷ terminal.False ∷ terminal.Fix ∷ terminal.Function ∷ terminal.If ∷
+    terminal.Initially ∷ terminal.Loop ∷ terminal.Monitor ∷ terminal.Move ∷ terminal.Nil ∷ terminal.Node ∷ terminal.Object ∷
+    terminal.Operation ∷ terminal.Or ∷ terminal.Process ∷ terminal.Refix ∷ terminal.Return ∷ terminal.Self_ ∷ terminal.Signal ∷
+    terminal.Stdout ∷ terminal.Then ∷ terminal.To ∷ terminal.True ∷ terminal.Unfix ∷ terminal.Var ∷ terminal.Vector ∷
+    terminal.Wait ∷ terminal.Name ∷ terminal.Create ∷ terminal.Putstring ∷ terminal.Count ∷ terminal.Number ∷
+    terminal.Literal ∷ terminal.OpenParenthesis ∷ terminal.CloseParenthesis ∷ terminal.CloseBracket ∷ terminal.Comma ∷
+    terminal.Plus ∷ terminal.Minus ∷ terminal.Times ∷ terminal.Over ∷ terminal.Remainder ∷ terminal.Concat ∷
+    terminal.Same ∷ terminal.NotSame ∷ terminal.Equal ∷ terminal.NotEqual ∷ terminal.Less ∷ terminal.LessEqual ∷
+    terminal.More ∷ terminal.MoreEqual ∷ terminal.EndOfText ∷ []
 follow part.Arguments = terminal.CloseBracket ∷ []
 follow part.MoreArguments = terminal.CloseBracket ∷ []
-follow part.Primary = terminal.And ∷ terminal.As ∷ terminal.Assert ∷ terminal.At ∷ terminal.Attached ∷ terminal.Const ∷ terminal.Else ∷ terminal.Elseif ∷ terminal.End ∷ terminal.Exit ∷ terminal.Export ∷ terminal.False ∷ terminal.Fix ∷ terminal.Function ∷ terminal.If ∷ terminal.Initially ∷ terminal.Loop ∷ terminal.Monitor ∷ terminal.Move ∷ terminal.Nil ∷ terminal.Node ∷ terminal.Object ∷ terminal.Operation ∷ terminal.Or ∷ terminal.Process ∷ terminal.Refix ∷ terminal.Return ∷ terminal.Self_ ∷ terminal.Signal ∷ terminal.Stdout ∷ terminal.Then ∷ terminal.To ∷ terminal.True ∷ terminal.Unfix ∷ terminal.Var ∷ terminal.Vector ∷ terminal.Wait ∷ terminal.Name ∷ terminal.Create ∷ terminal.Putstring ∷ terminal.Count ∷ terminal.Number ∷ terminal.Literal ∷ terminal.OpenParenthesis ∷ terminal.CloseParenthesis ∷ terminal.OpenBracket ∷ terminal.CloseBracket ∷ terminal.Comma ∷ terminal.Dot ∷ terminal.Plus ∷ terminal.Minus ∷ terminal.Times ∷ terminal.Over ∷ terminal.Remainder ∷ terminal.Concat ∷ terminal.Same ∷ terminal.NotSame ∷ terminal.Equal ∷ terminal.NotEqual ∷ terminal.Less ∷ terminal.LessEqual ∷ terminal.More ∷ terminal.MoreEqual ∷ terminal.EndOfText ∷ []
-follow part.Plain = terminal.And ∷ terminal.As ∷ terminal.Assert ∷ terminal.At ∷ terminal.Attached ∷ terminal.Const ∷ terminal.Else ∷ terminal.Elseif ∷ terminal.End ∷ terminal.Exit ∷ terminal.Export ∷ terminal.False ∷ terminal.Fix ∷ terminal.Function ∷ terminal.If ∷ terminal.Initially ∷ terminal.Loop ∷ terminal.Monitor ∷ terminal.Move ∷ terminal.Nil ∷ terminal.Node ∷ terminal.Object ∷ terminal.Operation ∷ terminal.Or ∷ terminal.Process ∷ terminal.Refix ∷ terminal.Return ∷ terminal.Self_ ∷ terminal.Signal ∷ terminal.Stdout ∷ terminal.Then ∷ terminal.To ∷ terminal.True ∷ terminal.Unfix ∷ terminal.Var ∷ terminal.Vector ∷ terminal.Wait ∷ terminal.Name ∷ terminal.Create ∷ terminal.Putstring ∷ terminal.Count ∷ terminal.Number ∷ terminal.Literal ∷ terminal.OpenParenthesis ∷ terminal.CloseParenthesis ∷ terminal.OpenBracket ∷ terminal.CloseBracket ∷ terminal.Comma ∷ terminal.Dot ∷ terminal.Plus ∷ terminal.Minus ∷ terminal.Times ∷ terminal.Over ∷ terminal.Remainder ∷ terminal.Concat ∷ terminal.Same ∷ terminal.NotSame ∷ terminal.Equal ∷ terminal.NotEqual ∷ terminal.Less ∷ terminal.LessEqual ∷ terminal.More ∷ terminal.MoreEqual ∷ terminal.EndOfText ∷ []
-follow part.OtherPlain = terminal.And ∷ terminal.As ∷ terminal.Assert ∷ terminal.At ∷ terminal.Attached ∷ terminal.Const ∷ terminal.Else ∷ terminal.Elseif ∷ terminal.End ∷ terminal.Exit ∷ terminal.Export ∷ terminal.False ∷ terminal.Fix ∷ terminal.Function ∷ terminal.If ∷ terminal.Initially ∷ terminal.Loop ∷ terminal.Monitor ∷ terminal.Move ∷ terminal.Nil ∷ terminal.Node ∷ terminal.Object ∷ terminal.Operation ∷ terminal.Or ∷ terminal.Process ∷ terminal.Refix ∷ terminal.Return ∷ terminal.Self_ ∷ terminal.Signal ∷ terminal.Stdout ∷ terminal.Then ∷ terminal.To ∷ terminal.True ∷ terminal.Unfix ∷ terminal.Var ∷ terminal.Vector ∷ terminal.Wait ∷ terminal.Name ∷ terminal.Create ∷ terminal.Putstring ∷ terminal.Count ∷ terminal.Number ∷ terminal.Literal ∷ terminal.OpenParenthesis ∷ terminal.CloseParenthesis ∷ terminal.OpenBracket ∷ terminal.CloseBracket ∷ terminal.Comma ∷ terminal.Dot ∷ terminal.Plus ∷ terminal.Minus ∷ terminal.Times ∷ terminal.Over ∷ terminal.Remainder ∷ terminal.Concat ∷ terminal.Same ∷ terminal.NotSame ∷ terminal.Equal ∷ terminal.NotEqual ∷ terminal.Less ∷ terminal.LessEqual ∷ terminal.More ∷ terminal.MoreEqual ∷ terminal.EndOfText ∷ []
-follow part.NodeRest = terminal.And ∷ terminal.As ∷ terminal.Assert ∷ terminal.At ∷ terminal.Attached ∷ terminal.Const ∷ terminal.Else ∷ terminal.Elseif ∷ terminal.End ∷ terminal.Exit ∷ terminal.Export ∷ terminal.False ∷ terminal.Fix ∷ terminal.Function ∷ terminal.If ∷ terminal.Initially ∷ terminal.Loop ∷ terminal.Monitor ∷ terminal.Move ∷ terminal.Nil ∷ terminal.Node ∷ terminal.Object ∷ terminal.Operation ∷ terminal.Or ∷ terminal.Process ∷ terminal.Refix ∷ terminal.Return ∷ terminal.Self_ ∷ terminal.Signal ∷ terminal.Stdout ∷ terminal.Then ∷ terminal.To ∷ terminal.True ∷ terminal.Unfix ∷ terminal.Var ∷ terminal.Vector ∷ terminal.Wait ∷ terminal.Name ∷ terminal.Create ∷ terminal.Putstring ∷ terminal.Count ∷ terminal.Number ∷ terminal.Literal ∷ terminal.OpenParenthesis ∷ terminal.CloseParenthesis ∷ terminal.OpenBracket ∷ terminal.CloseBracket ∷ terminal.Comma ∷ terminal.Dot ∷ terminal.Plus ∷ terminal.Minus ∷ terminal.Times ∷ terminal.Over ∷ terminal.Remainder ∷ terminal.Concat ∷ terminal.Same ∷ terminal.NotSame ∷ terminal.Equal ∷ terminal.NotEqual ∷ terminal.Less ∷ terminal.LessEqual ∷ terminal.More ∷ terminal.MoreEqual ∷ terminal.EndOfText ∷ []
+follow part.Primary = terminal.And ∷ terminal.As ∷ terminal.Assert ∷ terminal.At ∷ terminal.Attached ∷ terminal.Const ∷ terminal.Else ∷
+    terminal.Elseif ∷ terminal.End ∷ terminal.Exit ∷ terminal.Export ∷ terminal.False ∷ terminal.Fix ∷ terminal.Function ∷ terminal.If ∷
+    terminal.Initially ∷ terminal.Loop ∷ terminal.Monitor ∷ terminal.Move ∷ terminal.Nil ∷ terminal.Node ∷ terminal.Object ∷
+    terminal.Operation ∷ terminal.Or ∷ terminal.Process ∷ terminal.Refix ∷ terminal.Return ∷ terminal.Self_ ∷ terminal.Signal ∷
+    terminal.Stdout ∷ terminal.Then ∷ terminal.To ∷ terminal.True ∷ terminal.Unfix ∷ terminal.Var ∷ terminal.Vector ∷
+    terminal.Wait ∷ terminal.Name ∷ terminal.Create ∷ terminal.Putstring ∷ terminal.Count ∷ terminal.Number ∷
+    terminal.Literal ∷ terminal.OpenParenthesis ∷ terminal.CloseParenthesis ∷ terminal.OpenBracket ∷
+    terminal.CloseBracket ∷ terminal.Comma ∷ terminal.Dot ∷ terminal.Plus ∷ terminal.Minus ∷ terminal.Times ∷
+    terminal.Over ∷ terminal.Remainder ∷ terminal.Concat ∷ terminal.Same ∷ terminal.NotSame ∷ terminal.Equal ∷
+    terminal.NotEqual ∷ terminal.Less ∷ terminal.LessEqual ∷ terminal.More ∷ terminal.MoreEqual ∷
+    terminal.EndOfText ∷ []
+follow part.Plain = terminal.And ∷ terminal.As ∷ terminal.Assert ∷ terminal.At ∷ terminal.Attached ∷ terminal.Const ∷ terminal.Else ∷
+    terminal.Elseif ∷ terminal.End ∷ terminal.Exit ∷ terminal.Export ∷ terminal.False ∷ terminal.Fix ∷ terminal.Function ∷ terminal.If ∷
+    terminal.Initially ∷ terminal.Loop ∷ terminal.Monitor ∷ terminal.Move ∷ terminal.Nil ∷ terminal.Node ∷ terminal.Object ∷
+    terminal.Operation ∷ terminal.Or ∷ terminal.Process ∷ terminal.Refix ∷ terminal.Return ∷ terminal.Self_ ∷ terminal.Signal ∷
+    terminal.Stdout ∷ terminal.Then ∷ terminal.To ∷ terminal.True ∷ terminal.Unfix ∷ terminal.Var ∷ terminal.Vector ∷
+    terminal.Wait ∷ terminal.Name ∷ terminal.Create ∷ terminal.Putstring ∷ terminal.Count ∷ terminal.Number ∷
+    terminal.Literal ∷ terminal.OpenParenthesis ∷ terminal.CloseParenthesis ∷ terminal.OpenBracket ∷
+    terminal.CloseBracket ∷ terminal.Comma ∷ terminal.Dot ∷ terminal.Plus ∷ terminal.Minus ∷ terminal.Times ∷
+    terminal.Over ∷ terminal.Remainder ∷ terminal.Concat ∷ terminal.Same ∷ terminal.NotSame ∷ terminal.Equal ∷
+    terminal.NotEqual ∷ terminal.Less ∷ terminal.LessEqual ∷ terminal.More ∷ terminal.MoreEqual ∷
+    terminal.EndOfText ∷ []
+follow part.OtherPlain = terminal.And ∷ terminal.As ∷ terminal.Assert ∷ terminal.At ∷ terminal.Attached ∷ terminal.Const ∷ terminal.Else ∷
+    terminal.Elseif ∷ terminal.End ∷ terminal.Exit ∷ terminal.Export ∷ terminal.False ∷ terminal.Fix ∷ terminal.Function ∷ terminal.If ∷
+    terminal.Initially ∷ terminal.Loop ∷ terminal.Monitor ∷ terminal.Move ∷ terminal.Nil ∷ terminal.Node ∷ terminal.Object ∷
+    terminal.Operation ∷ terminal.Or ∷ terminal.Process ∷ terminal.Refix ∷ terminal.Return ∷ terminal.Self_ ∷ terminal.Signal ∷
+    terminal.Stdout ∷ terminal.Then ∷ terminal.To ∷ terminal.True ∷ terminal.Unfix ∷ terminal.Var ∷ terminal.Vector ∷
+    terminal.Wait ∷ terminal.Name ∷ terminal.Create ∷ terminal.Putstring ∷ terminal.Count ∷ terminal.Number ∷
+    terminal.Literal ∷ terminal.OpenParenthesis ∷ terminal.CloseParenthesis ∷ terminal.OpenBracket ∷
+    terminal.CloseBracket ∷ terminal.Comma ∷ terminal.Dot ∷ terminal.Plus ∷ terminal.Minus ∷ terminal.Times ∷
+    terminal.Over ∷ terminal.Remainder ∷ terminal.Concat ∷ terminal.Same ∷ terminal.NotSame ∷ terminal.Equal ∷
+    terminal.NotEqual ∷ terminal.Less ∷ terminal.LessEqual ∷ terminal.More ∷ terminal.MoreEqual ∷
+    terminal.EndOfText ∷ []
+follow part.NodeRest = terminal.And ∷ terminal.As ∷ terminal.Assert ∷ terminal.At ∷ terminal.Attached ∷ terminal.Const ∷ terminal.Else ∷
+    terminal.Elseif ∷ terminal.End ∷ terminal.Exit ∷ terminal.Export ∷ terminal.False ∷ terminal.Fix ∷ terminal.Function ∷ terminal.If ∷
+    terminal.Initially ∷ terminal.Loop ∷ terminal.Monitor ∷ terminal.Move ∷ terminal.Nil ∷ terminal.Node ∷ terminal.Object ∷
+    terminal.Operation ∷ terminal.Or ∷ terminal.Process ∷ terminal.Refix ∷ terminal.Return ∷ terminal.Self_ ∷ terminal.Signal ∷
+    terminal.Stdout ∷ terminal.Then ∷ terminal.To ∷ terminal.True ∷ terminal.Unfix ∷ terminal.Var ∷ terminal.Vector ∷
+    terminal.Wait ∷ terminal.Name ∷ terminal.Create ∷ terminal.Putstring ∷ terminal.Count ∷ terminal.Number ∷
+    terminal.Literal ∷ terminal.OpenParenthesis ∷ terminal.CloseParenthesis ∷ terminal.OpenBracket ∷
+    terminal.CloseBracket ∷ terminal.Comma ∷ terminal.Dot ∷ terminal.Plus ∷ terminal.Minus ∷ terminal.Times ∷
+    terminal.Over ∷ terminal.Remainder ∷ terminal.Concat ∷ terminal.Same ∷ terminal.NotSame ∷ terminal.Equal ∷
+    terminal.NotEqual ∷ terminal.Less ∷ terminal.LessEqual ∷ terminal.More ∷ terminal.MoreEqual ∷
+    terminal.EndOfText ∷ []
 
 abbrev pub weight : Part → ℕ
 weight part.Program = 5

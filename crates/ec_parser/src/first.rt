@@ -7,7 +7,7 @@ use crate::grammar::Part;
 use crate::terminal::Terminal;
 
 /// The tokens that a part may begin with.
-pub fn first(part: Part) -> &'static [Terminal]
+pub(crate) fn first(part: Part) -> &'static [Terminal]
     ensures { result.now ≡ sizes.first part }
 {
     match part {
@@ -579,7 +579,7 @@ pub fn first(part: Part) -> &'static [Terminal]
 }
 
 /// Whether a part may have no token.
-pub fn is_nullable(part: Part) -> bool
+pub(crate) fn is_nullable(part: Part) -> bool
     ensures { result ≡ sizes.nullable part }
 {
     match part {

@@ -2,7 +2,8 @@
 //! an alternative of the part that stands first in it.
 #![tactic(auto)]
 
-ghost use Rattle.std.specs.Prelude.{◌≡◌, [], ◌∷◌, ◌++◌, IfOk, OnOk, IfSome, IfNone, MatchBool, Ok, ℕ, true, false, ◌≢◌, List, MatchResult, IfErr};
+ghost use Rattle.std.specs.Prelude.{◌≡◌, [], ◌∷◌, ◌++◌, IfOk, OnOk, IfSome, IfNone, MatchBool, Ok, ℕ, true, false, ◌≢◌, List};
+ghost use Rattle.std.specs.Prelude.{MatchResult, IfErr};
 ghost use Rattle.ec_parser.specs.Choose as table;
 ghost use Rattle.ec_parser.specs.Follow.{Follows, Settles, Goes, Refuses, EndsWith, EndsNowhere};
 ghost use Rattle.ec_parser.specs.Fits.{Fits};
@@ -13,14 +14,16 @@ ghost use Rattle.ec_parser.specs.Prefixes as reading;
 ghost use Rattle.ec_ast.specs.declared.Program.{Program as AProgram};
 ghost use Rattle.ec_parser.specs.declared.ParseError.TheVariants.{Memory};
 ghost use Rattle.ec_parser.specs.declared.values.Values.{Values as Built};
-ghost use Rattle.ec_parser.specs.Values.{first_program};
+ghost use Rattle.ec_parser.specs.Tops.{first_program};
 
+mod acts;
 mod first;
-pub mod grammar;
+mod grammar;
 mod pile;
-pub mod terminal;
-pub mod values;
+mod terminal;
+mod values;
 
+use acts::perform;
 use ec_ast::Program;
 use ec_lexer::token::Token;
 use first::{first, is_nullable};
@@ -29,7 +32,7 @@ use pile::Pile;
 use std::alloc::{AllocError, Global};
 use terminal::{Terminal, terminal_of};
 use thiserror::Error;
-use values::{Values, keep, no_values, perform, take_program};
+use values::{Values, keep, no_values};
 
 /// Why tokens have no tree. Tokens are counted from 0.
 #[derive(Clone, Copy, PartialEq, Eq, Debug, Error)]
@@ -69,7 +72,8 @@ pub fn parse(alloc: Global, tokens: &[Token]) -> Result<Program, ParseError>
 
 /// The same, by the parser's own table.
 fn read(alloc: Global, tokens: &[Token]) -> Result<Program, ParseError>
-    ensures found { IfOk result (λ program. (ns : List ℕ) × (ws : Built) × reading.IsProgram tokens.now ns ws × AreShallow ns × (program ≡ first_program ws.programs)) }
+    ensures found { IfOk result (λ program. (ns : List ℕ) × (ws : Built) ×
+        reading.IsProgram tokens.now ns ws × AreShallow ns × (program ≡ first_program ws.programs)) }
     ensures only { (ns : List ℕ) (ws : Built) → reading.IsProgram tokens.now ns ws → AreShallow ns →
         MatchResult result (λ program. program ≡ first_program ws.programs) (λ e. e ≡ Memory) }
     ensures refused { IfErr result (reading.IsCause tokens.now) }
@@ -90,7 +94,7 @@ fn read(alloc: Global, tokens: &[Token]) -> Result<Program, ParseError>
             token: tokens.len(),
         });
     }
-    Ok(take_program(&mut values.programs))
+    Ok(values.programs.take())
 }
 
 /// What a list of symbols goes on with, or that nothing that begins with the next token is read by it.

@@ -1,14 +1,14 @@
 //! A stack that contracts see as a list, its top first.
 
 ghost use Rattle.std.specs.Prelude.{◌≡◌, [], ◌∷◌, ◌++◌, length, reverse, MatchOption, OnOk, OnErr};
-ghost use Rattle.ec_parser.specs.Filled.{IsFilled};
+ghost use Rattle.ec_parser.specs.Filled.{IsFilled, rest, top_or};
 
 use std::alloc::{AllocError, Global};
 use std::marker::Model;
 
 /// A stack of values.
 #[derive(Drop)]
-pub struct Pile<T> {
+pub(crate) struct Pile<T> {
     items: Vec<T>,
 }
 
@@ -25,7 +25,7 @@ impl<T> Model for Pile<T> {
 
 impl<T> Pile<T> {
     /// The empty stack.
-    pub fn new(alloc: Global) -> Pile<T>
+    pub(crate) fn new(alloc: Global) -> Pile<T>
         ensures { result ≡ [] }
     {
         Pile {
@@ -34,23 +34,33 @@ impl<T> Pile<T> {
     }
 
     /// The values, the top last.
-    pub fn as_slice(&self) -> &[T]
+    pub(crate) fn as_slice(&self) -> &[T]
         ensures { reverse result.now ≡ self.now }
     {
         self.items.as_slice()
     }
 
     /// The top, taken off, where there is one.
-    pub fn pop(&mut self) -> Option<T>
+    pub(crate) fn pop(&mut self) -> Option<T>
         ensures { MatchOption result ((self.old ≡ []) × (self.new ≡ [])) (λ x. self.old ≡ x ∷ self.new) }
     {
         self.items.pop()
+    }
+
+    /// The top, taken off a stack that has one.
+    #[tactic(auto, unfolding(crate::specs::Filled::top_or, crate::specs::Filled::rest))]
+    pub(crate) fn take(&mut self) -> T
+        requires { IsFilled self.old }
+        ensures first { (other : T) → result ≡ top_or other self.old }
+        ensures rest { self.new ≡ rest self.old }
+    {
+        self.pop().unwrap()
     }
 }
 
 impl<T: Drop> Pile<T> {
     /// One more value, on the top.
-    pub fn push(&mut self, x: T) -> Result<(), AllocError>
+    pub(crate) fn push(&mut self, x: T) -> Result<(), AllocError>
         ensures ok { OnOk result (self.new ≡ x ∷ self.old) }
         ensures err { OnErr result (self.new ≡ self.old) }
     {
@@ -61,7 +71,7 @@ impl<T: Drop> Pile<T> {
 
 impl<T: Copy> Pile<T> {
     /// More values, the first of them on the top.
-    pub fn push_all(&mut self, items: &[T]) -> Result<(), AllocError>
+    pub(crate) fn push_all(&mut self, items: &[T]) -> Result<(), AllocError>
         ensures { OnOk result (self.new ≡ items.now ++ self.old) }
     {
         let mut left = items.len();

@@ -128,7 +128,7 @@ pub enum Terminal {
 
 /// What a token is to the grammar.
 #[tactic(auto, unfolding(crate::specs::Terminals::terminal_of_kind))]
-pub fn terminal_of(token: &Token) -> Terminal
+pub(crate) fn terminal_of(token: &Token) -> Terminal
     ensures { result ≡ spec.terminal_of token.now }
 {
     match &token.kind {
@@ -247,7 +247,7 @@ fn terminal_of_symbol(symbol: Symbol) -> Terminal
 }
 
 /// The bytes of a name or a literal, and of no other.
-pub fn text_of(alloc: Global, token: &Token) -> Result<Text, AllocError>
+pub(crate) fn text_of(alloc: Global, token: &Token) -> Result<Text, AllocError>
     ensures { IfOk result (λ text. text ≡ spec.text_of token.now) }
 {
     match &token.kind {
@@ -258,7 +258,7 @@ pub fn text_of(alloc: Global, token: &Token) -> Result<Text, AllocError>
 }
 
 /// The number of an integer, and of no other.
-pub fn number_of(token: &Token) -> u32
+pub(crate) fn number_of(token: &Token) -> u32
     ensures { result ≡ spec.number_of token.now }
 {
     match &token.kind {

@@ -6,7 +6,7 @@ use Rattle.ec_parser.specs.declared.values.Values.{Values}
 use Rattle.ec_parser.specs.HasTree.{HasTree}
 use Rattle.ec_parser.specs.Program.{AreShallow, IsShallow, IsCause}
 use Rattle.ec_parser.specs.Prefixes as reading
-use Rattle.ec_parser.specs.Values.{first_program}
+use Rattle.ec_parser.specs.Tops.{first_program}
 use Rattle.ec_parser.proofs.Answered.{found_tree, cause_of, read_tree, read_only}
 use Rattle.ec_parser.proofs.parse.Goals as goal
 

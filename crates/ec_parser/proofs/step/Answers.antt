@@ -10,7 +10,8 @@ use Rattle.ec_parser.specs.Follow.{Goes, Refuses, Same, Follows}
 use Rattle.ec_parser.proofs.Theory.{takes_token, takes_keep, other_token, other_keep}
 use Rattle.ec_parser.proofs.step.Goals as goal
 
-tested : (b : Bool) (t : Word) (found k : Terminal) (s₀ : List Symbol) (v₀ : Values) (s : List Symbol) (v : Values) → found ≡ terminal_of t →
+tested : (b : Bool) (t : Word) (found k : Terminal) (s₀ : List Symbol) (v₀ : Values) (s : List Symbol) (v : Values) →
+    found ≡ terminal_of t →
     (b ≡ true → k ≡ found) → (b ≡ false → k ≡ found → ⊥) →
     Same found s₀ v₀ (Token k ∷ s) v × Follows s × Fits (Token k ∷ s) v → MatchBool b (Goes t s₀ v₀ s v) (Refuses t s₀ v₀)
 tested true t found k s₀ v₀ s v is y n h = takes_token t k s₀ v₀ s v (sym (y refl ∙ is)) (rw is at h)
@@ -22,7 +23,8 @@ returns-then-not-same c =
     other_keep _ _ _ _ _ _ (λ e. c.if-not-same.ensures.other refl (sym (is ∙ e))) (rw is at (rw c.in-Keep.is at c.in_ok-kind.ensures))
 
 pub returns-in-Token : goal.returns-in-Token
-returns-in-Token c = tested _ _ _ _ _ _ _ _ c.terminal_of-found.ensures c.same.ensures.same c.same.ensures.other (rw c.in-Token.is at c.in_ok-kind.ensures)
+returns-in-Token c = tested _ _ _ _ _ _ _ _ c.terminal_of-found.ensures c.same.ensures.same c.same.ensures.other
+    (rw c.in-Token.is at c.in_ok-kind.ensures)
 
 pub returns-in_ok-keep-in-Keep : goal.returns-in_ok-keep-in-Keep
 returns-in_ok-keep-in-Keep c =

@@ -1,16 +1,15 @@
 use Rattle.std.proofs.Common.{◌≡◌, List, [], ◌∷◌, true, false, refl}
 use Rattle.ec_ast.specs.declared.Expression.{Expression}
 use Rattle.ec_ast.specs.declared.Expression.TheVariants as e
-use Rattle.ec_ast.specs.declared.Link.{Link}
-use Rattle.ec_parser.specs.Chains.{postfix_of}
-use Rattle.ec_parser.proofs.values.postfix_of.Goals as goal
+use Rattle.ec_parser.specs.Chains.{and_of}
+use Rattle.ec_parser.proofs.acts.chains.and_of.Goals as goal
 
-none : (first : Expression) (more : List Link) → more ≡ [] → first ≡ postfix_of first more
-unfolding postfix_of
+none : (first : Expression) (more : List Expression) → more ≡ [] → first ≡ and_of first more
+unfolding and_of
 none first more h = rw h refl
 
-some : (first : Expression) (more : List Link) → (more ≡ [] → ⊥) → e.Postfix first more ≡ postfix_of first more
-unfolding postfix_of
+some : (first : Expression) (more : List Expression) → (more ≡ [] → ⊥) → e.And first more ≡ and_of first more
+unfolding and_of
 some first [] h = absurd (h refl)
 some first (x ∷ more) h = refl
 

@@ -2,7 +2,7 @@ use Rattle.std.proofs.Common.{◌≡◌, List, [], ◌∷◌, true, false, refl}
 use Rattle.ec_ast.specs.declared.Expression.{Expression}
 use Rattle.ec_ast.specs.declared.Expression.TheVariants as e
 use Rattle.ec_parser.specs.Chains.{or_of}
-use Rattle.ec_parser.proofs.values.or_of.Goals as goal
+use Rattle.ec_parser.proofs.acts.chains.or_of.Goals as goal
 
 none : (first : Expression) (more : List Expression) → more ≡ [] → first ≡ or_of first more
 unfolding or_of

@@ -3,7 +3,7 @@ use Rattle.ec_ast.specs.declared.Expression.{Expression}
 use Rattle.ec_ast.specs.declared.Expression.TheVariants as e
 use Rattle.ec_ast.specs.declared.Addend.{Addend}
 use Rattle.ec_parser.specs.Chains.{sum_of}
-use Rattle.ec_parser.proofs.values.sum_of.Goals as goal
+use Rattle.ec_parser.proofs.acts.chains.sum_of.Goals as goal
 
 none : (first : Expression) (more : List Addend) → more ≡ [] → first ≡ sum_of first more
 unfolding sum_of

@@ -1,15 +1,16 @@
 use Rattle.std.proofs.Common.{◌≡◌, List, [], ◌∷◌, true, false, refl}
 use Rattle.ec_ast.specs.declared.Expression.{Expression}
 use Rattle.ec_ast.specs.declared.Expression.TheVariants as e
-use Rattle.ec_parser.specs.Chains.{and_of}
-use Rattle.ec_parser.proofs.values.and_of.Goals as goal
+use Rattle.ec_ast.specs.declared.Factor.{Factor}
+use Rattle.ec_parser.specs.Chains.{term_of}
+use Rattle.ec_parser.proofs.acts.chains.term_of.Goals as goal
 
-none : (first : Expression) (more : List Expression) → more ≡ [] → first ≡ and_of first more
-unfolding and_of
+none : (first : Expression) (more : List Factor) → more ≡ [] → first ≡ term_of first more
+unfolding term_of
 none first more h = rw h refl
 
-some : (first : Expression) (more : List Expression) → (more ≡ [] → ⊥) → e.And first more ≡ and_of first more
-unfolding and_of
+some : (first : Expression) (more : List Factor) → (more ≡ [] → ⊥) → e.Term first more ≡ term_of first more
+unfolding term_of
 some first [] h = absurd (h refl)
 some first (x ∷ more) h = refl
 
