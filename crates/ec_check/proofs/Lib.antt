@@ -24,7 +24,6 @@ pub mod GoodStatements
 pub mod GoodTrees
 pub mod Headings
 pub mod HolderBodies
-pub mod Judged
 pub mod KnownTypes
 pub mod Links
 pub mod NumberedHeld

@@ -3,15 +3,18 @@ use Rattle.std.proofs.Common.{◌≡◌, refl}
 use Rattle.ec_ast.specs.declared.Expression.{Expression, out-Expression}
 use Rattle.ec_ast.specs.declared.Expression.TheOpen.{Expression-F, Statement-F}
 use Rattle.ec_ast.specs.declared.Statement.{Statement, out-Statement}
-use Rattle.ec_check.proofs.Equations.{expression_with_parts, layer_of, statement_with_parts, statement_layer}
+use Rattle.ec_check.proofs.Equations.{layer_of, statement_layer}
 use Rattle.ec_check.proofs.Fusion.{one, two, one_in, two_in, same_part, same_block, same_object, same_parts, same_links}
 use Rattle.ec_check.proofs.Fusion.{same_factors, same_addends, same_arms, same_part_if, same_block_if}
 use Rattle.ec_check.proofs.Rolled.{ExpressionLayer, StatementLayer}
 use Rattle.ec_check.specs.Layers.{expression_judged, statement_judged}
-use Rattle.ec_rules.specs.Tree.{expression_made, statement_made}
+use Rattle.ec_check.specs.Tree.{parts}
+use Rattle.ec_rules.specs.Tree as judged_tree
 use Rattle.ec_rules.specs.Tree.{layer_of as judged_layer, statement_layer as judged_statement_layer}
+use Rattle.ec_tree_folds.specs.Layers as layers
+use Rattle.ec_tree_folds.specs.Layers.{expression_with, statement_with}
 
-layer_same : (x : ExpressionLayer) → expression_judged (expression_with_parts x) ≡ expression_made x
+layer_same : (x : ExpressionLayer) → expression_judged (expression_with parts x) ≡ expression_with judged_tree.parts x
 layer_same (Expression-F.Number n) = refl
 layer_same (Expression-F.Literal t) = refl
 layer_same (Expression-F.Truth b at) = refl
@@ -35,10 +38,10 @@ layer_same (Expression-F.And x more) = two (λ p ps. Expression-F.And p ps) (sam
 layer_same (Expression-F.Or x more) = two (λ p ps. Expression-F.Or p ps) (same_part x) (same_parts more)
 
 pub same_layer : (x : Expression) → expression_judged (layer_of x) ≡ judged_layer x
-unfolding layer_of judged_layer
+unfolding layers.layer_of
 same_layer x = layer_same (out-Expression x)
 
-statement_layer_same : (x : StatementLayer) → statement_judged (statement_with_parts x) ≡ statement_made x
+statement_layer_same : (x : StatementLayer) → statement_judged (statement_with parts x) ≡ statement_with judged_tree.parts x
 statement_layer_same (Statement-F.LocalVariable name of x) = one_in (λ p. Statement-F.LocalVariable name of p) (same_part_if x)
 statement_layer_same (Statement-F.LocalConstant name of x) = one_in (λ p. Statement-F.LocalConstant name of p) (same_part x)
 statement_layer_same (Statement-F.Assign x y) = two_in (λ p q. Statement-F.Assign p q) (same_part x) (same_part y)
@@ -57,5 +60,5 @@ statement_layer_same (Statement-F.Wait name at) = refl
 statement_layer_same (Statement-F.Signal name at) = refl
 
 pub same_statement_layer : (x : Statement) → statement_judged (statement_layer x) ≡ judged_statement_layer x
-unfolding statement_layer judged_statement_layer
+unfolding layers.statement_layer
 same_statement_layer x = statement_layer_same (out-Statement x)
