@@ -38,6 +38,7 @@ use Rattle.ec_rules.specs.Judging.{expression_part, link_part, member_part, stat
 use Rattle.ec_rules.specs.Judging.{block_piece, body_part, factor_part, object_part, operation_part, process_part}
 use Rattle.ec_rules.specs.Judging.{block_finished}
 use Rattle.ec_rules.specs.Parts as judged
+use Rattle.ec_rules.specs.Parts.{class_with}
 use Rattle.ec_rules.specs.Tree as judged_tree
 use Rattle.ec_tree_folds.proofs.Claims.{Claims, Passes, Held, ExpressionWith, LinkWith, MemberWith, StatementWith, AddendWith}
 use Rattle.ec_tree_folds.proofs.Claims.{ArmWith, BlockWith, BodyWith, FactorWith, ObjectWith, OperationWith, ProcessWith, bare_expression}
@@ -428,15 +429,6 @@ pub same_process_if : (x : Option ProcessSection) →
 same_process_if = same_if process_of process_judged judged_tree.process_of same_process
 
 -- ---- classes
-
-abbrev class_with : Class → judged.BodyPart → judged.Holder
-class_with c body = record {
-  name = c.name;
-  is_monitored = c.is_monitored;
-  parameters = c.parameters;
-  body = body;
-  end_name = c.end_name;
-}
 
 pub same_class : (c : Class) → holder_judged (class_part c) ≡ judged_tree.class_part c
 same_class c = ap (class_with c) (same_body c.body)

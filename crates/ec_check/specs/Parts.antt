@@ -95,12 +95,8 @@ pub record BodyPart : Type 0 where
   pub process : Option ProcessPart
 
 -- an object constructor, or a class with its parameters
-pub record Holder : Type 0 where
-  pub name : Name
-  pub is_monitored : Bool
-  pub parameters : List Parameter
-  pub body : BodyPart
-  pub end_name : Name
+abbrev pub Holder : Type 0
+Holder = judged.HolderOf BodyPart
 
 -- an object constructor, at its first word
 pub record ObjectPart : Type 0 where

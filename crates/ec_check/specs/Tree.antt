@@ -22,6 +22,7 @@ use Rattle.ec_check.specs.Resolving.{core_of_expression, expression_made, core_o
 use Rattle.ec_check.specs.Typing.{expression_within, statement_within, statements_within}
 use Rattle.ec_core.specs.declared.Block.{roll-Block}
 use Rattle.ec_rules.specs.Judging.{block_finished, expression_part, statement_part}
+use Rattle.ec_rules.specs.Parts.{class_with}
 use Rattle.ec_tree_folds.specs.Folds.{Steps, expression_folded, link_folded, member_folded, statement_folded, addend_folded}
 use Rattle.ec_tree_folds.specs.Folds.{arm_folded, block_folded, body_folded, factor_folded, object_folded, operation_folded}
 use Rattle.ec_tree_folds.specs.Folds.{process_folded}
@@ -169,10 +170,4 @@ parts = record {
 }
 
 abbrev pub class_part : Class → Holder
-class_part c = record {
-  name = c.name;
-  is_monitored = c.is_monitored;
-  parameters = c.parameters;
-  body = body_of c.body;
-  end_name = c.end_name;
-}
+class_part c = class_with c (body_of c.body)

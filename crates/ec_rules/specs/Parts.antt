@@ -2,6 +2,7 @@
 -- part at a time, and Judging.antt puts the parts together.
 use Rattle.std.specs.Prelude.{Bool, true, List, map, Option}
 use Rattle.ec_ast.specs.declared.Additive.{Additive}
+use Rattle.ec_ast.specs.declared.Class.{Class}
 use Rattle.ec_ast.specs.declared.Multiplicative.{Multiplicative}
 use Rattle.ec_ast.specs.declared.Name.{Name}
 use Rattle.ec_ast.specs.declared.Parameter.{Parameter}
@@ -84,13 +85,26 @@ pub record BodyPart : Type 0 where
   pub initially : Option Piece
   pub process : Option ProcessPart
 
--- an object constructor, or a class with its parameters
-pub record Holder : Type 0 where
+-- an object constructor, or a class with its parameters, over what its body is
+pub record HolderOf (B : Type 0) : Type 0 where
   pub name : Name
   pub is_monitored : Bool
   pub parameters : List Parameter
-  pub body : BodyPart
+  pub body : B
   pub end_name : Name
+
+abbrev pub Holder : Type 0
+Holder = HolderOf BodyPart
+
+-- a class with what its body is
+abbrev pub class_with : {B : Type 0} → Class → B → HolderOf B
+class_with c body = record {
+  name = c.name;
+  is_monitored = c.is_monitored;
+  parameters = c.parameters;
+  body = body;
+  end_name = c.end_name;
+}
 
 -- an object constructor, at its first word
 pub record ObjectPart : Type 0 where

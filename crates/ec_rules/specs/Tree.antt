@@ -21,7 +21,7 @@ use Rattle.ec_rules.specs.Judging.{expression_part, link_part, member_part, stat
 use Rattle.ec_rules.specs.Judging.{body_part, factor_part, object_part, operation_part, process_part}
 use Rattle.ec_rules.specs.Parts.{Part, LinkPart, MemberPart, StatementPart, AddendPart, ArmPart, Piece, BodyPart, FactorPart}
 use Rattle.ec_rules.specs.Parts.{Holder, ObjectPart, OperationPart, ProcessPart, ValuePart, expression, class, typeobject}
-use Rattle.ec_rules.specs.Parts.{ConstantPart, AnExpression, AStatement, kinds}
+use Rattle.ec_rules.specs.Parts.{ConstantPart, AnExpression, AStatement, kinds, class_with}
 use Rattle.ec_tree_folds.specs.Folds.{Steps, expression_folded, link_folded, member_folded, statement_folded, addend_folded}
 use Rattle.ec_tree_folds.specs.Folds.{arm_folded, block_folded, body_folded, factor_folded, object_folded, operation_folded}
 use Rattle.ec_tree_folds.specs.Folds.{process_folded}
@@ -108,13 +108,7 @@ statement_layer = layers.statement_layer parts
 -- ---- programs
 
 abbrev pub class_part : Class → Holder
-class_part c = record {
-  name = c.name;
-  is_monitored = c.is_monitored;
-  parameters = c.parameters;
-  body = body_of c.body;
-  end_name = c.end_name;
-}
+class_part c = class_with c (body_of c.body)
 
 abbrev pub value_part : ConstantValue → ValuePart
 value_part (stands.Expression e) = expression (part_of e)
