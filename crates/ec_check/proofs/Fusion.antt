@@ -1,5 +1,5 @@
 -- The fold over the tree holds what the static rules know of each part.
-use Rattle.std.proofs.Common.{◌≡◌, Bool, List, [], ◌∷◌, map, Option, Some, None, refl, ap, sym, ◌∙◌, option_map}
+use Rattle.std.proofs.Common.{◌≡◌, Bool, List, [], ◌∷◌, map, Option, Some, None, refl, ap, sym, ◌∙◌}
 use Rattle.std.proofs.Math.Path.{ap₂}
 use Rattle.ec_ast.specs.declared.Additive.{Additive}
 use Rattle.ec_ast.specs.declared.Multiplicative.{Multiplicative}
@@ -43,9 +43,9 @@ use Rattle.ec_rules.specs.Tree as judged_tree
 use Rattle.ec_tree_folds.proofs.Claims.{Claims, Passes, Held, ExpressionWith, LinkWith, MemberWith, StatementWith, AddendWith}
 use Rattle.ec_tree_folds.proofs.Claims.{ArmWith, BlockWith, BodyWith, FactorWith, ObjectWith, OperationWith, ProcessWith, bare_expression}
 use Rattle.ec_tree_folds.proofs.Claims.{bare_link, bare_member, bare_statement, bare_addend, bare_arm, bare_block, bare_body, bare_factor}
-use Rattle.ec_tree_folds.proofs.Claims.{bare_object, bare_operation, bare_process, expression_holds, link_holds, member_holds}
-use Rattle.ec_tree_folds.proofs.Claims.{statement_holds, addend_holds, arm_holds, block_holds, body_holds, factor_holds, object_holds}
-use Rattle.ec_tree_folds.proofs.Claims.{operation_holds, process_holds}
+use Rattle.ec_tree_folds.proofs.Claims.{bare_object, bare_operation, bare_process, expression_holds, link_holds}
+use Rattle.ec_tree_folds.proofs.Claims.{statement_holds, body_holds, object_holds}
+use Rattle.ec_tree_folds.proofs.Claims.{operation_holds}
 
 -- ---- that the static rules know the same of a part
 
@@ -112,11 +112,6 @@ all_same : {A B C : Type 0} (f : A → B) (g : B → C) (h : A → C) → ((x : 
     map g (map f xs) ≡ map h xs
 all_same f g h same [] = refl
 all_same f g h same (x ∷ xs) = ap₂ ◌∷◌ (same x) (all_same f g h same xs)
-
-same_if : {A B C : Type 0} (f : A → B) (g : B → C) (h : A → C) → ((x : A) → g (f x) ≡ h x) → (x : Option A) →
-    option_map g (option_map f x) ≡ option_map h x
-same_if f g h same None = refl
-same_if f g h same (Some x) = ap Some (same x)
 
 ap₃ : {A B C D : Type 0} (f : A → B → C → D) {a a' : A} {b b' : B} {c c' : C} → a ≡ a' → b ≡ b' → c ≡ c' → f a b c ≡ f a' b' c'
 ap₃ f {a} {a'} {b} {b'} {c} {c'} p q r = ap₂ (λ x y. f x y c) p q ∙ ap (f a' b') r
@@ -363,35 +358,17 @@ same_part = expression_holds passes
 pub same_link : (x : Link) → link_judged (link_of x) ≡ judged_tree.link_of x
 same_link = link_holds passes
 
-pub same_member : (x : Member) → member_judged (member_of x) ≡ judged_tree.member_of x
-same_member = member_holds passes
-
 pub same_statement : (x : Statement) → (statement_of x).part ≡ judged_tree.statement_of x
 same_statement = statement_holds passes
 
-pub same_addend : (x : Addend) → addend_judged (addend_of x) ≡ judged_tree.addend_of x
-same_addend = addend_holds passes
-
-pub same_arm : (x : Arm) → arm_judged (arm_of x) ≡ judged_tree.arm_of x
-same_arm = arm_holds passes
-
-pub same_block : (x : Block) → (block_of x).piece ≡ judged_tree.block_of x
-same_block = block_holds passes
-
 pub same_body : (x : Body) → body_judged (body_of x) ≡ judged_tree.body_of x
 same_body = body_holds passes
-
-pub same_factor : (x : Factor) → factor_judged (factor_of x) ≡ judged_tree.factor_of x
-same_factor = factor_holds passes
 
 pub same_object : (x : ObjectConstructor) → object_judged (object_of x) ≡ judged_tree.object_of x
 same_object = object_holds passes
 
 pub same_operation : (x : Operation) → operation_judged (operation_of x) ≡ judged_tree.operation_of x
 same_operation = operation_holds passes
-
-pub same_process : (x : ProcessSection) → process_judged (process_of x) ≡ judged_tree.process_of x
-same_process = process_holds passes
 
 -- ---- lists of parts
 
@@ -401,32 +378,8 @@ same_parts = all_same part_of (λ p. p.part) judged_tree.part_of same_part
 pub same_links : (xs : List Link) → map link_judged (map link_of xs) ≡ map judged_tree.link_of xs
 same_links = all_same link_of link_judged judged_tree.link_of same_link
 
-pub same_members : (xs : List Member) → map member_judged (map member_of xs) ≡ map judged_tree.member_of xs
-same_members = all_same member_of member_judged judged_tree.member_of same_member
-
 pub same_statements : (xs : List Statement) → map (λ p. p.part) (map statement_of xs) ≡ map judged_tree.statement_of xs
 same_statements = all_same statement_of (λ p. p.part) judged_tree.statement_of same_statement
-
-pub same_addends : (xs : List Addend) → map addend_judged (map addend_of xs) ≡ map judged_tree.addend_of xs
-same_addends = all_same addend_of addend_judged judged_tree.addend_of same_addend
-
-pub same_arms : (xs : List Arm) → map arm_judged (map arm_of xs) ≡ map judged_tree.arm_of xs
-same_arms = all_same arm_of arm_judged judged_tree.arm_of same_arm
-
-pub same_factors : (xs : List Factor) → map factor_judged (map factor_of xs) ≡ map judged_tree.factor_of xs
-same_factors = all_same factor_of factor_judged judged_tree.factor_of same_factor
-
--- ---- parts that may be absent
-
-pub same_part_if : (x : Option Expression) → option_map (λ p. p.part) (option_map part_of x) ≡ option_map judged_tree.part_of x
-same_part_if = same_if part_of (λ p. p.part) judged_tree.part_of same_part
-
-pub same_block_if : (x : Option Block) → option_map (λ p. p.piece) (option_map block_of x) ≡ option_map judged_tree.block_of x
-same_block_if = same_if block_of (λ p. p.piece) judged_tree.block_of same_block
-
-pub same_process_if : (x : Option ProcessSection) →
-    option_map process_judged (option_map process_of x) ≡ option_map judged_tree.process_of x
-same_process_if = same_if process_of process_judged judged_tree.process_of same_process
 
 -- ---- classes
 

@@ -46,7 +46,6 @@ pub mod RangedStatements
 pub mod RangedTrees
 pub mod ReachedNames
 pub mod Rolled
-pub mod SameLayers
 pub mod SoundExpressions
 pub mod SoundForms
 pub mod SoundHolders
