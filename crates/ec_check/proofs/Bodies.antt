@@ -1,5 +1,5 @@
 -- What the making of operations, process sections and bodies leaves behind, of what each part within leaves behind.
-use Rattle.std.proofs.Common.{◌≡◌, ℕ, Bool, false, List, [], ◌∷◌, ◌++◌, length, Option, Some, None, is_some, option_map, refl, sym, ap, ◌∙◌, append_assoc}
+use Rattle.std.proofs.Common.{◌≡◌, ℕ, Bool, false, List, [], ◌∷◌, ◌++◌, length, Option, Some, is_some, option_map, refl, sym, ap, ◌∙◌, append_assoc}
 use Rattle.std.proofs.Common.{OnOk, Result, Ok, Err}
 use Rattle.std.proofs.lemmas.List.{append-nil}
 use Rattle.ec_ast.specs.declared.Name.{Name}
@@ -8,7 +8,7 @@ use Rattle.ec_ast.specs.declared.Parameter.{Parameter}
 use Rattle.ec_ast.specs.declared.ProcessSection.{ProcessSection, out-ProcessSection}
 use Rattle.ec_check.proofs.Equations.{operation_step_of, process_step_of}
 use Rattle.ec_check.proofs.Headings.{same_env}
-use Rattle.ec_check.proofs.Steps.{gone_made, gone_same, made_none, same_made, unmade}
+use Rattle.ec_check.proofs.Steps.{gone_same, made_none, same_made}
 use Rattle.ec_check.specs.Making.{HasGone, HasMade, env_of, made_of}
 use Rattle.ec_check.specs.Parts.{Made, both_made, nothing_made, operation, operation_judged, OperationPart, ProcessPart}
 use Rattle.ec_check.specs.Places.{Env}
@@ -258,13 +258,6 @@ process_same : (class : ℕ) (name : Name) {old new : Resolver} {p q : Option Pr
     ProcessGone class name old new p → ProcessGone class name old new q
 process_same class name {old} {new} {p} {q} e h =
     gone_same (ap (behind_process (env_of old)) e) refl (ap (process_made class (env_of old) name) e) h
-
--- where there is none
-pub process_absent : (class : ℕ) (name : Name) (process : Option ProcessSection) (old : Resolver) → process ≡ None →
-    HasGone old old (behind_process (env_of old) (option_map process_of process)) []
-    (process_made class (env_of old) name (option_map process_of process))
-process_absent class name process old e =
-    process_same class name (ap (option_map process_of) (sym e)) (gone_made (unmade old))
 
 -- where there is one: it stands before what its block made
 pub process_gone : (class : ℕ) (own_name : Name) (process : Option ProcessSection) (p : ProcessSection) (old done : Resolver)

@@ -15,7 +15,7 @@ use Rattle.ec_check.specs.Tree.{body_of, class_part, member_of}
 use Rattle.ec_conform.specs.declared.static_type.StaticType.{StaticType}
 use Rattle.ec_core.specs.declared.Class.{Class as CoreClass}
 use Rattle.ec_core.specs.declared.Field.{Field}
-use Rattle.ec_judge.specs.Holders.{holder_of as holder_seen}
+use Rattle.ec_judge.specs.Holders.{holder_with, holder_of as holder_seen}
 use Rattle.ec_judge.specs.declared.holders.Heading.{Heading}
 use Rattle.ec_names.specs.Names.{Text}
 use Rattle.ec_rules.specs.Lists.{each}
@@ -24,15 +24,6 @@ use Rattle.ec_rules.specs.Parts as judged
 use Rattle.ec_rules.specs.Tree.{class_part as judged_class}
 use Rattle.ec_scopes.specs.Scopes.{find}
 use Rattle.ec_scopes.specs.declared.scope.Scope.{Scope}
-
-abbrev holder_with : Heading → judged.BodyPart → judged.Holder
-holder_with heading body = record {
-  name = heading.name.now;
-  is_monitored = heading.is_monitored;
-  parameters = heading.parameters.now;
-  body = body;
-  end_name = heading.end_name.now;
-}
 
 pub same_holder : (heading : Heading) (body : Body) → holder_judged (holder_of heading body) ≡ holder_seen heading body
 same_holder heading body = ap (holder_with heading) (same_body body)

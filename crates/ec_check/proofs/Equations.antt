@@ -1,393 +1,99 @@
 -- What the fold over the tree gives of one part, for each form of it.
-use Rattle.std.proofs.Common.{◌≡◌, List, map, Option, Some, None, Bool, refl, ap, sym, ◌∙◌, option_map}
+use Rattle.std.proofs.Common.{◌≡◌, List, map, Option, Bool, option_map}
 use Rattle.ec_ast.specs.declared.Name.{Name}
 use Rattle.ec_ast.specs.declared.Span.{Span}
 use Rattle.ec_ast.specs.declared.TypeName.{TypeName}
-use Rattle.ec_ast.specs.declared.Comparison.{Comparison}
-use Rattle.ec_ast.specs.declared.Literal.{Literal}
-use Rattle.ec_ast.specs.declared.Number.{Number}
-use Rattle.ec_ast.specs.declared.Expression.{Expression, roll-Expression}
-use Rattle.ec_ast.specs.declared.Expression.{out-Expression, out-roll-Expression, roll-out-Expression}
-use Rattle.ec_ast.specs.declared.Expression.TheVariants as e
-use Rattle.ec_ast.specs.declared.Expression.TheOpen.{Expression-F, Link-F, Member-F, Statement-F}
-use Rattle.ec_ast.specs.declared.Link.{Link}
+use Rattle.ec_ast.specs.declared.Expression.{Expression}
+use Rattle.ec_ast.specs.declared.Expression.TheOpen.{Link-F, Member-F}
 use Rattle.ec_ast.specs.declared.Link.TheVariants as l
-use Rattle.ec_ast.specs.declared.Member.{Member}
 use Rattle.ec_ast.specs.declared.Member.TheVariants as m
-use Rattle.ec_ast.specs.declared.Statement.{Statement, roll-Statement, out-Statement, out-roll-Statement, roll-out-Statement}
-use Rattle.ec_ast.specs.declared.Statement.TheVariants as s
-use Rattle.ec_ast.specs.declared.Addend.{Addend, out-Addend, roll-out-Addend}
-use Rattle.ec_ast.specs.declared.Arm.{Arm, out-Arm, roll-out-Arm}
-use Rattle.ec_ast.specs.declared.Block.{Block, out-Block, roll-out-Block}
-use Rattle.ec_ast.specs.declared.Body.{Body, out-Body, roll-Body, roll-out-Body}
-use Rattle.ec_ast.specs.declared.Factor.{Factor, out-Factor, roll-out-Factor}
-use Rattle.ec_ast.specs.declared.ObjectConstructor.{ObjectConstructor, out-ObjectConstructor, roll-out-ObjectConstructor}
-use Rattle.ec_ast.specs.declared.Operation.{Operation, out-Operation, roll-out-Operation}
-use Rattle.ec_ast.specs.declared.ProcessSection.{ProcessSection, out-ProcessSection, roll-out-ProcessSection}
-use Rattle.ec_check.proofs.Rolled.{ExpressionLayer, StatementLayer, expression_mapped, statement_mapped}
-use Rattle.ec_check.proofs.Rolled.{part_rolled, link_rolled, member_rolled, statement_rolled, addend_rolled, arm_rolled}
-use Rattle.ec_check.proofs.Rolled.{block_rolled, body_rolled, factor_rolled, object_rolled, operation_rolled, process_rolled}
+use Rattle.ec_ast.specs.declared.Statement.{Statement}
+use Rattle.ec_ast.specs.declared.Addend.{Addend, out-Addend}
+use Rattle.ec_ast.specs.declared.Arm.{Arm, out-Arm}
+use Rattle.ec_ast.specs.declared.Block.{Block, out-Block}
+use Rattle.ec_ast.specs.declared.Body.{Body, out-Body}
+use Rattle.ec_ast.specs.declared.Factor.{Factor, out-Factor}
+use Rattle.ec_ast.specs.declared.ObjectConstructor.{ObjectConstructor, out-ObjectConstructor}
+use Rattle.ec_ast.specs.declared.Operation.{Operation, out-Operation}
+use Rattle.ec_ast.specs.declared.ProcessSection.{ProcessSection, out-ProcessSection}
+use Rattle.ec_check.proofs.Rolled.{rolled, addend_mapped, arm_mapped, block_mapped, factor_mapped, object_mapped, operation_mapped}
+use Rattle.ec_check.proofs.Rolled.{process_mapped}
 use Rattle.ec_check.specs.Parts.{AnExpression, AStatement}
 use Rattle.ec_check.specs.Tree.{expression_step, link_step, member_step, statement_step, addend_step, arm_step, block_step}
-use Rattle.ec_check.specs.Tree.{body_step, factor_step, object_step, operation_step, process_step}
+use Rattle.ec_check.specs.Tree.{body_step, factor_step, object_step, operation_step, process_step, parts}
 use Rattle.ec_check.specs.Tree.{part_of, link_of, member_of, statement_of, addend_of, arm_of, block_of, body_of, factor_of}
 use Rattle.ec_check.specs.Tree.{object_of, operation_of, process_of}
+use Rattle.ec_tree_folds.specs.Layers as layers
+use Rattle.ec_tree_folds.specs.Layers.{body_with}
+use Rattle.ec_tree_folds.proofs.Rolled.{expression_stepped, statement_stepped, addend_stepped, arm_stepped, block_stepped}
+use Rattle.ec_tree_folds.proofs.Rolled.{body_stepped, factor_stepped, object_stepped, operation_stepped, process_stepped}
+use Rattle.ec_tree_folds.proofs.Rolled.{link_has, member_has}
 
--- ---- expressions
+-- ---- the layer at the top, with its parts made
 
--- an expression with its parts made
-abbrev pub expression_with_parts : ExpressionLayer → AnExpression
-expression_with_parts (Expression-F.Number n) = Expression-F.Number n
-expression_with_parts (Expression-F.Literal t) = Expression-F.Literal t
-expression_with_parts (Expression-F.Truth b at) = Expression-F.Truth b at
-expression_with_parts (Expression-F.Nil at) = Expression-F.Nil at
-expression_with_parts (Expression-F.Itself at) = Expression-F.Itself at
-expression_with_parts (Expression-F.Expression::Variable name) = Expression-F.Expression::Variable name
-expression_with_parts (Expression-F.Parenthesised x at) = Expression-F.Parenthesised (part_of x) at
-expression_with_parts (Expression-F.Constructor o) = Expression-F.Constructor (object_of o)
-expression_with_parts (Expression-F.NodeAt x at word) = Expression-F.NodeAt (part_of x) at word
-expression_with_parts (Expression-F.NodeCount at) = Expression-F.NodeCount at
-expression_with_parts (Expression-F.NewVector of x at word) = Expression-F.NewVector of (part_of x) at word
-expression_with_parts (Expression-F.Postfix x links) = Expression-F.Postfix (part_of x) (map link_of links)
-expression_with_parts (Expression-F.Negative x at) = Expression-F.Negative (part_of x) at
-expression_with_parts (Expression-F.View x of at) = Expression-F.View (part_of x) of at
-expression_with_parts (Expression-F.IsFixed x at) = Expression-F.IsFixed (part_of x) at
-expression_with_parts (Expression-F.Term x more) = Expression-F.Term (part_of x) (map factor_of more)
-expression_with_parts (Expression-F.Sum x more) = Expression-F.Sum (part_of x) (map addend_of more)
-expression_with_parts (Expression-F.Compare x op at y) = Expression-F.Compare (part_of x) op at (part_of y)
-expression_with_parts (Expression-F.Not x at) = Expression-F.Not (part_of x) at
-expression_with_parts (Expression-F.And x more) = Expression-F.And (part_of x) (map part_of more)
-expression_with_parts (Expression-F.Or x more) = Expression-F.Or (part_of x) (map part_of more)
+abbrev pub layer_of : Expression → AnExpression
+layer_of = layers.layer_of parts
 
-unfoldable pub layer_of : Expression → AnExpression
-layer_of x = expression_with_parts (out-Expression x)
-
-expression_parts_made : (x : ExpressionLayer) → expression_mapped x ≡ expression_with_parts x
-expression_parts_made (Expression-F.Number n) = refl
-expression_parts_made (Expression-F.Literal t) = refl
-expression_parts_made (Expression-F.Truth b at) = refl
-expression_parts_made (Expression-F.Nil at) = refl
-expression_parts_made (Expression-F.Itself at) = refl
-expression_parts_made (Expression-F.Expression::Variable name) = refl
-expression_parts_made (Expression-F.Parenthesised x at) = refl
-expression_parts_made (Expression-F.Constructor o) = refl
-expression_parts_made (Expression-F.NodeAt x at word) = refl
-expression_parts_made (Expression-F.NodeCount at) = refl
-expression_parts_made (Expression-F.NewVector of x at word) = refl
-expression_parts_made (Expression-F.Postfix x links) = refl
-expression_parts_made (Expression-F.Negative x at) = refl
-expression_parts_made (Expression-F.View x of at) = refl
-expression_parts_made (Expression-F.IsFixed x at) = refl
-expression_parts_made (Expression-F.Term x more) = refl
-expression_parts_made (Expression-F.Sum x more) = refl
-expression_parts_made (Expression-F.Compare x op at y) = refl
-expression_parts_made (Expression-F.Not x at) = refl
-expression_parts_made (Expression-F.And x more) = refl
-expression_parts_made (Expression-F.Or x more) = refl
+abbrev pub statement_layer : Statement → AStatement
+statement_layer = layers.statement_layer parts
 
 pub part_is_step : (x : Expression) → part_of x ≡ expression_step (layer_of x)
-unfolding layer_of
-part_is_step x =
-    ap part_of (sym (roll-out-Expression x))
-    ∙ (part_rolled (out-Expression x) ∙ ap expression_step (expression_parts_made (out-Expression x)))
-
-layer_of_expression : (x : Expression) (y : ExpressionLayer) → roll-Expression y ≡ x → layer_of x ≡ expression_with_parts y
-unfolding layer_of
-layer_of_expression x y e = ap expression_with_parts (ap out-Expression (sym e) ∙ out-roll-Expression y)
-
-pub number_layer : (n : Number) → layer_of (e.Number n) ≡ Expression-F.Number n
-number_layer n = layer_of_expression (e.Number n) (Expression-F.Number n) (e.rolls-Number n)
-
-pub literal_layer : (t : Literal) → layer_of (e.Literal t) ≡ Expression-F.Literal t
-literal_layer t = layer_of_expression (e.Literal t) (Expression-F.Literal t) (e.rolls-Literal t)
-
-pub truth_layer : (b : Bool) (at : Span) → layer_of (e.Truth b at) ≡ Expression-F.Truth b at
-truth_layer b at = layer_of_expression (e.Truth b at) (Expression-F.Truth b at) (e.rolls-Truth b at)
-
-pub nil_layer : (at : Span) → layer_of (e.Nil at) ≡ Expression-F.Nil at
-nil_layer at = layer_of_expression (e.Nil at) (Expression-F.Nil at) (e.rolls-Nil at)
-
-pub itself_layer : (at : Span) → layer_of (e.Itself at) ≡ Expression-F.Itself at
-itself_layer at = layer_of_expression (e.Itself at) (Expression-F.Itself at) (e.rolls-Itself at)
-
-pub variable_layer : (name : Name) → layer_of (e.Variable name) ≡ Expression-F.Expression::Variable name
-variable_layer name = layer_of_expression (e.Variable name) (Expression-F.Expression::Variable name) (e.rolls-Variable name)
-
-pub parenthesised_layer : (x : Expression) (at : Span) →
-    layer_of (e.Parenthesised x at) ≡ Expression-F.Parenthesised (part_of x) at
-parenthesised_layer x at =
-    layer_of_expression (e.Parenthesised x at) (Expression-F.Parenthesised x at) (e.rolls-Parenthesised x at)
-
-pub constructor_layer : (o : ObjectConstructor) → layer_of (e.Constructor o) ≡ Expression-F.Constructor (object_of o)
-constructor_layer o = layer_of_expression (e.Constructor o) (Expression-F.Constructor o) (e.rolls-Constructor o)
-
-pub node_at_layer : (x : Expression) (at word : Span) → layer_of (e.NodeAt x at word) ≡ Expression-F.NodeAt (part_of x) at word
-node_at_layer x at word = layer_of_expression (e.NodeAt x at word) (Expression-F.NodeAt x at word) (e.rolls-NodeAt x at word)
-
-pub node_count_layer : (at : Span) → layer_of (e.NodeCount at) ≡ Expression-F.NodeCount at
-node_count_layer at = layer_of_expression (e.NodeCount at) (Expression-F.NodeCount at) (e.rolls-NodeCount at)
-
-pub new_vector_layer : (of : TypeName) (x : Expression) (at word : Span) →
-    layer_of (e.NewVector of x at word) ≡ Expression-F.NewVector of (part_of x) at word
-new_vector_layer of x at word =
-    layer_of_expression (e.NewVector of x at word) (Expression-F.NewVector of x at word) (e.rolls-NewVector of x at word)
-
-pub postfix_layer : (x : Expression) (links : List Link) →
-    layer_of (e.Postfix x links) ≡ Expression-F.Postfix (part_of x) (map link_of links)
-postfix_layer x links = layer_of_expression (e.Postfix x links) (Expression-F.Postfix x links) (e.rolls-Postfix x links)
-
-pub negative_layer : (x : Expression) (at : Span) → layer_of (e.Negative x at) ≡ Expression-F.Negative (part_of x) at
-negative_layer x at = layer_of_expression (e.Negative x at) (Expression-F.Negative x at) (e.rolls-Negative x at)
-
-pub view_layer : (x : Expression) (of : TypeName) (at : Span) → layer_of (e.View x of at) ≡ Expression-F.View (part_of x) of at
-view_layer x of at = layer_of_expression (e.View x of at) (Expression-F.View x of at) (e.rolls-View x of at)
-
-pub is_fixed_layer : (x : Expression) (at : Span) → layer_of (e.IsFixed x at) ≡ Expression-F.IsFixed (part_of x) at
-is_fixed_layer x at = layer_of_expression (e.IsFixed x at) (Expression-F.IsFixed x at) (e.rolls-IsFixed x at)
-
-pub term_layer : (x : Expression) (more : List Factor) →
-    layer_of (e.Term x more) ≡ Expression-F.Term (part_of x) (map factor_of more)
-term_layer x more = layer_of_expression (e.Term x more) (Expression-F.Term x more) (e.rolls-Term x more)
-
-pub sum_layer : (x : Expression) (more : List Addend) →
-    layer_of (e.Sum x more) ≡ Expression-F.Sum (part_of x) (map addend_of more)
-sum_layer x more = layer_of_expression (e.Sum x more) (Expression-F.Sum x more) (e.rolls-Sum x more)
-
-pub compare_layer : (x : Expression) (op : Comparison) (at : Span) (y : Expression) →
-    layer_of (e.Compare x op at y) ≡ Expression-F.Compare (part_of x) op at (part_of y)
-compare_layer x op at y = layer_of_expression (e.Compare x op at y) (Expression-F.Compare x op at y) (e.rolls-Compare x op at y)
-
-pub not_layer : (x : Expression) (at : Span) → layer_of (e.Not x at) ≡ Expression-F.Not (part_of x) at
-not_layer x at = layer_of_expression (e.Not x at) (Expression-F.Not x at) (e.rolls-Not x at)
-
-pub and_layer : (x : Expression) (more : List Expression) →
-    layer_of (e.And x more) ≡ Expression-F.And (part_of x) (map part_of more)
-and_layer x more = layer_of_expression (e.And x more) (Expression-F.And x more) (e.rolls-And x more)
-
-pub or_layer : (x : Expression) (more : List Expression) → layer_of (e.Or x more) ≡ Expression-F.Or (part_of x) (map part_of more)
-or_layer x more = layer_of_expression (e.Or x more) (Expression-F.Or x more) (e.rolls-Or x more)
-
--- ---- statements
-
--- a statement with its parts made
-abbrev pub statement_with_parts : StatementLayer → AStatement
-statement_with_parts (Statement-F.LocalVariable name of x) = Statement-F.LocalVariable name of (option_map part_of x)
-statement_with_parts (Statement-F.LocalConstant name of x) = Statement-F.LocalConstant name of (part_of x)
-statement_with_parts (Statement-F.Assign x y) = Statement-F.Assign (part_of x) (part_of y)
-statement_with_parts (Statement-F.Invoke x) = Statement-F.Invoke (part_of x)
-statement_with_parts (Statement-F.Print x at) = Statement-F.Print (part_of x) at
-statement_with_parts (Statement-F.If arms other at) = Statement-F.If (map arm_of arms) (option_map block_of other) at
-statement_with_parts (Statement-F.Loop b at) = Statement-F.Loop (block_of b) at
-statement_with_parts (Statement-F.Exit x at) = Statement-F.Exit (option_map part_of x) at
-statement_with_parts (Statement-F.Return at) = Statement-F.Return at
-statement_with_parts (Statement-F.Assert x at) = Statement-F.Assert (part_of x) at
-statement_with_parts (Statement-F.Move x y at) = Statement-F.Move (part_of x) (part_of y) at
-statement_with_parts (Statement-F.Fix x y at) = Statement-F.Fix (part_of x) (part_of y) at
-statement_with_parts (Statement-F.Refix x y at) = Statement-F.Refix (part_of x) (part_of y) at
-statement_with_parts (Statement-F.Unfix x at) = Statement-F.Unfix (part_of x) at
-statement_with_parts (Statement-F.Wait name at) = Statement-F.Wait name at
-statement_with_parts (Statement-F.Signal name at) = Statement-F.Signal name at
-
-unfoldable pub statement_layer : Statement → AStatement
-statement_layer x = statement_with_parts (out-Statement x)
-
-statement_parts_made : (x : StatementLayer) → statement_mapped x ≡ statement_with_parts x
-statement_parts_made (Statement-F.LocalVariable name of None) = refl
-statement_parts_made (Statement-F.LocalVariable name of (Some z)) = refl
-statement_parts_made (Statement-F.LocalConstant name of x) = refl
-statement_parts_made (Statement-F.Assign x y) = refl
-statement_parts_made (Statement-F.Invoke x) = refl
-statement_parts_made (Statement-F.Print x at) = refl
-statement_parts_made (Statement-F.If arms None at) = refl
-statement_parts_made (Statement-F.If arms (Some z) at) = refl
-statement_parts_made (Statement-F.Loop b at) = refl
-statement_parts_made (Statement-F.Exit None at) = refl
-statement_parts_made (Statement-F.Exit (Some z) at) = refl
-statement_parts_made (Statement-F.Return at) = refl
-statement_parts_made (Statement-F.Assert x at) = refl
-statement_parts_made (Statement-F.Move x y at) = refl
-statement_parts_made (Statement-F.Fix x y at) = refl
-statement_parts_made (Statement-F.Refix x y at) = refl
-statement_parts_made (Statement-F.Unfix x at) = refl
-statement_parts_made (Statement-F.Wait name at) = refl
-statement_parts_made (Statement-F.Signal name at) = refl
+part_is_step = expression_stepped rolled
 
 pub statement_is_step : (x : Statement) → statement_of x ≡ statement_step (statement_layer x)
-unfolding statement_layer
-statement_is_step x =
-    ap statement_of (sym (roll-out-Statement x))
-    ∙ (statement_rolled (out-Statement x) ∙ ap statement_step (statement_parts_made (out-Statement x)))
-
-layer_of_statement : (x : Statement) (y : StatementLayer) → roll-Statement y ≡ x → statement_layer x ≡ statement_with_parts y
-unfolding statement_layer
-layer_of_statement x y e = ap statement_with_parts (ap out-Statement (sym e) ∙ out-roll-Statement y)
-
-pub local_variable_layer : (name : Name) (of : TypeName) (x : Option Expression) →
-    statement_layer (s.LocalVariable name of x) ≡ Statement-F.LocalVariable name of (option_map part_of x)
-local_variable_layer name of x =
-    layer_of_statement (s.LocalVariable name of x) (Statement-F.LocalVariable name of x) (s.rolls-LocalVariable name of x)
-
-pub local_constant_layer : (name : Name) (of : Option TypeName) (x : Expression) →
-    statement_layer (s.LocalConstant name of x) ≡ Statement-F.LocalConstant name of (part_of x)
-local_constant_layer name of x =
-    layer_of_statement (s.LocalConstant name of x) (Statement-F.LocalConstant name of x) (s.rolls-LocalConstant name of x)
-
-pub assign_layer : (x : Expression) (y : Expression) → statement_layer (s.Assign x y) ≡ Statement-F.Assign (part_of x) (part_of y)
-assign_layer x y = layer_of_statement (s.Assign x y) (Statement-F.Assign x y) (s.rolls-Assign x y)
-
-pub invoke_layer : (x : Expression) → statement_layer (s.Invoke x) ≡ Statement-F.Invoke (part_of x)
-invoke_layer x = layer_of_statement (s.Invoke x) (Statement-F.Invoke x) (s.rolls-Invoke x)
-
-pub print_layer : (x : Expression) (at : Span) → statement_layer (s.Print x at) ≡ Statement-F.Print (part_of x) at
-print_layer x at = layer_of_statement (s.Print x at) (Statement-F.Print x at) (s.rolls-Print x at)
-
-pub if_layer : (arms : List Arm) (other : Option Block) (at : Span) →
-    statement_layer (s.If arms other at) ≡ Statement-F.If (map arm_of arms) (option_map block_of other) at
-if_layer arms other at = layer_of_statement (s.If arms other at) (Statement-F.If arms other at) (s.rolls-If arms other at)
-
-pub loop_layer : (b : Block) (at : Span) → statement_layer (s.Loop b at) ≡ Statement-F.Loop (block_of b) at
-loop_layer b at = layer_of_statement (s.Loop b at) (Statement-F.Loop b at) (s.rolls-Loop b at)
-
-pub exit_layer : (x : Option Expression) (at : Span) → statement_layer (s.Exit x at) ≡ Statement-F.Exit (option_map part_of x) at
-exit_layer x at = layer_of_statement (s.Exit x at) (Statement-F.Exit x at) (s.rolls-Exit x at)
-
-pub return_layer : (at : Span) → statement_layer (s.Return at) ≡ Statement-F.Return at
-return_layer at = layer_of_statement (s.Return at) (Statement-F.Return at) (s.rolls-Return at)
-
-pub assert_layer : (x : Expression) (at : Span) → statement_layer (s.Assert x at) ≡ Statement-F.Assert (part_of x) at
-assert_layer x at = layer_of_statement (s.Assert x at) (Statement-F.Assert x at) (s.rolls-Assert x at)
-
-pub move_layer : (x : Expression) (y : Expression) (at : Span) →
-    statement_layer (s.Move x y at) ≡ Statement-F.Move (part_of x) (part_of y) at
-move_layer x y at = layer_of_statement (s.Move x y at) (Statement-F.Move x y at) (s.rolls-Move x y at)
-
-pub fix_layer : (x : Expression) (y : Expression) (at : Span) →
-    statement_layer (s.Fix x y at) ≡ Statement-F.Fix (part_of x) (part_of y) at
-fix_layer x y at = layer_of_statement (s.Fix x y at) (Statement-F.Fix x y at) (s.rolls-Fix x y at)
-
-pub refix_layer : (x : Expression) (y : Expression) (at : Span) →
-    statement_layer (s.Refix x y at) ≡ Statement-F.Refix (part_of x) (part_of y) at
-refix_layer x y at = layer_of_statement (s.Refix x y at) (Statement-F.Refix x y at) (s.rolls-Refix x y at)
-
-pub unfix_layer : (x : Expression) (at : Span) → statement_layer (s.Unfix x at) ≡ Statement-F.Unfix (part_of x) at
-unfix_layer x at = layer_of_statement (s.Unfix x at) (Statement-F.Unfix x at) (s.rolls-Unfix x at)
-
-pub wait_layer : (name : Name) (at : Span) → statement_layer (s.Wait name at) ≡ Statement-F.Wait name at
-wait_layer name at = layer_of_statement (s.Wait name at) (Statement-F.Wait name at) (s.rolls-Wait name at)
-
-pub signal_layer : (name : Name) (at : Span) → statement_layer (s.Signal name at) ≡ Statement-F.Signal name at
-signal_layer name at = layer_of_statement (s.Signal name at) (Statement-F.Signal name at) (s.rolls-Signal name at)
+statement_is_step = statement_stepped rolled
 
 -- ---- links
 
 pub call_link : (name : Name) (xs : List Expression) → link_of (l.Call name xs) ≡ link_step (Link-F.Call name (map part_of xs))
-call_link name xs = ap link_of (sym (l.rolls-Call name xs)) ∙ link_rolled (Link-F.Call name xs)
+call_link name xs = link_has rolled (l.Call name xs) (Link-F.Call name xs) (l.rolls-Call name xs)
 
 pub index_link : (x : Expression) (at : Span) → link_of (l.Index x at) ≡ link_step (Link-F.Index (part_of x) at)
-index_link x at = ap link_of (sym (l.rolls-Index x at)) ∙ link_rolled (Link-F.Index x at)
+index_link x at = link_has rolled (l.Index x at) (Link-F.Index x at) (l.rolls-Index x at)
 
 -- ---- members
 
 pub variable_member : (is_attached : Bool) (name : Name) (of : TypeName) (x : Option Expression) →
     member_of (m.Variable is_attached name of x)
     ≡ member_step (Member-F.Member::Variable is_attached name of (option_map part_of x))
-variable_member is_attached name of None =
-    ap member_of (sym (m.rolls-Variable is_attached name of None))
-    ∙ member_rolled (Member-F.Member::Variable is_attached name of None)
-variable_member is_attached name of (Some z) =
-    ap member_of (sym (m.rolls-Variable is_attached name of (Some z)))
-    ∙ member_rolled (Member-F.Member::Variable is_attached name of (Some z))
+variable_member is_attached name of x =
+    member_has rolled (m.Variable is_attached name of x) (Member-F.Member::Variable is_attached name of x)
+    (m.rolls-Variable is_attached name of x)
 
 pub constant_member : (is_attached : Bool) (name : Name) (of : Option TypeName) (x : Expression) →
     member_of (m.Constant is_attached name of x) ≡ member_step (Member-F.Constant is_attached name of (part_of x))
 constant_member is_attached name of x =
-    ap member_of (sym (m.rolls-Constant is_attached name of x)) ∙ member_rolled (Member-F.Constant is_attached name of x)
+    member_has rolled (m.Constant is_attached name of x) (Member-F.Constant is_attached name of x)
+    (m.rolls-Constant is_attached name of x)
 
 pub condition_member : (name : Name) → member_of (m.Condition name) ≡ member_step (Member-F.Condition name)
-condition_member name = ap member_of (sym (m.rolls-Condition name)) ∙ member_rolled (Member-F.Condition name)
+condition_member name = member_has rolled (m.Condition name) (Member-F.Condition name) (m.rolls-Condition name)
 
 pub operation_member : (o : Operation) → member_of (m.Operation o) ≡ member_step (Member-F.Operation (operation_of o))
-operation_member o = ap member_of (sym (m.rolls-Operation o)) ∙ member_rolled (Member-F.Operation o)
+operation_member o = member_has rolled (m.Operation o) (Member-F.Operation o) (m.rolls-Operation o)
 
 -- ---- the other parts
 
-pub factor_step_of : (x : Factor) →
-    factor_of x
-    ≡ factor_step (record {
-      operator = (out-Factor x).operator;
-      at = (out-Factor x).at;
-      value = part_of (out-Factor x).value;
-    })
-factor_step_of x = ap factor_of (sym (roll-out-Factor x)) ∙ factor_rolled (out-Factor x)
+pub factor_step_of : (x : Factor) → factor_of x ≡ factor_step (factor_mapped (out-Factor x))
+factor_step_of = factor_stepped rolled
 
-pub addend_step_of : (x : Addend) →
-    addend_of x
-    ≡ addend_step (record {
-      operator = (out-Addend x).operator;
-      at = (out-Addend x).at;
-      value = part_of (out-Addend x).value;
-    })
-addend_step_of x = ap addend_of (sym (roll-out-Addend x)) ∙ addend_rolled (out-Addend x)
+pub addend_step_of : (x : Addend) → addend_of x ≡ addend_step (addend_mapped (out-Addend x))
+addend_step_of = addend_stepped rolled
 
-pub arm_step_of : (x : Arm) →
-    arm_of x
-    ≡ arm_step (record {
-      condition = part_of (out-Arm x).condition;
-      block = block_of (out-Arm x).block;
-    })
-arm_step_of x = ap arm_of (sym (roll-out-Arm x)) ∙ arm_rolled (out-Arm x)
+pub arm_step_of : (x : Arm) → arm_of x ≡ arm_step (arm_mapped (out-Arm x))
+arm_step_of = arm_stepped rolled
 
-pub block_step_of : (x : Block) →
-    block_of x
-    ≡ block_step (record {
-      statements = map statement_of (out-Block x).statements;
-    })
-block_step_of x = ap block_of (sym (roll-out-Block x)) ∙ block_rolled (out-Block x)
+pub block_step_of : (x : Block) → block_of x ≡ block_step (block_mapped (out-Block x))
+block_step_of = block_stepped rolled
 
-pub process_step_of : (x : ProcessSection) →
-    process_of x
-    ≡ process_step (record {
-      block = block_of (out-ProcessSection x).block;
-      at = (out-ProcessSection x).at;
-    })
-process_step_of x = ap process_of (sym (roll-out-ProcessSection x)) ∙ process_rolled (out-ProcessSection x)
+pub process_step_of : (x : ProcessSection) → process_of x ≡ process_step (process_mapped (out-ProcessSection x))
+process_step_of = process_stepped rolled
 
-pub operation_step_of : (x : Operation) →
-    operation_of x
-    ≡ operation_step (record {
-      is_exported = (out-Operation x).is_exported;
-      name = (out-Operation x).name;
-      parameters = (out-Operation x).parameters;
-      result = (out-Operation x).result;
-      block = block_of (out-Operation x).block;
-      end_name = (out-Operation x).end_name;
-    })
-operation_step_of x = ap operation_of (sym (roll-out-Operation x)) ∙ operation_rolled (out-Operation x)
+pub operation_step_of : (x : Operation) → operation_of x ≡ operation_step (operation_mapped (out-Operation x))
+operation_step_of = operation_stepped rolled
 
-pub object_step_of : (x : ObjectConstructor) →
-    object_of x
-    ≡ object_step (record {
-      at = (out-ObjectConstructor x).at;
-      is_monitored = (out-ObjectConstructor x).is_monitored;
-      name = (out-ObjectConstructor x).name;
-      body = body_of (out-ObjectConstructor x).body;
-      end_name = (out-ObjectConstructor x).end_name;
-    })
-object_step_of x = ap object_of (sym (roll-out-ObjectConstructor x)) ∙ object_rolled (out-ObjectConstructor x)
+pub object_step_of : (x : ObjectConstructor) → object_of x ≡ object_step (object_mapped (out-ObjectConstructor x))
+object_step_of = object_stepped rolled
 
-body_from : (ms : List Member) (i : Option Block) (p : Option ProcessSection) →
-    body_of (roll-Body (record { members = ms; initially = i; process = p }))
-    ≡ body_step (record { members = map member_of ms; initially = option_map block_of i; process = option_map process_of p })
-body_from ms None None = body_rolled (record { members = ms; initially = None; process = None })
-body_from ms None (Some z) = body_rolled (record { members = ms; initially = None; process = Some z })
-body_from ms (Some b) None = body_rolled (record { members = ms; initially = Some b; process = None })
-body_from ms (Some b) (Some z) = body_rolled (record { members = ms; initially = Some b; process = Some z })
-
-pub body_step_of : (x : Body) →
-    body_of x
-    ≡ body_step (record {
-      members = map member_of (out-Body x).members;
-      initially = option_map block_of (out-Body x).initially;
-      process = option_map process_of (out-Body x).process;
-    })
-body_step_of x = ap body_of (sym (roll-out-Body x)) ∙ body_from (out-Body x).members (out-Body x).initially (out-Body x).process
+pub body_step_of : (x : Body) → body_of x ≡ body_step (body_with parts (out-Body x))
+body_step_of = body_stepped rolled

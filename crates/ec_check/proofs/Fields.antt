@@ -9,7 +9,7 @@ use Rattle.ec_check.specs.Places.{Env}
 use Rattle.ec_check.specs.Resolving.{core_of_expression, expression_made, core_of_statement, statement_made, locals_of}
 use Rattle.ec_check.specs.Resolving.{statements_core, statements_made, locals_of_statements}
 use Rattle.ec_check.specs.Tree.{part_of, statement_of, block_of, expression_step, statement_step, block_step}
-use Rattle.ec_check.specs.Typing.{expression_within, statement_within, statements_within}
+use Rattle.ec_check.specs.Typing.{expression_within}
 use Rattle.ec_core.specs.declared.Block.{roll-Block}
 use Rattle.ec_scopes.specs.declared.scope.Scope.{Scope}
 
@@ -37,16 +37,6 @@ statement_locals x scope = ap (λ (p : StatementPart). p.locals scope) (statemen
 pub within_part : (x : Expression) (scope : Scope) → (part_of x).within scope ≡ expression_within (layer_of x) scope
 unfolding expression_step
 within_part x scope = ap (λ (p : Part). p.within scope) (part_is_step x)
-
-pub within_statement : (x : Statement) (scope : Scope) →
-    (statement_of x).within scope ≡ statement_within (statement_layer x) scope
-unfolding statement_step
-within_statement x scope = ap (λ (p : StatementPart). p.within scope) (statement_is_step x)
-
-pub within_block : (b : Block) (scope : Scope) →
-    (block_of b).within scope ≡ statements_within (map statement_of (out-Block b).statements) scope
-unfolding block_step
-within_block b scope = ap (λ (p : Piece). p.within scope) (block_step_of b)
 
 pub block_core : (b : Block) (env : Env) →
     (block_of b).core env

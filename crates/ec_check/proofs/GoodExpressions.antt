@@ -6,8 +6,6 @@ use Rattle.ec_places.proofs.DeclaredRolled.{expression_declared, expression_decl
 use Rattle.ec_check.proofs.DeclaringParts.{SoundTypes, both_sound, NothingInName, DeclaringPart, DeclaringLink, DeclaringFactor, DeclaringAddend}
 use Rattle.ec_check.proofs.DeclaringParts.{EveryPair, parts_declare, values_declare, postfix_declares}
 use Rattle.ec_check.proofs.Every.{Every, none_left, none_right, either}
-use Rattle.ec_check.proofs.GoodParts.{ExpressionWith, bare_expression_layer, IsGoodPart, IsGoodLink, IsGoodFactor, IsGoodAddend}
-use Rattle.ec_check.proofs.GoodParts.{PartHeld, LinkHeld, FactorHeld, AddendHeld, bare_part, bare_link, bare_factor, bare_addend}
 use Rattle.ec_check.proofs.Rolled.{expression_mapped, part_rolled}
 use Rattle.ec_check.proofs.SoundExpressions.{SoundParts, expression_is_sound}
 use Rattle.ec_check.proofs.SoundParts.{SoundPart, SoundLink, SoundFactor, SoundAddend}
@@ -15,13 +13,15 @@ use Rattle.ec_check.specs.Layers.{expression_judged}
 use Rattle.ec_check.specs.Parts.{link_judged, factor_judged, addend_judged}
 use Rattle.ec_check.specs.Tree.{expression_step, part_of, link_of, factor_of, addend_of}
 use Rattle.ec_conform.specs.Declarations as conform
-use Rattle.ec_conform.specs.Declarations.{both, joined, in_expression, in_link, in_factor, in_addend}
+use Rattle.ec_conform.specs.Declarations.{joined, in_expression, in_link, in_factor, in_addend}
 use Rattle.ec_conform.specs.declared.declared.Declarations.{Declarations}
 use Rattle.ec_rules.specs.Calls.{is_word}
 use Rattle.ec_rules.specs.Forms.{Form, Literal, Created, NameAlone, Other}
 use Rattle.ec_rules.specs.Judging.{expression_part, form_in_parentheses, form_negated, form_of_chain, form_of, faults_of}
 use Rattle.ec_rules.specs.Parts as judged
 use Rattle.ec_scopes.specs.declared.scope.Scope.{Scope}
+use Rattle.ec_check.proofs.GoodParts.{IsGoodPart, IsGoodLink, IsGoodAddend, IsGoodFactor, good}
+use Rattle.ec_tree_folds.proofs.Claims.{Held, trees, ExpressionWith, bare_expression}
 
 -- ---- lists of good parts
 
@@ -36,35 +36,35 @@ pub each_pair : {A B D : Type 0} (f : A → B) (g : A → D) (Q : A → Type 0) 
 each_pair f g Q R w [] = tt
 each_pair f g Q R w (x ∷ xs) = (w x.0 x.1, each_pair f g Q R w xs)
 
-pub sound_parts : (xs : List PartHeld) → Every SoundPart (map part_of (map bare_part xs))
+pub sound_parts : (xs : List (Held IsGoodPart)) → Every SoundPart (map part_of (trees xs))
 sound_parts = each_good part_of IsGoodPart SoundPart (λ x q. q.0)
 
-pub pairs : (xs : List PartHeld) → EveryPair DeclaringPart (map part_of (map bare_part xs)) (map in_expression (map bare_part xs))
+pub pairs : (xs : List (Held IsGoodPart)) → EveryPair DeclaringPart (map part_of (trees xs)) (map in_expression (trees xs))
 pairs = each_pair part_of in_expression IsGoodPart DeclaringPart (λ x q. q.1)
 
-sound_links : (xs : List LinkHeld) → Every SoundLink (map link_of (map bare_link xs))
+sound_links : (xs : List (Held IsGoodLink)) → Every SoundLink (map link_of (trees xs))
 sound_links = each_good link_of IsGoodLink SoundLink (λ x q. q.0)
 
-link_pairs : (xs : List LinkHeld) → EveryPair DeclaringLink (map link_of (map bare_link xs)) (map in_link (map bare_link xs))
+link_pairs : (xs : List (Held IsGoodLink)) → EveryPair DeclaringLink (map link_of (trees xs)) (map in_link (trees xs))
 link_pairs = each_pair link_of in_link IsGoodLink DeclaringLink (λ x q. q.1)
 
-sound_factors : (xs : List FactorHeld) → Every SoundFactor (map factor_of (map bare_factor xs))
+sound_factors : (xs : List (Held IsGoodFactor)) → Every SoundFactor (map factor_of (trees xs))
 sound_factors = each_good factor_of IsGoodFactor SoundFactor (λ x q. q.0)
 
-factor_pairs : (xs : List FactorHeld) →
-    EveryPair DeclaringFactor (map factor_of (map bare_factor xs)) (map in_factor (map bare_factor xs))
+factor_pairs : (xs : List (Held IsGoodFactor)) →
+    EveryPair DeclaringFactor (map factor_of (trees xs)) (map in_factor (trees xs))
 factor_pairs = each_pair factor_of in_factor IsGoodFactor DeclaringFactor (λ x q. q.1)
 
-sound_addends : (xs : List AddendHeld) → Every SoundAddend (map addend_of (map bare_addend xs))
+sound_addends : (xs : List (Held IsGoodAddend)) → Every SoundAddend (map addend_of (trees xs))
 sound_addends = each_good addend_of IsGoodAddend SoundAddend (λ x q. q.0)
 
-addend_pairs : (xs : List AddendHeld) →
-    EveryPair DeclaringAddend (map addend_of (map bare_addend xs)) (map in_addend (map bare_addend xs))
+addend_pairs : (xs : List (Held IsGoodAddend)) →
+    EveryPair DeclaringAddend (map addend_of (trees xs)) (map in_addend (trees xs))
 addend_pairs = each_pair addend_of in_addend IsGoodAddend DeclaringAddend (λ x q. q.1)
 
 -- ---- the types within
 
-parts_are_sound : (y : ExpressionWith) → SoundParts (expression_mapped (bare_expression_layer y))
+parts_are_sound : (y : ExpressionWith good) → SoundParts (expression_mapped (bare_expression good y))
 parts_are_sound (Expression-F.Number n) = tt
 parts_are_sound (Expression-F.Literal t) = tt
 parts_are_sound (Expression-F.Truth b at) = tt
@@ -89,8 +89,8 @@ parts_are_sound (Expression-F.Or x more) = (x.1.0, sound_parts more)
 
 -- ---- what a name alone declares
 
-abbrev declared : ExpressionWith → Declarations
-declared y = conform.expression_step (expression_declared (bare_expression_layer y))
+abbrev declared : ExpressionWith good → Declarations
+declared y = conform.expression_step (expression_declared (bare_expression good y))
 
 name_within : (form : Form) (d : Declarations) → NothingInName (form_in_parentheses form) d
 name_within (NameAlone name) d = tt
@@ -105,8 +105,8 @@ name_of_chain (NameAlone name) (judged.call word arguments ∷ []) d =
     either (λ form. NothingInName form d) (is_word word (codes "create")) (Created name) Other tt tt
 name_of_chain form links d = tt
 
-name_declares : (y : ExpressionWith) →
-    NothingInName (form_of (expression_judged (expression_mapped (bare_expression_layer y)))) (declared y)
+name_declares : (y : ExpressionWith good) →
+    NothingInName (form_of (expression_judged (expression_mapped (bare_expression good y)))) (declared y)
 name_declares (Expression-F.Number n) = tt
 name_declares (Expression-F.Literal t) = tt
 name_declares (Expression-F.Truth b at) = tt
@@ -119,7 +119,7 @@ name_declares (Expression-F.NodeAt x at word) = tt
 name_declares (Expression-F.NodeCount at) = tt
 name_declares (Expression-F.NewVector of x at word) = tt
 name_declares (Expression-F.Postfix x links) =
-    name_of_chain (part_of x.0).part.form (map link_judged (map link_of (map bare_link links)))
+    name_of_chain (part_of x.0).part.form (map link_judged (map link_of (trees links)))
     (declared (Expression-F.Postfix x links))
 name_declares (Expression-F.Negative x at) = name_negated (part_of x.0).part.form (in_expression x.0)
 name_declares (Expression-F.View x of at) = tt
@@ -133,8 +133,8 @@ name_declares (Expression-F.Or x more) = tt
 
 -- ---- what is declared
 
-layer_declares : (y : ExpressionWith) (needed : Bool) (scope : Scope) →
-    faults_of needed scope (expression_judged (expression_mapped (bare_expression_layer y))) ≡ [] →
+layer_declares : (y : ExpressionWith good) (needed : Bool) (scope : Scope) →
+    faults_of needed scope (expression_judged (expression_mapped (bare_expression good y))) ≡ [] →
     SoundTypes scope.table (declared y)
 layer_declares (Expression-F.Number n) needed scope e = tt
 layer_declares (Expression-F.Literal t) needed scope e = tt
@@ -148,46 +148,46 @@ layer_declares (Expression-F.NodeAt x at word) needed scope e = x.1.1.declares t
 layer_declares (Expression-F.NodeCount at) needed scope e = tt
 layer_declares (Expression-F.NewVector of x at word) needed scope e = x.1.1.declares true scope (none_left _ _ (none_left _ _ e))
 layer_declares (Expression-F.Postfix x links) needed scope e =
-    postfix_declares needed scope (part_of x.0) (map link_of (map bare_link links)) (in_expression x.0)
-    (map in_link (map bare_link links)) x.1.1 (link_pairs links) e
+    postfix_declares needed scope (part_of x.0) (map link_of (trees links)) (in_expression x.0)
+    (map in_link (trees links)) x.1.1 (link_pairs links) e
 layer_declares (Expression-F.Negative x at) needed scope e = x.1.1.declares true scope (none_left _ _ (none_left _ _ e))
 layer_declares (Expression-F.View x of at) needed scope e = x.1.1.declares true scope (none_left _ _ (none_left _ _ e))
 layer_declares (Expression-F.IsFixed x at) needed scope e = x.1.1.declares true scope (none_left _ _ (none_left _ _ e))
 layer_declares (Expression-F.Term x more) needed scope e =
-    both_sound scope.table (in_expression x.0) (joined (map in_factor (map bare_factor more)))
+    both_sound scope.table (in_expression x.0) (joined (map in_factor (trees more)))
     (x.1.1.declares true scope (none_left _ _ (none_left _ _ e)))
-    (values_declare factor_judged (λ f. f.value) (λ f. f.value) (λ f. refl) scope (map factor_of (map bare_factor more))
-    (map in_factor (map bare_factor more)) (factor_pairs more) (none_right _ _ (none_left _ _ e)))
+    (values_declare factor_judged (λ f. f.value) (λ f. f.value) (λ f. refl) scope (map factor_of (trees more))
+    (map in_factor (trees more)) (factor_pairs more) (none_right _ _ (none_left _ _ e)))
 layer_declares (Expression-F.Sum x more) needed scope e =
-    both_sound scope.table (in_expression x.0) (joined (map in_addend (map bare_addend more)))
+    both_sound scope.table (in_expression x.0) (joined (map in_addend (trees more)))
     (x.1.1.declares true scope (none_left _ _ (none_left _ _ e)))
-    (values_declare addend_judged (λ a. a.value) (λ a. a.value) (λ a. refl) scope (map addend_of (map bare_addend more))
-    (map in_addend (map bare_addend more)) (addend_pairs more) (none_right _ _ (none_left _ _ e)))
+    (values_declare addend_judged (λ a. a.value) (λ a. a.value) (λ a. refl) scope (map addend_of (trees more))
+    (map in_addend (trees more)) (addend_pairs more) (none_right _ _ (none_left _ _ e)))
 layer_declares (Expression-F.Compare x op at y) needed scope e =
     both_sound scope.table (in_expression x.0) (in_expression y.0) (x.1.1.declares true scope (none_left _ _ (none_left _ _ e)))
     (y.1.1.declares true scope (none_left _ _ (none_right _ _ (none_left _ _ e))))
 layer_declares (Expression-F.Not x at) needed scope e = x.1.1.declares true scope (none_left _ _ (none_left _ _ e))
 layer_declares (Expression-F.And x more) needed scope e =
-    parts_declare scope (part_of x.0 ∷ map part_of (map bare_part more))
-    (in_expression x.0 ∷ map in_expression (map bare_part more)) (x.1.1, pairs more) (none_left _ _ e)
+    parts_declare scope (part_of x.0 ∷ map part_of (trees more))
+    (in_expression x.0 ∷ map in_expression (trees more)) (x.1.1, pairs more) (none_left _ _ e)
 layer_declares (Expression-F.Or x more) needed scope e =
-    parts_declare scope (part_of x.0 ∷ map part_of (map bare_part more))
-    (in_expression x.0 ∷ map in_expression (map bare_part more)) (x.1.1, pairs more) (none_left _ _ e)
+    parts_declare scope (part_of x.0 ∷ map part_of (trees more))
+    (in_expression x.0 ∷ map in_expression (trees more)) (x.1.1, pairs more) (none_left _ _ e)
 
-layer_is_declaring : (y : ExpressionWith) →
-    DeclaringPart (expression_step (expression_mapped (bare_expression_layer y))) (declared y)
+layer_is_declaring : (y : ExpressionWith good) →
+    DeclaringPart (expression_step (expression_mapped (bare_expression good y))) (declared y)
 unfolding expression_step expression_part
 layer_is_declaring y = record {
   name = name_declares y;
   declares = λ needed scope e. layer_declares y needed scope e;
 }
 
-pub part_at : (y : ExpressionWith) → IsGoodPart (roll-Expression (bare_expression_layer y))
+pub part_at : (y : ExpressionWith good) → IsGoodPart (roll-Expression (bare_expression good y))
 part_at y = (
-  subst SoundPart (sym (part_rolled (bare_expression_layer y)))
-      (expression_is_sound (expression_mapped (bare_expression_layer y)) (parts_are_sound y)),
-  subst (λ p. DeclaringPart p (in_expression (roll-Expression (bare_expression_layer y))))
-      (sym (part_rolled (bare_expression_layer y)))
-      (subst (DeclaringPart (expression_step (expression_mapped (bare_expression_layer y))))
-      (sym (expression_declares (bare_expression_layer y))) (layer_is_declaring y)),
+  subst SoundPart (sym (part_rolled (bare_expression good y)))
+      (expression_is_sound (expression_mapped (bare_expression good y)) (parts_are_sound y)),
+  subst (λ p. DeclaringPart p (in_expression (roll-Expression (bare_expression good y))))
+      (sym (part_rolled (bare_expression good y)))
+      (subst (DeclaringPart (expression_step (expression_mapped (bare_expression good y))))
+      (sym (expression_declares (bare_expression good y))) (layer_is_declaring y)),
 )

@@ -8,8 +8,6 @@ use Rattle.ec_places.proofs.DeclaredRolled.{statement_declared, statement_declar
 use Rattle.ec_check.proofs.DeclaringParts.{SoundTypes, both_sound, DeclaringStatement, DeclaringArm, DeclaringPiece, EveryPair, joined_sound}
 use Rattle.ec_check.proofs.Every.{Every, every_left, every_right, every_unmap, none_left, none_right, none_each}
 use Rattle.ec_check.proofs.GoodExpressions.{each_good, each_pair}
-use Rattle.ec_check.proofs.GoodParts.{StatementWith, bare_statement_layer, ArmWith, bare_arm_layer, BlockWith, bare_block_layer}
-use Rattle.ec_check.proofs.GoodParts.{IsGoodStatement, IsGoodArm, IsGoodBlock, ArmHeld, bare_arm, bare_statement}
 use Rattle.ec_check.proofs.Rolled.{statement_mapped, statement_rolled, arm_mapped, arm_rolled, block_mapped, block_rolled}
 use Rattle.ec_check.proofs.SoundParts.{SoundStatement, SoundArm, SoundPiece}
 use Rattle.ec_check.proofs.SoundStatements.{SoundParts, statement_is_sound, block_is_sound}
@@ -17,20 +15,22 @@ use Rattle.ec_check.specs.Layers.{statement_judged}
 use Rattle.ec_check.specs.Parts.{StatementPart, arm_judged}
 use Rattle.ec_check.specs.Tree.{statement_step, arm_step, block_step, statement_of, arm_of, block_of}
 use Rattle.ec_conform.specs.Declarations as conform
-use Rattle.ec_conform.specs.Declarations.{joined, if_there, nothing, in_expression, in_statement, in_arm, in_block}
+use Rattle.ec_conform.specs.Declarations.{joined, nothing, in_expression, in_statement, in_arm, in_block}
 use Rattle.ec_conform.specs.declared.declared.Declarations.{Declarations}
 use Rattle.ec_rules.specs.Judging.{statement_part, statement_finished, block_finished}
 use Rattle.ec_rules.specs.Parts as judged
 use Rattle.ec_rules.specs.Statements.{piece_of_arm}
 use Rattle.ec_scopes.specs.declared.scope.Scope.{Scope}
 use Rattle.ec_scopes.specs.Scopes.{declaring, in_a_loop}
+use Rattle.ec_check.proofs.GoodParts.{IsGoodStatement, IsGoodArm, IsGoodBlock, good}
+use Rattle.ec_tree_folds.proofs.Claims.{Held, trees, StatementWith, ArmWith, BlockWith, bare_statement, bare_arm, bare_block}
 
 -- ---- the types within
 
-sound_arms : (xs : List ArmHeld) → Every SoundArm (map arm_of (map bare_arm xs))
+sound_arms : (xs : List (Held IsGoodArm)) → Every SoundArm (map arm_of (trees xs))
 sound_arms = each_good arm_of IsGoodArm SoundArm (λ x q. q.0)
 
-parts_are_sound : (y : StatementWith) → SoundParts (statement_mapped (bare_statement_layer y))
+parts_are_sound : (y : StatementWith good) → SoundParts (statement_mapped (bare_statement good y))
 parts_are_sound (Statement-F.LocalVariable name of None) = tt
 parts_are_sound (Statement-F.LocalVariable name of (Some x)) = x.1.0
 parts_are_sound (Statement-F.LocalConstant name of x) = x.1.0
@@ -53,22 +53,22 @@ parts_are_sound (Statement-F.Signal name at) = tt
 
 -- ---- what is declared
 
-arm_pairs : (xs : List ArmHeld) → EveryPair DeclaringArm (map arm_of (map bare_arm xs)) (map in_arm (map bare_arm xs))
+arm_pairs : (xs : List (Held IsGoodArm)) → EveryPair DeclaringArm (map arm_of (trees xs)) (map in_arm (trees xs))
 arm_pairs = each_pair arm_of in_arm IsGoodArm DeclaringArm (λ x q. q.1)
 
-arms_declare : (scope : Scope) (xs : List ArmHeld) →
-    Every (λ (piece : judged.Piece). (piece scope).faults ≡ []) (map piece_of_arm (map arm_judged (map arm_of (map bare_arm xs)))) →
-    SoundTypes scope.table (joined (map in_arm (map bare_arm xs)))
+arms_declare : (scope : Scope) (xs : List (Held IsGoodArm)) →
+    Every (λ (piece : judged.Piece). (piece scope).faults ≡ []) (map piece_of_arm (map arm_judged (map arm_of (trees xs)))) →
+    SoundTypes scope.table (joined (map in_arm (trees xs)))
 arms_declare scope xs e =
     joined_sound DeclaringArm scope.table (λ a. (piece_of_arm (arm_judged a) scope).faults ≡ []) (λ a d k f. k scope f)
-    (map arm_of (map bare_arm xs)) (map in_arm (map bare_arm xs)) (arm_pairs xs)
-    (every_unmap (λ a. (piece_of_arm a scope).faults ≡ []) arm_judged (map arm_of (map bare_arm xs))
+    (map arm_of (trees xs)) (map in_arm (trees xs)) (arm_pairs xs)
+    (every_unmap (λ a. (piece_of_arm a scope).faults ≡ []) arm_judged (map arm_of (trees xs))
     (every_unmap (λ (piece : judged.Piece). (piece scope).faults ≡ []) piece_of_arm
-    (map arm_judged (map arm_of (map bare_arm xs))) e))
+    (map arm_judged (map arm_of (trees xs))) e))
 
-layer_declares : (y : StatementWith) (scope : Scope) →
-    (statement_finished (statement_judged (statement_mapped (bare_statement_layer y))) scope).faults ≡ [] →
-    SoundTypes scope.table (conform.statement_step (statement_declared (bare_statement_layer y)))
+layer_declares : (y : StatementWith good) (scope : Scope) →
+    (statement_finished (statement_judged (statement_mapped (bare_statement good y))) scope).faults ≡ [] →
+    SoundTypes scope.table (conform.statement_step (statement_declared (bare_statement good y)))
 layer_declares (Statement-F.LocalVariable name of None) scope e = tt
 layer_declares (Statement-F.LocalVariable name of (Some x)) scope e =
     x.1.1.declares true scope (none_left _ _ (none_left _ _ e))
@@ -79,24 +79,24 @@ layer_declares (Statement-F.Assign x y) scope e =
 layer_declares (Statement-F.Invoke x) scope e = x.1.1.declares false scope (none_left _ _ (none_left _ _ e))
 layer_declares (Statement-F.Print x at) scope e = x.1.1.declares true scope (none_left _ _ (none_left _ _ e))
 layer_declares (Statement-F.If arms None at) scope e =
-    both_sound scope.table (joined (map in_arm (map bare_arm arms))) nothing
+    both_sound scope.table (joined (map in_arm (trees arms))) nothing
     (arms_declare scope arms
     (every_left (λ (piece : judged.Piece). (piece scope).faults ≡ [])
-    (map piece_of_arm (map arm_judged (map arm_of (map bare_arm arms)))) []
+    (map piece_of_arm (map arm_judged (map arm_of (trees arms)))) []
     (none_each (λ (piece : judged.Piece). (piece scope).faults)
-    (map piece_of_arm (map arm_judged (map arm_of (map bare_arm arms))) ++ []) (none_left _ _ e)))) tt
+    (map piece_of_arm (map arm_judged (map arm_of (trees arms))) ++ []) (none_left _ _ e)))) tt
 layer_declares (Statement-F.If arms (Some b) at) scope e =
     let pieces : Every (λ (piece : judged.Piece). (piece scope).faults ≡ [])
-    (map piece_of_arm (map arm_judged (map arm_of (map bare_arm arms))) ++ (block_of b.0).piece ∷ []) =
+    (map piece_of_arm (map arm_judged (map arm_of (trees arms))) ++ (block_of b.0).piece ∷ []) =
     none_each (λ (piece : judged.Piece). (piece scope).faults)
-    (map piece_of_arm (map arm_judged (map arm_of (map bare_arm arms))) ++ (block_of b.0).piece ∷ []) (none_left _ _ e) in
-    both_sound scope.table (joined (map in_arm (map bare_arm arms))) (in_block b.0)
+    (map piece_of_arm (map arm_judged (map arm_of (trees arms))) ++ (block_of b.0).piece ∷ []) (none_left _ _ e) in
+    both_sound scope.table (joined (map in_arm (trees arms))) (in_block b.0)
     (arms_declare scope arms
     (every_left (λ (piece : judged.Piece). (piece scope).faults ≡ [])
-    (map piece_of_arm (map arm_judged (map arm_of (map bare_arm arms)))) ((block_of b.0).piece ∷ []) pieces))
+    (map piece_of_arm (map arm_judged (map arm_of (trees arms)))) ((block_of b.0).piece ∷ []) pieces))
     (b.1.1 scope
     (every_right (λ (piece : judged.Piece). (piece scope).faults ≡ [])
-    (map piece_of_arm (map arm_judged (map arm_of (map bare_arm arms)))) ((block_of b.0).piece ∷ []) pieces).0)
+    (map piece_of_arm (map arm_judged (map arm_of (trees arms)))) ((block_of b.0).piece ∷ []) pieces).0)
 layer_declares (Statement-F.Loop b at) scope e = b.1.1 (in_a_loop scope) (none_left _ _ (none_left _ _ e))
 layer_declares (Statement-F.Exit None at) scope e = tt
 layer_declares (Statement-F.Exit (Some x) at) scope e = x.1.1.declares true scope (none_left _ _ (none_left _ _ e))
@@ -115,38 +115,38 @@ layer_declares (Statement-F.Unfix x at) scope e = x.1.1.declares true scope (non
 layer_declares (Statement-F.Wait name at) scope e = tt
 layer_declares (Statement-F.Signal name at) scope e = tt
 
-layer_is_declaring : (y : StatementWith) →
-    DeclaringStatement (statement_step (statement_mapped (bare_statement_layer y)))
-    (conform.statement_step (statement_declared (bare_statement_layer y)))
+layer_is_declaring : (y : StatementWith good) →
+    DeclaringStatement (statement_step (statement_mapped (bare_statement good y)))
+    (conform.statement_step (statement_declared (bare_statement good y)))
 unfolding statement_step statement_part
 layer_is_declaring y = λ scope e. layer_declares y scope e
 
-pub statement_at : (y : StatementWith) → IsGoodStatement (roll-Statement (bare_statement_layer y))
+pub statement_at : (y : StatementWith good) → IsGoodStatement (roll-Statement (bare_statement good y))
 statement_at y = (
-  subst SoundStatement (sym (statement_rolled (bare_statement_layer y)))
-      (statement_is_sound (statement_mapped (bare_statement_layer y)) (parts_are_sound y)),
-  subst (λ x. DeclaringStatement x (in_statement (roll-Statement (bare_statement_layer y))))
-      (sym (statement_rolled (bare_statement_layer y)))
-      (subst (DeclaringStatement (statement_step (statement_mapped (bare_statement_layer y))))
-      (sym (statement_declares (bare_statement_layer y))) (layer_is_declaring y)),
+  subst SoundStatement (sym (statement_rolled (bare_statement good y)))
+      (statement_is_sound (statement_mapped (bare_statement good y)) (parts_are_sound y)),
+  subst (λ x. DeclaringStatement x (in_statement (roll-Statement (bare_statement good y))))
+      (sym (statement_rolled (bare_statement good y)))
+      (subst (DeclaringStatement (statement_step (statement_mapped (bare_statement good y))))
+      (sym (statement_declares (bare_statement good y))) (layer_is_declaring y)),
 )
 
 -- ---- arms
 
-arm_is_sound : (y : ArmWith) → SoundArm (arm_step (arm_mapped (bare_arm_layer y)))
+arm_is_sound : (y : ArmWith good) → SoundArm (arm_step (arm_mapped (bare_arm good y)))
 arm_is_sound y = (y.condition.1.0, y.block.1.0)
 
-arm_is_declaring : (y : ArmWith) →
-    DeclaringArm (arm_step (arm_mapped (bare_arm_layer y))) (conform.arm_step (arm_declared (bare_arm_layer y)))
+arm_is_declaring : (y : ArmWith good) →
+    DeclaringArm (arm_step (arm_mapped (bare_arm good y))) (conform.arm_step (arm_declared (bare_arm good y)))
 arm_is_declaring y = λ scope e.
     both_sound scope.table (in_expression y.condition.0) (in_block y.block.0)
     (y.condition.1.1.declares true scope (none_left _ _ e)) (y.block.1.1 scope (none_right _ _ (none_right _ _ e)))
 
-pub arm_at : (y : ArmWith) → IsGoodArm (roll-Arm (bare_arm_layer y))
+pub arm_at : (y : ArmWith good) → IsGoodArm (roll-Arm (bare_arm good y))
 arm_at y = (
-  subst SoundArm (sym (arm_rolled (bare_arm_layer y))) (arm_is_sound y),
-  subst (λ x. DeclaringArm x (in_arm (roll-Arm (bare_arm_layer y)))) (sym (arm_rolled (bare_arm_layer y)))
-      (subst (DeclaringArm (arm_step (arm_mapped (bare_arm_layer y)))) (sym (arm_declares (bare_arm_layer y)))
+  subst SoundArm (sym (arm_rolled (bare_arm good y))) (arm_is_sound y),
+  subst (λ x. DeclaringArm x (in_arm (roll-Arm (bare_arm good y)))) (sym (arm_rolled (bare_arm good y)))
+      (subst (DeclaringArm (arm_step (arm_mapped (bare_arm good y)))) (sym (arm_declares (bare_arm good y)))
       (arm_is_declaring y)),
 )
 
@@ -161,19 +161,19 @@ statements_declare (x ∷ xs) (d ∷ ds) h scope e =
     both_sound scope.table d (joined ds) (h.0 scope (none_left _ _ e))
     (statements_declare xs ds h.1 (declaring (x.part.declares scope) scope) (none_right _ _ e))
 
-block_is_declaring : (y : BlockWith) →
-    DeclaringPiece (block_step (block_mapped (bare_block_layer y))) (conform.block_step (block_declared (bare_block_layer y)))
+block_is_declaring : (y : BlockWith good) →
+    DeclaringPiece (block_step (block_mapped (bare_block good y))) (conform.block_step (block_declared (bare_block good y)))
 unfolding block_step
 block_is_declaring y = λ scope e.
-    statements_declare (map statement_of (map bare_statement y.statements)) (map in_statement (map bare_statement y.statements))
+    statements_declare (map statement_of (trees y.statements)) (map in_statement (trees y.statements))
     (each_pair statement_of in_statement IsGoodStatement DeclaringStatement (λ x q. q.1) y.statements) scope e
 
-pub block_at : (y : BlockWith) → IsGoodBlock (roll-Block (bare_block_layer y))
+pub block_at : (y : BlockWith good) → IsGoodBlock (roll-Block (bare_block good y))
 block_at y = (
-  subst SoundPiece (sym (block_rolled (bare_block_layer y)))
-      (block_is_sound (block_mapped (bare_block_layer y))
+  subst SoundPiece (sym (block_rolled (bare_block good y)))
+      (block_is_sound (block_mapped (bare_block good y))
       (each_good statement_of IsGoodStatement SoundStatement (λ x q. q.0) y.statements)),
-  subst (λ x. DeclaringPiece x (in_block (roll-Block (bare_block_layer y)))) (sym (block_rolled (bare_block_layer y)))
-      (subst (DeclaringPiece (block_step (block_mapped (bare_block_layer y)))) (sym (block_declares (bare_block_layer y)))
+  subst (λ x. DeclaringPiece x (in_block (roll-Block (bare_block good y)))) (sym (block_rolled (bare_block good y)))
+      (subst (DeclaringPiece (block_step (block_mapped (bare_block good y)))) (sym (block_declares (bare_block good y)))
       (block_is_declaring y)),
 )

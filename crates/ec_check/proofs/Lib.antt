@@ -24,7 +24,6 @@ pub mod GoodStatements
 pub mod GoodTrees
 pub mod Headings
 pub mod HolderBodies
-pub mod Judged
 pub mod KnownTypes
 pub mod Links
 pub mod NumberedHeld
@@ -47,7 +46,6 @@ pub mod RangedStatements
 pub mod RangedTrees
 pub mod ReachedNames
 pub mod Rolled
-pub mod SameLayers
 pub mod SoundExpressions
 pub mod SoundForms
 pub mod SoundHolders

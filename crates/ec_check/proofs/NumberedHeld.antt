@@ -1,27 +1,24 @@
--- Parts of the tree, each with the proof that its classes have the numbers and the operations of the types that it declares.
-use Rattle.ec_ast.specs.declared.Expression.{Expression, map-Expression}
-use Rattle.ec_ast.specs.declared.Link.{Link, map-Link}
-use Rattle.ec_ast.specs.declared.Member.{Member, map-Member}
-use Rattle.ec_ast.specs.declared.Statement.{Statement, map-Statement}
-use Rattle.ec_ast.specs.declared.Addend.{Addend, map-Addend}
-use Rattle.ec_ast.specs.declared.Arm.{Arm, map-Arm}
-use Rattle.ec_ast.specs.declared.Block.{Block, map-Block}
-use Rattle.ec_ast.specs.declared.Body.{Body, map-Body}
-use Rattle.ec_ast.specs.declared.Factor.{Factor, map-Factor}
-use Rattle.ec_ast.specs.declared.ObjectConstructor.{ObjectConstructor, map-ObjectConstructor}
-use Rattle.ec_ast.specs.declared.Operation.{Operation, map-Operation}
-use Rattle.ec_ast.specs.declared.ProcessSection.{ProcessSection, map-ProcessSection}
-use Rattle.ec_ast.specs.declared.Expression.TheOpen.{Expression-F, Link-F, Member-F, Statement-F, Addend-F, Arm-F, Block-F}
-use Rattle.ec_ast.specs.declared.Expression.TheOpen.{Body-F, Factor-F, ObjectConstructor-F, Operation-F, ProcessSection-F}
+-- What is claimed of each part of the tree: its classes have the numbers and the operations of the types that it declares.
+use Rattle.ec_ast.specs.declared.Expression.{Expression}
+use Rattle.ec_ast.specs.declared.Link.{Link}
+use Rattle.ec_ast.specs.declared.Member.{Member}
+use Rattle.ec_ast.specs.declared.Statement.{Statement}
+use Rattle.ec_ast.specs.declared.Addend.{Addend}
+use Rattle.ec_ast.specs.declared.Arm.{Arm}
+use Rattle.ec_ast.specs.declared.Block.{Block}
+use Rattle.ec_ast.specs.declared.Body.{Body}
+use Rattle.ec_ast.specs.declared.Factor.{Factor}
+use Rattle.ec_ast.specs.declared.ObjectConstructor.{ObjectConstructor}
+use Rattle.ec_ast.specs.declared.Operation.{Operation}
+use Rattle.ec_ast.specs.declared.ProcessSection.{ProcessSection}
 use Rattle.ec_places.proofs.DeclaredRolled.{in_operation}
 use Rattle.ec_check.proofs.NumberedKinds.{NumberedPart, NumberedLink, NumberedMember, NumberedStatement, NumberedAddend, NumberedArm}
 use Rattle.ec_check.proofs.NumberedKinds.{NumberedPiece, NumberedBody, NumberedFactor, NumberedObject, NumberedOperation, NumberedProcess}
-use Rattle.ec_check.proofs.Rolled.{ExpressionLayer, LinkLayer, MemberLayer, StatementLayer, AddendLayer, ArmLayer, BlockLayer}
-use Rattle.ec_check.proofs.Rolled.{BodyLayer, FactorLayer, ObjectLayer, OperationLayer, ProcessLayer}
 use Rattle.ec_check.specs.Tree.{part_of, link_of, member_of, statement_of, addend_of, arm_of, block_of, body_of, factor_of}
 use Rattle.ec_check.specs.Tree.{object_of, operation_of, process_of}
 use Rattle.ec_conform.specs.Declarations.{in_expression, in_link, in_member, in_statement, in_addend, in_arm, in_block, in_body}
 use Rattle.ec_conform.specs.Declarations.{in_factor, in_constructor, in_process}
+use Rattle.ec_tree_folds.proofs.Claims.{Claims}
 
 -- ---- each kind of part
 
@@ -61,246 +58,19 @@ IsNumberedOperation x = NumberedOperation (operation_of x) (in_operation x)
 abbrev pub IsNumberedProcess : ProcessSection → Type 0
 IsNumberedProcess x = NumberedProcess (process_of x) (in_process x)
 
--- ---- parts, each with its proof
-
-abbrev pub PartHeld : Type 0
-PartHeld = (x : Expression) × IsNumberedPart x
-
-abbrev pub bare_part : PartHeld → Expression
-bare_part x = x.0
-
-abbrev pub LinkHeld : Type 0
-LinkHeld = (x : Link) × IsNumberedLink x
-
-abbrev pub bare_link : LinkHeld → Link
-bare_link x = x.0
-
-abbrev pub MemberHeld : Type 0
-MemberHeld = (x : Member) × IsNumberedMember x
-
-abbrev pub bare_member : MemberHeld → Member
-bare_member x = x.0
-
-abbrev pub StatementHeld : Type 0
-StatementHeld = (x : Statement) × IsNumberedStatement x
-
-abbrev pub bare_statement : StatementHeld → Statement
-bare_statement x = x.0
-
-abbrev pub AddendHeld : Type 0
-AddendHeld = (x : Addend) × IsNumberedAddend x
-
-abbrev pub bare_addend : AddendHeld → Addend
-bare_addend x = x.0
-
-abbrev pub ArmHeld : Type 0
-ArmHeld = (x : Arm) × IsNumberedArm x
-
-abbrev pub bare_arm : ArmHeld → Arm
-bare_arm x = x.0
-
-abbrev pub BlockHeld : Type 0
-BlockHeld = (x : Block) × IsNumberedBlock x
-
-abbrev pub bare_block : BlockHeld → Block
-bare_block x = x.0
-
-abbrev pub BodyHeld : Type 0
-BodyHeld = (x : Body) × IsNumberedBody x
-
-abbrev pub bare_body : BodyHeld → Body
-bare_body x = x.0
-
-abbrev pub FactorHeld : Type 0
-FactorHeld = (x : Factor) × IsNumberedFactor x
-
-abbrev pub bare_factor : FactorHeld → Factor
-bare_factor x = x.0
-
-abbrev pub ObjectHeld : Type 0
-ObjectHeld = (x : ObjectConstructor) × IsNumberedObject x
-
-abbrev pub bare_object : ObjectHeld → ObjectConstructor
-bare_object x = x.0
-
-abbrev pub OperationHeld : Type 0
-OperationHeld = (x : Operation) × IsNumberedOperation x
-
-abbrev pub bare_operation : OperationHeld → Operation
-bare_operation x = x.0
-
-abbrev pub ProcessHeld : Type 0
-ProcessHeld = (x : ProcessSection) × IsNumberedProcess x
-
-abbrev pub bare_process : ProcessHeld → ProcessSection
-bare_process x = x.0
-
--- ---- one layer with such parts in it
-
-abbrev pub ExpressionWith : Type 0
-ExpressionWith =
-    Expression-F PartHeld LinkHeld MemberHeld StatementHeld AddendHeld ArmHeld BlockHeld BodyHeld FactorHeld ObjectHeld
-    OperationHeld ProcessHeld
-
-abbrev pub bare_expression_layer : ExpressionWith → ExpressionLayer
-bare_expression_layer =
-    map-Expression
-    PartHeld LinkHeld MemberHeld StatementHeld AddendHeld ArmHeld BlockHeld BodyHeld FactorHeld ObjectHeld OperationHeld
-    ProcessHeld
-    Expression Link Member Statement Addend Arm Block Body Factor ObjectConstructor Operation ProcessSection
-    bare_part bare_link bare_member bare_statement bare_addend bare_arm bare_block bare_body bare_factor bare_object
-    bare_operation bare_process
-
-abbrev pub LinkWith : Type 0
-LinkWith =
-    Link-F PartHeld LinkHeld MemberHeld StatementHeld AddendHeld ArmHeld BlockHeld BodyHeld FactorHeld ObjectHeld OperationHeld
-    ProcessHeld
-
-abbrev pub bare_link_layer : LinkWith → LinkLayer
-bare_link_layer =
-    map-Link
-    PartHeld LinkHeld MemberHeld StatementHeld AddendHeld ArmHeld BlockHeld BodyHeld FactorHeld ObjectHeld OperationHeld
-    ProcessHeld
-    Expression Link Member Statement Addend Arm Block Body Factor ObjectConstructor Operation ProcessSection
-    bare_part bare_link bare_member bare_statement bare_addend bare_arm bare_block bare_body bare_factor bare_object
-    bare_operation bare_process
-
-abbrev pub MemberWith : Type 0
-MemberWith =
-    Member-F PartHeld LinkHeld MemberHeld StatementHeld AddendHeld ArmHeld BlockHeld BodyHeld FactorHeld ObjectHeld
-    OperationHeld ProcessHeld
-
-abbrev pub bare_member_layer : MemberWith → MemberLayer
-bare_member_layer =
-    map-Member
-    PartHeld LinkHeld MemberHeld StatementHeld AddendHeld ArmHeld BlockHeld BodyHeld FactorHeld ObjectHeld OperationHeld
-    ProcessHeld
-    Expression Link Member Statement Addend Arm Block Body Factor ObjectConstructor Operation ProcessSection
-    bare_part bare_link bare_member bare_statement bare_addend bare_arm bare_block bare_body bare_factor bare_object
-    bare_operation bare_process
-
-abbrev pub StatementWith : Type 0
-StatementWith =
-    Statement-F PartHeld LinkHeld MemberHeld StatementHeld AddendHeld ArmHeld BlockHeld BodyHeld FactorHeld ObjectHeld
-    OperationHeld ProcessHeld
-
-abbrev pub bare_statement_layer : StatementWith → StatementLayer
-bare_statement_layer =
-    map-Statement
-    PartHeld LinkHeld MemberHeld StatementHeld AddendHeld ArmHeld BlockHeld BodyHeld FactorHeld ObjectHeld OperationHeld
-    ProcessHeld
-    Expression Link Member Statement Addend Arm Block Body Factor ObjectConstructor Operation ProcessSection
-    bare_part bare_link bare_member bare_statement bare_addend bare_arm bare_block bare_body bare_factor bare_object
-    bare_operation bare_process
-
-abbrev pub AddendWith : Type 0
-AddendWith =
-    Addend-F PartHeld LinkHeld MemberHeld StatementHeld AddendHeld ArmHeld BlockHeld BodyHeld FactorHeld ObjectHeld
-    OperationHeld ProcessHeld
-
-abbrev pub bare_addend_layer : AddendWith → AddendLayer
-bare_addend_layer =
-    map-Addend
-    PartHeld LinkHeld MemberHeld StatementHeld AddendHeld ArmHeld BlockHeld BodyHeld FactorHeld ObjectHeld OperationHeld
-    ProcessHeld
-    Expression Link Member Statement Addend Arm Block Body Factor ObjectConstructor Operation ProcessSection
-    bare_part bare_link bare_member bare_statement bare_addend bare_arm bare_block bare_body bare_factor bare_object
-    bare_operation bare_process
-
-abbrev pub ArmWith : Type 0
-ArmWith =
-    Arm-F PartHeld LinkHeld MemberHeld StatementHeld AddendHeld ArmHeld BlockHeld BodyHeld FactorHeld ObjectHeld OperationHeld
-    ProcessHeld
-
-abbrev pub bare_arm_layer : ArmWith → ArmLayer
-bare_arm_layer =
-    map-Arm
-    PartHeld LinkHeld MemberHeld StatementHeld AddendHeld ArmHeld BlockHeld BodyHeld FactorHeld ObjectHeld OperationHeld
-    ProcessHeld
-    Expression Link Member Statement Addend Arm Block Body Factor ObjectConstructor Operation ProcessSection
-    bare_part bare_link bare_member bare_statement bare_addend bare_arm bare_block bare_body bare_factor bare_object
-    bare_operation bare_process
-
-abbrev pub BlockWith : Type 0
-BlockWith =
-    Block-F PartHeld LinkHeld MemberHeld StatementHeld AddendHeld ArmHeld BlockHeld BodyHeld FactorHeld ObjectHeld OperationHeld
-    ProcessHeld
-
-abbrev pub bare_block_layer : BlockWith → BlockLayer
-bare_block_layer =
-    map-Block
-    PartHeld LinkHeld MemberHeld StatementHeld AddendHeld ArmHeld BlockHeld BodyHeld FactorHeld ObjectHeld OperationHeld
-    ProcessHeld
-    Expression Link Member Statement Addend Arm Block Body Factor ObjectConstructor Operation ProcessSection
-    bare_part bare_link bare_member bare_statement bare_addend bare_arm bare_block bare_body bare_factor bare_object
-    bare_operation bare_process
-
-abbrev pub BodyWith : Type 0
-BodyWith =
-    Body-F PartHeld LinkHeld MemberHeld StatementHeld AddendHeld ArmHeld BlockHeld BodyHeld FactorHeld ObjectHeld OperationHeld
-    ProcessHeld
-
-abbrev pub bare_body_layer : BodyWith → BodyLayer
-bare_body_layer =
-    map-Body
-    PartHeld LinkHeld MemberHeld StatementHeld AddendHeld ArmHeld BlockHeld BodyHeld FactorHeld ObjectHeld OperationHeld
-    ProcessHeld
-    Expression Link Member Statement Addend Arm Block Body Factor ObjectConstructor Operation ProcessSection
-    bare_part bare_link bare_member bare_statement bare_addend bare_arm bare_block bare_body bare_factor bare_object
-    bare_operation bare_process
-
-abbrev pub FactorWith : Type 0
-FactorWith =
-    Factor-F PartHeld LinkHeld MemberHeld StatementHeld AddendHeld ArmHeld BlockHeld BodyHeld FactorHeld ObjectHeld
-    OperationHeld ProcessHeld
-
-abbrev pub bare_factor_layer : FactorWith → FactorLayer
-bare_factor_layer =
-    map-Factor
-    PartHeld LinkHeld MemberHeld StatementHeld AddendHeld ArmHeld BlockHeld BodyHeld FactorHeld ObjectHeld OperationHeld
-    ProcessHeld
-    Expression Link Member Statement Addend Arm Block Body Factor ObjectConstructor Operation ProcessSection
-    bare_part bare_link bare_member bare_statement bare_addend bare_arm bare_block bare_body bare_factor bare_object
-    bare_operation bare_process
-
-abbrev pub ObjectWith : Type 0
-ObjectWith =
-    ObjectConstructor-F PartHeld LinkHeld MemberHeld StatementHeld AddendHeld ArmHeld BlockHeld BodyHeld FactorHeld ObjectHeld
-    OperationHeld ProcessHeld
-
-abbrev pub bare_object_layer : ObjectWith → ObjectLayer
-bare_object_layer =
-    map-ObjectConstructor
-    PartHeld LinkHeld MemberHeld StatementHeld AddendHeld ArmHeld BlockHeld BodyHeld FactorHeld ObjectHeld OperationHeld
-    ProcessHeld
-    Expression Link Member Statement Addend Arm Block Body Factor ObjectConstructor Operation ProcessSection
-    bare_part bare_link bare_member bare_statement bare_addend bare_arm bare_block bare_body bare_factor bare_object
-    bare_operation bare_process
-
-abbrev pub OperationWith : Type 0
-OperationWith =
-    Operation-F PartHeld LinkHeld MemberHeld StatementHeld AddendHeld ArmHeld BlockHeld BodyHeld FactorHeld ObjectHeld
-    OperationHeld ProcessHeld
-
-abbrev pub bare_operation_layer : OperationWith → OperationLayer
-bare_operation_layer =
-    map-Operation
-    PartHeld LinkHeld MemberHeld StatementHeld AddendHeld ArmHeld BlockHeld BodyHeld FactorHeld ObjectHeld OperationHeld
-    ProcessHeld
-    Expression Link Member Statement Addend Arm Block Body Factor ObjectConstructor Operation ProcessSection
-    bare_part bare_link bare_member bare_statement bare_addend bare_arm bare_block bare_body bare_factor bare_object
-    bare_operation bare_process
-
-abbrev pub ProcessWith : Type 0
-ProcessWith =
-    ProcessSection-F PartHeld LinkHeld MemberHeld StatementHeld AddendHeld ArmHeld BlockHeld BodyHeld FactorHeld ObjectHeld
-    OperationHeld ProcessHeld
-
-abbrev pub bare_process_layer : ProcessWith → ProcessLayer
-bare_process_layer =
-    map-ProcessSection
-    PartHeld LinkHeld MemberHeld StatementHeld AddendHeld ArmHeld BlockHeld BodyHeld FactorHeld ObjectHeld OperationHeld
-    ProcessHeld
-    Expression Link Member Statement Addend Arm Block Body Factor ObjectConstructor Operation ProcessSection
-    bare_part bare_link bare_member bare_statement bare_addend bare_arm bare_block bare_body bare_factor bare_object
-    bare_operation bare_process
+-- what is claimed of a part of each kind
+abbrev pub numbered : Claims
+numbered = record {
+  expression = IsNumberedPart;
+  link = IsNumberedLink;
+  member = IsNumberedMember;
+  statement = IsNumberedStatement;
+  addend = IsNumberedAddend;
+  arm = IsNumberedArm;
+  block = IsNumberedBlock;
+  body = IsNumberedBody;
+  factor = IsNumberedFactor;
+  object = IsNumberedObject;
+  operation = IsNumberedOperation;
+  process = IsNumberedProcess;
+}

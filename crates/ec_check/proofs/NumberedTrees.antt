@@ -1,14 +1,14 @@
 -- The classes that are made within a part of a tree have the numbers and the operations of the types that it declares: one
 -- induction over all kinds of parts.
 use Rattle.std.proofs.Common.{◌≡◌, Bool, true, false, List, [], ◌∷◌, ◌++◌, map, Option, Some, None, refl, sym, ap, ◌∙◌, subst, append_assoc}
-use Rattle.ec_ast.specs.declared.Expression.{Expression, roll-Expression, ind-Expression}
+use Rattle.ec_ast.specs.declared.Expression.{Expression, roll-Expression}
 use Rattle.ec_ast.specs.declared.Link.{roll-Link}
 use Rattle.ec_ast.specs.declared.Member.{roll-Member}
 use Rattle.ec_ast.specs.declared.Statement.{roll-Statement}
 use Rattle.ec_ast.specs.declared.Addend.{roll-Addend}
 use Rattle.ec_ast.specs.declared.Arm.{roll-Arm}
 use Rattle.ec_ast.specs.declared.Block.{roll-Block}
-use Rattle.ec_ast.specs.declared.Body.{Body, roll-Body, ind-Body}
+use Rattle.ec_ast.specs.declared.Body.{Body, roll-Body}
 use Rattle.ec_ast.specs.declared.Factor.{roll-Factor}
 use Rattle.ec_ast.specs.declared.ObjectConstructor.{roll-ObjectConstructor}
 use Rattle.ec_ast.specs.declared.Operation.{roll-Operation}
@@ -23,23 +23,12 @@ use Rattle.ec_check.proofs.DeclaringParts.{EveryPair}
 use Rattle.ec_check.proofs.Every.{none_left, none_right}
 use Rattle.ec_check.proofs.GoodExpressions.{each_pair}
 use Rattle.ec_check.proofs.GoodTrees.{good_part}
-use Rattle.ec_check.proofs.NumberedHeld.{IsNumberedPart, IsNumberedLink, IsNumberedMember, IsNumberedStatement, IsNumberedAddend, IsNumberedArm}
-use Rattle.ec_check.proofs.NumberedHeld.{IsNumberedBlock, IsNumberedBody, IsNumberedFactor, IsNumberedObject, IsNumberedOperation, IsNumberedProcess}
-use Rattle.ec_check.proofs.NumberedHeld.{PartHeld, LinkHeld, MemberHeld, AddendHeld, ArmHeld, BlockHeld, FactorHeld, ProcessHeld}
-use Rattle.ec_check.proofs.NumberedHeld.{bare_part, bare_link, bare_member, bare_statement, bare_addend, bare_arm, bare_factor}
-use Rattle.ec_check.proofs.NumberedHeld.{ExpressionWith, LinkWith, MemberWith, StatementWith, AddendWith, ArmWith, BlockWith, BodyWith}
-use Rattle.ec_check.proofs.NumberedHeld.{FactorWith, ObjectWith, OperationWith, ProcessWith, bare_expression_layer}
-use Rattle.ec_check.proofs.NumberedHeld.{bare_link_layer, bare_member_layer, bare_statement_layer, bare_addend_layer, bare_arm_layer}
-use Rattle.ec_check.proofs.NumberedHeld.{bare_block_layer, bare_body_layer, bare_factor_layer, bare_object_layer, bare_operation_layer}
-use Rattle.ec_check.proofs.NumberedHeld.{bare_process_layer}
 use Rattle.ec_check.proofs.NumberedHolders.{holder_numbered}
 use Rattle.ec_check.proofs.NumberedKinds.{NumberedPart, NumberedLink, NumberedMember, NumberedStatement, NumberedAddend, NumberedArm}
 use Rattle.ec_check.proofs.NumberedKinds.{NumberedPiece, NumberedBody, NumberedFactor, NumberedObject, NumberedOperation, NumberedProcess}
 use Rattle.ec_check.proofs.NumberedKinds.{parts_numbered, factors_numbered, addends_numbered, postfix_numbered}
 use Rattle.ec_check.proofs.NumberedParts.{Numbered, nothing_numbered, numbered_within, one_numbered, both_numbered, none_both}
 use Rattle.ec_check.proofs.NumberedParts.{within_class, in_within, both_in, named_in, nameless_in}
-use Rattle.ec_check.proofs.Rolled.{ExpressionLayer, LinkLayer, MemberLayer, StatementLayer, AddendLayer, ArmLayer, BlockLayer}
-use Rattle.ec_check.proofs.Rolled.{BodyLayer, FactorLayer, ObjectLayer, OperationLayer, ProcessLayer}
 use Rattle.ec_check.proofs.Rolled.{expression_mapped, link_mapped, member_mapped, statement_mapped, addend_mapped, arm_mapped, block_mapped}
 use Rattle.ec_check.proofs.Rolled.{body_mapped, factor_mapped, object_mapped, operation_mapped, process_mapped}
 use Rattle.ec_check.proofs.Rolled.{part_rolled, link_rolled, member_rolled, statement_rolled, addend_rolled, arm_rolled, block_rolled, body_rolled}
@@ -63,29 +52,36 @@ use Rattle.ec_rules.specs.Statements.{piece_of_arm}
 use Rattle.ec_rules.specs.declared.StaticFault.{StaticFault}
 use Rattle.ec_scopes.specs.declared.scope.Scope.{Scope}
 use Rattle.ec_scopes.specs.Scopes.{declaring, in_a_loop, in_a_process}
+use Rattle.ec_check.proofs.NumberedHeld.{IsNumberedPart, IsNumberedLink, IsNumberedMember, IsNumberedStatement, IsNumberedAddend}
+use Rattle.ec_check.proofs.NumberedHeld.{IsNumberedArm, IsNumberedBlock, IsNumberedBody, IsNumberedFactor, IsNumberedObject}
+use Rattle.ec_check.proofs.NumberedHeld.{IsNumberedOperation, IsNumberedProcess, numbered}
+use Rattle.ec_tree_folds.proofs.Claims.{Passes, Held, trees, ExpressionWith, LinkWith, MemberWith, StatementWith, AddendWith, ArmWith}
+use Rattle.ec_tree_folds.proofs.Claims.{BlockWith, BodyWith, FactorWith, ObjectWith, OperationWith, ProcessWith, bare_expression}
+use Rattle.ec_tree_folds.proofs.Claims.{bare_link, bare_member, bare_statement, bare_addend, bare_arm, bare_block, bare_body, bare_factor}
+use Rattle.ec_tree_folds.proofs.Claims.{bare_object, bare_operation, bare_process, expression_holds, body_holds}
 
 -- ---- expressions
 
-pairs : (xs : List PartHeld) → EveryPair NumberedPart (map part_of (map bare_part xs)) (map in_expression (map bare_part xs))
+pairs : (xs : List (Held IsNumberedPart)) → EveryPair NumberedPart (map part_of (trees xs)) (map in_expression (trees xs))
 pairs = each_pair part_of in_expression IsNumberedPart NumberedPart (λ x q. q)
 
-link_pairs : (xs : List LinkHeld) → EveryPair NumberedLink (map link_of (map bare_link xs)) (map in_link (map bare_link xs))
+link_pairs : (xs : List (Held IsNumberedLink)) → EveryPair NumberedLink (map link_of (trees xs)) (map in_link (trees xs))
 link_pairs = each_pair link_of in_link IsNumberedLink NumberedLink (λ x q. q)
 
-factor_pairs : (xs : List FactorHeld) →
-    EveryPair NumberedFactor (map factor_of (map bare_factor xs)) (map in_factor (map bare_factor xs))
+factor_pairs : (xs : List (Held IsNumberedFactor)) →
+    EveryPair NumberedFactor (map factor_of (trees xs)) (map in_factor (trees xs))
 factor_pairs = each_pair factor_of in_factor IsNumberedFactor NumberedFactor (λ x q. q)
 
-addend_pairs : (xs : List AddendHeld) →
-    EveryPair NumberedAddend (map addend_of (map bare_addend xs)) (map in_addend (map bare_addend xs))
+addend_pairs : (xs : List (Held IsNumberedAddend)) →
+    EveryPair NumberedAddend (map addend_of (trees xs)) (map in_addend (trees xs))
 addend_pairs = each_pair addend_of in_addend IsNumberedAddend NumberedAddend (λ x q. q)
 
-abbrev declared : ExpressionWith → Declarations
-declared y = conform.expression_step (expression_declared (bare_expression_layer y))
+abbrev declared : ExpressionWith numbered → Declarations
+declared y = conform.expression_step (expression_declared (bare_expression numbered y))
 
-layer_numbered : (y : ExpressionWith) (needed : Bool) (scope : Scope) →
-    Numbered scope.table (expression_made (expression_mapped (bare_expression_layer y)) scope) (declared y).types
-    (faults_of needed scope (expression_judged (expression_mapped (bare_expression_layer y))))
+layer_numbered : (y : ExpressionWith numbered) (needed : Bool) (scope : Scope) →
+    Numbered scope.table (expression_made (expression_mapped (bare_expression numbered y)) scope) (declared y).types
+    (faults_of needed scope (expression_judged (expression_mapped (bare_expression numbered y))))
 layer_numbered (Expression-F.Number n) needed scope = nothing_numbered
 layer_numbered (Expression-F.Literal t) needed scope = nothing_numbered
 layer_numbered (Expression-F.Truth b at) needed scope = nothing_numbered
@@ -100,46 +96,46 @@ layer_numbered (Expression-F.NodeCount at) needed scope = nothing_numbered
 layer_numbered (Expression-F.NewVector of x at word) needed scope =
     one_numbered (λ e. none_left _ _ (none_left _ _ e)) (x.1 true scope)
 layer_numbered (Expression-F.Postfix x links) needed scope =
-    postfix_numbered needed scope (part_of x.0) (map link_of (map bare_link links)) (in_expression x.0)
-    (map in_link (map bare_link links)) (good_part x.0).1.name x.1 (link_pairs links)
+    postfix_numbered needed scope (part_of x.0) (map link_of (trees links)) (in_expression x.0)
+    (map in_link (trees links)) (good_part x.0).1.name x.1 (link_pairs links)
 layer_numbered (Expression-F.Negative x at) needed scope = one_numbered (λ e. none_left _ _ (none_left _ _ e)) (x.1 true scope)
 layer_numbered (Expression-F.View x of at) needed scope = one_numbered (λ e. none_left _ _ (none_left _ _ e)) (x.1 true scope)
 layer_numbered (Expression-F.IsFixed x at) needed scope = one_numbered (λ e. none_left _ _ (none_left _ _ e)) (x.1 true scope)
 layer_numbered (Expression-F.Term x more) needed scope =
     numbered_within (λ e. none_left _ _ e)
     (both_numbered (x.1 true scope)
-    (factors_numbered scope (map factor_of (map bare_factor more)) (map in_factor (map bare_factor more)) (factor_pairs more)))
+    (factors_numbered scope (map factor_of (trees more)) (map in_factor (trees more)) (factor_pairs more)))
 layer_numbered (Expression-F.Sum x more) needed scope =
     numbered_within (λ e. none_left _ _ e)
     (both_numbered (x.1 true scope)
-    (addends_numbered scope (map addend_of (map bare_addend more)) (map in_addend (map bare_addend more)) (addend_pairs more)))
+    (addends_numbered scope (map addend_of (trees more)) (map in_addend (trees more)) (addend_pairs more)))
 layer_numbered (Expression-F.Compare x op at y) needed scope =
     numbered_within (λ e. none_left _ _ e) (both_numbered (x.1 true scope) (one_numbered (λ e. none_left _ _ e) (y.1 true scope)))
 layer_numbered (Expression-F.Not x at) needed scope = one_numbered (λ e. none_left _ _ (none_left _ _ e)) (x.1 true scope)
 layer_numbered (Expression-F.And x more) needed scope =
     numbered_within (λ e. none_left _ _ e)
-    (parts_numbered scope (part_of x.0 ∷ map part_of (map bare_part more))
-    (in_expression x.0 ∷ map in_expression (map bare_part more)) (x.1, pairs more))
+    (parts_numbered scope (part_of x.0 ∷ map part_of (trees more))
+    (in_expression x.0 ∷ map in_expression (trees more)) (x.1, pairs more))
 layer_numbered (Expression-F.Or x more) needed scope =
     numbered_within (λ e. none_left _ _ e)
-    (parts_numbered scope (part_of x.0 ∷ map part_of (map bare_part more))
-    (in_expression x.0 ∷ map in_expression (map bare_part more)) (x.1, pairs more))
+    (parts_numbered scope (part_of x.0 ∷ map part_of (trees more))
+    (in_expression x.0 ∷ map in_expression (trees more)) (x.1, pairs more))
 
-part_is : (y : ExpressionWith) → NumberedPart (expression_step (expression_mapped (bare_expression_layer y))) (declared y)
+part_is : (y : ExpressionWith numbered) → NumberedPart (expression_step (expression_mapped (bare_expression numbered y))) (declared y)
 unfolding expression_step expression_part
 part_is y = λ needed scope. layer_numbered y needed scope
 
-part_at : (y : ExpressionWith) → IsNumberedPart (roll-Expression (bare_expression_layer y))
+part_at : (y : ExpressionWith numbered) → IsNumberedPart (roll-Expression (bare_expression numbered y))
 part_at y =
-    subst (λ p. NumberedPart p (in_expression (roll-Expression (bare_expression_layer y))))
-    (sym (part_rolled (bare_expression_layer y)))
-    (subst (NumberedPart (expression_step (expression_mapped (bare_expression_layer y))))
-    (sym (expression_declares (bare_expression_layer y))) (part_is y))
+    subst (λ p. NumberedPart p (in_expression (roll-Expression (bare_expression numbered y))))
+    (sym (part_rolled (bare_expression numbered y)))
+    (subst (NumberedPart (expression_step (expression_mapped (bare_expression numbered y))))
+    (sym (expression_declares (bare_expression numbered y))) (part_is y))
 
 -- ---- statements
 
 -- the faults within a part, whose value is needed
-abbrev within_part : Scope → PartHeld → List StaticFault
+abbrev within_part : Scope → Held IsNumberedPart → List StaticFault
 within_part scope x = faults_in scope (part_of x.0).part
 
 two_pieces : (fs gs own : List StaticFault) → (fs ++ (gs ++ [])) ++ own ≡ [] → fs ++ gs ≡ []
@@ -147,7 +143,7 @@ two_pieces fs gs own e =
     none_both fs gs (none_left fs (gs ++ []) (none_left (fs ++ (gs ++ [])) own e))
     (none_left gs [] (none_right fs (gs ++ []) (none_left (fs ++ (gs ++ [])) own e)))
 
-two_numbered : (scope : Scope) (x y : PartHeld) (own : List StaticFault) →
+two_numbered : (scope : Scope) (x y : Held IsNumberedPart) (own : List StaticFault) →
     Numbered scope.table (both_made ((part_of x.0).made scope) ((part_of y.0).made scope))
     ((in_expression x.0).types ++ (in_expression y.0).types) ((within_part scope x ++ (within_part scope y ++ [])) ++ own)
 two_numbered scope x y own =
@@ -170,27 +166,27 @@ arms_numbered scope [] (d ∷ ds) h = absurd h
 arms_numbered scope (x ∷ xs) [] h = absurd h
 arms_numbered scope (x ∷ xs) (d ∷ ds) h = both_numbered (h.0 scope) (arms_numbered scope xs ds h.1)
 
-arm_pairs : (xs : List ArmHeld) → EveryPair NumberedArm (map arm_of (map bare_arm xs)) (map in_arm (map bare_arm xs))
+arm_pairs : (xs : List (Held IsNumberedArm)) → EveryPair NumberedArm (map arm_of (trees xs)) (map in_arm (trees xs))
 arm_pairs = each_pair arm_of in_arm IsNumberedArm NumberedArm (λ x q. q)
 
-arms_are : (scope : Scope) (xs : List ArmHeld) →
-    Numbered scope.table (arms_made scope (map arm_of (map bare_arm xs))) (joined (map in_arm (map bare_arm xs))).types
-    (each (piece_faults scope) (map piece_of_arm (map arm_judged (map arm_of (map bare_arm xs)))))
-arms_are scope xs = arms_numbered scope (map arm_of (map bare_arm xs)) (map in_arm (map bare_arm xs)) (arm_pairs xs)
+arms_are : (scope : Scope) (xs : List (Held IsNumberedArm)) →
+    Numbered scope.table (arms_made scope (map arm_of (trees xs))) (joined (map in_arm (trees xs))).types
+    (each (piece_faults scope) (map piece_of_arm (map arm_judged (map arm_of (trees xs)))))
+arms_are scope xs = arms_numbered scope (map arm_of (trees xs)) (map in_arm (trees xs)) (arm_pairs xs)
 
-abbrev pieces_of_arms : List ArmHeld → List judged.Piece
-pieces_of_arms xs = map piece_of_arm (map arm_judged (map arm_of (map bare_arm xs)))
+abbrev pieces_of_arms : List (Held IsNumberedArm) → List judged.Piece
+pieces_of_arms xs = map piece_of_arm (map arm_judged (map arm_of (trees xs)))
 
-split_arms : (scope : Scope) (xs : List ArmHeld) (more : List judged.Piece) (own : List StaticFault) →
+split_arms : (scope : Scope) (xs : List (Held IsNumberedArm)) (more : List judged.Piece) (own : List StaticFault) →
     each (piece_faults scope) (pieces_of_arms xs ++ more) ++ own ≡ [] →
     each (piece_faults scope) (pieces_of_arms xs) ++ each (piece_faults scope) more ≡ []
 split_arms scope xs more own e =
     sym (pieces_both scope (pieces_of_arms xs) more) ∙ none_left (each (piece_faults scope) (pieces_of_arms xs ++ more)) own e
 
-statement_layer_numbered : (y : StatementWith) (scope : Scope) →
-    Numbered scope.table (statement_made (statement_mapped (bare_statement_layer y)) scope)
-    (conform.statement_step (statement_declared (bare_statement_layer y))).types
-    (statement_finished (statement_judged (statement_mapped (bare_statement_layer y))) scope).faults
+statement_layer_numbered : (y : StatementWith numbered) (scope : Scope) →
+    Numbered scope.table (statement_made (statement_mapped (bare_statement numbered y)) scope)
+    (conform.statement_step (statement_declared (bare_statement numbered y))).types
+    (statement_finished (statement_judged (statement_mapped (bare_statement numbered y))) scope).faults
 statement_layer_numbered (Statement-F.LocalVariable name of None) scope = nothing_numbered
 statement_layer_numbered (Statement-F.LocalVariable name of (Some x)) scope =
     numbered_within (λ e. none_left _ _ (none_left _ _ e)) (x.1 true scope)
@@ -227,22 +223,22 @@ statement_layer_numbered (Statement-F.Unfix x at) scope =
 statement_layer_numbered (Statement-F.Wait name at) scope = nothing_numbered
 statement_layer_numbered (Statement-F.Signal name at) scope = nothing_numbered
 
-statement_is : (y : StatementWith) →
-    NumberedStatement (statement_step (statement_mapped (bare_statement_layer y)))
-    (conform.statement_step (statement_declared (bare_statement_layer y)))
+statement_is : (y : StatementWith numbered) →
+    NumberedStatement (statement_step (statement_mapped (bare_statement numbered y)))
+    (conform.statement_step (statement_declared (bare_statement numbered y)))
 unfolding statement_step statement_part
 statement_is y = λ scope. statement_layer_numbered y scope
 
-statement_at : (y : StatementWith) → IsNumberedStatement (roll-Statement (bare_statement_layer y))
+statement_at : (y : StatementWith numbered) → IsNumberedStatement (roll-Statement (bare_statement numbered y))
 statement_at y =
-    subst (λ x. NumberedStatement x (in_statement (roll-Statement (bare_statement_layer y))))
-    (sym (statement_rolled (bare_statement_layer y)))
-    (subst (NumberedStatement (statement_step (statement_mapped (bare_statement_layer y))))
-    (sym (statement_declares (bare_statement_layer y))) (statement_is y))
+    subst (λ x. NumberedStatement x (in_statement (roll-Statement (bare_statement numbered y))))
+    (sym (statement_rolled (bare_statement numbered y)))
+    (subst (NumberedStatement (statement_step (statement_mapped (bare_statement numbered y))))
+    (sym (statement_declares (bare_statement numbered y))) (statement_is y))
 
 -- ---- arms and blocks
 
-arm_is : (y : ArmWith) → NumberedArm (arm_step (arm_mapped (bare_arm_layer y))) (conform.arm_step (arm_declared (bare_arm_layer y)))
+arm_is : (y : ArmWith numbered) → NumberedArm (arm_step (arm_mapped (bare_arm numbered y))) (conform.arm_step (arm_declared (bare_arm numbered y)))
 arm_is y = λ scope.
     numbered_within
     (λ e.
@@ -250,10 +246,10 @@ arm_is y = λ scope.
     (none_right _ _ (none_right _ _ e)))
     (both_numbered (y.condition.1 true scope) (y.block.1 scope))
 
-arm_at : (y : ArmWith) → IsNumberedArm (roll-Arm (bare_arm_layer y))
+arm_at : (y : ArmWith numbered) → IsNumberedArm (roll-Arm (bare_arm numbered y))
 arm_at y =
-    subst (λ x. NumberedArm x (in_arm (roll-Arm (bare_arm_layer y)))) (sym (arm_rolled (bare_arm_layer y)))
-    (subst (NumberedArm (arm_step (arm_mapped (bare_arm_layer y)))) (sym (arm_declares (bare_arm_layer y))) (arm_is y))
+    subst (λ x. NumberedArm x (in_arm (roll-Arm (bare_arm numbered y)))) (sym (arm_rolled (bare_arm numbered y)))
+    (subst (NumberedArm (arm_step (arm_mapped (bare_arm numbered y)))) (sym (arm_declares (bare_arm numbered y))) (arm_is y))
 
 statements_numbered : (xs : List StatementPart) (ds : List Declarations) → EveryPair NumberedStatement xs ds → (scope : Scope) →
     Numbered scope.table (statements_made xs scope) (joined ds).types (block_finished (map (λ x. x.part) xs) scope).faults
@@ -263,56 +259,56 @@ statements_numbered (x ∷ xs) [] h scope = absurd h
 statements_numbered (x ∷ xs) (d ∷ ds) h scope =
     both_numbered (h.0 scope) (statements_numbered xs ds h.1 (declaring (x.part.declares scope) scope))
 
-block_is : (y : BlockWith) →
-    NumberedPiece (block_step (block_mapped (bare_block_layer y))) (conform.block_step (block_declared (bare_block_layer y)))
+block_is : (y : BlockWith numbered) →
+    NumberedPiece (block_step (block_mapped (bare_block numbered y))) (conform.block_step (block_declared (bare_block numbered y)))
 unfolding block_step
 block_is y = λ scope.
-    statements_numbered (map statement_of (map bare_statement y.statements)) (map in_statement (map bare_statement y.statements))
+    statements_numbered (map statement_of (trees y.statements)) (map in_statement (trees y.statements))
     (each_pair statement_of in_statement IsNumberedStatement NumberedStatement (λ x q. q) y.statements) scope
 
-block_at : (y : BlockWith) → IsNumberedBlock (roll-Block (bare_block_layer y))
+block_at : (y : BlockWith numbered) → IsNumberedBlock (roll-Block (bare_block numbered y))
 block_at y =
-    subst (λ x. NumberedPiece x (in_block (roll-Block (bare_block_layer y)))) (sym (block_rolled (bare_block_layer y)))
-    (subst (NumberedPiece (block_step (block_mapped (bare_block_layer y)))) (sym (block_declares (bare_block_layer y)))
+    subst (λ x. NumberedPiece x (in_block (roll-Block (bare_block numbered y)))) (sym (block_rolled (bare_block numbered y)))
+    (subst (NumberedPiece (block_step (block_mapped (bare_block numbered y)))) (sym (block_declares (bare_block numbered y)))
     (block_is y))
 
 -- ---- links, factors and addends
 
-link_is : (y : LinkWith) →
-    NumberedLink (link_step (link_mapped (bare_link_layer y))) (conform.link_step (link_declared (bare_link_layer y)))
+link_is : (y : LinkWith numbered) →
+    NumberedLink (link_step (link_mapped (bare_link numbered y))) (conform.link_step (link_declared (bare_link numbered y)))
 link_is (Link-F.Call name xs) = λ scope.
-    parts_numbered scope (map part_of (map bare_part xs)) (map in_expression (map bare_part xs)) (pairs xs)
+    parts_numbered scope (map part_of (trees xs)) (map in_expression (trees xs)) (pairs xs)
 link_is (Link-F.Index x at) = λ scope. one_numbered (λ e. none_left _ _ e) (x.1 true scope)
 
-link_at : (y : LinkWith) → IsNumberedLink (roll-Link (bare_link_layer y))
+link_at : (y : LinkWith numbered) → IsNumberedLink (roll-Link (bare_link numbered y))
 link_at y =
-    subst (λ x. NumberedLink x (in_link (roll-Link (bare_link_layer y)))) (sym (link_rolled (bare_link_layer y)))
-    (subst (NumberedLink (link_step (link_mapped (bare_link_layer y)))) (sym (link_declares (bare_link_layer y))) (link_is y))
+    subst (λ x. NumberedLink x (in_link (roll-Link (bare_link numbered y)))) (sym (link_rolled (bare_link numbered y)))
+    (subst (NumberedLink (link_step (link_mapped (bare_link numbered y)))) (sym (link_declares (bare_link numbered y))) (link_is y))
 
-factor_is : (y : FactorWith) →
-    NumberedFactor (factor_step (factor_mapped (bare_factor_layer y))) (conform.factor_step (factor_declared (bare_factor_layer y)))
+factor_is : (y : FactorWith numbered) →
+    NumberedFactor (factor_step (factor_mapped (bare_factor numbered y))) (conform.factor_step (factor_declared (bare_factor numbered y)))
 factor_is y = λ scope. y.value.1 true scope
 
-factor_at : (y : FactorWith) → IsNumberedFactor (roll-Factor (bare_factor_layer y))
+factor_at : (y : FactorWith numbered) → IsNumberedFactor (roll-Factor (bare_factor numbered y))
 factor_at y =
-    subst (λ x. NumberedFactor x (in_factor (roll-Factor (bare_factor_layer y)))) (sym (factor_rolled (bare_factor_layer y)))
-    (subst (NumberedFactor (factor_step (factor_mapped (bare_factor_layer y)))) (sym (factor_declares (bare_factor_layer y)))
+    subst (λ x. NumberedFactor x (in_factor (roll-Factor (bare_factor numbered y)))) (sym (factor_rolled (bare_factor numbered y)))
+    (subst (NumberedFactor (factor_step (factor_mapped (bare_factor numbered y)))) (sym (factor_declares (bare_factor numbered y)))
     (factor_is y))
 
-addend_is : (y : AddendWith) →
-    NumberedAddend (addend_step (addend_mapped (bare_addend_layer y))) (conform.addend_step (addend_declared (bare_addend_layer y)))
+addend_is : (y : AddendWith numbered) →
+    NumberedAddend (addend_step (addend_mapped (bare_addend numbered y))) (conform.addend_step (addend_declared (bare_addend numbered y)))
 addend_is y = λ scope. y.value.1 true scope
 
-addend_at : (y : AddendWith) → IsNumberedAddend (roll-Addend (bare_addend_layer y))
+addend_at : (y : AddendWith numbered) → IsNumberedAddend (roll-Addend (bare_addend numbered y))
 addend_at y =
-    subst (λ x. NumberedAddend x (in_addend (roll-Addend (bare_addend_layer y)))) (sym (addend_rolled (bare_addend_layer y)))
-    (subst (NumberedAddend (addend_step (addend_mapped (bare_addend_layer y)))) (sym (addend_declares (bare_addend_layer y)))
+    subst (λ x. NumberedAddend x (in_addend (roll-Addend (bare_addend numbered y)))) (sym (addend_rolled (bare_addend numbered y)))
+    (subst (NumberedAddend (addend_step (addend_mapped (bare_addend numbered y)))) (sym (addend_declares (bare_addend numbered y)))
     (addend_is y))
 
 -- ---- members
 
-member_is : (y : MemberWith) →
-    NumberedMember (member_step (member_mapped (bare_member_layer y))) (conform.member_step (member_declared (bare_member_layer y)))
+member_is : (y : MemberWith numbered) →
+    NumberedMember (member_step (member_mapped (bare_member numbered y))) (conform.member_step (member_declared (bare_member numbered y)))
 member_is (Member-F.Member::Variable is_attached name of None) = record {
   declares = record { name = refl; operations = refl };
   made = λ class env is_monitored. within_class class nothing_numbered;
@@ -331,57 +327,57 @@ member_is (Member-F.Condition name) = record {
 }
 member_is (Member-F.Operation o) = o.1
 
-member_at : (y : MemberWith) → IsNumberedMember (roll-Member (bare_member_layer y))
+member_at : (y : MemberWith numbered) → IsNumberedMember (roll-Member (bare_member numbered y))
 member_at y =
-    subst (λ x. NumberedMember x (in_member (roll-Member (bare_member_layer y)))) (sym (member_rolled (bare_member_layer y)))
-    (subst (NumberedMember (member_step (member_mapped (bare_member_layer y)))) (sym (member_declares (bare_member_layer y)))
+    subst (λ x. NumberedMember x (in_member (roll-Member (bare_member numbered y)))) (sym (member_rolled (bare_member numbered y)))
+    (subst (NumberedMember (member_step (member_mapped (bare_member numbered y)))) (sym (member_declares (bare_member numbered y)))
     (member_is y))
 
-operation_is : (y : OperationWith) →
-    NumberedOperation (operation_step (operation_mapped (bare_operation_layer y)))
-    (conform.operation_step (operation_declared (bare_operation_layer y)))
+operation_is : (y : OperationWith numbered) →
+    NumberedOperation (operation_step (operation_mapped (bare_operation numbered y)))
+    (conform.operation_step (operation_declared (bare_operation numbered y)))
 operation_is y = record {
   declares = record { name = refl; operations = refl };
   made = λ class env is_monitored.
       in_within (λ e. none_left _ _ (none_left _ _ e))
       (both_in
-      (named_in env.scope.table (operation_core class env (operation_step (operation_mapped (bare_operation_layer y)))) refl)
+      (named_in env.scope.table (operation_core class env (operation_step (operation_mapped (bare_operation numbered y)))) refl)
       (within_class class
       (y.block.1
-      (scope_of_operation env.scope (operation_judged (operation_step (operation_mapped (bare_operation_layer y))))))));
+      (scope_of_operation env.scope (operation_judged (operation_step (operation_mapped (bare_operation numbered y))))))));
 }
 
-operation_at : (y : OperationWith) → IsNumberedOperation (roll-Operation (bare_operation_layer y))
+operation_at : (y : OperationWith numbered) → IsNumberedOperation (roll-Operation (bare_operation numbered y))
 operation_at y =
-    subst (λ x. NumberedOperation x (in_operation (roll-Operation (bare_operation_layer y))))
-    (sym (operation_rolled (bare_operation_layer y)))
-    (subst (NumberedOperation (operation_step (operation_mapped (bare_operation_layer y))))
-    (sym (operation_declares (bare_operation_layer y))) (operation_is y))
+    subst (λ x. NumberedOperation x (in_operation (roll-Operation (bare_operation numbered y))))
+    (sym (operation_rolled (bare_operation numbered y)))
+    (subst (NumberedOperation (operation_step (operation_mapped (bare_operation numbered y))))
+    (sym (operation_declares (bare_operation numbered y))) (operation_is y))
 
 -- ---- bodies
 
-process_is : (y : ProcessWith) →
-    NumberedProcess (process_step (process_mapped (bare_process_layer y)))
-    (conform.process_step (process_declared (bare_process_layer y)))
+process_is : (y : ProcessWith numbered) →
+    NumberedProcess (process_step (process_mapped (bare_process numbered y)))
+    (conform.process_step (process_declared (bare_process numbered y)))
 process_is y = λ scope. y.block.1 scope
 
-process_at : (y : ProcessWith) → IsNumberedProcess (roll-ProcessSection (bare_process_layer y))
+process_at : (y : ProcessWith numbered) → IsNumberedProcess (roll-ProcessSection (bare_process numbered y))
 process_at y =
-    subst (λ x. NumberedProcess x (in_process (roll-ProcessSection (bare_process_layer y))))
-    (sym (process_rolled (bare_process_layer y)))
-    (subst (NumberedProcess (process_step (process_mapped (bare_process_layer y)))) (sym (process_declares (bare_process_layer y)))
+    subst (λ x. NumberedProcess x (in_process (roll-ProcessSection (bare_process numbered y))))
+    (sym (process_rolled (bare_process numbered y)))
+    (subst (NumberedProcess (process_step (process_mapped (bare_process numbered y)))) (sym (process_declares (bare_process numbered y)))
     (process_is y))
 
-abbrev body_layer : List MemberHeld → Option BlockHeld → Option ProcessHeld → BodyWith
+abbrev body_layer : List (Held IsNumberedMember) → Option (Held IsNumberedBlock) → Option (Held IsNumberedProcess) → BodyWith numbered
 body_layer ms i p = record { members = ms; initially = i; process = p }
 
-member_pairs : (ms : List MemberHeld) →
-    EveryPair NumberedMember (map member_of (map bare_member ms)) (map in_member (map bare_member ms))
+member_pairs : (ms : List (Held IsNumberedMember)) →
+    EveryPair NumberedMember (map member_of (trees ms)) (map in_member (trees ms))
 member_pairs = each_pair member_of in_member IsNumberedMember NumberedMember (λ x q. q)
 
-body_is : (ms : List MemberHeld) (i : Option BlockHeld) (p : Option ProcessHeld) →
-    NumberedBody (body_step (body_mapped (bare_body_layer (body_layer ms i p))))
-    (conform.body_step (body_declared (bare_body_layer (body_layer ms i p))))
+body_is : (ms : List (Held IsNumberedMember)) (i : Option (Held IsNumberedBlock)) (p : Option (Held IsNumberedProcess)) →
+    NumberedBody (body_step (body_mapped (bare_body numbered (body_layer ms i p))))
+    (conform.body_step (body_declared (bare_body numbered (body_layer ms i p))))
 body_is ms None None = record {
   first = [];
   last = [];
@@ -421,76 +417,46 @@ body_is ms (Some i) (Some p) = record {
       (within_class class (p.1 (in_a_process env.scope))));
 }
 
-body_at : (y : BodyWith) → IsNumberedBody (roll-Body (bare_body_layer y))
+body_at : (y : BodyWith numbered) → IsNumberedBody (roll-Body (bare_body numbered y))
 body_at y =
-    subst (λ x. NumberedBody x (in_body (roll-Body (bare_body_layer y)))) (sym (body_rolled (bare_body_layer y)))
-    (subst (NumberedBody (body_step (body_mapped (bare_body_layer y)))) (sym (body_declares (bare_body_layer y)))
+    subst (λ x. NumberedBody x (in_body (roll-Body (bare_body numbered y)))) (sym (body_rolled (bare_body numbered y)))
+    (subst (NumberedBody (body_step (body_mapped (bare_body numbered y)))) (sym (body_declares (bare_body numbered y)))
     (body_is y.members y.initially y.process))
 
 -- ---- object constructors
 
-object_is : (y : ObjectWith) →
-    NumberedObject (object_step (object_mapped (bare_object_layer y)))
-    (conform.constructor_step (object_declared (bare_object_layer y)))
-object_is y = λ scope. holder_numbered scope (object_step (object_mapped (bare_object_layer y))).holder (in_body y.body.0) y.body.1
+object_is : (y : ObjectWith numbered) →
+    NumberedObject (object_step (object_mapped (bare_object numbered y)))
+    (conform.constructor_step (object_declared (bare_object numbered y)))
+object_is y = λ scope. holder_numbered scope (object_step (object_mapped (bare_object numbered y))).holder (in_body y.body.0) y.body.1
 
-object_at : (y : ObjectWith) → IsNumberedObject (roll-ObjectConstructor (bare_object_layer y))
+object_at : (y : ObjectWith numbered) → IsNumberedObject (roll-ObjectConstructor (bare_object numbered y))
 object_at y =
-    subst (λ x. NumberedObject x (in_constructor (roll-ObjectConstructor (bare_object_layer y))))
-    (sym (object_rolled (bare_object_layer y)))
-    (subst (NumberedObject (object_step (object_mapped (bare_object_layer y)))) (sym (object_declares (bare_object_layer y)))
+    subst (λ x. NumberedObject x (in_constructor (roll-ObjectConstructor (bare_object numbered y))))
+    (sym (object_rolled (bare_object numbered y)))
+    (subst (NumberedObject (object_step (object_mapped (bare_object numbered y)))) (sym (object_declares (bare_object numbered y)))
     (object_is y))
 
 -- ---- the induction
 
-part_from : (x : ExpressionLayer) (y : ExpressionWith) → bare_expression_layer y ≡ x → IsNumberedPart (roll-Expression x)
-part_from x y is = subst (λ z. IsNumberedPart (roll-Expression z)) is (part_at y)
-
-link_from : (x : LinkLayer) (y : LinkWith) → bare_link_layer y ≡ x → IsNumberedLink (roll-Link x)
-link_from x y is = subst (λ z. IsNumberedLink (roll-Link z)) is (link_at y)
-
-member_from : (x : MemberLayer) (y : MemberWith) → bare_member_layer y ≡ x → IsNumberedMember (roll-Member x)
-member_from x y is = subst (λ z. IsNumberedMember (roll-Member z)) is (member_at y)
-
-statement_from : (x : StatementLayer) (y : StatementWith) → bare_statement_layer y ≡ x → IsNumberedStatement (roll-Statement x)
-statement_from x y is = subst (λ z. IsNumberedStatement (roll-Statement z)) is (statement_at y)
-
-addend_from : (x : AddendLayer) (y : AddendWith) → bare_addend_layer y ≡ x → IsNumberedAddend (roll-Addend x)
-addend_from x y is = subst (λ z. IsNumberedAddend (roll-Addend z)) is (addend_at y)
-
-arm_from : (x : ArmLayer) (y : ArmWith) → bare_arm_layer y ≡ x → IsNumberedArm (roll-Arm x)
-arm_from x y is = subst (λ z. IsNumberedArm (roll-Arm z)) is (arm_at y)
-
-block_from : (x : BlockLayer) (y : BlockWith) → bare_block_layer y ≡ x → IsNumberedBlock (roll-Block x)
-block_from x y is = subst (λ z. IsNumberedBlock (roll-Block z)) is (block_at y)
-
-body_from : (x : BodyLayer) (y : BodyWith) → bare_body_layer y ≡ x → IsNumberedBody (roll-Body x)
-body_from x y is = subst (λ z. IsNumberedBody (roll-Body z)) is (body_at y)
-
-factor_from : (x : FactorLayer) (y : FactorWith) → bare_factor_layer y ≡ x → IsNumberedFactor (roll-Factor x)
-factor_from x y is = subst (λ z. IsNumberedFactor (roll-Factor z)) is (factor_at y)
-
-object_from : (x : ObjectLayer) (y : ObjectWith) → bare_object_layer y ≡ x → IsNumberedObject (roll-ObjectConstructor x)
-object_from x y is = subst (λ z. IsNumberedObject (roll-ObjectConstructor z)) is (object_at y)
-
-operation_from : (x : OperationLayer) (y : OperationWith) → bare_operation_layer y ≡ x → IsNumberedOperation (roll-Operation x)
-operation_from x y is = subst (λ z. IsNumberedOperation (roll-Operation z)) is (operation_at y)
-
-process_from : (x : ProcessLayer) (y : ProcessWith) → bare_process_layer y ≡ x → IsNumberedProcess (roll-ProcessSection x)
-process_from x y is = subst (λ z. IsNumberedProcess (roll-ProcessSection z)) is (process_at y)
+passes : Passes numbered
+passes = record {
+  expression = part_at;
+  link = link_at;
+  member = member_at;
+  statement = statement_at;
+  addend = addend_at;
+  arm = arm_at;
+  block = block_at;
+  body = body_at;
+  factor = factor_at;
+  object = object_at;
+  operation = operation_at;
+  process = process_at;
+}
 
 pub numbered_part : (x : Expression) → IsNumberedPart x
-numbered_part =
-    ind-Expression
-    IsNumberedPart IsNumberedLink IsNumberedMember IsNumberedStatement IsNumberedAddend IsNumberedArm IsNumberedBlock IsNumberedBody
-    IsNumberedFactor IsNumberedObject IsNumberedOperation IsNumberedProcess
-    part_from link_from member_from statement_from addend_from arm_from block_from body_from factor_from object_from
-    operation_from process_from
+numbered_part = expression_holds passes
 
 pub numbered_body : (x : Body) → IsNumberedBody x
-numbered_body =
-    ind-Body
-    IsNumberedPart IsNumberedLink IsNumberedMember IsNumberedStatement IsNumberedAddend IsNumberedArm IsNumberedBlock IsNumberedBody
-    IsNumberedFactor IsNumberedObject IsNumberedOperation IsNumberedProcess
-    part_from link_from member_from statement_from addend_from arm_from block_from body_from factor_from object_from
-    operation_from process_from
+numbered_body = body_holds passes

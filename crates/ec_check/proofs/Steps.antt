@@ -8,12 +8,8 @@ use Rattle.ec_check.specs.declared.resolver.Resolver.{Resolver}
 use Rattle.ec_conform.specs.declared.static_type.StaticType.{StaticType}
 use Rattle.ec_core.specs.declared.Class.{Class}
 use Rattle.ec_core.specs.declared.Operation.{Operation}
-use Rattle.ec_judge.proofs.Walks.{walked_scope}
-use Rattle.ec_judge.specs.Walks.{walked}
 use Rattle.ec_judge.specs.declared.walk.Walk.{Walk}
 use Rattle.ec_names.specs.Names.{Text}
-use Rattle.ec_rules.specs.Captures.{Use}
-use Rattle.ec_rules.specs.declared.StaticFault.{StaticFault}
 use Rattle.ec_scopes.specs.declared.scope.Scope.{Scope}
 
 abbrev env_with : Scope → List Text → List ℕ → ℕ → Env
@@ -56,16 +52,8 @@ pub then_in : {a b c : Resolver} {m : Made} (f : Scope → Made) →
     HasMade a b m → HasMade b c (f b.walk.scope) → HasMade a c (both_made m (f a.walk.scope))
 then_in f h k = then h (same_made (ap f (kept h)) k)
 
--- where nothing is made before or behind
-pub then_none : {a b c : Resolver} {m : Made} → HasMade a b m → HasMade b c nothing_made → HasMade a c m
-then_none {a} {b} {c} {m} h k = same_made (made_none m) (then h k)
-
 pub none_then : {a b c : Resolver} {m : Made} → HasMade a b nothing_made → HasMade b c m → HasMade a c m
 none_then h k = then h k
-
--- what is found at the next place
-pub found_in : {A : Type 0} {a b : Resolver} {m : Made} (f : Env → A) → HasMade a b m → f (env_of b) ≡ f (env_of a)
-found_in f h = ap f h.place
 
 -- ---- where the place is another
 
@@ -104,7 +92,3 @@ aside r walk e = record {
   types = refl;
   made = sym (made_none (made_of r.made));
 }
-
-pub judged_aside : (r : Resolver) (walk : Walk) (faults : List StaticFault) (uses : List Use) → walk ≡ walked r.walk faults uses →
-    HasMade r (walking r walk) nothing_made
-judged_aside r walk faults uses e = aside r walk (ap (λ (w : Walk). w.scope) e ∙ walked_scope r.walk faults uses)

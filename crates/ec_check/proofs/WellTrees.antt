@@ -1,13 +1,13 @@
 -- The core of each part of a tree is well typed, where the part has no fault: one induction over all kinds of parts.
-use Rattle.std.proofs.Common.{◌≡◌, List, [], ◌∷◌, map, Option, Some, None, sym, subst}
-use Rattle.ec_ast.specs.declared.Expression.{Expression, roll-Expression, ind-Expression}
+use Rattle.std.proofs.Common.{List, [], ◌∷◌, map, Option, Some, None, sym, subst}
+use Rattle.ec_ast.specs.declared.Expression.{Expression, roll-Expression}
 use Rattle.ec_ast.specs.declared.Link.{roll-Link}
 use Rattle.ec_ast.specs.declared.Member.{roll-Member}
 use Rattle.ec_ast.specs.declared.Statement.{roll-Statement}
 use Rattle.ec_ast.specs.declared.Addend.{roll-Addend}
 use Rattle.ec_ast.specs.declared.Arm.{roll-Arm}
 use Rattle.ec_ast.specs.declared.Block.{roll-Block}
-use Rattle.ec_ast.specs.declared.Body.{Body, roll-Body, ind-Body}
+use Rattle.ec_ast.specs.declared.Body.{Body, roll-Body}
 use Rattle.ec_ast.specs.declared.Factor.{roll-Factor}
 use Rattle.ec_ast.specs.declared.ObjectConstructor.{roll-ObjectConstructor}
 use Rattle.ec_ast.specs.declared.Operation.{roll-Operation}
@@ -15,14 +15,6 @@ use Rattle.ec_ast.specs.declared.ProcessSection.{roll-ProcessSection}
 use Rattle.ec_ast.specs.declared.Expression.TheOpen.{Expression-F, Link-F, Member-F, Statement-F}
 use Rattle.ec_check.proofs.Every.{Every}
 use Rattle.ec_check.proofs.WellExpressions.{expression_well, WellParts}
-use Rattle.ec_check.proofs.WellHeld.{IsWellPart, IsWellLink, IsWellMember, IsWellStatement, IsWellAddend, IsWellArm, IsWellBlock}
-use Rattle.ec_check.proofs.WellHeld.{IsWellBody, IsWellFactor, IsWellObject, IsWellOperation, IsWellProcess}
-use Rattle.ec_check.proofs.WellHeld.{MemberHeld, BlockHeld, ProcessHeld}
-use Rattle.ec_check.proofs.WellHeld.{ExpressionWith, LinkWith, MemberWith, StatementWith, AddendWith, ArmWith, BlockWith, BodyWith}
-use Rattle.ec_check.proofs.WellHeld.{FactorWith, ObjectWith, OperationWith, ProcessWith, bare_expression_layer}
-use Rattle.ec_check.proofs.WellHeld.{bare_link_layer, bare_member_layer, bare_statement_layer, bare_addend_layer, bare_arm_layer}
-use Rattle.ec_check.proofs.WellHeld.{bare_block_layer, bare_body_layer, bare_factor_layer, bare_object_layer, bare_operation_layer}
-use Rattle.ec_check.proofs.WellHeld.{bare_process_layer}
 use Rattle.ec_check.proofs.WellParts.{WellPart, WellLink, WellMember, WellStatement, WellAddend, WellArm, WellPiece, WellBody}
 use Rattle.ec_check.proofs.WellParts.{WellFactor, WellConstructor, WellOperation, WellProcess}
 use Rattle.ec_check.proofs.WellStatements.{statement_well, block_well}
@@ -31,13 +23,17 @@ use Rattle.ec_check.proofs.GoodTrees.{good_part, good_statement, good_block, goo
 use Rattle.ec_check.proofs.RangedParts.{RangedPart, RangedStatement, RangedPiece, RangedBody}
 use Rattle.ec_check.proofs.RangedTrees.{ranged_part, ranged_statement, ranged_block, ranged_body}
 use Rattle.ec_check.proofs.SoundParts.{SoundPart, SoundStatement, SoundPiece, SoundBody}
-use Rattle.ec_check.proofs.Rolled.{ExpressionLayer, LinkLayer, MemberLayer, StatementLayer, AddendLayer, ArmLayer, BlockLayer}
-use Rattle.ec_check.proofs.Rolled.{BodyLayer, FactorLayer, ObjectLayer, OperationLayer, ProcessLayer}
 use Rattle.ec_check.proofs.Rolled.{expression_mapped, link_mapped, member_mapped, statement_mapped, body_mapped}
 use Rattle.ec_check.proofs.Rolled.{part_rolled, link_rolled, member_rolled, statement_rolled, addend_rolled, arm_rolled, block_rolled, body_rolled}
 use Rattle.ec_check.proofs.Rolled.{factor_rolled, object_rolled, operation_rolled, process_rolled, block_mapped}
 use Rattle.ec_check.specs.Tree.{link_step, member_step, body_step}
 use Rattle.ec_check.specs.Tree.{part_of, link_of, member_of, statement_of, addend_of, arm_of, factor_of}
+use Rattle.ec_check.proofs.WellHeld.{IsWellPart, IsWellLink, IsWellMember, IsWellStatement, IsWellAddend, IsWellArm, IsWellBlock}
+use Rattle.ec_check.proofs.WellHeld.{IsWellBody, IsWellFactor, IsWellObject, IsWellOperation, IsWellProcess, well}
+use Rattle.ec_tree_folds.proofs.Claims.{Passes, Held, ExpressionWith, LinkWith, MemberWith, StatementWith, AddendWith, ArmWith}
+use Rattle.ec_tree_folds.proofs.Claims.{BlockWith, BodyWith, FactorWith, ObjectWith, OperationWith, ProcessWith, bare_expression}
+use Rattle.ec_tree_folds.proofs.Claims.{bare_link, bare_member, bare_statement, bare_addend, bare_arm, bare_block, bare_body, bare_factor}
+use Rattle.ec_tree_folds.proofs.Claims.{bare_object, bare_operation, bare_process, expression_holds, body_holds}
 
 -- ---- lists of parts
 
@@ -47,7 +43,7 @@ each_held f P (x ∷ xs) = (x.1, each_held f P xs)
 
 -- ---- expressions
 
-parts_are : (y : ExpressionWith) → WellParts (expression_mapped (bare_expression_layer y))
+parts_are : (y : ExpressionWith well) → WellParts (expression_mapped (bare_expression well y))
 parts_are (Expression-F.Number n) = tt
 parts_are (Expression-F.Literal t) = tt
 parts_are (Expression-F.Truth b at) = tt
@@ -70,16 +66,16 @@ parts_are (Expression-F.Not x at) = x.1
 parts_are (Expression-F.And x more) = (x.1, each_held part_of WellPart more)
 parts_are (Expression-F.Or x more) = (x.1, each_held part_of WellPart more)
 
-part_at : (y : ExpressionWith) → IsWellPart (roll-Expression (bare_expression_layer y))
+part_at : (y : ExpressionWith well) → IsWellPart (roll-Expression (bare_expression well y))
 part_at y =
-    subst WellPart (sym (part_rolled (bare_expression_layer y)))
-    (expression_well (expression_mapped (bare_expression_layer y)) (parts_are y)
-    (subst SoundPart (part_rolled (bare_expression_layer y)) (good_part (roll-Expression (bare_expression_layer y))).0)
-    (subst RangedPart (part_rolled (bare_expression_layer y)) (ranged_part (roll-Expression (bare_expression_layer y)))))
+    subst WellPart (sym (part_rolled (bare_expression well y)))
+    (expression_well (expression_mapped (bare_expression well y)) (parts_are y)
+    (subst SoundPart (part_rolled (bare_expression well y)) (good_part (roll-Expression (bare_expression well y))).0)
+    (subst RangedPart (part_rolled (bare_expression well y)) (ranged_part (roll-Expression (bare_expression well y)))))
 
 -- ---- statements, arms and blocks
 
-statement_parts_are : (y : StatementWith) → statements.WellParts (statement_mapped (bare_statement_layer y))
+statement_parts_are : (y : StatementWith well) → statements.WellParts (statement_mapped (bare_statement well y))
 statement_parts_are (Statement-F.LocalVariable name of None) = tt
 statement_parts_are (Statement-F.LocalVariable name of (Some x)) = x.1
 statement_parts_are (Statement-F.LocalConstant name of x) = x.1
@@ -100,63 +96,63 @@ statement_parts_are (Statement-F.Unfix x at) = x.1
 statement_parts_are (Statement-F.Wait name at) = tt
 statement_parts_are (Statement-F.Signal name at) = tt
 
-statement_at : (y : StatementWith) → IsWellStatement (roll-Statement (bare_statement_layer y))
+statement_at : (y : StatementWith well) → IsWellStatement (roll-Statement (bare_statement well y))
 statement_at y =
-    subst WellStatement (sym (statement_rolled (bare_statement_layer y)))
-    (statement_well (statement_mapped (bare_statement_layer y)) (statement_parts_are y)
-    (subst SoundStatement (statement_rolled (bare_statement_layer y)) (good_statement (roll-Statement (bare_statement_layer y))).0)
-    (subst RangedStatement (statement_rolled (bare_statement_layer y)) (ranged_statement (roll-Statement (bare_statement_layer y)))))
+    subst WellStatement (sym (statement_rolled (bare_statement well y)))
+    (statement_well (statement_mapped (bare_statement well y)) (statement_parts_are y)
+    (subst SoundStatement (statement_rolled (bare_statement well y)) (good_statement (roll-Statement (bare_statement well y))).0)
+    (subst RangedStatement (statement_rolled (bare_statement well y)) (ranged_statement (roll-Statement (bare_statement well y)))))
 
-arm_at : (y : ArmWith) → IsWellArm (roll-Arm (bare_arm_layer y))
-arm_at y = subst WellArm (sym (arm_rolled (bare_arm_layer y))) (y.condition.1, y.block.1)
+arm_at : (y : ArmWith well) → IsWellArm (roll-Arm (bare_arm well y))
+arm_at y = subst WellArm (sym (arm_rolled (bare_arm well y))) (y.condition.1, y.block.1)
 
-block_at : (y : BlockWith) → IsWellBlock (roll-Block (bare_block_layer y))
+block_at : (y : BlockWith well) → IsWellBlock (roll-Block (bare_block well y))
 block_at y =
-    subst WellPiece (sym (block_rolled (bare_block_layer y)))
-    (block_well (block_mapped (bare_block_layer y)) (each_held statement_of WellStatement y.statements)
-    (subst SoundPiece (block_rolled (bare_block_layer y)) (good_block (roll-Block (bare_block_layer y))).0)
-    (subst RangedPiece (block_rolled (bare_block_layer y)) (ranged_block (roll-Block (bare_block_layer y)))))
+    subst WellPiece (sym (block_rolled (bare_block well y)))
+    (block_well (block_mapped (bare_block well y)) (each_held statement_of WellStatement y.statements)
+    (subst SoundPiece (block_rolled (bare_block well y)) (good_block (roll-Block (bare_block well y))).0)
+    (subst RangedPiece (block_rolled (bare_block well y)) (ranged_block (roll-Block (bare_block well y)))))
 
 -- ---- links, factors and addends
 
-link_is : (y : LinkWith) → WellLink (link_step (link_mapped (bare_link_layer y)))
+link_is : (y : LinkWith well) → WellLink (link_step (link_mapped (bare_link well y)))
 link_is (Link-F.Call name xs) = each_held part_of WellPart xs
 link_is (Link-F.Index x at) = x.1
 
-link_at : (y : LinkWith) → IsWellLink (roll-Link (bare_link_layer y))
-link_at y = subst WellLink (sym (link_rolled (bare_link_layer y))) (link_is y)
+link_at : (y : LinkWith well) → IsWellLink (roll-Link (bare_link well y))
+link_at y = subst WellLink (sym (link_rolled (bare_link well y))) (link_is y)
 
-factor_at : (y : FactorWith) → IsWellFactor (roll-Factor (bare_factor_layer y))
-factor_at y = subst WellFactor (sym (factor_rolled (bare_factor_layer y))) y.value.1
+factor_at : (y : FactorWith well) → IsWellFactor (roll-Factor (bare_factor well y))
+factor_at y = subst WellFactor (sym (factor_rolled (bare_factor well y))) y.value.1
 
-addend_at : (y : AddendWith) → IsWellAddend (roll-Addend (bare_addend_layer y))
-addend_at y = subst WellAddend (sym (addend_rolled (bare_addend_layer y))) y.value.1
+addend_at : (y : AddendWith well) → IsWellAddend (roll-Addend (bare_addend well y))
+addend_at y = subst WellAddend (sym (addend_rolled (bare_addend well y))) y.value.1
 
 -- ---- members and bodies
 
-member_is : (y : MemberWith) → WellMember (member_step (member_mapped (bare_member_layer y)))
+member_is : (y : MemberWith well) → WellMember (member_step (member_mapped (bare_member well y)))
 member_is (Member-F.Member::Variable is_attached name of None) = tt
 member_is (Member-F.Member::Variable is_attached name of (Some x)) = x.1
 member_is (Member-F.Constant is_attached name of x) = x.1
 member_is (Member-F.Condition name) = tt
 member_is (Member-F.Operation o) = o.1
 
-member_at : (y : MemberWith) → IsWellMember (roll-Member (bare_member_layer y))
-member_at y = subst WellMember (sym (member_rolled (bare_member_layer y))) (member_is y)
+member_at : (y : MemberWith well) → IsWellMember (roll-Member (bare_member well y))
+member_at y = subst WellMember (sym (member_rolled (bare_member well y))) (member_is y)
 
-operation_at : (y : OperationWith) → IsWellOperation (roll-Operation (bare_operation_layer y))
-operation_at y = subst WellOperation (sym (operation_rolled (bare_operation_layer y))) y.block.1
+operation_at : (y : OperationWith well) → IsWellOperation (roll-Operation (bare_operation well y))
+operation_at y = subst WellOperation (sym (operation_rolled (bare_operation well y))) y.block.1
 
-process_at : (y : ProcessWith) → IsWellProcess (roll-ProcessSection (bare_process_layer y))
-process_at y = subst WellProcess (sym (process_rolled (bare_process_layer y))) y.block.1
+process_at : (y : ProcessWith well) → IsWellProcess (roll-ProcessSection (bare_process well y))
+process_at y = subst WellProcess (sym (process_rolled (bare_process well y))) y.block.1
 
-abbrev body_layer : List MemberHeld → Option BlockHeld → Option ProcessHeld → BodyWith
+abbrev body_layer : List (Held IsWellMember) → Option (Held IsWellBlock) → Option (Held IsWellProcess) → BodyWith well
 body_layer ms i p = record { members = ms; initially = i; process = p }
 
-body_is : (ms : List MemberHeld) (i : Option BlockHeld) (p : Option ProcessHeld) →
-    SoundBody (body_step (body_mapped (bare_body_layer (body_layer ms i p)))) →
-    RangedBody (body_step (body_mapped (bare_body_layer (body_layer ms i p)))) →
-    WellBody (body_step (body_mapped (bare_body_layer (body_layer ms i p))))
+body_is : (ms : List (Held IsWellMember)) (i : Option (Held IsWellBlock)) (p : Option (Held IsWellProcess)) →
+    SoundBody (body_step (body_mapped (bare_body well (body_layer ms i p)))) →
+    RangedBody (body_step (body_mapped (bare_body well (body_layer ms i p)))) →
+    WellBody (body_step (body_mapped (bare_body well (body_layer ms i p))))
 body_is ms None None s r =
     record { sound = s; ranged = r; members = each_held member_of WellMember ms; initially = tt; process = tt }
 body_is ms None (Some p) s r =
@@ -166,66 +162,36 @@ body_is ms (Some i) None s r =
 body_is ms (Some i) (Some p) s r =
     record { sound = s; ranged = r; members = each_held member_of WellMember ms; initially = i.1; process = p.1 }
 
-body_at : (y : BodyWith) → IsWellBody (roll-Body (bare_body_layer y))
+body_at : (y : BodyWith well) → IsWellBody (roll-Body (bare_body well y))
 body_at y =
-    subst WellBody (sym (body_rolled (bare_body_layer y)))
+    subst WellBody (sym (body_rolled (bare_body well y)))
     (body_is y.members y.initially y.process
-    (subst SoundBody (body_rolled (bare_body_layer y)) (good_body (roll-Body (bare_body_layer y))).0)
-    (subst RangedBody (body_rolled (bare_body_layer y)) (ranged_body (roll-Body (bare_body_layer y)))))
+    (subst SoundBody (body_rolled (bare_body well y)) (good_body (roll-Body (bare_body well y))).0)
+    (subst RangedBody (body_rolled (bare_body well y)) (ranged_body (roll-Body (bare_body well y)))))
 
-object_at : (y : ObjectWith) → IsWellObject (roll-ObjectConstructor (bare_object_layer y))
-object_at y = subst WellConstructor (sym (object_rolled (bare_object_layer y))) y.body.1
+object_at : (y : ObjectWith well) → IsWellObject (roll-ObjectConstructor (bare_object well y))
+object_at y = subst WellConstructor (sym (object_rolled (bare_object well y))) y.body.1
 
 -- ---- the induction
 
-part_from : (x : ExpressionLayer) (y : ExpressionWith) → bare_expression_layer y ≡ x → IsWellPart (roll-Expression x)
-part_from x y is = subst (λ z. IsWellPart (roll-Expression z)) is (part_at y)
-
-link_from : (x : LinkLayer) (y : LinkWith) → bare_link_layer y ≡ x → IsWellLink (roll-Link x)
-link_from x y is = subst (λ z. IsWellLink (roll-Link z)) is (link_at y)
-
-member_from : (x : MemberLayer) (y : MemberWith) → bare_member_layer y ≡ x → IsWellMember (roll-Member x)
-member_from x y is = subst (λ z. IsWellMember (roll-Member z)) is (member_at y)
-
-statement_from : (x : StatementLayer) (y : StatementWith) → bare_statement_layer y ≡ x → IsWellStatement (roll-Statement x)
-statement_from x y is = subst (λ z. IsWellStatement (roll-Statement z)) is (statement_at y)
-
-addend_from : (x : AddendLayer) (y : AddendWith) → bare_addend_layer y ≡ x → IsWellAddend (roll-Addend x)
-addend_from x y is = subst (λ z. IsWellAddend (roll-Addend z)) is (addend_at y)
-
-arm_from : (x : ArmLayer) (y : ArmWith) → bare_arm_layer y ≡ x → IsWellArm (roll-Arm x)
-arm_from x y is = subst (λ z. IsWellArm (roll-Arm z)) is (arm_at y)
-
-block_from : (x : BlockLayer) (y : BlockWith) → bare_block_layer y ≡ x → IsWellBlock (roll-Block x)
-block_from x y is = subst (λ z. IsWellBlock (roll-Block z)) is (block_at y)
-
-body_from : (x : BodyLayer) (y : BodyWith) → bare_body_layer y ≡ x → IsWellBody (roll-Body x)
-body_from x y is = subst (λ z. IsWellBody (roll-Body z)) is (body_at y)
-
-factor_from : (x : FactorLayer) (y : FactorWith) → bare_factor_layer y ≡ x → IsWellFactor (roll-Factor x)
-factor_from x y is = subst (λ z. IsWellFactor (roll-Factor z)) is (factor_at y)
-
-object_from : (x : ObjectLayer) (y : ObjectWith) → bare_object_layer y ≡ x → IsWellObject (roll-ObjectConstructor x)
-object_from x y is = subst (λ z. IsWellObject (roll-ObjectConstructor z)) is (object_at y)
-
-operation_from : (x : OperationLayer) (y : OperationWith) → bare_operation_layer y ≡ x → IsWellOperation (roll-Operation x)
-operation_from x y is = subst (λ z. IsWellOperation (roll-Operation z)) is (operation_at y)
-
-process_from : (x : ProcessLayer) (y : ProcessWith) → bare_process_layer y ≡ x → IsWellProcess (roll-ProcessSection x)
-process_from x y is = subst (λ z. IsWellProcess (roll-ProcessSection z)) is (process_at y)
+passes : Passes well
+passes = record {
+  expression = part_at;
+  link = link_at;
+  member = member_at;
+  statement = statement_at;
+  addend = addend_at;
+  arm = arm_at;
+  block = block_at;
+  body = body_at;
+  factor = factor_at;
+  object = object_at;
+  operation = operation_at;
+  process = process_at;
+}
 
 pub well_part : (x : Expression) → IsWellPart x
-well_part =
-    ind-Expression
-    IsWellPart IsWellLink IsWellMember IsWellStatement IsWellAddend IsWellArm IsWellBlock IsWellBody
-    IsWellFactor IsWellObject IsWellOperation IsWellProcess
-    part_from link_from member_from statement_from addend_from arm_from block_from body_from factor_from object_from
-    operation_from process_from
+well_part = expression_holds passes
 
 pub well_body : (x : Body) → IsWellBody x
-well_body =
-    ind-Body
-    IsWellPart IsWellLink IsWellMember IsWellStatement IsWellAddend IsWellArm IsWellBlock IsWellBody
-    IsWellFactor IsWellObject IsWellOperation IsWellProcess
-    part_from link_from member_from statement_from addend_from arm_from block_from body_from factor_from object_from
-    operation_from process_from
+well_body = body_holds passes

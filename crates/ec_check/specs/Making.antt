@@ -7,6 +7,7 @@ use Rattle.ec_check.specs.Tree.{body_of}
 use Rattle.ec_check.specs.declared.resolver.Resolver.{Resolver}
 use Rattle.ec_check.specs.declared.resolver.Made.{Made as MadeLent}
 use Rattle.ec_conform.specs.declared.static_type.StaticType.{StaticType}
+use Rattle.ec_judge.specs.Holders.{holder_with}
 use Rattle.ec_judge.specs.declared.holders.Heading.{Heading}
 
 abbrev pub env_of : Resolver → Env
@@ -20,15 +21,8 @@ env_of r = record {
 abbrev pub made_of : MadeLent → Made
 made_of m = record { classes = m.classes; operations = m.operations }
 
--- a heading with what it is the heading of
 abbrev pub holder_of : Heading → Body → Holder
-holder_of heading body = record {
-  name = heading.name.now;
-  is_monitored = heading.is_monitored;
-  parameters = heading.parameters.now;
-  body = body_of body;
-  end_name = heading.end_name.now;
-}
+holder_of heading body = holder_with heading (body_of body)
 
 -- The place is another, with more variables of the operation, and more was made.
 pub record HasGone (old new : Resolver) (env : Env) (locals : List StaticType) (more : Made) : Type 0 where

@@ -7,8 +7,6 @@ use Rattle.ec_ast.specs.declared.Name.{Name}
 use Rattle.ec_ast.specs.declared.Parameter.{Parameter}
 use Rattle.ec_ast.specs.declared.Span.{Span}
 use Rattle.ec_ast.specs.declared.TypeName.{TypeName}
-use Rattle.ec_ast.specs.declared.Expression.TheOpen.{Expression-F, Link-F, Member-F, Statement-F, Addend-F, Arm-F, Block-F}
-use Rattle.ec_ast.specs.declared.Expression.TheOpen.{Body-F, Factor-F, ObjectConstructor-F, Operation-F, ProcessSection-F}
 use Rattle.ec_check.specs.Places.{Env}
 use Rattle.ec_conform.specs.declared.static_type.StaticType.{StaticType}
 use Rattle.ec_core.specs.declared.Block.{Block}
@@ -18,6 +16,9 @@ use Rattle.ec_core.specs.declared.Operation.{Operation}
 use Rattle.ec_core.specs.declared.Statement.{Statement}
 use Rattle.ec_rules.specs.Parts as judged
 use Rattle.ec_scopes.specs.declared.scope.Scope.{Scope}
+use Rattle.ec_tree_folds.specs.Kinds.{Kinds, ExpressionOf, LinkOf, MemberOf, StatementOf, AddendOf, ArmOf, BlockOf, BodyOf, FactorOf}
+use Rattle.ec_tree_folds.specs.Kinds.{ObjectOf, OperationOf, ProcessOf}
+use Rattle.ec_tree_folds.specs.Layers.{Maps}
 
 -- classes and object constructors, and operations
 pub record Made : Type 0 where
@@ -94,12 +95,8 @@ pub record BodyPart : Type 0 where
   pub process : Option ProcessPart
 
 -- an object constructor, or a class with its parameters
-pub record Holder : Type 0 where
-  pub name : Name
-  pub is_monitored : Bool
-  pub parameters : List Parameter
-  pub body : BodyPart
-  pub end_name : Name
+abbrev pub Holder : Type 0
+Holder = judged.HolderOf BodyPart
 
 -- an object constructor, at its first word
 pub record ObjectPart : Type 0 where
@@ -158,63 +155,73 @@ holder_judged h = record {
 abbrev pub object_judged : ObjectPart → judged.ObjectPart
 object_judged o = record { at = o.at; holder = holder_judged o.holder }
 
+abbrev pub kinds : Kinds
+kinds = record {
+  expression = Part;
+  link = LinkPart;
+  member = MemberPart;
+  statement = StatementPart;
+  addend = AddendPart;
+  arm = ArmPart;
+  block = Piece;
+  body = BodyPart;
+  factor = FactorPart;
+  object = ObjectPart;
+  operation = OperationPart;
+  process = ProcessPart;
+}
+
 -- ---- one layer of the tree, with parts in it
 
 abbrev pub AnExpression : Type 0
-AnExpression =
-    Expression-F Part LinkPart MemberPart StatementPart AddendPart ArmPart Piece BodyPart FactorPart ObjectPart OperationPart
-    ProcessPart
+AnExpression = ExpressionOf kinds
 
 abbrev pub AStatement : Type 0
-AStatement =
-    Statement-F Part LinkPart MemberPart StatementPart AddendPart ArmPart Piece BodyPart FactorPart ObjectPart OperationPart
-    ProcessPart
+AStatement = StatementOf kinds
 
 abbrev pub ALink : Type 0
-ALink =
-    Link-F Part LinkPart MemberPart StatementPart AddendPart ArmPart Piece BodyPart FactorPart ObjectPart OperationPart
-    ProcessPart
+ALink = LinkOf kinds
 
 abbrev pub AMember : Type 0
-AMember =
-    Member-F Part LinkPart MemberPart StatementPart AddendPart ArmPart Piece BodyPart FactorPart ObjectPart OperationPart
-    ProcessPart
+AMember = MemberOf kinds
 
 abbrev pub AnAddend : Type 0
-AnAddend =
-    Addend-F Part LinkPart MemberPart StatementPart AddendPart ArmPart Piece BodyPart FactorPart ObjectPart OperationPart
-    ProcessPart
+AnAddend = AddendOf kinds
 
 abbrev pub AnArm : Type 0
-AnArm =
-    Arm-F Part LinkPart MemberPart StatementPart AddendPart ArmPart Piece BodyPart FactorPart ObjectPart OperationPart ProcessPart
+AnArm = ArmOf kinds
 
 abbrev pub ABlock : Type 0
-ABlock =
-    Block-F Part LinkPart MemberPart StatementPart AddendPart ArmPart Piece BodyPart FactorPart ObjectPart OperationPart
-    ProcessPart
+ABlock = BlockOf kinds
 
 abbrev pub ABody : Type 0
-ABody =
-    Body-F Part LinkPart MemberPart StatementPart AddendPart ArmPart Piece BodyPart FactorPart ObjectPart OperationPart
-    ProcessPart
+ABody = BodyOf kinds
 
 abbrev pub AFactor : Type 0
-AFactor =
-    Factor-F Part LinkPart MemberPart StatementPart AddendPart ArmPart Piece BodyPart FactorPart ObjectPart OperationPart
-    ProcessPart
+AFactor = FactorOf kinds
 
 abbrev pub AnObject : Type 0
-AnObject =
-    ObjectConstructor-F Part LinkPart MemberPart StatementPart AddendPart ArmPart Piece BodyPart FactorPart ObjectPart
-    OperationPart ProcessPart
+AnObject = ObjectOf kinds
 
 abbrev pub AnOperation : Type 0
-AnOperation =
-    Operation-F Part LinkPart MemberPart StatementPart AddendPart ArmPart Piece BodyPart FactorPart ObjectPart OperationPart
-    ProcessPart
+AnOperation = OperationOf kinds
 
 abbrev pub AProcess : Type 0
-AProcess =
-    ProcessSection-F Part LinkPart MemberPart StatementPart AddendPart ArmPart Piece BodyPart FactorPart ObjectPart OperationPart
-    ProcessPart
+AProcess = ProcessOf kinds
+
+-- what the static rules know of a part of each kind
+abbrev pub parts_judged : Maps kinds judged.kinds
+parts_judged = record {
+  expression = λ x. x.part;
+  link = link_judged;
+  member = member_judged;
+  statement = λ x. x.part;
+  addend = addend_judged;
+  arm = arm_judged;
+  block = λ x. x.piece;
+  body = body_judged;
+  factor = factor_judged;
+  object = object_judged;
+  operation = operation_judged;
+  process = process_judged;
+}

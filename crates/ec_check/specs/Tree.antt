@@ -1,27 +1,33 @@
 -- The core of each part of a tree: the fold over the tree, with a step for each kind of part.
 use Rattle.std.specs.Prelude.{[], map}
 use Rattle.ec_ast.specs.declared.Class.{Class}
-use Rattle.ec_ast.specs.declared.Expression.{Expression, fold-Expression}
-use Rattle.ec_ast.specs.declared.Link.{Link, fold-Link}
-use Rattle.ec_ast.specs.declared.Member.{Member, fold-Member}
-use Rattle.ec_ast.specs.declared.Statement.{Statement, fold-Statement}
-use Rattle.ec_ast.specs.declared.Addend.{Addend, fold-Addend}
-use Rattle.ec_ast.specs.declared.Arm.{Arm, fold-Arm}
-use Rattle.ec_ast.specs.declared.Block.{Block, fold-Block}
-use Rattle.ec_ast.specs.declared.Body.{Body, fold-Body}
-use Rattle.ec_ast.specs.declared.Factor.{Factor, fold-Factor}
-use Rattle.ec_ast.specs.declared.ObjectConstructor.{ObjectConstructor, fold-ObjectConstructor}
-use Rattle.ec_ast.specs.declared.Operation.{Operation, fold-Operation}
-use Rattle.ec_ast.specs.declared.ProcessSection.{ProcessSection, fold-ProcessSection}
+use Rattle.ec_ast.specs.declared.Expression.{Expression}
+use Rattle.ec_ast.specs.declared.Link.{Link}
+use Rattle.ec_ast.specs.declared.Member.{Member}
+use Rattle.ec_ast.specs.declared.Statement.{Statement}
+use Rattle.ec_ast.specs.declared.Addend.{Addend}
+use Rattle.ec_ast.specs.declared.Arm.{Arm}
+use Rattle.ec_ast.specs.declared.Block.{Block}
+use Rattle.ec_ast.specs.declared.Body.{Body}
+use Rattle.ec_ast.specs.declared.Factor.{Factor}
+use Rattle.ec_ast.specs.declared.ObjectConstructor.{ObjectConstructor}
+use Rattle.ec_ast.specs.declared.Operation.{Operation}
+use Rattle.ec_ast.specs.declared.ProcessSection.{ProcessSection}
 use Rattle.ec_ast.specs.declared.Expression.TheOpen.{Link-F, Member-F}
 use Rattle.ec_check.specs.Layers.{expression_judged, statement_judged}
 use Rattle.ec_check.specs.Parts.{Part, LinkPart, call, index, MemberPart, variable, constant, condition, operation, StatementPart, AddendPart, ArmPart}
 use Rattle.ec_check.specs.Parts.{Piece, BodyPart, FactorPart, Holder, ObjectPart, OperationPart, ProcessPart, AnExpression, AStatement, ALink, AMember}
-use Rattle.ec_check.specs.Parts.{AnAddend, AnArm, ABlock, ABody, AFactor, AnObject, AnOperation, AProcess}
+use Rattle.ec_check.specs.Parts.{AnAddend, AnArm, ABlock, ABody, AFactor, AnObject, AnOperation, AProcess, kinds}
 use Rattle.ec_check.specs.Resolving.{core_of_expression, expression_made, core_of_statement, statement_made, locals_of, statements_core, statements_made, locals_of_statements}
 use Rattle.ec_check.specs.Typing.{expression_within, statement_within, statements_within}
 use Rattle.ec_core.specs.declared.Block.{roll-Block}
 use Rattle.ec_rules.specs.Judging.{block_finished, expression_part, statement_part}
+use Rattle.ec_rules.specs.Parts.{class_with}
+use Rattle.ec_tree_folds.specs.Folds.{Steps, expression_folded, link_folded, member_folded, statement_folded, addend_folded}
+use Rattle.ec_tree_folds.specs.Folds.{arm_folded, block_folded, body_folded, factor_folded, object_folded, operation_folded}
+use Rattle.ec_tree_folds.specs.Folds.{process_folded}
+use Rattle.ec_tree_folds.specs.Kinds.{tree}
+use Rattle.ec_tree_folds.specs.Layers.{Maps}
 
 -- ---- steps
 
@@ -95,95 +101,73 @@ process_step p = record { at = p.at; block = p.block }
 
 -- ---- the folds
 
+abbrev pub steps : Steps kinds
+steps = record {
+  expression = expression_step;
+  link = link_step;
+  member = member_step;
+  statement = statement_step;
+  addend = addend_step;
+  arm = arm_step;
+  block = block_step;
+  body = body_step;
+  factor = factor_step;
+  object = object_step;
+  operation = operation_step;
+  process = process_step;
+}
+
 unfoldable pub part_of : Expression → Part
-part_of =
-    fold-Expression
-    Part LinkPart MemberPart StatementPart AddendPart ArmPart Piece BodyPart FactorPart ObjectPart OperationPart ProcessPart
-    expression_step link_step member_step statement_step addend_step arm_step block_step body_step factor_step object_step
-    operation_step process_step
+part_of = expression_folded steps
 
 unfoldable pub link_of : Link → LinkPart
-link_of =
-    fold-Link
-    Part LinkPart MemberPart StatementPart AddendPart ArmPart Piece BodyPart FactorPart ObjectPart OperationPart ProcessPart
-    expression_step link_step member_step statement_step addend_step arm_step block_step body_step factor_step object_step
-    operation_step process_step
+link_of = link_folded steps
 
 unfoldable pub member_of : Member → MemberPart
-member_of =
-    fold-Member
-    Part LinkPart MemberPart StatementPart AddendPart ArmPart Piece BodyPart FactorPart ObjectPart OperationPart ProcessPart
-    expression_step link_step member_step statement_step addend_step arm_step block_step body_step factor_step object_step
-    operation_step process_step
+member_of = member_folded steps
 
 unfoldable pub statement_of : Statement → StatementPart
-statement_of =
-    fold-Statement
-    Part LinkPart MemberPart StatementPart AddendPart ArmPart Piece BodyPart FactorPart ObjectPart OperationPart ProcessPart
-    expression_step link_step member_step statement_step addend_step arm_step block_step body_step factor_step object_step
-    operation_step process_step
+statement_of = statement_folded steps
 
 unfoldable pub addend_of : Addend → AddendPart
-addend_of =
-    fold-Addend
-    Part LinkPart MemberPart StatementPart AddendPart ArmPart Piece BodyPart FactorPart ObjectPart OperationPart ProcessPart
-    expression_step link_step member_step statement_step addend_step arm_step block_step body_step factor_step object_step
-    operation_step process_step
+addend_of = addend_folded steps
 
 unfoldable pub arm_of : Arm → ArmPart
-arm_of =
-    fold-Arm
-    Part LinkPart MemberPart StatementPart AddendPart ArmPart Piece BodyPart FactorPart ObjectPart OperationPart ProcessPart
-    expression_step link_step member_step statement_step addend_step arm_step block_step body_step factor_step object_step
-    operation_step process_step
+arm_of = arm_folded steps
 
 unfoldable pub block_of : Block → Piece
-block_of =
-    fold-Block
-    Part LinkPart MemberPart StatementPart AddendPart ArmPart Piece BodyPart FactorPart ObjectPart OperationPart ProcessPart
-    expression_step link_step member_step statement_step addend_step arm_step block_step body_step factor_step object_step
-    operation_step process_step
+block_of = block_folded steps
 
 unfoldable pub body_of : Body → BodyPart
-body_of =
-    fold-Body
-    Part LinkPart MemberPart StatementPart AddendPart ArmPart Piece BodyPart FactorPart ObjectPart OperationPart ProcessPart
-    expression_step link_step member_step statement_step addend_step arm_step block_step body_step factor_step object_step
-    operation_step process_step
+body_of = body_folded steps
 
 unfoldable pub factor_of : Factor → FactorPart
-factor_of =
-    fold-Factor
-    Part LinkPart MemberPart StatementPart AddendPart ArmPart Piece BodyPart FactorPart ObjectPart OperationPart ProcessPart
-    expression_step link_step member_step statement_step addend_step arm_step block_step body_step factor_step object_step
-    operation_step process_step
+factor_of = factor_folded steps
 
 unfoldable pub object_of : ObjectConstructor → ObjectPart
-object_of =
-    fold-ObjectConstructor
-    Part LinkPart MemberPart StatementPart AddendPart ArmPart Piece BodyPart FactorPart ObjectPart OperationPart ProcessPart
-    expression_step link_step member_step statement_step addend_step arm_step block_step body_step factor_step object_step
-    operation_step process_step
+object_of = object_folded steps
 
 unfoldable pub operation_of : Operation → OperationPart
-operation_of =
-    fold-Operation
-    Part LinkPart MemberPart StatementPart AddendPart ArmPart Piece BodyPart FactorPart ObjectPart OperationPart ProcessPart
-    expression_step link_step member_step statement_step addend_step arm_step block_step body_step factor_step object_step
-    operation_step process_step
+operation_of = operation_folded steps
 
 unfoldable pub process_of : ProcessSection → ProcessPart
-process_of =
-    fold-ProcessSection
-    Part LinkPart MemberPart StatementPart AddendPart ArmPart Piece BodyPart FactorPart ObjectPart OperationPart ProcessPart
-    expression_step link_step member_step statement_step addend_step arm_step block_step body_step factor_step object_step
-    operation_step process_step
+process_of = process_folded steps
+
+abbrev pub parts : Maps tree kinds
+parts = record {
+  expression = part_of;
+  link = link_of;
+  member = member_of;
+  statement = statement_of;
+  addend = addend_of;
+  arm = arm_of;
+  block = block_of;
+  body = body_of;
+  factor = factor_of;
+  object = object_of;
+  operation = operation_of;
+  process = process_of;
+}
 
 abbrev pub class_part : Class → Holder
-class_part c = record {
-  name = c.name;
-  is_monitored = c.is_monitored;
-  parameters = c.parameters;
-  body = body_of c.body;
-  end_name = c.end_name;
-}
+class_part c = class_with c (body_of c.body)

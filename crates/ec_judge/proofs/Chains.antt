@@ -8,7 +8,7 @@ use Rattle.ec_ast.specs.declared.Expression.TheOpen.{Expression-F}
 use Rattle.ec_conform.specs.declared.static_type.StaticType.{StaticType}
 use Rattle.ec_judge.specs.Chains.{Passed, creation, faults_along, head, held_height, looked_at, over_head, over_links, passed, passed_all, valued}
 use Rattle.ec_judge.specs.declared.walk.Walk.{Walk}
-use Rattle.ec_judge.specs.Walks.{walked, over_layer, over_part, looked}
+use Rattle.ec_judge.specs.Walks.{walked, over_layer, looked}
 use Rattle.ec_judge.specs.declared.walk.Looked.{Looked}
 use Rattle.ec_judge.proofs.Parts.{name_part, part_at, part_clean}
 use Rattle.ec_judge.proofs.Walks.{walked_none, walked_walked}
@@ -159,16 +159,6 @@ head_faults scope form.Itself of part = refl
 head_faults scope (form.NameAlone name) of part = refl
 head_faults scope form.Other of part = refl
 
-head_uses : (scope : Scope) (f : form.Form) (of : Option StaticType) (part : Part) → uses_of_head scope (receiver_of_form f of) part ≡ uses_in scope part
-head_uses scope (form.Literal t) of part = refl
-head_uses scope form.Negated of part = refl
-head_uses scope (form.Constructor at) of part = refl
-head_uses scope (form.Vector t) of part = refl
-head_uses scope (form.Created name) of part = refl
-head_uses scope form.Itself of part = refl
-head_uses scope (form.NameAlone name) of part = refl
-head_uses scope form.Other of part = refl
-
 head_held : (f : form.Form) (of : Option StaticType) (height : ℕ) → held_height (receiver_of_form f of) height ≡ height
 head_held (form.Literal t) of height = refl
 head_held form.Negated of height = refl
@@ -214,11 +204,3 @@ module _ (x : Expression) (ls : List LinkPart) where
       ∙ ap (λ clean. passed_of part.at r clean v.height v.nodes) (part_clean x scope ∙ ap is_clean (sym (head_faults scope part.form v.of part)))
       ∙ ap (λ height. passed_of part.at r (is_clean (faults_of_head scope r part)) height v.nodes) (sym (head_held part.form v.of v.height))
       ∙ sym (ap (λ class. head_by class scope part) e)
-
-  pub valued_walk : (w : Walk) → class_created w.scope (part_of x).form ls ≡ None → over_part w (part_of x) ≡ over_head w (part_of x) ls
-  valued_walk w e =
-      let part = part_of x in
-      let of = (value_in w.scope part).of in
-      ap (λ fs. walked w fs (uses_in w.scope part)) (sym (head_faults w.scope part.form of part))
-      ∙ ap (walked w (faults_of_head w.scope (receiver_of_form part.form of) part)) (sym (head_uses w.scope part.form of part))
-      ∙ sym (ap (λ class. over_head_by class w part) e)

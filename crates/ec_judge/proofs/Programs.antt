@@ -1,6 +1,6 @@
 -- Constants one behind another, and the whole program: from what the calls find and leave behind to what the rules say.
-use Rattle.std.proofs.Common.{◌≡◌, ℕ, ◌+◌, ◌<◌, List, [], ◌∷◌, ◌++◌, drop, get_or, length, map, Option, Some, None, Result, Ok, Err, refl, sym, ap, ◌∙◌, subst}
-use Rattle.std.specs.Prelude.{IfOk, slice_get}
+use Rattle.std.proofs.Common.{◌≡◌, ℕ, ◌+◌, ◌<◌, List, [], ◌∷◌, ◌++◌, drop, get_or, length, map, Option, Some, None, refl, sym, ap, ◌∙◌}
+use Rattle.std.specs.Prelude.{slice_get}
 use Rattle.std.proofs.lemmas.List.{at_drop_more}
 use Rattle.ec_ast.specs.declared.Constant.{Constant}
 use Rattle.ec_ast.specs.declared.Name.{Name}
@@ -38,11 +38,6 @@ use Rattle.ec_rules.specs.declared.judged.Judged.{Judged}
 use Rattle.ec_rules.proofs.Noted.{noted_joined}
 use Rattle.ec_rules.proofs.Order.{first_in_order}
 use Rattle.ec_scopes.specs.declared.scope.Scope.{Scope}
-
--- what holds of the value of a result, where there is one
-pub if_ok : {T E : Type 0} {P Q : T → Type 0} → (r : Result T E) → ((x : T) → P x → Q x) → IfOk r P → IfOk r Q
-if_ok (Ok x) f p = f x p
-if_ok (Err e) f p = p
 
 -- ---- a constant with an expression
 

@@ -91,10 +91,6 @@ pub part_scope : (w v : Walk) (p : Part) → v ≡ over_part w p → v.scope ≡
 unfolding walked
 part_scope w v p e = ap (λ (x : Walk). x.scope) e
 
-pub parts_scope : (w v : Walk) (ps : List Part) → v ≡ over_parts w ps → v.scope ≡ w.scope
-unfolding walked
-parts_scope w v ps e = ap (λ (x : Walk). x.scope) e
-
 pub finished_scope : (w v : Walk) (faults : List StaticFault) (uses : List Use) → v ≡ walked w faults uses → v.scope ≡ w.scope
 unfolding walked
 finished_scope w v faults uses e = ap (λ (x : Walk). x.scope) e

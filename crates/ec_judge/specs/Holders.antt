@@ -23,7 +23,7 @@ use Rattle.ec_rules.specs.Lists.{each, each_of, plus}
 use Rattle.ec_rules.specs.Members.{conditions_in, constant_type, operations_in, parameter_names}
 use Rattle.ec_rules.specs.Names.{unknown_in_operation, unknown_in_parameters, unknown_types}
 use Rattle.ec_rules.specs.Operands.{must_conform}
-use Rattle.ec_rules.specs.Parts.{Holder, MemberPart, OperationPart, ProcessPart}
+use Rattle.ec_rules.specs.Parts.{Holder, HolderOf, MemberPart, OperationPart, ProcessPart}
 use Rattle.ec_rules.specs.Rules.{fault_if}
 use Rattle.ec_rules.specs.Statements.{done_both}
 use Rattle.ec_rules.specs.Tree.{body_of, member_of}
@@ -36,15 +36,18 @@ use Rattle.ec_scopes.specs.declared.object.Object.{Object}
 use Rattle.ec_scopes.specs.declared.scope.Scope.{Scope}
 use Rattle.ec_scopes.specs.Scopes.{in_a_process, written_in}
 
--- a heading with what it is the heading of
-abbrev pub holder_of : Heading → Body → Holder
-holder_of heading body = record {
+-- a heading with what the body below it is
+abbrev pub holder_with : {B : Type 0} → Heading → B → HolderOf B
+holder_with heading body = record {
   name = heading.name.now;
   is_monitored = heading.is_monitored;
   parameters = heading.parameters.now;
-  body = body_of body;
+  body = body;
   end_name = heading.end_name.now;
 }
+
+abbrev pub holder_of : Heading → Body → Holder
+holder_of heading body = holder_with heading (body_of body)
 
 -- members that are lent
 abbrev pub members_seen : List (Bor Member) → List MemberPart

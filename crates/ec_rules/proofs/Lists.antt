@@ -1,17 +1,11 @@
 -- Counts that stand still, and what lists of parts give one behind another.
-use Rattle.std.proofs.Common.{◌≡◌, ℕ, ◌-◌, ◌^◌, ◌≤◌, max, List, [], ◌∷◌, ◌++◌, refl, sym, ap, ◌∙◌, arith, append_assoc}
-use Rattle.ec_rules.specs.Lists.{each, greatest, plus, total}
+use Rattle.std.proofs.Common.{◌≡◌, ℕ, ◌-◌, ◌^◌, ◌≤◌, List, [], ◌∷◌, ◌++◌, refl, sym, ap, ◌∙◌, arith, append_assoc}
+use Rattle.ec_rules.specs.Lists.{each, plus, total}
 
 -- ---- sums
 
 pub plus_assoc : (a b c : ℕ) → plus (plus a b) c ≡ plus a (plus b c)
 plus_assoc a b c = omega arith
-
-pub plus_comm : (a b : ℕ) → plus a b ≡ plus b a
-plus_comm a b = omega arith
-
-pub plus_none : (a : ℕ) → a ≤ 2 ^ 64 - 1 → plus a 0 ≡ a
-plus_none a h = omega arith
 
 pub none_plus : (a : ℕ) → a ≤ 2 ^ 64 - 1 → plus 0 a ≡ a
 none_plus a h = omega arith
@@ -24,17 +18,9 @@ module _ {A : Type 0} where
   total_small f [] = omega arith
   total_small f (x ∷ xs) = plus_small (f x) (total f xs)
 
-  pub total_joined : (f : A → ℕ) (xs ys : List A) → total f (xs ++ ys) ≡ plus (total f xs) (total f ys)
-  total_joined f [] ys = sym (none_plus (total f ys) (total_small f ys))
-  total_joined f (x ∷ xs) ys = ap (plus (f x)) (total_joined f xs ys) ∙ sym (plus_assoc (f x) (total f xs) (total f ys))
-
   -- a count from 0
   pub total_from_none : (f : A → ℕ) (xs : List A) → plus 0 (total f xs) ≡ total f xs
   total_from_none f xs = none_plus (total f xs) (total_small f xs)
-
-  pub greatest_joined : (f : A → ℕ) (xs ys : List A) → greatest f (xs ++ ys) ≡ max (greatest f xs) (greatest f ys)
-  greatest_joined f [] ys = omega arith
-  greatest_joined f (x ∷ xs) ys = let h = greatest_joined f xs ys in omega arith
 
   pub each_joined : {B : Type 0} (f : A → List B) (xs ys : List A) → each f (xs ++ ys) ≡ each f xs ++ each f ys
   each_joined f [] ys = refl

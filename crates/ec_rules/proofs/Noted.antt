@@ -5,8 +5,8 @@ use Rattle.std.proofs.lemmas.List.{at_drop_more}
 use Rattle.ec_rules.specs.declared.StaticFault.{StaticFault}
 use Rattle.ec_rules.specs.declared.faults.Faults.{Faults}
 use Rattle.ec_rules.specs.Lists.{each}
-use Rattle.ec_rules.specs.Rules.{is_clean, noted, begun, ended}
-use Rattle.ec_rules.proofs.Order.{least_joined, least_swapped}
+use Rattle.ec_rules.specs.Rules.{is_clean, noted}
+use Rattle.ec_rules.proofs.Order.{least_joined}
 
 and_true : (a : Bool) → (a && true) ≡ a
 and_true true = refl
@@ -15,13 +15,6 @@ and_true false = refl
 and_assoc : (a b c : Bool) → ((a && b) && c) ≡ (a && (b && c))
 and_assoc true b c = refl
 and_assoc false b c = refl
-
-and_swapped : (a b c : Bool) → ((a && b) && c) ≡ ((a && c) && b)
-and_swapped true true true = refl
-and_swapped true true false = refl
-and_swapped true false true = refl
-and_swapped true false false = refl
-and_swapped false b c = refl
 
 pub clean_joined : (fs gs : List StaticFault) → is_clean (fs ++ gs) ≡ (is_clean fs && is_clean gs)
 clean_joined [] gs = refl
@@ -40,20 +33,6 @@ noted_joined f fs gs =
     let b = and_assoc f.is_clean (is_clean fs) (is_clean gs) in
     let c = clean_joined fs gs in
     cc
-
--- It makes no difference which are noted first.
-pub noted_swapped : (f : Faults) (fs gs : List StaticFault) → noted (noted f fs) gs ≡ noted (noted f gs) fs
-noted_swapped f fs gs =
-    let a = least_swapped f.first fs gs in
-    let b = and_swapped f.is_clean (is_clean fs) (is_clean gs) in
-    cc
-
--- In a part, whether a fault was met is whether one of the part's own was.
-pub clean_within : (f : Faults) (fs : List StaticFault) → (noted (begun f) fs).is_clean ≡ is_clean fs
-clean_within f fs = refl
-
-pub ended_part : (f : Faults) (fs : List StaticFault) → ended (noted (begun f) fs) f.is_clean ≡ noted f fs
-ended_part f fs = refl
 
 module _ {A : Type 0} where
   -- along a list: those of one more part

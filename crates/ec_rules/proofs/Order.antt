@@ -137,14 +137,6 @@ not_before f g n = by_order (compare_first _ _ _ _ _ _ (cases_order f.at.from g.
     by_order (behind p) = inl ((before_decides g f).1 p)
     by_order (same a b c) = inr (same_fault f g a b c)
 
-before_alone : (f g : StaticFault) → is_before f g ≡ true → is_before g f ≡ true → ⊥
-before_alone f g p q = impossible ((before_decides f f).0 (before_trans f g f q p))
-  where
-    impossible : Precedes f.at.from f.at.to (number_of f.rule) f.at.from f.at.to (number_of f.rule) → ⊥
-    impossible (by_first p) = omega arith
-    impossible (by_second d p) = omega arith
-    impossible (by_third d e p) = omega arith
-
 before_not_trans : (a b c : StaticFault) → is_before b a ≡ false → is_before c b ≡ false → is_before c a ≡ true → ⊥
 before_not_trans a b c p q r = by_order (not_before b a p)
   where
@@ -183,23 +175,6 @@ merged_assoc (Some a) (Some b) None = none_behind (is_before b a)
     none_behind false = refl
 merged_assoc (Some a) (Some b) (Some c) = assoc_step a b c (is_before b a) (is_before c b) (is_before c a) refl refl refl
 
-comm_step : (a b : StaticFault) (ba ab : Bool) → is_before b a ≡ ba → is_before a b ≡ ab →
-    merged (Some a) (Some b) ≡ merged (Some b) (Some a)
-comm_step a b true true p q = absurd (before_alone b a p q)
-comm_step a b true false p q = rw (p, q) refl
-comm_step a b false true p q = rw (p, q) refl
-comm_step a b false false p q = rw (p, q) (by_order (not_before b a p))
-  where
-    by_order : (is_before a b ≡ true) ⊎ (b ≡ a) → Some a ≡ Some b
-    by_order (inl n) = absurd (cc)
-    by_order (inr e) = cc
-
-merged_comm : (a b : Option StaticFault) → merged a b ≡ merged b a
-merged_comm None None = refl
-merged_comm None (Some b) = refl
-merged_comm (Some a) None = refl
-merged_comm (Some a) (Some b) = comm_step a b (is_before b a) (is_before a b) refl refl
-
 -- ---- lists
 
 pub least_of_merged : (o : Option StaticFault) (fs : List StaticFault) → least_of o fs ≡ merged o (least_of None fs)
@@ -230,16 +205,3 @@ pub least_joined : (so_far : Option StaticFault) (fs gs : List StaticFault) →
     least_of so_far (fs ++ gs) ≡ least_of (least_of so_far fs) gs
 least_joined so_far [] gs = refl
 least_joined so_far (f ∷ fs) gs = least_joined (lesser so_far f) fs gs
-
--- faults are met in any order
-pub least_swapped : (so_far : Option StaticFault) (fs gs : List StaticFault) →
-    least_of (least_of so_far fs) gs ≡ least_of (least_of so_far gs) fs
-least_swapped so_far fs gs =
-    let a = least_of_merged so_far fs in
-    let b = least_of_merged (least_of so_far fs) gs in
-    let c = least_of_merged so_far gs in
-    let d = least_of_merged (least_of so_far gs) fs in
-    let e = merged_assoc so_far (least_of None fs) (least_of None gs) in
-    let f = merged_assoc so_far (least_of None gs) (least_of None fs) in
-    let g = merged_comm (least_of None fs) (least_of None gs) in
-    cc

@@ -2,14 +2,13 @@
 -- part at a time, and Judging.antt puts the parts together.
 use Rattle.std.specs.Prelude.{Bool, true, List, map, Option}
 use Rattle.ec_ast.specs.declared.Additive.{Additive}
+use Rattle.ec_ast.specs.declared.Class.{Class}
 use Rattle.ec_ast.specs.declared.Multiplicative.{Multiplicative}
 use Rattle.ec_ast.specs.declared.Name.{Name}
 use Rattle.ec_ast.specs.declared.Parameter.{Parameter}
 use Rattle.ec_ast.specs.declared.Span.{Span}
 use Rattle.ec_ast.specs.declared.TypeName.{TypeName}
 use Rattle.ec_ast.specs.declared.Typeobject.{Typeobject}
-use Rattle.ec_ast.specs.declared.Expression.TheOpen.{Expression-F, Link-F, Member-F, Statement-F, Addend-F, Arm-F, Block-F}
-use Rattle.ec_ast.specs.declared.Expression.TheOpen.{Body-F, Factor-F, ObjectConstructor-F, Operation-F, ProcessSection-F}
 use Rattle.ec_rules.specs.declared.StaticFault.{StaticFault}
 use Rattle.ec_rules.specs.Forms.{Form}
 use Rattle.ec_rules.specs.declared.judged.Done.{Done}
@@ -17,6 +16,8 @@ use Rattle.ec_rules.specs.declared.judged.Judged.{Judged}
 use Rattle.ec_rules.specs.Captures.{Use}
 use Rattle.ec_scopes.specs.declared.entries.Entry.{Entry}
 use Rattle.ec_scopes.specs.declared.scope.Scope.{Scope}
+use Rattle.ec_tree_folds.specs.Kinds.{Kinds, ExpressionOf, LinkOf, MemberOf, StatementOf, AddendOf, ArmOf, BlockOf, BodyOf, FactorOf}
+use Rattle.ec_tree_folds.specs.Kinds.{ObjectOf, OperationOf, ProcessOf}
 
 -- What an expression is in a scope: its value; the names that it uses, in order; and all faults within it.
 pub record Judgement : Type 0 where
@@ -84,13 +85,26 @@ pub record BodyPart : Type 0 where
   pub initially : Option Piece
   pub process : Option ProcessPart
 
--- an object constructor, or a class with its parameters
-pub record Holder : Type 0 where
+-- an object constructor, or a class with its parameters, over what its body is
+pub record HolderOf (B : Type 0) : Type 0 where
   pub name : Name
   pub is_monitored : Bool
   pub parameters : List Parameter
-  pub body : BodyPart
+  pub body : B
   pub end_name : Name
+
+abbrev pub Holder : Type 0
+Holder = HolderOf BodyPart
+
+-- a class with what its body is
+abbrev pub class_with : {B : Type 0} → Class → B → HolderOf B
+class_with c body = record {
+  name = c.name;
+  is_monitored = c.is_monitored;
+  parameters = c.parameters;
+  body = body;
+  end_name = c.end_name;
+}
 
 -- an object constructor, at its first word
 pub record ObjectPart : Type 0 where
@@ -110,66 +124,59 @@ pub record ConstantPart : Type 0 where
   pub of : Option TypeName
   pub value : ValuePart
 
+abbrev pub kinds : Kinds
+kinds = record {
+  expression = Part;
+  link = LinkPart;
+  member = MemberPart;
+  statement = StatementPart;
+  addend = AddendPart;
+  arm = ArmPart;
+  block = Piece;
+  body = BodyPart;
+  factor = FactorPart;
+  object = ObjectPart;
+  operation = OperationPart;
+  process = ProcessPart;
+}
+
 -- ---- one layer of the tree, with parts in it
 
 abbrev pub AnExpression : Type 0
-AnExpression =
-    Expression-F Part LinkPart MemberPart StatementPart AddendPart ArmPart Piece BodyPart FactorPart ObjectPart OperationPart
-    ProcessPart
+AnExpression = ExpressionOf kinds
 
 abbrev pub AStatement : Type 0
-AStatement =
-    Statement-F Part LinkPart MemberPart StatementPart AddendPart ArmPart Piece BodyPart FactorPart ObjectPart OperationPart
-    ProcessPart
+AStatement = StatementOf kinds
 
 abbrev pub ALink : Type 0
-ALink =
-    Link-F Part LinkPart MemberPart StatementPart AddendPart ArmPart Piece BodyPart FactorPart ObjectPart OperationPart
-    ProcessPart
+ALink = LinkOf kinds
 
 abbrev pub AMember : Type 0
-AMember =
-    Member-F Part LinkPart MemberPart StatementPart AddendPart ArmPart Piece BodyPart FactorPart ObjectPart OperationPart
-    ProcessPart
+AMember = MemberOf kinds
 
 abbrev pub AnAddend : Type 0
-AnAddend =
-    Addend-F Part LinkPart MemberPart StatementPart AddendPart ArmPart Piece BodyPart FactorPart ObjectPart OperationPart
-    ProcessPart
+AnAddend = AddendOf kinds
 
 abbrev pub AnArm : Type 0
-AnArm =
-    Arm-F Part LinkPart MemberPart StatementPart AddendPart ArmPart Piece BodyPart FactorPart ObjectPart OperationPart ProcessPart
+AnArm = ArmOf kinds
 
 abbrev pub ABlock : Type 0
-ABlock =
-    Block-F Part LinkPart MemberPart StatementPart AddendPart ArmPart Piece BodyPart FactorPart ObjectPart OperationPart
-    ProcessPart
+ABlock = BlockOf kinds
 
 abbrev pub ABody : Type 0
-ABody =
-    Body-F Part LinkPart MemberPart StatementPart AddendPart ArmPart Piece BodyPart FactorPart ObjectPart OperationPart
-    ProcessPart
+ABody = BodyOf kinds
 
 abbrev pub AFactor : Type 0
-AFactor =
-    Factor-F Part LinkPart MemberPart StatementPart AddendPart ArmPart Piece BodyPart FactorPart ObjectPart OperationPart
-    ProcessPart
+AFactor = FactorOf kinds
 
 abbrev pub AnObject : Type 0
-AnObject =
-    ObjectConstructor-F Part LinkPart MemberPart StatementPart AddendPart ArmPart Piece BodyPart FactorPart ObjectPart
-    OperationPart ProcessPart
+AnObject = ObjectOf kinds
 
 abbrev pub AnOperation : Type 0
-AnOperation =
-    Operation-F Part LinkPart MemberPart StatementPart AddendPart ArmPart Piece BodyPart FactorPart ObjectPart OperationPart
-    ProcessPart
+AnOperation = OperationOf kinds
 
 abbrev pub AProcess : Type 0
-AProcess =
-    ProcessSection-F Part LinkPart MemberPart StatementPart AddendPart ArmPart Piece BodyPart FactorPart ObjectPart OperationPart
-    ProcessPart
+AProcess = ProcessOf kinds
 
 -- ---- what an expression is in a scope, where its value is needed, in short
 

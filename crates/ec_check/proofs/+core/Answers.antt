@@ -8,6 +8,7 @@ use Rattle.ec_check.proofs.Blocks as blocks
 use Rattle.ec_check.proofs.Blocks.{on_ok, whatever}
 use Rattle.ec_check.proofs.Bodies.{operation_made, process_gone}
 use Rattle.ec_check.proofs.Equations as equations
+use Rattle.ec_tree_folds.proofs.Layers as layers
 use Rattle.ec_check.proofs.Equations.{addend_step_of, arm_step_of, factor_step_of}
 use Rattle.ec_check.proofs.Forms.{behind_none, core_is, has_gone, has_made, has_only_made, statement_core_is}
 use Rattle.ec_check.proofs.Fusion.{same_part}
@@ -20,7 +21,7 @@ use Rattle.ec_check.specs.Parts.{both_made, link_judged}
 use Rattle.ec_check.specs.Places.{Env, condition_named, place_of, type_or}
 use Rattle.ec_check.specs.Resolving as spec
 use Rattle.ec_check.specs.Resolving.{addend_core, all_made, cores_of, factor_core, field_stored, links_core, member_made, members_made, parts_of_links}
-use Rattle.ec_check.specs.Tree.{addend_of, arm_of, block_of, factor_of, link_of, member_of, object_of, part_of, statement_of}
+use Rattle.ec_check.specs.Tree.{addend_of, arm_of, block_of, factor_of, link_of, member_of, object_of, part_of, parts, statement_of}
 use Rattle.ec_check.specs.declared.variables.Variables.{Variables}
 use Rattle.ec_conform.specs.Types.{vector_of}
 use Rattle.ec_core.specs.declared.Expression.{out-Expression}
@@ -144,79 +145,79 @@ chains::resolve_links-returns-clause-made t c =
 
 pub expressions::resolve-returns-in-Number-clause-core : goal.expressions::resolve-returns-in-Number-clause-core
 expressions::resolve-returns-in-Number-clause-core t c =
-    core_is c.args.e.now _ _ c.in-Number.is (equations.number_layer c.in-Number.n) (env_of c.args.r.now)
+    core_is c.args.e.now _ _ c.in-Number.is (layers.number_layer parts c.in-Number.n) (env_of c.args.r.now)
 
 pub expressions::resolve-returns-in-Number-clause-made : goal.expressions::resolve-returns-in-Number-clause-made
 expressions::resolve-returns-in-Number-clause-made t c =
-    has_made c.args.e.now _ _ c.in-Number.is (equations.number_layer c.in-Number.n) c.args.r.now _
+    has_made c.args.e.now _ _ c.in-Number.is (layers.number_layer parts c.in-Number.n) c.args.r.now _
     (unmade c.args.r.now)
 
 pub expressions::resolve-returns-in-Truth-clause-core : goal.expressions::resolve-returns-in-Truth-clause-core
 expressions::resolve-returns-in-Truth-clause-core t c =
-    core_is c.args.e.now _ _ c.in-Truth.is (equations.truth_layer c.in-Truth.b c.in-Truth.field-1) (env_of c.args.r.now)
+    core_is c.args.e.now _ _ c.in-Truth.is (layers.truth_layer parts c.in-Truth.b c.in-Truth.field-1) (env_of c.args.r.now)
 
 pub expressions::resolve-returns-in-Truth-clause-made : goal.expressions::resolve-returns-in-Truth-clause-made
 expressions::resolve-returns-in-Truth-clause-made t c =
-    has_made c.args.e.now _ _ c.in-Truth.is (equations.truth_layer c.in-Truth.b c.in-Truth.field-1) c.args.r.now _
+    has_made c.args.e.now _ _ c.in-Truth.is (layers.truth_layer parts c.in-Truth.b c.in-Truth.field-1) c.args.r.now _
     (unmade c.args.r.now)
 
 pub expressions::resolve-returns-in-Nil-clause-core : goal.expressions::resolve-returns-in-Nil-clause-core
 expressions::resolve-returns-in-Nil-clause-core t c =
-    core_is c.args.e.now _ _ c.in-Nil.is (equations.nil_layer c.in-Nil.field-0) (env_of c.args.r.now)
+    core_is c.args.e.now _ _ c.in-Nil.is (layers.nil_layer parts c.in-Nil.field-0) (env_of c.args.r.now)
 
 pub expressions::resolve-returns-in-Nil-clause-made : goal.expressions::resolve-returns-in-Nil-clause-made
 expressions::resolve-returns-in-Nil-clause-made t c =
-    has_made c.args.e.now _ _ c.in-Nil.is (equations.nil_layer c.in-Nil.field-0) c.args.r.now _
+    has_made c.args.e.now _ _ c.in-Nil.is (layers.nil_layer parts c.in-Nil.field-0) c.args.r.now _
     (unmade c.args.r.now)
 
 pub expressions::resolve-returns-in-Itself-clause-core : goal.expressions::resolve-returns-in-Itself-clause-core
 expressions::resolve-returns-in-Itself-clause-core t c =
-    core_is c.args.e.now _ _ c.in-Itself.is (equations.itself_layer c.in-Itself.field-0) (env_of c.args.r.now)
+    core_is c.args.e.now _ _ c.in-Itself.is (layers.itself_layer parts c.in-Itself.field-0) (env_of c.args.r.now)
 
 pub expressions::resolve-returns-in-Itself-clause-made : goal.expressions::resolve-returns-in-Itself-clause-made
 expressions::resolve-returns-in-Itself-clause-made t c =
-    has_made c.args.e.now _ _ c.in-Itself.is (equations.itself_layer c.in-Itself.field-0) c.args.r.now _
+    has_made c.args.e.now _ _ c.in-Itself.is (layers.itself_layer parts c.in-Itself.field-0) c.args.r.now _
     (unmade c.args.r.now)
 
 pub expressions::resolve-returns-in-NodeCount-clause-core : goal.expressions::resolve-returns-in-NodeCount-clause-core
 expressions::resolve-returns-in-NodeCount-clause-core t c =
-    core_is c.args.e.now _ _ c.in-NodeCount.is (equations.node_count_layer c.in-NodeCount.field-0) (env_of c.args.r.now)
+    core_is c.args.e.now _ _ c.in-NodeCount.is (layers.node_count_layer parts c.in-NodeCount.field-0) (env_of c.args.r.now)
 
 pub expressions::resolve-returns-in-NodeCount-clause-made : goal.expressions::resolve-returns-in-NodeCount-clause-made
 expressions::resolve-returns-in-NodeCount-clause-made t c =
-    has_made c.args.e.now _ _ c.in-NodeCount.is (equations.node_count_layer c.in-NodeCount.field-0) c.args.r.now _
+    has_made c.args.e.now _ _ c.in-NodeCount.is (layers.node_count_layer parts c.in-NodeCount.field-0) c.args.r.now _
     (unmade c.args.r.now)
 
 pub expressions::resolve-returns-in_ok-copied-in-Literal-clause-core : goal.expressions::resolve-returns-in_ok-copied-in-Literal-clause-core
 expressions::resolve-returns-in_ok-copied-in-Literal-clause-core t c =
-    ap e.Literal c.in_ok-copied-in-Literal.ensures ∙ core_is c.args.e.now _ _ c.in-Literal.is (equations.literal_layer c.in-Literal.l) (env_of c.args.r.now)
+    ap e.Literal c.in_ok-copied-in-Literal.ensures ∙ core_is c.args.e.now _ _ c.in-Literal.is (layers.literal_layer parts c.in-Literal.l) (env_of c.args.r.now)
 
 pub expressions::resolve-returns-in_ok-copied-in-Literal-clause-made : goal.expressions::resolve-returns-in_ok-copied-in-Literal-clause-made
 expressions::resolve-returns-in_ok-copied-in-Literal-clause-made t c =
-    has_made c.args.e.now _ _ c.in-Literal.is (equations.literal_layer c.in-Literal.l) c.args.r.now _
+    has_made c.args.e.now _ _ c.in-Literal.is (layers.literal_layer parts c.in-Literal.l) c.args.r.now _
     (unmade c.args.r.now)
 
 pub expressions::resolve-returns-in_ok-place_of-in-Variable-clause-core : goal.expressions::resolve-returns-in_ok-place_of-in-Variable-clause-core
 expressions::resolve-returns-in_ok-place_of-in-Variable-clause-core t c =
     ap e.Read (c.in_ok-place_of-in-Variable.ensures ∙ ap (place_of (env_of c.args.r.now)) c.as_slice.ensures)
-    ∙ core_is c.args.e.now _ _ c.in-Variable.is (equations.variable_layer c.in-Variable.name) (env_of c.args.r.now)
+    ∙ core_is c.args.e.now _ _ c.in-Variable.is (layers.variable_layer parts c.in-Variable.name) (env_of c.args.r.now)
 
 pub expressions::resolve-returns-in_ok-place_of-in-Variable-clause-made : goal.expressions::resolve-returns-in_ok-place_of-in-Variable-clause-made
 expressions::resolve-returns-in_ok-place_of-in-Variable-clause-made t c =
-    has_made c.args.e.now _ _ c.in-Variable.is (equations.variable_layer c.in-Variable.name) c.args.r.now _
+    has_made c.args.e.now _ _ c.in-Variable.is (layers.variable_layer parts c.in-Variable.name) c.args.r.now _
     (unmade c.args.r.now)
 
 pub expressions::resolve-returns-in-Parenthesised-clause-core : goal.expressions::resolve-returns-in-Parenthesised-clause-core
 expressions::resolve-returns-in-Parenthesised-clause-core t c =
     subst (λ x. IfOk c.resolve.result (λ d. d ≡ x))
     (ap (λ x. (part_of x).core (env_of c.args.r.now)) c.get.ensures
-    ∙ core_is c.args.e.now _ _ c.in-Parenthesised.is (equations.parenthesised_layer c.in-Parenthesised.e c.in-Parenthesised.field-1) (env_of c.args.r.now))
+    ∙ core_is c.args.e.now _ _ c.in-Parenthesised.is (layers.parenthesised_layer parts c.in-Parenthesised.e c.in-Parenthesised.field-1) (env_of c.args.r.now))
     c.resolve.ensures.core
 
 pub expressions::resolve-returns-in-Parenthesised-clause-made : goal.expressions::resolve-returns-in-Parenthesised-clause-made
 expressions::resolve-returns-in-Parenthesised-clause-made t c =
     on_ok c.resolve.result
-    (λ h. has_made c.args.e.now _ _ c.in-Parenthesised.is (equations.parenthesised_layer c.in-Parenthesised.e c.in-Parenthesised.field-1) c.args.r.now _
+    (λ h. has_made c.args.e.now _ _ c.in-Parenthesised.is (layers.parenthesised_layer parts c.in-Parenthesised.e c.in-Parenthesised.field-1) c.args.r.now _
     (one_made c.args.r.now _ c.get.result.now c.in-Parenthesised.e c.get.ensures h))
     c.resolve.ensures.made
 
@@ -224,76 +225,76 @@ pub expressions::resolve-returns-in-Constructor-clause-core : goal.expressions::
 expressions::resolve-returns-in-Constructor-clause-core t c =
     subst (λ x. IfOk c.resolve_object.result (λ d. d ≡ x))
     (ap (λ o. e.Construct (spec.number_of_holder c.args.r.now.walk.scope (object_of o).holder) (map (place_of (env_of c.args.r.now)) (spec.captures_of c.args.r.now.walk.scope (object_of o).holder))) c.get-in-Constructor.ensures
-    ∙ core_is c.args.e.now _ _ c.in-Constructor.is (equations.constructor_layer c.in-Constructor.object) (env_of c.args.r.now))
+    ∙ core_is c.args.e.now _ _ c.in-Constructor.is (layers.constructor_layer parts c.in-Constructor.object) (env_of c.args.r.now))
     c.resolve_object.ensures.core
 
 pub expressions::resolve-returns-in-Constructor-clause-made : goal.expressions::resolve-returns-in-Constructor-clause-made
 expressions::resolve-returns-in-Constructor-clause-made t c =
     on_ok c.resolve_object.result
-    (λ h. has_made c.args.e.now _ _ c.in-Constructor.is (equations.constructor_layer c.in-Constructor.object) c.args.r.now _
+    (λ h. has_made c.args.e.now _ _ c.in-Constructor.is (layers.constructor_layer parts c.in-Constructor.object) c.args.r.now _
     (same_made (ap (λ o. spec.holder_made c.args.r.now.walk.scope (object_of o).holder) c.get-in-Constructor.ensures) h))
     c.resolve_object.ensures.made
 
 pub expressions::resolve-returns-in_ok-resolve_boxed-in-NodeAt-clause-core : goal.expressions::resolve-returns-in_ok-resolve_boxed-in-NodeAt-clause-core
 expressions::resolve-returns-in_ok-resolve_boxed-in-NodeAt-clause-core t c =
     ap (λ x. e.NodeAt x c.in-NodeAt.word.from) (c.in_ok-resolve_boxed-in-NodeAt.ensures.core ∙ ap (λ x. (part_of x).core (env_of c.args.r.now)) c.get-in-NodeAt.ensures)
-    ∙ core_is c.args.e.now _ _ c.in-NodeAt.is (equations.node_at_layer c.in-NodeAt.e _ c.in-NodeAt.word) (env_of c.args.r.now)
+    ∙ core_is c.args.e.now _ _ c.in-NodeAt.is (layers.node_at_layer parts c.in-NodeAt.e _ c.in-NodeAt.word) (env_of c.args.r.now)
 
 pub expressions::resolve-returns-in_ok-resolve_boxed-in-NodeAt-clause-made : goal.expressions::resolve-returns-in_ok-resolve_boxed-in-NodeAt-clause-made
 expressions::resolve-returns-in_ok-resolve_boxed-in-NodeAt-clause-made t c =
-    has_made c.args.e.now _ _ c.in-NodeAt.is (equations.node_at_layer c.in-NodeAt.e _ c.in-NodeAt.word) c.args.r.now _
+    has_made c.args.e.now _ _ c.in-NodeAt.is (layers.node_at_layer parts c.in-NodeAt.e _ c.in-NodeAt.word) c.args.r.now _
     (one_made c.args.r.now _ c.get-in-NodeAt.result.now c.in-NodeAt.e c.get-in-NodeAt.ensures c.in_ok-resolve_boxed-in-NodeAt.ensures.made)
 
 pub expressions::resolve-returns-in_ok-resolve_boxed-in-NewVector-clause-core : goal.expressions::resolve-returns-in_ok-resolve_boxed-in-NewVector-clause-core
 expressions::resolve-returns-in_ok-resolve_boxed-in-NewVector-clause-core t c =
     ap (λ of. e.NewVector of c.in_ok-resolve_boxed-in-NewVector.field-0 c.in-NewVector.word.from) c.in_ok-made-in-NewVector.ensures
     ∙ ap (λ x. e.NewVector (vector_of (written_in c.args.r.now.walk.scope c.in-NewVector.of)) x c.in-NewVector.word.from) (c.in_ok-resolve_boxed-in-NewVector.ensures.core ∙ ap (λ x. (part_of x).core (env_of c.args.r.now)) c.get-in-NewVector.ensures)
-    ∙ core_is c.args.e.now _ _ c.in-NewVector.is (equations.new_vector_layer c.in-NewVector.of c.in-NewVector.e _ c.in-NewVector.word) (env_of c.args.r.now)
+    ∙ core_is c.args.e.now _ _ c.in-NewVector.is (layers.new_vector_layer parts c.in-NewVector.of c.in-NewVector.e _ c.in-NewVector.word) (env_of c.args.r.now)
 
 pub expressions::resolve-returns-in_ok-resolve_boxed-in-NewVector-clause-made : goal.expressions::resolve-returns-in_ok-resolve_boxed-in-NewVector-clause-made
 expressions::resolve-returns-in_ok-resolve_boxed-in-NewVector-clause-made t c =
-    has_made c.args.e.now _ _ c.in-NewVector.is (equations.new_vector_layer c.in-NewVector.of c.in-NewVector.e _ c.in-NewVector.word) c.args.r.now _
+    has_made c.args.e.now _ _ c.in-NewVector.is (layers.new_vector_layer parts c.in-NewVector.of c.in-NewVector.e _ c.in-NewVector.word) c.args.r.now _
     (one_made c.args.r.now _ c.get-in-NewVector.result.now c.in-NewVector.e c.get-in-NewVector.ensures c.in_ok-resolve_boxed-in-NewVector.ensures.made)
 
 pub expressions::resolve-returns-in_ok-resolve_boxed-in-Negative-clause-core : goal.expressions::resolve-returns-in_ok-resolve_boxed-in-Negative-clause-core
 expressions::resolve-returns-in_ok-resolve_boxed-in-Negative-clause-core t c =
     ap (λ x. e.Negative x) (c.in_ok-resolve_boxed-in-Negative.ensures.core ∙ ap (λ x. (part_of x).core (env_of c.args.r.now)) c.get-in-Negative.ensures)
-    ∙ core_is c.args.e.now _ _ c.in-Negative.is (equations.negative_layer c.in-Negative.e c.in-Negative.field-1) (env_of c.args.r.now)
+    ∙ core_is c.args.e.now _ _ c.in-Negative.is (layers.negative_layer parts c.in-Negative.e c.in-Negative.field-1) (env_of c.args.r.now)
 
 pub expressions::resolve-returns-in_ok-resolve_boxed-in-Negative-clause-made : goal.expressions::resolve-returns-in_ok-resolve_boxed-in-Negative-clause-made
 expressions::resolve-returns-in_ok-resolve_boxed-in-Negative-clause-made t c =
-    has_made c.args.e.now _ _ c.in-Negative.is (equations.negative_layer c.in-Negative.e c.in-Negative.field-1) c.args.r.now _
+    has_made c.args.e.now _ _ c.in-Negative.is (layers.negative_layer parts c.in-Negative.e c.in-Negative.field-1) c.args.r.now _
     (one_made c.args.r.now _ c.get-in-Negative.result.now c.in-Negative.e c.get-in-Negative.ensures c.in_ok-resolve_boxed-in-Negative.ensures.made)
 
 pub expressions::resolve-returns-in_ok-resolve_boxed-in-View-clause-core : goal.expressions::resolve-returns-in_ok-resolve_boxed-in-View-clause-core
 expressions::resolve-returns-in_ok-resolve_boxed-in-View-clause-core t c =
     ap (λ of. e.View c.in_ok-resolve_boxed-in-View.field-0 of c.in-View.at.from) c.in_ok-seen-in-View.ensures
     ∙ ap (λ x. e.View x (written_in c.args.r.now.walk.scope c.in-View.of) c.in-View.at.from) (c.in_ok-resolve_boxed-in-View.ensures.core ∙ ap (λ x. (part_of x).core (env_of c.args.r.now)) c.get-in-View.ensures)
-    ∙ core_is c.args.e.now _ _ c.in-View.is (equations.view_layer c.in-View.e c.in-View.of c.in-View.at) (env_of c.args.r.now)
+    ∙ core_is c.args.e.now _ _ c.in-View.is (layers.view_layer parts c.in-View.e c.in-View.of c.in-View.at) (env_of c.args.r.now)
 
 pub expressions::resolve-returns-in_ok-resolve_boxed-in-View-clause-made : goal.expressions::resolve-returns-in_ok-resolve_boxed-in-View-clause-made
 expressions::resolve-returns-in_ok-resolve_boxed-in-View-clause-made t c =
-    has_made c.args.e.now _ _ c.in-View.is (equations.view_layer c.in-View.e c.in-View.of c.in-View.at) c.args.r.now _
+    has_made c.args.e.now _ _ c.in-View.is (layers.view_layer parts c.in-View.e c.in-View.of c.in-View.at) c.args.r.now _
     (one_made c.args.r.now _ c.get-in-View.result.now c.in-View.e c.get-in-View.ensures c.in_ok-resolve_boxed-in-View.ensures.made)
 
 pub expressions::resolve-returns-in_ok-resolve_boxed-in-IsFixed-clause-core : goal.expressions::resolve-returns-in_ok-resolve_boxed-in-IsFixed-clause-core
 expressions::resolve-returns-in_ok-resolve_boxed-in-IsFixed-clause-core t c =
     ap (λ x. e.IsFixed x c.in-IsFixed.at.from) (c.in_ok-resolve_boxed-in-IsFixed.ensures.core ∙ ap (λ x. (part_of x).core (env_of c.args.r.now)) c.get-in-IsFixed.ensures)
-    ∙ core_is c.args.e.now _ _ c.in-IsFixed.is (equations.is_fixed_layer c.in-IsFixed.e c.in-IsFixed.at) (env_of c.args.r.now)
+    ∙ core_is c.args.e.now _ _ c.in-IsFixed.is (layers.is_fixed_layer parts c.in-IsFixed.e c.in-IsFixed.at) (env_of c.args.r.now)
 
 pub expressions::resolve-returns-in_ok-resolve_boxed-in-IsFixed-clause-made : goal.expressions::resolve-returns-in_ok-resolve_boxed-in-IsFixed-clause-made
 expressions::resolve-returns-in_ok-resolve_boxed-in-IsFixed-clause-made t c =
-    has_made c.args.e.now _ _ c.in-IsFixed.is (equations.is_fixed_layer c.in-IsFixed.e c.in-IsFixed.at) c.args.r.now _
+    has_made c.args.e.now _ _ c.in-IsFixed.is (layers.is_fixed_layer parts c.in-IsFixed.e c.in-IsFixed.at) c.args.r.now _
     (one_made c.args.r.now _ c.get-in-IsFixed.result.now c.in-IsFixed.e c.get-in-IsFixed.ensures c.in_ok-resolve_boxed-in-IsFixed.ensures.made)
 
 pub expressions::resolve-returns-in_ok-resolve_boxed-in-Not-clause-core : goal.expressions::resolve-returns-in_ok-resolve_boxed-in-Not-clause-core
 expressions::resolve-returns-in_ok-resolve_boxed-in-Not-clause-core t c =
     ap (λ x. e.Not x) (c.in_ok-resolve_boxed-in-Not.ensures.core ∙ ap (λ x. (part_of x).core (env_of c.args.r.now)) c.get-in-Not.ensures)
-    ∙ core_is c.args.e.now _ _ c.in-Not.is (equations.not_layer c.in-Not.e c.in-Not.field-1) (env_of c.args.r.now)
+    ∙ core_is c.args.e.now _ _ c.in-Not.is (layers.not_layer parts c.in-Not.e c.in-Not.field-1) (env_of c.args.r.now)
 
 pub expressions::resolve-returns-in_ok-resolve_boxed-in-Not-clause-made : goal.expressions::resolve-returns-in_ok-resolve_boxed-in-Not-clause-made
 expressions::resolve-returns-in_ok-resolve_boxed-in-Not-clause-made t c =
-    has_made c.args.e.now _ _ c.in-Not.is (equations.not_layer c.in-Not.e c.in-Not.field-1) c.args.r.now _
+    has_made c.args.e.now _ _ c.in-Not.is (layers.not_layer parts c.in-Not.e c.in-Not.field-1) c.args.r.now _
     (one_made c.args.r.now _ c.get-in-Not.result.now c.in-Not.e c.get-in-Not.ensures c.in_ok-resolve_boxed-in-Not.ensures.made)
 
 pub expressions::resolve-returns-in_ok-resolve_factors-in-Term-clause-core : goal.expressions::resolve-returns-in_ok-resolve_factors-in-Term-clause-core
@@ -303,11 +304,11 @@ expressions::resolve-returns-in_ok-resolve_factors-in-Term-clause-core t c =
     (c.in_ok-resolve_factors-in-Term.ensures.core ∙ ap (λ y. map (factor_core y) (map factor_of c.as_slice-in-Term.result.now)) c.in_ok-head-in-Term.ensures.made.place
     ∙ ap (λ ys. map (factor_core env) (map factor_of ys)) c.as_slice-in-Term.ensures)
     ∙ ap (λ x. e.Term x (map (factor_core env) (map factor_of c.in-Term.factors))) (c.in_ok-head-in-Term.ensures.core ∙ ap (λ x. (part_of x).core env) c.get-in-Term.ensures)
-    ∙ core_is c.args.e.now _ _ c.in-Term.is (equations.term_layer c.in-Term.first c.in-Term.factors) (env_of c.args.r.now)
+    ∙ core_is c.args.e.now _ _ c.in-Term.is (layers.term_layer parts c.in-Term.first c.in-Term.factors) (env_of c.args.r.now)
 
 pub expressions::resolve-returns-in_ok-resolve_factors-in-Term-clause-made : goal.expressions::resolve-returns-in_ok-resolve_factors-in-Term-clause-made
 expressions::resolve-returns-in_ok-resolve_factors-in-Term-clause-made t c =
-    has_made c.args.e.now _ _ c.in-Term.is (equations.term_layer c.in-Term.first c.in-Term.factors) c.args.r.now _
+    has_made c.args.e.now _ _ c.in-Term.is (layers.term_layer parts c.in-Term.first c.in-Term.factors) c.args.r.now _
     (two_made c.args.r.now _ _ c.get-in-Term.result.now c.in-Term.first c.get-in-Term.ensures (λ ys. map (λ f. f.value) (map factor_of ys)) c.as_slice-in-Term.result.now c.in-Term.factors
     c.as_slice-in-Term.ensures c.in_ok-head-in-Term.ensures.made c.in_ok-resolve_factors-in-Term.ensures.made)
 
@@ -318,11 +319,11 @@ expressions::resolve-returns-in_ok-resolve_addends-in-Sum-clause-core t c =
     (c.in_ok-resolve_addends-in-Sum.ensures.core ∙ ap (λ y. map (addend_core y) (map addend_of c.as_slice-in-Sum.result.now)) c.in_ok-head-in-Sum.ensures.made.place
     ∙ ap (λ ys. map (addend_core env) (map addend_of ys)) c.as_slice-in-Sum.ensures)
     ∙ ap (λ x. e.Sum x (map (addend_core env) (map addend_of c.in-Sum.addends))) (c.in_ok-head-in-Sum.ensures.core ∙ ap (λ x. (part_of x).core env) c.get-in-Sum.ensures)
-    ∙ core_is c.args.e.now _ _ c.in-Sum.is (equations.sum_layer c.in-Sum.first c.in-Sum.addends) (env_of c.args.r.now)
+    ∙ core_is c.args.e.now _ _ c.in-Sum.is (layers.sum_layer parts c.in-Sum.first c.in-Sum.addends) (env_of c.args.r.now)
 
 pub expressions::resolve-returns-in_ok-resolve_addends-in-Sum-clause-made : goal.expressions::resolve-returns-in_ok-resolve_addends-in-Sum-clause-made
 expressions::resolve-returns-in_ok-resolve_addends-in-Sum-clause-made t c =
-    has_made c.args.e.now _ _ c.in-Sum.is (equations.sum_layer c.in-Sum.first c.in-Sum.addends) c.args.r.now _
+    has_made c.args.e.now _ _ c.in-Sum.is (layers.sum_layer parts c.in-Sum.first c.in-Sum.addends) c.args.r.now _
     (two_made c.args.r.now _ _ c.get-in-Sum.result.now c.in-Sum.first c.get-in-Sum.ensures (λ ys. map (λ a. a.value) (map addend_of ys)) c.as_slice-in-Sum.result.now c.in-Sum.addends
     c.as_slice-in-Sum.ensures c.in_ok-head-in-Sum.ensures.made c.in_ok-resolve_addends-in-Sum.ensures.made)
 
@@ -333,11 +334,11 @@ expressions::resolve-returns-in_ok-resolve_all-in-And-clause-core t c =
     (c.in_ok-resolve_all-in-And.ensures.core ∙ ap (λ y. cores_of y (map part_of c.as_slice-in-And.result.now)) c.in_ok-head-in-And.ensures.made.place
     ∙ ap (λ ys. cores_of env (map part_of ys)) c.as_slice-in-And.ensures)
     ∙ ap (λ x. e.And x (cores_of env (map part_of c.in-And.more))) (c.in_ok-head-in-And.ensures.core ∙ ap (λ x. (part_of x).core env) c.get-in-And.ensures)
-    ∙ core_is c.args.e.now _ _ c.in-And.is (equations.and_layer c.in-And.first c.in-And.more) (env_of c.args.r.now)
+    ∙ core_is c.args.e.now _ _ c.in-And.is (layers.and_layer parts c.in-And.first c.in-And.more) (env_of c.args.r.now)
 
 pub expressions::resolve-returns-in_ok-resolve_all-in-And-clause-made : goal.expressions::resolve-returns-in_ok-resolve_all-in-And-clause-made
 expressions::resolve-returns-in_ok-resolve_all-in-And-clause-made t c =
-    has_made c.args.e.now _ _ c.in-And.is (equations.and_layer c.in-And.first c.in-And.more) c.args.r.now _
+    has_made c.args.e.now _ _ c.in-And.is (layers.and_layer parts c.in-And.first c.in-And.more) c.args.r.now _
     (two_made c.args.r.now _ _ c.get-in-And.result.now c.in-And.first c.get-in-And.ensures (λ ys. map part_of ys) c.as_slice-in-And.result.now c.in-And.more
     c.as_slice-in-And.ensures c.in_ok-head-in-And.ensures.made c.in_ok-resolve_all-in-And.ensures.made)
 
@@ -348,11 +349,11 @@ expressions::resolve-returns-in_ok-resolve_all-in-Or-clause-core t c =
     (c.in_ok-resolve_all-in-Or.ensures.core ∙ ap (λ y. cores_of y (map part_of c.as_slice-in-Or.result.now)) c.in_ok-head-in-Or.ensures.made.place
     ∙ ap (λ ys. cores_of env (map part_of ys)) c.as_slice-in-Or.ensures)
     ∙ ap (λ x. e.Or x (cores_of env (map part_of c.in-Or.more))) (c.in_ok-head-in-Or.ensures.core ∙ ap (λ x. (part_of x).core env) c.get-in-Or.ensures)
-    ∙ core_is c.args.e.now _ _ c.in-Or.is (equations.or_layer c.in-Or.first c.in-Or.more) (env_of c.args.r.now)
+    ∙ core_is c.args.e.now _ _ c.in-Or.is (layers.or_layer parts c.in-Or.first c.in-Or.more) (env_of c.args.r.now)
 
 pub expressions::resolve-returns-in_ok-resolve_all-in-Or-clause-made : goal.expressions::resolve-returns-in_ok-resolve_all-in-Or-clause-made
 expressions::resolve-returns-in_ok-resolve_all-in-Or-clause-made t c =
-    has_made c.args.e.now _ _ c.in-Or.is (equations.or_layer c.in-Or.first c.in-Or.more) c.args.r.now _
+    has_made c.args.e.now _ _ c.in-Or.is (layers.or_layer parts c.in-Or.first c.in-Or.more) c.args.r.now _
     (two_made c.args.r.now _ _ c.get-in-Or.result.now c.in-Or.first c.get-in-Or.ensures (λ ys. map part_of ys) c.as_slice-in-Or.result.now c.in-Or.more
     c.as_slice-in-Or.ensures c.in_ok-head-in-Or.ensures.made c.in_ok-resolve_all-in-Or.ensures.made)
 
@@ -362,11 +363,11 @@ expressions::resolve-returns-in_ok-resolve_boxed-in-Compare-clause-core t c =
     ap (e.Compare c.in_ok-a-in-Compare.a c.in-Compare.op)
     (c.in_ok-resolve_boxed-in-Compare.ensures.core ∙ ap (part_of c.get-in-Compare-2.result.now).core c.in_ok-a-in-Compare.ensures.made.place ∙ ap (λ x. (part_of x).core env) c.get-in-Compare-2.ensures)
     ∙ ap (λ x. e.Compare x c.in-Compare.op ((part_of c.in-Compare.right).core env)) (c.in_ok-a-in-Compare.ensures.core ∙ ap (λ x. (part_of x).core env) c.get-in-Compare.ensures)
-    ∙ core_is c.args.e.now _ _ c.in-Compare.is (equations.compare_layer c.in-Compare.left c.in-Compare.op c.in-Compare.field-2 c.in-Compare.right) (env_of c.args.r.now)
+    ∙ core_is c.args.e.now _ _ c.in-Compare.is (layers.compare_layer parts c.in-Compare.left c.in-Compare.op c.in-Compare.field-2 c.in-Compare.right) (env_of c.args.r.now)
 
 pub expressions::resolve-returns-in_ok-resolve_boxed-in-Compare-clause-made : goal.expressions::resolve-returns-in_ok-resolve_boxed-in-Compare-clause-made
 expressions::resolve-returns-in_ok-resolve_boxed-in-Compare-clause-made t c =
-    has_made c.args.e.now _ _ c.in-Compare.is (equations.compare_layer c.in-Compare.left c.in-Compare.op c.in-Compare.field-2 c.in-Compare.right) c.args.r.now _
+    has_made c.args.e.now _ _ c.in-Compare.is (layers.compare_layer parts c.in-Compare.left c.in-Compare.op c.in-Compare.field-2 c.in-Compare.right) c.args.r.now _
     (both_parts c.args.r.now _ _ c.get-in-Compare.result.now c.in-Compare.left c.get-in-Compare.ensures c.get-in-Compare-2.result.now c.in-Compare.right c.get-in-Compare-2.ensures
     c.in_ok-a-in-Compare.ensures.made c.in_ok-resolve_boxed-in-Compare.ensures.made)
 
@@ -377,13 +378,13 @@ expressions::resolve-returns-in_ok-first-in-Postfix-clause-core t c =
     c.as_slice-in-Postfix.result.now c.as_slice-in-Postfix-2.result.now c.in-Postfix.links c.as_slice-in-Postfix.ensures c.as_slice-in-Postfix-2.ensures
     (receiver_seen c.in_ok-before-in-Postfix.before) c.in_ok-before-in-Postfix.ensures.receiver c.in_ok-before-in-Postfix.ensures.scope c.in_ok-first-in-Postfix.first
     c.in_ok-first-in-Postfix.ensures.core c.in_ok-first-in-Postfix.ensures.made
-    ∙ core_is c.args.e.now _ _ c.in-Postfix.is (equations.postfix_layer c.in-Postfix.head c.in-Postfix.links) (env_of c.args.r.now))
+    ∙ core_is c.args.e.now _ _ c.in-Postfix.is (layers.postfix_layer parts c.in-Postfix.head c.in-Postfix.links) (env_of c.args.r.now))
     c.resolve_behind.ensures.core
 
 pub expressions::resolve-returns-in_ok-first-in-Postfix-clause-made : goal.expressions::resolve-returns-in_ok-first-in-Postfix-clause-made
 expressions::resolve-returns-in_ok-first-in-Postfix-clause-made t c =
     on_ok c.resolve_behind.result
-    (λ h. has_made c.args.e.now _ _ c.in-Postfix.is (equations.postfix_layer c.in-Postfix.head c.in-Postfix.links) c.args.r.now _
+    (λ h. has_made c.args.e.now _ _ c.in-Postfix.is (layers.postfix_layer parts c.in-Postfix.head c.in-Postfix.links) c.args.r.now _
     (chain_has_made c.args.r.now _ c.resolve_head.new.r c.get-in-Postfix.result.now c.get-in-Postfix-2.result.now c.in-Postfix.head c.get-in-Postfix.ensures c.get-in-Postfix-2.ensures
     c.as_slice-in-Postfix.result.now c.as_slice-in-Postfix-2.result.now c.in-Postfix.links c.as_slice-in-Postfix.ensures c.as_slice-in-Postfix-2.ensures
     (receiver_seen c.in_ok-before-in-Postfix.before) c.in_ok-before-in-Postfix.ensures.receiver c.in_ok-before-in-Postfix.ensures.scope
@@ -503,35 +504,35 @@ expressions::resolve_addends-returns-clause-made t c =
 pub statements::resolve_statement-returns-in-LocalVariable-clause-core : goal.statements::resolve_statement-returns-in-LocalVariable-clause-core
 statements::resolve_statement-returns-in-LocalVariable-clause-core t c =
     subst (λ x. IfOk c.resolve_variable.result (λ d. d ≡ x))
-    (statement_core_is c.args.s.now _ _ c.in-LocalVariable.is (equations.local_variable_layer c.in-LocalVariable.name c.in-LocalVariable.of c.in-LocalVariable.e) (env_of c.args.r.now))
+    (statement_core_is c.args.s.now _ _ c.in-LocalVariable.is (layers.local_variable_layer parts c.in-LocalVariable.name c.in-LocalVariable.of c.in-LocalVariable.e) (env_of c.args.r.now))
     c.resolve_variable.ensures.core
 
 pub statements::resolve_statement-returns-in-LocalVariable-clause-gone : goal.statements::resolve_statement-returns-in-LocalVariable-clause-gone
 statements::resolve_statement-returns-in-LocalVariable-clause-gone t c =
-    on_ok c.resolve_variable.result (λ g. has_gone c.args.s.now _ _ c.in-LocalVariable.is (equations.local_variable_layer c.in-LocalVariable.name c.in-LocalVariable.of c.in-LocalVariable.e) c.args.r.now _ g) c.resolve_variable.ensures.gone
+    on_ok c.resolve_variable.result (λ g. has_gone c.args.s.now _ _ c.in-LocalVariable.is (layers.local_variable_layer parts c.in-LocalVariable.name c.in-LocalVariable.of c.in-LocalVariable.e) c.args.r.now _ g) c.resolve_variable.ensures.gone
 
 pub statements::resolve_statement-returns-in-LocalConstant-clause-core : goal.statements::resolve_statement-returns-in-LocalConstant-clause-core
 statements::resolve_statement-returns-in-LocalConstant-clause-core t c =
     subst (λ x. IfOk c.resolve_constant.result (λ d. d ≡ x))
-    (statement_core_is c.args.s.now _ _ c.in-LocalConstant.is (equations.local_constant_layer c.in-LocalConstant.name c.in-LocalConstant.of c.in-LocalConstant.e) (env_of c.args.r.now))
+    (statement_core_is c.args.s.now _ _ c.in-LocalConstant.is (layers.local_constant_layer parts c.in-LocalConstant.name c.in-LocalConstant.of c.in-LocalConstant.e) (env_of c.args.r.now))
     c.resolve_constant.ensures.core
 
 pub statements::resolve_statement-returns-in-LocalConstant-clause-gone : goal.statements::resolve_statement-returns-in-LocalConstant-clause-gone
 statements::resolve_statement-returns-in-LocalConstant-clause-gone t c =
-    on_ok c.resolve_constant.result (λ g. has_gone c.args.s.now _ _ c.in-LocalConstant.is (equations.local_constant_layer c.in-LocalConstant.name c.in-LocalConstant.of c.in-LocalConstant.e) c.args.r.now _ g) c.resolve_constant.ensures.gone
+    on_ok c.resolve_constant.result (λ g. has_gone c.args.s.now _ _ c.in-LocalConstant.is (layers.local_constant_layer parts c.in-LocalConstant.name c.in-LocalConstant.of c.in-LocalConstant.e) c.args.r.now _ g) c.resolve_constant.ensures.gone
 
 pub statements::resolve_statement-returns-in_ok-to-in-Assign-clause-core : goal.statements::resolve_statement-returns-in_ok-to-in-Assign-clause-core
 statements::resolve_statement-returns-in_ok-to-in-Assign-clause-core t c =
     subst (λ x. IfOk c.resolve_assigned.result (λ d. d ≡ x))
     (ap (λ x. spec.assigned (out-Expression c.in_ok-to-in-Assign.to) ((part_of c.in-Assign.e).core x)) c.in_ok-to-in-Assign.ensures.made.place
     ∙ ap (λ x. spec.assigned (out-Expression x) ((part_of c.in-Assign.e).core (env_of c.args.r.now))) c.in_ok-to-in-Assign.ensures.core
-    ∙ statement_core_is c.args.s.now _ _ c.in-Assign.is (equations.assign_layer c.in-Assign.target c.in-Assign.e) (env_of c.args.r.now))
+    ∙ statement_core_is c.args.s.now _ _ c.in-Assign.is (layers.assign_layer parts c.in-Assign.target c.in-Assign.e) (env_of c.args.r.now))
     c.resolve_assigned.ensures.core
 
 pub statements::resolve_statement-returns-in_ok-to-in-Assign-clause-gone : goal.statements::resolve_statement-returns-in_ok-to-in-Assign-clause-gone
 statements::resolve_statement-returns-in_ok-to-in-Assign-clause-gone t c =
     on_ok c.resolve_assigned.result
-    (λ m. has_only_made c.args.s.now _ _ c.in-Assign.is (equations.assign_layer c.in-Assign.target c.in-Assign.e) c.args.r.now _ refl refl
+    (λ m. has_only_made c.args.s.now _ _ c.in-Assign.is (layers.assign_layer parts c.in-Assign.target c.in-Assign.e) c.args.r.now _ refl refl
     (then_in (part_of c.in-Assign.e).made c.in_ok-to-in-Assign.ensures.made m))
     c.resolve_assigned.ensures.made
 
@@ -540,13 +541,13 @@ statements::resolve_statement-returns-in_ok-moved-in-Move-clause-core t c =
     subst (λ x. IfOk c.resolve_move.result (λ d. d ≡ x))
     (ap (λ x. s.Move c.in_ok-moved-in-Move.moved ((part_of c.in-Move.y).core x) c.in-Move.at.from) c.in_ok-moved-in-Move.ensures.made.place
     ∙ ap (λ x. s.Move x ((part_of c.in-Move.y).core (env_of c.args.r.now)) c.in-Move.at.from) c.in_ok-moved-in-Move.ensures.core
-    ∙ statement_core_is c.args.s.now _ _ c.in-Move.is (equations.move_layer c.in-Move.x c.in-Move.y c.in-Move.at) (env_of c.args.r.now))
+    ∙ statement_core_is c.args.s.now _ _ c.in-Move.is (layers.move_layer parts c.in-Move.x c.in-Move.y c.in-Move.at) (env_of c.args.r.now))
     c.resolve_move.ensures.core
 
 pub statements::resolve_statement-returns-in_ok-moved-in-Move-clause-gone : goal.statements::resolve_statement-returns-in_ok-moved-in-Move-clause-gone
 statements::resolve_statement-returns-in_ok-moved-in-Move-clause-gone t c =
     on_ok c.resolve_move.result
-    (λ m. has_only_made c.args.s.now _ _ c.in-Move.is (equations.move_layer c.in-Move.x c.in-Move.y c.in-Move.at) c.args.r.now _ refl refl
+    (λ m. has_only_made c.args.s.now _ _ c.in-Move.is (layers.move_layer parts c.in-Move.x c.in-Move.y c.in-Move.at) c.args.r.now _ refl refl
     (then_in (part_of c.in-Move.y).made c.in_ok-moved-in-Move.ensures.made m))
     c.resolve_move.ensures.made
 
@@ -555,13 +556,13 @@ statements::resolve_statement-returns-in_ok-fixed-in-Fix-clause-core t c =
     subst (λ x. IfOk c.resolve_fix.result (λ d. d ≡ x))
     (ap (λ x. s.Fix c.in_ok-fixed-in-Fix.fixed ((part_of c.in-Fix.y).core x) c.in-Fix.at.from) c.in_ok-fixed-in-Fix.ensures.made.place
     ∙ ap (λ x. s.Fix x ((part_of c.in-Fix.y).core (env_of c.args.r.now)) c.in-Fix.at.from) c.in_ok-fixed-in-Fix.ensures.core
-    ∙ statement_core_is c.args.s.now _ _ c.in-Fix.is (equations.fix_layer c.in-Fix.x c.in-Fix.y c.in-Fix.at) (env_of c.args.r.now))
+    ∙ statement_core_is c.args.s.now _ _ c.in-Fix.is (layers.fix_layer parts c.in-Fix.x c.in-Fix.y c.in-Fix.at) (env_of c.args.r.now))
     c.resolve_fix.ensures.core
 
 pub statements::resolve_statement-returns-in_ok-fixed-in-Fix-clause-gone : goal.statements::resolve_statement-returns-in_ok-fixed-in-Fix-clause-gone
 statements::resolve_statement-returns-in_ok-fixed-in-Fix-clause-gone t c =
     on_ok c.resolve_fix.result
-    (λ m. has_only_made c.args.s.now _ _ c.in-Fix.is (equations.fix_layer c.in-Fix.x c.in-Fix.y c.in-Fix.at) c.args.r.now _ refl refl
+    (λ m. has_only_made c.args.s.now _ _ c.in-Fix.is (layers.fix_layer parts c.in-Fix.x c.in-Fix.y c.in-Fix.at) c.args.r.now _ refl refl
     (then_in (part_of c.in-Fix.y).made c.in_ok-fixed-in-Fix.ensures.made m))
     c.resolve_fix.ensures.made
 
@@ -570,88 +571,88 @@ statements::resolve_statement-returns-in_ok-fixed-in-Refix-clause-core t c =
     subst (λ x. IfOk c.resolve_refix.result (λ d. d ≡ x))
     (ap (λ x. s.Refix c.in_ok-fixed-in-Refix.fixed ((part_of c.in-Refix.y).core x) c.in-Refix.at.from) c.in_ok-fixed-in-Refix.ensures.made.place
     ∙ ap (λ x. s.Refix x ((part_of c.in-Refix.y).core (env_of c.args.r.now)) c.in-Refix.at.from) c.in_ok-fixed-in-Refix.ensures.core
-    ∙ statement_core_is c.args.s.now _ _ c.in-Refix.is (equations.refix_layer c.in-Refix.x c.in-Refix.y c.in-Refix.at) (env_of c.args.r.now))
+    ∙ statement_core_is c.args.s.now _ _ c.in-Refix.is (layers.refix_layer parts c.in-Refix.x c.in-Refix.y c.in-Refix.at) (env_of c.args.r.now))
     c.resolve_refix.ensures.core
 
 pub statements::resolve_statement-returns-in_ok-fixed-in-Refix-clause-gone : goal.statements::resolve_statement-returns-in_ok-fixed-in-Refix-clause-gone
 statements::resolve_statement-returns-in_ok-fixed-in-Refix-clause-gone t c =
     on_ok c.resolve_refix.result
-    (λ m. has_only_made c.args.s.now _ _ c.in-Refix.is (equations.refix_layer c.in-Refix.x c.in-Refix.y c.in-Refix.at) c.args.r.now _ refl refl
+    (λ m. has_only_made c.args.s.now _ _ c.in-Refix.is (layers.refix_layer parts c.in-Refix.x c.in-Refix.y c.in-Refix.at) c.args.r.now _ refl refl
     (then_in (part_of c.in-Refix.y).made c.in_ok-fixed-in-Refix.ensures.made m))
     c.resolve_refix.ensures.made
 
 pub statements::resolve_statement-returns-in_ok-resolve-in-Invoke-clause-core : goal.statements::resolve_statement-returns-in_ok-resolve-in-Invoke-clause-core
 statements::resolve_statement-returns-in_ok-resolve-in-Invoke-clause-core t c =
-    ap (λ x. s.Drop x) c.in_ok-resolve-in-Invoke.ensures.core ∙ statement_core_is c.args.s.now _ _ c.in-Invoke.is (equations.invoke_layer c.in-Invoke.e) (env_of c.args.r.now)
+    ap (λ x. s.Drop x) c.in_ok-resolve-in-Invoke.ensures.core ∙ statement_core_is c.args.s.now _ _ c.in-Invoke.is (layers.invoke_layer parts c.in-Invoke.e) (env_of c.args.r.now)
 
 pub statements::resolve_statement-returns-in_ok-resolve-in-Invoke-clause-gone : goal.statements::resolve_statement-returns-in_ok-resolve-in-Invoke-clause-gone
 statements::resolve_statement-returns-in_ok-resolve-in-Invoke-clause-gone t c =
-    has_only_made c.args.s.now _ _ c.in-Invoke.is (equations.invoke_layer c.in-Invoke.e) c.args.r.now _ refl refl
+    has_only_made c.args.s.now _ _ c.in-Invoke.is (layers.invoke_layer parts c.in-Invoke.e) c.args.r.now _ refl refl
     (c.in_ok-resolve-in-Invoke.ensures.made)
 
 pub statements::resolve_statement-returns-in_ok-resolve-in-Print-clause-core : goal.statements::resolve_statement-returns-in_ok-resolve-in-Print-clause-core
 statements::resolve_statement-returns-in_ok-resolve-in-Print-clause-core t c =
-    ap (λ x. s.Print x) c.in_ok-resolve-in-Print.ensures.core ∙ statement_core_is c.args.s.now _ _ c.in-Print.is (equations.print_layer c.in-Print.e c.in-Print.field-1) (env_of c.args.r.now)
+    ap (λ x. s.Print x) c.in_ok-resolve-in-Print.ensures.core ∙ statement_core_is c.args.s.now _ _ c.in-Print.is (layers.print_layer parts c.in-Print.e c.in-Print.field-1) (env_of c.args.r.now)
 
 pub statements::resolve_statement-returns-in_ok-resolve-in-Print-clause-gone : goal.statements::resolve_statement-returns-in_ok-resolve-in-Print-clause-gone
 statements::resolve_statement-returns-in_ok-resolve-in-Print-clause-gone t c =
-    has_only_made c.args.s.now _ _ c.in-Print.is (equations.print_layer c.in-Print.e c.in-Print.field-1) c.args.r.now _ refl refl
+    has_only_made c.args.s.now _ _ c.in-Print.is (layers.print_layer parts c.in-Print.e c.in-Print.field-1) c.args.r.now _ refl refl
     (c.in_ok-resolve-in-Print.ensures.made)
 
 pub statements::resolve_statement-returns-in_ok-resolve_if-in-Exit-clause-core : goal.statements::resolve_statement-returns-in_ok-resolve_if-in-Exit-clause-core
 statements::resolve_statement-returns-in_ok-resolve_if-in-Exit-clause-core t c =
-    ap (λ x. s.Exit x) c.in_ok-resolve_if-in-Exit.ensures.core ∙ statement_core_is c.args.s.now _ _ c.in-Exit.is (equations.exit_layer c.in-Exit.when c.in-Exit.field-1) (env_of c.args.r.now)
+    ap (λ x. s.Exit x) c.in_ok-resolve_if-in-Exit.ensures.core ∙ statement_core_is c.args.s.now _ _ c.in-Exit.is (layers.exit_layer parts c.in-Exit.when c.in-Exit.field-1) (env_of c.args.r.now)
 
 pub statements::resolve_statement-returns-in_ok-resolve_if-in-Exit-clause-gone : goal.statements::resolve_statement-returns-in_ok-resolve_if-in-Exit-clause-gone
 statements::resolve_statement-returns-in_ok-resolve_if-in-Exit-clause-gone t c =
-    has_only_made c.args.s.now _ _ c.in-Exit.is (equations.exit_layer c.in-Exit.when c.in-Exit.field-1) c.args.r.now _ refl refl
+    has_only_made c.args.s.now _ _ c.in-Exit.is (layers.exit_layer parts c.in-Exit.when c.in-Exit.field-1) c.args.r.now _ refl refl
     (c.in_ok-resolve_if-in-Exit.ensures.made)
 
 pub statements::resolve_statement-returns-in_ok-resolve-in-Assert-clause-core : goal.statements::resolve_statement-returns-in_ok-resolve-in-Assert-clause-core
 statements::resolve_statement-returns-in_ok-resolve-in-Assert-clause-core t c =
-    ap (λ x. s.Assert x c.in-Assert.at.from) c.in_ok-resolve-in-Assert.ensures.core ∙ statement_core_is c.args.s.now _ _ c.in-Assert.is (equations.assert_layer c.in-Assert.e c.in-Assert.at) (env_of c.args.r.now)
+    ap (λ x. s.Assert x c.in-Assert.at.from) c.in_ok-resolve-in-Assert.ensures.core ∙ statement_core_is c.args.s.now _ _ c.in-Assert.is (layers.assert_layer parts c.in-Assert.e c.in-Assert.at) (env_of c.args.r.now)
 
 pub statements::resolve_statement-returns-in_ok-resolve-in-Assert-clause-gone : goal.statements::resolve_statement-returns-in_ok-resolve-in-Assert-clause-gone
 statements::resolve_statement-returns-in_ok-resolve-in-Assert-clause-gone t c =
-    has_only_made c.args.s.now _ _ c.in-Assert.is (equations.assert_layer c.in-Assert.e c.in-Assert.at) c.args.r.now _ refl refl
+    has_only_made c.args.s.now _ _ c.in-Assert.is (layers.assert_layer parts c.in-Assert.e c.in-Assert.at) c.args.r.now _ refl refl
     (c.in_ok-resolve-in-Assert.ensures.made)
 
 pub statements::resolve_statement-returns-in_ok-resolve-in-Unfix-clause-core : goal.statements::resolve_statement-returns-in_ok-resolve-in-Unfix-clause-core
 statements::resolve_statement-returns-in_ok-resolve-in-Unfix-clause-core t c =
-    ap (λ x. s.Unfix x c.in-Unfix.at.from) c.in_ok-resolve-in-Unfix.ensures.core ∙ statement_core_is c.args.s.now _ _ c.in-Unfix.is (equations.unfix_layer c.in-Unfix.x c.in-Unfix.at) (env_of c.args.r.now)
+    ap (λ x. s.Unfix x c.in-Unfix.at.from) c.in_ok-resolve-in-Unfix.ensures.core ∙ statement_core_is c.args.s.now _ _ c.in-Unfix.is (layers.unfix_layer parts c.in-Unfix.x c.in-Unfix.at) (env_of c.args.r.now)
 
 pub statements::resolve_statement-returns-in_ok-resolve-in-Unfix-clause-gone : goal.statements::resolve_statement-returns-in_ok-resolve-in-Unfix-clause-gone
 statements::resolve_statement-returns-in_ok-resolve-in-Unfix-clause-gone t c =
-    has_only_made c.args.s.now _ _ c.in-Unfix.is (equations.unfix_layer c.in-Unfix.x c.in-Unfix.at) c.args.r.now _ refl refl
+    has_only_made c.args.s.now _ _ c.in-Unfix.is (layers.unfix_layer parts c.in-Unfix.x c.in-Unfix.at) c.args.r.now _ refl refl
     (c.in_ok-resolve-in-Unfix.ensures.made)
 
 pub statements::resolve_statement-returns-in-Return-clause-core : goal.statements::resolve_statement-returns-in-Return-clause-core
 statements::resolve_statement-returns-in-Return-clause-core t c =
-    statement_core_is c.args.s.now _ _ c.in-Return.is (equations.return_layer c.in-Return.field-0) (env_of c.args.r.now)
+    statement_core_is c.args.s.now _ _ c.in-Return.is (layers.return_layer parts c.in-Return.field-0) (env_of c.args.r.now)
 
 pub statements::resolve_statement-returns-in-Return-clause-gone : goal.statements::resolve_statement-returns-in-Return-clause-gone
 statements::resolve_statement-returns-in-Return-clause-gone t c =
-    has_only_made c.args.s.now _ _ c.in-Return.is (equations.return_layer c.in-Return.field-0) c.args.r.now _ refl refl
+    has_only_made c.args.s.now _ _ c.in-Return.is (layers.return_layer parts c.in-Return.field-0) c.args.r.now _ refl refl
     (unmade c.args.r.now)
 
 pub statements::resolve_statement-returns-in_ok-condition_named-in-Wait-clause-core : goal.statements::resolve_statement-returns-in_ok-condition_named-in-Wait-clause-core
 statements::resolve_statement-returns-in_ok-condition_named-in-Wait-clause-core t c =
     ap s.Wait (c.in_ok-condition_named-in-Wait.ensures ∙ ap (condition_named (env_of c.args.r.now)) c.as_slice-in-Wait.ensures)
-    ∙ statement_core_is c.args.s.now _ _ c.in-Wait.is (equations.wait_layer c.in-Wait.name c.in-Wait.field-1) (env_of c.args.r.now)
+    ∙ statement_core_is c.args.s.now _ _ c.in-Wait.is (layers.wait_layer parts c.in-Wait.name c.in-Wait.field-1) (env_of c.args.r.now)
 
 pub statements::resolve_statement-returns-in_ok-condition_named-in-Wait-clause-gone : goal.statements::resolve_statement-returns-in_ok-condition_named-in-Wait-clause-gone
 statements::resolve_statement-returns-in_ok-condition_named-in-Wait-clause-gone t c =
-    has_only_made c.args.s.now _ _ c.in-Wait.is (equations.wait_layer c.in-Wait.name c.in-Wait.field-1) c.args.r.now _ refl refl
+    has_only_made c.args.s.now _ _ c.in-Wait.is (layers.wait_layer parts c.in-Wait.name c.in-Wait.field-1) c.args.r.now _ refl refl
     (unmade c.args.r.now)
 
 pub statements::resolve_statement-returns-in_ok-condition_named-in-Signal-clause-core : goal.statements::resolve_statement-returns-in_ok-condition_named-in-Signal-clause-core
 statements::resolve_statement-returns-in_ok-condition_named-in-Signal-clause-core t c =
     ap s.Signal (c.in_ok-condition_named-in-Signal.ensures ∙ ap (condition_named (env_of c.args.r.now)) c.as_slice-in-Signal.ensures)
-    ∙ statement_core_is c.args.s.now _ _ c.in-Signal.is (equations.signal_layer c.in-Signal.name c.in-Signal.field-1) (env_of c.args.r.now)
+    ∙ statement_core_is c.args.s.now _ _ c.in-Signal.is (layers.signal_layer parts c.in-Signal.name c.in-Signal.field-1) (env_of c.args.r.now)
 
 pub statements::resolve_statement-returns-in_ok-condition_named-in-Signal-clause-gone : goal.statements::resolve_statement-returns-in_ok-condition_named-in-Signal-clause-gone
 statements::resolve_statement-returns-in_ok-condition_named-in-Signal-clause-gone t c =
-    has_only_made c.args.s.now _ _ c.in-Signal.is (equations.signal_layer c.in-Signal.name c.in-Signal.field-1) c.args.r.now _ refl refl
+    has_only_made c.args.s.now _ _ c.in-Signal.is (layers.signal_layer parts c.in-Signal.name c.in-Signal.field-1) c.args.r.now _ refl refl
     (unmade c.args.r.now)
 
 pub statements::resolve_statement-returns-in_ok-met-in-If-clause-core : goal.statements::resolve_statement-returns-in_ok-met-in-If-clause-core
@@ -661,14 +662,14 @@ statements::resolve_statement-returns-in_ok-met-in-If-clause-core t c =
     ∙ ap (λ x. s.If x (option_map (λ piece. piece.core (spec.further (length (spec.locals_of_arms c.args.r.now.walk.scope (map arm_of c.as_slice.result.now))) (env_of c.args.r.now))) (option_map block_of c.in-If.other)))
     c.in_ok-met-in-If.ensures.core
     ∙ ap (λ xs. spec.choice_core (map arm_of xs) (option_map block_of c.in-If.other) (env_of c.args.r.now)) c.as_slice.ensures
-    ∙ statement_core_is c.args.s.now _ _ c.in-If.is (equations.if_layer c.in-If.arms c.in-If.other c.in-If.field-2) (env_of c.args.r.now))
+    ∙ statement_core_is c.args.s.now _ _ c.in-If.is (layers.if_layer parts c.in-If.arms c.in-If.other c.in-If.field-2) (env_of c.args.r.now))
     c.resolve_otherwise.ensures.core
 
 pub statements::resolve_statement-returns-in_ok-met-in-If-clause-gone : goal.statements::resolve_statement-returns-in_ok-met-in-If-clause-gone
 statements::resolve_statement-returns-in_ok-met-in-If-clause-gone t c =
     on_ok c.resolve_otherwise.result
     (λ g.
-    has_gone c.args.s.now _ _ c.in-If.is (equations.if_layer c.in-If.arms c.in-If.other c.in-If.field-2) c.args.r.now _
+    has_gone c.args.s.now _ _ c.in-If.is (layers.if_layer parts c.in-If.arms c.in-If.other c.in-If.field-2) c.args.r.now _
     (gone_same (sym (behind_none (env_of c.args.r.now) _)) refl refl
     (subst
     (λ xs. HasGone c.args.r.now c.resolve_otherwise.new.r
@@ -682,13 +683,13 @@ statements::resolve_statement-returns-in_ok-met-in-If-clause-gone t c =
 pub statements::resolve_statement-returns-in-Loop-clause-core : goal.statements::resolve_statement-returns-in-Loop-clause-core
 statements::resolve_statement-returns-in-Loop-clause-core t c =
     subst (λ x. IfOk c.resolve_loop.result (λ d. d ≡ x))
-    (statement_core_is c.args.s.now _ _ c.in-Loop.is (equations.loop_layer c.in-Loop.block c.in-Loop.field-1) (env_of c.args.r.now))
+    (statement_core_is c.args.s.now _ _ c.in-Loop.is (layers.loop_layer parts c.in-Loop.block c.in-Loop.field-1) (env_of c.args.r.now))
     c.resolve_loop.ensures.core
 
 pub statements::resolve_statement-returns-in-Loop-clause-gone : goal.statements::resolve_statement-returns-in-Loop-clause-gone
 statements::resolve_statement-returns-in-Loop-clause-gone t c =
     on_ok c.resolve_loop.result
-    (λ g. has_gone c.args.s.now _ _ c.in-Loop.is (equations.loop_layer c.in-Loop.block c.in-Loop.field-1) c.args.r.now _ (gone_same (sym (behind_none (env_of c.args.r.now) _)) refl refl g))
+    (λ g. has_gone c.args.s.now _ _ c.in-Loop.is (layers.loop_layer parts c.in-Loop.block c.in-Loop.field-1) c.args.r.now _ (gone_same (sym (behind_none (env_of c.args.r.now) _)) refl refl g))
     c.resolve_loop.ensures.gone
 
 pub statements::resolve_loop-returns-clause-gone : goal.statements::resolve_loop-returns-clause-gone

@@ -31,9 +31,10 @@ use Rattle.ec_rules.specs.Parts.{AddendPart, BodyPart, FactorPart, Finished, Obj
 use Rattle.ec_rules.specs.Rules.{ended, noted}
 use Rattle.ec_rules.specs.Statements as statements
 use Rattle.ec_rules.specs.Statements.{done_both, nothing_done, piece_of_arm}
-use Rattle.ec_rules.specs.Tree.{addend_of, arm_of, block_of, factor_of, layer_of, link_of, member_of, object_of, operation_of, part_of, process_of, statement_of}
+use Rattle.ec_rules.specs.Tree.{addend_of, arm_of, block_of, factor_of, layer_of, link_of, member_of, object_of, operation_of, part_of, parts, process_of, statement_of}
 use Rattle.ec_rules.specs.declared.operands.Wanted.TheVariants as wanted
 use Rattle.ec_rules.proofs.Equations as equations
+use Rattle.ec_tree_folds.proofs.Layers as tree_layers
 use Rattle.ec_rules.proofs.Equations.{addend_step, body_step, factor_step, object_constructor_step, operation_step, process_section_step}
 use Rattle.ec_scopes.specs.Scopes.{declaring, forgetting}
 use Rattle.ec_scopes.specs.declared.scope.Scope.{Scope}
@@ -144,28 +145,28 @@ blocks::judge_statement-returns-in-LocalVariable-clause-done t c =
     subst (λ x. IfOk c.judge_variable.result (λ d. d ≡ x))
     (by_form.variable_done c.args.walk.now.scope c.in-LocalVariable.name c.in-LocalVariable.of (option_map part_of c.in-LocalVariable.e)
     ∙ steps.done_is c.args.s.now _ l c.args.walk.now.scope c.in-LocalVariable.is
-    (equations.local_variable_layer c.in-LocalVariable.name c.in-LocalVariable.of c.in-LocalVariable.e))
+    (tree_layers.local_variable_layer parts c.in-LocalVariable.name c.in-LocalVariable.of c.in-LocalVariable.e))
     c.judge_variable.ensures.done
 
 pub blocks::judge_statement-returns-in-LocalVariable-clause-walk : goal.blocks::judge_statement-returns-in-LocalVariable-clause-walk
 blocks::judge_statement-returns-in-LocalVariable-clause-walk t c =
     subst (λ x. OnOk c.judge_variable.result (c.judge_variable.new.walk ≡ x))
     (steps.walk_is c.args.walk.now c.args.s.now _ _ c.in-LocalVariable.is
-    (equations.local_variable_layer c.in-LocalVariable.name c.in-LocalVariable.of c.in-LocalVariable.e))
+    (tree_layers.local_variable_layer parts c.in-LocalVariable.name c.in-LocalVariable.of c.in-LocalVariable.e))
     c.judge_variable.ensures.walk
 
 pub blocks::judge_statement-returns-in-LocalConstant-clause-done : goal.blocks::judge_statement-returns-in-LocalConstant-clause-done
 blocks::judge_statement-returns-in-LocalConstant-clause-done t c =
     subst (λ x. IfOk c.judge_constant.result (λ d. d ≡ x))
     (steps.done_is c.args.s.now _ (Statement-F.LocalConstant c.in-LocalConstant.name c.in-LocalConstant.of (part_of c.in-LocalConstant.e)) c.args.walk.now.scope
-    c.in-LocalConstant.is (equations.local_constant_layer c.in-LocalConstant.name c.in-LocalConstant.of c.in-LocalConstant.e))
+    c.in-LocalConstant.is (tree_layers.local_constant_layer parts c.in-LocalConstant.name c.in-LocalConstant.of c.in-LocalConstant.e))
     c.judge_constant.ensures.done
 
 pub blocks::judge_statement-returns-in-LocalConstant-clause-walk : goal.blocks::judge_statement-returns-in-LocalConstant-clause-walk
 blocks::judge_statement-returns-in-LocalConstant-clause-walk t c =
     subst (λ x. OnOk c.judge_constant.result (c.judge_constant.new.walk ≡ x))
     (steps.walk_is c.args.walk.now c.args.s.now _ _ c.in-LocalConstant.is
-    (equations.local_constant_layer c.in-LocalConstant.name c.in-LocalConstant.of c.in-LocalConstant.e))
+    (tree_layers.local_constant_layer parts c.in-LocalConstant.name c.in-LocalConstant.of c.in-LocalConstant.e))
     c.judge_constant.ensures.walk
 
 pub blocks::judge_statement-returns-in_ok-to-in-Assign-clause-done : goal.blocks::judge_statement-returns-in_ok-to-in-Assign-clause-done
@@ -175,7 +176,7 @@ blocks::judge_statement-returns-in_ok-to-in-Assign-clause-done t c =
     subst (λ x. IfOk c.judge_assignment.result (λ d. d ≡ x))
     (steps.assigned_done c.args.walk.now c.value.new.walk p q c.in_ok-to-in-Assign.to c.in_ok-to-in-Assign.ensures.walk c.in_ok-to-in-Assign.ensures.value
     (form_seen c.form_of.result) c.form_of.ensures
-    ∙ steps.done_is c.args.s.now _ (Statement-F.Assign p q) c.args.walk.now.scope c.in-Assign.is (equations.assign_layer c.in-Assign.target c.in-Assign.e))
+    ∙ steps.done_is c.args.s.now _ (Statement-F.Assign p q) c.args.walk.now.scope c.in-Assign.is (tree_layers.assign_layer parts c.in-Assign.target c.in-Assign.e))
     c.judge_assignment.ensures.done
 
 pub blocks::judge_statement-returns-in_ok-to-in-Assign-clause-walk : goal.blocks::judge_statement-returns-in_ok-to-in-Assign-clause-walk
@@ -185,27 +186,27 @@ blocks::judge_statement-returns-in_ok-to-in-Assign-clause-walk t c =
     subst (λ x. OnOk c.judge_assignment.result (c.judge_assignment.new.walk ≡ x))
     (steps.assigned_walk c.args.walk.now c.value.new.walk p q c.in_ok-to-in-Assign.to c.in_ok-to-in-Assign.ensures.walk c.in_ok-to-in-Assign.ensures.value
     (form_seen c.form_of.result) c.form_of.ensures
-    ∙ steps.undeclared_is c.args.walk.now c.args.s.now _ (Statement-F.Assign p q) refl c.in-Assign.is (equations.assign_layer c.in-Assign.target c.in-Assign.e))
+    ∙ steps.undeclared_is c.args.walk.now c.args.s.now _ (Statement-F.Assign p q) refl c.in-Assign.is (tree_layers.assign_layer parts c.in-Assign.target c.in-Assign.e))
     c.judge_assignment.ensures.walk
 
 pub blocks::judge_statement-returns-in-Invoke-clause-done : goal.blocks::judge_statement-returns-in-Invoke-clause-done
 blocks::judge_statement-returns-in-Invoke-clause-done t c =
     subst (λ x. IfOk c.judge_call.result (λ d. d ≡ x))
-    (steps.done_is c.args.s.now _ (Statement-F.Invoke (part_of c.in-Invoke.e)) c.args.walk.now.scope c.in-Invoke.is (equations.invoke_layer c.in-Invoke.e))
+    (steps.done_is c.args.s.now _ (Statement-F.Invoke (part_of c.in-Invoke.e)) c.args.walk.now.scope c.in-Invoke.is (tree_layers.invoke_layer parts c.in-Invoke.e))
     c.judge_call.ensures.done
 
 pub blocks::judge_statement-returns-in-Invoke-clause-walk : goal.blocks::judge_statement-returns-in-Invoke-clause-walk
 blocks::judge_statement-returns-in-Invoke-clause-walk t c =
     subst (λ x. OnOk c.judge_call.result (c.judge_call.new.walk ≡ x))
     (by_form.invoke_walk c.args.walk.now (part_of c.in-Invoke.e)
-    ∙ steps.undeclared_is c.args.walk.now c.args.s.now _ (Statement-F.Invoke (part_of c.in-Invoke.e)) refl c.in-Invoke.is (equations.invoke_layer c.in-Invoke.e))
+    ∙ steps.undeclared_is c.args.walk.now c.args.s.now _ (Statement-F.Invoke (part_of c.in-Invoke.e)) refl c.in-Invoke.is (tree_layers.invoke_layer parts c.in-Invoke.e))
     c.judge_call.ensures.walk
 
 pub blocks::judge_statement-returns-in-Print-clause-done : goal.blocks::judge_statement-returns-in-Print-clause-done
 blocks::judge_statement-returns-in-Print-clause-done t c =
     subst (λ x. IfOk c.judge_wanted.result (λ d. d ≡ x))
     (steps.done_is c.args.s.now _ (Statement-F.Print (part_of c.in-Print.e) c.in-Print.field-1) c.args.walk.now.scope c.in-Print.is
-    (equations.print_layer c.in-Print.e c.in-Print.field-1))
+    (tree_layers.print_layer parts c.in-Print.e c.in-Print.field-1))
     c.judge_wanted.ensures.done
 
 pub blocks::judge_statement-returns-in-Print-clause-walk : goal.blocks::judge_statement-returns-in-Print-clause-walk
@@ -213,7 +214,7 @@ blocks::judge_statement-returns-in-Print-clause-walk t c =
     subst (λ x. OnOk c.judge_wanted.result (c.judge_wanted.new.walk ≡ x))
     (by_form.print_walk c.args.walk.now (part_of c.in-Print.e) c.in-Print.field-1
     ∙ steps.undeclared_is c.args.walk.now c.args.s.now _ (Statement-F.Print (part_of c.in-Print.e) c.in-Print.field-1) refl c.in-Print.is
-    (equations.print_layer c.in-Print.e c.in-Print.field-1))
+    (tree_layers.print_layer parts c.in-Print.e c.in-Print.field-1))
     c.judge_wanted.ensures.walk
 
 pub blocks::judge_statement-returns-in_ok-judge_block_if-in-If-clause-done : goal.blocks::judge_statement-returns-in_ok-judge_block_if-in-If-clause-done
@@ -228,7 +229,7 @@ blocks::judge_statement-returns-in_ok-judge_block_if-in-If-clause-done t c =
     ∙ ap (λ scope. (judging.finished_if scope other).done) (steps.finished_scope c.args.walk.now c.judge_arms.new.walk _ _ c.in_ok-met-in-If.ensures.walk))
     ∙ by_form.if_done c.args.walk.now.scope arms other c.in-If.field-2
     ∙ steps.done_is c.args.s.now _ (Statement-F.If arms other c.in-If.field-2) c.args.walk.now.scope c.in-If.is
-    (equations.if_layer c.in-If.arms c.in-If.other c.in-If.field-2)
+    (tree_layers.if_layer parts c.in-If.arms c.in-If.other c.in-If.field-2)
 
 pub blocks::judge_statement-returns-in_ok-judge_block_if-in-If-clause-walk : goal.blocks::judge_statement-returns-in_ok-judge_block_if-in-If-clause-walk
 blocks::judge_statement-returns-in_ok-judge_block_if-in-If-clause-walk t c =
@@ -240,13 +241,13 @@ blocks::judge_statement-returns-in_ok-judge_block_if-in-If-clause-walk t c =
     (c.in_ok-met-in-If.ensures.walk ∙ ap (λ xs. over_finished c.args.walk.now (all_finished (map piece_of_arm (map arm_of xs)) c.args.walk.now.scope)) c.as_slice.ensures)
     ∙ by_form.if_walk c.args.walk.now arms other c.in-If.field-2
     ∙ steps.undeclared_is c.args.walk.now c.args.s.now _ (Statement-F.If arms other c.in-If.field-2) refl c.in-If.is
-    (equations.if_layer c.in-If.arms c.in-If.other c.in-If.field-2)
+    (tree_layers.if_layer parts c.in-If.arms c.in-If.other c.in-If.field-2)
 
 pub blocks::judge_statement-returns-in-Loop-clause-done : goal.blocks::judge_statement-returns-in-Loop-clause-done
 blocks::judge_statement-returns-in-Loop-clause-done t c =
     subst (λ x. IfOk c.judge_loop.result (λ d. d ≡ x))
     (steps.done_is c.args.s.now _ (Statement-F.Loop (block_of c.in-Loop.block) c.in-Loop.field-1) c.args.walk.now.scope c.in-Loop.is
-    (equations.loop_layer c.in-Loop.block c.in-Loop.field-1))
+    (tree_layers.loop_layer parts c.in-Loop.block c.in-Loop.field-1))
     c.judge_loop.ensures.done
 
 pub blocks::judge_statement-returns-in-Loop-clause-walk : goal.blocks::judge_statement-returns-in-Loop-clause-walk
@@ -254,7 +255,7 @@ blocks::judge_statement-returns-in-Loop-clause-walk t c =
     subst (λ x. OnOk c.judge_loop.result (c.judge_loop.new.walk ≡ x))
     (by_form.loop_walk c.args.walk.now (block_of c.in-Loop.block) c.in-Loop.field-1
     ∙ steps.undeclared_is c.args.walk.now c.args.s.now _ (Statement-F.Loop (block_of c.in-Loop.block) c.in-Loop.field-1) refl c.in-Loop.is
-    (equations.loop_layer c.in-Loop.block c.in-Loop.field-1))
+    (tree_layers.loop_layer parts c.in-Loop.block c.in-Loop.field-1))
     c.judge_loop.ensures.walk
 
 pub blocks::judge_statement-returns-in-Exit-clause-done : goal.blocks::judge_statement-returns-in-Exit-clause-done
@@ -262,31 +263,31 @@ blocks::judge_statement-returns-in-Exit-clause-done t c =
     let when = option_map part_of c.in-Exit.when in
     subst (λ x. IfOk c.judge_exit.result (λ d. d ≡ x))
     (by_form.exit_done c.args.walk.now.scope when c.in-Exit.at
-    ∙ steps.done_is c.args.s.now _ (Statement-F.Exit when c.in-Exit.at) c.args.walk.now.scope c.in-Exit.is (equations.exit_layer c.in-Exit.when c.in-Exit.at))
+    ∙ steps.done_is c.args.s.now _ (Statement-F.Exit when c.in-Exit.at) c.args.walk.now.scope c.in-Exit.is (tree_layers.exit_layer parts c.in-Exit.when c.in-Exit.at))
     c.judge_exit.ensures.done
 
 pub blocks::judge_statement-returns-in-Exit-clause-walk : goal.blocks::judge_statement-returns-in-Exit-clause-walk
 blocks::judge_statement-returns-in-Exit-clause-walk t c =
     let when = option_map part_of c.in-Exit.when in
     subst (λ x. OnOk c.judge_exit.result (c.judge_exit.new.walk ≡ x))
-    (steps.undeclared_is c.args.walk.now c.args.s.now _ (Statement-F.Exit when c.in-Exit.at) refl c.in-Exit.is (equations.exit_layer c.in-Exit.when c.in-Exit.at))
+    (steps.undeclared_is c.args.walk.now c.args.s.now _ (Statement-F.Exit when c.in-Exit.at) refl c.in-Exit.is (tree_layers.exit_layer parts c.in-Exit.when c.in-Exit.at))
     c.judge_exit.ensures.walk
 
 pub blocks::judge_statement-returns-in-Return-clause-done : goal.blocks::judge_statement-returns-in-Return-clause-done
 blocks::judge_statement-returns-in-Return-clause-done t c =
     c.one_node.ensures
-    ∙ steps.done_is c.args.s.now _ (Statement-F.Return c.in-Return.field-0) c.args.walk.now.scope c.in-Return.is (equations.return_layer c.in-Return.field-0)
+    ∙ steps.done_is c.args.s.now _ (Statement-F.Return c.in-Return.field-0) c.args.walk.now.scope c.in-Return.is (tree_layers.return_layer parts c.in-Return.field-0)
 
 pub blocks::judge_statement-returns-in-Return-clause-walk : goal.blocks::judge_statement-returns-in-Return-clause-walk
 blocks::judge_statement-returns-in-Return-clause-walk t c =
     by_form.return_walk c.args.walk.now c.in-Return.field-0
-    ∙ steps.undeclared_is c.args.walk.now c.args.s.now _ (Statement-F.Return c.in-Return.field-0) refl c.in-Return.is (equations.return_layer c.in-Return.field-0)
+    ∙ steps.undeclared_is c.args.walk.now c.args.s.now _ (Statement-F.Return c.in-Return.field-0) refl c.in-Return.is (tree_layers.return_layer parts c.in-Return.field-0)
 
 pub blocks::judge_statement-returns-in-Assert-clause-done : goal.blocks::judge_statement-returns-in-Assert-clause-done
 blocks::judge_statement-returns-in-Assert-clause-done t c =
     subst (λ x. IfOk c.judge_wanted-in-Assert.result (λ d. d ≡ x))
     (steps.done_is c.args.s.now _ (Statement-F.Assert (part_of c.in-Assert.e) c.in-Assert.field-1) c.args.walk.now.scope c.in-Assert.is
-    (equations.assert_layer c.in-Assert.e c.in-Assert.field-1))
+    (tree_layers.assert_layer parts c.in-Assert.e c.in-Assert.field-1))
     c.judge_wanted-in-Assert.ensures.done
 
 pub blocks::judge_statement-returns-in-Assert-clause-walk : goal.blocks::judge_statement-returns-in-Assert-clause-walk
@@ -294,7 +295,7 @@ blocks::judge_statement-returns-in-Assert-clause-walk t c =
     subst (λ x. OnOk c.judge_wanted-in-Assert.result (c.judge_wanted-in-Assert.new.walk ≡ x))
     (by_form.assert_walk c.args.walk.now (part_of c.in-Assert.e) c.in-Assert.field-1
     ∙ steps.undeclared_is c.args.walk.now c.args.s.now _ (Statement-F.Assert (part_of c.in-Assert.e) c.in-Assert.field-1) refl c.in-Assert.is
-    (equations.assert_layer c.in-Assert.e c.in-Assert.field-1))
+    (tree_layers.assert_layer parts c.in-Assert.e c.in-Assert.field-1))
     c.judge_wanted-in-Assert.ensures.walk
 
 pub blocks::judge_statement-returns-in_ok-a-in-Move-clause-done : goal.blocks::judge_statement-returns-in_ok-a-in-Move-clause-done
@@ -304,7 +305,7 @@ blocks::judge_statement-returns-in_ok-a-in-Move-clause-done t c =
     subst (λ x. IfOk c.judge_references.result (λ d. d ≡ x))
     (steps.move_done c.args.walk.now c.value-in-Move.new.walk p q c.in_ok-a-in-Move.a c.in_ok-a-in-Move.ensures.walk c.in_ok-a-in-Move.ensures.value c.in-Move.field-2
     ∙ steps.done_is c.args.s.now _ (Statement-F.Move p q c.in-Move.field-2) c.args.walk.now.scope c.in-Move.is
-    (equations.move_layer c.in-Move.x c.in-Move.y c.in-Move.field-2))
+    (tree_layers.move_layer parts c.in-Move.x c.in-Move.y c.in-Move.field-2))
     c.judge_references.ensures.done
 
 pub blocks::judge_statement-returns-in_ok-a-in-Move-clause-walk : goal.blocks::judge_statement-returns-in_ok-a-in-Move-clause-walk
@@ -314,7 +315,7 @@ blocks::judge_statement-returns-in_ok-a-in-Move-clause-walk t c =
     subst (λ x. OnOk c.judge_references.result (c.judge_references.new.walk ≡ x))
     (steps.moved_walk c.args.walk.now c.value-in-Move.new.walk p q c.in_ok-a-in-Move.a c.in_ok-a-in-Move.ensures.walk c.in_ok-a-in-Move.ensures.value c.in-Move.field-2
     ∙ steps.undeclared_is c.args.walk.now c.args.s.now _ (Statement-F.Move p q c.in-Move.field-2) refl c.in-Move.is
-    (equations.move_layer c.in-Move.x c.in-Move.y c.in-Move.field-2))
+    (tree_layers.move_layer parts c.in-Move.x c.in-Move.y c.in-Move.field-2))
     c.judge_references.ensures.walk
 
 pub blocks::judge_statement-returns-in_ok-a-in-Fix-clause-done : goal.blocks::judge_statement-returns-in_ok-a-in-Fix-clause-done
@@ -324,7 +325,7 @@ blocks::judge_statement-returns-in_ok-a-in-Fix-clause-done t c =
     subst (λ x. IfOk c.judge_references-in-Fix.result (λ d. d ≡ x))
     (steps.fix_done c.args.walk.now c.value-in-Fix.new.walk p q c.in_ok-a-in-Fix.a c.in_ok-a-in-Fix.ensures.walk c.in_ok-a-in-Fix.ensures.value c.in-Fix.field-2
     ∙ steps.done_is c.args.s.now _ (Statement-F.Fix p q c.in-Fix.field-2) c.args.walk.now.scope c.in-Fix.is
-    (equations.fix_layer c.in-Fix.x c.in-Fix.y c.in-Fix.field-2))
+    (tree_layers.fix_layer parts c.in-Fix.x c.in-Fix.y c.in-Fix.field-2))
     c.judge_references-in-Fix.ensures.done
 
 pub blocks::judge_statement-returns-in_ok-a-in-Fix-clause-walk : goal.blocks::judge_statement-returns-in_ok-a-in-Fix-clause-walk
@@ -334,7 +335,7 @@ blocks::judge_statement-returns-in_ok-a-in-Fix-clause-walk t c =
     subst (λ x. OnOk c.judge_references-in-Fix.result (c.judge_references-in-Fix.new.walk ≡ x))
     (steps.fixed_walk c.args.walk.now c.value-in-Fix.new.walk p q c.in_ok-a-in-Fix.a c.in_ok-a-in-Fix.ensures.walk c.in_ok-a-in-Fix.ensures.value c.in-Fix.field-2
     ∙ steps.undeclared_is c.args.walk.now c.args.s.now _ (Statement-F.Fix p q c.in-Fix.field-2) refl c.in-Fix.is
-    (equations.fix_layer c.in-Fix.x c.in-Fix.y c.in-Fix.field-2))
+    (tree_layers.fix_layer parts c.in-Fix.x c.in-Fix.y c.in-Fix.field-2))
     c.judge_references-in-Fix.ensures.walk
 
 pub blocks::judge_statement-returns-in_ok-a-in-Refix-clause-done : goal.blocks::judge_statement-returns-in_ok-a-in-Refix-clause-done
@@ -344,7 +345,7 @@ blocks::judge_statement-returns-in_ok-a-in-Refix-clause-done t c =
     subst (λ x. IfOk c.judge_references-in-Refix.result (λ d. d ≡ x))
     (steps.refix_done c.args.walk.now c.value-in-Refix.new.walk p q c.in_ok-a-in-Refix.a c.in_ok-a-in-Refix.ensures.walk c.in_ok-a-in-Refix.ensures.value c.in-Refix.field-2
     ∙ steps.done_is c.args.s.now _ (Statement-F.Refix p q c.in-Refix.field-2) c.args.walk.now.scope c.in-Refix.is
-    (equations.refix_layer c.in-Refix.x c.in-Refix.y c.in-Refix.field-2))
+    (tree_layers.refix_layer parts c.in-Refix.x c.in-Refix.y c.in-Refix.field-2))
     c.judge_references-in-Refix.ensures.done
 
 pub blocks::judge_statement-returns-in_ok-a-in-Refix-clause-walk : goal.blocks::judge_statement-returns-in_ok-a-in-Refix-clause-walk
@@ -354,14 +355,14 @@ blocks::judge_statement-returns-in_ok-a-in-Refix-clause-walk t c =
     subst (λ x. OnOk c.judge_references-in-Refix.result (c.judge_references-in-Refix.new.walk ≡ x))
     (steps.refixed_walk c.args.walk.now c.value-in-Refix.new.walk p q c.in_ok-a-in-Refix.a c.in_ok-a-in-Refix.ensures.walk c.in_ok-a-in-Refix.ensures.value c.in-Refix.field-2
     ∙ steps.undeclared_is c.args.walk.now c.args.s.now _ (Statement-F.Refix p q c.in-Refix.field-2) refl c.in-Refix.is
-    (equations.refix_layer c.in-Refix.x c.in-Refix.y c.in-Refix.field-2))
+    (tree_layers.refix_layer parts c.in-Refix.x c.in-Refix.y c.in-Refix.field-2))
     c.judge_references-in-Refix.ensures.walk
 
 pub blocks::judge_statement-returns-in-Unfix-clause-done : goal.blocks::judge_statement-returns-in-Unfix-clause-done
 blocks::judge_statement-returns-in-Unfix-clause-done t c =
     subst (λ x. IfOk c.judge_wanted-in-Unfix.result (λ d. d ≡ x))
     (steps.done_is c.args.s.now _ (Statement-F.Unfix (part_of c.in-Unfix.x) c.in-Unfix.field-1) c.args.walk.now.scope c.in-Unfix.is
-    (equations.unfix_layer c.in-Unfix.x c.in-Unfix.field-1))
+    (tree_layers.unfix_layer parts c.in-Unfix.x c.in-Unfix.field-1))
     c.judge_wanted-in-Unfix.ensures.done
 
 pub blocks::judge_statement-returns-in-Unfix-clause-walk : goal.blocks::judge_statement-returns-in-Unfix-clause-walk
@@ -369,14 +370,14 @@ blocks::judge_statement-returns-in-Unfix-clause-walk t c =
     subst (λ x. OnOk c.judge_wanted-in-Unfix.result (c.judge_wanted-in-Unfix.new.walk ≡ x))
     (by_form.unfix_walk c.args.walk.now (part_of c.in-Unfix.x) c.in-Unfix.field-1
     ∙ steps.undeclared_is c.args.walk.now c.args.s.now _ (Statement-F.Unfix (part_of c.in-Unfix.x) c.in-Unfix.field-1) refl c.in-Unfix.is
-    (equations.unfix_layer c.in-Unfix.x c.in-Unfix.field-1))
+    (tree_layers.unfix_layer parts c.in-Unfix.x c.in-Unfix.field-1))
     c.judge_wanted-in-Unfix.ensures.walk
 
 pub blocks::judge_statement-returns-in-Wait-clause-done : goal.blocks::judge_statement-returns-in-Wait-clause-done
 blocks::judge_statement-returns-in-Wait-clause-done t c =
     subst (λ x. IfOk c.judge_condition.result (λ d. d ≡ x))
     (steps.done_is c.args.s.now _ (Statement-F.Wait c.in-Wait.name c.in-Wait.field-1) c.args.walk.now.scope c.in-Wait.is
-    (equations.wait_layer c.in-Wait.name c.in-Wait.field-1))
+    (tree_layers.wait_layer parts c.in-Wait.name c.in-Wait.field-1))
     c.judge_condition.ensures.done
 
 pub blocks::judge_statement-returns-in-Wait-clause-walk : goal.blocks::judge_statement-returns-in-Wait-clause-walk
@@ -384,14 +385,14 @@ blocks::judge_statement-returns-in-Wait-clause-walk t c =
     subst (λ x. OnOk c.judge_condition.result (c.judge_condition.new.walk ≡ x))
     (by_form.wait_walk c.args.walk.now c.in-Wait.name c.in-Wait.field-1
     ∙ steps.undeclared_is c.args.walk.now c.args.s.now _ (Statement-F.Wait c.in-Wait.name c.in-Wait.field-1) refl c.in-Wait.is
-    (equations.wait_layer c.in-Wait.name c.in-Wait.field-1))
+    (tree_layers.wait_layer parts c.in-Wait.name c.in-Wait.field-1))
     c.judge_condition.ensures.walk
 
 pub blocks::judge_statement-returns-in-Signal-clause-done : goal.blocks::judge_statement-returns-in-Signal-clause-done
 blocks::judge_statement-returns-in-Signal-clause-done t c =
     subst (λ x. IfOk c.judge_condition-in-Signal.result (λ d. d ≡ x))
     (steps.done_is c.args.s.now _ (Statement-F.Signal c.in-Signal.name c.in-Signal.field-1) c.args.walk.now.scope c.in-Signal.is
-    (equations.signal_layer c.in-Signal.name c.in-Signal.field-1))
+    (tree_layers.signal_layer parts c.in-Signal.name c.in-Signal.field-1))
     c.judge_condition-in-Signal.ensures.done
 
 pub blocks::judge_statement-returns-in-Signal-clause-walk : goal.blocks::judge_statement-returns-in-Signal-clause-walk
@@ -399,7 +400,7 @@ blocks::judge_statement-returns-in-Signal-clause-walk t c =
     subst (λ x. OnOk c.judge_condition-in-Signal.result (c.judge_condition-in-Signal.new.walk ≡ x))
     (by_form.signal_walk c.args.walk.now c.in-Signal.name c.in-Signal.field-1
     ∙ steps.undeclared_is c.args.walk.now c.args.s.now _ (Statement-F.Signal c.in-Signal.name c.in-Signal.field-1) refl c.in-Signal.is
-    (equations.signal_layer c.in-Signal.name c.in-Signal.field-1))
+    (tree_layers.signal_layer parts c.in-Signal.name c.in-Signal.field-1))
     c.judge_condition-in-Signal.ensures.walk
 
 pub blocks::judge_statements-loop-s-init : goal.blocks::judge_statements-loop-s-init
@@ -505,111 +506,111 @@ expressions::judge-returns-clause-walk t c =
     ∙ looked_walk c.args.walk.now c.look.new.walk c.args.e.now c.args.needed begins
 
 pub expressions::look-returns-in-Number-clause-value : goal.expressions::look-returns-in-Number-clause-value
-expressions::look-returns-in-Number-clause-value t c = rw (c.in-Number.is, equations.number_layer) c.look_plain.ensures
+expressions::look-returns-in-Number-clause-value t c = rw (c.in-Number.is, tree_layers.number_layer parts) c.look_plain.ensures
 
 pub expressions::look-returns-in-Number-clause-walk : goal.expressions::look-returns-in-Number-clause-walk
-expressions::look-returns-in-Number-clause-walk t c = rw (c.in-Number.is, equations.number_layer) (sym (walked_none c.args.walk.now))
+expressions::look-returns-in-Number-clause-walk t c = rw (c.in-Number.is, tree_layers.number_layer parts) (sym (walked_none c.args.walk.now))
 
 pub expressions::look-returns-in-Truth-clause-value : goal.expressions::look-returns-in-Truth-clause-value
-expressions::look-returns-in-Truth-clause-value t c = rw (c.in-Truth.is, equations.truth_layer) c.look_plain-in-Truth.ensures
+expressions::look-returns-in-Truth-clause-value t c = rw (c.in-Truth.is, tree_layers.truth_layer parts) c.look_plain-in-Truth.ensures
 
 pub expressions::look-returns-in-Truth-clause-walk : goal.expressions::look-returns-in-Truth-clause-walk
-expressions::look-returns-in-Truth-clause-walk t c = rw (c.in-Truth.is, equations.truth_layer) (sym (walked_none c.args.walk.now))
+expressions::look-returns-in-Truth-clause-walk t c = rw (c.in-Truth.is, tree_layers.truth_layer parts) (sym (walked_none c.args.walk.now))
 
 pub expressions::look-returns-in-Nil-clause-value : goal.expressions::look-returns-in-Nil-clause-value
-expressions::look-returns-in-Nil-clause-value t c = rw (c.in-Nil.is, equations.nil_layer) c.look_plain-in-Nil.ensures
+expressions::look-returns-in-Nil-clause-value t c = rw (c.in-Nil.is, tree_layers.nil_layer parts) c.look_plain-in-Nil.ensures
 
 pub expressions::look-returns-in-Nil-clause-walk : goal.expressions::look-returns-in-Nil-clause-walk
-expressions::look-returns-in-Nil-clause-walk t c = rw (c.in-Nil.is, equations.nil_layer) (sym (walked_none c.args.walk.now))
+expressions::look-returns-in-Nil-clause-walk t c = rw (c.in-Nil.is, tree_layers.nil_layer parts) (sym (walked_none c.args.walk.now))
 
 pub expressions::look-returns-in-NodeCount-clause-value : goal.expressions::look-returns-in-NodeCount-clause-value
-expressions::look-returns-in-NodeCount-clause-value t c = rw (c.in-NodeCount.is, equations.node_count_layer) c.look_plain-in-NodeCount.ensures
+expressions::look-returns-in-NodeCount-clause-value t c = rw (c.in-NodeCount.is, tree_layers.node_count_layer parts) c.look_plain-in-NodeCount.ensures
 
 pub expressions::look-returns-in-NodeCount-clause-walk : goal.expressions::look-returns-in-NodeCount-clause-walk
-expressions::look-returns-in-NodeCount-clause-walk t c = rw (c.in-NodeCount.is, equations.node_count_layer) (sym (walked_none c.args.walk.now))
+expressions::look-returns-in-NodeCount-clause-walk t c = rw (c.in-NodeCount.is, tree_layers.node_count_layer parts) (sym (walked_none c.args.walk.now))
 
 pub expressions::look-returns-in-Literal-clause-value : goal.expressions::look-returns-in-Literal-clause-value
-expressions::look-returns-in-Literal-clause-value t c = rw (c.in-Literal.is, equations.literal_layer) c.look_literal.ensures.value
+expressions::look-returns-in-Literal-clause-value t c = rw (c.in-Literal.is, tree_layers.literal_layer parts) c.look_literal.ensures.value
 
 pub expressions::look-returns-in-Literal-clause-walk : goal.expressions::look-returns-in-Literal-clause-walk
-expressions::look-returns-in-Literal-clause-walk t c = rw (c.in-Literal.is, equations.literal_layer) c.look_literal.ensures.walk
+expressions::look-returns-in-Literal-clause-walk t c = rw (c.in-Literal.is, tree_layers.literal_layer parts) c.look_literal.ensures.walk
 
 pub expressions::look-returns-in-Itself-clause-value : goal.expressions::look-returns-in-Itself-clause-value
-expressions::look-returns-in-Itself-clause-value t c = rw (c.in-Itself.is, equations.itself_layer) c.look_itself.ensures.value
+expressions::look-returns-in-Itself-clause-value t c = rw (c.in-Itself.is, tree_layers.itself_layer parts) c.look_itself.ensures.value
 
 pub expressions::look-returns-in-Itself-clause-walk : goal.expressions::look-returns-in-Itself-clause-walk
-expressions::look-returns-in-Itself-clause-walk t c = rw (c.in-Itself.is, equations.itself_layer) (c.look_itself.ensures.walk ∙ steps.itself_walk c.args.needed c.args.walk.now c.in-Itself.at)
+expressions::look-returns-in-Itself-clause-walk t c = rw (c.in-Itself.is, tree_layers.itself_layer parts) (c.look_itself.ensures.walk ∙ steps.itself_walk c.args.needed c.args.walk.now c.in-Itself.at)
 
 pub expressions::look-returns-in-Variable-clause-value : goal.expressions::look-returns-in-Variable-clause-value
-expressions::look-returns-in-Variable-clause-value t c = rw (c.in-Variable.is, equations.variable_layer) c.look_variable.ensures.value
+expressions::look-returns-in-Variable-clause-value t c = rw (c.in-Variable.is, tree_layers.variable_layer parts) c.look_variable.ensures.value
 
 pub expressions::look-returns-in-Variable-clause-walk : goal.expressions::look-returns-in-Variable-clause-walk
 expressions::look-returns-in-Variable-clause-walk t c =
-    rw (c.in-Variable.is, equations.variable_layer)
+    rw (c.in-Variable.is, tree_layers.variable_layer parts)
     (subst (λ x. OnOk c.look_variable.result (c.look_variable.new.walk ≡ x)) (steps.name_walk c.args.needed c.args.walk.now c.in-Variable.name) c.look_variable.ensures.walk)
 
 pub expressions::look-returns-in-Parenthesised-clause-value : goal.expressions::look-returns-in-Parenthesised-clause-value
-expressions::look-returns-in-Parenthesised-clause-value t c = rw (c.in-Parenthesised.is, equations.parenthesised_layer, ← c.get.ensures) c.look_parenthesised.ensures.value
+expressions::look-returns-in-Parenthesised-clause-value t c = rw (c.in-Parenthesised.is, tree_layers.parenthesised_layer parts, ← c.get.ensures) c.look_parenthesised.ensures.value
 
 pub expressions::look-returns-in-Parenthesised-clause-walk : goal.expressions::look-returns-in-Parenthesised-clause-walk
 expressions::look-returns-in-Parenthesised-clause-walk t c =
-    rw (c.in-Parenthesised.is, equations.parenthesised_layer, ← c.get.ensures)
+    rw (c.in-Parenthesised.is, tree_layers.parenthesised_layer parts, ← c.get.ensures)
     (subst (λ x. OnOk c.look_parenthesised.result (c.look_parenthesised.new.walk ≡ x)) (layers.parenthesised_walk c.args.needed c.args.walk.now (part_of c.get.result.now) c.in-Parenthesised.at) c.look_parenthesised.ensures.walk)
 
 pub expressions::look-returns-in-Constructor-clause-value : goal.expressions::look-returns-in-Constructor-clause-value
-expressions::look-returns-in-Constructor-clause-value t c = rw (c.in-Constructor.is, equations.constructor_layer, ← c.get-in-Constructor.ensures) c.judge_object.ensures.value
+expressions::look-returns-in-Constructor-clause-value t c = rw (c.in-Constructor.is, tree_layers.constructor_layer parts, ← c.get-in-Constructor.ensures) c.judge_object.ensures.value
 
 pub expressions::look-returns-in-Constructor-clause-walk : goal.expressions::look-returns-in-Constructor-clause-walk
-expressions::look-returns-in-Constructor-clause-walk t c = rw (c.in-Constructor.is, equations.constructor_layer, ← c.get-in-Constructor.ensures) c.judge_object.ensures.walk
+expressions::look-returns-in-Constructor-clause-walk t c = rw (c.in-Constructor.is, tree_layers.constructor_layer parts, ← c.get-in-Constructor.ensures) c.judge_object.ensures.walk
 
 pub expressions::look-returns-in-NodeAt-clause-value : goal.expressions::look-returns-in-NodeAt-clause-value
-expressions::look-returns-in-NodeAt-clause-value t c = rw (c.in-NodeAt.is, equations.node_at_layer, ← c.get-in-NodeAt.ensures) c.look_prefix.ensures.value
+expressions::look-returns-in-NodeAt-clause-value t c = rw (c.in-NodeAt.is, tree_layers.node_at_layer parts, ← c.get-in-NodeAt.ensures) c.look_prefix.ensures.value
 
 pub expressions::look-returns-in-NodeAt-clause-walk : goal.expressions::look-returns-in-NodeAt-clause-walk
 expressions::look-returns-in-NodeAt-clause-walk t c =
-    rw (c.in-NodeAt.is, equations.node_at_layer, ← c.get-in-NodeAt.ensures)
+    rw (c.in-NodeAt.is, tree_layers.node_at_layer parts, ← c.get-in-NodeAt.ensures)
     (subst (λ x. OnOk c.look_prefix.result (c.look_prefix.new.walk ≡ x))
     (layers.node_at_walk c.args.needed c.args.walk.now (part_of c.get-in-NodeAt.result.now) c.in-NodeAt.at c.in-NodeAt.field-2)
     c.look_prefix.ensures.walk)
 
 pub expressions::look-returns-in-NewVector-clause-value : goal.expressions::look-returns-in-NewVector-clause-value
 expressions::look-returns-in-NewVector-clause-value t c =
-    rw (c.in-NewVector.is, equations.new_vector_layer, ← c.get-in-NewVector.ensures)
+    rw (c.in-NewVector.is, tree_layers.new_vector_layer parts, ← c.get-in-NewVector.ensures)
     (c.look_new_vector.ensures.value c.in-NewVector.field-3)
 
 pub expressions::look-returns-in-NewVector-clause-walk : goal.expressions::look-returns-in-NewVector-clause-walk
 expressions::look-returns-in-NewVector-clause-walk t c =
-    rw (c.in-NewVector.is, equations.new_vector_layer, ← c.get-in-NewVector.ensures)
+    rw (c.in-NewVector.is, tree_layers.new_vector_layer parts, ← c.get-in-NewVector.ensures)
     (c.look_new_vector.ensures.walk c.in-NewVector.field-3)
 
 pub expressions::look-returns-in-Negative-clause-value : goal.expressions::look-returns-in-Negative-clause-value
-expressions::look-returns-in-Negative-clause-value t c = rw (c.in-Negative.is, equations.negative_layer, ← c.get-in-Negative.ensures) c.look_prefix-in-Negative.ensures.value
+expressions::look-returns-in-Negative-clause-value t c = rw (c.in-Negative.is, tree_layers.negative_layer parts, ← c.get-in-Negative.ensures) c.look_prefix-in-Negative.ensures.value
 
 pub expressions::look-returns-in-Negative-clause-walk : goal.expressions::look-returns-in-Negative-clause-walk
 expressions::look-returns-in-Negative-clause-walk t c =
-    rw (c.in-Negative.is, equations.negative_layer, ← c.get-in-Negative.ensures)
+    rw (c.in-Negative.is, tree_layers.negative_layer parts, ← c.get-in-Negative.ensures)
     (subst (λ x. OnOk c.look_prefix-in-Negative.result (c.look_prefix-in-Negative.new.walk ≡ x)) (layers.negative_walk c.args.needed c.args.walk.now (part_of c.get-in-Negative.result.now) c.in-Negative.at) c.look_prefix-in-Negative.ensures.walk)
 
 pub expressions::look-returns-in-View-clause-value : goal.expressions::look-returns-in-View-clause-value
-expressions::look-returns-in-View-clause-value t c = rw (c.in-View.is, equations.view_layer, ← c.get-in-View.ensures) c.look_view.ensures.value
+expressions::look-returns-in-View-clause-value t c = rw (c.in-View.is, tree_layers.view_layer parts, ← c.get-in-View.ensures) c.look_view.ensures.value
 
 pub expressions::look-returns-in-View-clause-walk : goal.expressions::look-returns-in-View-clause-walk
-expressions::look-returns-in-View-clause-walk t c = rw (c.in-View.is, equations.view_layer, ← c.get-in-View.ensures) c.look_view.ensures.walk
+expressions::look-returns-in-View-clause-walk t c = rw (c.in-View.is, tree_layers.view_layer parts, ← c.get-in-View.ensures) c.look_view.ensures.walk
 
 pub expressions::look-returns-in-IsFixed-clause-value : goal.expressions::look-returns-in-IsFixed-clause-value
-expressions::look-returns-in-IsFixed-clause-value t c = rw (c.in-IsFixed.is, equations.is_fixed_layer, ← c.get-in-IsFixed.ensures) c.look_prefix-in-IsFixed.ensures.value
+expressions::look-returns-in-IsFixed-clause-value t c = rw (c.in-IsFixed.is, tree_layers.is_fixed_layer parts, ← c.get-in-IsFixed.ensures) c.look_prefix-in-IsFixed.ensures.value
 
 pub expressions::look-returns-in-IsFixed-clause-walk : goal.expressions::look-returns-in-IsFixed-clause-walk
 expressions::look-returns-in-IsFixed-clause-walk t c =
-    rw (c.in-IsFixed.is, equations.is_fixed_layer, ← c.get-in-IsFixed.ensures)
+    rw (c.in-IsFixed.is, tree_layers.is_fixed_layer parts, ← c.get-in-IsFixed.ensures)
     (subst (λ x. OnOk c.look_prefix-in-IsFixed.result (c.look_prefix-in-IsFixed.new.walk ≡ x)) (layers.is_fixed_walk c.args.needed c.args.walk.now (part_of c.get-in-IsFixed.result.now) c.in-IsFixed.at) c.look_prefix-in-IsFixed.ensures.walk)
 
 pub expressions::look-returns-in-Not-clause-value : goal.expressions::look-returns-in-Not-clause-value
-expressions::look-returns-in-Not-clause-value t c = rw (c.in-Not.is, equations.not_layer, ← c.get-in-Not.ensures) c.look_prefix-in-Not.ensures.value
+expressions::look-returns-in-Not-clause-value t c = rw (c.in-Not.is, tree_layers.not_layer parts, ← c.get-in-Not.ensures) c.look_prefix-in-Not.ensures.value
 
 pub expressions::look-returns-in-Not-clause-walk : goal.expressions::look-returns-in-Not-clause-walk
 expressions::look-returns-in-Not-clause-walk t c =
-    rw (c.in-Not.is, equations.not_layer, ← c.get-in-Not.ensures)
+    rw (c.in-Not.is, tree_layers.not_layer parts, ← c.get-in-Not.ensures)
     (subst (λ x. OnOk c.look_prefix-in-Not.result (c.look_prefix-in-Not.new.walk ≡ x)) (layers.not_walk c.args.needed c.args.walk.now (part_of c.get-in-Not.result.now) c.in-Not.at) c.look_prefix-in-Not.ensures.walk)
 
 pub expressions::look-returns-in_ok-first-in-Postfix-clause-value : goal.expressions::look-returns-in_ok-first-in-Postfix-clause-value
@@ -618,7 +619,7 @@ expressions::look-returns-in_ok-first-in-Postfix-clause-value t c =
     let v = c.look_head.new.walk in
     let links = map link_of c.as_slice.result.now in
     let part = part_of c.get-in-Postfix.result.now in
-    rw (c.in-Postfix.is, equations.postfix_layer, ← c.get-in-Postfix.ensures, ← c.as_slice.ensures)
+    rw (c.in-Postfix.is, tree_layers.postfix_layer parts, ← c.get-in-Postfix.ensures, ← c.as_slice.ensures)
     (subst (λ x. IfOk c.look_links.result (λ l. l ≡ x))
     (ap (λ ls. chains.looked_at v.scope (chains.passed_all v.scope c.args.needed (passed_seen c.in_ok-first-in-Postfix.first) (map link_of ls)))
     (c.as_slice-in-Postfix.ensures ∙ sym c.as_slice.ensures)
@@ -634,7 +635,7 @@ expressions::look-returns-in_ok-first-in-Postfix-clause-walk t c =
     let v = c.look_head.new.walk in
     let links = map link_of c.as_slice.result.now in
     let part = part_of c.get-in-Postfix.result.now in
-    rw (c.in-Postfix.is, equations.postfix_layer, ← c.get-in-Postfix.ensures, ← c.as_slice.ensures)
+    rw (c.in-Postfix.is, tree_layers.postfix_layer parts, ← c.get-in-Postfix.ensures, ← c.as_slice.ensures)
     (subst (λ x. OnOk c.look_links.result (c.look_links.new.walk ≡ x))
     (ap (λ ls. chains.over_links v c.args.needed (passed_seen c.in_ok-first-in-Postfix.first) (map link_of ls)) (c.as_slice-in-Postfix.ensures ∙ sym c.as_slice.ensures)
     ∙ ap (λ u. chains.over_links u c.args.needed (passed_seen c.in_ok-first-in-Postfix.first) links) c.in_ok-first-in-Postfix.ensures.walk
@@ -644,52 +645,52 @@ expressions::look-returns-in_ok-first-in-Postfix-clause-walk t c =
 
 pub expressions::look-returns-in_ok-head-in-Term-clause-value : goal.expressions::look-returns-in_ok-head-in-Term-clause-value
 expressions::look-returns-in_ok-head-in-Term-clause-value t c =
-    rw (c.in-Term.is, equations.term_layer, ← c.get-in-Term.ensures, ← c.as_slice-in-Term.ensures)
+    rw (c.in-Term.is, tree_layers.term_layer parts, ← c.get-in-Term.ensures, ← c.as_slice-in-Term.ensures)
     (subst (λ x. IfOk c.look_term.result (λ l. l ≡ x)) (steps.term_looked c.args.walk.now c.value.new.walk c.get-in-Term.result.now c.in_ok-head-in-Term.head c.args.needed c.in_ok-head-in-Term.ensures.walk c.in_ok-head-in-Term.ensures.value (map factor_of c.as_slice-in-Term.result.now)) c.look_term.ensures.value)
 
 pub expressions::look-returns-in_ok-head-in-Term-clause-walk : goal.expressions::look-returns-in_ok-head-in-Term-clause-walk
 expressions::look-returns-in_ok-head-in-Term-clause-walk t c =
-    rw (c.in-Term.is, equations.term_layer, ← c.get-in-Term.ensures, ← c.as_slice-in-Term.ensures)
+    rw (c.in-Term.is, tree_layers.term_layer parts, ← c.get-in-Term.ensures, ← c.as_slice-in-Term.ensures)
     (subst (λ x. OnOk c.look_term.result (c.look_term.new.walk ≡ x)) (steps.term_walked c.args.walk.now c.value.new.walk c.get-in-Term.result.now c.in_ok-head-in-Term.head c.args.needed c.in_ok-head-in-Term.ensures.walk c.in_ok-head-in-Term.ensures.value (map factor_of c.as_slice-in-Term.result.now)) c.look_term.ensures.walk)
 
 pub expressions::look-returns-in_ok-head-in-Sum-clause-value : goal.expressions::look-returns-in_ok-head-in-Sum-clause-value
 expressions::look-returns-in_ok-head-in-Sum-clause-value t c =
-    rw (c.in-Sum.is, equations.sum_layer, ← c.get-in-Sum.ensures, ← c.as_slice-in-Sum.ensures)
+    rw (c.in-Sum.is, tree_layers.sum_layer parts, ← c.get-in-Sum.ensures, ← c.as_slice-in-Sum.ensures)
     (subst (λ x. IfOk c.look_sum.result (λ l. l ≡ x)) (steps.sum_looked c.args.walk.now c.value-in-Sum.new.walk c.get-in-Sum.result.now c.in_ok-head-in-Sum.head c.args.needed c.in_ok-head-in-Sum.ensures.walk c.in_ok-head-in-Sum.ensures.value (map addend_of c.as_slice-in-Sum.result.now)) c.look_sum.ensures.value)
 
 pub expressions::look-returns-in_ok-head-in-Sum-clause-walk : goal.expressions::look-returns-in_ok-head-in-Sum-clause-walk
 expressions::look-returns-in_ok-head-in-Sum-clause-walk t c =
-    rw (c.in-Sum.is, equations.sum_layer, ← c.get-in-Sum.ensures, ← c.as_slice-in-Sum.ensures)
+    rw (c.in-Sum.is, tree_layers.sum_layer parts, ← c.get-in-Sum.ensures, ← c.as_slice-in-Sum.ensures)
     (subst (λ x. OnOk c.look_sum.result (c.look_sum.new.walk ≡ x)) (steps.sum_walked c.args.walk.now c.value-in-Sum.new.walk c.get-in-Sum.result.now c.in_ok-head-in-Sum.head c.args.needed c.in_ok-head-in-Sum.ensures.walk c.in_ok-head-in-Sum.ensures.value (map addend_of c.as_slice-in-Sum.result.now)) c.look_sum.ensures.walk)
 
 pub expressions::look-returns-in_ok-head-in-And-clause-value : goal.expressions::look-returns-in_ok-head-in-And-clause-value
 expressions::look-returns-in_ok-head-in-And-clause-value t c =
-    rw (c.in-And.is, equations.and_layer, ← c.get-in-And.ensures, ← c.as_slice-in-And.ensures)
+    rw (c.in-And.is, tree_layers.and_layer parts, ← c.get-in-And.ensures, ← c.as_slice-in-And.ensures)
     (subst (λ x. IfOk c.look_truths.result (λ l. l ≡ x)) (steps.and_looked c.args.walk.now c.value-in-And.new.walk c.get-in-And.result.now c.in_ok-head-in-And.head c.args.needed c.in_ok-head-in-And.ensures.walk c.in_ok-head-in-And.ensures.value (map part_of c.as_slice-in-And.result.now)) c.look_truths.ensures.value)
 
 pub expressions::look-returns-in_ok-head-in-And-clause-walk : goal.expressions::look-returns-in_ok-head-in-And-clause-walk
 expressions::look-returns-in_ok-head-in-And-clause-walk t c =
-    rw (c.in-And.is, equations.and_layer, ← c.get-in-And.ensures, ← c.as_slice-in-And.ensures)
+    rw (c.in-And.is, tree_layers.and_layer parts, ← c.get-in-And.ensures, ← c.as_slice-in-And.ensures)
     (subst (λ x. OnOk c.look_truths.result (c.look_truths.new.walk ≡ x)) (steps.and_walked c.args.walk.now c.value-in-And.new.walk c.get-in-And.result.now c.in_ok-head-in-And.head c.args.needed c.in_ok-head-in-And.ensures.walk c.in_ok-head-in-And.ensures.value (map part_of c.as_slice-in-And.result.now)) c.look_truths.ensures.walk)
 
 pub expressions::look-returns-in_ok-head-in-Or-clause-value : goal.expressions::look-returns-in_ok-head-in-Or-clause-value
 expressions::look-returns-in_ok-head-in-Or-clause-value t c =
-    rw (c.in-Or.is, equations.or_layer, ← c.get-in-Or.ensures, ← c.as_slice-in-Or.ensures)
+    rw (c.in-Or.is, tree_layers.or_layer parts, ← c.get-in-Or.ensures, ← c.as_slice-in-Or.ensures)
     (subst (λ x. IfOk c.look_truths-in-Or.result (λ l. l ≡ x)) (steps.or_looked c.args.walk.now c.value-in-Or.new.walk c.get-in-Or.result.now c.in_ok-head-in-Or.head c.args.needed c.in_ok-head-in-Or.ensures.walk c.in_ok-head-in-Or.ensures.value (map part_of c.as_slice-in-Or.result.now)) c.look_truths-in-Or.ensures.value)
 
 pub expressions::look-returns-in_ok-head-in-Or-clause-walk : goal.expressions::look-returns-in_ok-head-in-Or-clause-walk
 expressions::look-returns-in_ok-head-in-Or-clause-walk t c =
-    rw (c.in-Or.is, equations.or_layer, ← c.get-in-Or.ensures, ← c.as_slice-in-Or.ensures)
+    rw (c.in-Or.is, tree_layers.or_layer parts, ← c.get-in-Or.ensures, ← c.as_slice-in-Or.ensures)
     (subst (λ x. OnOk c.look_truths-in-Or.result (c.look_truths-in-Or.new.walk ≡ x)) (steps.or_walked c.args.walk.now c.value-in-Or.new.walk c.get-in-Or.result.now c.in_ok-head-in-Or.head c.args.needed c.in_ok-head-in-Or.ensures.walk c.in_ok-head-in-Or.ensures.value (map part_of c.as_slice-in-Or.result.now)) c.look_truths-in-Or.ensures.walk)
 
 pub expressions::look-returns-in_ok-a-in-Compare-clause-value : goal.expressions::look-returns-in_ok-a-in-Compare-clause-value
 expressions::look-returns-in_ok-a-in-Compare-clause-value t c =
-    rw (c.in-Compare.is, equations.compare_layer, ← c.get-in-Compare.ensures, ← c.get-in-Compare-2.ensures)
+    rw (c.in-Compare.is, tree_layers.compare_layer parts, ← c.get-in-Compare.ensures, ← c.get-in-Compare-2.ensures)
     (subst (λ x. IfOk c.look_comparison.result (λ l. l ≡ x)) (steps.compare_looked c.args.walk.now c.value-in-Compare.new.walk c.get-in-Compare.result.now c.in_ok-a-in-Compare.a c.args.needed c.in_ok-a-in-Compare.ensures.walk c.in_ok-a-in-Compare.ensures.value c.in-Compare.op c.in-Compare.field-2 (part_of c.get-in-Compare-2.result.now)) c.look_comparison.ensures.value)
 
 pub expressions::look-returns-in_ok-a-in-Compare-clause-walk : goal.expressions::look-returns-in_ok-a-in-Compare-clause-walk
 expressions::look-returns-in_ok-a-in-Compare-clause-walk t c =
-    rw (c.in-Compare.is, equations.compare_layer, ← c.get-in-Compare.ensures, ← c.get-in-Compare-2.ensures)
+    rw (c.in-Compare.is, tree_layers.compare_layer parts, ← c.get-in-Compare.ensures, ← c.get-in-Compare-2.ensures)
     (subst (λ x. OnOk c.look_comparison.result (c.look_comparison.new.walk ≡ x)) (steps.compare_walked c.args.walk.now c.value-in-Compare.new.walk c.get-in-Compare.result.now c.in_ok-a-in-Compare.a c.args.needed c.in_ok-a-in-Compare.ensures.walk c.in_ok-a-in-Compare.ensures.value c.in-Compare.op c.in-Compare.field-2 (part_of c.get-in-Compare-2.result.now)) c.look_comparison.ensures.walk)
 
 pub expressions::look_comparison-returns-clause-walk : goal.expressions::look_comparison-returns-clause-walk

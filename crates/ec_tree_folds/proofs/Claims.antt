@@ -1,0 +1,290 @@
+-- What holds of each part of a tree, where it holds of each part within which it holds of all.
+use Rattle.std.proofs.Common.{◌≡◌, List, map, subst}
+use Rattle.ec_ast.specs.declared.Expression.{Expression, roll-Expression, ind-Expression}
+use Rattle.ec_ast.specs.declared.Link.{Link, roll-Link, ind-Link}
+use Rattle.ec_ast.specs.declared.Member.{Member, roll-Member, ind-Member}
+use Rattle.ec_ast.specs.declared.Statement.{Statement, roll-Statement, ind-Statement}
+use Rattle.ec_ast.specs.declared.Addend.{Addend, roll-Addend, ind-Addend}
+use Rattle.ec_ast.specs.declared.Arm.{Arm, roll-Arm, ind-Arm}
+use Rattle.ec_ast.specs.declared.Block.{Block, roll-Block, ind-Block}
+use Rattle.ec_ast.specs.declared.Body.{Body, roll-Body, ind-Body}
+use Rattle.ec_ast.specs.declared.Factor.{Factor, roll-Factor, ind-Factor}
+use Rattle.ec_ast.specs.declared.ObjectConstructor.{ObjectConstructor, roll-ObjectConstructor, ind-ObjectConstructor}
+use Rattle.ec_ast.specs.declared.Operation.{Operation, roll-Operation, ind-Operation}
+use Rattle.ec_ast.specs.declared.ProcessSection.{ProcessSection, roll-ProcessSection, ind-ProcessSection}
+use Rattle.ec_tree_folds.specs.Kinds.{Kinds, tree}
+use Rattle.ec_tree_folds.specs.Kinds.{ExpressionOf, LinkOf, MemberOf, StatementOf, AddendOf, ArmOf, BlockOf, BodyOf, FactorOf}
+use Rattle.ec_tree_folds.specs.Kinds.{ObjectOf, OperationOf, ProcessOf}
+use Rattle.ec_tree_folds.specs.Kinds.{ExpressionLayer, LinkLayer, MemberLayer, StatementLayer, AddendLayer, ArmLayer, BlockLayer}
+use Rattle.ec_tree_folds.specs.Kinds.{BodyLayer, FactorLayer, ObjectLayer, OperationLayer, ProcessLayer}
+use Rattle.ec_tree_folds.specs.Layers.{Maps, expression_mapped, link_mapped, member_mapped, statement_mapped, addend_mapped}
+use Rattle.ec_tree_folds.specs.Layers.{arm_mapped, block_mapped, body_mapped, factor_mapped, object_mapped, operation_mapped}
+use Rattle.ec_tree_folds.specs.Layers.{process_mapped}
+
+-- a claim of the parts of each kind
+pub record Claims : Type 1 where
+  pub expression : Expression → Type 0
+  pub link : Link → Type 0
+  pub member : Member → Type 0
+  pub statement : Statement → Type 0
+  pub addend : Addend → Type 0
+  pub arm : Arm → Type 0
+  pub block : Block → Type 0
+  pub body : Body → Type 0
+  pub factor : Factor → Type 0
+  pub object : ObjectConstructor → Type 0
+  pub operation : Operation → Type 0
+  pub process : ProcessSection → Type 0
+
+-- ---- parts, each with the proof of its claim
+
+abbrev pub Held : {A : Type 0} → (A → Type 0) → Type 0
+Held {A} P = (x : A) × P x
+
+abbrev pub trees : {A : Type 0} {P : A → Type 0} → List (Held P) → List A
+trees xs = map (λ x. x.0) xs
+
+module _ (c : Claims) where
+  abbrev pub held : Kinds
+  held = record {
+    expression = Held c.expression;
+    link = Held c.link;
+    member = Held c.member;
+    statement = Held c.statement;
+    addend = Held c.addend;
+    arm = Held c.arm;
+    block = Held c.block;
+    body = Held c.body;
+    factor = Held c.factor;
+    object = Held c.object;
+    operation = Held c.operation;
+    process = Held c.process;
+  }
+
+  abbrev pub bare : Maps held tree
+  bare = record {
+    expression = λ x. x.0;
+    link = λ x. x.0;
+    member = λ x. x.0;
+    statement = λ x. x.0;
+    addend = λ x. x.0;
+    arm = λ x. x.0;
+    block = λ x. x.0;
+    body = λ x. x.0;
+    factor = λ x. x.0;
+    object = λ x. x.0;
+    operation = λ x. x.0;
+    process = λ x. x.0;
+  }
+
+  -- ---- one layer with such parts in it
+
+  abbrev pub ExpressionWith : Type 0
+  ExpressionWith = ExpressionOf held
+
+  abbrev pub bare_expression : ExpressionWith → ExpressionLayer
+  bare_expression = expression_mapped bare
+
+  abbrev pub LinkWith : Type 0
+  LinkWith = LinkOf held
+
+  abbrev pub bare_link : LinkWith → LinkLayer
+  bare_link = link_mapped bare
+
+  abbrev pub MemberWith : Type 0
+  MemberWith = MemberOf held
+
+  abbrev pub bare_member : MemberWith → MemberLayer
+  bare_member = member_mapped bare
+
+  abbrev pub StatementWith : Type 0
+  StatementWith = StatementOf held
+
+  abbrev pub bare_statement : StatementWith → StatementLayer
+  bare_statement = statement_mapped bare
+
+  abbrev pub AddendWith : Type 0
+  AddendWith = AddendOf held
+
+  abbrev pub bare_addend : AddendWith → AddendLayer
+  bare_addend = addend_mapped bare
+
+  abbrev pub ArmWith : Type 0
+  ArmWith = ArmOf held
+
+  abbrev pub bare_arm : ArmWith → ArmLayer
+  bare_arm = arm_mapped bare
+
+  abbrev pub BlockWith : Type 0
+  BlockWith = BlockOf held
+
+  abbrev pub bare_block : BlockWith → BlockLayer
+  bare_block = block_mapped bare
+
+  abbrev pub BodyWith : Type 0
+  BodyWith = BodyOf held
+
+  abbrev pub bare_body : BodyWith → BodyLayer
+  bare_body = body_mapped bare
+
+  abbrev pub FactorWith : Type 0
+  FactorWith = FactorOf held
+
+  abbrev pub bare_factor : FactorWith → FactorLayer
+  bare_factor = factor_mapped bare
+
+  abbrev pub ObjectWith : Type 0
+  ObjectWith = ObjectOf held
+
+  abbrev pub bare_object : ObjectWith → ObjectLayer
+  bare_object = object_mapped bare
+
+  abbrev pub OperationWith : Type 0
+  OperationWith = OperationOf held
+
+  abbrev pub bare_operation : OperationWith → OperationLayer
+  bare_operation = operation_mapped bare
+
+  abbrev pub ProcessWith : Type 0
+  ProcessWith = ProcessOf held
+
+  abbrev pub bare_process : ProcessWith → ProcessLayer
+  bare_process = process_mapped bare
+
+-- It holds of a part, where it holds of the parts within it.
+pub record Passes (c : Claims) : Type 0 where
+  pub expression : (y : ExpressionWith c) → c.expression (roll-Expression (bare_expression c y))
+  pub link : (y : LinkWith c) → c.link (roll-Link (bare_link c y))
+  pub member : (y : MemberWith c) → c.member (roll-Member (bare_member c y))
+  pub statement : (y : StatementWith c) → c.statement (roll-Statement (bare_statement c y))
+  pub addend : (y : AddendWith c) → c.addend (roll-Addend (bare_addend c y))
+  pub arm : (y : ArmWith c) → c.arm (roll-Arm (bare_arm c y))
+  pub block : (y : BlockWith c) → c.block (roll-Block (bare_block c y))
+  pub body : (y : BodyWith c) → c.body (roll-Body (bare_body c y))
+  pub factor : (y : FactorWith c) → c.factor (roll-Factor (bare_factor c y))
+  pub object : (y : ObjectWith c) → c.object (roll-ObjectConstructor (bare_object c y))
+  pub operation : (y : OperationWith c) → c.operation (roll-Operation (bare_operation c y))
+  pub process : (y : ProcessWith c) → c.process (roll-ProcessSection (bare_process c y))
+
+-- ---- the induction
+
+module _ {c : Claims} (p : Passes c) where
+  expression_from : (x : ExpressionLayer) (y : ExpressionWith c) → bare_expression c y ≡ x → c.expression (roll-Expression x)
+  expression_from x y is = subst (λ z. c.expression (roll-Expression z)) is (p.expression y)
+
+  link_from : (x : LinkLayer) (y : LinkWith c) → bare_link c y ≡ x → c.link (roll-Link x)
+  link_from x y is = subst (λ z. c.link (roll-Link z)) is (p.link y)
+
+  member_from : (x : MemberLayer) (y : MemberWith c) → bare_member c y ≡ x → c.member (roll-Member x)
+  member_from x y is = subst (λ z. c.member (roll-Member z)) is (p.member y)
+
+  statement_from : (x : StatementLayer) (y : StatementWith c) → bare_statement c y ≡ x → c.statement (roll-Statement x)
+  statement_from x y is = subst (λ z. c.statement (roll-Statement z)) is (p.statement y)
+
+  addend_from : (x : AddendLayer) (y : AddendWith c) → bare_addend c y ≡ x → c.addend (roll-Addend x)
+  addend_from x y is = subst (λ z. c.addend (roll-Addend z)) is (p.addend y)
+
+  arm_from : (x : ArmLayer) (y : ArmWith c) → bare_arm c y ≡ x → c.arm (roll-Arm x)
+  arm_from x y is = subst (λ z. c.arm (roll-Arm z)) is (p.arm y)
+
+  block_from : (x : BlockLayer) (y : BlockWith c) → bare_block c y ≡ x → c.block (roll-Block x)
+  block_from x y is = subst (λ z. c.block (roll-Block z)) is (p.block y)
+
+  body_from : (x : BodyLayer) (y : BodyWith c) → bare_body c y ≡ x → c.body (roll-Body x)
+  body_from x y is = subst (λ z. c.body (roll-Body z)) is (p.body y)
+
+  factor_from : (x : FactorLayer) (y : FactorWith c) → bare_factor c y ≡ x → c.factor (roll-Factor x)
+  factor_from x y is = subst (λ z. c.factor (roll-Factor z)) is (p.factor y)
+
+  object_from : (x : ObjectLayer) (y : ObjectWith c) → bare_object c y ≡ x → c.object (roll-ObjectConstructor x)
+  object_from x y is = subst (λ z. c.object (roll-ObjectConstructor z)) is (p.object y)
+
+  operation_from : (x : OperationLayer) (y : OperationWith c) → bare_operation c y ≡ x → c.operation (roll-Operation x)
+  operation_from x y is = subst (λ z. c.operation (roll-Operation z)) is (p.operation y)
+
+  process_from : (x : ProcessLayer) (y : ProcessWith c) → bare_process c y ≡ x → c.process (roll-ProcessSection x)
+  process_from x y is = subst (λ z. c.process (roll-ProcessSection z)) is (p.process y)
+
+  pub expression_holds : (x : Expression) → c.expression x
+  expression_holds =
+      ind-Expression
+      c.expression c.link c.member c.statement c.addend c.arm c.block c.body c.factor c.object c.operation c.process
+      expression_from link_from member_from statement_from addend_from arm_from block_from body_from factor_from object_from
+      operation_from process_from
+
+  pub link_holds : (x : Link) → c.link x
+  link_holds =
+      ind-Link
+      c.expression c.link c.member c.statement c.addend c.arm c.block c.body c.factor c.object c.operation c.process
+      expression_from link_from member_from statement_from addend_from arm_from block_from body_from factor_from object_from
+      operation_from process_from
+
+  pub member_holds : (x : Member) → c.member x
+  member_holds =
+      ind-Member
+      c.expression c.link c.member c.statement c.addend c.arm c.block c.body c.factor c.object c.operation c.process
+      expression_from link_from member_from statement_from addend_from arm_from block_from body_from factor_from object_from
+      operation_from process_from
+
+  pub statement_holds : (x : Statement) → c.statement x
+  statement_holds =
+      ind-Statement
+      c.expression c.link c.member c.statement c.addend c.arm c.block c.body c.factor c.object c.operation c.process
+      expression_from link_from member_from statement_from addend_from arm_from block_from body_from factor_from object_from
+      operation_from process_from
+
+  pub addend_holds : (x : Addend) → c.addend x
+  addend_holds =
+      ind-Addend
+      c.expression c.link c.member c.statement c.addend c.arm c.block c.body c.factor c.object c.operation c.process
+      expression_from link_from member_from statement_from addend_from arm_from block_from body_from factor_from object_from
+      operation_from process_from
+
+  pub arm_holds : (x : Arm) → c.arm x
+  arm_holds =
+      ind-Arm
+      c.expression c.link c.member c.statement c.addend c.arm c.block c.body c.factor c.object c.operation c.process
+      expression_from link_from member_from statement_from addend_from arm_from block_from body_from factor_from object_from
+      operation_from process_from
+
+  pub block_holds : (x : Block) → c.block x
+  block_holds =
+      ind-Block
+      c.expression c.link c.member c.statement c.addend c.arm c.block c.body c.factor c.object c.operation c.process
+      expression_from link_from member_from statement_from addend_from arm_from block_from body_from factor_from object_from
+      operation_from process_from
+
+  pub body_holds : (x : Body) → c.body x
+  body_holds =
+      ind-Body
+      c.expression c.link c.member c.statement c.addend c.arm c.block c.body c.factor c.object c.operation c.process
+      expression_from link_from member_from statement_from addend_from arm_from block_from body_from factor_from object_from
+      operation_from process_from
+
+  pub factor_holds : (x : Factor) → c.factor x
+  factor_holds =
+      ind-Factor
+      c.expression c.link c.member c.statement c.addend c.arm c.block c.body c.factor c.object c.operation c.process
+      expression_from link_from member_from statement_from addend_from arm_from block_from body_from factor_from object_from
+      operation_from process_from
+
+  pub object_holds : (x : ObjectConstructor) → c.object x
+  object_holds =
+      ind-ObjectConstructor
+      c.expression c.link c.member c.statement c.addend c.arm c.block c.body c.factor c.object c.operation c.process
+      expression_from link_from member_from statement_from addend_from arm_from block_from body_from factor_from object_from
+      operation_from process_from
+
+  pub operation_holds : (x : Operation) → c.operation x
+  operation_holds =
+      ind-Operation
+      c.expression c.link c.member c.statement c.addend c.arm c.block c.body c.factor c.object c.operation c.process
+      expression_from link_from member_from statement_from addend_from arm_from block_from body_from factor_from object_from
+      operation_from process_from
+
+  pub process_holds : (x : ProcessSection) → c.process x
+  process_holds =
+      ind-ProcessSection
+      c.expression c.link c.member c.statement c.addend c.arm c.block c.body c.factor c.object c.operation c.process
+      expression_from link_from member_from statement_from addend_from arm_from block_from body_from factor_from object_from
+      operation_from process_from

@@ -1,0 +1,105 @@
+-- The fold over a tree: what each part becomes, of what the parts within it become.
+use Rattle.ec_ast.specs.declared.Expression.{Expression, fold-Expression}
+use Rattle.ec_ast.specs.declared.Link.{Link, fold-Link}
+use Rattle.ec_ast.specs.declared.Member.{Member, fold-Member}
+use Rattle.ec_ast.specs.declared.Statement.{Statement, fold-Statement}
+use Rattle.ec_ast.specs.declared.Addend.{Addend, fold-Addend}
+use Rattle.ec_ast.specs.declared.Arm.{Arm, fold-Arm}
+use Rattle.ec_ast.specs.declared.Block.{Block, fold-Block}
+use Rattle.ec_ast.specs.declared.Body.{Body, fold-Body}
+use Rattle.ec_ast.specs.declared.Factor.{Factor, fold-Factor}
+use Rattle.ec_ast.specs.declared.ObjectConstructor.{ObjectConstructor, fold-ObjectConstructor}
+use Rattle.ec_ast.specs.declared.Operation.{Operation, fold-Operation}
+use Rattle.ec_ast.specs.declared.ProcessSection.{ProcessSection, fold-ProcessSection}
+use Rattle.ec_tree_folds.specs.Kinds.{Kinds}
+use Rattle.ec_tree_folds.specs.Kinds.{ExpressionOf, LinkOf, MemberOf, StatementOf, AddendOf, ArmOf, BlockOf, BodyOf, FactorOf}
+use Rattle.ec_tree_folds.specs.Kinds.{ObjectOf, OperationOf, ProcessOf}
+
+-- a step for each kind of part
+pub record Steps (k : Kinds) : Type 0 where
+  pub expression : ExpressionOf k → k.expression
+  pub link : LinkOf k → k.link
+  pub member : MemberOf k → k.member
+  pub statement : StatementOf k → k.statement
+  pub addend : AddendOf k → k.addend
+  pub arm : ArmOf k → k.arm
+  pub block : BlockOf k → k.block
+  pub body : BodyOf k → k.body
+  pub factor : FactorOf k → k.factor
+  pub object : ObjectOf k → k.object
+  pub operation : OperationOf k → k.operation
+  pub process : ProcessOf k → k.process
+
+-- what a part of each kind becomes
+module _ {k : Kinds} (s : Steps k) where
+  abbrev pub expression_folded : Expression → k.expression
+  expression_folded =
+      fold-Expression
+      k.expression k.link k.member k.statement k.addend k.arm k.block k.body k.factor k.object k.operation k.process
+      s.expression s.link s.member s.statement s.addend s.arm s.block s.body s.factor s.object s.operation s.process
+
+  abbrev pub link_folded : Link → k.link
+  link_folded =
+      fold-Link
+      k.expression k.link k.member k.statement k.addend k.arm k.block k.body k.factor k.object k.operation k.process
+      s.expression s.link s.member s.statement s.addend s.arm s.block s.body s.factor s.object s.operation s.process
+
+  abbrev pub member_folded : Member → k.member
+  member_folded =
+      fold-Member
+      k.expression k.link k.member k.statement k.addend k.arm k.block k.body k.factor k.object k.operation k.process
+      s.expression s.link s.member s.statement s.addend s.arm s.block s.body s.factor s.object s.operation s.process
+
+  abbrev pub statement_folded : Statement → k.statement
+  statement_folded =
+      fold-Statement
+      k.expression k.link k.member k.statement k.addend k.arm k.block k.body k.factor k.object k.operation k.process
+      s.expression s.link s.member s.statement s.addend s.arm s.block s.body s.factor s.object s.operation s.process
+
+  abbrev pub addend_folded : Addend → k.addend
+  addend_folded =
+      fold-Addend
+      k.expression k.link k.member k.statement k.addend k.arm k.block k.body k.factor k.object k.operation k.process
+      s.expression s.link s.member s.statement s.addend s.arm s.block s.body s.factor s.object s.operation s.process
+
+  abbrev pub arm_folded : Arm → k.arm
+  arm_folded =
+      fold-Arm
+      k.expression k.link k.member k.statement k.addend k.arm k.block k.body k.factor k.object k.operation k.process
+      s.expression s.link s.member s.statement s.addend s.arm s.block s.body s.factor s.object s.operation s.process
+
+  abbrev pub block_folded : Block → k.block
+  block_folded =
+      fold-Block
+      k.expression k.link k.member k.statement k.addend k.arm k.block k.body k.factor k.object k.operation k.process
+      s.expression s.link s.member s.statement s.addend s.arm s.block s.body s.factor s.object s.operation s.process
+
+  abbrev pub body_folded : Body → k.body
+  body_folded =
+      fold-Body
+      k.expression k.link k.member k.statement k.addend k.arm k.block k.body k.factor k.object k.operation k.process
+      s.expression s.link s.member s.statement s.addend s.arm s.block s.body s.factor s.object s.operation s.process
+
+  abbrev pub factor_folded : Factor → k.factor
+  factor_folded =
+      fold-Factor
+      k.expression k.link k.member k.statement k.addend k.arm k.block k.body k.factor k.object k.operation k.process
+      s.expression s.link s.member s.statement s.addend s.arm s.block s.body s.factor s.object s.operation s.process
+
+  abbrev pub object_folded : ObjectConstructor → k.object
+  object_folded =
+      fold-ObjectConstructor
+      k.expression k.link k.member k.statement k.addend k.arm k.block k.body k.factor k.object k.operation k.process
+      s.expression s.link s.member s.statement s.addend s.arm s.block s.body s.factor s.object s.operation s.process
+
+  abbrev pub operation_folded : Operation → k.operation
+  operation_folded =
+      fold-Operation
+      k.expression k.link k.member k.statement k.addend k.arm k.block k.body k.factor k.object k.operation k.process
+      s.expression s.link s.member s.statement s.addend s.arm s.block s.body s.factor s.object s.operation s.process
+
+  abbrev pub process_folded : ProcessSection → k.process
+  process_folded =
+      fold-ProcessSection
+      k.expression k.link k.member k.statement k.addend k.arm k.block k.body k.factor k.object k.operation k.process
+      s.expression s.link s.member s.statement s.addend s.arm s.block s.body s.factor s.object s.operation s.process
