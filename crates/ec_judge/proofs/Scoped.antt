@@ -15,6 +15,9 @@ use Rattle.ec_scopes.specs.declared.scope.Scope.{Scope}
 use Rattle.ec_scopes.specs.Scopes.{declaring, outside, within, written_in}
 use Rattle.ec_scopes.proofs.Scopes.{declaring-declaring, declaring-none, outside-within}
 
+pub declared_none : (scope : Scope) → declaring [] scope ≡ scope
+declared_none scope = declaring-none scope
+
 pub none_behind : (entries : List Entry) → entries ++ [] ≡ entries
 none_behind entries = append-nil entries
 
