@@ -26,7 +26,8 @@ walked_walked w f g u v =
 
 pub walked_none : (w : Walk) → walked w [] [] ≡ w
 unfolding walked
-walked_none w = ap (λ faults. walk_of w.scope faults (w.uses ++ [])) (noted_none w.faults) ∙ ap (walk_of w.scope w.faults) (append-nil w.uses)
+walked_none w =
+    ap (λ faults. walk_of w.scope faults (w.uses ++ [])) (noted_none w.faults) ∙ ap (walk_of w.scope w.faults) (append-nil w.uses)
 
 -- faults behind a part
 pub walked_noted : (w : Walk) (f g : List StaticFault) (u : List Use) →
@@ -44,7 +45,8 @@ unfolding walked
 used_walk w g u = refl
 
 -- a part begins and ends
-pub ended_walk : (w : Walk) (f : List StaticFault) (u : List Use) (part : Walk) → part ≡ walked (walk_of w.scope (begun w.faults) w.uses) f u →
+pub ended_walk : (w : Walk) (f : List StaticFault) (u : List Use) (part : Walk) →
+    part ≡ walked (walk_of w.scope (begun w.faults) w.uses) f u →
     walk_of part.scope (ended part.faults w.faults.is_clean) part.uses ≡ walked w f u
 unfolding walked
 ended_walk w f u part e = rw e refl
