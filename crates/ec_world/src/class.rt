@@ -59,13 +59,16 @@ pub struct OperationRec {
     pub operation: OpNo,
 }
 
-/// A class or object constructor: its name as declared, its operation 0, its fields, its operations by their names, and
-/// for each named type of the program, by its number, whether the class conforms to it. The fields that a creation gives
-/// come first: captured names, or parameters.
+/// A class or object constructor: its name as declared, its operation 0, its process section where it has one, whether its objects have
+/// a monitor, and with how many conditions, its fields, its operations by their names, and for each named type of the program, by its
+/// number, whether the class conforms to it. The fields that a creation gives come first: captured names, or parameters.
 #[derive(Drop)]
 pub struct ClassRec {
     pub name: Text,
     pub initial: OpNo,
+    pub process: Option<OpNo>,
+    pub monitored: bool,
+    pub conditions: u32,
     pub fields: Seq<FieldRec>,
     pub operations: Seq<OperationRec>,
     pub conforms: Seq<bool>,

@@ -4,6 +4,7 @@
 pub mod activation;
 pub mod class;
 pub mod common;
+pub mod doing;
 pub mod event;
 pub mod group;
 pub mod memory;
@@ -15,6 +16,7 @@ pub mod places;
 pub mod process;
 pub mod robin;
 pub mod run;
+pub mod sight;
 pub mod stop;
 mod text;
 pub mod value;
