@@ -6,6 +6,7 @@ pub mod Texts
 pub mod Sights
 pub mod Doings
 pub mod Outcomes
+pub mod Holding
 pub mod World
 pub mod Places
 pub mod Group

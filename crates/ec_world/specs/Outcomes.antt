@@ -1,6 +1,6 @@
 -- The action table, second half: what is done to a world beside its processes, and what this does to the activations. One case a
 -- doing. (Jul, Levy, Hutchinson, Black 1988; for monitors Hoare 1974.)
-use Rattle.std.specs.Prelude.{ℕ, suc, Bool, true, false, if◌then◌else◌, List, [], ◌∷◌, ◌++◌, length, replicate, Option, Some, None, option_map, slice_set}
+use Rattle.std.specs.Prelude.{ℕ, suc, Bool, true, false, if◌then◌else◌, List, [], ◌∷◌, ◌++◌, length, nat_lt, replicate, Option, Some, None, option_map, slice_set}
 use Rattle.ec_monitors.specs.declared.record.MonitorRec.{MonitorRec}
 use Rattle.ec_monitors.specs.declared.record.Granted.{Granted}
 use Rattle.ec_monitors.specs.declared.record.Entry.{Entry as Within}
@@ -52,15 +52,17 @@ with_object c who o = record c { objects = c.objects ++ o ∷ []; events = c.eve
 -- the next number, the given fields and the defaults of the others; an activation of operation 0 on it
 abbrev pub made_object : Common → Who → ClassNo → List Value → Option ClassRec → Done
 made_object c who class given None = goes_on c
-made_object c who class given (Some k) =
-    (with_object c who (record { class = class; fields = new_fields given k.fields; fixed = false; monitor = monitor_for k }),
-    only (Calls k.initial (suc (length c.objects)) []))
+made_object c who class given (Some k) = (
+  with_object c who (record { class = class; fields = new_fields given k.fields; fixed = false; monitor = monitor_for k }),
+  only (Calls k.initial (suc (length c.objects)) []),
+)
 
 -- the next number, and as many defaults
 abbrev pub made_vector : Common → Who → VectorType → ℕ → Done
-made_vector c who of n =
-    (with_object c who (record { class = Vector of; fields = replicate n (default_of (element_kind of)); fixed = false; monitor = None }),
-    only (GoesOn (Some (Ref (suc (length c.objects))))))
+made_vector c who of n = (
+  with_object c who (record { class = Vector of; fields = replicate n (default_of (element_kind of)); fixed = false; monitor = None }),
+  only (GoesOn (Some (Ref (suc (length c.objects))))),
+)
 
 abbrev pub with_element : ℕ → Value → ObjectRec → ObjectRec
 with_element i v o = record o { fields = slice_set o.fields i v }
@@ -109,6 +111,10 @@ entry_done c who (Some m) = entering c who.own (entered m who.process)
 abbrev pub by_holder : ℕ → MonitorRec → Granting → Granting
 by_holder p m act = if is_held_by m p then act else (m, None)
 
+-- a condition that the monitor doesn't have is nobody's
+abbrev pub at_condition : MonitorRec → ℕ → Granting → Granting
+at_condition m condition act = if nat_lt condition (length m.conditions) then act else (m, None)
+
 -- an act on the own monitor that goes on with this effect, which may depend on whether somebody was granted
 abbrev pub acting : Common → ℕ → (Option Granted → Effect) → Option Section → Granting → Done
 acting c own effect started (m, granted) = (with_monitor c own m, record { effect = effect granted; granted = granted; started = started })
@@ -117,7 +123,7 @@ acting c own effect started (m, granted) = (with_monitor c own m, record { effec
 abbrev pub wait_done : Common → Who → ℕ → Option MonitorRec → Done
 wait_done c who condition None = goes_on c
 wait_done c who condition (Some m) =
-    acting c who.own (λ granted. Blocks ForCondition who.own) None (by_holder who.process m (waited m condition))
+    acting c who.own (λ granted. Blocks ForCondition who.own) None (by_holder who.process m (at_condition m condition (waited m condition)))
 
 -- c.signal: it blocks where somebody was granted the monitor
 abbrev pub signal_effect : ℕ → Option Granted → Effect
@@ -126,7 +132,8 @@ signal_effect own (Some q) = Blocks Urgently own
 
 abbrev pub signal_done : Common → Who → ℕ → Option MonitorRec → Done
 signal_done c who condition None = goes_on c
-signal_done c who condition (Some m) = acting c who.own (signal_effect who.own) None (by_holder who.process m (signalled m condition))
+signal_done c who condition (Some m) =
+    acting c who.own (signal_effect who.own) None (by_holder who.process m (at_condition m condition (signalled m condition)))
 
 -- ---- returns
 

@@ -1,5 +1,6 @@
 //! What a world knows of the program: its classes.
-ghost use Rattle.std.specs.Prelude.{◌≡◌};
+ghost use Rattle.std.specs.Prelude.{◌≡◌, Some};
+ghost use Rattle.ec_world.specs.Doings.{runs_inside};
 ghost use Rattle.ec_world.specs.Objects as spec;
 
 use crate::value::{OpNo, Text, ValueType};
@@ -85,6 +86,19 @@ impl ClassRec {
             }
         }
         None
+    }
+
+    /// Whether an operation runs in the monitor of its object.
+    pub(crate) fn is_inside(&self, op: OpNo) -> bool
+        ensures { result ≡ runs_inside (Some self.now) op }
+    {
+        if !self.monitored {
+            return false;
+        }
+        match self.process {
+            Some(section) => section != op,
+            None => true,
+        }
     }
 
     /// Whether the class conforms to the named type of a number.

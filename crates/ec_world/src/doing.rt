@@ -1,5 +1,5 @@
 //! What the action of a stop comes to, and what becomes of processes once it is done.
-ghost use Rattle.std.specs.Prelude.{◌≡◌, None};
+ghost use Rattle.std.specs.Prelude.{◌≡◌, None, Some};
 
 use crate::class::{ClassNo, VectorType};
 use crate::process::Cause;
@@ -16,7 +16,10 @@ pub enum Doing {
     /// The output gets a text.
     Prints(Text),
     /// A global constant gets its value, by its place among these (from 0).
-    Defines { index: u32, value: Value },
+    Defines {
+        index: u32,
+        value: Value,
+    },
     /// An element of a vector, which is there, gets a value.
     Stores {
         vector: Oid,
@@ -24,11 +27,21 @@ pub enum Doing {
         value: Value,
     },
     /// A new object of a class, with the values that its creation gives, and an activation of operation 0 on it.
-    Makes { class: ClassNo, given: Values },
+    Makes {
+        class: ClassNo,
+        given: Values,
+    },
     /// A new vector of so many elements (0 to 16,384).
-    MakesVector { of: VectorType, size: u32 },
+    MakesVector {
+        of: VectorType,
+        size: u32,
+    },
     /// An activation of an operation on an object.
-    Invokes { op: OpNo, own: Oid, args: Values },
+    Invokes {
+        op: OpNo,
+        own: Oid,
+        args: Values,
+    },
     /// The activation goes, with a result where it has one; whether it leaves the own object's monitor; and the process section that
     /// begins on the own object behind it, if any.
     Returns {
@@ -53,7 +66,26 @@ pub enum Doing {
     /// The process ends.
     Finishes,
     /// The process fails.
-    Breaks { cause: Cause, line: u32 },
+    Breaks {
+        cause: Cause,
+        line: u32,
+    },
+}
+
+impl Doing {
+    /// The action gives a value.
+    pub(crate) fn giving(value: Value) -> Doing
+        ensures { result ≡ Doing.Passes (Some value) }
+    {
+        Doing::Passes(Some(value))
+    }
+
+    /// The process fails.
+    pub(crate) fn breaking(cause: Cause, line: u32) -> Doing
+        ensures { result ≡ Doing.Breaks cause line }
+    {
+        Doing::Breaks { cause, line }
+    }
 }
 
 /// The process section with which a new process begins, and its own object.
@@ -82,5 +114,12 @@ impl Outcome {
             granted: None,
             started: None,
         }
+    }
+
+    /// The action is done, and nothing else becomes of processes.
+    pub(crate) fn goes_on() -> Outcome
+        ensures { result ≡ record { effect = Effect.GoesOn None; granted = None; started = None } }
+    {
+        Outcome::only(Effect::GoesOn(None))
     }
 }

@@ -1,8 +1,10 @@
 //! What a reader of a world sees, before anything is done.
-ghost use Rattle.std.specs.Prelude.{◌≡◌, IfOk};
+ghost use Rattle.std.specs.Prelude.{◌≡◌, IfOk, option_map};
+ghost use Rattle.ec_world.specs.Objects.{class_at};
+ghost use Rattle.ec_world.specs.Sights as spec;
 ghost use Rattle.ec_world.specs.Sights.{Sight};
 
-use crate::class::{ClassNo, Classes};
+use crate::class::{ClassNo, ClassRec, Classes};
 use crate::value::{Oid, Oids, Value};
 use std::alloc::{AllocError, Global};
 
@@ -41,4 +43,22 @@ pub trait Sees {
     /// The members of an object's group, rising. The error is want of memory, or a member whose number has more than 32 bits.
     fn group(&self, alloc: Global, oid: Oid) -> Result<Oids, AllocError>
         ensures { IfOk result (λ members. members ≡ (sight self.now).group oid) };
+}
+
+/// The class or object constructor of a number.
+pub(crate) fn class_in(classes: &Classes, class: ClassNo) -> Option<&ClassRec>
+    ensures { option_map (λ k. k.now) result ≡ class_at classes.now class }
+{
+    match class {
+        ClassNo::Made(number) => classes.get(number as usize),
+        ClassNo::Node | ClassNo::Program | ClassNo::Vector(_) => None,
+    }
+}
+
+/// The class or object constructor of an object, where it has one.
+pub(crate) fn class_record<W: Sees>(world: &W, oid: Oid) -> Option<&ClassRec>
+    ensures { option_map (λ k. k.now) result ≡ spec.class_record (W.sight world.now) oid }
+{
+    let class = world.class_of(oid)?;
+    class_in(world.classes(), class)
 }

@@ -1,6 +1,4 @@
 //! Stops, and what their actions do to activations.
-ghost use Rattle.std.specs.Prelude.{◌≡◌};
-
 use crate::class::{ClassNo, NameNo, VectorType, ViewedAs};
 use crate::process::Cause;
 use crate::value::{Oid, OpNo, Pid, Value, Values};
@@ -111,20 +109,4 @@ pub enum Effect {
     Ends,
     /// All activations go, and the process has failed.
     Fails { cause: Cause, line: u32 },
-}
-
-impl Effect {
-    /// The action is done, with this result.
-    pub(crate) fn with(value: Value) -> Effect
-        ensures { result ≡ Effect.GoesOn (Some value) }
-    {
-        Effect::GoesOn(Some(value))
-    }
-
-    /// The process has failed.
-    pub(crate) fn failure(cause: Cause, line: u32) -> Effect
-        ensures { result ≡ Effect.Fails cause line }
-    {
-        Effect::Fails { cause, line }
-    }
 }
