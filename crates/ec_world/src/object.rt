@@ -29,7 +29,11 @@ pub(crate) enum HolderAct {
 
 /// A process enters the monitor of an object, or waits to. Nothing where the object isn't there or has none. An error is want of
 /// memory, or a depth of more than 32 bits.
-pub(crate) fn enter_at(objects: &mut Seq<ObjectRec>, oid: Oid, p: Pid) -> Result<Option<Entry>, AllocError>
+pub(crate) fn enter_at(
+    objects: &mut Seq<ObjectRec>,
+    oid: Oid,
+    p: Pid,
+) -> Result<Option<Entry>, AllocError>
     ensures { IfOk result (λ e. spec.at_number (spec.entry_of p) objects.old oid ≡ (objects.new, e)) }
 {
     if oid == 0 || oid as usize > objects.len() {
@@ -40,7 +44,12 @@ pub(crate) fn enter_at(objects: &mut Seq<ObjectRec>, oid: Oid, p: Pid) -> Result
 
 /// A process acts on the monitor of an object, where it is its holder, and may grant it to another one. Nothing where the object
 /// isn't there or has no monitor.
-pub(crate) fn act_at(objects: &mut Seq<ObjectRec>, oid: Oid, p: Pid, act: HolderAct) -> Option<Option<Granted>>
+pub(crate) fn act_at(
+    objects: &mut Seq<ObjectRec>,
+    oid: Oid,
+    p: Pid,
+    act: HolderAct,
+) -> Option<Option<Granted>>
     ensures { spec.at_number (spec.act_by p act) objects.old oid ≡ (objects.new, result) }
 {
     if oid == 0 || oid as usize > objects.len() {
@@ -83,14 +92,14 @@ impl HolderAct {
         match self {
             HolderAct::Leave => monitor.leave(p),
             HolderAct::Wait(condition) => {
-                if condition as usize < monitor.conditions() {
+                if (condition as usize) < monitor.conditions() {
                     monitor.wait(p, condition as usize)
                 } else {
                     None
                 }
             }
             HolderAct::Signal(condition) => {
-                if condition as usize < monitor.conditions() {
+                if (condition as usize) < monitor.conditions() {
                     monitor.signal(p, condition as usize)
                 } else {
                     None
