@@ -59,8 +59,9 @@ pub(crate) fn node_at<W: Sees>(world: &W, line: u32, operands: Values) -> Option
     let Some(Value::Int(number)) = one(operands) else {
         return None;
     };
+    let nodes = world.nodes();
     match u32::try_from(number) {
-        Ok(k) if k < world.nodes() => Some(Doing::giving(Value::Ref(k + 1))),
+        Ok(k) if k < nodes => Some(Doing::giving(Value::Ref(k + 1))),
         _ => Some(Doing::breaking(Cause::NoSuchNode, line)),
     }
 }

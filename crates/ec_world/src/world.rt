@@ -7,12 +7,12 @@ use crate::activation::Activation;
 use crate::common::Common;
 use crate::doing::Outcome;
 use crate::doings;
+use crate::granting::{begin, give_up, ready_each, ready_granted};
 use crate::process::{Proc, ProcStatus};
-use crate::settling::{begin, give_up, ready_each, ready_granted};
 use crate::stop::Who;
 use crate::value::{Pid, number_of};
 use ec_base::list::Seq;
-use std::alloc::AllocError;
+use std::alloc::{AllocError, Global};
 
 /// A world: all processes share one.
 #[derive(Drop)]

@@ -1,6 +1,6 @@
 use Rattle.std.proofs.Common.{◌≡◌, drop}
 use Rattle.ec_world.specs.World.{all_readied}
-use Rattle.ec_world.proofs.settling.ready_each.Given as goal
+use Rattle.ec_world.proofs.granting.ready_each.Given as goal
 
 -- those from this one on are still to be set
 abbrev pub invariant-loop-q : goal.invariant-loop-q

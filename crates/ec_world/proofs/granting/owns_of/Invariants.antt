@@ -1,5 +1,5 @@
 use Rattle.std.proofs.Common.{◌≡◌, ◌-◌, drop, map, reverse}
-use Rattle.ec_world.proofs.settling.owns_of.Given as goal
+use Rattle.ec_world.proofs.granting.owns_of.Given as goal
 
 -- the activations down to this one
 abbrev pub invariant-loop-i : goal.invariant-loop-i
