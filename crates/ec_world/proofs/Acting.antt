@@ -9,11 +9,15 @@ use Rattle.ec_world.specs.declared.process.ProcStatus.{ProcStatus}
 use Rattle.ec_world.specs.declared.process.ProcStatus.TheVariants.{Ready, Entry, Cond, Urgent, Ended, Failed}
 use Rattle.ec_world.specs.declared.process.Proc.{Proc}
 use Rattle.ec_world.specs.declared.stop.Stop.{Stop}
+use Rattle.ec_world.specs.declared.stop.Who.{Who}
+use Rattle.ec_world.specs.declared.doing.Doing.{Doing}
 use Rattle.ec_world.specs.declared.doing.Outcome.{Outcome}
+use Rattle.ec_world.specs.declared.common.Common.{Common}
 use Rattle.ec_world.specs.declared.object.ObjectRec.{ObjectRec}
 use Rattle.ec_world.specs.declared.world.World.{World}
 use Rattle.ec_world.specs.Meaning.{ActivationMeaning}
-use Rattle.ec_world.specs.Outcomes.{Acted, outcome_of, all_granted}
+use Rattle.ec_world.specs.Doings.{Asked}
+use Rattle.ec_world.specs.Outcomes.{Acted, done, acted_if, outcome_of, all_granted}
 use Rattle.ec_world.specs.World.{stack_if_ready, stack_at, ready_stack, all_readied, given_up, changed, changed_at, owns_of, begun_for, settled, acted, outcome_at, act_if_pending, act_on, Action, IsPending}
 use Rattle.ec_world.proofs.Dropping.{all_owns}
 
@@ -44,6 +48,10 @@ top_there {A = A} xs h = part (top_of xs) refl
     part : (t : Option A) → top_of xs ≡ t → IsSome (top_of xs)
     part (Some x) e = rw e refl
     part None e = let n : xs ≡ [] = top_of_none xs e in let l = ap length n in absurd (omega arith)
+
+-- what is looked at and then done is what the table has
+pub came : (c d : Common) (who : Who) (read asked : Asked) (doing : Doing) (o : Outcome) → read ≡ asked → read ≡ Some doing → done c who doing ≡ (d, o) → acted_if c who asked ≡ Some (d, o)
+came c d who read asked doing o e i f = let s : asked ≡ Some doing = sym e ∙ i in ap (acted_if c who) s ∙ ap Some f
 
 module _ {A : Type 0} (M : ActivationMeaning A) (w : World A) (p : ℕ) where
   -- ---- what the table has

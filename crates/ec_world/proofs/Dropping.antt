@@ -15,6 +15,12 @@ granted_front : (granted : Option Granted) (more : List ℕ) → all_granted gra
 granted_front None more = refl
 granted_front (Some q) more = refl
 
+abbrev beside : List ObjectRec → List ℕ → List ObjectRec × List ℕ
+beside objects freed = (objects, freed)
+
+dropped_first : (p oid : ℕ) (others : List ℕ) (objects : List ObjectRec) (first : List ObjectRec × Option Granted) → dropped_at objects p oid ≡ first → dropped_each p (oid ∷ others) objects ≡ beside (dropped_each p others first.0).0 (all_granted first.1 (dropped_each p others first.0).1)
+dropped_first p oid others objects first e = ap (λ (f : List ObjectRec × Option Granted). beside (dropped_each p others f.0).0 (all_granted f.1 (dropped_each p others f.0).1)) e
+
 -- one object more
 pub dropped_next : (p i : ℕ) (owns freed freed' : List ℕ) (objects objects' : List ObjectRec) (granted : Option Granted) → i < length owns → dropped_at objects p (get_or owns i 0) ≡ (objects', granted) → freed' ≡ freed ++ all_granted granted [] → and_freed freed' (dropped_each p (drop (i + 1) owns) objects') ≡ and_freed freed (dropped_each p (drop i owns) objects)
 dropped_next p i owns freed freed' objects objects' granted h e f =
@@ -22,7 +28,9 @@ dropped_next p i owns freed freed' objects objects' granted h e f =
     let others : List ObjectRec × List ℕ = dropped_each p (drop (i + 1) owns) objects' in
     let g : freed' ++ others.1 ≡ freed ++ all_granted granted others.1 =
     ap (λ (xs : List ℕ). xs ++ others.1) f ∙ append_assoc freed (all_granted granted []) others.1 ∙ ap (λ (xs : List ℕ). freed ++ xs) (granted_front granted others.1) in
-    rw (d, e, g) refl
+    let all : dropped_each p (drop i owns) objects ≡ beside others.0 (all_granted granted others.1) =
+    ap (λ (os : List ℕ). dropped_each p os objects) d ∙ dropped_first p (get_or owns i 0) (drop (i + 1) owns) objects (objects', granted) e in
+    ap (beside others.0) g ∙ sym (ap (and_freed freed) all)
 
 module _ {A : Type 0} (own : A → ℕ) where
   pub none_yet : (xs : List A) (n : ℕ) → n ≡ length xs → [] ≡ reverse (map own (drop (n - 0) xs))

@@ -1,5 +1,5 @@
 -- Acts on the monitor of one object of a world.
-use Rattle.std.proofs.Common.{◌≡◌, ℕ, zero, suc, ◌-◌, ◌<◌, List, [], ◌∷◌, ◌++◌, Option, Some, None, refl, sym, ap, ◌∙◌, arith}
+use Rattle.std.proofs.Common.{◌≡◌, ℕ, suc, ◌-◌, ◌<◌, List, [], ◌∷◌, ◌++◌, Option, Some, None, refl, sym, ap, ◌∙◌, arith}
 use Rattle.std.specs.Prelude.{slice_get, slice_set}
 use Rattle.ec_base.proofs.Lists.{set_there}
 use Rattle.ec_monitors.specs.declared.record.MonitorRec.{MonitorRec}
@@ -28,10 +28,6 @@ object_read objects oid o h e = let n : oid ≡ suc (oid - 1) = omega arith in a
 pub changed_there : (objects : List ObjectRec) (oid : ℕ) (o : ObjectRec) (change : ObjectRec → ObjectRec) → object_at objects oid ≡ Some o → changed_object objects oid change ≡ slice_set objects (oid - 1) (change o)
 changed_there objects oid o change e = ap (changed_if objects oid change) e
 
-pub object_past : (objects : List ObjectRec) (oid : ℕ) → slice_get objects (oid - 1) ≡ None → object_at objects oid ≡ None
-object_past objects zero e = refl
-object_past objects (suc i) e = e
-
 module _ {R : Type 0} (act : MonitorRec → MonitorRec × R) (objects : List ObjectRec) (oid : ℕ) where
   part_there : (o o' : ObjectRec) (r : Option R) (m : Option MonitorRec) → object_at objects oid ≡ Some o → slice_get objects (oid - 1) ≡ Some o → on_if act o m ≡ (o', r) → at_if act objects oid m ≡ (slice_set objects (oid - 1) o', r)
   part_there o o' r None is at e =
@@ -50,9 +46,6 @@ module _ {R : Type 0} (act : MonitorRec → MonitorRec × R) (objects : List Obj
       let is = object_read objects oid o h at in
       ap (λ (x : Option ObjectRec). at_if act objects oid (monitor_if x)) is ∙ part_there o o' r o.monitor is at e
 
-  pub at_none : object_at objects oid ≡ None → at_number act objects oid ≡ (objects, None)
-  at_none is = ap (λ (x : Option ObjectRec). at_if act objects oid (monitor_if x)) is
-
 -- ---- entries
 
 abbrev pub entry_outcome : ℕ → Option Entry → Outcome
@@ -66,7 +59,7 @@ entry_if c who objects r None e =
     rw (← a, ← b) refl
 entry_if c who objects r (Some m) e = part (entry_of who.process m) e
   where
-    part : (g : MonitorRec × Entry) → (changed_object c.objects who.own (λ o. record o { monitor = Some g.0 }), Some g.1) ≡ (objects, r) → entering c who.own g ≡ (record c { objects = objects }, entry_outcome who.own r)
+    part : (g : MonitorRec × Entry) → ◌≡◌ {A = List ObjectRec × Option Entry} (changed_object c.objects who.own (λ o. record o { monitor = Some g.0 }), Some g.1) (objects, r) → entering c who.own g ≡ (record c { objects = objects }, entry_outcome who.own r)
     part (n, within) k =
         let a : changed_object c.objects who.own (λ o. record o { monitor = Some n }) ≡ objects = ap (λ (t : List ObjectRec × Option Entry). t.0) k in
         let b : Some within ≡ r = ap (λ (t : List ObjectRec × Option Entry). t.1) k in
@@ -82,7 +75,7 @@ answered otherwise effect started None = otherwise
 answered otherwise effect started (Some granted) = record { effect = effect granted; granted = granted; started = started }
 
 module _ (c : Common) (own : ℕ) (otherwise : Outcome) (effect : Option Granted → Effect) (started : Option Section) (act : MonitorRec → Granting) (objects : List ObjectRec) (r : Option (Option Granted)) where
-  acting_by : (g : Granting) → (changed_object c.objects own (λ o. record o { monitor = Some g.0 }), Some g.1) ≡ (objects, r) → acting c own effect started g ≡ (record c { objects = objects }, answered otherwise effect started r)
+  acting_by : (g : Granting) → ◌≡◌ {A = List ObjectRec × Option (Option Granted)} (changed_object c.objects own (λ o. record o { monitor = Some g.0 }), Some g.1) (objects, r) → acting c own effect started g ≡ (record c { objects = objects }, answered otherwise effect started r)
   acting_by (n, granted) k =
       let a : changed_object c.objects own (λ o. record o { monitor = Some n }) ≡ objects = ap (λ (t : List ObjectRec × Option (Option Granted)). t.0) k in
       let b : Some granted ≡ r = ap (λ (t : List ObjectRec × Option (Option Granted)). t.1) k in

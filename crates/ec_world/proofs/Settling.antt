@@ -24,7 +24,7 @@ module _ {A : Type 0} (M : ActivationMeaning A) (w : World A) (p : ℕ) (below :
   abbrev pub one_changed : Effect → World A
   one_changed e = record { common = c; processes = slice_set w.processes p (changed M below top e) }
 
-  no_more : (ps : List (Proc A)) → record { common = c; processes = ps ++ [] } ≡ record { common = c; processes = ps }
+  no_more : (ps : List (Proc A)) → ◌≡◌ {A = World A} (record { common = c; processes = ps ++ [] }) (record { common = c; processes = ps })
   no_more ps = ap (λ (xs : List (Proc A)). record { common = c; processes = xs }) (append-nil ps)
 
   -- an outcome `only e` is the effect on one process

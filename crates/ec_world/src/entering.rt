@@ -13,6 +13,7 @@ use std::alloc::{AllocError, Global};
 
 impl Common {
     /// A process enters the monitor of its own object, or waits to. An error is want of memory, or a depth of more than 32 bits.
+    #[tactic(auto, using(crate::proofs::Holding::entry_by))]
     pub(crate) fn enter(&mut self, who: Who) -> Result<Outcome, AllocError>
         ensures { IfOk result (λ o. spec.entry_done self.old who (spec.monitor_of self.old who.own) ≡ (self.new, o)) }
     {
@@ -44,6 +45,7 @@ impl Common {
     }
 
     /// A process signals a condition of its own object. It blocks where somebody waited for it.
+    #[tactic(auto, using(crate::proofs::Holding::signal_by))]
     pub(crate) fn signal(&mut self, who: Who, condition: u32) -> Outcome
         ensures { spec.signal_done self.old who condition (spec.monitor_of self.old who.own) ≡ (self.new, result) }
     {
@@ -62,6 +64,7 @@ impl Common {
     }
 
     /// An activation goes, out of the monitor of its own object where it had entered it.
+    #[tactic(auto, using(crate::proofs::Holding::leave_by))]
     pub(crate) fn leave(
         &mut self,
         who: Who,
