@@ -1,7 +1,6 @@
 -- An act on the monitor of an object, and what it answers: none where the object has no monitor.
 use Rattle.std.specs.Prelude.{ℕ, List, Option, Some, None}
 use Rattle.ec_monitors.specs.declared.record.MonitorRec.{MonitorRec}
-use Rattle.ec_monitors.specs.declared.record.Granted.{Granted}
 use Rattle.ec_monitors.specs.declared.record.Entry.{Entry}
 use Rattle.ec_monitors.specs.Monitors.{Granting, entered, left, waited, signalled, dropped}
 use Rattle.ec_world.specs.declared.object.ObjectRec.{ObjectRec}

@@ -1,6 +1,6 @@
 -- The action table, second half: what is done to a world beside its processes, and what this does to the activations. One case a
 -- doing. (Jul, Levy, Hutchinson, Black 1988; for monitors Hoare 1974.)
-use Rattle.std.specs.Prelude.{ℕ, suc, Bool, true, false, if◌then◌else◌, List, [], ◌∷◌, ◌++◌, length, nat_lt, replicate, Option, Some, None, option_map, slice_set}
+use Rattle.std.specs.Prelude.{ℕ, suc, Bool, true, false, if◌then◌else◌, List, [], ◌∷◌, ◌++◌, length, nat_lt, replicate, Option, Some, None, slice_set}
 use Rattle.ec_monitors.specs.declared.record.MonitorRec.{MonitorRec}
 use Rattle.ec_monitors.specs.declared.record.Granted.{Granted}
 use Rattle.ec_monitors.specs.declared.record.Entry.{Entry as Within}

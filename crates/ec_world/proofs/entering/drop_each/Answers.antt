@@ -1,4 +1,4 @@
-use Rattle.std.proofs.Common.{◌∙◌, get_or}
+use Rattle.std.proofs.Common.{◌∙◌}
 use Rattle.ec_world.proofs.Dropping.{dropped_next}
 use Rattle.ec_world.proofs.entering.drop_each.Goals as goal
 
