@@ -2,7 +2,6 @@
 use Rattle.std.proofs.Common.{◌≡◌, ℕ, ◌-◌, ◌<◌, List, [], ◌∷◌, ◌++◌, length, map, reverse, Option, Some, None, refl, sym, ap, ◌∙◌, arith}
 use Rattle.std.specs.Prelude.{slice_get, slice_set, IsSome}
 use Rattle.ec_base.specs.Stack.{top_of, below_of}
-use Rattle.ec_base.proofs.Lists.{get_within}
 use Rattle.ec_base.proofs.Stacks.{stack_parts, top_of_none}
 use Rattle.ec_world.specs.declared.value.Value.{Value}
 use Rattle.ec_world.specs.declared.process.ProcStatus.{ProcStatus}
@@ -18,7 +17,7 @@ use Rattle.ec_world.specs.declared.world.World.{World}
 use Rattle.ec_world.specs.Meaning.{ActivationMeaning}
 use Rattle.ec_world.specs.Doings.{Asked}
 use Rattle.ec_world.specs.Outcomes.{Acted, done, acted_if, outcome_of, all_granted}
-use Rattle.ec_world.specs.World.{stack_if_ready, stack_at, ready_stack, all_readied, given_up, changed, changed_at, owns_of, begun_for, settled, acted, outcome_at, act_if_pending, act_on, Action, IsPending}
+use Rattle.ec_world.specs.World.{stack_if_ready, stack_at, ready_stack, all_readied, given_up, changed, changed_at, owns_of, begun_for, settled, acted, acted_by, acted_at, outcome_at, act_if_pending, act_on, Action, IsPending}
 use Rattle.ec_world.proofs.Dropping.{all_owns}
 
 module _ {A : Type 0} where
@@ -65,27 +64,27 @@ module _ {A : Type 0} (M : ActivationMeaning A) (w : World A) (p : ℕ) where
         rw (below, o, s, t, v, same) refl
 
     -- the action is what the table has
-    pub action_is : (a : Acted) → outcome_at M w p (below_of (stack_at w p)) can.top ≡ a → Action M w p ≡ acted M w p (below_of (stack_at w p)) can.top a
+    action_is : (a : Acted) → outcome_at M w p (below_of (stack_at w p)) can.top ≡ a → Action M w p ≡ acted M w p (below_of (stack_at w p)) can.top a
     action_is a e =
         ap (act_on M w p (below_of (stack_at w p))) can.is_top
         ∙ ap (act_if_pending M w p (below_of (stack_at w p)) can.top) can.pending
         ∙ ap (acted M w p (below_of (stack_at w p)) can.top) e
 
+    -- what is done to the rest of the world first, and then to processes, is the action
+    pub action_after : (c : Common) (o : Outcome) (new : World A) → outcome_at M w p (below_of (stack_at w p)) can.top ≡ Some (c, o) → new ≡ acted_at M (record { common = c; processes = w.processes }) p (Some (c, o)) → new ≡ Action M w p
+    action_after c o new e h =
+        h
+        ∙ ap (λ (t : Option A). acted_by M (record { common = c; processes = w.processes }) p (below_of (stack_at w p)) t (Some (c, o))) can.is_top
+        ∙ sym (action_is (Some (c, o)) e)
+
   -- ---- what becomes of processes
 
-  -- a process with a stack is there
-  pub process_there : (top : A) → top_of (stack_at w p) ≡ Some top → (proc : Proc A) × (slice_get w.processes p ≡ Some proc)
-  process_there top e = part (slice_get w.processes p) refl e
+  -- a process with a stack has a top
+  pub some_top : IsSome (top_of (stack_at w p)) → (top : A) × (top_of (stack_at w p) ≡ Some top)
+  some_top h = part (top_of (stack_at w p)) refl h
     where
-      part : (o : Option (Proc A)) → slice_get w.processes p ≡ o → top_of (ready_stack o) ≡ Some top → (proc : Proc A) × (slice_get w.processes p ≡ Some proc)
-      part (Some proc) is f = (proc, is)
-      part None is f = cc
-
-  pub process_within : IsSome (top_of (stack_at w p)) → p < length w.processes
-  process_within h = part (top_of (stack_at w p)) refl h
-    where
-      part : (t : Option A) → top_of (stack_at w p) ≡ t → IsSome t → p < length w.processes
-      part (Some top) e k = let (proc, is) = process_there top e in get_within w.processes p proc is
+      part : (t : Option A) → top_of (stack_at w p) ≡ t → IsSome t → (top : A) × (top_of (stack_at w p) ≡ Some top)
+      part (Some top) e k = (top, e)
       part None e k = cc
 
   -- the process that acted, and those that were granted a monitor, and the one that starts, are as the outcome says
@@ -104,7 +103,7 @@ module _ {A : Type 0} (M : ActivationMeaning A) (w : World A) (p : ℕ) where
         c ∙ ap (λ (xs : List A). changed_at M (below_of xs) (top_of xs) o.effect) (sym stack) ∙ ap (λ (x : Option A). changed_at M (below_of (stack_at w p)) x o.effect) e in
         cc
 
-    pub settled_read : (readied begun : List (Proc A)) → given_up p (reverse (map M.own proc.activations)) o.effect w.common.objects ≡ (objects, freed) → Some proc' ≡ changed_at M (below_of proc.activations) (top_of proc.activations) o.effect → readied ≡ all_readied (slice_set w.processes p proc') (all_granted o.granted freed) → begun ≡ readied ++ begun_for M o.started → record { common = record w.common { objects = objects }; processes = begun } ≡ acted M w p (below_of (stack_at w p)) top (Some (w.common, o))
+    pub settled_read : (readied begun : List (Proc A)) → given_up p (reverse (map M.own proc.activations)) o.effect w.common.objects ≡ (objects, freed) → Some proc' ≡ changed_at M (below_of proc.activations) (top_of proc.activations) o.effect → readied ≡ all_readied (slice_set w.processes p proc') (all_granted o.granted freed) → begun ≡ readied ++ begun_for M o.started → record { common = record w.common { objects = objects }; processes = begun } ≡ acted_at M w p (Some (w.common, o))
     settled_read readied begun g c r b =
         let given : (objects, freed) ≡ given_up p (owns_of M (below_of (stack_at w p)) top) o.effect w.common.objects =
         sym g ∙ ap (λ (os : List ℕ). given_up p os o.effect w.common.objects) owns in
@@ -112,4 +111,6 @@ module _ {A : Type 0} (M : ActivationMeaning A) (w : World A) (p : ℕ) where
         b
         ∙ ap (λ (xs : List (Proc A)). xs ++ begun_for M o.started) r
         ∙ ap (λ (q : Proc A). all_readied (slice_set w.processes p q) (all_granted o.granted freed) ++ begun_for M o.started) (process_is c) in
-        rw is (ap (settled M w p (below_of (stack_at w p)) top w.common o) given)
+        rw is
+        (ap (settled M w p (below_of (stack_at w p)) top w.common o) given
+        ∙ sym (ap (λ (t : Option A). acted_by M w p (below_of (stack_at w p)) t (Some (w.common, o))) e))

@@ -105,6 +105,14 @@ module _ {A : Type 0} (M : ActivationMeaning A) where
   acted w p below top None = w
   acted w p below top (Some (c, o)) = settled w p below top c o (given_up p (owns_of below top) o.effect c.objects)
 
+  -- the same for the activation on top in process p
+  abbrev pub acted_by : World A → ℕ → List A → Option A → Acted → World A
+  acted_by w p below None a = w
+  acted_by w p below (Some top) a = acted w p below top a
+
+  abbrev pub acted_at : World A → ℕ → Acted → World A
+  acted_at w p a = acted_by w p (below_of (stack_at w p)) (top_of (stack_at w p)) a
+
   -- what the table has for the activation on top
   abbrev pub outcome_at : World A → ℕ → List A → A → Acted
   outcome_at w p below top = outcome_of w.common (who_of p below top) (M.stop top) (M.operands top)

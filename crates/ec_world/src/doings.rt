@@ -25,9 +25,7 @@ pub fn doing<W: Sees>(
         Stop::Entry => Ok(Some(operations::enter(world, who))),
         Stop::Invoke { name, line } => Ok(operations::invoke(world, name, line, operands)),
         Stop::New { class } => Ok(operations::create(world, class, operands)),
-        Stop::Return { gives_self } => Ok(operations::return_value(
-            world, who, gives_self, operands,
-        )),
+        Stop::Return { gives_self } => Ok(operations::give_back(world, who, gives_self, operands)),
         Stop::NewVector { of, line } => Ok(vectors::new_vector(of, line, operands)),
         Stop::Get { line } => vectors::get_element(alloc, world, line, operands),
         Stop::Set { line } => Ok(vectors::set_element(world, line, operands)),

@@ -14,8 +14,8 @@ use ec_base::list::Seq;
 use ec_monitors::record::Granted;
 use std::alloc::{AllocError, Global};
 
-/// A process that fails gives up the monitors that it holds, that of its innermost activation first: whom this grants one. An error is
-/// want of memory.
+/// A process that fails gives up the monitors that it holds, that of its innermost activation first: whom this grants one.
+/// An error is want of memory.
 pub(crate) fn give_up<A: Activation>(
     alloc: Global,
     p: Pid,

@@ -57,7 +57,7 @@ pub(crate) fn create<W: Sees>(world: &W, class: ClassNo, given: Values) -> Optio
 }
 
 /// What the caller gets: the result, or the object that operation 0 of a class has made, on which its process section begins.
-pub(crate) fn return_value<W: Sees>(
+pub(crate) fn give_back<W: Sees>(
     world: &W,
     who: Who,
     gives_self: bool,

@@ -1,7 +1,7 @@
 //! Worlds.
 ghost use Rattle.std.specs.Prelude.{◌≡◌, OnOk, IfSome, IfNone, IsSome, Some};
-ghost use Rattle.ec_base.specs.Stack.{top_of, below_of};
-ghost use Rattle.ec_world.specs.World.{Action, IsPending, acted, stack_at};
+ghost use Rattle.ec_base.specs.Stack.{top_of};
+ghost use Rattle.ec_world.specs.World.{Action, IsPending, acted_at, stack_at};
 
 use crate::activation::Activation;
 use crate::common::Common;
@@ -55,7 +55,7 @@ impl<A: Activation> World<A> {
     /// What becomes of processes once the action of one is done. An error is want of memory, or more processes than 32 bits number.
     fn settle(&mut self, alloc: Global, p: Pid, outcome: Outcome) -> Result<(), AllocError>
         requires { IsSome (top_of (stack_at self.old p)) }
-        ensures { OnOk result ((top : A) → top_of (stack_at self.old p) ≡ Some top → self.new ≡ acted A.meaning self.old p (below_of (stack_at self.old p)) top (Some (self.old.common, outcome))) }
+        ensures { OnOk result (self.new ≡ acted_at A.meaning self.old p (Some (self.old.common, outcome))) }
     {
         let Outcome {
             effect,

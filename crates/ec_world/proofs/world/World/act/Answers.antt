@@ -3,7 +3,7 @@ use Rattle.std.proofs.lemmas.Result.{on_ok_weaker}
 use Rattle.ec_world.specs.declared.stop.Who.{Who}
 use Rattle.ec_world.specs.Doings.{Asked, doing_of}
 use Rattle.ec_world.specs.Sights.{sight_of}
-use Rattle.ec_world.proofs.Acting.{outcome_read, action_is, came}
+use Rattle.ec_world.proofs.Acting.{outcome_read, action_after, came}
 use Rattle.ec_world.proofs.world.World.act.Goals as goal
 
 pub returns : goal.returns
@@ -17,5 +17,5 @@ returns g c =
     let asked : Asked = doing_of (sight_of w.common) who c.stop-stop.result c.in_ok-operands.operands in
     let f = came w.common c.done.new.self who c.in_ok-doing.field-0 asked c.in-Some-2.doing c.in_ok-outcome.outcome c.in_ok-doing.ensures (let i = c.in-Some-2.is in cc) c.in_ok-outcome.ensures in
     on_ok_weaker c.settle.result
-    (λ h. h can.top can.is_top ∙ sym (action_is M w c.args.p can _ (sym e ∙ f)))
+    (action_after M w c.args.p can c.done.new.self c.in_ok-outcome.outcome c.settle.new.self (sym e ∙ f))
     c.settle.ensures
