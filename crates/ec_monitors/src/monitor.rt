@@ -1,5 +1,5 @@
 //! Monitors with room for everybody within: only who comes takes memory.
-ghost use Rattle.std.specs.Prelude.{◌≡◌, ◌+◌, ◌-◌, ◌<◌, ◌^◌, length, replicate, [], Some, None, IfOk, IfSome, OnErr, IsTrue, ◌↔◌, true};
+ghost use Rattle.std.specs.Prelude.{◌≡◌, ◌<◌, length, replicate, [], Some, None, IfOk, IfSome, OnErr, IsTrue, ◌↔◌, true};
 
 use crate::lists::{
     empty_queues, first_at, make_room, push_at, push_within, queue_of, queues_of, seqs_of,
@@ -144,10 +144,9 @@ impl Monitor {
         !waits_in_any(&self.conditions, p)
     }
 
-    /// A process enters, or goes to the end of the entry queue. Refused memory, it changes nothing.
+    /// A process enters, or goes to the end of the entry queue. An error is want of memory, or a depth that would have more
+    /// than 32 bits; nothing changes then.
     pub fn enter(&mut self, p: u32) -> Result<Entry, AllocError>
-        requires apart { WaitsNowhere self.old p }
-        requires depth { depth_of self.old p < 2 ^ 32 - 1 }
         ensures ok { IfOk result (λ e. entered self.old p ≡ (self.new, e)) }
         ensures err { OnErr result (self.new ≡ self.old) }
     {
@@ -160,6 +159,9 @@ impl Monitor {
             return Ok(Entry::Entered);
         };
         if held.process == p {
+            if held.depth == u32::MAX {
+                return Err(AllocError);
+            }
             self.holder = Some(Hold {
                 process: p,
                 depth: held.depth + 1,

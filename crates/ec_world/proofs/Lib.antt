@@ -1,4 +1,8 @@
 pub mod Acting
+pub mod Holding
+pub mod Dropping
+pub mod Settling
+pub mod Seeing
 pub mod Changes
 pub mod Classes
 pub mod OperandLists

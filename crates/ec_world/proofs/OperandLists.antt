@@ -3,7 +3,7 @@ use Rattle.std.proofs.Common.{◌≡◌, List, [], ◌∷◌, ◌++◌, Some, No
 use Rattle.ec_base.specs.Stack.{top_of, below_of}
 use Rattle.ec_base.proofs.Stacks.{stack_parts, top_of_none}
 use Rattle.ec_world.specs.declared.value.Value.{Value}
-use Rattle.ec_world.specs.Effects.{one}
+use Rattle.ec_world.specs.Doings.{one}
 
 -- the last operand, with none below it
 pub one_alone : (vs below : List Value) (last : Value) → Some last ≡ top_of vs → below ≡ below_of vs → None ≡ top_of below → Some last ≡ one vs

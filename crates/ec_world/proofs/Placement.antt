@@ -4,7 +4,7 @@ use Rattle.std.specs.Prelude.{slice_get, slice_set}
 use Rattle.ec_base.proofs.Lists.{length_set}
 use Rattle.ec_world.specs.declared.event.Event.{Event}
 use Rattle.ec_world.specs.declared.event.Event.TheVariants.{Created, Moved}
-use Rattle.ec_world.specs.Places.{numbers_from, first_places, place_in, node_or_first, moved, placed, places_after, places}
+use Rattle.ec_world.specs.Places.{numbers_from, first_places, place_in, node_or_first, moved, places_after, places}
 
 -- ---- how many places
 

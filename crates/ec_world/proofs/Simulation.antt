@@ -1,12 +1,15 @@
 -- A simulation of activations makes worlds agree after every list of entries, and whole runs agree too.
-use Rattle.std.proofs.Common.{◌≡◌, ℕ, zero, suc, List, [], ◌∷◌, ◌++◌, map, Option, Some, None, Bool, true, false, refl, sym, ap, ◌∙◌}
+use Rattle.std.proofs.Common.{◌≡◌, ℕ, zero, suc, List, [], ◌∷◌, ◌++◌, map, reverse, Option, Some, None, Bool, true, false, refl, sym, ap, ◌∙◌}
 use Rattle.std.specs.Prelude.{slice_get}
 use Rattle.ec_world.specs.declared.value.Value.{Value}
 use Rattle.ec_world.specs.declared.process.ProcStatus.{ProcStatus}
 use Rattle.ec_world.specs.declared.process.ProcStatus.TheVariants.{Ready, Entry as AtEntry, Cond, Urgent, Ended, Failed}
 use Rattle.ec_world.specs.declared.process.Proc.{Proc}
 use Rattle.ec_world.specs.declared.stop.Effect.{Effect}
-use Rattle.ec_world.specs.declared.stop.Effect.TheVariants.{GoesOn, Calls, Leaves, Ends, Fails}
+use Rattle.ec_world.specs.declared.stop.Effect.TheVariants.{GoesOn, Calls, Leaves, Blocks, Ends, Fails}
+use Rattle.ec_world.specs.declared.doing.Outcome.{Outcome}
+use Rattle.ec_world.specs.declared.doing.Section.{Section}
+use Rattle.ec_world.specs.declared.object.ObjectRec.{ObjectRec}
 use Rattle.ec_world.specs.declared.common.Common.{Common}
 use Rattle.ec_world.specs.declared.world.World.{World}
 use Rattle.ec_world.specs.declared.run.Entry.{Entry}
@@ -15,8 +18,8 @@ use Rattle.ec_world.specs.declared.run.RunEntry.TheVariants.{TurnOf, MoveOf}
 use Rattle.ec_world.specs.declared.run.RunEnd.{RunEnd}
 use Rattle.ec_base.specs.Stack.{top_of, below_of}
 use Rattle.ec_world.specs.Meaning.{ActivationMeaning}
-use Rattle.ec_world.specs.Effects.{Acted}
-use Rattle.ec_world.specs.World.{stack_if_ready, ready_stack, stack_at, finish_top, changed, acted, outcome_of, act_if_pending, act_on, Action, advanced, go_on_unless, go_on, Turn}
+use Rattle.ec_world.specs.Outcomes.{Acted, all_granted}
+use Rattle.ec_world.specs.World.{stack_if_ready, ready_stack, stack_at, readied, all_readied, given_up, finish_top, changed, owns_of, begun_for, settled, acted, outcome_at, act_if_pending, act_on, Action, advanced, go_on_unless, go_on, Turn}
 use Rattle.ec_world.specs.Moves.{OperatorMove, moved_unless, is_idle_move}
 use Rattle.ec_world.specs.Agree.{AllTwo, SameRest, AgreeProc, AgreeBy, Agree}
 use Rattle.ec_world.specs.Run.{RunState, statuses_of, next_entry, tail_of, last_of, end_of, after_entry, after_entries, stepped, step_run, run_after, Reaches, Run}
@@ -54,6 +57,19 @@ module _ {A B : Type 0} (R : A → B → Type 0) where
   pub stacks_agree : (w : World A) (v : World B) (p : ℕ) → AgreeBy R w v → AllTwo R (stack_at w p) (stack_at v p)
   stacks_agree w v p h = ready_agree (slice_get w.processes p) (slice_get v.processes p) (all-get (AgreeProc R) w.processes v.processes p h.processes)
 
+  -- those that were granted a monitor are Ready alike
+  readied_agree : (ps : List (Proc A)) (qs : List (Proc B)) (q : ℕ) (x : Option (Proc A)) (y : Option (Proc B)) → AllTwo (AgreeProc R) ps qs → Maybe (AgreeProc R) x y → AllTwo (AgreeProc R) (readied ps q x) (readied qs q y)
+  readied_agree ps qs q None None h k = h
+  readied_agree ps qs q (Some x) (Some y) h k = all-set (AgreeProc R) ps qs q _ _ h (record { status = refl; activations = k.activations })
+  readied_agree ps qs q None (Some y) h k = absurd k
+  readied_agree ps qs q (Some x) None h k = absurd k
+
+  all_readied_agree : (ps : List (Proc A)) (qs : List (Proc B)) (granted : List ℕ) → AllTwo (AgreeProc R) ps qs → AllTwo (AgreeProc R) (all_readied ps granted) (all_readied qs granted)
+  all_readied_agree ps qs [] h = h
+  all_readied_agree ps qs (q ∷ more) h =
+      all_readied_agree (readied ps q (slice_get ps q)) (readied qs q (slice_get qs q)) more
+      (readied_agree ps qs q (slice_get ps q) (slice_get qs q) h (all-get (AgreeProc R) ps qs q h))
+
   pub moves_agree : (w : World A) (v : World B) (o k : ℕ) → AgreeBy R w v → AgreeBy R (OperatorMove w o k) (OperatorMove v o k)
   moves_agree w v o k h = record { common = ap (λ c. moved_unless c o k (is_idle_move c o k)) h.common; processes = h.processes }
 
@@ -70,14 +86,42 @@ module _ {A B : Type 0} (M : ActivationMeaning A) (N : ActivationMeaning B) (adv
       let below : AllTwo R (xs ++ M.finished a None ∷ []) (ys ++ N.finished b None ∷ []) = all-append R xs _ ys _ h (sim.finished a b None k, tt) in
       record { status = refl; activations = all-append R (xs ++ M.finished a None ∷ []) _ (ys ++ N.finished b None ∷ []) _ below (sim.begun op own args, tt) }
   changed_agree xs ys a b (Leaves r) h k = record { status = refl; activations = finish_tops (below_of xs) (below_of ys) (top_of xs) (top_of ys) r (belows R xs ys h) (tops R xs ys h) }
+  changed_agree xs ys a b (Blocks queue oid) h k = record { status = refl; activations = all-append R xs _ ys _ h (sim.finished a b None k, tt) }
   changed_agree xs ys a b Ends h k = record { status = refl; activations = tt }
   changed_agree xs ys a b (Fails why line) h k = record { status = refl; activations = tt }
 
+  own_agree : (xs : List A) (ys : List B) → AllTwo R xs ys → map M.own xs ≡ map N.own ys
+  own_agree [] [] h = refl
+  own_agree (x ∷ xs) (y ∷ ys) h = let o = (sim.same x y h.0).own in let r = own_agree xs ys h.1 in cc
+  own_agree [] (y ∷ ys) h = absurd h
+  own_agree (x ∷ xs) [] h = absurd h
+
+  owns_agree : (xs : List A) (ys : List B) (a : A) (b : B) → AllTwo R xs ys → R a b → owns_of M xs a ≡ owns_of N ys b
+  owns_agree xs ys a b h r = let o = (sim.same a b r).own in let e = ap (λ (os : List ℕ). reverse os) (own_agree xs ys h) in cc
+
+  begun_agree : (started : Option Section) → AllTwo (AgreeProc R) (begun_for M started) (begun_for N started)
+  begun_agree None = tt
+  begun_agree (Some section) = (record { status = refl; activations = (sim.begun section.operation section.own [], tt) }, tt)
+
+  settled_agree : (w : World A) (v : World B) (p : ℕ) (xs : List A) (ys : List B) (a : A) (b : B) (c : Common) (o : Outcome) (g g' : List ObjectRec × List ℕ) → g ≡ g' → AgreeBy R w v → AllTwo R xs ys → R a b → AgreeBy R (settled M w p xs a c o g) (settled N v p ys b c o g')
+  settled_agree w v p xs ys a b c o g g' e h k r = rw e (part g')
+    where
+      part : (g : List ObjectRec × List ℕ) → AgreeBy R (settled M w p xs a c o g) (settled N v p ys b c o g)
+      part (objects, freed) = record {
+        common = refl;
+        processes =
+            all-append (AgreeProc R) _ _ _ _
+            (all_readied_agree R _ _ (all_granted o.granted freed) (all-set (AgreeProc R) w.processes v.processes p _ _ h.processes (changed_agree xs ys a b o.effect k r)))
+            (begun_agree o.started);
+      }
+
   acted_agree : (w : World A) (v : World B) (p : ℕ) (xs : List A) (ys : List B) (a : A) (b : B) (o : Acted) → AgreeBy R w v → AllTwo R xs ys → R a b → AgreeBy R (acted M w p xs a o) (acted N v p ys b o)
   acted_agree w v p xs ys a b None h k r = h
-  acted_agree w v p xs ys a b (Some (c, e)) h k r = record { common = refl; processes = all-set (AgreeProc R) w.processes v.processes p _ _ h.processes (changed_agree xs ys a b e k r) }
+  acted_agree w v p xs ys a b (Some (c, o)) h k r =
+      settled_agree w v p xs ys a b c o (given_up p (owns_of M xs a) o.effect c.objects) (given_up p (owns_of N ys b) o.effect c.objects)
+      (ap (λ (os : List ℕ). given_up p os o.effect c.objects) (owns_agree xs ys a b k r)) h k r
 
-  outcomes_agree : (w : World A) (v : World B) (p : ℕ) (xs : List A) (ys : List B) (a : A) (b : B) → AgreeBy R w v → AllTwo R xs ys → R a b → outcome_of M w p xs a ≡ outcome_of N v p ys b
+  outcomes_agree : (w : World A) (v : World B) (p : ℕ) (xs : List A) (ys : List B) (a : A) (b : B) → AgreeBy R w v → AllTwo R xs ys → R a b → outcome_at M w p xs a ≡ outcome_at N v p ys b
   outcomes_agree w v p xs ys a b h k r =
       let s = sim.same a b r in
       rw (h.common, all-length R xs ys k, s.operation, s.own, s.stop, sim.operands a b r) refl
@@ -85,7 +129,7 @@ module _ {A B : Type 0} (M : ActivationMeaning A) (N : ActivationMeaning B) (adv
   pending_agree : (w : World A) (v : World B) (p : ℕ) (xs : List A) (ys : List B) (a : A) (b : B) (d : Bool) → AgreeBy R w v → AllTwo R xs ys → R a b → AgreeBy R (act_if_pending M w p xs a d) (act_if_pending N v p ys b d)
   pending_agree w v p xs ys a b false h k r = h
   pending_agree w v p xs ys a b true h k r =
-      rw (outcomes_agree w v p xs ys a b h k r) (acted_agree w v p xs ys a b (outcome_of N v p ys b) h k r)
+      rw (outcomes_agree w v p xs ys a b h k r) (acted_agree w v p xs ys a b (outcome_at N v p ys b) h k r)
 
   act_agree : (w : World A) (v : World B) (p : ℕ) (xs : List A) (ys : List B) (x : Option A) (y : Option B) → AgreeBy R w v → AllTwo R xs ys → Maybe R x y → AgreeBy R (act_on M w p xs x) (act_on N v p ys y)
   act_agree w v p xs ys None None h k r = h

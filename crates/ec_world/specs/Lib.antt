@@ -3,7 +3,10 @@ pub mod Meaning
 pub mod Objects
 pub mod Operands
 pub mod Texts
-pub mod Effects
+pub mod Sights
+pub mod Doings
+pub mod Outcomes
+pub mod Holding
 pub mod World
 pub mod Places
 pub mod Group

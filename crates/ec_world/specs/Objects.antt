@@ -39,10 +39,6 @@ is_node_class Program = false
 is_node_class (Made k) = false
 is_node_class (Vector of) = false
 
-abbrev pub is_node : Option ObjectRec → Bool
-is_node None = false
-is_node (Some o) = is_node_class o.class
-
 -- ---- classes
 
 -- the class or object constructor of a number
@@ -60,10 +56,6 @@ operation_named (o ∷ os) name = if o.name == name then Some o.operation else o
 abbrev pub operation_in : Option ClassRec → ℕ → Option ℕ
 operation_in None name = None
 operation_in (Some k) name = operation_named k.operations name
-
-abbrev pub operation_if : List ClassRec → Option ObjectRec → ℕ → Option ℕ
-operation_if classes None name = None
-operation_if classes (Some o) name = operation_in (class_at classes o.class) name
 
 -- ---- vectors
 

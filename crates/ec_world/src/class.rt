@@ -1,5 +1,6 @@
 //! What a world knows of the program: its classes.
-ghost use Rattle.std.specs.Prelude.{◌≡◌};
+ghost use Rattle.std.specs.Prelude.{◌≡◌, Some};
+ghost use Rattle.ec_world.specs.Doings.{runs_inside};
 ghost use Rattle.ec_world.specs.Objects as spec;
 
 use crate::value::{OpNo, Text, ValueType};
@@ -59,13 +60,16 @@ pub struct OperationRec {
     pub operation: OpNo,
 }
 
-/// A class or object constructor: its name as declared, its operation 0, its fields, its operations by their names, and
-/// for each named type of the program, by its number, whether the class conforms to it. The fields that a creation gives
-/// come first: captured names, or parameters.
+/// A class or object constructor: its name as declared, its operation 0, its process section where it has one, whether its objects have
+/// a monitor, and with how many conditions, its fields, its operations by their names, and for each named type of the program, by its
+/// number, whether the class conforms to it. The fields that a creation gives come first: captured names, or parameters.
 #[derive(Drop)]
 pub struct ClassRec {
     pub name: Text,
     pub initial: OpNo,
+    pub process: Option<OpNo>,
+    pub monitored: bool,
+    pub conditions: u32,
     pub fields: Seq<FieldRec>,
     pub operations: Seq<OperationRec>,
     pub conforms: Seq<bool>,
@@ -82,6 +86,19 @@ impl ClassRec {
             }
         }
         None
+    }
+
+    /// Whether an operation runs in the monitor of its object.
+    pub(crate) fn is_inside(&self, op: OpNo) -> bool
+        ensures { result ≡ runs_inside (Some self.now) op }
+    {
+        if !self.monitored {
+            return false;
+        }
+        match self.process {
+            Some(section) => section != op,
+            None => true,
+        }
     }
 
     /// Whether the class conforms to the named type of a number.

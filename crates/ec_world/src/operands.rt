@@ -1,6 +1,6 @@
 //! The operands of a stop's action.
 ghost use Rattle.std.specs.Prelude.{◌≡◌, IfSome};
-ghost use Rattle.ec_world.specs.Effects as spec;
+ghost use Rattle.ec_world.specs.Doings as spec;
 ghost use Rattle.ec_world.specs.Operands.{object_in, object_or_nil};
 
 use crate::value::{Oid, Value, Values};

@@ -1,10 +1,11 @@
 //! Processes.
 ghost use Rattle.std.specs.Prelude.{◌≡◌, OnOk, IsSome, Some};
 ghost use Rattle.ec_base.specs.Stack.{top_of, below_of};
+ghost use Rattle.ec_world.specs.World as spec;
 ghost use Rattle.ec_world.specs.World.{changed_at, finish_top};
 
 use crate::activation::Activation;
-use crate::stop::Effect;
+use crate::stop::{Effect, Queue};
 use crate::value::{Oid, Value};
 use ec_base::list::Seq;
 use std::alloc::{AllocError, Global};
@@ -69,6 +70,11 @@ impl<A: Activation> Proc<A> {
                 let _ = self.activations.pop();
                 finish_last(&mut self.activations, given)
             }
+            Effect::Blocks { queue, own } => {
+                finish_last(&mut self.activations, None)?;
+                self.status = waiting(queue, own);
+                Ok(())
+            }
             Effect::Ends => {
                 self.activations = Seq::new(alloc);
                 self.status = ProcStatus::Ended;
@@ -80,6 +86,17 @@ impl<A: Activation> Proc<A> {
                 Ok(())
             }
         }
+    }
+}
+
+/// Where a process waits for the monitor of an object.
+fn waiting(queue: Queue, oid: Oid) -> ProcStatus
+    ensures { result ≡ spec.waiting queue oid }
+{
+    match queue {
+        Queue::ForEntry => ProcStatus::Entry(oid),
+        Queue::ForCondition => ProcStatus::Cond(oid),
+        Queue::Urgently => ProcStatus::Urgent(oid),
     }
 }
 

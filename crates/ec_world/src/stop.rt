@@ -1,6 +1,4 @@
 //! Stops, and what their actions do to activations.
-ghost use Rattle.std.specs.Prelude.{◌≡◌};
-
 use crate::class::{ClassNo, NameNo, VectorType, ViewedAs};
 use crate::process::Cause;
 use crate::value::{Oid, OpNo, Pid, Value, Values};
@@ -64,6 +62,10 @@ pub enum Stop {
     IsFixed { line: u32 },
     /// An object is viewed as a type. Operand: the object.
     View { to: ViewedAs, line: u32 },
+    /// The process waits for a condition of its own object, by its number from 0.
+    Wait { condition: u32 },
+    /// The process signals a condition of its own object, by its number from 0.
+    Signal { condition: u32 },
     /// Before each turn of a loop.
     LoopTop,
     /// The end of a process.
@@ -81,6 +83,17 @@ pub struct Who {
     pub own: Oid,
 }
 
+/// Where a process waits for a monitor.
+#[derive(Clone, Copy, PartialEq, Eq, Debug)]
+pub enum Queue {
+    /// In the entry queue.
+    ForEntry,
+    /// In the queue of a condition.
+    ForCondition,
+    /// On the stack of those that have signalled.
+    Urgently,
+}
+
 /// What an action does to the activations of its process.
 #[derive(Drop)]
 pub enum Effect {
@@ -90,24 +103,10 @@ pub enum Effect {
     Calls { op: OpNo, own: Oid, args: Values },
     /// The activation goes, and its result is the one below's.
     Leaves(Option<Value>),
+    /// The action is done, and the process waits for the monitor of an object.
+    Blocks { queue: Queue, own: Oid },
     /// The activation goes, and the process has ended.
     Ends,
     /// All activations go, and the process has failed.
     Fails { cause: Cause, line: u32 },
-}
-
-impl Effect {
-    /// The action is done, with this result.
-    pub(crate) fn with(value: Value) -> Effect
-        ensures { result ≡ Effect.GoesOn (Some value) }
-    {
-        Effect::GoesOn(Some(value))
-    }
-
-    /// The process has failed.
-    pub(crate) fn failure(cause: Cause, line: u32) -> Effect
-        ensures { result ≡ Effect.Fails cause line }
-    {
-        Effect::Fails { cause, line }
-    }
 }

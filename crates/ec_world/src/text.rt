@@ -1,14 +1,13 @@
 //! What stops do with texts.
 ghost use Rattle.std.specs.Prelude.{◌≡◌, ◌+◌, length, nat_le, pos, IfOk};
 ghost use Rattle.std.specs.Fmt.{signed_decimal};
-ghost use Rattle.ec_world.specs.declared.common.Common.{Common};
-ghost use Rattle.ec_world.specs.Effects as effect;
-ghost use Rattle.ec_world.specs.Effects.{comes_to};
+ghost use Rattle.ec_world.specs.Doings as doing;
 ghost use Rattle.ec_world.specs.Texts as spec;
 
+use crate::doing::Doing;
 use crate::operands::{one, three, two};
 use crate::process::Cause;
-use crate::stop::{Effect, Order};
+use crate::stop::Order;
 use crate::value::{Text, Value, Values, integer_of};
 use ec_base::list::Seq;
 use std::alloc::{AllocError, Global};
@@ -17,8 +16,8 @@ use std::alloc::{AllocError, Global};
 const LONGEST: usize = 65_535;
 
 /// A text behind another. An error is want of memory.
-pub(crate) fn concat(line: u32, operands: Values) -> Result<Option<Effect>, AllocError>
-    ensures { IfOk result (λ e. (c : Common) → comes_to c (effect.concat_effect c line (effect.two operands)) ≡ (c, e)) }
+pub(crate) fn concat(line: u32, operands: Values) -> Result<Option<Doing>, AllocError>
+    ensures { IfOk result (λ d. d ≡ doing.concat_asks line (doing.two operands)) }
 {
     let Some((s, t)) = two(operands) else {
         return Ok(None);
@@ -27,11 +26,11 @@ pub(crate) fn concat(line: u32, operands: Values) -> Result<Option<Effect>, Allo
         return Ok(None);
     };
     if !fit(&s, &t) {
-        return Ok(Some(Effect::failure(Cause::LongText, line)));
+        return Ok(Some(Doing::breaking(Cause::LongText, line)));
     }
     let mut both = s;
     both.append(t)?;
-    Ok(Some(Effect::with(Value::Str(both))))
+    Ok(Some(Doing::giving(Value::Str(both))))
 }
 
 /// Whether a text behind another is no longer than a text may be.
@@ -42,24 +41,24 @@ fn fit(s: &Text, t: &Text) -> bool
 }
 
 /// How many bytes a text has. An error is a text of more than 2,147,483,647 bytes.
-pub(crate) fn count_bytes(operands: Values) -> Result<Option<Effect>, AllocError>
-    ensures { IfOk result (λ e. (c : Common) → comes_to c (effect.length_effect c (effect.one operands)) ≡ (c, e)) }
+pub(crate) fn count_bytes(operands: Values) -> Result<Option<Doing>, AllocError>
+    ensures { IfOk result (λ d. d ≡ doing.length_asks (doing.one operands)) }
 {
     let Some(Value::Str(s)) = one(operands) else {
         return Ok(None);
     };
-    Ok(Some(Effect::with(Value::Int(integer_of(s.len())?))))
+    Ok(Some(Doing::giving(Value::Int(integer_of(s.len())?))))
 }
 
 /// Whether two texts stand to each other in an order.
-pub(crate) fn compare(order: Order, operands: Values) -> Option<Effect>
-    ensures { (c : Common) → comes_to c (effect.compare_effect c order (effect.two operands)) ≡ (c, result) }
+pub(crate) fn compare(order: Order, operands: Values) -> Option<Doing>
+    ensures { result ≡ doing.compare_asks order (doing.two operands) }
 {
     let (s, t) = two(operands)?;
     let (Value::Str(s), Value::Str(t)) = (s, t) else {
         return None;
     };
-    Some(Effect::with(Value::Bool(in_order(order, s.as_slice(), t.as_slice()))))
+    Some(Doing::giving(Value::Bool(in_order(order, s.as_slice(), t.as_slice()))))
 }
 
 /// Whether texts stand in an order: by bytes, and a begin before what it is the begin of.
@@ -75,8 +74,8 @@ fn in_order(order: Order, s: &[u8], t: &[u8]) -> bool
 }
 
 /// Some bytes of a text. An error is want of memory.
-pub(crate) fn get_slice(line: u32, operands: Values) -> Result<Option<Effect>, AllocError>
-    ensures { IfOk result (λ e. (c : Common) → comes_to c (effect.slice_effect c line (effect.three operands)) ≡ (c, e)) }
+pub(crate) fn get_slice(line: u32, operands: Values) -> Result<Option<Doing>, AllocError>
+    ensures { IfOk result (λ d. d ≡ doing.slice_asks line (doing.three operands)) }
 {
     let Some((s, from, count)) = three(operands) else {
         return Ok(None);
@@ -85,8 +84,8 @@ pub(crate) fn get_slice(line: u32, operands: Values) -> Result<Option<Effect>, A
         return Ok(None);
     };
     match slice_of(&s, from, count)? {
-        Some(slice) => Ok(Some(Effect::with(Value::Str(slice)))),
-        None => Ok(Some(Effect::failure(Cause::OutOfRange, line))),
+        Some(slice) => Ok(Some(Doing::giving(Value::Str(slice)))),
+        None => Ok(Some(Doing::breaking(Cause::OutOfRange, line))),
     }
 }
 
@@ -105,15 +104,15 @@ fn slice_of(s: &Text, from: i32, count: i32) -> Result<Option<Text>, AllocError>
 }
 
 /// An Integer or a Boolean as a text. An error is want of memory.
-pub(crate) fn as_string(alloc: Global, operands: Values) -> Result<Option<Effect>, AllocError>
-    ensures { IfOk result (λ e. (c : Common) → comes_to c (effect.text_effect c (effect.one operands)) ≡ (c, e)) }
+pub(crate) fn as_string(alloc: Global, operands: Values) -> Result<Option<Doing>, AllocError>
+    ensures { IfOk result (λ d. d ≡ doing.text_asks (doing.one operands)) }
 {
     let text = match one(operands) {
         Some(Value::Int(number)) => decimal(alloc, number)?,
         Some(Value::Bool(truth)) => truth_text(alloc, truth)?,
         _ => return Ok(None),
     };
-    Ok(Some(Effect::with(Value::Str(text))))
+    Ok(Some(Doing::giving(Value::Str(text))))
 }
 
 /// An Integer in decimal.

@@ -1,0 +1,132 @@
+//! New objects.
+ghost use Rattle.std.specs.Prelude.{◌≡◌, ◌++◌, drop, replicate, IfOk, OnOk};
+ghost use Rattle.ec_world.specs.Objects as objects;
+ghost use Rattle.ec_world.specs.Objects.{class_at};
+ghost use Rattle.ec_world.specs.Outcomes as spec;
+ghost use Rattle.ec_world.specs.Values.{default_of, field_defaults};
+
+use crate::class::{ClassNo, ClassRec, FieldRec, PlainType, VectorType};
+use crate::common::Common;
+use crate::doing::Outcome;
+use crate::event::Event;
+use crate::object::ObjectRec;
+use crate::stop::{Effect, Who};
+use crate::value::{Value, ValueType, Values, number_of};
+use ec_base::list::Seq;
+use ec_monitors::monitor::Monitor;
+use std::alloc::{AllocError, Global};
+
+impl Common {
+    /// A new object of a class, where there is the class, with an activation on it. An error is want of memory, or an object whose
+    /// number has more than 32 bits.
+    pub(crate) fn make(
+        &mut self,
+        alloc: Global,
+        who: Who,
+        class: ClassNo,
+        given: Values,
+    ) -> Result<Outcome, AllocError>
+        ensures { IfOk result (λ o. spec.made_object self.old who class given (class_at self.old.classes class) ≡ (self.new, o)) }
+    {
+        let Some(made) = self.class(class) else {
+            return Ok(Outcome::goes_on());
+        };
+        let initial = made.initial;
+        let mut fields = given;
+        let from = fields.len();
+        push_defaults(alloc, &mut fields, &made.fields, from)?;
+        let monitor = monitor_for(alloc, made)?;
+        self.objects.push(ObjectRec {
+            class,
+            fields,
+            fixed: false,
+            monitor,
+        })?;
+        let oid = number_of(self.objects.len())?;
+        self.events.push(Event::Created {
+            oid,
+            maker: who.own,
+        })?;
+        Ok(Outcome::only(Effect::Calls {
+            op: initial,
+            own: oid,
+            args: Seq::new(alloc),
+        }))
+    }
+
+    /// A new vector of so many elements. An error is want of memory, or an object whose number has more than 32 bits.
+    pub(crate) fn make_vector(
+        &mut self,
+        alloc: Global,
+        who: Who,
+        of: VectorType,
+        size: u32,
+    ) -> Result<Outcome, AllocError>
+        ensures { IfOk result (λ o. spec.made_vector self.old who of size ≡ (self.new, o)) }
+    {
+        self.objects.push(ObjectRec {
+            class: ClassNo::Vector(of),
+            fields: defaults(alloc, element_kind(of), size)?,
+            fixed: false,
+            monitor: None,
+        })?;
+        let oid = number_of(self.objects.len())?;
+        self.events.push(Event::Created {
+            oid,
+            maker: who.own,
+        })?;
+        Ok(Outcome::only(Effect::GoesOn(Some(Value::Ref(oid)))))
+    }
+}
+
+/// The monitor of a new object of a class, where its objects have one. An error is want of memory.
+fn monitor_for(alloc: Global, class: &ClassRec) -> Result<Option<Monitor>, AllocError>
+    ensures { IfOk result (λ m. m ≡ spec.monitor_for class.now) }
+{
+    if class.monitored {
+        let monitor = Monitor::new(alloc, class.conditions as usize)?;
+        return Ok(Some(monitor));
+    }
+    Ok(None)
+}
+
+/// The defaults of the fields from one on, behind the values that there are.
+fn push_defaults(
+    alloc: Global,
+    values: &mut Values,
+    fields: &Seq<FieldRec>,
+    from: usize,
+) -> Result<(), AllocError>
+    ensures { OnOk result (values.new ≡ values.old ++ field_defaults (drop from fields.now)) }
+{
+    for i in from..fields.len() {
+        values.push(fields.at(i).of.default_value(alloc))?;
+    }
+    Ok(())
+}
+
+/// What the elements of a vector are.
+fn element_kind(of: VectorType) -> ValueType
+    ensures { result ≡ objects.element_kind of }
+{
+    if of.inner > 0 {
+        return ValueType::Reference;
+    }
+    match of.of {
+        PlainType::Integer => ValueType::Integer,
+        PlainType::Boolean => ValueType::Boolean,
+        PlainType::Bytes => ValueType::Bytes,
+        PlainType::Any | PlainType::Node | PlainType::Named(_) => ValueType::Reference,
+    }
+}
+
+/// So many defaults of a type.
+fn defaults(alloc: Global, of: ValueType, count: u32) -> Result<Values, AllocError>
+    ensures { IfOk result (λ vs. vs ≡ replicate count (default_of of)) }
+{
+    let mut values = Seq::new(alloc);
+    for _ in 0..count {
+        values.push(of.default_value(alloc))?;
+    }
+    Ok(values)
+}
