@@ -12,7 +12,7 @@ use Rattle.ec_plain.specs.Plain.{IsPlainRun}
 use Rattle.ec_printing.specs.declared.Program.{Program}
 use Rattle.ec_report.specs.declared.status.Status.{Status}
 use Rattle.ec_run.specs.Runs.{RunsTo}
-use Rattle.ec_sources.specs.Sources.{IsChecked, IsSource, IsMeant, IsFaulty, IsRefused, IsUnmeant}
+use Rattle.ec_sources.specs.Sources.{IsChecked, IsSource, IsMeant, IsFaulty, IsRefused}
 use Rattle.ec_sources.specs.declared.source.Refusal.{Refusal}
 use Rattle.ec_world.specs.declared.node.NodeSpec.{NodeSpec}
 use Rattle.ec_world.specs.declared.run.Entry.{Entry}
@@ -72,10 +72,10 @@ pub record StopsAt (Told : Type 0) (content : List ℕ → Option (List ℕ)) (k
 
 -- ---- its source
 
--- the source is refused, for this reason at this byte: a run and a plain meaning also refuse programs that they don't take today
+-- the source is refused, for this reason at this byte: a run also refuses programs that it doesn't take today
 abbrev pub Refuses : CommandWords → List ℕ → Refusal → ℕ → Type 0
 Refuses (command.Run run) source refusal at = IsRefused source refusal at
-Refuses (command.Mean mean) source refusal at = IsUnmeant source refusal at
+Refuses (command.Mean mean) source refusal at = IsFaulty source refusal at
 Refuses (command.Check check) source refusal at = IsFaulty source refusal at
 
 -- the source goes to nodes, to be run there or to have its meaning worked out; a check takes none there

@@ -29,12 +29,11 @@ use Rattle.ec_rules.specs.declared.StaticFault.{StaticFault}
 use Rattle.ec_rules.specs.Faults.{HasFaults}
 use Rattle.ec_rules.proofs.OneList.{same_faults}
 use Rattle.ec_lower.specs.Short.{IsShort}
-use Rattle.ec_meaning.specs.Programs.{Source as Meant}
 use Rattle.ec_sources.specs.declared.source.Refusal.{Refusal}
 use Rattle.ec_sources.specs.declared.source.Refusal.TheVariants.{Lexical, Syntax, Deep, Static}
 use Rattle.ec_sources.specs.declared.source.SourceError.{SourceError}
 use Rattle.ec_sources.specs.declared.source.SourceError.TheVariants.{Refused, Memory}
-use Rattle.ec_sources.specs.Sources.{IsProgram, IsChecked, IsSource, IsFaulty, IsRefused, IsFault as IsFaultIn, IsCause, IsLack, IsMeant, IsUnmeant, IsUnmeant as unmeant, later_from, lexical, syntax, deep, static_rule, place_of}
+use Rattle.ec_sources.specs.Sources.{IsProgram, IsChecked, IsSource, IsFaulty, IsRefused, IsFault as IsFaultIn, IsCause, lexical, syntax, deep, static_rule, place_of}
 use Rattle.ec_sources.specs.Sources.IsRefused.{faulty as is_faulty, later}
 
 -- ---- a text has at most one first fault
@@ -206,25 +205,6 @@ pub not_refused : {text : List ℕ} {program : Program} {r : Refusal} {at : ℕ}
 not_refused s (is_faulty f) = not_faulty (record { tokens = s.tokens; program = s.whole_program; is_program = s.is_program }) f
 not_refused {program = program} s (later p o) = (outside_on p s.is_program.has_tokens o).no_program program s.is_printing
 
--- the text of a program whose meaning is worked out today is not refused for it
-pub not_unmeant : {text : List ℕ} {source : Meant} {r : Refusal} {at : ℕ} → IsMeant text source → IsUnmeant text r at → ⊥
-not_unmeant m (unmeant.faulty f) = not_faulty (record { tokens = m.tokens; program = m.program; is_program = m.is_program }) f
-not_unmeant {text} m (unmeant.later {tokens} {k = k} p l) =
-    let same : tokens ≡ m.tokens = same_tokens text tokens m.tokens p.has_tokens m.is_program.has_tokens in
-    let none : later_from 0 tokens ≡ None = ap (later_from 0) same ∙ m.none_later in
-    cc
-
--- a text's meaning isn't worked out for one reason at one place only
-pub same_lack : {text : List ℕ} {r s : Refusal} {at to : ℕ} → IsUnmeant text r at → IsUnmeant text s to → (r ≡ s) × (at ≡ to)
-same_lack (unmeant.faulty f) (unmeant.faulty g) = same_fault f g
-same_lack (unmeant.faulty f) (unmeant.later {tokens} {program} p l) = absurd (not_faulty (record { tokens = tokens; program = program; is_program = p }) f)
-same_lack (unmeant.later {tokens} {program} p l) (unmeant.faulty f) = absurd (not_faulty (record { tokens = tokens; program = program; is_program = p }) f)
-same_lack {text} (unmeant.later {tokens = ts} {k = j} p l) (unmeant.later {tokens = us} {k} q m) =
-    let same : ts ≡ us = same_tokens text ts us p.has_tokens q.has_tokens in
-    let first : later_from 0 ts ≡ later_from 0 us = ap (later_from 0) same in
-    let number : j ≡ k = cc in
-    (refl, ap (λ x. place_of text x j) same ∙ ap (λ x. place_of text us x) number)
-
 -- a text is one program's only
 pub same_program : (text : List ℕ) (p q : Program) → IsSource text p → IsSource text q → p ≡ q
 same_program text p q s t =
@@ -236,11 +216,6 @@ same_program text p q s t =
 pub cause_of : (text : List ℕ) (e : SourceError) → IsFaultIn text e → IsCause text e
 cause_of text (Refused refused) f = is_faulty f
 cause_of text Memory f = tt
-
--- and why its meaning isn't worked out
-pub lack_of : (text : List ℕ) (e : SourceError) → IsFaultIn text e → IsLack text e
-lack_of text (Refused refused) f = unmeant.faulty f
-lack_of text Memory f = tt
 
 -- ---- a program is short enough to be lowered
 
