@@ -21,7 +21,7 @@ use Rattle.ec_outside.specs.Whole.{IsWhole}
 use Rattle.ec_report.specs.declared.status.Status.{Status}
 use Rattle.ec_report.specs.declared.status.Status.TheVariants as statuses
 use Rattle.ec_sources.specs.declared.source.Refusal.{Refusal}
-use Rattle.ec_sources.proofs.Sources.{not_faulty, not_refused, not_unmeant}
+use Rattle.ec_sources.proofs.Sources.{not_faulty, not_refused}
 
 module _ (asked : CommandWords) (held : FileOf → List ℕ) (net net' : Net) where
   pub by_files : {s : Status} {t : List ℕ} → Judged asked held net net' s t → IsByFiles s
@@ -91,7 +91,9 @@ source_named (command.Check check) = (check.source, refl)
 -- what is accepted isn't refused
 no_refusal : (asked : CommandWords) (held : FileOf → List ℕ) (refusal : Refusal) (at : ℕ) → AreAccepted asked held → Refuses asked (held Source) refusal at → ⊥
 no_refusal (command.Run run) held refusal at a r = not_refused a.0.1 r
-no_refusal (command.Mean mean) held refusal at a r = not_unmeant a.0.1 r
+no_refusal (command.Mean mean) held refusal at a r =
+    let m = a.0.1 in
+    not_faulty (record { tokens = m.tokens; program = m.program; is_program = m.is_program }) r
 no_refusal (command.Check check) held refusal at a r = not_faulty a r
 
 no_rule : (nodes : List ℕ) (rule : NodeRule) (held : FileOf → List ℕ) → AreInputs held → nodes ≡ held Nodes → NodesOf nodes ≡ Err rule → ⊥

@@ -10,11 +10,13 @@ use Rattle.ec_meaning.specs.declared.activation.SourceActivation.{SourceActivati
 use Rattle.ec_meaning.specs.declared.state.State.{State}
 use Rattle.ec_meaning.proofs.EventsOfStops.{rebased, acted_with, action_adds}
 use Rattle.ec_meaning.proofs.EventsOfSteps.{state_with, reached_with, settle_aside}
-use Rattle.ec_world.specs.Effects.{Acted}
+use Rattle.ec_world.specs.Outcomes.{Acted}
 use Rattle.ec_world.specs.Meaning.{ActivationMeaning}
-use Rattle.ec_world.specs.World.{Action, GoOn, act_if_pending, act_on, acted, advanced, go_on, go_on_unless, outcome_of, stack_at, who_of}
+use Rattle.ec_world.specs.World.{Action, GoOn, act_if_pending, act_on, acted, advanced, go_on, go_on_unless, outcome_at, settled as settled_world, given_up, owns_of, stack_at, who_of}
 use Rattle.ec_world.specs.declared.common.Common.{Common}
+use Rattle.ec_world.specs.declared.doing.Outcome.{Outcome}
 use Rattle.ec_world.specs.declared.event.Event.{Event}
+use Rattle.ec_world.specs.declared.object.ObjectRec.{ObjectRec}
 use Rattle.ec_world.specs.declared.world.World.{World}
 
 -- ---- actions
@@ -28,24 +30,29 @@ module _ {A : Type 0} (M : ActivationMeaning A) where
   adds_nothing w change keeps = ([], λ es. keeps es ∙ ap (with_events (change w)) (sym (append-nil es)))
 
   module _ (p : ℕ) (below : List A) (top : A) where
+    settled_aside : (c : Common) (o : Outcome) (w : World A) (x : List ObjectRec × List ℕ) (es : List Event) →
+        settled_world M (with_events w es) p below top (rebased c es) o x ≡ with_events (settled_world M w p below top c o x) es
+    settled_aside c o w (objects, freed) es = refl
+
     -- what the table has for the activation on top of a world's
-    acted_by : (o : Acted) (w : World A) (added : List Event) → outcome_of M w p below top ≡ o →
-        ((es : List Event) → outcome_of M (with_events w es) p below top ≡ acted_with o (es ++ added)) →
-        AddsAlike w (λ v. acted M v p below top (outcome_of M v p below top))
+    acted_by : (o : Acted) (w : World A) (added : List Event) → outcome_at M w p below top ≡ o →
+        ((es : List Event) → outcome_at M (with_events w es) p below top ≡ acted_with o (es ++ added)) →
+        AddsAlike w (λ v. acted M v p below top (outcome_at M v p below top))
     acted_by None w added is each =
-        adds_nothing w (λ v. acted M v p below top (outcome_of M v p below top))
+        adds_nothing w (λ v. acted M v p below top (outcome_at M v p below top))
         (λ es. ap (acted M (with_events w es) p below top) (each es)
         ∙ ap (λ (o : Acted). with_events (acted M w p below top o) es) (sym is))
-    acted_by (Some (c, e)) w added is each = (
+    acted_by (Some (c, o)) w added is each = (
       added,
       λ es. ap (acted M (with_events w es) p below top) (each es)
+          ∙ settled_aside c o w (given_up p (owns_of M below top) o.effect c.objects) (es ++ added)
           ∙ ap (λ (o : Acted). with_events (acted M w p below top o) (es ++ added)) (sym is),
     )
 
-    acted_alike : (w : World A) → AddsAlike w (λ v. acted M v p below top (outcome_of M v p below top))
+    acted_alike : (w : World A) → AddsAlike w (λ v. acted M v p below top (outcome_at M v p below top))
     acted_alike w =
         let adds = action_adds w.common (who_of M p below top) (M.operands top) (M.stop top) in
-        acted_by (outcome_of M w p below top) w adds.0 refl adds.1
+        acted_by (outcome_at M w p below top) w adds.0 refl adds.1
 
     if_pending_alike : (b : Bool) (w : World A) → AddsAlike w (λ v. act_if_pending M v p below top b)
     if_pending_alike true w = acted_alike w

@@ -102,6 +102,16 @@ abbrev pub initial_from : ℕ → List Operation → ℕ → ℕ
 initial_from n [] class = n
 initial_from n (o ∷ os) class = if o.class == class && is_initial o.kind then n else initial_from (suc n) os class
 
+abbrev pub is_section : Kind → Bool
+is_section kind.Named = false
+is_section kind.Initial = false
+is_section kind.Process = true
+
+-- the process section of a class, where it has one; the number of the first operation is given
+abbrev pub section_from : ℕ → List Operation → ℕ → Option ℕ
+section_from n [] class = None
+section_from n (o ∷ os) class = if o.class == class && is_section o.kind then Some n else section_from (suc n) os class
+
 -- the operations of a class, by their names
 abbrev pub operations_from : Source → ℕ → List Operation → ℕ → List OperationRec
 operations_from s n [] class = []
@@ -121,6 +131,9 @@ abbrev pub class_of : Source → Class → ClassRec
 class_of s c = record {
   name = c.name;
   initial = initial_from 1 s.core.operations c.number;
+  process = section_from 1 s.core.operations c.number;
+  monitored = c.is_monitored;
+  conditions = c.conditions;
   fields = fields_of c;
   operations = operations_from s 1 s.core.operations c.number;
   conforms = conformances s.table c.number;

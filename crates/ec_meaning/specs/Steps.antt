@@ -48,7 +48,7 @@ use Rattle.ec_world.specs.declared.stop.Stop.{Stop}
 use Rattle.ec_world.specs.declared.stop.Stop.TheVariants as stop
 use Rattle.ec_world.specs.declared.value.Value.{Value}
 use Rattle.ec_world.specs.declared.value.Value.TheVariants.{Int, Str, Ref, Nil, Bool as Truth}
-use Rattle.ec_world.specs.Effects.{with_element}
+use Rattle.ec_world.specs.Outcomes.{with_element}
 use Rattle.ec_world.specs.Objects.{object_at, changed_object}
 use Rattle.ec_world.specs.Values.{default_of}
 
@@ -205,8 +205,8 @@ do_statement s a st (Statement-F.Move x to at) = Goes st (i.Evaluate x ∷ i.Eva
 do_statement s a st (Statement-F.Fix x to at) = Goes st (i.Evaluate x ∷ i.Evaluate to ∷ i.Rest (stop.Fix (line s at)) 2 ∷ [])
 do_statement s a st (Statement-F.Refix x to at) = Goes st (i.Evaluate x ∷ i.Evaluate to ∷ i.Rest (stop.Refix (line s at)) 2 ∷ [])
 do_statement s a st (Statement-F.Unfix x at) = Goes st (i.Evaluate x ∷ i.Rest (stop.Unfix (line s at)) 1 ∷ [])
-do_statement s a st (Statement-F.Wait n) = NoCase
-do_statement s a st (Statement-F.Signal n) = NoCase
+do_statement s a st (Statement-F.Wait n) = Rests (stop.Wait n) [] st []
+do_statement s a st (Statement-F.Signal n) = Rests (stop.Signal n) [] st []
 
 -- the first arm whose condition holds
 abbrev pub choose : State → List Arm → Option Block → Step

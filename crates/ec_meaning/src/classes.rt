@@ -45,6 +45,9 @@ fn class_of(alloc: Global, program: &Program, class: &Class) -> Result<ClassRec,
     Ok(ClassRec {
         name: Seq::from_vec(Vec::from_slice(alloc, class.name.as_slice())?),
         initial: initial_of(program.core().operations.as_slice(), class.number)?,
+        process: section_of(program.core().operations.as_slice(), class.number)?,
+        monitored: class.is_monitored,
+        conditions: number_of(class.conditions)?,
         fields: fields_of(alloc, class)?,
         operations: operations_of(alloc, program, class.number)?,
         conforms: conformances(alloc, program.table(), class.number)?,
@@ -70,6 +73,28 @@ fn is_initial(kind: Kind) -> bool
     match kind {
         Kind::Initial => true,
         Kind::Named | Kind::Process => false,
+    }
+}
+
+/// The number of the process section of a class, where it has one.
+fn section_of(operations: &[Operation], class: usize) -> Result<Option<OpNo>, AllocError>
+    ensures { IfOk result (λ number. number ≡ spec.section_from 1 operations.now class) }
+{
+    for (place, o) in operations.iter().enumerate() {
+        if o.class == class && is_section(o.kind) {
+            return Ok(Some(number_of(place + 1)?));
+        }
+    }
+    Ok(None)
+}
+
+/// Whether it is a process section.
+fn is_section(kind: Kind) -> bool
+    ensures { result ≡ spec.is_section kind }
+{
+    match kind {
+        Kind::Process => true,
+        Kind::Named | Kind::Initial => false,
     }
 }
 

@@ -50,35 +50,13 @@ pub record IsSource (text : List ℕ) (program : Printing) : Type 0 where
   pub is_program : IsProgram text tokens whole_program
   pub is_printing : printing.HasTree tokens program
 
--- conditions, monitors and processes have no meaning worked out so far
-abbrev pub is_later_word : Reserved → Bool
-is_later_word word.Condition = true
-is_later_word word.Monitor = true
-is_later_word word.Process = true
-is_later_word word.Signal = true
-is_later_word word.Wait = true
-is_later_word _ = false
-
-abbrev pub is_later : TokenKind → Bool
-is_later (kind.Reserved r) = is_later_word r
-is_later (kind.Name text) = false
-is_later (kind.Integer n) = false
-is_later (kind.Literal text) = false
-is_later (kind.Symbol symbol) = false
-
--- the number of the first such token; that of the first token of all is given
-abbrev pub later_from : ℕ → List Token → Option ℕ
-later_from n [] = None
-later_from n (t ∷ ts) = if is_later t.kind then Some n else later_from (suc n) ts
-
--- The text is that of a program whose meaning is worked out today: it has no such token. Its source is the text with its core.
+-- The text is that of a program, and its source is the text with the program's core.
 pub record IsMeant (text : List ℕ) (source : Source) : Type 0 where
   pub tokens : List Token
   pub program : Program
   pub is_program : IsProgram text tokens program
   pub text_is : source.text ≡ text
   pub has_core : HasCore program source.table source.core
-  pub none_later : later_from 0 tokens ≡ None
 
 -- ---- refusals
 
@@ -111,13 +89,6 @@ pub data IsRefused (text : List ℕ) : Refusal → ℕ → Type 0 where
   later : {tokens : List Token} {program : Program} {k : ℕ} →
       IsProgram text tokens program → IsOutside tokens k → IsRefused text Later (place_of text tokens k)
 
--- the text's meaning isn't worked out today, for this reason, at this byte or at its end
-pub data IsUnmeant (text : List ℕ) : Refusal → ℕ → Type 0 where
-  faulty : {refusal : Refusal} {at : ℕ} → IsFaulty text refusal at → IsUnmeant text refusal at
-  -- it is a program's, and this is its first token of a later part
-  later : {tokens : List Token} {program : Program} {k : ℕ} →
-      IsProgram text tokens program → later_from 0 tokens ≡ Some k → IsUnmeant text Later (place_of text tokens k)
-
 -- the error is why the text is no program's, or want of memory
 abbrev pub IsFault : List ℕ → SourceError → Type 0
 IsFault text (Refused refused) = IsFaulty text refused.refusal refused.at
@@ -127,11 +98,6 @@ IsFault text Memory = Unit {0}
 abbrev pub IsCause : List ℕ → SourceError → Type 0
 IsCause text (Refused refused) = IsRefused text refused.refusal refused.at
 IsCause text Memory = Unit {0}
-
--- the error is why the text's meaning isn't worked out, or want of memory
-abbrev pub IsLack : List ℕ → SourceError → Type 0
-IsLack text (Refused refused) = IsUnmeant text refused.refusal refused.at
-IsLack text Memory = Unit {0}
 
 -- ---- the line that says it: `refused E3 at line 3 column 5`
 

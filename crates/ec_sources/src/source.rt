@@ -6,14 +6,14 @@ ghost use Rattle.ec_lexer.specs.Tokens.{HasTokens};
 ghost use Rattle.ec_parser.specs.HasTree as whole;
 ghost use Rattle.ec_parser.specs.Program.{IsShallow};
 ghost use Rattle.ec_subset.specs.Grammar as printing;
-ghost use Rattle.ec_sources.specs.Sources.{IsProgram, IsSource, IsMeant, IsFault, IsCause, IsLack, is_later, is_later_word, later_from, place_of, fault_name, rule_name, refusal_name, refused_line};
+ghost use Rattle.ec_sources.specs.Sources.{IsProgram, IsSource, IsMeant, IsFault, IsCause, place_of, fault_name, rule_name, refusal_name, refused_line};
 
 use crate::place::push_place;
 use ec_base::list::Seq;
 use ec_check::check::{CheckError, Checked, check};
 use ec_lexer::error::{LexError, LexFault};
 use ec_lexer::lex;
-use ec_lexer::token::{Reserved, Token, TokenKind};
+use ec_lexer::token::Token;
 use ec_parser::{ParseError, parse};
 use ec_printing::Program;
 use ec_rules::Rule;
@@ -81,53 +81,13 @@ pub fn read_source(alloc: Global, text: &[u8]) -> Result<Program, SourceError>
     printing_of(alloc, text, accepted.tokens.as_slice())
 }
 
-/// The program of a source whose meaning is worked out today, with its core.
+/// The program of a source, with its core.
 pub fn meant_source(alloc: Global, text: &[u8]) -> Result<Checked, SourceError>
     ensures meant { IfOk result (λ checked. IsMeant text.now (record { text = text.now; table = checked.table; core = checked.core })) }
-    ensures refused { IfErr result (IsLack text.now) }
+    ensures refused { IfErr result (IsFault text.now) }
 {
-    let found = check_source(alloc, text)?;
-    let tokens = found.tokens.as_slice();
-    match first_later(tokens) {
-        Some(later) => Err(refuse(Refusal::Later, place_of(text, tokens, later))),
-        None => Ok(found.checked),
-    }
-}
-
-/// The number of the first token of a part whose meaning isn't worked out so far.
-fn first_later(tokens: &[Token]) -> Option<usize>
-    ensures { result ≡ later_from 0 tokens.now }
-{
-    for number in 0..tokens.len() {
-        if is_later(&tokens[number].kind) {
-            return Some(number);
-        }
-    }
-    None
-}
-
-/// Whether conditions, monitors or processes are meant.
-fn is_later(kind: &TokenKind) -> bool
-    ensures { result ≡ is_later kind.now }
-{
-    match kind {
-        TokenKind::Reserved(word) => is_later_word(*word),
-        TokenKind::Name(_) | TokenKind::Integer(_) | TokenKind::Literal(_) | TokenKind::Symbol(_) =>
-            false,
-    }
-}
-
-fn is_later_word(word: Reserved) -> bool
-    ensures { result ≡ is_later_word word }
-{
-    matches!(
-        word,
-        Reserved::Condition
-            | Reserved::Monitor
-            | Reserved::Process
-            | Reserved::Signal
-            | Reserved::Wait
-    )
+    let accepted = check_source(alloc, text)?;
+    Ok(accepted.checked)
 }
 
 fn refuse(refusal: Refusal, at: u32) -> SourceError

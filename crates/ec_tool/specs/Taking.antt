@@ -9,7 +9,7 @@ use Rattle.ec_network.specs.Net.{Net}
 use Rattle.ec_plain.specs.Plain.{IsPlainRun}
 use Rattle.ec_report.specs.declared.status.Status.{Status}
 use Rattle.ec_run.specs.Runs.{RunsTo}
-use Rattle.ec_sources.specs.Sources.{IsSource, IsMeant, IsCause, IsLack}
+use Rattle.ec_sources.specs.Sources.{IsSource, IsMeant, IsFault, IsCause}
 use Rattle.ec_sources.specs.declared.source.SourceError.{SourceError}
 use Rattle.ec_tool.specs.declared.take.Taken.{Taken}
 use Rattle.ec_tool.specs.declared.take.Taken.TheVariants.{ToRun, ToMean}
@@ -36,7 +36,7 @@ IsTaken Mean text (ToMean checked) = IsMeant text (source_in text checked)
 -- the error is why the text isn't taken, or want of memory
 abbrev pub IsNotTaken : Work → List ℕ → SourceError → Type 0
 IsNotTaken Run text error = IsCause text error
-IsNotTaken Mean text error = IsLack text error
+IsNotTaken Mean text error = IsFault text error
 
 -- a program that is run is short enough to be lowered
 abbrev pub IsShortTaken : Taken → Type 0

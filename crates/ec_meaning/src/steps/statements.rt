@@ -14,12 +14,13 @@ use crate::state::{Outcome, State, Whose};
 use crate::steps::lists::do_all;
 use crate::steps::places::declare;
 use crate::todo::Todo;
+use crate::types::number_of;
 use ec_core::{Arm, At, Block, Expression, Place, Statement};
 use ec_world::stop::Stop;
 use sqlite_items::Items;
 use std::alloc::AllocError;
 
-/// A statement is done. The error is want of memory.
+/// A statement is done. The error is want of memory, or the number of a condition with more than 32 bits.
 pub(crate) fn do_statement(
     x: Statement,
     program: &Program<'_>,
@@ -48,8 +49,25 @@ pub(crate) fn do_statement(
         Statement::Fix(x, to, at) => fix_at(x, to, program.line(at), todo),
         Statement::Refix(x, to, at) => refix_at(x, to, program.line(at), todo),
         Statement::Unfix(x, at) => unfix(x, program.line(at), todo),
-        Statement::Wait(_) | Statement::Signal(_) => Ok(Outcome::NoCase),
+        Statement::Wait(condition) => wait_for(condition, state),
+        Statement::Signal(condition) => signal(condition, state),
     }
+}
+
+/// The process waits for a condition. The error is want of memory, or a number of more than 32 bits.
+fn wait_for(condition: usize, state: &State) -> Result<Outcome, AllocError>
+    ensures { IfOk result (λ o. o ≡ Outcome.Rests (Stop.Wait condition) []) }
+{
+    let condition = number_of(condition)?;
+    Ok(state.rests(Stop::Wait { condition }))
+}
+
+/// The process signals a condition. The error is want of memory, or a number of more than 32 bits.
+fn signal(condition: usize, state: &State) -> Result<Outcome, AllocError>
+    ensures { IfOk result (λ o. o ≡ Outcome.Rests (Stop.Signal condition) []) }
+{
+    let condition = number_of(condition)?;
+    Ok(state.rests(Stop::Signal { condition }))
 }
 
 /// An expression, whose value is then stored. The error is want of memory.
