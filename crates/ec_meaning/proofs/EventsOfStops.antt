@@ -22,7 +22,7 @@ use Rattle.ec_world.specs.declared.stop.Who.{Who}
 use Rattle.ec_world.specs.Doings.{Asked, doing_of}
 use Rattle.ec_world.specs.Group.{links_of, wanted, mark_all, spread, rounds, none_marked, marked_from, group_of}
 use Rattle.ec_world.specs.Objects.{class_at}
-use Rattle.ec_world.specs.Outcomes.{Acted, Done, acted_if, acting, by_holder, done, entering, entry_done, left_behind, made_object, monitor_of, outcome_of, return_done, section_on, signal_done, signal_effect, wait_done}
+use Rattle.ec_world.specs.Outcomes.{Acted, Done, acted_if, acting, at_condition, by_holder, done, entering, entry_done, left_behind, made_object, monitor_of, outcome_of, return_done, section_on, signal_done, signal_effect, wait_done}
 use Rattle.ec_world.specs.Sights.{sight_of}
 use Rattle.ec_world.proofs.Seeing.{SameSight, doing_same}
 
@@ -97,11 +97,11 @@ keeps_acting (m, granted) c own effect started = λ es. refl
 keeps_wait : (o : Option MonitorRec) (c : Common) (who : Who) (condition : ℕ) → Keeps c (λ d. wait_done d who condition o)
 keeps_wait None c who condition = λ es. refl
 keeps_wait (Some m) c who condition =
-    keeps_acting (by_holder who.process m (waited m condition)) c who.own (λ granted. Blocks ForCondition who.own) None
+    keeps_acting (by_holder who.process m (at_condition m condition (waited m condition))) c who.own (λ granted. Blocks ForCondition who.own) None
 
 keeps_signal : (o : Option MonitorRec) (c : Common) (who : Who) (condition : ℕ) → Keeps c (λ d. signal_done d who condition o)
 keeps_signal None c who condition = λ es. refl
-keeps_signal (Some m) c who condition = keeps_acting (by_holder who.process m (signalled m condition)) c who.own (signal_effect who.own) None
+keeps_signal (Some m) c who condition = keeps_acting (by_holder who.process m (at_condition m condition (signalled m condition))) c who.own (signal_effect who.own) None
 
 keeps_left : (o : Option MonitorRec) (c : Common) (who : Who) (given : Option Value) (started : Option Section) → Keeps c (λ d. left_behind d who given started o)
 keeps_left None c who given started = λ es. refl
