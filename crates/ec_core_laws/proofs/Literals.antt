@@ -21,7 +21,7 @@ use Rattle.ec_check.specs.Parts.{AnExpression, AStatement, ABlock, link_judged, 
 use Rattle.ec_check.specs.Places.{Env, condition_named, field_named, place_of, type_or}
 use Rattle.ec_check.specs.Program.{constant_core, constants_core, outermost, core_of}
 use Rattle.ec_check.specs.Resolving.{cores_of, builtin_of, called, link_core, links_core, chained, number_of_class, arguments_in, created}
-use Rattle.ec_check.specs.Resolving.{chain_core}
+use Rattle.ec_check.specs.Resolving.{chain_core, compared_in}
 use Rattle.ec_check.specs.Resolving.{factor_core, addend_core, captures_of, number_of_holder, core_of_expression, parts_of_links}
 use Rattle.ec_check.specs.Resolving.{link_parts}
 use Rattle.ec_check.specs.Resolving.{element_set, element_set_if, assigned, further, in_scope, arms_core, locals_of_arms, core_of_statement}
@@ -318,8 +318,9 @@ layer_short (Expression-F.Sum x more) h needed env f =
     (all_short texts_of_addend (map (addend_core env) more) (addends_short env more h.1 (none_right (faults_in env.scope x.part) _ parts))))
 layer_short (Expression-F.Compare x op at y) h needed env f =
     let parts : faults_in env.scope x.part ++ (faults_in env.scope y.part ++ []) ≡ [] = none_left _ _ f in
-    short (e.Compare (x.core env) op (y.core env)) (Form-F.Compare (x.core env) op (y.core env))
-    (e.rolls-Compare (x.core env) op (y.core env))
+    let what = compared_in env.scope x in
+    short (e.Compare (x.core env) op what (y.core env)) (Form-F.Compare (x.core env) op what (y.core env))
+    (e.rolls-Compare (x.core env) op what (y.core env))
     (every_joined IsShort (texts_of (x.core env)) (texts_of (y.core env)) (h.0.1 true env (none_left _ _ parts))
     (h.1.1 true env (none_left _ _ (none_right (faults_in env.scope x.part) _ parts))))
 layer_short (Expression-F.Not x at) h needed env f =
@@ -402,7 +403,7 @@ assigned_short (Form-F.View x of at) v h k = drop_short v k
 assigned_short (Form-F.IsFixed x at) v h k = drop_short v k
 assigned_short (Form-F.Term x more) v h k = drop_short v k
 assigned_short (Form-F.Sum x more) v h k = drop_short v k
-assigned_short (Form-F.Compare x op y) v h k = drop_short v k
+assigned_short (Form-F.Compare x op what y) v h k = drop_short v k
 assigned_short (Form-F.And x more) v h k = drop_short v k
 assigned_short (Form-F.Or x more) v h k = drop_short v k
 
