@@ -27,7 +27,8 @@ use Rattle.ec_check.specs.Resolving.{link_parts}
 use Rattle.ec_check.specs.Resolving.{element_set, element_set_if, assigned, further, in_scope, arms_core, locals_of_arms, core_of_statement}
 use Rattle.ec_check.specs.Resolving.{behind, statements_core, at_start, env_in, env_of_body, env_of_operation, field_stored, initially_core}
 use Rattle.ec_check.specs.Tree.{expression_step, statement_step, block_step, part_of}
-use Rattle.ec_conform.specs.Table.{Table}
+use Rattle.ec_conform.specs.Declarations.{declarations_of}
+use Rattle.ec_conform.specs.Table.{Table, IsTable}
 use Rattle.ec_conform.specs.Types.{vector_of}
 use Rattle.ec_conform.specs.declared.static_type.StaticType.{StaticType}
 use Rattle.ec_core.specs.declared.Addend.{Addend}
@@ -591,10 +592,11 @@ first_short scope h known =
 abbrev ShortOperation : Operation → Type 0
 ShortOperation o = All IsShort (texts_of_block o.block)
 
-operations_short : (table : Table) (program : Program) → StaticFaults table program ≡ [] →
+operations_short : (table : Table) (program : Program) → IsTable (declarations_of program) table →
+    StaticFaults table program ≡ [] →
     All ShortOperation (core_of table program).operations
-operations_short table program none =
-    each_operation table program ShortOperation none
+operations_short table program is none =
+    each_operation table program ShortOperation is none
     (record {
       named = λ scope h known o tree f.
           all_of IsShort (texts_of_block (named_of scope h o).block)
@@ -627,9 +629,11 @@ constants_short env n (c ∷ cs) f =
     every_joined ShortConstant (constant_core env n c c.value) (constants_core env (suc n) cs)
     (constant_short env n c c.name c.of c.value f.0) (constants_short env (suc n) cs f.1)
 
-pub each_text_is_short : (table : Table) (program : Program) → StaticFaults table program ≡ [] → HasShortTexts (core_of table program)
-each_text_is_short table program none = record {
-  operations = operations_short table program none;
+pub each_text_is_short : (table : Table) (program : Program) → IsTable (declarations_of program) table →
+    StaticFaults table program ≡ [] →
+    HasShortTexts (core_of table program)
+each_text_is_short table program is none = record {
+  operations = operations_short table program is none;
   constants =
       all_of ShortConstant (constants_core (env_in (outermost table program) []) 0 program.constants)
       (constants_short (env_in (outermost table program) []) 0 program.constants (constants_faultless table program none));
