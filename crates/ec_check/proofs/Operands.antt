@@ -2,24 +2,29 @@
 use Rattle.std.proofs.Common.{◌≡◌, List, [], ◌∷◌, map, sym, ap, ◌∙◌}
 use Rattle.std.specs.Prelude.{Option}
 use Rattle.ec_ast.specs.declared.Addend.{Addend, out-Addend}
+use Rattle.ec_ast.specs.declared.Comparison.{Comparison}
 use Rattle.ec_ast.specs.declared.Expression.{Expression}
 use Rattle.ec_ast.specs.declared.Factor.{Factor, out-Factor}
 use Rattle.ec_ast.specs.declared.Link.{Link}
 use Rattle.ec_check.proofs.Equations.{addend_step_of, factor_step_of}
+use Rattle.ec_check.proofs.Fusion.{same_part}
 use Rattle.ec_check.proofs.Links.{chain_made, same_receiver}
 use Rattle.ec_check.proofs.Steps.{aside, made_none, none_then, same_made, then_in, walking}
 use Rattle.ec_check.specs.Making.{HasMade, env_of}
 use Rattle.ec_check.specs.Parts.{AddendPart, FactorPart, Part, both_made, link_judged, nothing_made}
 use Rattle.ec_check.specs.Places.{Env}
 use Rattle.ec_check.specs.Resolving as spec
-use Rattle.ec_check.specs.Resolving.{addend_core, all_made, chain_of, factor_core, head_core, head_parts, links_core, parts_of_chain, parts_of_links}
+use Rattle.ec_check.specs.Resolving.{addend_core, all_made, chain_of, compared_in, compared_of, factor_core, head_core, head_parts, links_core, parts_of_chain, parts_of_links}
 use Rattle.ec_check.specs.Tree.{addend_of, factor_of, link_of, part_of}
 use Rattle.ec_check.specs.declared.resolver.Resolver.{Resolver}
 use Rattle.ec_core.specs.declared.Addend.{roll-Addend}
+use Rattle.ec_core.specs.declared.Compared.{Compared}
 use Rattle.ec_core.specs.declared.Expression.{Expression as Core}
+use Rattle.ec_core.specs.declared.Expression.TheVariants as core
 use Rattle.ec_core.specs.declared.Factor.{roll-Factor}
 use Rattle.ec_judge.specs.declared.walk.Walk.{Walk}
 use Rattle.ec_rules.specs.Calls.{Receiver, receiver}
+use Rattle.ec_rules.specs.Parts.{value_in}
 use Rattle.ec_rules.specs.Tree as judged
 use Rattle.ec_scopes.specs.declared.scope.Scope.{Scope}
 
@@ -47,6 +52,37 @@ both_parts old mid new seen x e other y f h k =
     ∙ ap (λ z. both_made ((part_of x).made old.walk.scope) ((part_of z).made old.walk.scope)) f
     ∙ ap (both_made ((part_of x).made old.walk.scope)) (sym (made_none ((part_of y).made old.walk.scope))))
     (then_in (part_of other).made h k)
+
+-- ---- comparisons
+
+-- Its left operand is judged before it is made.
+module _ (old : Resolver) (walk : Walk) (mid : Resolver) (seen again x : Expression) (e : seen ≡ x) (f : again ≡ x)
+    (other y : Expression) (g : other ≡ y) (w : walk.scope ≡ old.walk.scope)
+    (h : HasMade (walking old walk) mid ((part_of again).made walk.scope)) where
+  judged_before : HasMade old (walking old walk) nothing_made
+  judged_before = aside old walk w
+
+  is_compared : compared_of (value_in old.walk.scope (judged.part_of seen)).of ≡ compared_in old.walk.scope (part_of x)
+  is_compared = ap (λ p. compared_of (value_in old.walk.scope p).of) (ap judged.part_of e ∙ sym (same_part x))
+
+  pub compare_cored : (op : Comparison) (what : Compared) (left right : Core) →
+      what ≡ compared_of (value_in old.walk.scope (judged.part_of seen)).of →
+      left ≡ (part_of again).core (env_of (walking old walk)) → right ≡ (part_of other).core (env_of mid) →
+      core.Compare left op what right
+      ≡ core.Compare ((part_of x).core (env_of old)) op (compared_in old.walk.scope (part_of x)) ((part_of y).core (env_of old))
+  compare_cored op what left right c l r =
+      let env = env_of old in
+      ap (λ v. core.Compare v op what right)
+      (l ∙ ap (part_of again).core judged_before.place ∙ ap (λ z. (part_of z).core env) f)
+      ∙ ap (λ v. core.Compare ((part_of x).core env) op v right) (c ∙ is_compared)
+      ∙ ap (core.Compare ((part_of x).core env) op (compared_in old.walk.scope (part_of x)))
+      (r ∙ ap (part_of other).core (h.place ∙ judged_before.place) ∙ ap (λ z. (part_of z).core env) g)
+
+  pub compare_made : (new : Resolver) → HasMade mid new ((part_of other).made mid.walk.scope) →
+      HasMade old new (all_made old.walk.scope (map part_of (x ∷ y ∷ [])))
+  compare_made new k =
+      same_made (ap (λ z. all_made z (map part_of (x ∷ y ∷ []))) w)
+      (none_then judged_before (both_parts (walking old walk) mid new again x f other y g h k))
 
 -- ---- factors and addends
 

@@ -17,7 +17,7 @@ use Rattle.ec_check.specs.Numbers.{Kept, Limits, InRange, IsPlace, joined, in_ex
 use Rattle.ec_check.specs.Parts.{Part, AnExpression, FactorPart, AddendPart, Holder, link_judged, factor_judged, addend_judged, holder_judged}
 use Rattle.ec_check.specs.Places.{Env, place_of}
 use Rattle.ec_check.specs.Resolving.{all_made, cores_of, core_of_expression, expression_made, parts_of_links, holder_made}
-use Rattle.ec_check.specs.Resolving.{factor_core, addend_core, captures_of, number_of_holder, class_core}
+use Rattle.ec_check.specs.Resolving.{compared_in, factor_core, addend_core, captures_of, number_of_holder, class_core}
 use Rattle.ec_check.specs.Tree.{expression_step}
 use Rattle.ec_conform.specs.Types.{vector_of}
 use Rattle.ec_core.specs.declared.Expression.{Expression}
@@ -285,9 +285,10 @@ layer_ranged (Expression-F.Sum x more) h needed limits env r =
     (e.rolls-Sum (x.core env) (map (addend_core env) more))
     ∙ ap (λ ns. in_expression (x.core env) ++ ns) (addends_counted env more)) r
 layer_ranged (Expression-F.Compare x op at y) h needed limits env r =
-    list_ranged limits env (x ∷ y ∷ []) (x.part ∷ y.part ∷ []) (e.Compare (x.core env) op (y.core env)) _ (h.0, (h.1, tt)) refl
-    (expression_has (e.Compare (x.core env) op (y.core env)) (Core-F.Compare (x.core env) op (y.core env))
-    (e.rolls-Compare (x.core env) op (y.core env))
+    let what = compared_in env.scope x in
+    list_ranged limits env (x ∷ y ∷ []) (x.part ∷ y.part ∷ []) (e.Compare (x.core env) op what (y.core env)) _ (h.0, (h.1, tt)) refl
+    (expression_has (e.Compare (x.core env) op what (y.core env)) (Core-F.Compare (x.core env) op what (y.core env))
+    (e.rolls-Compare (x.core env) op what (y.core env))
     ∙ ap (λ ns. in_expression (x.core env) ++ ns) (sym (append-nil (in_expression (y.core env))))) r
 layer_ranged (Expression-F.Not x at) h needed limits env r =
     one_ranged limits env x (e.Not (x.core env)) _ h

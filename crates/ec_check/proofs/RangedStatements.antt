@@ -221,7 +221,7 @@ assigned_in_range limits (Core-F.View x of at) v h k = drop_in_range limits v k
 assigned_in_range limits (Core-F.IsFixed x at) v h k = drop_in_range limits v k
 assigned_in_range limits (Core-F.Term x more) v h k = drop_in_range limits v k
 assigned_in_range limits (Core-F.Sum x more) v h k = drop_in_range limits v k
-assigned_in_range limits (Core-F.Compare x op y) v h k = drop_in_range limits v k
+assigned_in_range limits (Core-F.Compare x op what y) v h k = drop_in_range limits v k
 assigned_in_range limits (Core-F.And x more) v h k = drop_in_range limits v k
 assigned_in_range limits (Core-F.Or x more) v h k = drop_in_range limits v k
 

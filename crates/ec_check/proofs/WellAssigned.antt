@@ -97,6 +97,6 @@ assigned_well site (Core-F.View x t at) v of i h = value_dropped site of v h
 assigned_well site (Core-F.IsFixed x at) v of i h = value_dropped site of v h
 assigned_well site (Core-F.Term x more) v of i h = value_dropped site of v h
 assigned_well site (Core-F.Sum x more) v of i h = value_dropped site of v h
-assigned_well site (Core-F.Compare x op y) v of i h = value_dropped site of v h
+assigned_well site (Core-F.Compare x op what y) v of i h = value_dropped site of v h
 assigned_well site (Core-F.And x more) v of i h = value_dropped site of v h
 assigned_well site (Core-F.Or x more) v of i h = value_dropped site of v h

@@ -17,7 +17,7 @@ use Rattle.ec_check.proofs.WellValues.{values_compared, result_has_type}
 use Rattle.ec_check.specs.Layers.{expression_judged}
 use Rattle.ec_check.specs.Parts.{Part, AnExpression, FactorPart, AddendPart, link_judged, factor_judged, addend_judged}
 use Rattle.ec_check.specs.Places.{Env}
-use Rattle.ec_check.specs.Resolving.{all_made, cores_of, core_of_expression, expression_made}
+use Rattle.ec_check.specs.Resolving.{all_made, compared_in, cores_of, core_of_expression, expression_made}
 use Rattle.ec_check.specs.Resolving.{factor_core, addend_core, number_of_holder, class_core}
 use Rattle.ec_check.specs.Tree.{expression_step}
 use Rattle.ec_check.specs.WellTyped.{Site, Typed as TypedValue, TypedAddend, typed_if, typed, typed_addend, typed_factor, is_of, all_are, added}
@@ -315,10 +315,11 @@ layer_well (Expression-F.Compare x op at y) h needed site env r =
     let ready : Ready site env (each (uses_in env.scope) (x.part ∷ y.part ∷ [])) (each (faults_in env.scope) (x.part ∷ y.part ∷ []))
     (all_made env.scope (x ∷ y ∷ [])) = ready_within (each (faults_in env.scope) (x.part ∷ y.part ∷ [])) _ r in
     let valued : Every (Valued site env) (x ∷ y ∷ []) = parts_valued (x ∷ y ∷ []) site env (h.0, (h.1, tt)) ready in
-    with_parts site env (x ∷ y ∷ []) (e.Compare (x.core env) op (y.core env)) (Some boolean) (h.0, (h.1, tt)) ready
+    let what = compared_in env.scope x in
+    with_parts site env (x ∷ y ∷ []) (e.Compare (x.core env) op what (y.core env)) (Some boolean) (h.0, (h.1, tt)) ready
     (same_is
-    (expression_has site (e.Compare (x.core env) op (y.core env)) (Core-F.Compare (x.core env) op (y.core env))
-    (e.rolls-Compare (x.core env) op (y.core env)))
+    (expression_has site (e.Compare (x.core env) op what (y.core env)) (Core-F.Compare (x.core env) op what (y.core env))
+    (e.rolls-Compare (x.core env) op what (y.core env)))
     (is_if _ (Some boolean)
     (both_hold (typed site (x.core env)).is_well _ valued.0.is_well
     (both_hold (typed site (y.core env)).is_well _ valued.1.0.is_well

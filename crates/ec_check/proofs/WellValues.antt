@@ -10,10 +10,11 @@ use Rattle.ec_ast.specs.declared.Comparison.{Comparison}
 use Rattle.ec_check.proofs.Every.{Every, all_of, every_weaker, none_left, none_right, not_both, first_holds, second_holds}
 use Rattle.ec_check.proofs.KnownTypes.{HasType, test_holds}
 use Rattle.ec_check.specs.Places.{type_or}
+use Rattle.ec_check.specs.Resolving.{compared_of}
 use Rattle.ec_check.specs.WellTyped.{Typed as TypedValue, is_taken, is_of, all_are, is_same_result, conforms_if, goes_in, go_in}
-use Rattle.ec_check.specs.WellTyped.{some_class, some_operation, are_compared}
+use Rattle.ec_check.specs.WellTyped.{some_class, some_operation, are_compared, wanted_of}
 use Rattle.ec_conform.specs.Table.{Table}
-use Rattle.ec_conform.specs.Types.{is_same, is_same_type, known}
+use Rattle.ec_conform.specs.Types.{is_reference_type, is_same, is_same_type, known}
 use Rattle.ec_conform.specs.declared.static_type.Plain.{Plain as PlainType}
 use Rattle.ec_conform.specs.declared.static_type.Plain.TheVariants.{Integer, Boolean, String, Any, Node, Named}
 use Rattle.ec_conform.specs.declared.static_type.StaticType.{StaticType}
@@ -24,7 +25,7 @@ use Rattle.ec_rules.specs.Calls.{wrong_arguments_for}
 use Rattle.ec_rules.specs.Operands as rules
 use Rattle.ec_rules.specs.Operands.{wants, wants_all, must_conform, can_compare, can_compare_if, is_like_left, right_fits, are_alike}
 use Rattle.ec_rules.specs.Operands.{comparison_faults, result_type}
-use Rattle.ec_rules.specs.Types.{integer, fits}
+use Rattle.ec_rules.specs.Types.{integer, fits, takes}
 use Rattle.ec_rules.specs.declared.judged.Judged.{Judged}
 use Rattle.ec_rules.specs.declared.operands.Wanted.{Wanted}
 use Rattle.ec_rules.specs.declared.operands.Wanted.TheVariants as wanted
@@ -206,24 +207,62 @@ integer_is table (Some Unknown) h e = h
 
 -- ---- comparisons
 
+one_of : {P : Type 0} (a b : Bool) → (a ≡ true → P) → (b ≡ true → P) → a || b ≡ true → P
+one_of true b f g e = f refl
+one_of false b f g e = g e
+
+-- The left operand is what the comparison says.
+left_is_compared : (a : StaticType) → HasType (Some a) → takes (wanted_of (compared_of (Some a))) a ≡ true
+left_is_compared (Plain Integer) h = refl
+left_is_compared (Plain Boolean) h = refl
+left_is_compared (Plain String) h = refl
+left_is_compared (Plain Any) h = refl
+left_is_compared (Plain Node) h = refl
+left_is_compared (Plain (Named n)) h = refl
+left_is_compared (Vector inner of) h = refl
+left_is_compared Nil h = refl
+left_is_compared Unknown h = h
+
+reference_is_compared : (a b : StaticType) → is_reference_type a && is_reference_type b ≡ true →
+    takes (wanted_of (compared_of (Some a))) b ≡ true
+reference_is_compared (Plain Integer) b e = not_both e
+reference_is_compared (Plain Boolean) b e = not_both e
+reference_is_compared (Plain String) b e = not_both e
+reference_is_compared (Plain Any) b e = e
+reference_is_compared (Plain Node) b e = e
+reference_is_compared (Plain (Named n)) b e = e
+reference_is_compared (Vector inner of) b e = e
+reference_is_compared Nil b e = e
+reference_is_compared Unknown b e = not_both e
+
+-- So is the right one, which is like it.
+right_is_compared : (a b : StaticType) → HasType (Some a) → are_alike a b ≡ true →
+    takes (wanted_of (compared_of (Some a))) b ≡ true
+right_is_compared a b h e =
+    one_of (is_same_type a b) (is_reference_type a && is_reference_type b)
+    (λ same. subst (λ z. takes (wanted_of (compared_of (Some a))) z ≡ true) (type_is a b same) (left_is_compared a h))
+    (reference_is_compared a b) e
+
 compared : (op : Comparison) (a b : Option StaticType) → HasType a → HasType b → can_compare_if op a ≡ true →
-    right_fits op a b ≡ true → are_compared op a b ≡ true
+    right_fits op a b ≡ true → are_compared op (compared_of a) a b ≡ true
 compared op None b h k e f = h
 compared op (Some a) None h k e f = k
 compared op (Some a) (Some b) h k e f =
-    both_hold (can_compare op a) (can_compare op b && are_alike a b) e
-    (both_hold (can_compare op b) (are_alike a b) (first_holds _ _ f)
-    (alike (can_compare op a) (are_alike a b) e (second_holds (can_compare op b) (is_like_left op (Some a) b) f)))
+    let like : are_alike a b ≡ true =
+    alike (can_compare op a) (are_alike a b) e (second_holds (can_compare op b) (is_like_left op (Some a) b) f) in
+    both_hold (can_compare op a) _ e
+    (both_hold (can_compare op b) _ (first_holds _ _ f)
+    (both_hold (are_alike a b) _ like (both_hold _ _ (left_is_compared a h) (right_is_compared a b h like))))
   where
     alike : (c d : Bool) → c ≡ true → not c || d ≡ true → d ≡ true
     alike true d e f = f
     alike false d e f = not_both e
 
 pub values_compared : (op : Comparison) (x y : TypedValue) (v w : Judged) → IsValue x v → IsValue y w →
-    comparison_faults op v w ≡ [] → are_compared op x.of y.of ≡ true
+    comparison_faults op v w ≡ [] → are_compared op (compared_of v.of) x.of y.of ≡ true
 values_compared op x y v w h k e =
-    subst (λ a. are_compared op a y.of ≡ true) (sym h.has_type)
-    (subst (λ b. are_compared op v.of b ≡ true) (sym k.has_type)
+    subst (λ a. are_compared op (compared_of v.of) a y.of ≡ true) (sym h.has_type)
+    (subst (λ b. are_compared op (compared_of v.of) v.of b ≡ true) (sym k.has_type)
     (compared op v.of w.of h.known k.known (test_holds _ _ _ (none_left _ _ e)) (test_holds _ _ _ (none_right _ _ e))))
 
 -- ---- sums

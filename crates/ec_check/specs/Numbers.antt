@@ -59,7 +59,7 @@ expression_numbers (Expression-F.View x of at) = x
 expression_numbers (Expression-F.IsFixed x at) = x
 expression_numbers (Expression-F.Term first factors) = first ++ joined factors
 expression_numbers (Expression-F.Sum first addends) = first ++ joined addends
-expression_numbers (Expression-F.Compare left op right) = left ++ right
+expression_numbers (Expression-F.Compare left op what right) = left ++ right
 expression_numbers (Expression-F.And first more) = first ++ joined more
 expression_numbers (Expression-F.Or first more) = first ++ joined more
 

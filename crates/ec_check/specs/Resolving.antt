@@ -19,6 +19,8 @@ use Rattle.ec_core.specs.declared.Block.{Block, roll-Block, out-Block}
 use Rattle.ec_core.specs.declared.Builtin.{Builtin}
 use Rattle.ec_core.specs.declared.Builtin.TheVariants.{AsString, Length, GetSlice, Size}
 use Rattle.ec_core.specs.declared.Class.{Class}
+use Rattle.ec_core.specs.declared.Compared.{Compared}
+use Rattle.ec_core.specs.declared.Compared.TheVariants.{Numbers, Truths, Texts, References}
 use Rattle.ec_core.specs.declared.Expression.{Expression, out-Expression}
 use Rattle.ec_core.specs.declared.Expression.TheVariants as e
 use Rattle.ec_core.specs.declared.Expression.TheOpen.{Expression-F as Core-F, Link-F as CoreLink-F}
@@ -36,6 +38,7 @@ use Rattle.ec_rules.specs.Calls.{Receiver, Creation, Own, Typed, callee, is_word
 use Rattle.ec_rules.specs.Captures.{captured}
 use Rattle.ec_rules.specs.Judging.{uses_within}
 use Rattle.ec_rules.specs.Lists.{each}
+use Rattle.ec_rules.specs.Parts.{value_in}
 use Rattle.ec_rules.specs.Members.{constant_type, parameter_entries, result_entries, scope_of, scope_of_operation}
 use Rattle.ec_scopes.specs.Scopes.{class_named, declaring, find, in_a_loop, in_a_process, written_in}
 use Rattle.ec_scopes.specs.declared.entries.Entry.{Entry}
@@ -111,6 +114,16 @@ chain_of env head links = chain_core env (receiver env.scope head.part (map link
 
 -- ---- expressions
 
+-- What a comparison compares, by the type of its left operand: the right one is like it.
+abbrev pub compared_of : Option StaticType → Compared
+compared_of (Some (Plain Integer)) = Numbers
+compared_of (Some (Plain Boolean)) = Truths
+compared_of (Some (Plain String)) = Texts
+compared_of _ = References
+
+abbrev pub compared_in : Scope → Part → Compared
+compared_in scope left = compared_of (value_in scope left.part).of
+
 abbrev pub factor_core : Env → FactorPart → Factor
 factor_core env f = roll-Factor (record { operator = f.operator; value = f.value.core env; at = f.at.from })
 
@@ -144,7 +157,8 @@ core_of_expression (Expression-F.View x of at) env = e.View (x.core env) (writte
 core_of_expression (Expression-F.IsFixed x at) env = e.IsFixed (x.core env) at.from
 core_of_expression (Expression-F.Term first factors) env = e.Term (first.core env) (map (factor_core env) factors)
 core_of_expression (Expression-F.Sum first addends) env = e.Sum (first.core env) (map (addend_core env) addends)
-core_of_expression (Expression-F.Compare left op at right) env = e.Compare (left.core env) op (right.core env)
+core_of_expression (Expression-F.Compare left op at right) env =
+    e.Compare (left.core env) op (compared_in env.scope left) (right.core env)
 core_of_expression (Expression-F.Not x at) env = e.Not (x.core env)
 core_of_expression (Expression-F.And first more) env = e.And (first.core env) (cores_of env more)
 core_of_expression (Expression-F.Or first more) env = e.Or (first.core env) (cores_of env more)

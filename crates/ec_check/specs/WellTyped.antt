@@ -15,6 +15,8 @@ use Rattle.ec_core.specs.declared.Addend.{Addend, fold-Addend}
 use Rattle.ec_core.specs.declared.Builtin.{Builtin}
 use Rattle.ec_core.specs.declared.Builtin.TheVariants.{AsString, Length, GetSlice, Size}
 use Rattle.ec_core.specs.declared.Class.{Class}
+use Rattle.ec_core.specs.declared.Compared.{Compared}
+use Rattle.ec_core.specs.declared.Compared.TheVariants.{Numbers, Truths, Texts, References}
 use Rattle.ec_core.specs.declared.Constant.{Constant as CoreConstant}
 use Rattle.ec_core.specs.declared.Core.{Core}
 use Rattle.ec_core.specs.declared.Expression.{Expression, fold-Expression}
@@ -210,9 +212,19 @@ added left [] = typed_if left.is_well left.of
 added left (a ∷ more) =
     added (typed_if (is_of (operand_of a.operator) left && is_of (operand_of a.operator) a.value) (Some (result_type a.operator))) more
 
-abbrev pub are_compared : Comparison → Option StaticType → Option StaticType → Bool
-are_compared op (Some a) (Some b) = can_compare op a && (can_compare op b && are_alike a b)
-are_compared op _ _ = false
+-- the operands that are so compared
+abbrev pub wanted_of : Compared → Wanted
+wanted_of Numbers = wanted.Integer
+wanted_of Truths = wanted.Boolean
+wanted_of Texts = wanted.String
+wanted_of References = wanted.Reference
+
+-- Both operands are what they are said to be, and the comparison takes them.
+abbrev pub are_compared : Comparison → Compared → Option StaticType → Option StaticType → Bool
+are_compared op what (Some a) (Some b) =
+    can_compare op a
+    && (can_compare op b && (are_alike a b && (takes (wanted_of what) a && takes (wanted_of what) b)))
+are_compared op what _ _ = false
 
 -- ---- one layer
 
@@ -242,8 +254,8 @@ module _ (site : Site) where
   expression_typed (Expression-F.IsFixed x at) = typed_if (is_of wanted.Reference x) (Some boolean)
   expression_typed (Expression-F.Term first factors) = typed_if (all_are wanted.Integer (first ∷ factors)) (Some integer)
   expression_typed (Expression-F.Sum first addends) = added first addends
-  expression_typed (Expression-F.Compare left op right) =
-      typed_if (left.is_well && (right.is_well && are_compared op left.of right.of)) (Some boolean)
+  expression_typed (Expression-F.Compare left op what right) =
+      typed_if (left.is_well && (right.is_well && are_compared op what left.of right.of)) (Some boolean)
   expression_typed (Expression-F.And first more) = typed_if (all_are wanted.Boolean (first ∷ more)) (Some boolean)
   expression_typed (Expression-F.Or first more) = typed_if (all_are wanted.Boolean (first ∷ more)) (Some boolean)
 

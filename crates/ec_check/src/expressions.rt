@@ -4,14 +4,18 @@ ghost use Rattle.ec_check.specs.Making.{HasMade, env_of};
 ghost use Rattle.ec_check.specs.Resolving as spec;
 ghost use Rattle.ec_check.specs.Tree.{addend_of, factor_of, part_of};
 ghost use Rattle.ec_conform.specs.Types as types;
+ghost use Rattle.ec_rules.specs.Parts.{value_in};
+ghost use Rattle.ec_rules.specs.Tree as judged;
 ghost use Rattle.ec_scopes.specs.Scopes.{written_in};
 
 use crate::chains::{receiver_before, resolve_behind, resolve_head};
 use crate::holders::resolve_object;
 use crate::resolver::Resolver;
 use ec_ast::{self as tree, Text, TypeName};
-use ec_conform::static_type::{StaticType, vector_of};
-use ec_core::{Addend, Expression, Factor};
+use ec_conform::static_type::{Plain, StaticType, vector_of};
+use ec_core::{Addend, Compared, Expression, Factor};
+use ec_judge::expressions::value;
+use ec_judge::walk::Walk;
 use ec_scopes::Scope;
 use sqlite_items::{Boxed, Items};
 use std::alloc::{AllocError, Global};
@@ -67,8 +71,9 @@ pub fn resolve<'a>(
             Ok(Expression::Sum(head, resolve_addends(alloc, r, addends.as_slice())?))
         }
         tree::Expression::Compare(left, op, _, right) => {
+            let what = compared_in(alloc, &mut r.walk, left.get())?;
             let a = resolve_boxed(alloc, r, left.get())?;
-            Ok(Expression::Compare(a, *op, resolve_boxed(alloc, r, right.get())?))
+            Ok(Expression::Compare(a, *op, what, resolve_boxed(alloc, r, right.get())?))
         }
         tree::Expression::Not(e, _) => Ok(Expression::Not(resolve_boxed(alloc, r, e.get())?)),
         tree::Expression::And(first, more) => {
@@ -87,6 +92,37 @@ fn vector_type(scope: &Scope, of: &TypeName) -> Result<StaticType, AllocError>
     ensures { IfOk result (λ t. t ≡ types.vector_of (written_in scope.now of.now)) }
 {
     vector_of(scope.written(of)?).ok_or(AllocError)
+}
+
+/// What a comparison compares whose left operand has this type.
+fn compared_of(of: Option<StaticType>) -> Compared
+    ensures { result ≡ spec.compared_of of }
+{
+    match of {
+        Some(StaticType::Plain(Plain::Integer)) => Compared::Numbers,
+        Some(StaticType::Plain(Plain::Boolean)) => Compared::Truths,
+        Some(StaticType::Plain(Plain::String)) => Compared::Texts,
+        Some(StaticType::Plain(Plain::Any))
+        | Some(StaticType::Plain(Plain::Node))
+        | Some(StaticType::Plain(Plain::Named(_)))
+        | Some(StaticType::Vector(_, _))
+        | Some(StaticType::Nil)
+        | Some(StaticType::Unknown)
+        | None => Compared::References,
+    }
+}
+
+/// The same, of a comparison with this left operand. The error is want of memory.
+fn compared_in<'a>(
+    alloc: Global,
+    walk: &mut Walk<'a>,
+    left: &'a tree::Expression,
+) -> Result<Compared, AllocError>
+    ensures compared { IfOk result (λ c. c ≡ spec.compared_of (value_in walk.old.scope (judged.part_of left.now)).of) }
+    ensures scope { OnOk result (walk.new.scope ≡ walk.old.scope) }
+{
+    let v = value(alloc, walk, left)?;
+    Ok(compared_of(v.of))
 }
 
 fn copied(alloc: Global, text: &Text) -> Result<Text, AllocError>

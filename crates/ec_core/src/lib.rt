@@ -32,6 +32,19 @@ pub enum Builtin {
     Size,
 }
 
+/// What the two operands of a comparison are.
+#[derive(Clone, Copy, PartialEq, Eq, Debug)]
+pub enum Compared {
+    /// Integers.
+    Numbers,
+    /// Booleans.
+    Truths,
+    /// Strings, which are compared by their bytes.
+    Texts,
+    /// References: which objects they are. `nil` is one.
+    References,
+}
+
 /// The first byte of a word, an operator or a `[` in the text, counted from 0: a failure is told by its line.
 pub type At = u32;
 
@@ -69,7 +82,7 @@ pub enum Expression {
     /// A sum of two or more, or Strings one behind another.
     Sum(Boxed<Expression>, Items<Addend>),
     /// A comparison of values, or of which objects they are.
-    Compare(Boxed<Expression>, Comparison, Boxed<Expression>),
+    Compare(Boxed<Expression>, Comparison, Compared, Boxed<Expression>),
     /// Two or more with `and` between them.
     And(Boxed<Expression>, Items<Expression>),
     /// Two or more with `or` between them.

@@ -7,7 +7,8 @@ use Rattle.ec_check.proofs.Every.{Every, every_weaker, all_of, not_both}
 use Rattle.ec_check.specs.Parts.{Made, both_made, OperationPart, ProcessPart, Holder}
 use Rattle.ec_check.specs.Program.{constants_made, outermost, core_of}
 use Rattle.ec_check.specs.Resolving.{just_operation, number_of_holder}
-use Rattle.ec_conform.specs.Table.{Table}
+use Rattle.ec_conform.specs.Declarations.{declarations_of}
+use Rattle.ec_conform.specs.Table.{Table, IsTable}
 use Rattle.ec_core.specs.declared.Class.{Class}
 use Rattle.ec_core.specs.declared.Kind.{Kind}
 use Rattle.ec_core.specs.declared.Operation.{Operation}
@@ -102,10 +103,11 @@ section_match scope h p a b j k n =
     some_more : (x y : ℕ) → x ≤ y → 0 + x ≤ y
     some_more x y l = omega arith
 
-program_match : (table : Table) (program : Program) → StaticFaults table program ≡ [] →
+program_match : (table : Table) (program : Program) → IsTable (declarations_of program) table →
+    StaticFaults table program ≡ [] →
     AllMatch (constants_made (outermost table program) program.constants)
-program_match table program none =
-    made_holds table program AllMatch none
+program_match table program is none =
+    made_holds table program AllMatch is none
     (record {
       nothing = λ n. record { initial = refl; process = omega arith };
       both = both_match;
@@ -170,11 +172,12 @@ of_each_class operations m (c ∷ cs) i p h =
     let few : count_of_class is_process c.number operations ≤ with_number c.number m = p c.number in
     (record { initial = omega arith; process = omega arith }, of_each_class operations m cs i p h.1)
 
-pub each_begins_once : (table : Table) (program : Program) → StaticFaults table program ≡ [] →
+pub each_begins_once : (table : Table) (program : Program) → IsTable (declarations_of program) table →
+    StaticFaults table program ≡ [] →
     IsRising (numbers (core_of table program).classes) →
     All (BeginsOnce (core_of table program).operations) (core_of table program).classes
-each_begins_once table program none rising =
+each_begins_once table program is none rising =
     all_of (BeginsOnce (core_of table program).operations) (core_of table program).classes
     (of_each_class (core_of table program).operations (numbers (core_of table program).classes) (core_of table program).classes
-    (λ n. (program_match table program none n).initial) (λ n. (program_match table program none n).process)
+    (λ n. (program_match table program is none n).initial) (λ n. (program_match table program is none n).process)
     (each_once (numbers (core_of table program).classes) rising))

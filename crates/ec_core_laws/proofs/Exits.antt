@@ -13,7 +13,8 @@ use Rattle.ec_check.specs.Program.{core_of}
 use Rattle.ec_check.specs.Resolving.{assigned, further, in_scope, arms_core, locals_of_arms, core_of_statement, behind, statements_core}
 use Rattle.ec_check.specs.Resolving.{at_start, env_in, env_of_body, env_of_operation, heading_entries, field_stored, initially_core}
 use Rattle.ec_check.specs.Tree.{expression_step, statement_step, block_step}
-use Rattle.ec_conform.specs.Table.{Table}
+use Rattle.ec_conform.specs.Declarations.{declarations_of}
+use Rattle.ec_conform.specs.Table.{Table, IsTable}
 use Rattle.ec_core.specs.declared.Arm.{Arm}
 use Rattle.ec_core.specs.declared.Block.{Block, out-Block}
 use Rattle.ec_core.specs.declared.Class.{Class}
@@ -281,10 +282,11 @@ first_stays scope h k =
     (fields_stay env h.body.members)
     (initially_stays env h.body.initially body.1 (no_loop scope h) (initially_faultless scope h k)))
 
-pub each_exit_stands : (table : Table) (program : Program) → StaticFaults table program ≡ [] →
+pub each_exit_stands : (table : Table) (program : Program) → IsTable (declarations_of program) table →
+    StaticFaults table program ≡ [] →
     All (λ (o : Operation). leaves_block o.block ≡ false) (core_of table program).operations
-each_exit_stands table program none =
-    each_operation table program (λ o. leaves_block o.block ≡ false) none
+each_exit_stands table program is none =
+    each_operation table program (λ o. leaves_block o.block ≡ false) is none
     (record {
       named = λ scope h known o tree e.
           piece_stays o.block tree (env_of_operation (env_of_body scope h) o)

@@ -6,7 +6,8 @@ use Rattle.ec_ast.specs.declared.Program.{Program}
 use Rattle.ec_check.specs.Parts.{operation_judged}
 use Rattle.ec_check.specs.Program.{core_of}
 use Rattle.ec_check.specs.Resolving.{types_written, result_written, heading_types}
-use Rattle.ec_conform.specs.Table.{Table}
+use Rattle.ec_conform.specs.Declarations.{declarations_of}
+use Rattle.ec_conform.specs.Table.{Table, IsTable}
 use Rattle.ec_conform.specs.declared.static_type.StaticType.{StaticType}
 use Rattle.ec_core_laws.proofs.Operations.{scope_in}
 use Rattle.ec_core_laws.proofs.Programs.{each_operation}
@@ -30,9 +31,11 @@ fits scope ps result locals =
     let d : length (result_written scope result) ≡ result_count (is_some result) = result_counted scope result in
     omega arith
 
-pub each_fits : (table : Table) (program : Program) → StaticFaults table program ≡ [] → All HeadingFits (core_of table program).operations
-each_fits table program none =
-    each_operation table program HeadingFits none
+pub each_fits : (table : Table) (program : Program) → IsTable (declarations_of program) table →
+    StaticFaults table program ≡ [] →
+    All HeadingFits (core_of table program).operations
+each_fits table program is none =
+    each_operation table program HeadingFits is none
     (record {
       named = λ scope h known o tree e.
           fits (scope_in scope h) o.parameters o.result (o.block.locals (scope_of_operation (scope_in scope h) (operation_judged o)));

@@ -295,7 +295,7 @@ layer_known (Expression-F.Sum first xs) site e =
     let r : ((typed site first.0).is_well ≡ true) × (all_known (map knows_addend (map bare_a xs)) ≡ true) =
     added_known site xs (typed site first.0) e in
     both_hold _ _ (first.1 site r.0) r.1
-layer_known (Expression-F.Compare x op y) site e =
+layer_known (Expression-F.Compare x op what y) site e =
     both_hold _ _ (x.1 site (first_holds _ _ e)) (y.1 site (first_holds _ _ (second_holds _ _ e)))
 layer_known (Expression-F.And first xs) site e =
     both_hold _ _ (first.1 site (first_holds _ _ (first_holds _ _ e))) (all_are_known site wanted.Boolean xs (second_holds _ _ e))

@@ -4,6 +4,8 @@ pub mod Exits
 pub mod Expressions
 pub mod Headings
 pub mod Known
+pub mod KnownLocals
+pub mod KnownPlaces
 pub mod Literals
 pub mod Operations
 pub mod Programs
@@ -11,6 +13,7 @@ pub mod Small
 pub mod SmallExpressions
 pub mod SmallOperations
 pub mod SmallStatements
+pub mod SoundLayers
 pub mod Statements
 pub mod Trees
 pub mod Waiting

@@ -21,13 +21,14 @@ use Rattle.ec_check.specs.Parts.{AnExpression, AStatement, ABlock, link_judged, 
 use Rattle.ec_check.specs.Places.{Env, condition_named, field_named, place_of, type_or}
 use Rattle.ec_check.specs.Program.{constant_core, constants_core, outermost, core_of}
 use Rattle.ec_check.specs.Resolving.{cores_of, builtin_of, called, link_core, links_core, chained, number_of_class, arguments_in, created}
-use Rattle.ec_check.specs.Resolving.{chain_core}
+use Rattle.ec_check.specs.Resolving.{chain_core, compared_in}
 use Rattle.ec_check.specs.Resolving.{factor_core, addend_core, captures_of, number_of_holder, core_of_expression, parts_of_links}
 use Rattle.ec_check.specs.Resolving.{link_parts}
 use Rattle.ec_check.specs.Resolving.{element_set, element_set_if, assigned, further, in_scope, arms_core, locals_of_arms, core_of_statement}
 use Rattle.ec_check.specs.Resolving.{behind, statements_core, at_start, env_in, env_of_body, env_of_operation, field_stored, initially_core}
 use Rattle.ec_check.specs.Tree.{expression_step, statement_step, block_step, part_of}
-use Rattle.ec_conform.specs.Table.{Table}
+use Rattle.ec_conform.specs.Declarations.{declarations_of}
+use Rattle.ec_conform.specs.Table.{Table, IsTable}
 use Rattle.ec_conform.specs.Types.{vector_of}
 use Rattle.ec_conform.specs.declared.static_type.StaticType.{StaticType}
 use Rattle.ec_core.specs.declared.Addend.{Addend}
@@ -318,8 +319,9 @@ layer_short (Expression-F.Sum x more) h needed env f =
     (all_short texts_of_addend (map (addend_core env) more) (addends_short env more h.1 (none_right (faults_in env.scope x.part) _ parts))))
 layer_short (Expression-F.Compare x op at y) h needed env f =
     let parts : faults_in env.scope x.part ++ (faults_in env.scope y.part ++ []) ≡ [] = none_left _ _ f in
-    short (e.Compare (x.core env) op (y.core env)) (Form-F.Compare (x.core env) op (y.core env))
-    (e.rolls-Compare (x.core env) op (y.core env))
+    let what = compared_in env.scope x in
+    short (e.Compare (x.core env) op what (y.core env)) (Form-F.Compare (x.core env) op what (y.core env))
+    (e.rolls-Compare (x.core env) op what (y.core env))
     (every_joined IsShort (texts_of (x.core env)) (texts_of (y.core env)) (h.0.1 true env (none_left _ _ parts))
     (h.1.1 true env (none_left _ _ (none_right (faults_in env.scope x.part) _ parts))))
 layer_short (Expression-F.Not x at) h needed env f =
@@ -402,7 +404,7 @@ assigned_short (Form-F.View x of at) v h k = drop_short v k
 assigned_short (Form-F.IsFixed x at) v h k = drop_short v k
 assigned_short (Form-F.Term x more) v h k = drop_short v k
 assigned_short (Form-F.Sum x more) v h k = drop_short v k
-assigned_short (Form-F.Compare x op y) v h k = drop_short v k
+assigned_short (Form-F.Compare x op what y) v h k = drop_short v k
 assigned_short (Form-F.And x more) v h k = drop_short v k
 assigned_short (Form-F.Or x more) v h k = drop_short v k
 
@@ -590,10 +592,11 @@ first_short scope h known =
 abbrev ShortOperation : Operation → Type 0
 ShortOperation o = All IsShort (texts_of_block o.block)
 
-operations_short : (table : Table) (program : Program) → StaticFaults table program ≡ [] →
+operations_short : (table : Table) (program : Program) → IsTable (declarations_of program) table →
+    StaticFaults table program ≡ [] →
     All ShortOperation (core_of table program).operations
-operations_short table program none =
-    each_operation table program ShortOperation none
+operations_short table program is none =
+    each_operation table program ShortOperation is none
     (record {
       named = λ scope h known o tree f.
           all_of IsShort (texts_of_block (named_of scope h o).block)
@@ -626,9 +629,11 @@ constants_short env n (c ∷ cs) f =
     every_joined ShortConstant (constant_core env n c c.value) (constants_core env (suc n) cs)
     (constant_short env n c c.name c.of c.value f.0) (constants_short env (suc n) cs f.1)
 
-pub each_text_is_short : (table : Table) (program : Program) → StaticFaults table program ≡ [] → HasShortTexts (core_of table program)
-each_text_is_short table program none = record {
-  operations = operations_short table program none;
+pub each_text_is_short : (table : Table) (program : Program) → IsTable (declarations_of program) table →
+    StaticFaults table program ≡ [] →
+    HasShortTexts (core_of table program)
+each_text_is_short table program is none = record {
+  operations = operations_short table program is none;
   constants =
       all_of ShortConstant (constants_core (env_in (outermost table program) []) 0 program.constants)
       (constants_short (env_in (outermost table program) []) 0 program.constants (constants_faultless table program none));

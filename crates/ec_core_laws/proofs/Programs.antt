@@ -10,10 +10,13 @@ use Rattle.ec_ast.specs.declared.TypeName.{TypeName}
 use Rattle.ec_check.proofs.Every.{Every, every_joined, every_left, every_right, every_unmap, all_of, none_left, none_each}
 use Rattle.ec_check.proofs.Fusion.{same_part, same_class}
 use Rattle.ec_check.proofs.RangedPrograms.{none_in_order, each_contained}
+use Rattle.ec_check.proofs.SoundPrograms.{outermost_is_sound}
+use Rattle.ec_check.proofs.SoundScopes.{SoundScope}
 use Rattle.ec_check.specs.Parts.{Made, ProcessPart, OperationPart, Holder}
 use Rattle.ec_check.specs.Program.{constant_made, constants_made, outermost, core_of}
 use Rattle.ec_check.specs.Tree.{class_part}
-use Rattle.ec_conform.specs.Table.{Table}
+use Rattle.ec_conform.specs.Declarations.{declarations_of}
+use Rattle.ec_conform.specs.Table.{Table, IsTable}
 use Rattle.ec_core.specs.declared.Class.{Class}
 use Rattle.ec_core.specs.declared.Operation.{Operation}
 use Rattle.ec_core_laws.proofs.Operations.{Known, Steps, OperationFaultless, ProcessFaultless, first_of, named_of, process_of, process_with}
@@ -36,32 +39,33 @@ constants_faultless table program none =
     (none_left _ _ (none_in_order (faults_of_program table program) none)))
 
 module _ (classes : List Class) (M : Made → Type 0) (steps : Steps classes M) where
-  value_holds : (scope : Scope) (name : Name) (of : Option TypeName) (v : ConstantValue) → faults_in_constant scope name of
-      (value_part v) ≡ [] →
+  value_holds : (scope : Scope) (name : Name) (of : Option TypeName) (v : ConstantValue) → SoundScope scope →
+      faults_in_constant scope name of (value_part v) ≡ [] →
       Every (Contains classes) (constant_made scope v).classes → M (constant_made scope v)
-  value_holds scope name of (stands.Expression x) e w =
-      part_made classes M steps x true scope
+  value_holds scope name of (stands.Expression x) s e w =
+      part_made classes M steps x true scope s
       (record { faultless = subst (λ p. faults_in scope p ≡ []) (sym (same_part x)) (none_left _ _ e); within = w })
-  value_holds scope name of (stands.Class class) e w =
-      holder_has_made classes M steps scope (class_part class) (class.body, refl) (body_made_of classes M steps class.body)
+  value_holds scope name of (stands.Class class) s e w =
+      holder_has_made classes M steps scope (class_part class) s (class.body, refl) (body_made_of classes M steps class.body)
       (record { faultless = subst (λ h. faults_in_holder scope h ≡ []) (sym (same_class class)) (none_left _ _ e); within = w })
-  value_holds scope name of (stands.Typeobject t) e w = steps.nothing
+  value_holds scope name of (stands.Typeobject t) s e w = steps.nothing
 
-  constants_hold : (scope : Scope) (cs : List Constant) → Every (Faultless scope) cs →
+  constants_hold : (scope : Scope) (cs : List Constant) → SoundScope scope → Every (Faultless scope) cs →
       Every (Contains classes) (constants_made scope cs).classes → M (constants_made scope cs)
-  constants_hold scope [] e w = steps.nothing
-  constants_hold scope (c ∷ cs) e w =
+  constants_hold scope [] s e w = steps.nothing
+  constants_hold scope (c ∷ cs) s e w =
       steps.both (constant_made scope c.value) (constants_made scope cs)
-      (value_holds scope c.name c.of c.value e.0
+      (value_holds scope c.name c.of c.value s e.0
       (every_left (Contains classes) (constant_made scope c.value).classes (constants_made scope cs).classes w))
-      (constants_hold scope cs e.1
+      (constants_hold scope cs s e.1
       (every_right (Contains classes) (constant_made scope c.value).classes (constants_made scope cs).classes w))
 
-pub made_holds : (table : Table) (program : Program) (M : Made → Type 0) → StaticFaults table program ≡ [] →
-    Steps (core_of table program).classes M → M (constants_made (outermost table program) program.constants)
-made_holds table program M none steps =
+pub made_holds : (table : Table) (program : Program) (M : Made → Type 0) → IsTable (declarations_of program) table →
+    StaticFaults table program ≡ [] → Steps (core_of table program).classes M →
+    M (constants_made (outermost table program) program.constants)
+made_holds table program M is none steps =
     constants_hold (core_of table program).classes M steps (outermost table program) program.constants
-    (constants_faultless table program none) (each_contained (core_of table program).classes)
+    (outermost_is_sound table program is none) (constants_faultless table program none) (each_contained (core_of table program).classes)
 
 -- ---- what holds of each operation
 
@@ -89,8 +93,8 @@ module _ (classes : List Class) (Q : Operation → Type 0) (each : EachStep clas
     );
   }
 
-pub each_operation : (table : Table) (program : Program) (Q : Operation → Type 0) → StaticFaults table program ≡ [] →
-    EachStep (core_of table program).classes Q → All Q (core_of table program).operations
-each_operation table program Q none each =
+pub each_operation : (table : Table) (program : Program) (Q : Operation → Type 0) → IsTable (declarations_of program) table →
+    StaticFaults table program ≡ [] → EachStep (core_of table program).classes Q → All Q (core_of table program).operations
+each_operation table program Q is none each =
     all_of Q (core_of table program).operations
-    (made_holds table program (λ m. Every Q m.operations) none (each_steps (core_of table program).classes Q each))
+    (made_holds table program (λ m. Every Q m.operations) is none (each_steps (core_of table program).classes Q each))

@@ -11,7 +11,7 @@ use Rattle.ec_check.specs.Parts.{Part, Piece, StatementPart, LinkPart, call, ind
 use Rattle.ec_check.specs.Parts.{link_judged, factor_judged, addend_judged}
 use Rattle.ec_check.specs.Places.{Env, place_of, type_or}
 use Rattle.ec_check.specs.Resolving.{cores_of, builtin_of, called, link_core, links_core, chained, number_of_class, arguments_in}
-use Rattle.ec_check.specs.Resolving.{chain_core}
+use Rattle.ec_check.specs.Resolving.{chain_core, compared_in}
 use Rattle.ec_check.specs.Resolving.{factor_core, addend_core, captures_of, number_of_holder, core_of_expression}
 use Rattle.ec_check.specs.Tree.{expression_step}
 use Rattle.ec_conform.specs.Types.{vector_of}
@@ -461,8 +461,9 @@ module _ (S : StatementPart → Type 0) (B : Piece → Type 0) where
       (e.rolls-Sum (x.core env) (map (addend_core env) more)) _ _
       (both_small _ _ _ _ _ _ _ _ (small_in env x h.0) (addends_small env more h.1))
   layer_small (Expression-F.Compare x op at y) h env =
-      measured (e.Compare (x.core env) op (y.core env)) (Core-F.Compare (x.core env) op (y.core env))
-      (e.rolls-Compare (x.core env) op (y.core env)) _ _
+      let what = compared_in env.scope x in
+      measured (e.Compare (x.core env) op what (y.core env)) (Core-F.Compare (x.core env) op what (y.core env))
+      (e.rolls-Compare (x.core env) op what (y.core env)) _ _
       (more_small _ _ _ _ (pair_small _ _ _ _ _ _ _ _ (small_in env x h.0) (small_in env y h.1)))
   layer_small (Expression-F.Not x at) h env =
       measured (e.Not (x.core env)) (Core-F.Not (x.core env)) (e.rolls-Not (x.core env)) _ _ (more_small _ _ _ _ (small_in env x h))

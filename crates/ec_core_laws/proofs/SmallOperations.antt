@@ -12,7 +12,8 @@ use Rattle.ec_check.specs.Places.{Env, field_named}
 use Rattle.ec_check.specs.Program.{core_of}
 use Rattle.ec_check.specs.Resolving.{at_start, env_in, env_of_body, env_of_operation, field_stored, initially_core, locals_of_block}
 use Rattle.ec_check.specs.Resolving.{types_written, result_written, heading_types}
-use Rattle.ec_conform.specs.Table.{Table}
+use Rattle.ec_conform.specs.Declarations.{declarations_of}
+use Rattle.ec_conform.specs.Table.{Table, IsTable}
 use Rattle.ec_core.specs.declared.Class.{Class}
 use Rattle.ec_core.specs.declared.Place.TheVariants as place
 use Rattle.ec_core.specs.declared.Statement.{Statement}
@@ -233,9 +234,11 @@ first_is_small scope h known =
     let v : (0 + length (locals_of_block env.scope h.body.initially)) + height_of_block (first_of scope h).block ≤ 100 = w.1 in
     record { size = w.0; values = omega arith }
 
-pub each_is_small : (table : Table) (program : Program) → StaticFaults table program ≡ [] → All IsSmall (core_of table program).operations
-each_is_small table program none =
-    each_operation table program IsSmall none
+pub each_is_small : (table : Table) (program : Program) → IsTable (declarations_of program) table →
+    StaticFaults table program ≡ [] →
+    All IsSmall (core_of table program).operations
+each_is_small table program is none =
+    each_operation table program IsSmall is none
     (record {
       named = λ scope h known o tree e. named_small scope h known o tree e;
       first = λ scope h known. first_is_small scope h known;

@@ -233,7 +233,7 @@ assigned_below target value (CoreExpression-F.View x of at) a b = dropped_below 
 assigned_below target value (CoreExpression-F.IsFixed x at) a b = dropped_below target value
 assigned_below target value (CoreExpression-F.Term x more) a b = dropped_below target value
 assigned_below target value (CoreExpression-F.Sum x more) a b = dropped_below target value
-assigned_below target value (CoreExpression-F.Compare x op y) a b = dropped_below target value
+assigned_below target value (CoreExpression-F.Compare x op what y) a b = dropped_below target value
 assigned_below target value (CoreExpression-F.And x more) a b = dropped_below target value
 assigned_below target value (CoreExpression-F.Or x more) a b = dropped_below target value
 

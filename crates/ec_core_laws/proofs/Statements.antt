@@ -75,6 +75,6 @@ module _ (Q : Statement → Type 0)
   becomes (Core-F.IsFixed x at) v = dropped v
   becomes (Core-F.Term x more) v = dropped v
   becomes (Core-F.Sum x more) v = dropped v
-  becomes (Core-F.Compare x op y) v = dropped v
+  becomes (Core-F.Compare x op what y) v = dropped v
   becomes (Core-F.And x more) v = dropped v
   becomes (Core-F.Or x more) v = dropped v

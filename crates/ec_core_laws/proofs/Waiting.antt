@@ -19,7 +19,8 @@ use Rattle.ec_check.specs.Resolving.{assigned, further, in_scope, arms_core, loc
 use Rattle.ec_check.specs.Resolving.{at_start, env_in, env_of_body, env_of_operation, heading_entries, field_stored, initially_core}
 use Rattle.ec_check.specs.Resolving.{class_core}
 use Rattle.ec_check.specs.Tree.{expression_step, statement_step, block_step}
-use Rattle.ec_conform.specs.Table.{Table}
+use Rattle.ec_conform.specs.Declarations.{declarations_of}
+use Rattle.ec_conform.specs.Table.{Table, IsTable}
 use Rattle.ec_core.specs.declared.Arm.{Arm}
 use Rattle.ec_core.specs.declared.Block.{Block, out-Block}
 use Rattle.ec_core.specs.declared.Class.{Class}
@@ -377,10 +378,11 @@ section_uses scope h known p tree e =
     (every_weaker (Usable (innermost (in_a_process (scope_in scope h)))) (MayUse kind.Process (class_core scope h)) (in_section scope h)
     (conditions_of_block (p.block.core env)) (piece_uses p.block tree env (section_faultless scope h p e)))
 
-pub each_waits : (table : Table) (program : Program) → StaticFaults table program ≡ [] →
+pub each_waits : (table : Table) (program : Program) → IsTable (declarations_of program) table →
+    StaticFaults table program ≡ [] →
     All (UsesItsConditions (core_of table program).classes) (core_of table program).operations
-each_waits table program none =
-    each_operation table program (UsesItsConditions (core_of table program).classes) none
+each_waits table program is none =
+    each_operation table program (UsesItsConditions (core_of table program).classes) is none
     (record {
       named = λ scope h known o tree e. named_uses scope h known o tree e;
       first = λ scope h known. first_may scope h known;

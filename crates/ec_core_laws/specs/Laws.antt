@@ -10,6 +10,7 @@ use Rattle.ec_core_laws.specs.Beginnings.{BeginsOnce}
 use Rattle.ec_core_laws.specs.Exits.{leaves_block}
 use Rattle.ec_core_laws.specs.Headings.{HeadingFits}
 use Rattle.ec_core_laws.specs.Known.{KnowsItsTypes}
+use Rattle.ec_core_laws.specs.KnownPlaces.{KnowsItsPlaces}
 use Rattle.ec_core_laws.specs.Literals.{HasShortTexts}
 use Rattle.ec_core_laws.specs.Measures.{IsSmall}
 use Rattle.ec_core_laws.specs.Waiting.{UsesItsConditions}
@@ -72,3 +73,11 @@ EachTypeInCodeIsKnown =
     IsTable (declarations_of program) table →
     StaticFaults table program ≡ [] →
     KnowsItsTypes (core_of table program)
+
+-- No type of a variable, a field, a captured name or a constant is unknown.
+abbrev pub EachTypeOfAPlaceIsKnown : Type 0
+EachTypeOfAPlaceIsKnown =
+    (table : Table) (program : Program) →
+    IsTable (declarations_of program) table →
+    StaticFaults table program ≡ [] →
+    KnowsItsPlaces (core_of table program)

@@ -3,6 +3,7 @@ pub mod Exits
 pub mod Headings
 pub mod Laws
 pub mod Known
+pub mod KnownPlaces
 pub mod Literals
 pub mod Measures
 pub mod Waiting

@@ -1,6 +1,6 @@
 //! What lowering may rest on, in the core of every program that breaks no static rule.
 ghost use Rattle.ec_core_laws.specs.Laws.{EachClassBeginsOnce, EachExitStandsInALoop, EachHeadingFits, EachOperationIsSmall};
-ghost use Rattle.ec_core_laws.specs.Laws.{EachTextIsShort, EachTypeInCodeIsKnown, EachUsesItsConditions};
+ghost use Rattle.ec_core_laws.specs.Laws.{EachTextIsShort, EachTypeInCodeIsKnown, EachTypeOfAPlaceIsKnown, EachUsesItsConditions};
 
 /// Parameters and result of each operation have variables of their own.
 pub fn each_heading_fits()
@@ -35,4 +35,9 @@ pub fn each_text_is_short()
 /// No type in the code of operations and constants is unknown: of new vectors, views, elements and results.
 pub fn each_type_in_code_is_known()
     ensures { EachTypeInCodeIsKnown }
+{}
+
+/// No type of a variable, a field, a captured name or a constant is unknown.
+pub fn each_type_of_a_place_is_known()
+    ensures { EachTypeOfAPlaceIsKnown }
 {}

@@ -120,7 +120,7 @@ module _ (s : Source) (a : Whose) (st : State) where
       let h = weight_each i.Multiply weight_of_factor (λ f. omega arith) factors in omega arith
   lighter_evaluate (Expression-F.Sum first addends) =
       let h = weight_each i.Add weight_of_addend (λ d. omega arith) addends in omega arith
-  lighter_evaluate (Expression-F.Compare left op right) = omega arith
+  lighter_evaluate (Expression-F.Compare left op what right) = omega arith
   lighter_evaluate (Expression-F.And first more) =
       let h = weight_each i.AndThen weight_of_expression (λ x. omega arith) more in omega arith
   lighter_evaluate (Expression-F.Or first more) =

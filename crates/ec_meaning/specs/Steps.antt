@@ -161,7 +161,7 @@ evaluate s a st (Expression-F.View x of at) =
 evaluate s a st (Expression-F.IsFixed x at) = Goes st (i.Evaluate x ∷ i.Rest (stop.IsFixed (line s at)) 1 ∷ [])
 evaluate s a st (Expression-F.Term first factors) = Goes st (i.Evaluate first ∷ map i.Multiply factors)
 evaluate s a st (Expression-F.Sum first addends) = Goes st (i.Evaluate first ∷ map i.Add addends)
-evaluate s a st (Expression-F.Compare left op right) = Goes st (i.Evaluate left ∷ i.Evaluate right ∷ i.Compare op ∷ [])
+evaluate s a st (Expression-F.Compare left op what right) = Goes st (i.Evaluate left ∷ i.Evaluate right ∷ i.Compare op ∷ [])
 evaluate s a st (Expression-F.And first more) = Goes st (i.Evaluate first ∷ map i.AndThen more)
 evaluate s a st (Expression-F.Or first more) = Goes st (i.Evaluate first ∷ map i.OrElse more)
 

@@ -47,9 +47,9 @@ pub(crate) fn copy_expression(alloc: Global, x: &Expression) -> Result<Expressio
             let first = copy_boxed(alloc, head.get())?;
             Ok(Expression::Sum(first, copy_addends(alloc, addends.as_slice())?))
         }
-        Expression::Compare(left, op, right) => {
+        Expression::Compare(left, op, what, right) => {
             let a = copy_boxed(alloc, left.get())?;
-            Ok(Expression::Compare(a, *op, copy_boxed(alloc, right.get())?))
+            Ok(Expression::Compare(a, *op, *what, copy_boxed(alloc, right.get())?))
         }
         Expression::And(head, more) => {
             let first = copy_boxed(alloc, head.get())?;

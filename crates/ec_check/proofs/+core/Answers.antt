@@ -14,7 +14,7 @@ use Rattle.ec_check.proofs.Forms.{behind_none, core_is, has_gone, has_made, has_
 use Rattle.ec_check.proofs.Fusion.{same_part}
 use Rattle.ec_check.proofs.HolderBodies.{body_gone, constructed, constructed_made, found_statements, holder_captures, holder_made}
 use Rattle.ec_check.proofs.Links as links
-use Rattle.ec_check.proofs.Operands.{addend_cored, addend_made, both_parts, chain_cored, chain_has_made, factor_cored, factor_made, one_made, two_made}
+use Rattle.ec_check.proofs.Operands.{addend_cored, addend_made, chain_cored, chain_has_made, compare_cored, compare_made, factor_cored, factor_made, one_made, two_made}
 use Rattle.ec_check.proofs.Steps.{gone_same, kept, made_none, same_made, then_in, unmade}
 use Rattle.ec_check.specs.Making.{HasGone, env_of}
 use Rattle.ec_check.specs.Parts.{both_made, link_judged}
@@ -359,17 +359,18 @@ expressions::resolve-returns-in_ok-resolve_all-in-Or-clause-made t c =
 
 pub expressions::resolve-returns-in_ok-resolve_boxed-in-Compare-clause-core : goal.expressions::resolve-returns-in_ok-resolve_boxed-in-Compare-clause-core
 expressions::resolve-returns-in_ok-resolve_boxed-in-Compare-clause-core t c =
-    let env = env_of c.args.r.now in
-    ap (e.Compare c.in_ok-a-in-Compare.a c.in-Compare.op)
-    (c.in_ok-resolve_boxed-in-Compare.ensures.core ∙ ap (part_of c.get-in-Compare-2.result.now).core c.in_ok-a-in-Compare.ensures.made.place ∙ ap (λ x. (part_of x).core env) c.get-in-Compare-2.ensures)
-    ∙ ap (λ x. e.Compare x c.in-Compare.op ((part_of c.in-Compare.right).core env)) (c.in_ok-a-in-Compare.ensures.core ∙ ap (λ x. (part_of x).core env) c.get-in-Compare.ensures)
+    compare_cored c.args.r.now _ _ c.get-in-Compare.result.now c.get-in-Compare-2.result.now c.in-Compare.left c.get-in-Compare.ensures c.get-in-Compare-2.ensures
+    c.get-in-Compare-3.result.now c.in-Compare.right c.get-in-Compare-3.ensures c.in_ok-what-in-Compare.ensures.scope c.in_ok-a-in-Compare.ensures.made
+    c.in-Compare.op c.in_ok-what-in-Compare.what c.in_ok-a-in-Compare.a _ c.in_ok-what-in-Compare.ensures.compared c.in_ok-a-in-Compare.ensures.core
+    c.in_ok-resolve_boxed-in-Compare.ensures.core
     ∙ core_is c.args.e.now _ _ c.in-Compare.is (layers.compare_layer parts c.in-Compare.left c.in-Compare.op c.in-Compare.field-2 c.in-Compare.right) (env_of c.args.r.now)
 
 pub expressions::resolve-returns-in_ok-resolve_boxed-in-Compare-clause-made : goal.expressions::resolve-returns-in_ok-resolve_boxed-in-Compare-clause-made
 expressions::resolve-returns-in_ok-resolve_boxed-in-Compare-clause-made t c =
     has_made c.args.e.now _ _ c.in-Compare.is (layers.compare_layer parts c.in-Compare.left c.in-Compare.op c.in-Compare.field-2 c.in-Compare.right) c.args.r.now _
-    (both_parts c.args.r.now _ _ c.get-in-Compare.result.now c.in-Compare.left c.get-in-Compare.ensures c.get-in-Compare-2.result.now c.in-Compare.right c.get-in-Compare-2.ensures
-    c.in_ok-a-in-Compare.ensures.made c.in_ok-resolve_boxed-in-Compare.ensures.made)
+    (compare_made c.args.r.now _ _ c.get-in-Compare.result.now c.get-in-Compare-2.result.now c.in-Compare.left c.get-in-Compare.ensures c.get-in-Compare-2.ensures
+    c.get-in-Compare-3.result.now c.in-Compare.right c.get-in-Compare-3.ensures c.in_ok-what-in-Compare.ensures.scope c.in_ok-a-in-Compare.ensures.made
+    _ c.in_ok-resolve_boxed-in-Compare.ensures.made)
 
 pub expressions::resolve-returns-in_ok-first-in-Postfix-clause-core : goal.expressions::resolve-returns-in_ok-first-in-Postfix-clause-core
 expressions::resolve-returns-in_ok-first-in-Postfix-clause-core t c =

@@ -58,7 +58,7 @@ pub(crate) fn evaluate(
         Expression::IsFixed(x, at) => is_fixed(x, at, program, todo),
         Expression::Term(first, factors) => term(first, factors, todo),
         Expression::Sum(first, addends) => sum(first, addends, todo),
-        Expression::Compare(left, op, right) => both_sides(left, op, right, todo),
+        Expression::Compare(left, op, _, right) => both_sides(left, op, right, todo),
         Expression::And(first, more) => and(first, more, todo),
         Expression::Or(first, more) => or(first, more, todo),
     }
