@@ -7,7 +7,7 @@ use ec_memory::blocks::Blocks;
 use ec_nodes::key::Key;
 use ec_world::class::ClassNo;
 use ec_world::node::Kind;
-use ec_world::object::MonitorRec;
+use ec_monitors::record::MonitorRec;
 use ec_world::value::{Oid, Text};
 use std::alloc::{AllocError, Global};
 
