@@ -12,7 +12,7 @@ use Rattle.ec_world.specs.declared.node.Kind.{Kind}
 use Rattle.ec_world.specs.declared.common.Common.{Common}
 use Rattle.ec_world.specs.declared.process.Proc.{Proc}
 use Rattle.ec_world.specs.Group.{Has}
-use Rattle.ec_world.specs.declared.doing.Doing.TheVariants.{Defines}
+use Rattle.ec_world.specs.declared.doing.Doing.TheVariants as doing
 use Rattle.ec_world.specs.Outcomes.{acted_if}
 use Rattle.ec_world.specs.World.{who_of}
 use Rattle.ec_ir.specs.declared.code.StopRec.{StopRec}
@@ -182,7 +182,7 @@ defines_after M net net' w p h stop below top index holds e t =
     let w' : IrWorld = with_process w1 w1.common p (ready_with (below ++ done top ∷ [])) in
     let operands : top.operands ≡ v ∷ [] = one_operand a e.operand e.operands in
     let stopped : top.stop ≡ Global index = a.stop_same ∙ e.is in
-    let comes = ap (λ (b : Bool). acted_if w.common (who_of ir_meaning p below top) (if b then Some (Defines index v) else None)) (below_true index (length w.common.globals) inside) in
+    let comes = ap (λ (b : Bool). acted_if w.common (who_of ir_meaning p below top) (if b then Some (doing.Defines index v) else None)) (below_true index (length w.common.globals) inside) in
     let is : ir_action w p ≡ w' = action_comes w p below top (Global index) (v ∷ []) w1.common (GoesOn None) a.is a.flag stopped operands comes refl in
     let middle : ShowsNodes (live_values net.program) (spot net.program net.images) (only_node e.middle) w1 (place w) =
     constant_shows (store_of e.node) e.middle index e.word e.sets
