@@ -1,28 +1,22 @@
 -- What the actions of a program's stops come to: no class has a monitor or a process section, so none blocks a process, and none
 -- starts one.
-use Rattle.std.proofs.Common.{◌≡◌, ℕ, suc, ◌<◌, Bool, true, false, List, [], ◌∷◌, ◌++◌, length, Option, Some, None, refl, sym, ap, ◌∙◌, append-nil}
-use Rattle.std.specs.Prelude.{slice_get, slice_set, replicate, not, ◌&&◌, if◌then◌else◌}
+use Rattle.std.proofs.Common.{◌≡◌, ℕ, suc, Bool, true, false, List, [], length, Option, Some, None, refl, sym, ap, ◌∙◌}
+use Rattle.std.specs.Prelude.{slice_get, replicate, not, ◌&&◌, if◌then◌else◌}
 use Rattle.ec_monitors.specs.Monitors.{made}
 use Rattle.ec_world.specs.declared.value.Value.{Value}
 use Rattle.ec_world.specs.declared.value.Value.TheVariants.{Ref}
 use Rattle.ec_world.specs.declared.class.ClassNo.{ClassNo}
 use Rattle.ec_world.specs.declared.class.ClassNo.TheVariants.{Node, Program, Made, Vector}
 use Rattle.ec_world.specs.declared.class.ClassRec.{ClassRec}
-use Rattle.ec_world.specs.declared.object.ObjectRec.{ObjectRec}
 use Rattle.ec_world.specs.declared.common.Common.{Common}
-use Rattle.ec_world.specs.declared.process.Proc.{Proc}
 use Rattle.ec_world.specs.declared.stop.Who.{Who}
 use Rattle.ec_world.specs.declared.stop.Stop.TheVariants.{Entry, New, Return}
-use Rattle.ec_world.specs.declared.stop.Effect.{Effect}
 use Rattle.ec_world.specs.declared.stop.Effect.TheVariants.{GoesOn, Calls, Leaves}
-use Rattle.ec_world.specs.declared.world.World.{World}
-use Rattle.ec_world.specs.Meaning.{ActivationMeaning}
-use Rattle.ec_world.specs.Objects.{class_at, object_at}
+use Rattle.ec_world.specs.Objects.{object_at}
 use Rattle.ec_world.specs.Values.{new_fields}
 use Rattle.ec_world.specs.Sights.{sight_of, class_of, class_if, class_record}
 use Rattle.ec_world.specs.Doings.{entry_asks, is_inside, is_section, runs_inside, new_asks, section_in}
 use Rattle.ec_world.specs.Outcomes.{Acted, only, made_object, with_object, section_on, return_done, acted_if, outcome_of}
-use Rattle.ec_world.specs.World.{changed, given_up, owns_of, settled, acted}
 use Rattle.ec_ir.specs.declared.code.Parts.{Parts}
 use Rattle.ec_ir.specs.Fine.{Fine}
 
@@ -84,15 +78,3 @@ module _ (c : Common) (who : Who) (plain : ArePlain c.classes) where
       ap (λ (r : Option ClassRec). acted_if c who (new_asks (Made i) given r)) e
       ∙ ap (λ (r : Option ClassRec). Some (made_object c who (Made i) given r)) e
       ∙ ap (made_if i k given) (plain i k e).0
-
--- ---- worlds
-
-module _ {A : Type 0} (M : ActivationMeaning A) (w : World A) (p : ℕ) (below : List A) (top : A) where
-  abbrev pub world_with : Common → List (Proc A) → World A
-  world_with c ps = record { common = c; processes = ps }
-
-  -- nobody is granted a monitor, none starts, and nothing is given up: the acting process alone changes
-  pub acted_only : (c : Common) (e : Effect) → given_up p (owns_of M below top) e c.objects ≡ (c.objects, []) → acted M w p below top (Some (c, only e)) ≡ world_with c (slice_set w.processes p (changed M below top e))
-  acted_only c e h =
-      ap (λ (g : List ObjectRec × List ℕ). settled M w p below top c (only e) g) h
-      ∙ ap (world_with c) (append-nil (slice_set w.processes p (changed M below top e)))

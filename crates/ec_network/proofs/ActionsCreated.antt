@@ -146,7 +146,7 @@ module _ {program : Parts} {w : IrWorld} {p : ℕ} {stop : StopRec} {below : Lis
       let operands : top.operands ≡ [] = c.acting.operands ∙ ap (λ (xs : List ℕ). map (variable top.variables) xs) fine_new.3 in
       let there : slice_get w.common.classes k ≡ Some c.class = ap (λ (cs : List ClassRec). slice_get cs k) c.fine.facts.classes ∙ c.class_is in
       let comes = new_outcome w.common (who_of ir_meaning p below top) (fine_plain program w.common.classes c.fine_program c.fine.facts.classes) k c.class [] there in
-      action_comes w p below top (New (Made k)) [] new_common (Calls c.class.initial (suc (length w.common.objects)) []) c.acting.is c.acting.flag stopped operands comes refl
+      action_comes w p below top (New (Made k)) [] new_common (Calls c.class.initial (suc (length w.common.objects)) []) c.acting.is c.acting.flag stopped operands comes tt
 
   pub no_fields : new_object.fields ≡ []
   no_fields = ap (λ (fs : List FieldRec). new_fields [] fs) (c.fine_program.classes k c.class c.class_is).fields

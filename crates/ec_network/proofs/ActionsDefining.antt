@@ -183,7 +183,7 @@ defines_after M net net' w p h stop below top index holds e t =
     let operands : top.operands ≡ v ∷ [] = one_operand a e.operand e.operands in
     let stopped : top.stop ≡ Global index = a.stop_same ∙ e.is in
     let comes = ap (λ (b : Bool). acted_if w.common (who_of ir_meaning p below top) (if b then Some (doing.Defines index v) else None)) (below_true index (length w.common.globals) inside) in
-    let is : ir_action w p ≡ w' = action_comes w p below top (Global index) (v ∷ []) w1.common (GoesOn None) a.is a.flag stopped operands comes refl in
+    let is : ir_action w p ≡ w' = action_comes w p below top (Global index) (v ∷ []) w1.common (GoesOn None) a.is a.flag stopped operands comes tt in
     let middle : ShowsNodes (live_values net.program) (spot net.program net.images) (only_node e.middle) w1 (place w) =
     constant_shows (store_of e.node) e.middle index e.word e.sets
     (λ key r b f k. let few = laid.few_blocks in let l = laid.rows_in key r b f k in omega arith)

@@ -1,5 +1,5 @@
 -- The entry of an operation.
-use Rattle.std.proofs.Common.{◌≡◌, ℕ, List, [], ◌∷◌, ◌++◌, None, refl, sym, ap, ◌∙◌, subst}
+use Rattle.std.proofs.Common.{◌≡◌, ℕ, List, [], ◌∷◌, ◌++◌, None, refl, sym, ◌∙◌, subst}
 use Rattle.ec_ir.specs.declared.stop.Stop.{Stop}
 use Rattle.ec_ir.specs.declared.stop.Stop.TheVariants.{Entry}
 use Rattle.ec_world.specs.declared.stop.Effect.TheVariants.{GoesOn}
@@ -49,7 +49,7 @@ enters_after M net net' w p h stop below top holds e t =
     let w' : IrWorld = with_process w w.common p (ready_with (below ++ done top ∷ [])) in
     let stopped : top.stop ≡ Entry = a.stop_same ∙ e.is in
     let comes = entry_outcome w.common (who_of ir_meaning p below top) (fine_plain net.program w.common.classes holds.steady.fine holds.fine.facts.classes) top.operands in
-    let is : ir_action w p ≡ w' = action_comes w p below top Entry top.operands w.common (GoesOn None) a.is a.flag stopped refl comes refl in
+    let is : ir_action w p ≡ w' = action_comes w p below top Entry top.operands w.common (GoesOn None) a.is a.flag stopped refl comes tt in
     let shows : ShowsNodes (live_values net.program) (spot net.program net.images) (stores net') w' (place w) =
     mark_shows net.program net.images holds.steady.slots p h.block below top stop (stores net) (stores net') (store_of e.node) (store_of e.node') w w.common (place w)
     (alone_net net e.node e.becomes.before) (alone_net net' e.node' e.becomes.after) holds.shows.nodes (record { objects = refl; globals = refl })

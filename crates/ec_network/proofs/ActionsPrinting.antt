@@ -67,7 +67,7 @@ prints_after M net net' w p h stop below top holds e t =
     let value : variable top.variables e.operand ≡ Str e.text = text_value (store_of e.node).local (store_of e.node).text (variable top.variables e.operand) e.word e.text typed stands e.text_is in
     let operands : top.operands ≡ Str e.text ∷ [] = one_operand a e.operand e.operands ∙ ap (λ (v : Value). v ∷ []) value in
     let stopped : top.stop ≡ Print = a.stop_same ∙ e.is in
-    let is : ir_action w p ≡ w' = action_comes w p below top Print (Str e.text ∷ []) c (GoesOn None) a.is a.flag stopped operands refl refl in
+    let is : ir_action w p ≡ w' = action_comes w p below top Print (Str e.text ∷ []) c (GoesOn None) a.is a.flag stopped operands refl tt in
     let shows : ShowsNodes (live_values net.program) (spot net.program net.images) (stores net') w' (place w) =
     mark_shows net.program net.images holds.steady.slots p h.block below top stop (stores net) (stores net') (store_of e.node) (store_of e.node') w c (place w)
     (alone_net net e.node e.becomes.before) (alone_net net' e.node' e.becomes.after) holds.shows.nodes (record { objects = refl; globals = refl })

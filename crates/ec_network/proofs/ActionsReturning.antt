@@ -220,7 +220,7 @@ module _ {S : Type 0} (M : MachineMeaning S) (net net' : Cluster) (w : IrWorld) 
       let fine : FineReturn top.operation true stop.operands stop.into = subst (λ (s : Stop). FineStop net.program.classes net.program.globals top.operation t.acting.code.operation.variables s stop.operands stop.into) e.is t.acting.code.fine in
       let operands : top.operands ≡ [] = t.acting.operands ∙ ap (λ (xs : List ℕ). map (variable top.variables) xs) (no_operands top.operation stop.operands stop.into fine) in
       let comes = return_outcome w.common (who_of ir_meaning p (lower ++ c ∷ []) top) (fine_plain net.program w.common.classes holds.steady.fine holds.fine.facts.classes) in
-      action_comes w p (lower ++ c ∷ []) top (Return true) [] w.common (Leaves (Some (Ref top.own))) t.acting.is t.acting.flag stopped operands comes refl
+      action_comes w p (lower ++ c ∷ []) top (Return true) [] w.common (Leaves (Some (Ref top.own))) t.acting.is t.acting.flag stopped operands comes tt
       ∙ ap (λ (xs : List IrActivation). with_process w w.common p (ready_with (finish_top ir_meaning xs (top_of (lower ++ c ∷ [])) (Some (Ref top.own))))) (below_of-push lower c)
       ∙ ap (λ (x : Option IrActivation). with_process w w.common p (ready_with (finish_top ir_meaning lower x (Some (Ref top.own))))) (top_of-push lower c)
       ∙ ap (λ (i : Option ℕ). with_process w w.common p (ready_with (lower ++ into_variable c i (Ref top.own) ∷ []))) (into_below ∙ e.into)

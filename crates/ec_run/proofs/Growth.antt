@@ -16,13 +16,13 @@ use Rattle.ec_world.specs.declared.stop.Who.{Who}
 use Rattle.ec_world.specs.declared.stop.Effect.{Effect}
 use Rattle.ec_world.specs.declared.stop.Effect.TheVariants.{GoesOn, Calls, Leaves, Blocks, Ends, Fails}
 use Rattle.ec_world.specs.declared.doing.Doing.TheVariants.{Defines}
-use Rattle.ec_world.specs.declared.doing.Outcome.{Outcome}
 use Rattle.ec_world.specs.declared.doing.Section.{Section}
 use Rattle.ec_world.specs.declared.process.Proc.{Proc}
 use Rattle.ec_world.specs.Sights.{sight_of}
 use Rattle.ec_world.specs.Doings.{new_asks, return_asks, print_asks, global_asks}
 use Rattle.ec_world.specs.Outcomes.{Acted, made_object, return_done, acted_if, outcome_of, all_granted}
 use Rattle.ec_world.specs.Objects.{class_at}
+use Rattle.ec_world.proofs.Settling.{IsNoFailure}
 use Rattle.ec_world.specs.World.{stack_at, readied, all_readied, given_up, who_of, owns_of, begun_for, changed, settled, acted, outcome_at, act_if_pending, act_on, go_on_unless, go_on}
 use Rattle.ec_ir.specs.declared.code.Parts.{Parts}
 use Rattle.ec_ir.specs.declared.activation.IrActivation.{IrActivation}
@@ -33,19 +33,10 @@ use Rattle.ec_network.specs.Worlds.{ir_action, ir_turn}
 
 -- ---- objects
 
--- an effect with which no process fails
-abbrev Stays : Effect → Type 0
-Stays (GoesOn given) = Unit {0}
-Stays (Calls op own args) = Unit {0}
-Stays (Leaves given) = Unit {0}
-Stays (Blocks queue own) = Unit {0}
-Stays Ends = Unit {0}
-Stays (Fails cause line) = ⊥
-
 -- at most one object more than n, and no process more
 abbrev IsFew : ℕ → Acted → Type 0
 IsFew n None = Unit {0}
-IsFew n (Some (c, o)) = (length c.objects ≤ suc n) × (o.started ≡ None) × Stays o.effect
+IsFew n (Some (c, o)) = (length c.objects ≤ suc n) × (o.started ≡ None) × IsNoFailure o.effect
 
 new_few : (c : Common) (who : Who) (class : ClassNo) (given : List Value) (k : Option ClassRec) → class_at c.classes class ≡ k → IsFew (length c.objects) (acted_if c who (new_asks class given k))
 new_few c who class given None e = tt
@@ -110,7 +101,7 @@ length_all_readied : (qs : List ℕ) (ps : List (Proc IrActivation)) → length 
 length_all_readied [] ps = refl
 length_all_readied (q ∷ qs) ps = length_all_readied qs (readied ps q (slice_get ps q)) ∙ length_readied ps q (slice_get ps q)
 
-nothing_given_up : (p : ℕ) (owns : List ℕ) (e : Effect) (objects : List ObjectRec) → Stays e → given_up p owns e objects ≡ (objects, [])
+nothing_given_up : (p : ℕ) (owns : List ℕ) (e : Effect) (objects : List ObjectRec) → IsNoFailure e → given_up p owns e objects ≡ (objects, [])
 nothing_given_up p owns (GoesOn given) objects h = refl
 nothing_given_up p owns (Calls op own args) objects h = refl
 nothing_given_up p owns (Leaves given) objects h = refl
