@@ -4,7 +4,7 @@ use Rattle.std.specs.Prelude.{slice_get, slice_set}
 use Rattle.ec_base.proofs.Lists.{get_within, get_set_same, get_set_other}
 use Rattle.ec_world.specs.declared.value.Value.{Value}
 use Rattle.ec_world.specs.declared.class.ClassNo.{ClassNo}
-use Rattle.ec_world.specs.declared.object.MonitorRec.{MonitorRec}
+use Rattle.ec_monitors.specs.declared.record.MonitorRec.{MonitorRec}
 use Rattle.ec_world.specs.Group.{Has}
 use Rattle.ec_nodes.specs.declared.key.Key.{Key}
 use Rattle.ec_nodes.specs.Store.{Store, Owned, Stands, StandsAt, Tidy, Grown, KeptRow, word_in, word_of}

@@ -1,7 +1,7 @@
 -- What a call leaves of a node, told of its tables as functions.
 use Rattle.std.specs.Prelude.{◌≡◌, ◌≢◌, ℕ, ◌+◌, ◌<◌, ◌⊎◌, ◌↔◌, Bool, List, [], ◌∷◌, length, Option, Some, None, slice_get}
 use Rattle.ec_world.specs.declared.class.ClassNo.{ClassNo}
-use Rattle.ec_world.specs.declared.object.MonitorRec.{MonitorRec}
+use Rattle.ec_monitors.specs.declared.record.MonitorRec.{MonitorRec}
 use Rattle.ec_world.specs.declared.node.Kind.{Kind}
 use Rattle.ec_nodes.specs.declared.key.Key.{Key}
 use Rattle.ec_nodes.specs.Store.{Store, Grown, KeptRow}

@@ -4,10 +4,10 @@ ghost use Rattle.std.specs.Prelude.{◌≡◌, ◌≤◌, ◌^◌, IfOk};
 use byteorder::LittleEndian;
 use ec_base::list::Seq;
 use ec_memory::blocks::Blocks;
+use ec_monitors::record::MonitorRec;
 use ec_nodes::key::Key;
 use ec_world::class::ClassNo;
 use ec_world::node::Kind;
-use ec_world::object::MonitorRec;
 use ec_world::value::{Oid, Text};
 use std::alloc::{AllocError, Global};
 

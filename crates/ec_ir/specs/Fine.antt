@@ -150,8 +150,10 @@ pub record FineOperation (classes : List ClassRec) (globals : List ValueType) (l
 pub record FineClass (operations : ℕ) (c : ClassRec) : Type 0 where
   -- operation 0 of the class is an operation, and not the program's operation 0
   pub initial : (0 < c.initial) × (c.initial < operations)
-  -- no class has fields so far
+  -- no class has fields so far, nor a monitor, nor a process section
   pub fields : c.fields ≡ []
+  pub monitored : c.monitored ≡ false
+  pub process : c.process ≡ None
 
 pub record Fine (program : Parts) : Type 0 where
   pub operations : (n : ℕ) (o : Operation) → slice_get program.operations n ≡ Some o → FineOperation program.classes program.globals program.literals n o

@@ -33,6 +33,9 @@ impl TryCopy for ClassRec {
         Ok(ClassRec {
             name: copy_text(&self.name)?,
             initial: self.initial,
+            process: self.process,
+            monitored: self.monitored,
+            conditions: self.conditions,
             fields: copy_items(&self.fields)?,
             operations: copy_items(&self.operations)?,
             conforms: copy_items(&self.conforms)?,

@@ -166,7 +166,7 @@ constant_operations c literals ks t (suc (suc n)) o e = cc
 constant_classes : (c : Constant) (k : ℕ) (r : ClassRec) → slice_get (class_of c.value ∷ []) k ≡ Some r → FineClass 2 r
 constant_classes c zero r e =
     let same : r ≡ class_of c.value = cc in
-    rw same (record { initial = (omega arith, omega arith); fields = refl })
+    rw same (record { initial = (omega arith, omega arith); fields = refl; monitored = refl; process = refl })
 constant_classes c (suc k) r e = cc
 
 abbrev Parted : List ClassRec → List ValueType → List Operation → List (List ℕ) → Parts

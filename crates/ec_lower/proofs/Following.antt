@@ -14,9 +14,19 @@ use Rattle.ec_ir.specs.declared.stop.Stop.{Stop}
 use Rattle.ec_ir.specs.declared.stop.Stop.TheVariants.{Entry, New, Return, Print as PrintStop, Global, End}
 use Rattle.ec_world.specs.declared.stop.Stop.{Stop as WorldStop}
 use Rattle.ec_world.specs.declared.stop.Who.{Who}
-use Rattle.ec_world.specs.declared.stop.Effect.TheVariants.{GoesOn, Calls, Leaves, Ends, Fails}
+use Rattle.ec_world.specs.declared.stop.Effect.{Effect}
+use Rattle.ec_world.specs.declared.stop.Effect.TheVariants.{GoesOn, Calls, Leaves, Blocks, Ends, Fails}
+use Rattle.ec_world.specs.declared.doing.Doing.TheVariants.{Defines}
+use Rattle.ec_world.specs.declared.doing.Outcome.{Outcome}
+use Rattle.ec_world.specs.declared.doing.Section.{Section}
+use Rattle.ec_monitors.specs.declared.record.MonitorRec.{MonitorRec}
+use Rattle.ec_monitors.specs.declared.record.Entry.{Entry as Within}
+use Rattle.ec_monitors.specs.declared.record.Entry.TheVariants.{Entered, Queued}
+use Rattle.ec_monitors.specs.Monitors.{Granting, entered, left}
 use Rattle.ec_world.specs.declared.common.Common.{Common}
-use Rattle.ec_world.specs.Effects.{Acted, effect_of, new_effect, return_effect, print_effect, global_effect}
+use Rattle.ec_world.specs.Sights.{sight_of, class_record}
+use Rattle.ec_world.specs.Doings.{entry_asks, is_inside, new_asks, section_in, return_asks, print_asks, global_asks}
+use Rattle.ec_world.specs.Outcomes.{Acted, made_object, monitor_of, entering, entry_done, by_holder, acting, section_on, left_behind, return_done, acted_if, outcome_of}
 use Rattle.ec_world.specs.Objects.{class_at}
 use Rattle.ec_printing.specs.declared.item.Item.{Item}
 use Rattle.ec_printing.specs.declared.item.Item.TheVariants.{Do, Evaluate, Construct, Print, Define, Leave, Finish}
@@ -86,62 +96,90 @@ pub record IsBelow (program : Program) (ir : Parts) (a : SourceActivation) (b : 
 -- ---- what effects stops have
 
 -- an effect that such a stop may have
+abbrev pub SuitsBy : Bool → Effect → Type 0
+SuitsBy waits (GoesOn given) = waits ≡ false
+SuitsBy waits (Calls op own args) = waits ≡ true
+SuitsBy waits (Leaves given) = (v : Value) × (given ≡ Some v)
+SuitsBy waits (Blocks queue own) = waits ≡ false
+SuitsBy waits Ends = Unit {0}
+SuitsBy waits (Fails cause line) = Unit {0}
+
 abbrev pub Suits : Bool → Acted → Type 0
 Suits waits None = Unit {0}
-Suits waits (Some (d, GoesOn given)) = waits ≡ false
-Suits waits (Some (d, Calls op own args)) = waits ≡ true
-Suits waits (Some (d, Leaves given)) = (v : Value) × (given ≡ Some v)
-Suits waits (Some (d, Ends)) = Unit {0}
-Suits waits (Some (d, Fails cause line)) = Unit {0}
+Suits waits (Some (d, o)) = SuitsBy waits o.effect
 
-suits_new : (c : Common) (who : Who) (class : ClassNo) (given : List Value) (k : Option ClassRec) → Suits true (new_effect c who class given k)
-suits_new c who class given None = tt
-suits_new c who class given (Some k) = refl
+suits_entering : (c : Common) (own : ℕ) (g : MonitorRec × Within) → Suits false (Some (entering c own g))
+suits_entering c own (m, Entered) = refl
+suits_entering c own (m, Queued) = refl
 
-suits_return : (c : Common) (who : Who) (vs : List Value) → Suits false (return_effect c who true vs)
-suits_return c who [] = (Ref who.own, refl)
+suits_entered : (c : Common) (who : Who) (m : Option MonitorRec) → Suits false (Some (entry_done c who m))
+suits_entered c who None = refl
+suits_entered c who (Some m) = suits_entering c who.own (entered m who.process)
+
+suits_entry : (c : Common) (who : Who) (inside : Bool) → Suits false (acted_if c who (entry_asks inside))
+suits_entry c who true = suits_entered c who (monitor_of c who.own)
+suits_entry c who false = refl
+
+suits_new : (c : Common) (who : Who) (class : ClassNo) (given : List Value) (k : Option ClassRec) → class_at c.classes class ≡ k → Suits true (acted_if c who (new_asks class given k))
+suits_new c who class given None e = tt
+suits_new c who class given (Some k) e = subst (λ (x : Option ClassRec). Suits true (Some (made_object c who class given x))) (sym e) refl
+
+suits_acting : (c : Common) (own : ℕ) (v : Value) (started : Option Section) (g : Granting) → Suits false (Some (acting c own (λ granted. Leaves (Some v)) started g))
+suits_acting c own v started (m, granted) = (v, refl)
+
+suits_left : (c : Common) (who : Who) (v : Value) (started : Option Section) (m : Option MonitorRec) → Suits false (Some (left_behind c who (Some v) started m))
+suits_left c who v started None = (v, refl)
+suits_left c who v started (Some m) = suits_acting c who.own v started (by_holder who.process m (left m))
+
+suits_returned : (c : Common) (who : Who) (v : Value) (leaves : Bool) (started : Option Section) → Suits false (Some (return_done c who (Some v) leaves started))
+suits_returned c who v true started = suits_left c who v started (monitor_of c who.own)
+suits_returned c who v false started = suits_left c who v started None
+
+suits_return : (c : Common) (who : Who) (vs : List Value) → Suits false (acted_if c who (return_asks (sight_of c) who true vs))
+suits_return c who [] = suits_returned c who (Ref who.own) (is_inside (sight_of c) who) (section_on who.own (section_in (class_record (sight_of c) who.own)))
 suits_return c who (v ∷ vs) = tt
 
-suits_print : (c : Common) (vs : List Value) → Suits false (print_effect c vs)
-suits_print c [] = tt
-suits_print c (Str s ∷ []) = refl
-suits_print c (Int z ∷ []) = tt
-suits_print c (Truth b ∷ []) = tt
-suits_print c (Ref o ∷ []) = tt
-suits_print c (Nil ∷ []) = tt
-suits_print c (Str s ∷ v ∷ vs) = tt
-suits_print c (Int z ∷ v ∷ vs) = tt
-suits_print c (Truth b ∷ v ∷ vs) = tt
-suits_print c (Ref o ∷ v ∷ vs) = tt
-suits_print c (Nil ∷ v ∷ vs) = tt
+suits_print : (c : Common) (who : Who) (vs : List Value) → Suits false (acted_if c who (print_asks vs))
+suits_print c who [] = tt
+suits_print c who (Str s ∷ []) = refl
+suits_print c who (Int z ∷ []) = tt
+suits_print c who (Truth b ∷ []) = tt
+suits_print c who (Ref o ∷ []) = tt
+suits_print c who (Nil ∷ []) = tt
+suits_print c who (Str s ∷ v ∷ vs) = tt
+suits_print c who (Int z ∷ v ∷ vs) = tt
+suits_print c who (Truth b ∷ v ∷ vs) = tt
+suits_print c who (Ref o ∷ v ∷ vs) = tt
+suits_print c who (Nil ∷ v ∷ vs) = tt
 
-suits_if : (b : Bool) (d : Common) → Suits false (if b then Some (d, GoesOn None) else None)
-suits_if true d = refl
-suits_if false d = tt
+suits_if : (c : Common) (who : Who) (index : ℕ) (v : Value) (b : Bool) → Suits false (acted_if c who (if b then Some (Defines index v) else None))
+suits_if c who index v true = refl
+suits_if c who index v false = tt
 
-suits_global : (c : Common) (index : ℕ) (vs : List Value) → Suits false (global_effect c index vs)
-suits_global c index [] = tt
-suits_global c index (v ∷ []) = suits_if (nat_lt index (length c.globals)) _
-suits_global c index (v ∷ u ∷ vs) = tt
+suits_global : (c : Common) (who : Who) (index : ℕ) (vs : List Value) → Suits false (acted_if c who (global_asks (sight_of c) index vs))
+suits_global c who index [] = tt
+suits_global c who index (v ∷ []) = suits_if c who index v (nat_lt index (length c.globals))
+suits_global c who index (v ∷ u ∷ vs) = tt
 
-suits : (c : Common) (who : Who) (stop : Stop) (waits : Bool) (vs : List Value) → Fits stop waits → Suits waits (effect_of c who (world_stop stop) vs)
-suits c who Entry false vs f = refl
+suits : (c : Common) (who : Who) (stop : Stop) (waits : Bool) (vs : List Value) → Fits stop waits → Suits waits (outcome_of c who (world_stop stop) vs)
+suits c who Entry false vs f = suits_entry c who (is_inside (sight_of c) who)
 suits c who Entry true vs f = absurd f
-suits c who (New class) true vs f = suits_new c who class vs (class_at c.classes class)
+suits c who (New class) true vs f = suits_new c who class vs (class_at c.classes class) refl
 suits c who (New class) false vs f = absurd f
 suits c who (Return true) false vs f = suits_return c who vs
 suits c who (Return true) true vs f = absurd f
 suits c who (Return false) waits vs f = absurd f
-suits c who PrintStop false vs f = suits_print c vs
+suits c who PrintStop false vs f = suits_print c who vs
 suits c who PrintStop true vs f = absurd f
-suits c who (Global index) false vs f = suits_global c index vs
+suits c who (Global index) false vs f = suits_global c who index vs
 suits c who (Global index) true vs f = absurd f
 suits c who End false vs f = tt
 suits c who End true vs f = absurd f
 
-suits_as : (c : Common) (who : Who) (at : WorldStop) (stop : Stop) (waits : Bool) (vs : List Value) (o : Acted) → at ≡ world_stop stop → Fits stop waits → effect_of c who at vs ≡ o → Suits waits o
-suits_as c who at stop waits vs o is f e =
-    subst (λ (r : Acted). Suits waits r) (sym (ap (λ s. effect_of c who s vs) is) ∙ e) (suits c who stop waits vs f)
+suits_as : (c : Common) (who : Who) (at : WorldStop) (stop : Stop) (waits : Bool) (vs : List Value) (d : Common) (o : Outcome) (x : Effect) → at ≡ world_stop stop → Fits stop waits → outcome_of c who at vs ≡ Some (d, o) → o.effect ≡ x → SuitsBy waits x
+suits_as c who at stop waits vs d o x is f e g =
+    let by : Suits waits (Some (d, o)) = subst (λ (r : Acted). Suits waits r) (sym (ap (λ s. outcome_of c who s vs) is) ∙ e) (suits c who stop waits vs f) in
+    subst (λ (y : Effect). SuitsBy waits y) g by
 
 -- ---- actions that are done
 
@@ -261,9 +299,10 @@ module _ (program : Program) (ir : Parts) (entries : HasEntries program ir) wher
     same_below = λ a b r. record { operation = r.alike.operation; own = r.alike.own; stop = r.alike.stop; pending = r.alike.pending };
     operands = λ a b r. r.alike.operands;
     begun = begun_on;
-    goes_on = λ a b c d who given r p e. done_alike program ir a b given (suits_as c who a.stop b.stop a.waits a.operands _ r.alike.stop (r.fits p) e) r.alike;
-    calls = λ a b c d who op own args r p e. below_alike program ir a b (suits_as c who a.stop b.stop a.waits a.operands _ r.alike.stop (r.fits p) e) r.alike;
-    leaves = λ a b c d who given x y r p e s. left_alike program ir x y given (suits_as c who a.stop b.stop a.waits a.operands _ r.alike.stop (r.fits p) e) s;
+    goes_on = λ a b c d o who given r p e f. done_alike program ir a b given (suits_as c who a.stop b.stop a.waits a.operands d o (GoesOn given) r.alike.stop (r.fits p) e f) r.alike;
+    calls = λ a b c d o who op own args r p e f. below_alike program ir a b (suits_as c who a.stop b.stop a.waits a.operands d o (Calls op own args) r.alike.stop (r.fits p) e f) r.alike;
+    leaves = λ a b c d o who given x y r p e f s. left_alike program ir x y given (suits_as c who a.stop b.stop a.waits a.operands d o (Leaves given) r.alike.stop (r.fits p) e f) s;
+    blocks = λ a b c d o who queue own r p e f. done_none program ir a b (suits_as c who a.stop b.stop a.waits a.operands d o (Blocks queue own) r.alike.stop (r.fits p) e f) r.alike;
     commons = λ c a b r e. refl;
     activations = λ c a b r e. silent_on program ir c a b r e;
   }

@@ -1,6 +1,6 @@
 -- A simulation with activations that wait makes worlds agree after every list of entries, and along every schedule.
-use Rattle.std.proofs.Common.{◌≡◌, ℕ, zero, suc, List, [], ◌∷◌, ◌++◌, Option, Some, None, Bool, true, false, refl, ap}
-use Rattle.std.specs.Prelude.{slice_get}
+use Rattle.std.proofs.Common.{◌≡◌, ℕ, zero, suc, List, [], ◌∷◌, ◌++◌, map, Option, Some, None, Bool, true, false, refl, sym, ap, ◌∙◌, subst}
+use Rattle.std.specs.Prelude.{slice_get, slice_set, reverse}
 use Rattle.ec_base.specs.Stack.{top_of, below_of}
 use Rattle.ec_base.proofs.Stacks.{top_of-push, below_of-push}
 use Rattle.ec_world.specs.declared.value.Value.{Value}
@@ -8,15 +8,18 @@ use Rattle.ec_world.specs.declared.process.ProcStatus.{ProcStatus}
 use Rattle.ec_world.specs.declared.process.ProcStatus.TheVariants.{Ready, Entry as AtEntry, Cond, Urgent, Ended, Failed}
 use Rattle.ec_world.specs.declared.process.Proc.{Proc}
 use Rattle.ec_world.specs.declared.stop.Effect.{Effect}
-use Rattle.ec_world.specs.declared.stop.Effect.TheVariants.{GoesOn, Calls, Leaves, Ends, Fails}
+use Rattle.ec_world.specs.declared.stop.Effect.TheVariants.{GoesOn, Calls, Leaves, Blocks, Ends, Fails}
+use Rattle.ec_world.specs.declared.doing.Outcome.{Outcome}
+use Rattle.ec_world.specs.declared.doing.Section.{Section}
+use Rattle.ec_world.specs.declared.object.ObjectRec.{ObjectRec}
 use Rattle.ec_world.specs.declared.common.Common.{Common}
 use Rattle.ec_world.specs.declared.world.World.{World}
 use Rattle.ec_world.specs.declared.run.Entry.{Entry}
 use Rattle.ec_world.specs.declared.run.RunEntry.{RunEntry}
 use Rattle.ec_world.specs.declared.run.RunEntry.TheVariants.{TurnOf, MoveOf}
 use Rattle.ec_world.specs.Meaning.{ActivationMeaning}
-use Rattle.ec_world.specs.Effects.{Acted}
-use Rattle.ec_world.specs.World.{stack_if_ready, ready_stack, stack_at, finish_top, changed, acted, who_of, outcome_of, act_if_pending, act_on, Action, advanced, go_on_unless, go_on, Turn}
+use Rattle.ec_world.specs.Outcomes.{Acted, all_granted}
+use Rattle.ec_world.specs.World.{stack_if_ready, ready_stack, stack_at, finish_top, changed, readied, all_readied, given_up, owns_of, begun_for, settled, acted, who_of, outcome_at, act_if_pending, act_on, Action, advanced, go_on_unless, go_on, Turn}
 use Rattle.ec_world.specs.Moves.{OperatorMove, moved_unless, is_idle_move}
 use Rattle.ec_world.specs.Agree.{AllTwo, SameRest, AgreeProc, Agree}
 use Rattle.ec_world.specs.Run.{RunState, statuses_of, next_entry, tail_of, last_of, after_entry, after_entries, stepped, step_run, run_after}
@@ -74,29 +77,74 @@ module _ {A B : Type 0} (M : ActivationMeaning A) (N : ActivationMeaning B) (adv
   finish_tops xs ys None (Some b) r h k f = absurd k
   finish_tops xs ys (Some a) None r h k f = absurd k
 
-  changed_alike : (w : World A) (p : ℕ) (xs : List A) (ys : List B) (a : A) (b : B) (d : Common) (e : Effect) → outcome_of M w p xs a ≡ Some (d, e) → M.is_pending a ≡ true → AllTwo Below xs ys → On a b → StackedProc On Below (changed M xs a e) (changed N ys b e)
-  changed_alike w p xs ys a b d (GoesOn r) o t h k = record {
+  changed_alike : (w : World A) (p : ℕ) (xs : List A) (ys : List B) (a : A) (b : B) (d : Common) (o : Outcome) (e : Effect) → outcome_at M w p xs a ≡ Some (d, o) → o.effect ≡ e → M.is_pending a ≡ true → AllTwo Below xs ys → On a b → StackedProc On Below (changed M xs a e) (changed N ys b e)
+  changed_alike w p xs ys a b d o (GoesOn r) is e t h k = record {
     status = refl;
-    activations = stacked_push On Below xs ys (M.finished a r) (N.finished b r) h (sim.goes_on a b w.common d (who_of M p xs a) r k t o);
+    activations = stacked_push On Below xs ys (M.finished a r) (N.finished b r) h (sim.goes_on a b w.common d o (who_of M p xs a) r k t is e);
   }
-  changed_alike w p xs ys a b d (Calls op own args) o t h k =
-      let below : AllTwo Below (xs ++ M.finished a None ∷ []) (ys ++ N.finished b None ∷ []) = all-append Below xs (M.finished a None ∷ []) ys (N.finished b None ∷ []) h (sim.calls a b w.common d (who_of M p xs a) op own args k t o, tt) in
+  changed_alike w p xs ys a b d o (Calls op own args) is e t h k =
+      let below : AllTwo Below (xs ++ M.finished a None ∷ []) (ys ++ N.finished b None ∷ []) = all-append Below xs (M.finished a None ∷ []) ys (N.finished b None ∷ []) h (sim.calls a b w.common d o (who_of M p xs a) op own args k t is e, tt) in
       record { status = refl; activations = stacked_push On Below _ _ (M.begun op own args) (N.begun op own args) below (sim.begun op own args) }
-  changed_alike w p xs ys a b d (Leaves r) o t h k = record {
+  changed_alike w p xs ys a b d o (Leaves r) is e t h k = record {
     status = refl;
-    activations = finish_tops (below_of xs) (below_of ys) (top_of xs) (top_of ys) r (belows Below xs ys h) (tops Below xs ys h) (λ x y z. sim.leaves a b w.common d (who_of M p xs a) r x y k t o z);
+    activations = finish_tops (below_of xs) (below_of ys) (top_of xs) (top_of ys) r (belows Below xs ys h) (tops Below xs ys h) (λ x y z. sim.leaves a b w.common d o (who_of M p xs a) r x y k t is e z);
   }
-  changed_alike w p xs ys a b d Ends o t h k = record { status = refl; activations = record { below = tt; top = tt } }
-  changed_alike w p xs ys a b d (Fails cause line) o t h k = record { status = refl; activations = record { below = tt; top = tt } }
+  changed_alike w p xs ys a b d o (Blocks queue own) is e t h k = record {
+    status = refl;
+    activations = stacked_push On Below xs ys (M.finished a None) (N.finished b None) h (sim.blocks a b w.common d o (who_of M p xs a) queue own k t is e);
+  }
+  changed_alike w p xs ys a b d o Ends is e t h k = record { status = refl; activations = record { below = tt; top = tt } }
+  changed_alike w p xs ys a b d o (Fails cause line) is e t h k = record { status = refl; activations = record { below = tt; top = tt } }
 
-  acted_alike : (w : World A) (v : World B) (p : ℕ) (xs : List A) (ys : List B) (a : A) (b : B) (o : Acted) → outcome_of M w p xs a ≡ o → M.is_pending a ≡ true → StackedWorld On Below w v → AllTwo Below xs ys → On a b → StackedWorld On Below (acted M w p xs a o) (acted N v p ys b o)
+  -- processes that are granted a monitor stay alike
+  readied_alike : (ps : List (Proc A)) (qs : List (Proc B)) (i : ℕ) (x : Option (Proc A)) (y : Option (Proc B)) → AllTwo (StackedProc On Below) ps qs → Maybe (StackedProc On Below) x y → AllTwo (StackedProc On Below) (readied ps i x) (readied qs i y)
+  readied_alike ps qs i None None h k = h
+  readied_alike ps qs i (Some x) (Some y) h k = all-set (StackedProc On Below) ps qs i _ _ h (record { status = refl; activations = k.activations })
+  readied_alike ps qs i None (Some y) h k = absurd k
+  readied_alike ps qs i (Some x) None h k = absurd k
+
+  all_readied_alike : (ps : List (Proc A)) (qs : List (Proc B)) (is : List ℕ) → AllTwo (StackedProc On Below) ps qs → AllTwo (StackedProc On Below) (all_readied ps is) (all_readied qs is)
+  all_readied_alike ps qs [] h = h
+  all_readied_alike ps qs (i ∷ is) h =
+      all_readied_alike (readied ps i (slice_get ps i)) (readied qs i (slice_get qs i)) is
+      (readied_alike ps qs i (slice_get ps i) (slice_get qs i) h (all-get (StackedProc On Below) ps qs i h))
+
+  -- new processes are alike
+  begun_alike : (s : Option Section) → AllTwo (StackedProc On Below) (begun_for M s) (begun_for N s)
+  begun_alike None = tt
+  begun_alike (Some s) = (
+    record { status = refl; activations = stacked_push On Below [] [] (M.begun s.operation s.own []) (N.begun s.operation s.own []) tt (sim.begun s.operation s.own []) },
+    tt,
+  )
+
+  -- activations that wait are of the same objects
+  owns_below : (xs : List A) (ys : List B) → AllTwo Below xs ys → map M.own xs ≡ map N.own ys
+  owns_below [] [] h = refl
+  owns_below (x ∷ xs) (y ∷ ys) h = let e = (sim.same_below x y h.0).own in let r = owns_below xs ys h.1 in cc
+  owns_below [] (y ∷ ys) h = absurd h
+  owns_below (x ∷ xs) [] h = absurd h
+
+  owns_alike : (xs : List A) (ys : List B) (a : A) (b : B) → AllTwo Below xs ys → On a b → owns_of M xs a ≡ owns_of N ys b
+  owns_alike xs ys a b h r =
+      ap (λ own. own ∷ reverse (map M.own xs)) (sim.same_on a b r).own
+      ∙ ap (λ (owns : List ℕ). N.own b ∷ reverse owns) (owns_below xs ys h)
+
+  settled_alike : (w : World A) (v : World B) (p : ℕ) (xs : List A) (ys : List B) (a : A) (b : B) (c : Common) (o : Outcome) (g : List ObjectRec × List ℕ) → StackedWorld On Below w v → StackedProc On Below (changed M xs a o.effect) (changed N ys b o.effect) → StackedWorld On Below (settled M w p xs a c o g) (settled N v p ys b c o g)
+  settled_alike w v p xs ys a b c o (objects, freed) h k =
+      let acting : AllTwo (StackedProc On Below) (slice_set w.processes p (changed M xs a o.effect)) (slice_set v.processes p (changed N ys b o.effect)) = all-set (StackedProc On Below) w.processes v.processes p _ _ h.processes k in
+      record {
+        common = refl;
+        processes = all-append (StackedProc On Below) _ _ _ _ (all_readied_alike _ _ (all_granted o.granted freed) acting) (begun_alike o.started);
+      }
+
+  acted_alike : (w : World A) (v : World B) (p : ℕ) (xs : List A) (ys : List B) (a : A) (b : B) (o : Acted) → outcome_at M w p xs a ≡ o → M.is_pending a ≡ true → StackedWorld On Below w v → AllTwo Below xs ys → On a b → StackedWorld On Below (acted M w p xs a o) (acted N v p ys b o)
   acted_alike w v p xs ys a b None e t h k r = h
-  acted_alike w v p xs ys a b (Some (c, e)) o t h k r = record {
-    common = refl;
-    processes = all-set (StackedProc On Below) w.processes v.processes p _ _ h.processes (changed_alike w p xs ys a b c e o t k r);
-  }
+  acted_alike w v p xs ys a b (Some (c, o)) is t h k r =
+      subst (λ (owns : List ℕ). StackedWorld On Below (settled M w p xs a c o (given_up p owns o.effect c.objects)) (settled N v p ys b c o (given_up p (owns_of N ys b) o.effect c.objects)))
+      (sym (owns_alike xs ys a b k r))
+      (settled_alike w v p xs ys a b c o (given_up p (owns_of N ys b) o.effect c.objects) h (changed_alike w p xs ys a b c o o.effect is refl t k r))
 
-  outcomes_alike : (w : World A) (v : World B) (p : ℕ) (xs : List A) (ys : List B) (a : A) (b : B) → StackedWorld On Below w v → AllTwo Below xs ys → On a b → outcome_of M w p xs a ≡ outcome_of N v p ys b
+  outcomes_alike : (w : World A) (v : World B) (p : ℕ) (xs : List A) (ys : List B) (a : A) (b : B) → StackedWorld On Below w v → AllTwo Below xs ys → On a b → outcome_at M w p xs a ≡ outcome_at N v p ys b
   outcomes_alike w v p xs ys a b h k r =
       let s = sim.same_on a b r in
       rw (h.common, all-length Below xs ys k, s.operation, s.own, s.stop, sim.operands a b r) refl
@@ -105,7 +153,7 @@ module _ {A B : Type 0} (M : ActivationMeaning A) (N : ActivationMeaning B) (adv
   pending_alike w v p xs ys a b false e h k r = h
   pending_alike w v p xs ys a b true e h k r =
       let o = outcomes_alike w v p xs ys a b h k r in
-      rw o (acted_alike w v p xs ys a b (outcome_of N v p ys b) o e h k r)
+      rw o (acted_alike w v p xs ys a b (outcome_at N v p ys b) o e h k r)
 
   act_alike : (w : World A) (v : World B) (p : ℕ) (xs : List A) (ys : List B) (x : Option A) (y : Option B) → StackedWorld On Below w v → AllTwo Below xs ys → Maybe On x y → StackedWorld On Below (act_on M w p xs x) (act_on N v p ys y)
   act_alike w v p xs ys None None h k r = h

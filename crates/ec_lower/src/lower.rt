@@ -74,6 +74,9 @@ fn classes_with(alloc: Global, object: &ObjectConstructor) -> Result<Classes, Al
     let class = ClassRec {
         name: copy_text(&object.name.text)?,
         initial: 1,
+        process: None,
+        monitored: false,
+        conditions: 0,
         fields: Seq::new(alloc),
         operations: Seq::new(alloc),
         conforms: Seq::new(alloc),

@@ -18,17 +18,17 @@ use Rattle.ec_world.specs.declared.common.Common.{Common}
 use Rattle.ec_world.specs.declared.process.Proc.{Proc}
 use Rattle.ec_world.specs.Group.{Has}
 use Rattle.ec_world.specs.Values.{new_fields}
-use Rattle.ec_world.specs.World.{acted, who_of, stack_at, ready_stack}
-use Rattle.ec_world.specs.Effects.{effect_of, new_effect}
+use Rattle.ec_world.specs.declared.stop.Effect.TheVariants.{Calls}
+use Rattle.ec_world.specs.World.{who_of, stack_at, ready_stack}
 use Rattle.ec_world.specs.Places.{places, places_after, placed, node_or_first, first_places, AreEvents}
 use Rattle.ec_world.proofs.Placement.{made_by, length-places}
 use Rattle.ec_ir.specs.declared.code.StopRec.{StopRec}
 use Rattle.ec_ir.specs.declared.code.Operation.{Operation}
 use Rattle.ec_ir.specs.declared.code.Parts.{Parts}
 use Rattle.ec_ir.specs.declared.activation.IrActivation.{IrActivation}
-use Rattle.ec_ir.specs.Stops.{world_stop}
 use Rattle.ec_ir.specs.Meaning.{ir_meaning, begun, live_variables, stop_at, stops_of, variable, live_at}
 use Rattle.ec_ir.specs.Fine.{HasCode, Fine, FineStop}
+use Rattle.ec_ir.proofs.Outcomes.{fine_plain, new_outcome}
 use Rattle.ec_stops.specs.Faithful.{LiveTyped}
 use Rattle.ec_nodes.specs.declared.key.Key.TheVariants.{Object, Frame}
 use Rattle.ec_nodes.specs.Things.{things_of, object_thing, frame_thing, frame_if, object_if, blocks_of, class_blocks}
@@ -44,7 +44,7 @@ use Rattle.ec_network.specs.declared.kernel.Acted.TheVariants.{Began}
 use Rattle.ec_network.proofs.ActionsLists.{length_end, get_left, end_or, set_end, set_twice}
 use Rattle.ec_network.proofs.ActionsFrames.{done, done_typed, HasVariables}
 use Rattle.ec_network.proofs.ActionsOrder.{ready_with, InOrder, order_of, order_last, order_push, order_more, fine_stack, fine_world, waiting_more}
-use Rattle.ec_network.proofs.ActionsTop.{Acting, action_is}
+use Rattle.ec_network.proofs.ActionsTop.{Acting, action_comes}
 use Rattle.ec_network.proofs.ActionsMarking.{process_there}
 use Rattle.ec_world.proofs.Members.{has_none}
 
@@ -145,10 +145,8 @@ module _ {program : Parts} {w : IrWorld} {p : ℕ} {stop : StopRec} {below : Lis
       let stopped : top.stop ≡ New (Made k) = c.acting.stop_same ∙ c.is_new in
       let operands : top.operands ≡ [] = c.acting.operands ∙ ap (λ (xs : List ℕ). map (variable top.variables) xs) fine_new.3 in
       let there : slice_get w.common.classes k ≡ Some c.class = ap (λ (cs : List ClassRec). slice_get cs k) c.fine.facts.classes ∙ c.class_is in
-      action_is w p below top c.acting.is c.acting.flag
-      ∙ ap (λ (s : Stop). acted ir_meaning w p below top (effect_of w.common (who_of ir_meaning p below top) (world_stop s) top.operands)) stopped
-      ∙ ap (λ (vs : List Value). acted ir_meaning w p below top (effect_of w.common (who_of ir_meaning p below top) (world_stop (New (Made k))) vs)) operands
-      ∙ ap (λ (x : Option ClassRec). acted ir_meaning w p below top (new_effect w.common (who_of ir_meaning p below top) (Made k) [] x)) there
+      let comes = new_outcome w.common (who_of ir_meaning p below top) (fine_plain program w.common.classes c.fine_program c.fine.facts.classes) k c.class [] there in
+      action_comes w p below top (New (Made k)) [] new_common (Calls c.class.initial (suc (length w.common.objects)) []) c.acting.is c.acting.flag stopped operands comes tt
 
   pub no_fields : new_object.fields ≡ []
   no_fields = ap (λ (fs : List FieldRec). new_fields [] fs) (c.fine_program.classes k c.class c.class_is).fields

@@ -12,12 +12,12 @@ use Rattle.ec_world.specs.declared.node.Kind.{Kind}
 use Rattle.ec_world.specs.declared.common.Common.{Common}
 use Rattle.ec_world.specs.declared.process.Proc.{Proc}
 use Rattle.ec_world.specs.Group.{Has}
-use Rattle.ec_world.specs.World.{acted, who_of}
-use Rattle.ec_world.specs.Effects.{effect_of}
+use Rattle.ec_world.specs.declared.doing.Doing.TheVariants as doing
+use Rattle.ec_world.specs.Outcomes.{acted_if}
+use Rattle.ec_world.specs.World.{who_of}
 use Rattle.ec_ir.specs.declared.code.StopRec.{StopRec}
 use Rattle.ec_ir.specs.declared.code.Parts.{Parts}
 use Rattle.ec_ir.specs.declared.activation.IrActivation.{IrActivation}
-use Rattle.ec_ir.specs.Stops.{world_stop}
 use Rattle.ec_ir.specs.Meaning.{ir_meaning, live_values, variable}
 use Rattle.ec_ir.specs.Fine.{HasCode, HasType, Typed, FineStop}
 use Rattle.ec_stops.specs.Machine.{MachineMeaning}
@@ -45,7 +45,7 @@ use Rattle.ec_network.specs.Steps.{AfterAction}
 use Rattle.ec_network.proofs.ActionsStores.{IsAlone, only_node, alone_only, alone_net, alone_is, shown_here, same_tidy}
 use Rattle.ec_network.proofs.ActionsFrames.{done, FrameStands}
 use Rattle.ec_network.proofs.ActionsOrder.{ready_with}
-use Rattle.ec_network.proofs.ActionsTop.{TopAt, action_is, node_riscv}
+use Rattle.ec_network.proofs.ActionsTop.{TopAt, action_comes, node_riscv}
 use Rattle.ec_network.proofs.ActionsAfter.{after_action}
 use Rattle.ec_network.proofs.ActionsMarking.{frame_at, mark_shows, statuses_stay, depths_stay, went_on, one_operand, operand_typed, operand_stands}
 use Rattle.ec_world.specs.declared.node.Kind.TheVariants.{Riscv}
@@ -182,11 +182,8 @@ defines_after M net net' w p h stop below top index holds e t =
     let w' : IrWorld = with_process w1 w1.common p (ready_with (below ++ done top ∷ [])) in
     let operands : top.operands ≡ v ∷ [] = one_operand a e.operand e.operands in
     let stopped : top.stop ≡ Global index = a.stop_same ∙ e.is in
-    let is : ir_action w p ≡ w' =
-    action_is w p below top a.is a.flag
-    ∙ ap (λ (s : Stop). acted ir_meaning w p below top (effect_of w.common (who_of ir_meaning p below top) (world_stop s) top.operands)) stopped
-    ∙ ap (λ (vs : List Value). acted ir_meaning w p below top (effect_of w.common (who_of ir_meaning p below top) (world_stop (Global index)) vs)) operands
-    ∙ ap (λ (b : Bool). acted ir_meaning w p below top (if b then Some (set_constant w.common index v, GoesOn None) else None)) (below_true index (length w.common.globals) inside) in
+    let comes = ap (λ (b : Bool). acted_if w.common (who_of ir_meaning p below top) (if b then Some (doing.Defines index v) else None)) (below_true index (length w.common.globals) inside) in
+    let is : ir_action w p ≡ w' = action_comes w p below top (Global index) (v ∷ []) w1.common (GoesOn None) a.is a.flag stopped operands comes tt in
     let middle : ShowsNodes (live_values net.program) (spot net.program net.images) (only_node e.middle) w1 (place w) =
     constant_shows (store_of e.node) e.middle index e.word e.sets
     (λ key r b f k. let few = laid.few_blocks in let l = laid.rows_in key r b f k in omega arith)

@@ -1,14 +1,14 @@
 -- The entry of an operation.
-use Rattle.std.proofs.Common.{◌≡◌, ℕ, List, [], ◌∷◌, ◌++◌, refl, sym, ap, ◌∙◌, subst}
+use Rattle.std.proofs.Common.{◌≡◌, ℕ, List, [], ◌∷◌, ◌++◌, None, refl, sym, ◌∙◌, subst}
 use Rattle.ec_ir.specs.declared.stop.Stop.{Stop}
 use Rattle.ec_ir.specs.declared.stop.Stop.TheVariants.{Entry}
-use Rattle.ec_world.specs.World.{acted, who_of}
-use Rattle.ec_world.specs.Effects.{effect_of}
+use Rattle.ec_world.specs.declared.stop.Effect.TheVariants.{GoesOn}
+use Rattle.ec_world.specs.World.{who_of}
 use Rattle.ec_ir.specs.declared.code.StopRec.{StopRec}
 use Rattle.ec_ir.specs.declared.code.Parts.{Parts}
 use Rattle.ec_ir.specs.declared.activation.IrActivation.{IrActivation}
-use Rattle.ec_ir.specs.Stops.{world_stop}
 use Rattle.ec_ir.specs.Meaning.{ir_meaning, live_values}
+use Rattle.ec_ir.proofs.Outcomes.{fine_plain, entry_outcome}
 use Rattle.ec_ir.specs.Fine.{HasCode, FineStop}
 use Rattle.ec_stops.specs.Machine.{MachineMeaning}
 use Rattle.ec_nodes.specs.Shows.{ShowsNodes}
@@ -25,7 +25,7 @@ use Rattle.ec_network.specs.Steps.{AfterAction}
 use Rattle.ec_network.proofs.ActionsStores.{alone_net}
 use Rattle.ec_network.proofs.ActionsFrames.{done}
 use Rattle.ec_network.proofs.ActionsOrder.{ready_with}
-use Rattle.ec_network.proofs.ActionsTop.{TopAt, action_is, node_riscv}
+use Rattle.ec_network.proofs.ActionsTop.{TopAt, action_comes, node_riscv}
 use Rattle.ec_network.proofs.ActionsAfter.{after_action}
 use Rattle.ec_network.proofs.ActionsMarking.{mark_shows, statuses_stay, depths_stay, went_on}
 use Rattle.ec_world.specs.declared.process.Proc.{Proc}
@@ -48,7 +48,8 @@ enters_after M net net' w p h stop below top holds e t =
     let a = t.acting in
     let w' : IrWorld = with_process w w.common p (ready_with (below ++ done top ∷ [])) in
     let stopped : top.stop ≡ Entry = a.stop_same ∙ e.is in
-    let is : ir_action w p ≡ w' = action_is w p below top a.is a.flag ∙ ap (λ (s : Stop). acted ir_meaning w p below top (effect_of w.common (who_of ir_meaning p below top) (world_stop s) top.operands)) stopped in
+    let comes = entry_outcome w.common (who_of ir_meaning p below top) (fine_plain net.program w.common.classes holds.steady.fine holds.fine.facts.classes) top.operands in
+    let is : ir_action w p ≡ w' = action_comes w p below top Entry top.operands w.common (GoesOn None) a.is a.flag stopped refl comes tt in
     let shows : ShowsNodes (live_values net.program) (spot net.program net.images) (stores net') w' (place w) =
     mark_shows net.program net.images holds.steady.slots p h.block below top stop (stores net) (stores net') (store_of e.node) (store_of e.node') w w.common (place w)
     (alone_net net e.node e.becomes.before) (alone_net net' e.node' e.becomes.after) holds.shows.nodes (record { objects = refl; globals = refl })

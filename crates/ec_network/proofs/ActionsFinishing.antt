@@ -2,16 +2,13 @@
 use Rattle.std.proofs.Common.{◌≡◌, ℕ, ◌<◌, List, [], ◌∷◌, ◌++◌, length, Option, Some, None, refl, sym, ap, ◌∙◌, arith}
 use Rattle.std.specs.Prelude.{slice_get, slice_set}
 use Rattle.ec_base.proofs.Lists.{get_set_same}
-use Rattle.ec_ir.specs.declared.stop.Stop.{Stop}
 use Rattle.ec_ir.specs.declared.stop.Stop.TheVariants.{End}
 use Rattle.ec_world.specs.declared.process.ProcStatus.TheVariants.{Ended}
 use Rattle.ec_world.specs.declared.process.Proc.{Proc}
-use Rattle.ec_world.specs.World.{acted, who_of}
-use Rattle.ec_world.specs.Effects.{effect_of}
+use Rattle.ec_world.specs.declared.stop.Effect.TheVariants.{Ends}
 use Rattle.ec_ir.specs.declared.code.StopRec.{StopRec}
 use Rattle.ec_ir.specs.declared.activation.IrActivation.{IrActivation}
-use Rattle.ec_ir.specs.Stops.{world_stop}
-use Rattle.ec_ir.specs.Meaning.{ir_meaning, live_values}
+use Rattle.ec_ir.specs.Meaning.{live_values}
 use Rattle.ec_stops.specs.Machine.{MachineMeaning}
 use Rattle.ec_nodes.specs.declared.key.Key.TheVariants.{Frame}
 use Rattle.ec_nodes.specs.Shows.{ShowsNodes}
@@ -29,7 +26,7 @@ use Rattle.ec_network.specs.Steps.{AfterAction, Outcome}
 use Rattle.ec_network.proofs.ActionsLists.{map_set}
 use Rattle.ec_network.proofs.ActionsStores.{alone_net, alone_put, tables_self, closed_puts}
 use Rattle.ec_network.proofs.ActionsOrder.{ready_with, fine_world}
-use Rattle.ec_network.proofs.ActionsTop.{TopAt, action_is}
+use Rattle.ec_network.proofs.ActionsTop.{TopAt, action_comes}
 use Rattle.ec_network.proofs.ActionsAfter.{after_action}
 use Rattle.ec_network.proofs.ActionsMarking.{process_there}
 use Rattle.ec_network.proofs.ActionsEntering.{same_facts}
@@ -47,7 +44,7 @@ finishes_after M net net' w p h stop below top holds e t =
     let a = t.acting in
     let w' : IrWorld = with_process w w.common p ended in
     let stopped : top.stop ≡ End = a.stop_same ∙ e.is in
-    let is : ir_action w p ≡ w' = action_is w p below top a.is a.flag ∙ ap (λ (s : Stop). acted ir_meaning w p below top (effect_of w.common (who_of ir_meaning p below top) (world_stop s) top.operands)) stopped in
+    let is : ir_action w p ≡ w' = action_comes w p below top End top.operands w.common Ends a.is a.flag stopped refl refl tt in
     let none : length below ≡ 0 = sym t.depth ∙ e.bottom in
     let alone : below ++ top ∷ [] ≡ top ∷ [] = ap (λ (xs : List IrActivation). xs ++ top ∷ []) (nothing_below below none) in
     let process : slice_get w.processes p ≡ Some (ready_with (top ∷ [])) = a.is ∙ ap (λ (xs : List IrActivation). Some (ready_with xs)) alone in

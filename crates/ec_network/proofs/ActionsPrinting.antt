@@ -1,5 +1,5 @@
 -- Output.
-use Rattle.std.proofs.Common.{◌≡◌, ℕ, List, [], ◌∷◌, ◌++◌, length, Option, Some, refl, sym, ap, ◌∙◌, subst}
+use Rattle.std.proofs.Common.{◌≡◌, ℕ, List, [], ◌∷◌, ◌++◌, length, Option, Some, None, refl, sym, ap, ◌∙◌, subst}
 use Rattle.ec_world.specs.declared.value.Value.{Value}
 use Rattle.ec_world.specs.declared.value.Value.TheVariants.{Int, Str, Ref, Nil, Bool as Truth}
 use Rattle.ec_world.specs.declared.value.ValueType.TheVariants.{Bytes}
@@ -7,13 +7,11 @@ use Rattle.ec_ir.specs.declared.stop.Stop.{Stop}
 use Rattle.ec_ir.specs.declared.stop.Stop.TheVariants.{Print}
 use Rattle.ec_world.specs.declared.common.Common.{Common}
 use Rattle.ec_world.specs.declared.process.Proc.{Proc}
-use Rattle.ec_world.specs.World.{acted, who_of}
-use Rattle.ec_world.specs.Effects.{effect_of}
+use Rattle.ec_world.specs.declared.stop.Effect.TheVariants.{GoesOn}
 use Rattle.ec_ir.specs.declared.code.StopRec.{StopRec}
 use Rattle.ec_ir.specs.declared.code.Parts.{Parts}
 use Rattle.ec_ir.specs.declared.activation.IrActivation.{IrActivation}
-use Rattle.ec_ir.specs.Stops.{world_stop}
-use Rattle.ec_ir.specs.Meaning.{ir_meaning, live_values, variable}
+use Rattle.ec_ir.specs.Meaning.{live_values, variable}
 use Rattle.ec_ir.specs.Fine.{HasCode, HasType, FineStop}
 use Rattle.ec_stops.specs.Machine.{MachineMeaning}
 use Rattle.ec_nodes.specs.Store.{Stands, StandsFor}
@@ -31,7 +29,7 @@ use Rattle.ec_network.specs.Steps.{AfterAction}
 use Rattle.ec_network.proofs.ActionsStores.{alone_net}
 use Rattle.ec_network.proofs.ActionsFrames.{done}
 use Rattle.ec_network.proofs.ActionsOrder.{ready_with}
-use Rattle.ec_network.proofs.ActionsTop.{TopAt, action_is, node_riscv}
+use Rattle.ec_network.proofs.ActionsTop.{TopAt, action_comes, node_riscv}
 use Rattle.ec_network.proofs.ActionsAfter.{after_action}
 use Rattle.ec_network.proofs.ActionsMarking.{mark_shows, statuses_stay, depths_stay, went_on, one_operand, operand_typed, operand_stands}
 
@@ -69,10 +67,7 @@ prints_after M net net' w p h stop below top holds e t =
     let value : variable top.variables e.operand ≡ Str e.text = text_value (store_of e.node).local (store_of e.node).text (variable top.variables e.operand) e.word e.text typed stands e.text_is in
     let operands : top.operands ≡ Str e.text ∷ [] = one_operand a e.operand e.operands ∙ ap (λ (v : Value). v ∷ []) value in
     let stopped : top.stop ≡ Print = a.stop_same ∙ e.is in
-    let is : ir_action w p ≡ w' =
-    action_is w p below top a.is a.flag
-    ∙ ap (λ (s : Stop). acted ir_meaning w p below top (effect_of w.common (who_of ir_meaning p below top) (world_stop s) top.operands)) stopped
-    ∙ ap (λ (vs : List Value). acted ir_meaning w p below top (effect_of w.common (who_of ir_meaning p below top) (world_stop Print) vs)) operands in
+    let is : ir_action w p ≡ w' = action_comes w p below top Print (Str e.text ∷ []) c (GoesOn None) a.is a.flag stopped operands refl tt in
     let shows : ShowsNodes (live_values net.program) (spot net.program net.images) (stores net') w' (place w) =
     mark_shows net.program net.images holds.steady.slots p h.block below top stop (stores net) (stores net') (store_of e.node) (store_of e.node') w c (place w)
     (alone_net net e.node e.becomes.before) (alone_net net' e.node' e.becomes.after) holds.shows.nodes (record { objects = refl; globals = refl })

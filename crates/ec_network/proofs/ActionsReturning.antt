@@ -15,17 +15,17 @@ use Rattle.ec_ir.specs.declared.stop.Stop.TheVariants.{Entry, New, Return, Print
 use Rattle.ec_world.specs.declared.node.Kind.TheVariants.{Riscv}
 use Rattle.ec_world.specs.declared.process.Proc.{Proc}
 use Rattle.ec_world.specs.Group.{Has}
-use Rattle.ec_world.specs.World.{acted, who_of, finish_top}
-use Rattle.ec_world.specs.Effects.{effect_of}
+use Rattle.ec_world.specs.declared.stop.Effect.TheVariants.{Leaves}
+use Rattle.ec_world.specs.World.{who_of, finish_top}
 use Rattle.ec_world.specs.Run.{statuses_of}
 use Rattle.ec_ir.specs.declared.code.StopRec.{StopRec}
 use Rattle.ec_ir.specs.declared.code.Operation.{Operation}
 use Rattle.ec_ir.specs.declared.code.Parts.{Parts}
 use Rattle.ec_ir.specs.declared.activation.IrActivation.{IrActivation}
-use Rattle.ec_ir.specs.Stops.{world_stop}
 use Rattle.ec_ir.specs.Meaning.{ir_meaning, live_values, live_variables, variable, put, types_of, operation_at, stop_at, into_variable}
 use Rattle.ec_ir.specs.Fine.{HasCode, HasType, FineStop, FineReturn}
 use Rattle.ec_ir.proofs.Put.{put_same, put_other}
+use Rattle.ec_ir.proofs.Outcomes.{fine_plain, return_outcome}
 use Rattle.ec_stops.specs.Machine.{MachineMeaning}
 use Rattle.ec_stops.specs.Faithful.{LiveTyped, first_slot}
 use Rattle.ec_nodes.specs.declared.key.Key.TheVariants.{Frame}
@@ -49,7 +49,7 @@ use Rattle.ec_network.proofs.ActionsLists.{length_end, get_left, set_end, set_tw
 use Rattle.ec_network.proofs.ActionsStores.{only_node, alone_only, alone_net, alone_put, same_tidy, closed_puts, writes_puts}
 use Rattle.ec_network.proofs.ActionsFrames.{with_result, result_or, HasVariables, FrameStands, shows_frame, given_frame}
 use Rattle.ec_network.proofs.ActionsOrder.{ready_with, InOrder, order_of, order_pop, order_below, order_last, middle_stack, fine_middle}
-use Rattle.ec_network.proofs.ActionsTop.{TopAt, OperationOf, operation_of, action_is, node_riscv, place_there, one_node, shown_at}
+use Rattle.ec_network.proofs.ActionsTop.{TopAt, OperationOf, operation_of, action_comes, node_riscv, place_there, one_node, shown_at}
 use Rattle.ec_network.proofs.ActionsAfter.{after_action}
 use Rattle.ec_network.proofs.ActionsMarking.{frame_at, process_there}
 use Rattle.ec_network.proofs.ActionsEntering.{same_facts}
@@ -219,9 +219,8 @@ module _ {S : Type 0} (M : MachineMeaning S) (net net' : Cluster) (w : IrWorld) 
       let stopped : top.stop ≡ Return true = t.acting.stop_same ∙ e.is in
       let fine : FineReturn top.operation true stop.operands stop.into = subst (λ (s : Stop). FineStop net.program.classes net.program.globals top.operation t.acting.code.operation.variables s stop.operands stop.into) e.is t.acting.code.fine in
       let operands : top.operands ≡ [] = t.acting.operands ∙ ap (λ (xs : List ℕ). map (variable top.variables) xs) (no_operands top.operation stop.operands stop.into fine) in
-      action_is w p (lower ++ c ∷ []) top t.acting.is t.acting.flag
-      ∙ ap (λ (s : Stop). acted ir_meaning w p (lower ++ c ∷ []) top (effect_of w.common (who_of ir_meaning p (lower ++ c ∷ []) top) (world_stop s) top.operands)) stopped
-      ∙ ap (λ (vs : List Value). acted ir_meaning w p (lower ++ c ∷ []) top (effect_of w.common (who_of ir_meaning p (lower ++ c ∷ []) top) (world_stop (Return true)) vs)) operands
+      let comes = return_outcome w.common (who_of ir_meaning p (lower ++ c ∷ []) top) (fine_plain net.program w.common.classes holds.steady.fine holds.fine.facts.classes) in
+      action_comes w p (lower ++ c ∷ []) top (Return true) [] w.common (Leaves (Some (Ref top.own))) t.acting.is t.acting.flag stopped operands comes tt
       ∙ ap (λ (xs : List IrActivation). with_process w w.common p (ready_with (finish_top ir_meaning xs (top_of (lower ++ c ∷ [])) (Some (Ref top.own))))) (below_of-push lower c)
       ∙ ap (λ (x : Option IrActivation). with_process w w.common p (ready_with (finish_top ir_meaning lower x (Some (Ref top.own))))) (top_of-push lower c)
       ∙ ap (λ (i : Option ℕ). with_process w w.common p (ready_with (lower ++ into_variable c i (Ref top.own) ∷ []))) (into_below ∙ e.into)

@@ -6,10 +6,19 @@ use Rattle.ec_base.proofs.Stacks.{top_of-push, below_of-push, stack_parts, top_o
 use Rattle.ec_world.specs.declared.process.ProcStatus.{ProcStatus}
 use Rattle.ec_world.specs.declared.process.ProcStatus.TheVariants.{Ready}
 use Rattle.ec_world.specs.declared.process.Proc.{Proc}
-use Rattle.ec_world.specs.World.{act_on, act_if_pending, acted, ready_stack, outcome_of}
+use Rattle.ec_world.specs.declared.value.Value.{Value}
+use Rattle.ec_world.specs.declared.common.Common.{Common}
+use Rattle.ec_world.specs.declared.stop.Effect.{Effect}
+use Rattle.ec_world.specs.declared.doing.Outcome.{Outcome}
+use Rattle.ec_world.specs.Outcomes.{only, outcome_of}
+use Rattle.ec_world.specs.World.{act_on, act_if_pending, acted, ready_stack, outcome_at, who_of, changed}
 use Rattle.ec_world.specs.Places.{places, place_in}
 use Rattle.ec_world.proofs.Placement.{place_on_one}
 use Rattle.ec_ir.specs.declared.code.StopRec.{StopRec}
+use Rattle.ec_ir.specs.declared.stop.Stop.{Stop}
+use Rattle.ec_ir.specs.Stops.{world_stop}
+use Rattle.ec_world.proofs.Settling.{IsNoFailure, acted_only}
+use Rattle.ec_nodes.proofs.Steps.{with_process}
 use Rattle.ec_ir.specs.declared.code.Parts.{Parts}
 use Rattle.ec_ir.specs.declared.code.Operation.{Operation}
 use Rattle.ec_ir.specs.declared.activation.IrActivation.{IrActivation}
@@ -118,12 +127,21 @@ acting program w p stop below top fine is stack e =
     }
 
 -- the action is that of the top's stop
-pub action_is : (w : IrWorld) (p : ℕ) (below : List IrActivation) (top : IrActivation) → slice_get w.processes p ≡ Some (ready_with (below ++ top ∷ [])) → top.pending ≡ true → ir_action w p ≡ acted ir_meaning w p below top (outcome_of ir_meaning w p below top)
+pub action_is : (w : IrWorld) (p : ℕ) (below : List IrActivation) (top : IrActivation) → slice_get w.processes p ≡ Some (ready_with (below ++ top ∷ [])) → top.pending ≡ true → ir_action w p ≡ acted ir_meaning w p below top (outcome_at ir_meaning w p below top)
 action_is w p below top is flag =
     ap (λ (x : Option (Proc IrActivation)). act_on ir_meaning w p (below_of (ready_stack x)) (top_of (ready_stack x))) is
     ∙ ap (λ (x : List IrActivation). act_on ir_meaning w p x (top_of (below ++ top ∷ []))) (below_of-push below top)
     ∙ ap (λ (x : Option IrActivation). act_on ir_meaning w p below x) (top_of-push below top)
     ∙ ap (λ (b : Bool). act_if_pending ir_meaning w p below top b) flag
+
+-- the world after it, by what the table has for the stop and its operands
+pub action_comes : (w : IrWorld) (p : ℕ) (below : List IrActivation) (top : IrActivation) (s : Stop) (vs : List Value) (c : Common) (e : Effect) → slice_get w.processes p ≡ Some (ready_with (below ++ top ∷ [])) → top.pending ≡ true → top.stop ≡ s → top.operands ≡ vs → outcome_of w.common (who_of ir_meaning p below top) (world_stop s) vs ≡ Some (c, only e) → IsNoFailure e → ir_action w p ≡ with_process w c p (changed ir_meaning below top e)
+action_comes w p below top s vs c e is flag stopped operands comes goes =
+    action_is w p below top is flag
+    ∙ ap (λ (x : Stop). acted ir_meaning w p below top (outcome_of w.common (who_of ir_meaning p below top) (world_stop x) top.operands)) stopped
+    ∙ ap (λ (xs : List Value). acted ir_meaning w p below top (outcome_of w.common (who_of ir_meaning p below top) (world_stop s) xs)) operands
+    ∙ ap (λ (o : Option (Common × Outcome)). acted ir_meaning w p below top o) comes
+    ∙ acted_only ir_meaning w p below top c e goes
 
 -- ---- on the one node
 

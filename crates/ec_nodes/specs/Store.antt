@@ -6,7 +6,7 @@ use mir.Syntax.{w32}
 use Rattle.ec_world.specs.declared.value.Value.{Value}
 use Rattle.ec_world.specs.declared.value.Value.TheVariants.{Int, Str, Ref, Nil, Bool as Truth}
 use Rattle.ec_world.specs.declared.class.ClassNo.{ClassNo}
-use Rattle.ec_world.specs.declared.object.MonitorRec.{MonitorRec}
+use Rattle.ec_monitors.specs.declared.record.MonitorRec.{MonitorRec}
 use Rattle.ec_world.specs.declared.node.Kind.{Kind}
 use Rattle.ec_world.specs.Group.{Has}
 use Rattle.ec_nodes.specs.declared.key.Key.{Key}

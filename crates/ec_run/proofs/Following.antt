@@ -13,6 +13,7 @@ use Rattle.ec_world.proofs.Entries.{run_world}
 use Rattle.ec_ir.specs.declared.code.Parts.{Parts}
 use Rattle.ec_ir.specs.declared.activation.IrActivation.{IrActivation}
 use Rattle.ec_ir.specs.Meaning.{ir_meaning, ir_silent, ir_start}
+use Rattle.ec_ir.proofs.Outcomes.{fine_plain}
 use Rattle.ec_nodes.specs.declared.room.Part.{Part}
 use Rattle.ec_nodes.specs.Store.{Store}
 use Rattle.ec_nodes.specs.Held.{InPool}
@@ -244,7 +245,7 @@ module _ (specs : List NodeSpec) (budget : ℕ) (old : Net) (k : ℕ) (last : Op
       machines_are = turn_machines t.turn.steps
 
       grown : GrowsByOne w (ir_turn ir w p)
-      grown = turn_grows ir w p
+      grown = turn_grows ir w p (fine_plain f.now.program w.common.classes f.holds.steady.fine f.holds.fine.facts.classes)
 
       holds_is : Holds rv_meaning t.after (ir_run ir n [] (suc k)).world
       holds_is = subst (λ (v : IrWorld). Holds rv_meaning t.after v) (ap (λ (x : Parts). ir_turn x w p) program_is ∙ sym world_is) t.holds

@@ -1,5 +1,5 @@
 -- A program of one object that prints hi keeps what programs keep.
-use Rattle.std.proofs.Common.{◌≡◌, ℕ, zero, suc, ◌+◌, List, [], ◌∷◌, ◌++◌, drop, Some, None, true, refl, sym, ap, ◌∙◌, subst, lit<, lit≤, inl}
+use Rattle.std.proofs.Common.{◌≡◌, ℕ, zero, suc, ◌+◌, List, [], ◌∷◌, ◌++◌, drop, Some, None, true, false, refl, sym, ap, ◌∙◌, subst, lit<, lit≤, inl}
 use Rattle.std.specs.Prelude.{slice_get}
 use Rattle.std.proofs.lemmas.Option.{same_Some}
 use Rattle.ec_world.specs.declared.value.ValueType.{ValueType}
@@ -59,7 +59,7 @@ initial = record {
 }
 
 abbrev class : ClassRec
-class = record { name = []; initial = 1; fields = []; operations = []; conforms = [] }
+class = record { name = []; initial = 1; process = None; monitored = false; conditions = 0; fields = []; operations = []; conforms = [] }
 
 abbrev literals : List (List ℕ)
 literals = (104 ∷ 105 ∷ []) ∷ [] ∷ []
@@ -122,7 +122,7 @@ fine_hello = record {
   operations = next (FineOperation hello.classes hello.globals literals) first (initial ∷ []) fine_first
       (next (λ n. FineOperation hello.classes hello.globals literals (suc n)) initial [] fine_initial (none (λ n. FineOperation hello.classes hello.globals literals (suc (suc n)))));
   first = lit< tt;
-  classes = next (λ k c. FineClass 2 c) class [] (record { initial = (lit< tt, lit< tt); fields = refl }) (none (λ k c. FineClass 2 c));
+  classes = next (λ k c. FineClass 2 c) class [] (record { initial = (lit< tt, lit< tt); fields = refl; monitored = refl; process = refl }) (none (λ k c. FineClass 2 c));
   once = once;
   empty = (1, refl);
   few_operations = lit≤ tt;

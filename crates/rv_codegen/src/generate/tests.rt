@@ -104,6 +104,9 @@ fn hello(alloc: Global) -> Result<IrProgram, AllocError> {
     let class = ClassRec {
         name: Seq::new(alloc),
         initial: 1,
+        process: None,
+        monitored: false,
+        conditions: 0,
         fields: Seq::new(alloc),
         operations: Seq::new(alloc),
         conforms: Seq::new(alloc),

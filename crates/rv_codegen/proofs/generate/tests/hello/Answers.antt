@@ -1,4 +1,4 @@
-use Rattle.std.proofs.Common.{◌∙◌, [], ◌∷◌, ap, List, ℕ, Bool}
+use Rattle.std.proofs.Common.{◌∙◌, [], ◌∷◌, ap, List, ℕ, Bool, false, None}
 use Rattle.ec_world.specs.declared.class.ClassRec.{ClassRec}
 use Rattle.ec_world.specs.declared.class.FieldRec.{FieldRec}
 use Rattle.ec_world.specs.declared.class.OperationRec.{OperationRec}
@@ -9,7 +9,7 @@ pub new-requires-6 : goal.new-requires-6
 new-requires-6 c =
     let one = c.in_ok-first_operation.ensures in
     let two = c.in_ok-initial_operation.ensures in
-    let class : List ℕ → List FieldRec → List OperationRec → List Bool → List ClassRec = λ name fields operations conforms. record { name = name; initial = 1; fields = fields; operations = operations; conforms = conforms } ∷ [] in
+    let class : List ℕ → List FieldRec → List OperationRec → List Bool → List ClassRec = λ name fields operations conforms. record { name = name; initial = 1; process = None; monitored = false; conditions = 0; fields = fields; operations = operations; conforms = conforms } ∷ [] in
     let text : List ℕ → List ℕ → List (List ℕ) = λ s t. s ∷ t ∷ [] in
     fine_parts _ c.in_ok-first_operation.field-0 c.in_ok-initial_operation.field-0
     one.variables one.code one.stops two.variables two.code two.stops
