@@ -1,5 +1,6 @@
 -- A walk along a list: one item more, and its end.
-use Rattle.std.proofs.Common.{◌≡◌, ℕ, ◌+◌, ◌<◌, ◌≤◌, List, [], ◌∷◌, ◌++◌, drop, get_or, length, map, max, refl, sym, ap, ◌∙◌, append_assoc, arith}
+use Rattle.std.proofs.Common.{◌≡◌, ℕ, ◌+◌, ◌<◌, ◌≤◌, List, [], ◌∷◌, ◌++◌, drop, get_or, length, map, max, refl, sym, ap, ◌∙◌}
+use Rattle.std.proofs.Common.{append_assoc, arith}
 use Rattle.std.proofs.lemmas.List.{at_drop_all, at_drop_more}
 use Rattle.ec_ast.specs.declared.Statement.{Statement}
 use Rattle.ec_judge.specs.Blocks.{behind, behind_all}
@@ -117,7 +118,8 @@ unfolding walked
 statements_end w xs i le =
     sym (ap (λ t. in_scope t w.scope) (walked_none w)) ∙ sym (at_drop_all (λ ys. behind_all w (map statement_of ys)) xs i le)
 
-pub statement_done_next : (w next : Walk) (d after : Done) (xs : List Statement) (i : ℕ) (x : Statement) → i < length xs → x ≡ get_or xs i x →
+pub statement_done_next : (w next : Walk) (d after : Done) (xs : List Statement) (i : ℕ) (x : Statement) → i < length xs →
+    x ≡ get_or xs i x →
     next ≡ behind w (statement_of x) → after ≡ done_both d ((statement_of x).finished w.scope).done →
     done_both after (block_finished (map statement_of (drop (i + 1) xs)) next.scope).done
     ≡ done_both d (block_finished (map statement_of (drop i xs)) w.scope).done
@@ -130,6 +132,7 @@ statement_done_next w next d after xs i x lt is e h =
     ∙ ap (λ y. done_both d (block_finished (statement_of y ∷ rest) w.scope).done) is
     ∙ sym (at_drop_more (λ ys. done_both d (block_finished (map statement_of ys) w.scope).done) xs i x lt)
 
-pub statements_done_first : (ss : List StatementPart) (scope : Scope) → done_both nothing_done (block_finished ss scope).done ≡ (block_finished ss scope).done
+pub statements_done_first : (ss : List StatementPart) (scope : Scope) →
+    done_both nothing_done (block_finished ss scope).done ≡ (block_finished ss scope).done
 statements_done_first [] scope = refl
 statements_done_first (s ∷ ss) scope = none_before (s.finished scope).done (block_finished ss (declaring (s.declares scope) scope)).done

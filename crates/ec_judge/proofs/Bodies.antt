@@ -5,16 +5,19 @@ use Rattle.std.proofs.lemmas.List.{append-nil}
 use Rattle.ec_ast.specs.declared.Name.{Name}
 use Rattle.ec_ast.specs.declared.TypeName.{TypeName}
 use Rattle.ec_judge.specs.Blocks.{done_if, over_part_if}
-use Rattle.ec_judge.specs.Holders.{behind_body, behind_process, behind_rules, constant_faults, declaration, heading_faults, operation_faults, over_holder, scope_behind, variable_faults}
+use Rattle.ec_judge.specs.Holders.{behind_body, behind_process, behind_rules, constant_faults, declaration, heading_faults}
+use Rattle.ec_judge.specs.Holders.{operation_faults, over_holder, scope_behind, variable_faults}
 use Rattle.ec_judge.specs.declared.walk.Walk.{Walk}
 use Rattle.ec_judge.specs.Walks.{walked, noting, in_scope, over_finished, over_part}
 use Rattle.ec_judge.proofs.Layers.{same_walked}
 use Rattle.ec_judge.proofs.Walks.{walk_of, walked_walked}
 use Rattle.ec_rules.specs.Captures.{captured, uses_outside}
-use Rattle.ec_rules.specs.Judging.{body_finished, body_with, finished_if, first_finished, member_finished, members_finished, process_finished, process_with, uses_within}
+use Rattle.ec_rules.specs.Judging.{body_finished, body_with, finished_if, first_finished, member_finished, members_finished}
+use Rattle.ec_rules.specs.Judging.{process_finished, process_with, uses_within}
 use Rattle.ec_rules.specs.Limits.{many_fields, measured}
 use Rattle.ec_rules.specs.Members.{fields_of, object_with, parameter_entries, result_entries, scope_of, scope_of_operation}
-use Rattle.ec_rules.specs.Parts.{Finished, Holder, variable, constant, operation, OperationPart, Part, ProcessPart, faults_in, uses_in, value_in}
+use Rattle.ec_rules.specs.Parts.{Finished, Holder, variable, constant, operation, OperationPart, Part, ProcessPart, faults_in}
+use Rattle.ec_rules.specs.Parts.{uses_in, value_in}
 use Rattle.ec_rules.specs.Rules.{noted}
 use Rattle.ec_rules.specs.declared.StaticFault.{StaticFault}
 use Rattle.ec_rules.specs.declared.faults.Faults.{Faults}
@@ -41,7 +44,8 @@ constant_field_walk w is_monitored is_attached name None p =
     walked_walked w (faults_in w.scope p) (constant_faults w.scope is_attached name None p.form (value_in w.scope p)) (uses_in w.scope p) []
     ∙ same_walked w _ _ _ _ (simp append-nil refl) (append-nil (uses_in w.scope p))
 constant_field_walk w is_monitored is_attached name (Some of) p =
-    walked_walked w (faults_in w.scope p) (constant_faults w.scope is_attached name (Some of) p.form (value_in w.scope p)) (uses_in w.scope p) []
+    walked_walked w (faults_in w.scope p) (constant_faults w.scope is_attached name (Some of) p.form (value_in w.scope p))
+    (uses_in w.scope p) []
     ∙ same_walked w _ _ _ _ (simp append-nil refl) (append-nil (uses_in w.scope p))
 
 pub variable_field_done : (scope : Scope) (is_monitored is_attached : Bool) (name : Name) (of : TypeName) (v : Option Part) →
@@ -145,7 +149,8 @@ holder_walk w inner body end holder outer i b o e =
     let within = body_finished scope holder in
     let rules = heading_faults w.scope.table holder ++ many_fields (captured within.uses) holder in
     rw (e, o, b, i)
-    (ap (λ left. walk_of left (noted (noted w.faults within.faults) (heading_faults left.table holder ++ many_fields (captured within.uses) holder)) (w.uses ++ uses_outside within.uses))
+    (ap (λ left. walk_of left (noted (noted w.faults within.faults)
+    (heading_faults left.table holder ++ many_fields (captured within.uses) holder)) (w.uses ++ uses_outside within.uses))
     (left_behind holder.body.process w.scope (object_with w.scope holder (fields_of w.scope holder)))
     ∙ ap (λ faults. walk_of w.scope faults (w.uses ++ uses_outside within.uses)) (noted_joined w.faults within.faults rules))
 

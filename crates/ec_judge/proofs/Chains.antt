@@ -1,18 +1,22 @@
 -- What is found along a chain, link by link, is what the rules say of it.
-use Rattle.std.proofs.Common.{◌≡◌, ℕ, Bool, true, false, ◌&&◌, ◌||◌, not, if◌then◌else◌, List, [], ◌∷◌, ◌++◌, Option, Some, None, refl, sym, ap, ◌∙◌, arith}
+use Rattle.std.proofs.Common.{◌≡◌, ℕ, Bool, true, false, ◌&&◌, ◌||◌, not, if◌then◌else◌, List, [], ◌∷◌, ◌++◌, Option, Some, None}
+use Rattle.std.proofs.Common.{refl, sym, ap, ◌∙◌, arith}
 use Rattle.std.specs.Prelude.{is_some}
 use Rattle.ec_ast.specs.declared.Name.{Name}
 use Rattle.ec_ast.specs.declared.Span.{Span}
 use Rattle.ec_ast.specs.declared.Expression.{Expression}
 use Rattle.ec_ast.specs.declared.Expression.TheOpen.{Expression-F}
 use Rattle.ec_conform.specs.declared.static_type.StaticType.{StaticType}
-use Rattle.ec_judge.specs.Chains.{Passed, creation, faults_along, head, held_height, looked_at, over_head, over_links, passed, passed_all, valued}
+use Rattle.ec_judge.specs.Chains.{Passed, creation, faults_along, head, held_height, looked_at, over_head, over_links, passed}
+use Rattle.ec_judge.specs.Chains.{passed_all, valued}
 use Rattle.ec_judge.specs.declared.walk.Walk.{Walk}
 use Rattle.ec_judge.specs.Walks.{walked, over_layer, looked}
 use Rattle.ec_judge.specs.declared.walk.Looked.{Looked}
 use Rattle.ec_judge.proofs.Parts.{name_part, part_at, part_clean}
 use Rattle.ec_judge.proofs.Walks.{walked_none, walked_walked}
-use Rattle.ec_rules.specs.Calls.{Receiver, Creation, Own, Typed, chain_type, class_created, faults_of_head, faults_of_link, faults_of_links, is_creation, is_last, link_parts, receiver, receiver_if, receiver_of_form, type_of_links, type_of_receiver}
+use Rattle.ec_rules.specs.Calls.{Receiver, Creation, Own, Typed, chain_type, class_created, faults_of_head, faults_of_link}
+use Rattle.ec_rules.specs.Calls.{faults_of_links, is_creation, is_last, link_parts, receiver, receiver_if, receiver_of_form}
+use Rattle.ec_rules.specs.Calls.{type_of_links, type_of_receiver}
 use Rattle.ec_rules.specs.Forms as form
 use Rattle.ec_rules.specs.Heights.{links_height, postfix_height}
 use Rattle.ec_rules.specs.Judging.{uses_of, uses_of_head}
@@ -38,7 +42,8 @@ abbrev looked_of : Span → Option StaticType → ℕ → ℕ → Looked
 looked_of at of height nodes = record { at = at; of = of; height = height; nodes = nodes }
 
 module _ (scope : Scope) (needed : Bool) where
-  pub along_faults : (p : Passed) (ls : List LinkPart) → faults_along scope needed p ls ≡ faults_of_links scope p.at needed p.before p.is_clean ls
+  pub along_faults : (p : Passed) (ls : List LinkPart) → faults_along scope needed p ls ≡ faults_of_links scope p.at needed p.before
+      p.is_clean ls
   along_faults p [] = refl
   along_faults p (call name arguments ∷ ls) =
       ap (λ fs. faults_of_link scope p.at (needed || not (is_last ls)) p.before (call name arguments) ++ fs)
@@ -119,7 +124,8 @@ module _ (scope : Scope) (needed : Bool) where
       let t = along_type p ls in
       let h = along_height p.at p.before p.is_clean part p.nodes ls (begins part.form (value_in scope part).of ls) in
       let n = along_nodes p ls in
-      ap (λ at. looked_of at (type_of_receiver scope (passed_all scope needed p ls).before) (passed_all scope needed p ls).height (plus (passed_all scope needed p ls).nodes 0)) a
+      ap (λ at. looked_of at (type_of_receiver scope (passed_all scope needed p ls).before) (passed_all scope needed p ls).height
+      (plus (passed_all scope needed p ls).nodes 0)) a
       ∙ ap (λ of. looked_of part.at of (passed_all scope needed p ls).height (plus (passed_all scope needed p ls).nodes 0)) t
       ∙ ap (λ height. looked_of part.at (chain_type scope needed part ls) height (plus (passed_all scope needed p ls).nodes 0)) h
       ∙ ap (looked_of part.at (chain_type scope needed part ls) (postfix_height scope (receiver scope part ls) part ls)) n
@@ -139,7 +145,8 @@ name_if : (b : Bool) (own name : Name) → (if b then Some own else None) ≡ So
 name_if true own name e = cc
 name_if false own name e = cc
 
-name_created : (scope : Scope) (f : form.Form) (ls : List LinkPart) (name : Name) → class_created scope f ls ≡ Some name → f ≡ form.NameAlone name
+name_created : (scope : Scope) (f : form.Form) (ls : List LinkPart) (name : Name) → class_created scope f ls ≡ Some name →
+    f ≡ form.NameAlone name
 name_created scope (form.NameAlone own) ls name e = name_if (is_creation ls && is_some (class_named scope own.text)) own name e
 name_created scope (form.Literal t) ls name e = cc
 name_created scope form.Negated ls name e = cc
@@ -149,7 +156,8 @@ name_created scope (form.Created own) ls name e = cc
 name_created scope form.Itself ls name e = cc
 name_created scope form.Other ls name e = cc
 
-head_faults : (scope : Scope) (f : form.Form) (of : Option StaticType) (part : Part) → faults_of_head scope (receiver_of_form f of) part ≡ faults_in scope part
+head_faults : (scope : Scope) (f : form.Form) (of : Option StaticType) (part : Part) →
+    faults_of_head scope (receiver_of_form f of) part ≡ faults_in scope part
 head_faults scope (form.Literal t) of part = refl
 head_faults scope form.Negated of part = refl
 head_faults scope (form.Constructor at) of part = refl
@@ -183,7 +191,8 @@ over_head_by class w part =
 
 module _ (x : Expression) (ls : List LinkPart) where
   -- the class of a creation
-  pub creation_head : (scope : Scope) (name : Name) → class_created scope (part_of x).form ls ≡ Some name → creation name ≡ head scope (part_of x) ls
+  pub creation_head : (scope : Scope) (name : Name) → class_created scope (part_of x).form ls ≡ Some name →
+      creation name ≡ head scope (part_of x) ls
   creation_head scope name e =
       let n = name_part x scope name (name_created scope (part_of x).form ls name e) in
       ap (λ at. passed_of at (Creation name) true 1 1) (sym n.0)
@@ -201,6 +210,7 @@ module _ (x : Expression) (ls : List LinkPart) where
       let v = value_in scope part in
       let r = receiver_of_form part.form v.of in
       ap (λ at. passed_of at r v.is_clean v.height v.nodes) (part_at x scope)
-      ∙ ap (λ clean. passed_of part.at r clean v.height v.nodes) (part_clean x scope ∙ ap is_clean (sym (head_faults scope part.form v.of part)))
+      ∙ ap (λ clean. passed_of part.at r clean v.height v.nodes) (part_clean x scope
+      ∙ ap is_clean (sym (head_faults scope part.form v.of part)))
       ∙ ap (λ height. passed_of part.at r (is_clean (faults_of_head scope r part)) height v.nodes) (sym (head_held part.form v.of v.height))
       ∙ sym (ap (λ class. head_by class scope part) e)

@@ -43,7 +43,8 @@ max_none a = omega arith
 
 pub done_assoc : (a b c : Done) → done_both (done_both a b) c ≡ done_both a (done_both b c)
 done_assoc a b c =
-    three _ _ _ _ _ _ (max_assoc a.height b.height c.height) (plus_assoc a.nodes b.nodes c.nodes) (plus_assoc a.variables b.variables c.variables)
+    three _ _ _ _ _ _ (max_assoc a.height b.height c.height) (plus_assoc a.nodes b.nodes c.nodes)
+    (plus_assoc a.variables b.variables c.variables)
 
 -- what was joined stays as it is with nothing behind it
 pub done_fits : (a b : Done) → done_both (done_both a b) nothing_done ≡ done_both a b

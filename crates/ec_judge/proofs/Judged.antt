@@ -40,7 +40,8 @@ module _ (w end : Walk) (x : Expression) (needed : Bool) (e : end ≡ over_layer
 -- ---- links
 
 pub link_behind : (w : Walk) (needed : Bool) (p : Passed) (l : LinkPart) (ls : List LinkPart) →
-    over_links (over_link w (needed || not (is_last ls)) p l) needed (passed w.scope (needed || not (is_last ls)) p l) ls ≡ over_links w needed p (l ∷ ls)
+    over_links (over_link w (needed || not (is_last ls)) p l) needed
+    (passed w.scope (needed || not (is_last ls)) p l) ls ≡ over_links w needed p (l ∷ ls)
 unfolding walked
 link_behind w needed p l ls =
     walked_walked w (faults_of_link w.scope p.at (needed || not (is_last ls)) p.before l)
@@ -55,6 +56,7 @@ pub arm_behind : (w : Walk) (p : Part) (own : List StaticFault) (block : Finishe
     ≡ walked w (faults_in w.scope p ++ (own ++ block.faults)) (uses_in w.scope p ++ block.uses)
 unfolding walked
 arm_behind w p own block =
-    ap (λ faults. walk_of w.scope faults ((w.uses ++ uses_in w.scope p) ++ block.uses)) (ap (λ f. noted f block.faults) (noted_joined w.faults (faults_in w.scope p) own))
+    ap (λ faults. walk_of w.scope faults ((w.uses ++ uses_in w.scope p) ++ block.uses))
+    (ap (λ f. noted f block.faults) (noted_joined w.faults (faults_in w.scope p) own))
     ∙ walked_walked w (faults_in w.scope p ++ own) block.faults (uses_in w.scope p) block.uses
     ∙ ap (λ fs. walked w fs (uses_in w.scope p ++ block.uses)) (append_assoc (faults_in w.scope p) own block.faults)

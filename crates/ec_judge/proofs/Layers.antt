@@ -29,7 +29,8 @@ pub one_operand : (w : Walk) (p : Part) (own : List StaticFault) →
     over_operand w p own ≡ walked w ((faults_in w.scope p ++ []) ++ (own ++ [])) (uses_in w.scope p ++ [])
 one_operand w p own = simp append-nil refl
 
-pub parenthesised_walk : (needed : Bool) (w : Walk) (p : Part) (at : Span) → over_part w p ≡ over_layer needed w (Expression-F.Parenthesised p at)
+pub parenthesised_walk : (needed : Bool) (w : Walk) (p : Part) (at : Span) →
+    over_part w p ≡ over_layer needed w (Expression-F.Parenthesised p at)
 parenthesised_walk needed w p at = simp append-nil refl
 
 pub node_at_walk : (needed : Bool) (w : Walk) (p : Part) (at word : Span) →
@@ -62,17 +63,21 @@ module _ (w : Walk) (p : Part) where
       ∙ ap (λ f. walked w f (each (uses_in w.scope) (p ∷ more))) (regrouped (faults_in w.scope p) (each (faults_in w.scope) more) own)
 
   pub compare_walk : (needed : Bool) (op : Comparison) (at : Span) (q : Part) →
-      over_operand (over_part w p) q (comparison_faults op (value_in w.scope p) (value_in w.scope q)) ≡ over_layer needed w (Expression-F.Compare p op at q)
+      over_operand (over_part w p) q (comparison_faults op (value_in w.scope p) (value_in w.scope q)) ≡ over_layer needed w
+      (Expression-F.Compare p op at q)
   unfolding walked
   compare_walk needed op at q =
       let own = comparison_faults op (value_in w.scope p) (value_in w.scope q) in
       walked_walked w (faults_in w.scope p) (faults_in w.scope q ++ own) (uses_in w.scope p) (uses_in w.scope q)
-      ∙ same_walked w _ _ _ _ (simp (append-nil, append_assoc) refl) (ap (λ u. uses_in w.scope p ++ u) (sym (append-nil (uses_in w.scope q))))
+      ∙ same_walked w _ _ _ _ (simp (append-nil, append_assoc) refl)
+      (ap (λ u. uses_in w.scope p ++ u) (sym (append-nil (uses_in w.scope q))))
 
   pub term_walk : (needed : Bool) (factors : List FactorPart) →
-      behind_first (map (λ f. f.value) factors) (wants_all wanted.Integer (value_in w.scope p ∷ map (λ f. value_in w.scope f.value) factors))
+      behind_first (map (λ f. f.value) factors) (wants_all wanted.Integer
+      (value_in w.scope p ∷ map (λ f. value_in w.scope f.value) factors))
       ≡ over_layer needed w (Expression-F.Term p factors)
-  term_walk needed factors = several (map (λ f. f.value) factors) (wants_all wanted.Integer (value_in w.scope p ∷ map (λ f. value_in w.scope f.value) factors))
+  term_walk needed factors =
+      several (map (λ f. f.value) factors) (wants_all wanted.Integer (value_in w.scope p ∷ map (λ f. value_in w.scope f.value) factors))
 
   pub and_walk : (needed : Bool) (more : List Part) →
       behind_first more (wants_all wanted.Boolean (values_in w.scope (p ∷ more))) ≡ over_layer needed w (Expression-F.And p more)
@@ -88,7 +93,8 @@ module _ (w : Walk) (p : Part) where
       (sum_faults (value_in w.scope p).at (value_in w.scope p).is_clean (value_in w.scope p).of (map (added_in w.scope) addends))
       ≡ over_layer needed w (Expression-F.Sum p addends)
   sum_walk needed addends e =
-      rw e (several (map (λ a. a.value) addends) (sum_faults p.at (value_in w.scope p).is_clean (value_in w.scope p).of (map (added_in w.scope) addends)))
+      rw e (several (map (λ a. a.value) addends) (sum_faults p.at (value_in w.scope p).is_clean (value_in w.scope p).of
+      (map (added_in w.scope) addends)))
 
 -- ---- sums
 
@@ -98,6 +104,7 @@ module _ (scope : Scope) where
   last_operator first [] = refl
   last_operator first (a ∷ more) = last_operator (Some (result_type a.operator)) more
 
-  pub values_of_addends : (addends : List AddendPart) → map (λ a. a.value) (map (added_in scope) addends) ≡ map (λ a. value_in scope a.value) addends
+  pub values_of_addends : (addends : List AddendPart) → map (λ a. a.value) (map (added_in scope) addends) ≡ map
+      (λ a. value_in scope a.value) addends
   values_of_addends [] = refl
   values_of_addends (a ∷ more) = ap (λ vs. value_in scope a.value ∷ vs) (values_of_addends more)

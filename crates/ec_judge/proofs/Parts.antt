@@ -66,7 +66,8 @@ no_name_of_chain form.Itself links name e = cc
 no_name_of_chain form.Other links name e = cc
 
 -- a name alone begins with itself, and is one tree node
-layer_of_name : (scope : Scope) (x : AnExpression) (name : Name) → form_of x ≡ form.NameAlone name → (first_token x ≡ name.at) × (nodes_of scope x ≡ 1)
+layer_of_name : (scope : Scope) (x : AnExpression) (name : Name) → form_of x ≡ form.NameAlone name →
+    (first_token x ≡ name.at) × (nodes_of scope x ≡ 1)
 layer_of_name scope (Expression-F.Expression::Variable own) name e = (cc, refl)
 layer_of_name scope (Expression-F.Parenthesised p at) name e = absurd (no_name_in_parentheses p.form name e)
 layer_of_name scope (Expression-F.Postfix head links) name e = absurd (no_name_of_chain head.form links name e)

@@ -1,5 +1,6 @@
 -- The steps along a chain as the code takes them: from what the calls find and leave behind to what the rules say.
-use Rattle.std.proofs.Common.{◌≡◌, ℕ, ◌+◌, ◌<◌, ◌≤◌, ◌-◌, ◌||◌, not, Bool, List, [], ◌∷◌, drop, get_or, length, map, refl, sym, ap, ◌∙◌, arith}
+use Rattle.std.proofs.Common.{◌≡◌, ℕ, ◌+◌, ◌<◌, ◌≤◌, ◌-◌, ◌||◌, not, Bool, List, [], ◌∷◌, drop, get_or, length, map, refl, sym}
+use Rattle.std.proofs.Common.{ap, ◌∙◌, arith}
 use Rattle.std.proofs.Math.Dec.{eqb}
 use Rattle.std.proofs.lemmas.Bool.{eq-eqb, ne_eqb}
 use Rattle.std.proofs.lemmas.List.{append-nil, at_drop_all, at_drop_more, length-drop}
@@ -33,7 +34,8 @@ module _ (w v : Walk) (p : Passed) (name : Name) (arguments : List Part) (found 
       walk_of v.scope faults v.uses ≡ over_link w needed p (call name arguments)
   unfolding walked
   call_walk needed faults n =
-      behind_operands w v arguments (call_faults w.scope.table needed (callee w.scope p.before name) name (values_in w.scope arguments)) faults e
+      behind_operands w v arguments (call_faults w.scope.table needed (callee w.scope p.before name) name (values_in w.scope arguments))
+      faults e
       (n
       ∙ ap (λ (t : Walk). noted v.faults (call_faults t.scope.table needed (callee t.scope p.before name) name found)) e
       ∙ ap (λ xs. noted v.faults (call_faults w.scope.table needed (callee w.scope p.before name) name xs)) f)
@@ -58,7 +60,8 @@ module _ (w v : Walk) (p : Passed) (number : Part) (at : Span) (found : Judged) 
 
 -- ---- a link
 
-pub passed_value : (w end : Walk) (needed : Bool) (p : Passed) (l : LinkPart) (linked : Linked) (clean : Bool) → linked ≡ link_found w.scope p l →
+pub passed_value : (w end : Walk) (needed : Bool) (p : Passed) (l : LinkPart) (linked : Linked) (clean : Bool) →
+    linked ≡ link_found w.scope p l →
     end ≡ over_link (walk_of w.scope (begun w.faults) w.uses) needed p l → clean ≡ end.faults.is_clean →
     passed_with p linked clean ≡ passed w.scope needed p l
 unfolding walked
@@ -99,5 +102,6 @@ last_by n m (y ∷ ys) e le = ne_eqb n m (λ same. absurd (omega arith))
 pub last_at : (xs : List Link) (i : ℕ) → i < length xs → eqb (i + 1) (length xs) ≡ is_last (map link_of (drop (i + 1) xs))
 last_at xs i lt = last_by (i + 1) (length xs) (drop (i + 1) xs) (length-drop (i + 1) xs) (omega arith)
 
-pub pass_end : (w : Walk) (needed : Bool) (p : Passed) (xs : List Link) (i : ℕ) → length xs ≤ i → w ≡ over_links w needed p (map link_of (drop i xs))
+pub pass_end : (w : Walk) (needed : Bool) (p : Passed) (xs : List Link) (i : ℕ) → length xs ≤ i →
+    w ≡ over_links w needed p (map link_of (drop i xs))
 pass_end w needed p xs i le = sym (walked_none w) ∙ sym (at_drop_all (λ ys. over_links w needed p (map link_of ys)) xs i le)

@@ -21,7 +21,8 @@ use Rattle.ec_judge.proofs.Walks.{walk_of, walked_noted}
 use Rattle.ec_rules.specs.Captures.{uses_outside}
 use Rattle.ec_rules.specs.Doubled.{doubled}
 use Rattle.ec_rules.specs.EndNames.{differs, name_of_constant}
-use Rattle.ec_rules.specs.Faults.{HasFaults, StaticFaults, constants_done, faults_in_constant, faults_of_constants, faults_of_program, scope_of_program, too_large_program, value_done}
+use Rattle.ec_rules.specs.Faults.{HasFaults, StaticFaults, constants_done, faults_in_constant, faults_of_constants}
+use Rattle.ec_rules.specs.Faults.{faults_of_program, scope_of_program, too_large_program, value_done}
 use Rattle.ec_rules.specs.Forms.{Form}
 use Rattle.ec_rules.specs.Judging.{faults_in_holder, uses_within}
 use Rattle.ec_rules.specs.Lists.{each, each_of}
@@ -67,7 +68,8 @@ value_faults_are w next p name of e =
 
 -- ---- a class
 
-pub class_ruled : (w v : Walk) (h : Holder) (name : Name) (faults : Faults) → v ≡ over_holder w h → faults ≡ noted v.faults (differs name h.name) →
+pub class_ruled : (w v : Walk) (h : Holder) (name : Name) (faults : Faults) → v ≡ over_holder w h →
+    faults ≡ noted v.faults (differs name h.name) →
     walk_of v.scope faults v.uses ≡ behind_class w name h
 unfolding walked
 class_ruled w v h name faults e n =
@@ -102,13 +104,15 @@ module _ (scope : Scope) (xs : List Constant) (i : ℕ) (x : Constant) (lt : i <
       ∙ ap (λ y. done_both d (constants_done scope (constant_part y ∷ rest))) is
       ∙ sym (at_drop_more (λ ys. done_both d (constants_done scope (map constant_part ys))) xs i x lt)
 
-pub constants_done_first : (scope : Scope) (cs : List ConstantPart) → done_both nothing_done (constants_done scope cs) ≡ constants_done scope cs
+pub constants_done_first : (scope : Scope) (cs : List ConstantPart) →
+    done_both nothing_done (constants_done scope cs) ≡ constants_done scope cs
 constants_done_first scope [] = refl
 constants_done_first scope (c ∷ cs) = none_before (value_done scope c.value) (constants_done scope cs)
 
 -- ---- the program
 
-too_large_by_done : (scope : Scope) (cs : List ConstantPart) → programs.too_large_program cs (constants_done scope cs) ≡ too_large_program scope cs
+too_large_by_done : (scope : Scope) (cs : List ConstantPart) →
+    programs.too_large_program cs (constants_done scope cs) ≡ too_large_program scope cs
 too_large_by_done scope [] = refl
 too_large_by_done scope (c ∷ cs) = refl
 

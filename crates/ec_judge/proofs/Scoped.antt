@@ -7,13 +7,17 @@ use Rattle.ec_conform.specs.declared.static_type.StaticType.{StaticType}
 use Rattle.ec_judge.specs.Holders.{holder_of, object_with}
 use Rattle.ec_judge.specs.declared.holders.Heading.{Heading}
 use Rattle.ec_rules.specs.Lists.{each}
-use Rattle.ec_rules.specs.Members.{constant_entry, field_names, field_names_in, fields_in, fields_of, members_of, parameter_entries, result_entries, scope_of, scope_of_names}
+use Rattle.ec_rules.specs.Members.{constant_entry, field_names, field_names_in, fields_in, fields_of, members_of}
+use Rattle.ec_rules.specs.Members.{parameter_entries, result_entries, scope_of, scope_of_names}
 use Rattle.ec_rules.specs.Parts.{MemberPart}
 use Rattle.ec_scopes.specs.declared.entries.Entry.{Entry}
 use Rattle.ec_scopes.specs.declared.object.Object.{Object}
 use Rattle.ec_scopes.specs.declared.scope.Scope.{Scope}
 use Rattle.ec_scopes.specs.Scopes.{declaring, outside, within, written_in}
 use Rattle.ec_scopes.proofs.Scopes.{declaring-declaring, declaring-none, outside-within}
+
+pub declared_none : (scope : Scope) → declaring [] scope ≡ scope
+declared_none scope = declaring-none scope
 
 pub none_behind : (entries : List Entry) → entries ++ [] ≡ entries
 none_behind entries = append-nil entries
@@ -37,7 +41,8 @@ parameter_next scope next entry of ps i p lt is t e n =
     ∙ ap (λ y. declaring (parameter_entries scope (y ∷ rest)) scope) is
     ∙ sym (at_drop_more (λ ys. declaring (parameter_entries scope ys) scope) ps i p lt)
 
-pub parameters_end : (scope : Scope) (ps : List Parameter) (i : ℕ) → length ps ≤ i → scope ≡ declaring (parameter_entries scope (drop i ps)) scope
+pub parameters_end : (scope : Scope) (ps : List Parameter) (i : ℕ) → length ps ≤ i →
+    scope ≡ declaring (parameter_entries scope (drop i ps)) scope
 parameters_end scope ps i le =
     sym (declaring-none scope) ∙ sym (at_drop_all (λ ys. declaring (parameter_entries scope ys) scope) ps i le)
 
@@ -64,7 +69,8 @@ module _ (scope enter leave : Scope) (heading : Heading) (body : Body) (members 
   enter_is =
       e
       ∙ ap (within scope)
-      (o ∙ ap (object_with scope heading members) names_in ∙ ap (λ ms. object_with scope heading ms (field_names (holder_of heading body))) m)
+      (o ∙ ap (object_with scope heading members) names_in ∙ ap
+      (λ ms. object_with scope heading ms (field_names (holder_of heading body))) m)
 
   fields_in_body : fields ≡ fields_of scope (holder_of heading body)
   fields_in_body =

@@ -7,7 +7,8 @@ use Rattle.ec_ast.specs.declared.Span.{Span}
 use Rattle.ec_ast.specs.declared.TypeName.{TypeName}
 use Rattle.ec_ast.specs.declared.Statement.{Statement}
 use Rattle.ec_ast.specs.declared.Expression.TheOpen.{Statement-F}
-use Rattle.ec_judge.specs.Blocks.{all_finished, behind, behind_layer, constant_faults, counted, declared, done_if, over_part_if, variable_faults}
+use Rattle.ec_judge.specs.Blocks.{all_finished, behind, behind_layer, constant_faults, counted, declared, done_if, over_part_if}
+use Rattle.ec_judge.specs.Blocks.{variable_faults}
 use Rattle.ec_judge.specs.declared.walk.Walk.{Walk}
 use Rattle.ec_judge.specs.Walks.{walked, noting, in_scope, over_finished, over_operand, over_part}
 use Rattle.ec_judge.proofs.Layers.{one_operand, same_walked}
@@ -43,7 +44,8 @@ unfolding statement_part
 behind_by_layer w s = ap (λ (p : StatementPart). behind w p) (statement_is_layer s)
 
 -- what declares nothing leaves the scope
-pub behind_undeclared : (w : Walk) (s : AStatement) → entries_of s w.scope ≡ [] → over_finished w (statement_finished s w.scope) ≡ behind_layer w s
+pub behind_undeclared : (w : Walk) (s : AStatement) → entries_of s w.scope ≡ [] →
+    over_finished w (statement_finished s w.scope) ≡ behind_layer w s
 unfolding walked
 behind_undeclared w s e =
     ap (in_scope (over_finished w (statement_finished s w.scope)))
@@ -52,16 +54,20 @@ behind_undeclared w s e =
 -- ---- one operand
 
 module _ (w : Walk) (p : Part) (at : Span) where
-  pub print_walk : over_operand w p (wants wanted.String (value_in w.scope p)) ≡ over_finished w (statement_finished (Statement-F.Print p at) w.scope)
+  pub print_walk : over_operand w p (wants wanted.String (value_in w.scope p)) ≡ over_finished w
+      (statement_finished (Statement-F.Print p at) w.scope)
   print_walk = one_operand w p (wants wanted.String (value_in w.scope p))
 
-  pub assert_walk : over_operand w p (wants wanted.Boolean (value_in w.scope p)) ≡ over_finished w (statement_finished (Statement-F.Assert p at) w.scope)
+  pub assert_walk : over_operand w p (wants wanted.Boolean (value_in w.scope p)) ≡ over_finished w
+      (statement_finished (Statement-F.Assert p at) w.scope)
   assert_walk = one_operand w p (wants wanted.Boolean (value_in w.scope p))
 
-  pub unfix_walk : over_operand w p (wants wanted.Reference (value_in w.scope p)) ≡ over_finished w (statement_finished (Statement-F.Unfix p at) w.scope)
+  pub unfix_walk : over_operand w p (wants wanted.Reference (value_in w.scope p)) ≡ over_finished w
+      (statement_finished (Statement-F.Unfix p at) w.scope)
   unfix_walk = one_operand w p (wants wanted.Reference (value_in w.scope p))
 
-pub invoke_walk : (w : Walk) (p : Part) → over_finished w (dropped p w.scope) ≡ over_finished w (statement_finished (Statement-F.Invoke p) w.scope)
+pub invoke_walk : (w : Walk) (p : Part) → over_finished w (dropped p w.scope) ≡ over_finished w
+    (statement_finished (Statement-F.Invoke p) w.scope)
 invoke_walk w p = simp append-nil refl
 
 pub loop_walk : (w : Walk) (block : Piece) (at : Span) →
@@ -73,10 +79,12 @@ loop_walk w block at = simp append-nil refl
 pub return_walk : (w : Walk) (at : Span) → w ≡ over_finished w (statement_finished (Statement-F.Return at) w.scope)
 return_walk w at = sym (walked_none w)
 
-pub wait_walk : (w : Walk) (name : Name) (at : Span) → noting w (condition_used w.scope name) ≡ over_finished w (statement_finished (Statement-F.Wait name at) w.scope)
+pub wait_walk : (w : Walk) (name : Name) (at : Span) → noting w (condition_used w.scope name) ≡ over_finished w
+    (statement_finished (Statement-F.Wait name at) w.scope)
 wait_walk w name at = simp append-nil refl
 
-pub signal_walk : (w : Walk) (name : Name) (at : Span) → noting w (condition_used w.scope name) ≡ over_finished w (statement_finished (Statement-F.Signal name at) w.scope)
+pub signal_walk : (w : Walk) (name : Name) (at : Span) → noting w (condition_used w.scope name) ≡ over_finished w
+    (statement_finished (Statement-F.Signal name at) w.scope)
 signal_walk w name at = simp append-nil refl
 
 -- ---- two operands
@@ -90,7 +98,8 @@ module _ (w : Walk) (p q : Part) where
       walked_walked w (faults_in w.scope p) (faults_in w.scope q ++ own) (uses_in w.scope p) (uses_in w.scope q)
       ∙ same_walked w _ _ _ _ (simp (append-nil, append_assoc) refl) (simp append-nil refl)
 
-  pub assign_walk : over_operand (over_part w p) q (must_conform_if w.scope.table (value_in w.scope p).of (value_in w.scope q) ++ assigned_form w.scope p.form)
+  pub assign_walk : over_operand (over_part w p) q (must_conform_if w.scope.table (value_in w.scope p).of
+      (value_in w.scope q) ++ assigned_form w.scope p.form)
       ≡ over_finished w (statement_finished (Statement-F.Assign p q) w.scope)
   assign_walk =
       two_operands (must_conform_if w.scope.table (value_in w.scope p).of (value_in w.scope q) ++ assigned_form w.scope p.form)
@@ -122,7 +131,8 @@ variable_walk w name of (Some p) =
     ∙ same_walked w _ _ _ _ (simp (append-nil, append_assoc) refl) refl)
 
 pub constant_walk : (w : Walk) (name : Name) (of : Option TypeName) (p : Part) →
-    declared (over_part w p) (constant_faults w.scope name of p.form (value_in w.scope p)) (constant_entry name (constant_type w.scope of p.form))
+    declared (over_part w p) (constant_faults w.scope name of p.form (value_in w.scope p))
+    (constant_entry name (constant_type w.scope of p.form))
     ≡ behind_layer w (Statement-F.LocalConstant name of p)
 unfolding walked
 constant_walk w name None p =
@@ -142,11 +152,13 @@ variable_done scope name of (Some p) = refl
 -- ---- exits
 
 pub exit_walk : (w : Walk) (when : Option Part) (at : Span) →
-    noting (over_part_if w when) (each_of (wants wanted.Boolean) (option_map (value_in w.scope) when) ++ fault_unless (is_in_loop w.scope) ExitOutside at)
+    noting (over_part_if w when) (each_of (wants wanted.Boolean) (option_map (value_in w.scope) when) ++ fault_unless
+    (is_in_loop w.scope) ExitOutside at)
     ≡ over_finished w (statement_finished (Statement-F.Exit when at) w.scope)
 exit_walk w None at = refl
 exit_walk w (Some p) at =
-    walked_walked w (faults_in w.scope p) (wants wanted.Boolean (value_in w.scope p) ++ fault_unless (is_in_loop w.scope) ExitOutside at) (uses_in w.scope p) []
+    walked_walked w (faults_in w.scope p) (wants wanted.Boolean (value_in w.scope p) ++ fault_unless (is_in_loop w.scope) ExitOutside at)
+    (uses_in w.scope p) []
     ∙ same_walked w _ _ _ _ (simp (append-nil, append_assoc) refl) refl
 
 pub exit_done : (scope : Scope) (when : Option Part) (at : Span) →
@@ -175,26 +187,34 @@ module _ (scope : Scope) where
 
   pieces_finished : (ps : List Piece) → all_finished ps scope ≡ finished_of (done_of_pieces ps) (uses_of_pieces ps) (faults_of_pieces ps)
   pieces_finished [] = refl
-  pieces_finished (p ∷ ps) = ap (λ (f : Finished). finished_of (done_both (p scope).done f.done) ((p scope).uses ++ f.uses) ((p scope).faults ++ f.faults)) (pieces_finished ps)
+  pieces_finished (p ∷ ps) =
+      ap (λ (f : Finished). finished_of (done_both (p scope).done f.done) ((p scope).uses ++ f.uses) ((p scope).faults ++ f.faults))
+      (pieces_finished ps)
 
 -- ---- the arms of an `if`, and its other block
 
 module _ (scope : Scope) (other : Option Piece) where
-  faults_of_both : (ps : List Piece) → faults_of_pieces scope (ps ++ pieces_of_block other) ≡ faults_of_pieces scope ps ++ (finished_if scope other).faults
+  faults_of_both : (ps : List Piece) → faults_of_pieces scope
+      (ps ++ pieces_of_block other) ≡ faults_of_pieces scope ps ++ (finished_if scope other).faults
   faults_of_both [] = faults_of_block other
     where
       faults_of_block : (o : Option Piece) → faults_of_pieces scope (pieces_of_block o) ≡ (finished_if scope o).faults
       faults_of_block None = refl
       faults_of_block (Some b) = append-nil (b scope).faults
-  faults_of_both (p ∷ ps) = ap (λ fs. (p scope).faults ++ fs) (faults_of_both ps) ∙ sym (append_assoc (p scope).faults (faults_of_pieces scope ps) (finished_if scope other).faults)
+  faults_of_both (p ∷ ps) =
+      ap (λ fs. (p scope).faults ++ fs) (faults_of_both ps) ∙ sym
+      (append_assoc (p scope).faults (faults_of_pieces scope ps) (finished_if scope other).faults)
 
-  uses_of_both : (ps : List Piece) → uses_of_pieces scope (ps ++ pieces_of_block other) ≡ uses_of_pieces scope ps ++ (finished_if scope other).uses
+  uses_of_both : (ps : List Piece) → uses_of_pieces scope (ps ++ pieces_of_block other) ≡ uses_of_pieces scope
+      ps ++ (finished_if scope other).uses
   uses_of_both [] = uses_of_block other
     where
       uses_of_block : (o : Option Piece) → uses_of_pieces scope (pieces_of_block o) ≡ (finished_if scope o).uses
       uses_of_block None = refl
       uses_of_block (Some b) = append-nil (b scope).uses
-  uses_of_both (p ∷ ps) = ap (λ us. (p scope).uses ++ us) (uses_of_both ps) ∙ sym (append_assoc (p scope).uses (uses_of_pieces scope ps) (finished_if scope other).uses)
+  uses_of_both (p ∷ ps) =
+      ap (λ us. (p scope).uses ++ us) (uses_of_both ps) ∙ sym
+      (append_assoc (p scope).uses (uses_of_pieces scope ps) (finished_if scope other).uses)
 
 -- one more piece before the others
 plus_before : (a n t s : ℕ) → plus t n ≡ plus 0 s → plus (plus a t) n ≡ plus 0 (plus a s)
@@ -214,13 +234,17 @@ module _ (scope : Scope) (f : Done → ℕ) where
       max (greatest of_piece ps) (of_other other) ≡ greatest of_piece (ps ++ pieces_of_block other)
   greatest_of_both z None [] = omega arith
   greatest_of_both z (Some b) [] = omega arith
-  greatest_of_both z other (p ∷ ps) = max_before (of_piece p) (of_other other) (greatest of_piece ps) (greatest of_piece (ps ++ pieces_of_block other)) (greatest_of_both z other ps)
+  greatest_of_both z other (p ∷ ps) =
+      max_before (of_piece p) (of_other other) (greatest of_piece ps) (greatest of_piece (ps ++ pieces_of_block other))
+      (greatest_of_both z other ps)
 
   total_of_both : f nothing_done ≡ 0 → (other : Option Piece) (ps : List Piece) →
       plus (total of_piece ps) (of_other other) ≡ plus 0 (total of_piece (ps ++ pieces_of_block other))
   total_of_both z None [] = rw z refl
   total_of_both z (Some b) [] = omega arith
-  total_of_both z other (p ∷ ps) = plus_before (of_piece p) (of_other other) (total of_piece ps) (total of_piece (ps ++ pieces_of_block other)) (total_of_both z other ps)
+  total_of_both z other (p ∷ ps) =
+      plus_before (of_piece p) (of_other other) (total of_piece ps) (total of_piece (ps ++ pieces_of_block other))
+      (total_of_both z other ps)
 
 module _ (scope : Scope) (arms : List ArmPart) (other : Option Piece) (at : Span) where
   abbrev arm_pieces : List Piece
@@ -249,7 +273,9 @@ pub if_walk : (w : Walk) (arms : List ArmPart) (other : Option Piece) (at : Span
 if_walk w arms other at =
     let ps = map piece_of_arm arms in
     let e = pieces_finished w.scope ps in
-    walked_walked w (all_finished ps w.scope).faults (finished_if w.scope other).faults (all_finished ps w.scope).uses (finished_if w.scope other).uses
+    walked_walked w (all_finished ps w.scope).faults (finished_if w.scope other).faults (all_finished ps w.scope).uses
+    (finished_if w.scope other).uses
     ∙ same_walked w _ _ _ _
-    (ap (λ (f : Finished). f.faults ++ (finished_if w.scope other).faults) e ∙ sym (faults_of_both w.scope other ps) ∙ sym (append-nil (faults_of_pieces w.scope (ps ++ pieces_of_block other))))
+    (ap (λ (f : Finished). f.faults ++ (finished_if w.scope other).faults) e ∙ sym (faults_of_both w.scope other ps)
+    ∙ sym (append-nil (faults_of_pieces w.scope (ps ++ pieces_of_block other))))
     (ap (λ (f : Finished). f.uses ++ (finished_if w.scope other).uses) e ∙ sym (uses_of_both w.scope other ps))

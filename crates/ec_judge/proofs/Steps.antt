@@ -1,5 +1,6 @@
 -- The steps of the walk as the code takes them: from what the calls find and leave behind to what the rules say.
-use Rattle.std.proofs.Common.{◌≡◌, ℕ, Bool, true, false, List, [], ◌∷◌, ◌++◌, length, map, max, Option, Some, None, Result, Ok, Err, refl, sym, ap, ◌∙◌, append_assoc, arith}
+use Rattle.std.proofs.Common.{◌≡◌, ℕ, Bool, true, false, List, [], ◌∷◌, ◌++◌, length, map, max, Option, Some, None, Result, Ok}
+use Rattle.std.proofs.Common.{Err, refl, sym, ap, ◌∙◌, append_assoc, arith}
 use Rattle.std.specs.Prelude.{is_some, option_map, OnOk}
 use Rattle.std.proofs.lemmas.List.{append-nil}
 use Rattle.ec_ast.specs.declared.Additive.{Additive}
@@ -19,13 +20,15 @@ use Rattle.ec_judge.specs.Blocks as blocks
 use Rattle.ec_judge.specs.Blocks.{behind, behind_layer, over_part_if}
 use Rattle.ec_judge.specs.Holders as holders
 use Rattle.ec_judge.specs.Walks as spec
-use Rattle.ec_judge.specs.Walks.{walked, noting, in_scope, over_finished, over_layer, over_operand, over_operands, over_part, over_parts, looked}
+use Rattle.ec_judge.specs.Walks.{walked, noting, in_scope, over_finished, over_layer, over_operand, over_operands, over_part}
+use Rattle.ec_judge.specs.Walks.{over_parts, looked}
 use Rattle.ec_judge.specs.declared.walk.Looked.{Looked}
 use Rattle.ec_judge.specs.declared.walk.Walk.{Walk}
 use Rattle.ec_judge.proofs.Judged.{arm_behind}
 use Rattle.ec_judge.proofs.Layers.{same_walked, sum_walk, compare_walk, term_walk, and_walk, or_walk}
 use Rattle.ec_judge.proofs.Parts.{part_at}
-use Rattle.ec_judge.proofs.Statements.{assign_walk, behind_by_layer, behind_undeclared, constant_walk, exit_walk, finished_by_layer, fix_walk, move_walk, refix_walk, variable_walk}
+use Rattle.ec_judge.proofs.Statements.{assign_walk, behind_by_layer, behind_undeclared, constant_walk, exit_walk}
+use Rattle.ec_judge.proofs.Statements.{finished_by_layer, fix_walk, move_walk, refix_walk, variable_walk}
 use Rattle.ec_judge.proofs.Bodies.{constant_field_walk, variable_field_walk}
 use Rattle.ec_judge.proofs.Walks.{walk_of, walked_walked}
 use Rattle.ec_rules.specs.Assignments.{assigned_form}
@@ -39,7 +42,8 @@ use Rattle.ec_rules.specs.Members.{constant_type}
 use Rattle.ec_rules.specs.Names.{is_found, unknown_types}
 use Rattle.ec_rules.specs.Nodes.{chain_nodes}
 use Rattle.ec_rules.specs.Operands.{added_in, comparison_faults, must_conform_if, sum_faults, wants, wants_all}
-use Rattle.ec_rules.specs.Parts.{AddendPart, ArmPart, AStatement, FactorPart, variable, constant, ObjectPart, Part, Piece, faults_in, uses_in, value_in, values_in}
+use Rattle.ec_rules.specs.Parts.{AddendPart, ArmPart, AStatement, FactorPart, variable, constant, ObjectPart, Part, Piece}
+use Rattle.ec_rules.specs.Parts.{faults_in, uses_in, value_in, values_in}
 use Rattle.ec_rules.specs.Rules.{fault_unless, noted}
 use Rattle.ec_rules.specs.Statements.{looped, piece_of_arm}
 use Rattle.ec_rules.specs.Tree.{arm_of, block_of, part_of, statement_of, statement_layer}
@@ -79,7 +83,8 @@ behind_operand w v p own faults e f =
     ∙ ap (λ (x : Walk). walk_of x.scope (noted x.faults own) x.uses) e
     ∙ ap (λ x. walk_of w.scope x (w.uses ++ uses_in w.scope p)) (noted_joined w.faults (faults_in w.scope p) own)
 
-pub behind_operands : (w v : Walk) (ps : List Part) (own : List StaticFault) (faults : Faults) → v ≡ over_parts w ps → faults ≡ noted v.faults own →
+pub behind_operands : (w v : Walk) (ps : List Part) (own : List StaticFault) (faults : Faults) → v ≡ over_parts w ps →
+    faults ≡ noted v.faults own →
     walk_of v.scope faults v.uses ≡ over_operands w ps own
 unfolding walked
 behind_operands w v ps own faults e f =
@@ -113,7 +118,8 @@ undeclared_is w x y l none i j = behind_undeclared w l none ∙ walk_is w x y l 
 
 -- ---- declarations
 
-pub declared_constant : (w v u next : Walk) (p : Part) (name : Name) (of : Option TypeName) (form : Form) (found : Judged) (t : Option StaticType) →
+pub declared_constant : (w v u next : Walk) (p : Part) (name : Name) (of : Option TypeName) (form : Form) (found : Judged)
+    (t : Option StaticType) →
     v ≡ over_part w p → found ≡ value_in w.scope p → form ≡ p.form →
     u ≡ noting v (blocks.constant_faults v.scope name of form found) → t ≡ constant_type v.scope of form →
     next ≡ in_scope u (declaring (record { name = name.text; of = t; is_variable = false } ∷ []) u.scope) →
@@ -169,16 +175,21 @@ module _ (w v : Walk) (p q : Part) (to : Judged) (e : v ≡ over_part w p) (t : 
   unfolding walked
   assigned_done form f =
       rw (f, t, e)
-      (ap (λ n. done_with (blocks.assigned p.form (value_in w.scope p) (value_in w.scope q)).height n 0) (two_nodes (value_in w.scope p).nodes (value_in w.scope q).nodes)
-      ∙ ap (done_with (blocks.assigned p.form (value_in w.scope p) (value_in w.scope q)).height (plus 1 (plus (value_in w.scope p).nodes (plus (value_in w.scope q).nodes 0)))) no_variables)
+      (ap (λ n. done_with (blocks.assigned p.form (value_in w.scope p) (value_in w.scope q)).height n 0)
+      (two_nodes (value_in w.scope p).nodes (value_in w.scope q).nodes)
+      ∙ ap (done_with (blocks.assigned p.form (value_in w.scope p) (value_in w.scope q)).height
+      (plus 1 (plus (value_in w.scope p).nodes (plus (value_in w.scope q).nodes 0)))) no_variables)
 
   moved_done : blocks.moved to (value_in v.scope q)
-      ≡ done_with (blocks.moved (value_in w.scope p) (value_in w.scope q)).height (plus 1 (plus (value_in w.scope p).nodes (plus (value_in w.scope q).nodes 0))) (plus 0 (plus 0 (plus 0 0)))
+      ≡ done_with (blocks.moved (value_in w.scope p) (value_in w.scope q)).height
+      (plus 1 (plus (value_in w.scope p).nodes (plus (value_in w.scope q).nodes 0))) (plus 0 (plus 0 (plus 0 0)))
   unfolding walked
   moved_done =
       rw (t, e)
-      (ap (λ n. done_with (blocks.moved (value_in w.scope p) (value_in w.scope q)).height n 0) (two_nodes (value_in w.scope p).nodes (value_in w.scope q).nodes)
-      ∙ ap (done_with (blocks.moved (value_in w.scope p) (value_in w.scope q)).height (plus 1 (plus (value_in w.scope p).nodes (plus (value_in w.scope q).nodes 0)))) no_variables)
+      (ap (λ n. done_with (blocks.moved (value_in w.scope p) (value_in w.scope q)).height n 0)
+      (two_nodes (value_in w.scope p).nodes (value_in w.scope q).nodes)
+      ∙ ap (done_with (blocks.moved (value_in w.scope p) (value_in w.scope q)).height
+      (plus 1 (plus (value_in w.scope p).nodes (plus (value_in w.scope q).nodes 0)))) no_variables)
 
   pub move_done : (at : Span) → blocks.moved to (value_in v.scope q) ≡ (statement_finished (Statement-F.Move p q at) w.scope).done
   move_done at = moved_done
@@ -231,7 +242,8 @@ module _ (w v : Walk) (x : Expression) (head : Judged) (needed : Bool) (e : v �
   first = value_in w.scope (part_of x)
 
   pub term_looked : (factors : List FactorPart) →
-      spec.chained (Some kinds.integer) head (map (λ f. value_in v.scope f.value) factors) ≡ looked needed w.scope (Expression-F.Term (part_of x) factors)
+      spec.chained (Some kinds.integer) head (map (λ f. value_in v.scope f.value) factors) ≡ looked needed w.scope
+      (Expression-F.Term (part_of x) factors)
   unfolding walked
   term_looked factors =
       let more = map (λ f. value_in w.scope f.value) factors in
@@ -242,16 +254,20 @@ module _ (w v : Walk) (x : Expression) (head : Judged) (needed : Bool) (e : v �
       ≡ over_layer needed w (Expression-F.Term (part_of x) factors)
   unfolding walked
   term_walked factors =
-      ap (λ (t : Walk). over_operands t (map (λ f. f.value) factors) (wants_all wanted.Integer (head ∷ map (λ f. value_in t.scope f.value) factors))) e
-      ∙ ap (λ hd. over_operands (over_part w (part_of x)) (map (λ f. f.value) factors) (wants_all wanted.Integer (hd ∷ map (λ f. value_in w.scope f.value) factors))) h
+      ap (λ (t : Walk). over_operands t (map (λ f. f.value) factors)
+      (wants_all wanted.Integer (head ∷ map (λ f. value_in t.scope f.value) factors))) e
+      ∙ ap (λ hd. over_operands (over_part w (part_of x)) (map (λ f. f.value) factors)
+      (wants_all wanted.Integer (hd ∷ map (λ f. value_in w.scope f.value) factors))) h
       ∙ term_walk w (part_of x) needed factors
 
   pub sum_looked : (addends : List AddendPart) →
-      spec.chained (type_of_sum head.of addends) head (map (λ a. value_in v.scope a.value) addends) ≡ looked needed w.scope (Expression-F.Sum (part_of x) addends)
+      spec.chained (type_of_sum head.of addends) head (map (λ a. value_in v.scope a.value) addends) ≡ looked needed w.scope
+      (Expression-F.Sum (part_of x) addends)
   unfolding walked
   sum_looked addends =
       let more = map (λ a. value_in w.scope a.value) addends in
-      rw (h, e) (ap (λ at. looked_of at (type_of_sum first.of addends) (chain_height first more) (chain_nodes first more)) (part_at x w.scope))
+      rw (h, e) (ap (λ at. looked_of at (type_of_sum first.of addends) (chain_height first more) (chain_nodes first more))
+      (part_at x w.scope))
 
   pub sum_walked : (addends : List AddendPart) →
       over_operands v (map (λ a. a.value) addends) (sum_faults head.at head.is_clean head.of (map (added_in v.scope) addends))
@@ -271,7 +287,8 @@ module _ (w v : Walk) (x : Expression) (head : Judged) (needed : Bool) (e : v �
   unfolding walked
   compare_walked op at q = rw (h, e) (compare_walk w (part_of x) needed op at q)
 
-  pub and_looked : (more : List Part) → spec.joined head (values_in v.scope more) ≡ looked needed w.scope (Expression-F.And (part_of x) more)
+  pub and_looked : (more : List Part) → spec.joined head (values_in v.scope more) ≡ looked needed w.scope
+      (Expression-F.And (part_of x) more)
   unfolding walked
   and_looked more =
       let c = spec.joined first (values_in w.scope more) in
@@ -280,7 +297,8 @@ module _ (w v : Walk) (x : Expression) (head : Judged) (needed : Bool) (e : v �
       ∙ ap (λ place. looked_of place c.of c.height c.nodes) (part_at x w.scope)
 
   pub and_walked : (more : List Part) →
-      over_operands v more (wants_all wanted.Boolean (head ∷ values_in v.scope more)) ≡ over_layer needed w (Expression-F.And (part_of x) more)
+      over_operands v more (wants_all wanted.Boolean (head ∷ values_in v.scope more)) ≡ over_layer needed w
+      (Expression-F.And (part_of x) more)
   unfolding walked
   and_walked more =
       ap (λ (t : Walk). over_operands t more (wants_all wanted.Boolean (head ∷ values_in t.scope more))) e
@@ -296,7 +314,8 @@ module _ (w v : Walk) (x : Expression) (head : Judged) (needed : Bool) (e : v �
       ∙ ap (λ place. looked_of place c.of c.height c.nodes) (part_at x w.scope)
 
   pub or_walked : (more : List Part) →
-      over_operands v more (wants_all wanted.Boolean (head ∷ values_in v.scope more)) ≡ over_layer needed w (Expression-F.Or (part_of x) more)
+      over_operands v more (wants_all wanted.Boolean (head ∷ values_in v.scope more)) ≡ over_layer needed w
+      (Expression-F.Or (part_of x) more)
   unfolding walked
   or_walked more =
       ap (λ (t : Walk). over_operands t more (wants_all wanted.Boolean (head ∷ values_in t.scope more))) e
@@ -320,34 +339,41 @@ module _ (w v : Walk) (p : Part) (of : TypeName) (at : Span) (found : Judged) (e
   unfolding walked
   new_vector_walked word next n =
       rw (n, f, e)
-      (walked_walked w (faults_in w.scope p) (unknown_types w.scope.table of ++ wants wanted.Integer (value_in w.scope p)) (uses_in w.scope p) []
+      (walked_walked w (faults_in w.scope p) (unknown_types w.scope.table of ++ wants wanted.Integer (value_in w.scope p))
+      (uses_in w.scope p) []
       ∙ same_walked w _ _ _ _ (simp (append-nil, append_assoc) refl) (simp append-nil refl))
 
   pub view_walked : (next : Walk) →
-      next ≡ noting v (unknown_types v.scope.table of ++ (wants wanted.Reference found ++ fault_unless (kinds.fits wanted.Reference (known (written_in v.scope of))) Mismatch (kinds.type_place of))) →
+      next ≡ noting v (unknown_types v.scope.table of ++ (wants wanted.Reference found ++ fault_unless
+      (kinds.fits wanted.Reference (known (written_in v.scope of))) Mismatch (kinds.type_place of))) →
       next ≡ over_layer true w (Expression-F.View p of at)
   unfolding walked
   view_walked next n =
       rw (n, f, e)
-      (walked_walked w (faults_in w.scope p) (unknown_types w.scope.table of ++ (wants wanted.Reference (value_in w.scope p) ++ fault_unless (kinds.fits wanted.Reference (known (written_in w.scope of))) Mismatch (kinds.type_place of))) (uses_in w.scope p) []
+      (walked_walked w (faults_in w.scope p) (unknown_types w.scope.table
+      of ++ (wants wanted.Reference (value_in w.scope p) ++ fault_unless
+      (kinds.fits wanted.Reference (known (written_in w.scope of))) Mismatch (kinds.type_place of))) (uses_in w.scope p) []
       ∙ same_walked w _ _ _ _ (simp (append-nil, append_assoc) refl) (simp append-nil refl))
 
 -- ---- arms
 
 module _ (w v : Walk) (arm : Arm) (found : Judged) (e : v ≡ over_part w (part_of (out-Arm arm).condition)) (f : found ≡ value_in w.scope (part_of (out-Arm arm).condition)) where
   pub arm_walked : (end : Walk) (faults : Faults) → faults ≡ noted v.faults (wants wanted.Boolean found) →
-      end ≡ over_finished (walk_of v.scope faults v.uses) (block_of (out-Arm arm).block v.scope) → end ≡ over_finished w (piece_of_arm (arm_of arm) w.scope)
+      end ≡ over_finished (walk_of v.scope faults v.uses) (block_of (out-Arm arm).block v.scope) →
+      end ≡ over_finished w (piece_of_arm (arm_of arm) w.scope)
   unfolding walked
   arm_walked end faults g n =
       let p = part_of (out-Arm arm).condition in
       let block = block_of (out-Arm arm).block in
       n
       ∙ ap (λ x. over_finished (walk_of v.scope x v.uses) (block v.scope)) (g ∙ ap (λ x. noted v.faults (wants wanted.Boolean x)) f)
-      ∙ ap (λ (t : Walk). over_finished (walk_of t.scope (noted t.faults (wants wanted.Boolean (value_in w.scope p))) t.uses) (block t.scope)) e
+      ∙ ap (λ (t : Walk). over_finished (walk_of t.scope (noted t.faults (wants wanted.Boolean (value_in w.scope p))) t.uses)
+      (block t.scope)) e
       ∙ arm_behind w p (wants wanted.Boolean (value_in w.scope p)) (block w.scope)
       ∙ ap (λ (a : ArmPart). over_finished w (piece_of_arm a w.scope)) (sym (arm_step arm))
 
-  pub arm_done : (d : Done) → d ≡ (block_of (out-Arm arm).block v.scope).done → blocks.tested found d ≡ (piece_of_arm (arm_of arm) w.scope).done
+  pub arm_done : (d : Done) → d ≡ (block_of (out-Arm arm).block v.scope).done →
+      blocks.tested found d ≡ (piece_of_arm (arm_of arm) w.scope).done
   unfolding walked
   arm_done d h =
       let p = part_of (out-Arm arm).condition in
@@ -377,15 +403,22 @@ object_found w v o captures number len height e c n l h =
 
 -- ---- fields
 
-pub variable_fielded : (w v next : Walk) (is_monitored is_attached : Bool) (name : Name) (of : TypeName) (x : Option Part) (found : Option Judged) →
-    v ≡ over_part_if w x → found ≡ option_map (value_in w.scope) x → next ≡ noting v (holders.variable_faults v.scope is_attached name of found) →
+pub variable_fielded : (w v next : Walk) (is_monitored is_attached : Bool) (name : Name) (of : TypeName) (x : Option Part)
+    (found : Option Judged) →
+    v ≡ over_part_if w x → found ≡ option_map (value_in w.scope) x →
+    next ≡ noting v (holders.variable_faults v.scope is_attached name of found) →
     next ≡ over_finished w (member_finished w.scope is_monitored (variable is_attached name of x))
 unfolding walked
-variable_fielded w v next is_monitored is_attached name of None found e f n = rw (n, f, e) (variable_field_walk w is_monitored is_attached name of None)
-variable_fielded w v next is_monitored is_attached name of (Some p) found e f n = rw (n, f, e) (variable_field_walk w is_monitored is_attached name of (Some p))
+variable_fielded w v next is_monitored is_attached name of None found e f n =
+    rw (n, f, e) (variable_field_walk w is_monitored is_attached name of None)
+variable_fielded w v next is_monitored is_attached name of (Some p) found e f n =
+    rw (n, f, e) (variable_field_walk w is_monitored is_attached name of (Some p))
 
-pub constant_fielded : (w v next : Walk) (is_monitored is_attached : Bool) (name : Name) (of : Option TypeName) (p : Part) (form : Form) (found : Judged) →
-    v ≡ over_part w p → found ≡ value_in w.scope p → form ≡ p.form → next ≡ noting v (holders.constant_faults v.scope is_attached name of form found) →
+pub constant_fielded : (w v next : Walk) (is_monitored is_attached : Bool) (name : Name) (of : Option TypeName) (p : Part) (form : Form)
+    (found : Judged) →
+    v ≡ over_part w p → found ≡ value_in w.scope p → form ≡ p.form →
+    next ≡ noting v (holders.constant_faults v.scope is_attached name of form found) →
     next ≡ over_finished w (member_finished w.scope is_monitored (constant is_attached name of p))
 unfolding walked
-constant_fielded w v next is_monitored is_attached name of p form found e f g n = rw (n, f, g, e) (constant_field_walk w is_monitored is_attached name of p)
+constant_fielded w v next is_monitored is_attached name of p form found e f g n =
+    rw (n, f, g, e) (constant_field_walk w is_monitored is_attached name of p)

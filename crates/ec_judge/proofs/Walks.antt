@@ -1,5 +1,5 @@
 -- What a walk leaves behind, one part after another.
-use Rattle.std.proofs.Common.{◌≡◌, List, [], ◌++◌, refl, ap, ◌∙◌, append_assoc}
+use Rattle.std.proofs.Common.{◌≡◌, List, [], ◌++◌, refl, sym, ap, ◌∙◌, append_assoc}
 use Rattle.std.proofs.lemmas.List.{append-nil}
 use Rattle.ec_judge.specs.declared.walk.Walk.{Walk}
 use Rattle.ec_judge.specs.Walks.{walked}
@@ -26,7 +26,8 @@ walked_walked w f g u v =
 
 pub walked_none : (w : Walk) → walked w [] [] ≡ w
 unfolding walked
-walked_none w = ap (λ faults. walk_of w.scope faults (w.uses ++ [])) (noted_none w.faults) ∙ ap (walk_of w.scope w.faults) (append-nil w.uses)
+walked_none w =
+    ap (λ faults. walk_of w.scope faults (w.uses ++ [])) (noted_none w.faults) ∙ ap (walk_of w.scope w.faults) (append-nil w.uses)
 
 -- faults behind a part
 pub walked_noted : (w : Walk) (f g : List StaticFault) (u : List Use) →
@@ -34,8 +35,18 @@ pub walked_noted : (w : Walk) (f g : List StaticFault) (u : List Use) →
 unfolding walked
 walked_noted w f g u = ap (λ faults. walk_of w.scope faults (w.uses ++ u)) (noted_joined w.faults f g)
 
+pub noted_walk : (w : Walk) (g : List StaticFault) → walk_of w.scope (noted w.faults g) w.uses ≡ walked w g []
+unfolding walked
+noted_walk w g = ap (walk_of w.scope (noted w.faults g)) (sym (append-nil w.uses))
+
+-- names behind faults
+pub used_walk : (w : Walk) (g : List StaticFault) (u : List Use) → walk_of w.scope (noted w.faults g) (w.uses ++ u) ≡ walked w g u
+unfolding walked
+used_walk w g u = refl
+
 -- a part begins and ends
-pub ended_walk : (w : Walk) (f : List StaticFault) (u : List Use) (part : Walk) → part ≡ walked (walk_of w.scope (begun w.faults) w.uses) f u →
+pub ended_walk : (w : Walk) (f : List StaticFault) (u : List Use) (part : Walk) →
+    part ≡ walked (walk_of w.scope (begun w.faults) w.uses) f u →
     walk_of part.scope (ended part.faults w.faults.is_clean) part.uses ≡ walked w f u
 unfolding walked
 ended_walk w f u part e = rw e refl

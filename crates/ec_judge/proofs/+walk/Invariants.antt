@@ -13,23 +13,28 @@ abbrev pub invariant-expressions::values-loop-e : goal.invariant-expressions::va
 invariant-expressions::values-loop-e l =
     record {
       walk : over_parts l.walk (map part_of (drop l.e-index l.es)) ≡ over_parts l.initial.walk (map part_of l.es);
-      values : l.found.items ++ values_in l.initial.walk.scope (map part_of (drop l.e-index l.es)) ≡ values_in l.initial.walk.scope (map part_of l.es);
+      values : l.found.items ++ values_in l.initial.walk.scope (map part_of (drop l.e-index l.es)) ≡ values_in l.initial.walk.scope
+          (map part_of l.es);
       scope : l.walk.scope ≡ l.initial.walk.scope;
     }
 
 abbrev pub invariant-expressions::factor_values-loop-f : goal.invariant-expressions::factor_values-loop-f
 invariant-expressions::factor_values-loop-f l =
     record {
-      walk : over_parts l.walk (map (λ f. f.value) (map factor_of (drop l.f-index l.factors))) ≡ over_parts l.initial.walk (map (λ f. f.value) (map factor_of l.factors));
-      values : l.found.items ++ map (λ f. value_in l.initial.walk.scope f.value) (map factor_of (drop l.f-index l.factors)) ≡ map (λ f. value_in l.initial.walk.scope f.value) (map factor_of l.factors);
+      walk : over_parts l.walk (map (λ f. f.value) (map factor_of (drop l.f-index l.factors))) ≡ over_parts l.initial.walk
+          (map (λ f. f.value) (map factor_of l.factors));
+      values : l.found.items ++ map (λ f. value_in l.initial.walk.scope f.value) (map factor_of (drop l.f-index l.factors)) ≡ map
+          (λ f. value_in l.initial.walk.scope f.value) (map factor_of l.factors);
       scope : l.walk.scope ≡ l.initial.walk.scope;
     }
 
 abbrev pub invariant-expressions::addend_values-loop-a : goal.invariant-expressions::addend_values-loop-a
 invariant-expressions::addend_values-loop-a l =
     record {
-      walk : over_parts l.walk (map (λ a. a.value) (map addend_of (drop l.a-index l.addends))) ≡ over_parts l.initial.walk (map (λ a. a.value) (map addend_of l.addends));
-      values : l.found.items ++ map (added_in l.initial.walk.scope) (map addend_of (drop l.a-index l.addends)) ≡ map (added_in l.initial.walk.scope) (map addend_of l.addends);
+      walk : over_parts l.walk (map (λ a. a.value) (map addend_of (drop l.a-index l.addends))) ≡ over_parts l.initial.walk
+          (map (λ a. a.value) (map addend_of l.addends));
+      values : l.found.items ++ map (added_in l.initial.walk.scope) (map addend_of (drop l.a-index l.addends)) ≡ map
+          (added_in l.initial.walk.scope) (map addend_of l.addends);
       scope : l.walk.scope ≡ l.initial.walk.scope;
     }
 

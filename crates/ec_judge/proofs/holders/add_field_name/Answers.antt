@@ -7,7 +7,8 @@ pub returns-in_ok-entry-in-Variable : goal.returns-in_ok-entry-in-Variable
 returns-in_ok-entry-in-Variable c = rw (c.in-Variable.is, variable_member, ← c.in_ok-entry-in-Variable.ensures) c.push.ensures.added
 
 pub returns-in_ok-entry-in-Constant : goal.returns-in_ok-entry-in-Constant
-returns-in_ok-entry-in-Constant c = rw (c.in-Constant.is, constant_member, ← c.in_ok-entry-in-Constant.ensures) c.push-in-Constant.ensures.added
+returns-in_ok-entry-in-Constant c =
+    rw (c.in-Constant.is, constant_member, ← c.in_ok-entry-in-Constant.ensures) c.push-in-Constant.ensures.added
 
 pub returns-in-Condition : goal.returns-in-Condition
 returns-in-Condition c = rw (c.in-Condition.is, condition_member) (sym (append-nil _))

@@ -13,4 +13,5 @@ pub returns-in-Condition : goal.returns-in-Condition
 returns-in-Condition c = rw (c.in-Condition.is, condition_member) (sym (append-nil _))
 
 pub returns-in_ok-operation_with-in-Operation : goal.returns-in_ok-operation_with-in-Operation
-returns-in_ok-operation_with-in-Operation c = rw (c.in-Operation.is, operation_member, ← c.in_ok-operation_with-in-Operation.ensures) c.push.ensures.added
+returns-in_ok-operation_with-in-Operation c =
+    rw (c.in-Operation.is, operation_member, ← c.in_ok-operation_with-in-Operation.ensures) c.push.ensures.added

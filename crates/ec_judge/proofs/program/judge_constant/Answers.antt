@@ -17,7 +17,8 @@ returns-in-Expression-clause-scope c =
 pub returns-in_ok-judge_class-in-Class-clause-faults : goal.returns-in_ok-judge_class-in-Class-clause-faults
 returns-in_ok-judge_class-in-Class-clause-faults c =
     rw c.in-Class.is
-    (class_faults_are c.args.walk.now c.judge_class.new.walk (class_part c.in-Class.class) c.args.c.now.name c.args.c.now.of c.in_ok-judge_class-in-Class.ensures)
+    (class_faults_are c.args.walk.now c.judge_class.new.walk
+    (class_part c.in-Class.class) c.args.c.now.name c.args.c.now.of c.in_ok-judge_class-in-Class.ensures)
 
 pub returns-in_ok-judge_class-in-Class-clause-scope : goal.returns-in_ok-judge_class-in-Class-clause-scope
 returns-in_ok-judge_class-in-Class-clause-scope c =
