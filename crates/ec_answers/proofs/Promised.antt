@@ -22,29 +22,30 @@ use Rattle.ec_report.specs.declared.status.Status.TheVariants as statuses
 module _ (Told : Type 0) (call : Call) where
   verdict_told : {s : Status} {t : List ℕ} → Verdict Told call s t → IsTold s
   verdict_told (NoCommand w q n) = record { not_write = λ e. cc; not_memory = λ e. cc }
-  verdict_told (ReadFailed asked file name w i h n) = record { not_write = λ e. cc; not_memory = λ e. cc }
+  verdict_told (ReadFailed asked file w h n) = record { not_write = λ e. cc; not_memory = λ e. cc }
   verdict_told (IsJudged read s t q j) = (files_apart (by_files read.asked read.held call.net call.net_after j)).told
 
   verdict_usage : {s : Status} {t : List ℕ} → Verdict Told call s t → s ≡ statuses.Usage → (WordsOf call.words ≡ None) × (t ≡ usage_line)
   verdict_usage (NoCommand w q n) e = (w, refl)
-  verdict_usage (ReadFailed asked file name w i h n) e = cc
+  verdict_usage (ReadFailed asked file w h n) e = cc
   verdict_usage (IsJudged read s t q j) e = absurd ((files_apart (by_files read.asked read.held call.net call.net_after j)).not_usage e)
 
   verdict_none : {s : Status} {t : List ℕ} → Verdict Told call s t → WordsOf call.words ≡ None → s ≡ statuses.Usage
   verdict_none (NoCommand w q n) e = refl
-  verdict_none (ReadFailed asked file name w i h n) e = cc
+  verdict_none (ReadFailed asked file w h n) e = cc
   verdict_none (IsJudged read s t q j) e = let w = read.words_are in cc
 
-  verdict_fault : {s : Status} {t : List ℕ} → Verdict Told call s t → s ≡ statuses.ReadFault → HasReadFault call.words call.faults call.faults_after t
+  verdict_fault : {s : Status} {t : List ℕ} → Verdict Told call s t → s ≡ statuses.ReadFault →
+      HasReadFault Told call.words call.content call.kept call.faults call.faults_after t
   verdict_fault (NoCommand w q n) e = cc
-  verdict_fault (ReadFailed asked file name w i h n) e =
-      record { asked = asked; file = file; name = name; words_are = w; name_is = i; risen = h; text_is = refl }
+  verdict_fault (ReadFailed asked file w h n) e =
+      record { asked = asked; file = file; words_are = w; stops = h; text_is = refl }
   verdict_fault (IsJudged read s t q j) e = absurd ((files_apart (by_files read.asked read.held call.net call.net_after j)).not_read e)
 
   -- no count has risen, or a file wasn't read
   verdict_reads : {s : Status} {t : List ℕ} → Verdict Told call s t → (call.faults_after ≡ call.faults) ⊎ (s ≡ statuses.ReadFault)
   verdict_reads (NoCommand w q n) = inl q
-  verdict_reads (ReadFailed asked file name w i h n) = inr refl
+  verdict_reads (ReadFailed asked file w h n) = inr refl
   verdict_reads (IsJudged read s t q j) = inl q
 
   -- files were read, and judged to this status and this text
@@ -54,7 +55,7 @@ module _ (Told : Type 0) (call : Call) where
 
   verdict_judged : {s : Status} {t : List ℕ} → Verdict Told call s t → IsOfFiles s → HasJudged s t
   verdict_judged (NoCommand w q n) f = absurd (f.not_usage refl)
-  verdict_judged (ReadFailed asked file name w i h n) f = absurd (f.not_read refl)
+  verdict_judged (ReadFailed asked file w h n) f = absurd (f.not_read refl)
   verdict_judged (IsJudged read s t q j) f = record { read = read; judged = j }
 
   same_words : (a b : CommandWords) → WordsOf call.words ≡ Some a → WordsOf call.words ≡ Some b → a ≡ b
@@ -63,8 +64,9 @@ module _ (Told : Type 0) (call : Call) where
   verdict_accepted : {s : Status} {t : List ℕ} → Verdict Told call s t → Told → (a : IsAccepted call.words call.content) →
       NoneRisen a.asked call.faults call.faults_after → EndsWith a.asked s
   verdict_accepted (NoCommand w q n) told a quiet = let v = a.words_are in cc
-  verdict_accepted (ReadFailed asked file name w i h n) told a quiet =
-      absurd (quiet file name (subst (λ (k : CommandWords). name_of k file ≡ Some name) (same_words asked a.asked w a.words_are) i) h)
+  verdict_accepted (ReadFailed asked file w h n) told a quiet =
+      let named = subst (λ (k : CommandWords). name_of k file ≡ Some h.name) (same_words asked a.asked w a.words_are) h.name_is in
+      absurd (quiet file h.name named h.risen)
   verdict_accepted (IsJudged read s t q j) told a quiet =
       let e : read.asked ≡ a.asked = same_words read.asked a.asked read.words_are a.words_are in
       ends_of read.held a.held call.net call.net_after call.content a.asked
@@ -157,7 +159,8 @@ pub no_command_of : {Told TakenTold : Type 0} {call : Call} {taken taken' : List
 no_command_of {Told} {TakenTold} {call} {taken} {taken'} {count} {count'} c w = no_command Told TakenTold call taken taken' count count' c w
 
 pub read_fault_of : {Told TakenTold : Type 0} {call : Call} {taken taken' : List ℕ} {count count' : ℕ} {r : Status} → Came Told TakenTold call taken taken' count count' r →
-    r ≡ statuses.ReadFault → (text : List ℕ) × HasReadFault call.words call.faults call.faults_after text × (TakenTold → taken' ≡ taken ++ text)
+    r ≡ statuses.ReadFault → (text : List ℕ) × HasReadFault Told call.words call.content call.kept call.faults call.faults_after text ×
+    (TakenTold → taken' ≡ taken ++ text)
 read_fault_of {Told} {TakenTold} {call} {taken} {taken'} {count} {count'} c e =
     let said = said_of Told TakenTold call taken taken' count count' c statuses.ReadFault (record { not_write = λ k. cc; not_memory = λ k. cc }) e in
     (said.text, verdict_fault Told call said.verdict refl, said.written)

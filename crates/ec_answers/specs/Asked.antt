@@ -1,11 +1,12 @@
 -- What a command asks: the files that it names, what it wants of a source, and what a source that it takes to nodes comes to there.
-use Rattle.std.specs.Prelude.{◌≡◌, ℕ, List, Option, Some, None}
+use Rattle.std.specs.Prelude.{◌≡◌, ℕ, List, Option, Some, None, IsSome}
 use Rattle.ec_answers.specs.declared.file.FileOf.{FileOf}
 use Rattle.ec_answers.specs.declared.file.FileOf.TheVariants.{Source, Nodes, Schedule}
 use Rattle.ec_inputs.specs.Words.{RunWords, CommandWords, WordsOf}
 use Rattle.ec_inputs.specs.Words.{CommandWords as command}
 use Rattle.ec_meaning.specs.Programs.{Source as Meant}
 use Rattle.ec_network.specs.Net.{Net}
+use Rattle.ec_outside.specs.Fault.{HasRisen, ShareCount}
 use Rattle.ec_outside.specs.Whole.{IsWhole}
 use Rattle.ec_plain.specs.Plain.{IsPlainRun}
 use Rattle.ec_printing.specs.declared.Program.{Program}
@@ -46,6 +47,28 @@ pub record HasRead (Told : Type 0) (words : List (List ℕ)) (content : List ℕ
   pub held : FileOf → List ℕ
   pub words_are : WordsOf words ≡ Some asked
   pub are_read : Told → AreRead content asked held
+
+-- ---- a read that failed
+
+-- so it is of each file that is read before this one: the source is read first, then the nodes, then the schedule
+abbrev pub EachBefore : FileOf → (FileOf → Type 0) → Type 0
+EachBefore Source P = Unit {0}
+EachBefore Nodes P = P Source
+EachBefore Schedule P = P Source × P Nodes
+
+-- no count has risen but the one that speaks for this name
+pub record OthersStay (kept : List (List ℕ)) (faults faults' : List ℕ → ℕ) (name : List ℕ) : Type 0 where
+  pub stay : (other : List ℕ) → ¬ ShareCount kept name other → faults' other ≡ faults other
+
+-- Reading stopped at this file, by the one fault that was met: the count of its name has risen and no other one, and each file that
+-- is read before it is there, where the shelf tells it.
+pub record StopsAt (Told : Type 0) (content : List ℕ → Option (List ℕ)) (kept : List (List ℕ)) (faults faults' : List ℕ → ℕ)
+    (asked : CommandWords) (file : FileOf) : Type 0 where
+  pub name : List ℕ
+  pub name_is : name_of asked file ≡ Some name
+  pub risen : HasRisen (faults name) (faults' name)
+  pub others_stay : OthersStay kept faults faults' name
+  pub earlier : Told → EachBefore file (λ other. (n : List ℕ) → name_of asked other ≡ Some n → IsSome (content n))
 
 -- ---- its source
 

@@ -1,6 +1,6 @@
 -- What the call promises of each status with which it ends: its cause, and what is written.
 use Rattle.std.specs.Prelude.{◌≡◌, ◌⊎◌, ℕ, List, Option, Some, Ok, Err}
-use Rattle.ec_answers.specs.Asked.{name_of, AreRead, Refuses, Takes, Checks, ComesTo}
+use Rattle.ec_answers.specs.Asked.{name_of, AreRead, StopsAt, Refuses, Takes, Checks, ComesTo}
 use Rattle.ec_answers.specs.Lines.{fault_line}
 use Rattle.ec_answers.specs.declared.file.FileOf.{FileOf}
 use Rattle.ec_answers.specs.declared.file.FileOf.TheVariants.{Source, Nodes, Schedule}
@@ -45,14 +45,13 @@ EndsWith (command.Check check) status = status ≡ statuses.Finished
 
 -- ---- causes, with the text that tells them
 
--- the words name a file whose count of faults has risen, and the text is that file's line
-pub record HasReadFault (words : List (List ℕ)) (faults faults' : List ℕ → ℕ) (text : List ℕ) : Type 0 where
+-- the words name a file at which reading stopped, and the text is that file's line
+pub record HasReadFault (Told : Type 0) (words : List (List ℕ)) (content : List ℕ → Option (List ℕ)) (kept : List (List ℕ))
+    (faults faults' : List ℕ → ℕ) (text : List ℕ) : Type 0 where
   pub asked : CommandWords
   pub file : FileOf
-  pub name : List ℕ
   pub words_are : WordsOf words ≡ Some asked
-  pub name_is : name_of asked file ≡ Some name
-  pub risen : HasRisen (faults name) (faults' name)
+  pub stops : StopsAt Told content kept faults faults' asked file
   pub text_is : text ≡ fault_line file
 
 -- the source is refused

@@ -1,6 +1,6 @@
 -- What a call comes to, by the table of answers: a case a row, each where no earlier one came.
 use Rattle.std.specs.Prelude.{◌≡◌, ℕ, List, ◌++◌, Option, Some, None, Ok, Err}
-use Rattle.ec_answers.specs.Asked.{name_of, HasRead, Refuses, Takes, Checks, ComesTo}
+use Rattle.ec_answers.specs.Asked.{HasRead, StopsAt, Refuses, Takes, Checks, ComesTo}
 use Rattle.ec_answers.specs.Lines.{usage_line, fault_line}
 use Rattle.ec_answers.specs.declared.file.FileOf.{FileOf}
 use Rattle.ec_answers.specs.declared.file.FileOf.TheVariants.{Source, Nodes, Schedule}
@@ -40,23 +40,24 @@ pub data Judged (asked : CommandWords) (held : FileOf → List ℕ) (net net' : 
 
 -- ---- before anything is written
 
--- A call before its text is written: its words, what the files of the shelf hold, the counts of the shelf's faults before and
--- after, and the network before and after.
+-- A call before its text is written: its words, what the files of the shelf hold, the names with counts of their own there, the
+-- counts of the shelf's faults before and after, and the network before and after.
 pub record Call : Type 0 where
   pub words : List (List ℕ)
   pub content : List ℕ → Option (List ℕ)
+  pub kept : List (List ℕ)
   pub faults : List ℕ → ℕ
   pub faults_after : List ℕ → ℕ
   pub net : Net
   pub net_after : Net
 
--- What a call comes to: its status and its text. No count of the shelf's faults has risen but where a read failed.
+-- What a call comes to: its status and its text. No count of the shelf's faults has risen but where a read failed, and there but one.
 pub data Verdict (Told : Type 0) (call : Call) : Status → List ℕ → Type 0 where
   NoCommand : WordsOf call.words ≡ None → call.faults_after ≡ call.faults → call.net_after ≡ call.net →
       Verdict Told call statuses.Usage usage_line
-  -- a file that the words name wasn't read
-  ReadFailed : (asked : CommandWords) (file : FileOf) (name : List ℕ) → WordsOf call.words ≡ Some asked → name_of asked file ≡ Some name →
-      HasRisen (call.faults name) (call.faults_after name) → call.net_after ≡ call.net →
+  -- reading stopped at a file that the words name
+  ReadFailed : (asked : CommandWords) (file : FileOf) → WordsOf call.words ≡ Some asked →
+      StopsAt Told call.content call.kept call.faults call.faults_after asked file → call.net_after ≡ call.net →
       Verdict Told call statuses.ReadFault (fault_line file)
   -- each was read, and they are judged
   IsJudged : (read : HasRead Told call.words call.content) (status : Status) (text : List ℕ) → call.faults_after ≡ call.faults →

@@ -2,18 +2,17 @@
 use Rattle.std.proofs.Common.{◌≡◌, ℕ, zero, suc, ◌+◌, ◌^◌, ◌<◌, ◌≤◌, List, [], ◌∷◌, ◌++◌, length, take, drop, ◌⊎◌, inl, inr, Some, None, refl, sym, ◌∙◌, ap, subst, arith, append_assoc, length-append}
 use Rattle.std.specs.Prelude.{slice_get}
 use Rattle.std.proofs.lemmas.Bool.{cases_lt}
-use Rattle.std.proofs.lemmas.List.{take-append-drop, take-take}
+use Rattle.std.proofs.lemmas.List.{take-append-drop, take-take, drop-drop}
 use Rattle.ec_ast.specs.declared.Program.{Program as WholeProgram}
 use Rattle.ec_lexer.specs.declared.error.LexFault.{LexFault}
-use Rattle.ec_lexer.specs.declared.lexeme.Lexeme.TheVariants.{Separator}
+use Rattle.ec_lexer.specs.declared.lexeme.Lexeme.TheVariants as lexeme
 use Rattle.ec_lexer.specs.declared.token.Token.{Token}
-use Rattle.ec_lexer.specs.declared.token.TokenKind.{TokenKind}
-use Rattle.ec_lexer.specs.Faults.{IsFault, HasFaultFrom, faulty, behind_separator, behind_token, HasFault, too_long, first}
-use Rattle.ec_lexer.specs.Lexemes.{begins}
-use Rattle.ec_lexer.specs.Tokens.{HasTokens, IsToken}
+use Rattle.ec_lexer.specs.Faults.{HasFaultFrom, faulty, behind_separator, behind_token, HasFault, too_long, first}
+use Rattle.ec_lexer.specs.Lexemes.{begins, kind_of}
+use Rattle.ec_lexer.specs.Tokens.{HasTokens, longest_text, token}
 use Rattle.ec_lexer.specs.Words.{Bytes}
 use Rattle.ec_lexer.proofs.Lexing.{reads_separator, reads_token, reads_fault}
-use Rattle.ec_lexer.proofs.Reading.{few_tokens, same_tokens, no_tokens}
+use Rattle.ec_lexer.proofs.Reading.{Sofar, start, after, with_token, only_fault, only_too_long, few_tokens, same_tokens, no_tokens}
 use Rattle.ec_parser.specs.HasTree as whole
 use Rattle.ec_parser.specs.declared.grammar.Opened.{Opened}
 use Rattle.ec_parser.specs.Nesting.{Behind, behind, other, open_at, nestings_from, nestings_of}
@@ -40,52 +39,26 @@ use Rattle.ec_sources.specs.Sources.IsRefused.{faulty as is_faulty, later}
 
 -- ---- a text has at most one first fault
 
-fault_of_separator : {at p : ℕ} {z : Bytes} {k : LexFault} → (n : ℕ) → begins z ≡ Separator n → HasFaultFrom at z p k → HasFaultFrom (at + n) (drop n z) p k
-fault_of_separator n e (faulty i) = let f = reads_fault i in cc
-fault_of_separator {at} {p} {z} {k} n e (behind_separator {n = m} s r) =
-    let f = reads_separator s in
-    let same : m ≡ n = cc in subst (λ x. HasFaultFrom (at + x) (drop x z) p k) same r
-fault_of_separator n e (behind_token t r) = let f = (reads_token t).is_read in cc
-
-fault_of_token : {at p n : ℕ} {z : Bytes} {k : LexFault} {kind : TokenKind} → IsToken z kind n → HasFaultFrom at z p k → HasFaultFrom (at + n) (drop n z) p k
-fault_of_token t (faulty i) =
-    let f = reads_fault i in
-    let e = (reads_token t).is_read in
-    cc
-fault_of_token t (behind_separator s r) =
-    let f = reads_separator s in
-    let e = (reads_token t).is_read in
-    cc
-fault_of_token {at} {p} {n} {z} {k} t (behind_token {n = m} u r) =
-    let f = (reads_token u).is_read in
-    let e = (reads_token t).is_read in
-    let same : m ≡ n = cc in subst (λ x. HasFaultFrom (at + x) (drop x z) p k) same r
-
-fault_here : {at p n : ℕ} {z : Bytes} {j k : LexFault} → IsFault z j n → HasFaultFrom at z p k → (at + n ≡ p) × (j ≡ k)
-fault_here i (faulty {n = m} h) =
-    let e = reads_fault i in
-    let f = reads_fault h in
-    (cc, cc)
-fault_here i (behind_separator s r) =
-    let e = reads_fault i in
-    let f = reads_separator s in
-    absurd (cc)
-fault_here i (behind_token t r) =
-    let e = reads_fault i in
-    let f = (reads_token t).is_read in
-    absurd (cc)
-
-same_fault_from : {at p q : ℕ} {z : Bytes} {j k : LexFault} → HasFaultFrom at z p j → HasFaultFrom at z q k → (p ≡ q) × (j ≡ k)
-same_fault_from (faulty i) d = fault_here i d
-same_fault_from (behind_separator {n = n} s r) d = same_fault_from r (fault_of_separator n (reads_separator s) d)
-same_fault_from (behind_token t r) d = same_fault_from r (fault_of_token t d)
+-- the first fault of what is left of a text is the only one of the text
+only_from : (text : Bytes) → length text ≤ longest_text → {at p : ℕ} {z : Bytes} {j : LexFault} → HasFaultFrom at z p j →
+    (ts : List Token) → Sofar text at ts → z ≡ drop at text → (q : ℕ) (k : LexFault) → HasFault text q k → (q ≡ p) × (k ≡ j)
+only_from text short {at} (faulty {n} {kind} i) ts s is =
+    only_fault text at ts s short kind n (subst (λ x. begins x ≡ lexeme.Fault kind n) is (reads_fault i))
+only_from text short {at} (behind_separator {n} i r) ts s is =
+    let step = drop-drop n at text in
+    let begun = subst (λ x. begins x ≡ lexeme.Separator n) is (reads_separator i) in
+    only_from text short r ts (after text at ts s n step begun) (ap (drop n) is ∙ step)
+only_from text short {at} (behind_token {n} i r) ts s is =
+    let step = drop-drop n at text in
+    let read = reads_token i in
+    let begun = subst (λ x. begins x ≡ lexeme.Token read.form n) is read.is_read in
+    let found = token (kind_of read.form (take n (drop at text))) at n in
+    only_from text short r (ts ++ found ∷ []) (with_token text at ts s n step read.form found begun refl) (ap (drop n) is ∙ step)
 
 -- a text has at most one first fault
 same_lexical : (text : Bytes) (p q : ℕ) (j k : LexFault) → HasFault text p j → HasFault text q k → (p ≡ q) × (j ≡ k)
-same_lexical text p q j k (too_long l) (too_long m) = (refl, refl)
-same_lexical text p q j k (too_long l) (first m f) = absurd (omega arith)
-same_lexical text p q j k (first l f) (too_long m) = absurd (omega arith)
-same_lexical text p q j k (first l f) (first m g) = same_fault_from f g
+same_lexical text p q j k (too_long l) g = let only = only_too_long text l q k g in (sym only.0, sym only.1)
+same_lexical text p q j k (first l f) g = let only = only_from text l f [] (start text) refl q k g in (sym only.0, sym only.1)
 
 -- ---- tokens fail to be a program's at one place only
 

@@ -35,7 +35,7 @@ fn answer_on_nodes<F: Shelf>(
     requires budget { run.budget ≤ 4000000000 }
     requires empty { net.old ≡ empty_net }
     ensures { IfOk result (λ answer. WhereAsked (asked_of work (run_in run.entry)) (λ words.
-        Verdict (F.tells shelf.old) (record { words = words; content = F.content shelf.old; faults = F.faults shelf.old; faults_after = F.faults shelf.new; net = net.old; net_after = net.new }) answer.status answer.text.items)) }
+        Verdict (F.tells shelf.old) (record { words = words; content = F.content shelf.old; kept = F.kept shelf.old; faults = F.faults shelf.old; faults_after = F.faults shelf.new; net = net.old; net_after = net.new }) answer.status answer.text.items)) }
 {
     match read_files(alloc, shelf, run) {
         Ok(files) => judge(alloc, work, run, &files, net),
@@ -51,7 +51,7 @@ fn answer_check<F: Shelf>(
     check: CheckCommand,
 ) -> Result<Answer, AllocError>
     ensures { IfOk result (λ answer. (net : ANet) → WhereAsked (ACheck (check_in check.entry)) (λ words.
-        Verdict (F.tells shelf.old) (record { words = words; content = F.content shelf.old; faults = F.faults shelf.old; faults_after = F.faults shelf.new; net = net; net_after = net }) answer.status answer.text.items)) }
+        Verdict (F.tells shelf.old) (record { words = words; content = F.content shelf.old; kept = F.kept shelf.old; faults = F.faults shelf.old; faults_after = F.faults shelf.new; net = net; net_after = net }) answer.status answer.text.items)) }
 {
     match read_file(alloc, shelf, check.source, FileOf::Source) {
         Ok(source) => judge_source(alloc, &source),
@@ -69,7 +69,7 @@ fn answer<'a, F: Shelf>(
 ) -> Result<Answer, AllocError>
     requires { net.old ≡ empty_net }
     ensures { IfOk result (λ answer.
-        Verdict (F.tells shelf.old) (record { words = map (λ word. word.now) words.now; content = F.content shelf.old; faults = F.faults shelf.old; faults_after = F.faults shelf.new; net = net.old; net_after = net.new }) answer.status answer.text.items) }
+        Verdict (F.tells shelf.old) (record { words = map (λ word. word.now) words.now; content = F.content shelf.old; kept = F.kept shelf.old; faults = F.faults shelf.old; faults_after = F.faults shelf.new; net = net.old; net_after = net.new }) answer.status answer.text.items) }
 {
     match words_of(alloc, words)? {
         Some(Command::Run(run)) => answer_on_nodes(alloc, shelf, Work::Run, run, net),
@@ -89,7 +89,7 @@ fn call<'a, F: Shelf, K: Sink>(
 ) -> Status
     requires { net.old ≡ empty_net }
     ensures { Came (F.tells shelf.old) (K.tells sink.old)
-        (record { words = map (λ word. word.now) words.now; content = F.content shelf.old; faults = F.faults shelf.old; faults_after = F.faults shelf.new; net = net.old; net_after = net.new })
+        (record { words = map (λ word. word.now) words.now; content = F.content shelf.old; kept = F.kept shelf.old; faults = F.faults shelf.old; faults_after = F.faults shelf.new; net = net.old; net_after = net.new })
         (K.taken sink.old) (K.taken sink.new) (K.faults sink.old) (K.faults sink.new) result }
 {
     match answer(alloc, words, shelf, net) {
@@ -112,7 +112,7 @@ pub fn emerald<'a, F: Shelf, K: Sink>(
 
     // The status and the text, by the table of answers.
     ensures answer { Came (F.tells shelf.old) (K.tells sink.old)
-        (record { words = map (λ word. word.now) words.now; content = F.content shelf.old; faults = F.faults shelf.old; faults_after = F.faults shelf.new; net = net.old; net_after = net.new })
+        (record { words = map (λ word. word.now) words.now; content = F.content shelf.old; kept = F.kept shelf.old; faults = F.faults shelf.old; faults_after = F.faults shelf.new; net = net.old; net_after = net.new })
         (K.taken sink.old) (K.taken sink.new) (K.faults sink.old) (K.faults sink.new) result }
 
     // Each status by itself: its cause, and the text that is written.
@@ -121,7 +121,8 @@ pub fn emerald<'a, F: Shelf, K: Sink>(
     ensures no_command { WordsOf (map (λ word. word.now) words.now) ≡ None →
         (result ≡ Status.Usage) ⊎ ((result ≡ Status.WriteFault) ⊎ (result ≡ Status.NoMemory)) }
     ensures read_fault { result ≡ Status.ReadFault →
-        (text : List ℕ) × HasReadFault (map (λ word. word.now) words.now) (F.faults shelf.old) (F.faults shelf.new) text ×
+        (text : List ℕ) × HasReadFault (F.tells shelf.old) (map (λ word. word.now) words.now) (F.content shelf.old)
+        (F.kept shelf.old) (F.faults shelf.old) (F.faults shelf.new) text ×
         (K.tells sink.old → K.taken sink.new ≡ K.taken sink.old ++ text) }
     ensures source_refused { result ≡ Status.SourceRefused →
         (text : List ℕ) × (read : HasRead (F.tells shelf.old) (map (λ word. word.now) words.now) (F.content shelf.old)) ×

@@ -1,6 +1,6 @@
 //! The files of a call, each read whole.
-ghost use Rattle.std.specs.Prelude.{◌≡◌, IfOk, IfErr, OnOk};
-ghost use Rattle.ec_answers.specs.Asked.{file_limit, name_in};
+ghost use Rattle.std.specs.Prelude.{◌≡◌, IfOk, IfErr, OnOk, IsSome};
+ghost use Rattle.ec_answers.specs.Asked.{file_limit, name_in, EachBefore, OthersStay};
 ghost use Rattle.ec_inputs.specs.Words.{run_in};
 ghost use Rattle.ec_outside.specs.Fault.{HasRisen};
 ghost use Rattle.ec_outside.specs.Whole.{IsWhole};
@@ -39,6 +39,10 @@ pub(crate) fn read_files<F: Shelf>(
     ensures read { IfOk result (λ files. F.tells shelf.old → AreAllRead (F.content shelf.old) (run_in run.entry) (held_in files)) }
     ensures ok { OnOk result (F.faults shelf.new ≡ F.faults shelf.old) }
     ensures failed { IfErr result (λ e. WhenFailed e (λ file. HasRisen (F.faults shelf.old (name_in (run_in run.entry) file)) (F.faults shelf.new (name_in (run_in run.entry) file)))) }
+    ensures others { IfErr result (λ e. WhenFailed e (λ file.
+        OthersStay (F.kept shelf.old) (F.faults shelf.old) (F.faults shelf.new) (name_in (run_in run.entry) file))) }
+    ensures earlier { F.tells shelf.old → IfErr result (λ e. WhenFailed e (λ file.
+        EachBefore file (λ other. IsSome (F.content shelf.old (name_in (run_in run.entry) other))))) }
 {
     let source = read_file(alloc, shelf, run.source, FileOf::Source)?;
     let nodes = read_file(alloc, shelf, run.nodes, FileOf::Nodes)?;
@@ -58,10 +62,13 @@ pub(crate) fn read_file<F: Shelf>(
     file: FileOf,
 ) -> Result<Vec<u8>, Unread>
     ensures read { IfOk result (λ bytes. F.tells shelf.old → IsWhole (F.content shelf.old name.now) file_limit bytes.items) }
+    ensures there { OnOk result (F.tells shelf.old → IsSome (F.content shelf.old name.now)) }
     ensures still_tells { F.tells shelf.old → F.tells shelf.new }
     ensures content { F.content shelf.new ≡ F.content shelf.old }
+    ensures kept { F.kept shelf.new ≡ F.kept shelf.old }
     ensures ok { OnOk result (F.faults shelf.new ≡ F.faults shelf.old) }
     ensures failed { IfErr result (λ e. WhenFailed e (λ met. (met ≡ file) × HasRisen (F.faults shelf.old name.now) (F.faults shelf.new name.now))) }
+    ensures others { OthersStay (F.kept shelf.old) (F.faults shelf.old) (F.faults shelf.new) name.now }
 {
     match read_whole(alloc, shelf, name, FILE_LIMIT) {
         Ok(bytes) => Ok(bytes),
