@@ -35,7 +35,8 @@ module _ (Told : Type 0) (call : Call) where
   verdict_none (ReadFailed asked file w h n) e = cc
   verdict_none (IsJudged read s t q j) e = let w = read.words_are in cc
 
-  verdict_fault : {s : Status} {t : List ℕ} → Verdict Told call s t → s ≡ statuses.ReadFault → HasReadFault Told call.words call.content call.kept call.faults call.faults_after t
+  verdict_fault : {s : Status} {t : List ℕ} → Verdict Told call s t → s ≡ statuses.ReadFault →
+      HasReadFault Told call.words call.content call.kept call.faults call.faults_after t
   verdict_fault (NoCommand w q n) e = cc
   verdict_fault (ReadFailed asked file w h n) e =
       record { asked = asked; file = file; words_are = w; stops = h; text_is = refl }
@@ -64,7 +65,8 @@ module _ (Told : Type 0) (call : Call) where
       NoneRisen a.asked call.faults call.faults_after → EndsWith a.asked s
   verdict_accepted (NoCommand w q n) told a quiet = let v = a.words_are in cc
   verdict_accepted (ReadFailed asked file w h n) told a quiet =
-      absurd (quiet file h.name (subst (λ (k : CommandWords). name_of k file ≡ Some h.name) (same_words asked a.asked w a.words_are) h.name_is) h.risen)
+      let named = subst (λ (k : CommandWords). name_of k file ≡ Some h.name) (same_words asked a.asked w a.words_are) h.name_is in
+      absurd (quiet file h.name named h.risen)
   verdict_accepted (IsJudged read s t q j) told a quiet =
       let e : read.asked ≡ a.asked = same_words read.asked a.asked read.words_are a.words_are in
       ends_of read.held a.held call.net call.net_after call.content a.asked
@@ -157,7 +159,8 @@ pub no_command_of : {Told TakenTold : Type 0} {call : Call} {taken taken' : List
 no_command_of {Told} {TakenTold} {call} {taken} {taken'} {count} {count'} c w = no_command Told TakenTold call taken taken' count count' c w
 
 pub read_fault_of : {Told TakenTold : Type 0} {call : Call} {taken taken' : List ℕ} {count count' : ℕ} {r : Status} → Came Told TakenTold call taken taken' count count' r →
-    r ≡ statuses.ReadFault → (text : List ℕ) × HasReadFault Told call.words call.content call.kept call.faults call.faults_after text × (TakenTold → taken' ≡ taken ++ text)
+    r ≡ statuses.ReadFault → (text : List ℕ) × HasReadFault Told call.words call.content call.kept call.faults call.faults_after text ×
+    (TakenTold → taken' ≡ taken ++ text)
 read_fault_of {Told} {TakenTold} {call} {taken} {taken'} {count} {count'} c e =
     let said = said_of Told TakenTold call taken taken' count count' c statuses.ReadFault (record { not_write = λ k. cc; not_memory = λ k. cc }) e in
     (said.text, verdict_fault Told call said.verdict refl, said.written)

@@ -45,13 +45,14 @@ only_from text short {at} (faulty {n} {kind} i) ts s is =
     only_fault text at ts s short kind n (subst (λ x. begins x ≡ lexeme.Fault kind n) is (reads_fault i))
 only_from text short {at} (behind_separator {n} i r) ts s is =
     let step = drop-drop n at text in
-    only_from text short r ts (after text at ts s n step (subst (λ x. begins x ≡ lexeme.Separator n) is (reads_separator i))) (ap (drop n) is ∙ step)
+    let begun = subst (λ x. begins x ≡ lexeme.Separator n) is (reads_separator i) in
+    only_from text short r ts (after text at ts s n step begun) (ap (drop n) is ∙ step)
 only_from text short {at} (behind_token {n} i r) ts s is =
     let step = drop-drop n at text in
     let read = reads_token i in
+    let begun = subst (λ x. begins x ≡ lexeme.Token read.form n) is read.is_read in
     let found = token (kind_of read.form (take n (drop at text))) at n in
-    only_from text short r (ts ++ found ∷ [])
-    (with_token text at ts s n step read.form found (subst (λ x. begins x ≡ lexeme.Token read.form n) is read.is_read) refl) (ap (drop n) is ∙ step)
+    only_from text short r (ts ++ found ∷ []) (with_token text at ts s n step read.form found begun refl) (ap (drop n) is ∙ step)
 
 -- a text has at most one first fault
 same_lexical : (text : Bytes) (p q : ℕ) (j k : LexFault) → HasFault text p j → HasFault text q k → (p ≡ q) × (j ≡ k)

@@ -54,14 +54,10 @@ source_read content check source r Schedule name e = cc
 
 -- ---- a read that failed
 
--- a file that was read is there
-pub there : (content : Option (List ℕ)) (limit : ℕ) (bytes : List ℕ) → IsWhole content limit bytes → IsSome content
-there (Some file) limit bytes w = refl
-there None limit bytes w = absurd w
-
 -- what is there under the name among the words is there under the name that the command has
 module _ (content : List ℕ → Option (List ℕ)) (work : Work) (words : RunWords) where
-  there_by_name : (file : FileOf) → IsSome (content (name_in words file)) → (name : List ℕ) → name_of (asked_of work words) file ≡ Some name → IsSome (content name)
+  there_by_name : (file : FileOf) → IsSome (content (name_in words file)) → (name : List ℕ) → name_of (asked_of work words) file ≡ Some name →
+      IsSome (content name)
   there_by_name file is name e =
       let same : Some (name_in words file) ≡ Some name = sym (named work words file) ∙ e in
       let alike : name_in words file ≡ name = cc in
@@ -73,9 +69,11 @@ module _ (content : List ℕ → Option (List ℕ)) (work : Work) (words : RunWo
   each_there Nodes e = there_by_name Source e
   each_there Schedule e = (there_by_name Source e.0, there_by_name Nodes e.1)
 
-pub stops : {Told : Type 0} {content : List ℕ → Option (List ℕ)} {kept : List (List ℕ)} {faults faults' : List ℕ → ℕ} (work : Work) (words : RunWords) (file : FileOf) →
+pub stops : {Told : Type 0} {content : List ℕ → Option (List ℕ)} {kept : List (List ℕ)} {faults faults' : List ℕ → ℕ}
+    (work : Work) (words : RunWords) (file : FileOf) →
     HasRisen (faults (name_in words file)) (faults' (name_in words file)) → OthersStay kept faults faults' (name_in words file) →
-    (Told → EachBefore file (λ other. IsSome (content (name_in words other)))) → StopsAt Told content kept faults faults' (asked_of work words) file
+    (Told → EachBefore file (λ other. IsSome (content (name_in words other)))) →
+    StopsAt Told content kept faults faults' (asked_of work words) file
 stops {content} work words file risen stay earlier = record {
   name = name_in words file;
   name_is = named work words file;

@@ -121,7 +121,8 @@ pub fn emerald<'a, F: Shelf, K: Sink>(
     ensures no_command { WordsOf (map (λ word. word.now) words.now) ≡ None →
         (result ≡ Status.Usage) ⊎ ((result ≡ Status.WriteFault) ⊎ (result ≡ Status.NoMemory)) }
     ensures read_fault { result ≡ Status.ReadFault →
-        (text : List ℕ) × HasReadFault (F.tells shelf.old) (map (λ word. word.now) words.now) (F.content shelf.old) (F.kept shelf.old) (F.faults shelf.old) (F.faults shelf.new) text ×
+        (text : List ℕ) × HasReadFault (F.tells shelf.old) (map (λ word. word.now) words.now) (F.content shelf.old)
+        (F.kept shelf.old) (F.faults shelf.old) (F.faults shelf.new) text ×
         (K.tells sink.old → K.taken sink.new ≡ K.taken sink.old ++ text) }
     ensures source_refused { result ≡ Status.SourceRefused →
         (text : List ℕ) × (read : HasRead (F.tells shelf.old) (map (λ word. word.now) words.now) (F.content shelf.old)) ×

@@ -39,8 +39,10 @@ pub(crate) fn read_files<F: Shelf>(
     ensures read { IfOk result (λ files. F.tells shelf.old → AreAllRead (F.content shelf.old) (run_in run.entry) (held_in files)) }
     ensures ok { OnOk result (F.faults shelf.new ≡ F.faults shelf.old) }
     ensures failed { IfErr result (λ e. WhenFailed e (λ file. HasRisen (F.faults shelf.old (name_in (run_in run.entry) file)) (F.faults shelf.new (name_in (run_in run.entry) file)))) }
-    ensures others { IfErr result (λ e. WhenFailed e (λ file. OthersStay (F.kept shelf.old) (F.faults shelf.old) (F.faults shelf.new) (name_in (run_in run.entry) file))) }
-    ensures earlier { F.tells shelf.old → IfErr result (λ e. WhenFailed e (λ file. EachBefore file (λ other. IsSome (F.content shelf.old (name_in (run_in run.entry) other))))) }
+    ensures others { IfErr result (λ e. WhenFailed e (λ file.
+        OthersStay (F.kept shelf.old) (F.faults shelf.old) (F.faults shelf.new) (name_in (run_in run.entry) file))) }
+    ensures earlier { F.tells shelf.old → IfErr result (λ e. WhenFailed e (λ file.
+        EachBefore file (λ other. IsSome (F.content shelf.old (name_in (run_in run.entry) other))))) }
 {
     let source = read_file(alloc, shelf, run.source, FileOf::Source)?;
     let nodes = read_file(alloc, shelf, run.nodes, FileOf::Nodes)?;

@@ -39,4 +39,5 @@ returns-in-Err-Failed g c =
     said (λ (s : Status) (t : List ℕ). (net : Net) → WhereAsked asked (λ ws. Verdict (g.F.Shelf.tells c.args.shelf.now) (record { words = ws; content = content; kept = kept; faults = faults; faults_after = faults'; net = net; net_after = net }) s t))
     statuses.ReadFault (fault_line Source)
     c.read_fault.result (rw failed.0 at c.read_fault.ensures)
-    (λ net ws w. ReadFailed asked Source w (record { name = check.source; name_is = refl; risen = failed.1; others_stay = c.read_file.ensures.others; earlier = λ told. tt }) refl)
+    (λ net ws w. ReadFailed asked Source w
+    (record { name = check.source; name_is = refl; risen = failed.1; others_stay = c.read_file.ensures.others; earlier = λ told. tt }) refl)
