@@ -149,7 +149,9 @@ if_adds (Some doing) c who =
 module _ (c : Common) (who : Who) (vs : List Value) where
   pub action_adds : (action : Stop) → ActedAdds c (λ d. outcome_of d who action vs)
   action_adds action =
-      let adds = if_adds (doing_of (sight_of c) who action vs) c who in
-      (adds.0, λ es.
-          ap (acted_if (rebased c es) who) (doing_same (sight_of (rebased c es)) (sight_of c) (same_sight c es) who action vs)
-          ∙ adds.1 es)
+      let adds = if_adds (doing_of (sight_of c) who action vs) c who in (
+        adds.0,
+        λ es.
+            ap (acted_if (rebased c es) who) (doing_same (sight_of (rebased c es)) (sight_of c) (same_sight c es) who action vs)
+            ∙ adds.1 es,
+      )
