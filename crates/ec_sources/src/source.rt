@@ -86,8 +86,8 @@ pub fn meant_source(alloc: Global, text: &[u8]) -> Result<Checked, SourceError>
     ensures meant { IfOk result (λ checked. IsMeant text.now (record { text = text.now; table = checked.table; core = checked.core })) }
     ensures refused { IfErr result (IsFault text.now) }
 {
-    let accepted = check_source(alloc, text)?;
-    Ok(accepted.checked)
+    let found = check_source(alloc, text)?;
+    Ok(found.checked)
 }
 
 fn refuse(refusal: Refusal, at: u32) -> SourceError

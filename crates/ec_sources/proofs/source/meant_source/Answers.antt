@@ -2,18 +2,18 @@ use Rattle.std.proofs.Common.{refl}
 use Rattle.std.proofs.lemmas.Result.{err_from_is_err_and}
 use Rattle.ec_sources.proofs.source.meant_source.Goals as goal
 
-pub returns-in_err-accepted-clause-refused : goal.returns-in_err-accepted-clause-refused
-returns-in_err-accepted-clause-refused c =
+pub returns-in_err-found-clause-refused : goal.returns-in_err-found-clause-refused
+returns-in_err-found-clause-refused c =
     let p = err_from_is_err_and c.from_residual.result c.from_residual.ensures.1 in
-    rw (p.1, p.2) c.in_err-accepted.ensures.refused
+    rw (p.1, p.2) c.in_err-found.ensures.refused
 
 pub returns-clause-meant : goal.returns-clause-meant
 returns-clause-meant c =
-    let accepted = c.in_ok-accepted.accepted in
+    let found = c.in_ok-found.found in
     record {
-      tokens = accepted.tokens;
-      program = accepted.checked.program;
-      is_program = c.in_ok-accepted.ensures.program;
+      tokens = found.tokens;
+      program = found.checked.program;
+      is_program = c.in_ok-found.ensures.program;
       text_is = refl;
-      has_core = c.in_ok-accepted.ensures.core;
+      has_core = c.in_ok-found.ensures.core;
     }
