@@ -1,15 +1,11 @@
 -- What is taken to nodes, by the command that asked for it.
-use Rattle.std.proofs.Common.{◌≡◌, ℕ, List, [], Option, Some, Err, Ok, refl, sym, subst, arith}
+use Rattle.std.proofs.Common.{◌≡◌, ℕ, List, Option, Some, Err, Ok, refl, arith}
 use Rattle.ec_answers.specs.Asked.{Refuses, Takes, ComesTo}
-use Rattle.ec_inputs.proofs.NoEntries.{no_entries}
 use Rattle.ec_inputs.proofs.OneNode.{one_node}
 use Rattle.ec_inputs.specs.Nodes.{NodesOf}
-use Rattle.ec_inputs.specs.Schedules.{EntriesOf}
 use Rattle.ec_inputs.specs.Words.{RunWords}
 use Rattle.ec_network.specs.Net.{Net, IsOneNode}
-use Rattle.ec_plain.specs.Plain.{IsPlainRun}
 use Rattle.ec_report.specs.declared.status.Status.{Status}
-use Rattle.ec_run.specs.Runs.{RunsTo}
 use Rattle.ec_sources.proofs.Sources.{short_source}
 use Rattle.ec_sources.specs.declared.source.Refused.{Refused as ARefusal}
 use Rattle.ec_sources.specs.declared.source.SourceError.TheVariants.{Refused}
@@ -45,13 +41,10 @@ short_taken Run source (ToMean checked) t = absurd t
 short_taken Mean source (ToRun program) t = absurd t
 short_taken Mean source (ToMean checked) t = tt
 
--- what is read of a schedule so far is none
-pub comes_to : (work : Work) (words : RunWords) (source : List ℕ) (taken : Taken) (specs : List NodeSpec) (schedule : List ℕ) (entries : List Entry) (net net' : Net)
-    (status : Status) (text : List ℕ) → IsTaken work source taken → EntriesOf schedule ≡ Ok entries →
-    TakenComesTo taken source specs words.budget net net' status text → ComesTo (asked_of work words) source specs entries net net' status text
-comes_to Run words source (ToRun program) specs schedule entries net net' status text t e r =
-    (program, t, subst (λ (es : List Entry). RunsTo program specs es words.budget net net' status text) (sym (no_entries schedule entries e)) r)
-comes_to Run words source (ToMean checked) specs schedule entries net net' status text t e r = absurd t
-comes_to Mean words source (ToRun program) specs schedule entries net net' status text t e r = absurd t
-comes_to Mean words source (ToMean checked) specs schedule entries net net' status text t e r =
-    (source_in source checked, t, subst (λ (es : List Entry). IsPlainRun (source_in source checked) specs es words.budget status text) (sym (no_entries schedule entries e)) r.0, r.1)
+pub comes_to : (work : Work) (words : RunWords) (source : List ℕ) (taken : Taken) (specs : List NodeSpec) (entries : List Entry) (net net' : Net)
+    (status : Status) (text : List ℕ) → IsTaken work source taken → TakenComesTo taken source specs entries words.budget net net' status text →
+    ComesTo (asked_of work words) source specs entries net net' status text
+comes_to Run words source (ToRun program) specs entries net net' status text t r = (program, t, r)
+comes_to Run words source (ToMean checked) specs entries net net' status text t r = absurd t
+comes_to Mean words source (ToRun program) specs entries net net' status text t r = absurd t
+comes_to Mean words source (ToMean checked) specs entries net net' status text t r = (source_in source checked, t, r.0, r.1)

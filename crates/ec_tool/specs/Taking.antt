@@ -1,5 +1,5 @@
 -- A source that is taken to nodes, to be run or for its meaning to be worked out.
-use Rattle.std.specs.Prelude.{◌≡◌, ℕ, List, []}
+use Rattle.std.specs.Prelude.{◌≡◌, ℕ, List}
 use Rattle.ec_check.specs.declared.check.Checked.{Checked}
 use Rattle.ec_inputs.specs.Words.{RunWords, CommandWords}
 use Rattle.ec_inputs.specs.Words.{CommandWords as command}
@@ -16,6 +16,7 @@ use Rattle.ec_tool.specs.declared.take.Taken.TheVariants.{ToRun, ToMean}
 use Rattle.ec_tool.specs.declared.take.Work.{Work}
 use Rattle.ec_tool.specs.declared.take.Work.TheVariants.{Run, Mean}
 use Rattle.ec_world.specs.declared.node.NodeSpec.{NodeSpec}
+use Rattle.ec_world.specs.declared.run.Entry.{Entry}
 
 -- the command with these words
 abbrev pub asked_of : Work → RunWords → CommandWords
@@ -43,7 +44,8 @@ abbrev pub IsShortTaken : Taken → Type 0
 IsShortTaken (ToRun program) = IsShort program
 IsShortTaken (ToMean checked) = Unit {0}
 
--- on these nodes, with no schedule, what was taken comes to this status and this text
-abbrev pub TakenComesTo : Taken → List ℕ → List NodeSpec → ℕ → Net → Net → Status → List ℕ → Type 0
-TakenComesTo (ToRun program) text specs budget net net' status written = RunsTo program specs [] budget net net' status written
-TakenComesTo (ToMean checked) text specs budget net net' status written = IsPlainRun (source_in text checked) specs [] budget status written × (net' ≡ net)
+-- on these nodes along these entries what was taken comes to this status and this text
+abbrev pub TakenComesTo : Taken → List ℕ → List NodeSpec → List Entry → ℕ → Net → Net → Status → List ℕ → Type 0
+TakenComesTo (ToRun program) text specs entries budget net net' status written = RunsTo program specs entries budget net net' status written
+TakenComesTo (ToMean checked) text specs entries budget net net' status written =
+    IsPlainRun (source_in text checked) specs entries budget status written × (net' ≡ net)

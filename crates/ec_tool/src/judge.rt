@@ -40,7 +40,15 @@ pub(crate) fn judge(
         Err(NodesError::Memory) => return Err(AllocError),
     };
     match read_schedule(alloc, &files.schedule) {
-        Ok(_) => come_to_end(alloc, &taken, &files.source, &specs, run.budget, net),
+        Ok(entries) => come_to_end(
+            alloc,
+            &taken,
+            &files.source,
+            &specs,
+            &entries,
+            run.budget,
+            net,
+        ),
         Err(ScheduleError::Refused { rule, line }) => schedule_refused(alloc, rule, line),
         Err(ScheduleError::Memory) => Err(AllocError),
     }

@@ -1,5 +1,5 @@
 //! A source is taken to nodes, where it is run by machine code or its meaning is worked out.
-ghost use Rattle.std.specs.Prelude.{◌≡◌, ◌≤◌, [], IfOk, IfErr};
+ghost use Rattle.std.specs.Prelude.{◌≡◌, ◌≤◌, IfOk, IfErr};
 ghost use Rattle.ec_network.specs.Net.{IsOneNode, empty_net};
 ghost use Rattle.ec_plain.specs.Plain.{IsPlainRun};
 ghost use Rattle.ec_tool.specs.Taking.{IsTaken, IsNotTaken, IsShortTaken, TakenComesTo};
@@ -13,6 +13,7 @@ use ec_report::answer::Answer;
 use ec_run::run::run;
 use ec_sources::source::{SourceError, meant_source, read_source};
 use ec_world::node::NodeSpec;
+use ec_world::run::Entry;
 use std::alloc::{AllocError, Global};
 
 /// What is asked of a source on nodes: its run by machine code, or its plain meaning.
@@ -31,7 +32,7 @@ pub(crate) enum Taken {
     ToMean(Checked),
 }
 
-/// The source, where it is one that is run today, or one whose meaning is worked out today.
+/// The source, where it is one that is run today, or, for a plain meaning, any program's.
 pub(crate) fn take(alloc: Global, work: Work, source: &[u8]) -> Result<Taken, SourceError>
     ensures taken { IfOk result (IsTaken work source.now) }
     ensures refused { IfErr result (IsNotTaken work source.now) }
@@ -48,12 +49,13 @@ pub(crate) fn take(alloc: Global, work: Work, source: &[u8]) -> Result<Taken, So
     }
 }
 
-/// What a taken source comes to on nodes, each Ready process in turn, within so many entries.
+/// What a taken source comes to on nodes along a schedule, within so many entries.
 pub(crate) fn come_to_end(
     alloc: Global,
     taken: &Taken,
     source: &[u8],
     specs: &[NodeSpec],
+    schedule: &[Entry],
     budget: u32,
     net: &mut Network,
 ) -> Result<Answer, AllocError>
@@ -61,25 +63,26 @@ pub(crate) fn come_to_end(
     requires nodes { IsOneNode specs.now }
     requires budget { budget ≤ 4000000000 }
     requires empty { net.old ≡ empty_net }
-    ensures { IfOk result (λ answer. TakenComesTo taken.now source.now specs.now budget net.old net.new answer.status answer.text.items) }
+    ensures { IfOk result (λ answer. TakenComesTo taken.now source.now specs.now schedule.now budget net.old net.new answer.status answer.text.items) }
 {
     match taken {
-        Taken::ToRun(program) => run(alloc, program, specs, budget.into(), net),
-        Taken::ToMean(checked) => work_out(alloc, checked, source, specs, budget),
+        Taken::ToRun(program) => run(alloc, program, specs, schedule, budget.into(), net),
+        Taken::ToMean(checked) => work_out(alloc, checked, source, specs, schedule, budget),
     }
 }
 
-/// Works out the plain meaning of a source with this core, on nodes, within so many entries.
+/// Works out the plain meaning of a source with this core, on nodes along a schedule, within so many entries.
 fn work_out(
     alloc: Global,
     checked: &Checked,
     source: &[u8],
     specs: &[NodeSpec],
+    schedule: &[Entry],
     budget: u32,
 ) -> Result<Answer, AllocError>
     requires nodes { IsOneNode specs.now }
-    ensures { IfOk result (λ answer. IsPlainRun (record { text = source.now; table = checked.now.table; core = checked.now.core }) specs.now [] budget answer.status answer.text.items) }
+    ensures { IfOk result (λ answer. IsPlainRun (record { text = source.now; table = checked.now.table; core = checked.now.core }) specs.now schedule.now budget answer.status answer.text.items) }
 {
     let program = Meant::new(alloc, source, &checked.table, &checked.core)?;
-    plain::run(alloc, program, specs, budget.into())
+    plain::run(alloc, program, specs, schedule, budget.into())
 }

@@ -69,12 +69,12 @@ returns-in-Ok-read_schedule c =
     let words = run_in c.args.run in
     let source = f.source.items in
     let specs = c.in-Ok-read_nodes.specs.items in
-    let entries = c.in-Ok-read_schedule.field-0.items in
+    let entries = c.in-Ok-read_schedule.entries.items in
     let taken = rw c.deref.ensures.value at c.in-Ok.ensures.taken in
     let nodes_are = rw c.deref-2.ensures.value at c.in-Ok-read_nodes.ensures.nodes in
     let entries_are = rw c.deref-3.ensures.value at c.in-Ok-read_schedule.ensures.entries in
-    implied (λ (s : Status) (t : List ℕ). TakenComesTo c.in-Ok.taken source specs c.args.run.budget net net' s t)
+    implied (λ (s : Status) (t : List ℕ). TakenComesTo c.in-Ok.taken source specs entries c.args.run.budget net net' s t)
     (λ (s : Status) (t : List ℕ). Judged (asked_of c.args.work words) (held_in f) net net' s t)
-    c.come_to_end.result (rw (c.deref-in-Ok-read_schedule.ensures.value, c.deref-in-Ok-read_schedule-2.ensures.value) at c.come_to_end.ensures)
+    c.come_to_end.result (rw (c.deref-in-Ok-read_schedule.ensures.value, c.deref-in-Ok-read_schedule-2.ensures.value, c.deref-in-Ok-read_schedule-3.ensures.value) at c.come_to_end.ensures)
     (λ s t h. IsEnded specs entries s t nodes_are entries_are
-    (comes_to c.args.work words source c.in-Ok.taken specs f.schedule.items entries net net' s t taken entries_are h))
+    (comes_to c.args.work words source c.in-Ok.taken specs entries net net' s t taken h))
