@@ -90,13 +90,13 @@ layer_alone (Expression-F.Itself at) name is = cc
 layer_alone (Expression-F.Expression::Variable own) name is =
     let same : own ≡ name = cc in
     subst (λ n. tree.Variable n ≡ roll-Expression (Expression-F.Expression::Variable own)) same (sym (tree.rolls-Variable own))
-layer_alone (Expression-F.Parenthesised x at) name is = absurd (no_name_in_parentheses _ name is)
+layer_alone (Expression-F.Parenthesised x at) name is = absurd (no_name_in_parentheses (part_of x).part.form name is)
 layer_alone (Expression-F.Constructor o) name is = cc
 layer_alone (Expression-F.NodeAt x at word) name is = cc
 layer_alone (Expression-F.NodeCount at) name is = cc
 layer_alone (Expression-F.NewVector of x at word) name is = cc
-layer_alone (Expression-F.Postfix x links) name is = absurd (no_name_behind _ _ name is)
-layer_alone (Expression-F.Negative x at) name is = absurd (no_name_negated _ name is)
+layer_alone (Expression-F.Postfix x links) name is = absurd (no_name_behind (part_of x).part.form (map link_judged (map link_of links)) name is)
+layer_alone (Expression-F.Negative x at) name is = absurd (no_name_negated (part_of x).part.form name is)
 layer_alone (Expression-F.View x of at) name is = cc
 layer_alone (Expression-F.IsFixed x at) name is = cc
 layer_alone (Expression-F.Term x more) name is = cc
@@ -213,7 +213,7 @@ module _ (env : Env) (needed : Bool) (name : Name) (x : Expression) (alone : tre
       (with_links (e.Create class.0.number (cores_of env parts)) behind)
       (both_made (all_made env.scope parts) (all_made env.scope (parts_of_links (map link_of xs)))))
       alone
-      (ties.creation class.1 is
+      (ties.creation name word class.1 is
       (parts_tied arguments h env (first_link env (part_of x).part.at needed (Creation name) (call word parts) (map link_of xs) r))
       (links_tied xs k env (part_of x).part.at needed rest
       (later_links env (part_of x).part.at needed (Creation name) (call word parts) (map link_of xs) r))))))))

@@ -6,7 +6,7 @@ use Rattle.ec_ast.specs.declared.Expression.TheOpen.{Expression-F}
 use Rattle.ec_ast.specs.declared.Expression.TheVariants as tree
 use Rattle.ec_ast.specs.declared.Factor.{Factor}
 use Rattle.ec_ast.specs.declared.Name.{Name}
-use Rattle.ec_ast.specs.declared.ObjectConstructor.{ObjectConstructor, out-ObjectConstructor, roll-out-ObjectConstructor}
+use Rattle.ec_ast.specs.declared.ObjectConstructor.{ObjectConstructor, out-ObjectConstructor}
 use Rattle.ec_check.proofs.CapturedNames.{HeldAt, each_captured}
 use Rattle.ec_check.proofs.Equations.{object_step_of}
 use Rattle.ec_check.proofs.Every.{Every, every_left, every_right, none_left, none_right, not_both}
@@ -121,7 +121,7 @@ constructed env x places m o is =
     (λ (o : judged.ObjectPart).
     AreFor env (ties.captures_of env.scope o.holder) places → TiedHolder env.scope o.holder (out-ObjectConstructor x).body m →
     TiedExpression env (tree.Constructor x) (e.Construct (number_of env.scope o.holder) places) m)
-    (sym is) (λ h k. ties.construct (roll-out-ObjectConstructor x) h k)
+    (sym is) (λ h k. ties.construct x h k)
 
 constructor_tied : (env : Env) (x : ObjectConstructor) → BodyTied (out-ObjectConstructor x).body →
     Ready env (uses_outside (uses_within env.scope (holder_judged (object_of x).holder)))
@@ -144,10 +144,10 @@ LayerTied x y = (needed : Bool) (env : Env) →
     TiedExpression env y (core_of_expression (expression_mapped x) env) (expression_made (expression_mapped x) env.scope)
 
 -- of a single part
-alone : (env : Env) (x : Expression) {own : List StaticFault} → PartTied x →
+alone : (env : Env) (x : Expression) (own : List StaticFault) → PartTied x →
     Ready env (judged.uses_in env.scope (part_of x).part ++ []) ((judged.faults_in env.scope (part_of x).part ++ []) ++ own) →
     TiedExpression env x ((part_of x).core env) (both_made ((part_of x).made env.scope) nothing_made)
-alone env x {own} h r =
+alone env x own h r =
     subst (TiedExpression env x ((part_of x).core env)) (sym (made_none ((part_of x).made env.scope)))
     (h true env
     (first_ready (judged.uses_in env.scope (part_of x).part) [] (judged.faults_in env.scope (part_of x).part) []
@@ -174,25 +174,25 @@ layer_tied (Expression-F.Expression::Variable name) h =
     (reached_found env.captures name (find env.scope name.text) r.reach)))
 layer_tied (Expression-F.Parenthesised x at) h =
     subst (LayerTied (Expression-F.Parenthesised x at)) (sym (tree.rolls-Parenthesised x at))
-    (λ needed env r. ties.parenthesised (alone env x h r))
+    (λ needed env r. ties.parenthesised (alone env x _ h r))
 layer_tied (Expression-F.Constructor o) h =
     subst (LayerTied (Expression-F.Constructor o)) (sym (tree.rolls-Constructor o)) (λ needed env r. constructor_tied env o h r)
 layer_tied (Expression-F.NodeAt x at word) h =
-    subst (LayerTied (Expression-F.NodeAt x at word)) (sym (tree.rolls-NodeAt x at word)) (λ needed env r. ties.node_at (alone env x h r))
+    subst (LayerTied (Expression-F.NodeAt x at word)) (sym (tree.rolls-NodeAt x at word)) (λ needed env r. ties.node_at (alone env x _ h r))
 layer_tied (Expression-F.NodeCount at) h =
     subst (LayerTied (Expression-F.NodeCount at)) (sym (tree.rolls-NodeCount at)) (λ needed env r. ties.node_count)
 layer_tied (Expression-F.NewVector of x at word) h =
     subst (LayerTied (Expression-F.NewVector of x at word)) (sym (tree.rolls-NewVector of x at word))
-    (λ needed env r. ties.new_vector (alone env x h r))
+    (λ needed env r. ties.new_vector (alone env x _ h r))
 layer_tied (Expression-F.Postfix x links) h =
     subst (LayerTied (Expression-F.Postfix x links)) (sym (tree.rolls-Postfix x links))
     (λ needed env r. chain_tied env needed x links h.0 h.1 r)
 layer_tied (Expression-F.Negative x at) h =
-    subst (LayerTied (Expression-F.Negative x at)) (sym (tree.rolls-Negative x at)) (λ needed env r. ties.negative (alone env x h r))
+    subst (LayerTied (Expression-F.Negative x at)) (sym (tree.rolls-Negative x at)) (λ needed env r. ties.negative (alone env x _ h r))
 layer_tied (Expression-F.View x of at) h =
-    subst (LayerTied (Expression-F.View x of at)) (sym (tree.rolls-View x of at)) (λ needed env r. ties.view (alone env x h r))
+    subst (LayerTied (Expression-F.View x of at)) (sym (tree.rolls-View x of at)) (λ needed env r. ties.view (alone env x _ h r))
 layer_tied (Expression-F.IsFixed x at) h =
-    subst (LayerTied (Expression-F.IsFixed x at)) (sym (tree.rolls-IsFixed x at)) (λ needed env r. ties.is_fixed (alone env x h r))
+    subst (LayerTied (Expression-F.IsFixed x at)) (sym (tree.rolls-IsFixed x at)) (λ needed env r. ties.is_fixed (alone env x _ h r))
 layer_tied (Expression-F.Term x more) h =
     subst (LayerTied (Expression-F.Term x more)) (sym (tree.rolls-Term x more))
     (λ needed env r.
@@ -214,7 +214,7 @@ layer_tied (Expression-F.Compare x op at y) h =
         subst (TiedExpression env x ((part_of x).core env)) (sym (made_none ((part_of x).made env.scope)))
         (h true env (first_ready (judged.uses_in env.scope (part_of x).part) [] (judged.faults_in env.scope (part_of x).part) [] r))
 layer_tied (Expression-F.Not x at) h =
-    subst (LayerTied (Expression-F.Not x at)) (sym (tree.rolls-Not x at)) (λ needed env r. ties.not (alone env x h r))
+    subst (LayerTied (Expression-F.Not x at)) (sym (tree.rolls-Not x at)) (λ needed env r. ties.not (alone env x _ h r))
 layer_tied (Expression-F.And x more) h =
     subst (LayerTied (Expression-F.And x more)) (sym (tree.rolls-And x more))
     (λ needed env r.

@@ -42,10 +42,13 @@ use Rattle.ec_core_ties.specs.Ties.{AreMembers, IsInitially, IsProcess, TiedBloc
 use Rattle.ec_names.specs.Names.{Text, has_name}
 use Rattle.ec_rules.specs.Captures.{captured}
 use Rattle.ec_rules.specs.Doubled.{doubled_in_body}
-use Rattle.ec_rules.specs.Judging.{member_finished, members_finished, finished_if, process_finished, faults_in_holder, uses_within}
+use Rattle.ec_rules.specs.EndNames.{end_of_holder}
+use Rattle.ec_rules.specs.Judging.{body_finished, heading_faults, type_faults, member_finished, members_finished, finished_if, process_finished, faults_in_holder, uses_within}
+use Rattle.ec_rules.specs.Limits.{many_fields, many_parameters}
 use Rattle.ec_rules.specs.Lists.{each}
 use Rattle.ec_rules.specs.Members.{constant_type, fields_in, form_type, members_of, object_with, parameter_entries, result_entries, scope_of, scope_of_names}
 use Rattle.ec_rules.specs.Members as rules
+use Rattle.ec_rules.specs.Names.{unknown_in_parameters}
 use Rattle.ec_rules.specs.Operands.{wrong_constant}
 use Rattle.ec_rules.specs.Parts as judged
 use Rattle.ec_rules.specs.Tree as judged_tree
@@ -98,7 +101,7 @@ heading_length scope ps result =
     let e : length (result_entries scope result) ≡ length (result_written scope result) = result_length scope result in
     omega arith
 
-with_numbers : Scope → List Text → ℕ → List ℕ → Env
+abbrev with_numbers : Scope → List Text → ℕ → List ℕ → Env
 with_numbers scope captures count numbers = record { scope = scope; captures = captures; numbers = numbers; count = count }
 
 heading_same : (scope : Scope) (captures : List Text) (o : OperationPart) →
@@ -178,6 +181,16 @@ body_fits scope h = subst (λ o. length (locals_of o) ≤ 0) (sym (own_object sc
 
 -- ---- operations
 
+abbrev step_of : Operation → OperationPart
+step_of o = operation_step (record {
+  is_exported = (out-Operation o).is_exported;
+  name = (out-Operation o).name;
+  parameters = (out-Operation o).parameters;
+  result = (out-Operation o).result;
+  block = block_of (out-Operation o).block;
+  end_name = (out-Operation o).end_name;
+})
+
 abbrev pub MemberTied : Member → Type 0
 MemberTied = trees.TreeMemberHas PartTied StatementTied BlockTied
 
@@ -248,17 +261,8 @@ module _ (scope : Scope) (captures : List Text) (class : ℕ) (is_monitored : Bo
       (subst (λ p. FirstMember xs (tree_member.Operation (roll-Operation (out-Operation o))) (operation p)) (sym (operation_step_of o))
       (λ r there more.
       same_count _ _ _ _ _
-      (ties.operation (block_behind (out-Operation o).block (step o) h refl (first_ready _ _ _ _ r)) more))))
-    where
-      abbrev step : Operation → OperationPart
-      step o = operation_step (record {
-        is_exported = (out-Operation o).is_exported;
-        name = (out-Operation o).name;
-        parameters = (out-Operation o).parameters;
-        result = (out-Operation o).result;
-        block = block_of (out-Operation o).block;
-        end_name = (out-Operation o).end_name;
-      })
+      (ties.operation (out-Operation o).is_exported (out-Operation o).name (out-Operation o).end_name (out-Operation o).parameters
+      (out-Operation o).result (block_behind (out-Operation o).block (step_of o) h refl (first_ready _ _ _ _ r)) more))))
 
   member_tied : (xs : List Member) (y : MemberLayer) → trees.MemberLayerHas PartTied StatementTied BlockTied y →
       FirstMember xs (roll-Member y) (member_step (member_mapped y))
@@ -295,16 +299,16 @@ module _ (scope : Scope) (captures : List Text) (class : ℕ) (is_monitored : Bo
 
 -- ---- blocks of a body
 
-initially_tied : (env : Env) (x : Option Block) → Where BlockTied x →
-    Ready env (finished_if env.scope (option_map (λ p. p.piece) (option_map block_of x))).uses
-    (finished_if env.scope (option_map (λ p. p.piece) (option_map block_of x))).faults →
-    IsInitially env x (initially_core env (option_map block_of x)) (locals_of_block env.scope (option_map block_of x))
-    (initially_made env.scope (option_map block_of x))
-initially_tied env None h r = ties.no_initially
-initially_tied env (Some x) h r =
+initially_tied : (at : Env) (x : Option Block) → Where BlockTied x →
+    Ready at (finished_if at.scope (option_map (λ p. p.piece) (option_map block_of x))).uses
+    (finished_if at.scope (option_map (λ p. p.piece) (option_map block_of x))).faults →
+    IsInitially at x (initially_core at (option_map block_of x)) (locals_of_block at.scope (option_map block_of x))
+    (initially_made at.scope (option_map block_of x))
+initially_tied at None h r = ties.no_initially
+initially_tied at (Some x) h r =
     ties.initially
-    (subst (λ y. TiedBlock env x y ((block_of x).locals env.scope) ((block_of x).made env.scope))
-    (sym (roll-out-core-block ((block_of x).core env))) (h env r))
+    (subst (λ y. TiedBlock at x y ((block_of x).locals at.scope) ((block_of x).made at.scope))
+    (sym (roll-out-core-block ((block_of x).core at))) (h at r))
 
 process_fits : (scope : Scope) (captures : List Text) → Fit (env_in scope captures) → Fit (env_in (in_a_process scope) captures)
 process_fits scope captures f = subst (λ ls. length ls ≤ 0) (sym (locals_changed at_process (λ o. refl) scope)) f
@@ -325,7 +329,7 @@ process_tied class scope captures name (Some x) f h r =
     subst (λ y. SectionTied class scope captures name y (process_of x)) (roll-out-ProcessSection x)
     (subst (SectionTied class scope captures name (roll-ProcessSection (out-ProcessSection x))) (sym (process_step_of x))
     (λ q.
-    ties.process
+    ties.process (out-ProcessSection x).at
     (h (env_in (in_a_process scope) captures)
     (record { fit = process_fits scope captures f; reach = q.reach; faultless = none_left _ _ q.faultless })))) r
 
@@ -343,6 +347,15 @@ BodyMakes scope name is_monitored parameters end_name x b =
 
 abbrev body_with : List Member → Option Block → Option ProcessSection → BodyPart
 body_with ms i p = body_step (record { members = map member_of ms; initially = option_map block_of i; process = option_map process_of p })
+
+no_doubled_in : (scope : Scope) (h : judged.Holder) → faults_in_holder scope h ≡ [] → doubled_in_body h ≡ []
+no_doubled_in scope h e =
+    none_left (doubled_in_body h) (end_of_holder h ++ many_parameters h.parameters)
+    (none_right (type_faults scope.table h.name) (doubled_in_body h ++ (end_of_holder h ++ many_parameters h.parameters))
+    (none_right (unknown_in_parameters scope.table h.parameters)
+    (type_faults scope.table h.name ++ (doubled_in_body h ++ (end_of_holder h ++ many_parameters h.parameters)))
+    (none_left (heading_faults scope h) (many_fields (captured (uses_within scope h)) h)
+    (none_right (body_finished (scope_of scope h) h).faults (heading_faults scope h ++ many_fields (captured (uses_within scope h)) h) e))))
 
 body_makes : (scope : Scope) (name : Name) (is_monitored : Bool) (parameters : List Parameter) (end_name : Name) (ms : List Member)
     (i : Option Block) (p : Option ProcessSection) → Every MemberTied ms → Where BlockTied i → Where ProcessTied p →
@@ -362,7 +375,7 @@ body_makes scope name is_monitored parameters end_name ms i p h k g e =
     ready_within _ _ (first_ready _ _ _ _ all) in
     ties.holder (length-map (captures_of scope around) _)
     (members_tied inner (captures_of scope around) (number_of_holder scope around) is_monitored fit ms h (first_ready _ _ _ _ first)
-    (fields_are_there scope around (none_left _ _ (none_right _ _ (none_right _ _ (none_left _ _ (none_right _ _ e)))))))
+    (fields_are_there scope around (no_doubled_in scope (holder_judged around) e)))
     (initially_tied (env_of_body scope around) i k (second_ready _ _ _ _ first))
     (process_tied (number_of_holder scope around) inner (captures_of scope around) name p fit g (second_ready _ _ _ _ all))
 

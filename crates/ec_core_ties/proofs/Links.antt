@@ -77,7 +77,7 @@ factors_tied (x ∷ xs) h env r =
     subst (λ y. FirstFactor env xs y (factor_of x)) (roll-out-Factor x)
     (subst (FirstFactor env xs (roll-Factor (out-Factor x))) (sym (factor_step_of x))
     (λ q.
-    ties.factor (h.0 true env (first_ready _ _ _ _ q)) (factors_tied xs h.1 env (second_ready _ _ _ _ q)))) r
+    ties.factor (out-Factor x).operator (out-Factor x).at (h.0 true env (first_ready _ _ _ _ q)) (factors_tied xs h.1 env (second_ready _ _ _ _ q)))) r
 
 -- ---- operands of sums
 
@@ -98,7 +98,7 @@ addends_tied (x ∷ xs) h env r =
     subst (λ y. FirstAddend env xs y (addend_of x)) (roll-out-Addend x)
     (subst (FirstAddend env xs (roll-Addend (out-Addend x))) (sym (addend_step_of x))
     (λ q.
-    ties.addend (h.0 true env (first_ready _ _ _ _ q)) (addends_tied xs h.1 env (second_ready _ _ _ _ q)))) r
+    ties.addend (out-Addend x).operator (out-Addend x).at (h.0 true env (first_ready _ _ _ _ q)) (addends_tied xs h.1 env (second_ready _ _ _ _ q)))) r
 
 -- ---- operations without a declaration
 
@@ -110,7 +110,7 @@ string_named : (name : Name) (length : Bool) → is_word name (codes "length") �
     is_missing (if length then Called [] (Some (Plain Integer)) else callee_if (is_word name (codes "getSlice"))
     (Called (Plain Integer ∷ Plain Integer ∷ []) (Some (Plain String)))) ≡ false →
     IsBuiltin (if length then Length else GetSlice) name.text
-string_named name true is e = ties.length is
+string_named name true is e = ties.length_of is
 string_named name false is e = ties.get_slice (if_missing _ _ e)
 
 type_named : (scope : Scope) (name : Name) (of : StaticType) → is_missing (callee scope (Typed (Some of)) name) ≡ false → (b : Builtin) →
@@ -123,7 +123,7 @@ type_named scope name (Plain String) e b is =
 type_named scope name (Plain Any) e b is = cc
 type_named scope name (Plain Node) e b is = cc
 type_named scope name (Plain (Named n)) e b is = cc
-type_named scope name (Vector inner of) e b is = let same : Size ≡ b = cc in subst (λ b. IsBuiltin b name.text) same (ties.size (if_missing _ _ e))
+type_named scope name (Vector inner of) e b is = let same : Size ≡ b = cc in subst (λ b. IsBuiltin b name.text) same (ties.size_of (if_missing _ _ e))
 type_named scope name Nil e b is = cc
 type_named scope name Unknown e b is = cc
 

@@ -9,14 +9,13 @@ use Rattle.ec_ast.specs.declared.Expression.TheOpen.{Statement-F}
 use Rattle.ec_ast.specs.declared.Span.{Span}
 use Rattle.ec_ast.specs.declared.Statement.{Statement, roll-Statement, out-Statement, roll-out-Statement}
 use Rattle.ec_ast.specs.declared.Statement.TheVariants as tree
-use Rattle.ec_base.proofs.Stacks.{stack_parts}
 use Rattle.ec_base.specs.Stack.{top_of, below_of}
 use Rattle.ec_check.proofs.Equations.{arm_step_of}
 use Rattle.ec_check.proofs.Every.{Every, Where, none_left, none_right}
 use Rattle.ec_check.proofs.FittingScopes.{locals_changed, locals_declared}
 use Rattle.ec_check.proofs.Fusion.{same_statement}
 use Rattle.ec_check.proofs.KnownTypes.{test_holds}
-use Rattle.ec_check.proofs.Rolled.{StatementLayer, BlockLayer, statement_mapped, block_mapped, statement_rolled, block_rolled}
+use Rattle.ec_check.proofs.Rolled.{ArmLayer, StatementLayer, BlockLayer, statement_mapped, block_mapped, statement_rolled, block_rolled}
 use Rattle.ec_check.specs.Layers.{statement_judged}
 use Rattle.ec_check.specs.Parts.{Made, both_made, Piece, StatementPart, ArmPart, arm_judged}
 use Rattle.ec_check.specs.Places.{Env}
@@ -45,10 +44,12 @@ use Rattle.ec_names.specs.Names.{Text}
 use Rattle.ec_rules.specs.Captures.{Use}
 use Rattle.ec_rules.specs.Judging.{block_finished, entries_of, statement_finished, statement_part}
 use Rattle.ec_rules.specs.Lists.{each}
+use Rattle.ec_rules.specs.Operands.{wants}
 use Rattle.ec_rules.specs.Parts as judged
 use Rattle.ec_rules.specs.Statements.{piece_of_arm, pieces_of_block}
 use Rattle.ec_rules.specs.Tree as judged_tree
 use Rattle.ec_rules.specs.declared.StaticFault.{StaticFault}
+use Rattle.ec_rules.specs.declared.operands.Wanted.TheVariants as wanted
 use Rattle.ec_scopes.specs.declared.entries.Entry.{Entry}
 use Rattle.ec_scopes.specs.declared.scope.Scope.{Scope}
 use Rattle.ec_scopes.specs.Scopes.{at_loop, declaring, in_a_loop, innermost}
@@ -98,7 +99,7 @@ module _ (env : Env) (x z : Expression) (m n : Made) (w : CoreExpression) (value
 
   dropped : (y : CoreExpression) (t : CoreLayer) → roll-Expression t ≡ y → is_target t ≡ false → TiedExpression env x y m →
       TiedStatement env (tree.Assign x z) (s.Drop w) [] (both_made m n)
-  dropped y t is no h = ties.no_target h (ap (λ y. is_target (out-Expression y)) (sym is) ∙ (ap is_target (out-roll-Expression t) ∙ no)) value
+  dropped y t is none h = ties.no_target h (ap (λ y. is_target (out-Expression y)) (sym is) ∙ (ap is_target (out-roll-Expression t) ∙ none)) value
 
   place_set : (y : CoreExpression) (at : Place) → roll-Expression (Core-F.Read at) ≡ y → Becomes y (Core-F.Read at)
   place_set y at is h = ties.assign (subst (λ y. TiedExpression env x y m) (sym is ∙ e.rolls-Read at) h) value
@@ -108,15 +109,8 @@ module _ (env : Env) (x z : Expression) (m n : Made) (w : CoreExpression) (value
       TiedStatement env (tree.Assign x z) (element_set (chained head (below_of links)) k w) [] (both_made m n)
   element_set_is y head links last (CoreLink-F.Element number of at) is top out h =
       subst (λ v. TiedStatement env (tree.Assign x z) (s.SetElement v number w at) [] (both_made m n)) (with_links_is head (below_of links))
-      (ties.set_element
-      (subst (λ y. TiedExpression env x y m)
-      (sym is
-      ∙ (e.rolls-Chain head links
-      ∙ ap (e.Chain head)
-      (stack_parts links last top
-      ∙ ap (λ k. below_of links ++ k ∷ [])
-      (sym (roll-out-Link last) ∙ (ap roll-Link out ∙ l.rolls-Element number of at))))) h)
-      value)
+      (ties.set_element head links of (subst (λ y. TiedExpression env x y m) (sym is ∙ e.rolls-Chain head links) h)
+      (top ∙ ap Some (sym (roll-out-Link last) ∙ (ap roll-Link out ∙ l.rolls-Element number of at))) value)
     where
       with_links_is : (y : CoreExpression) (ks : List CoreLink) → ties.with_links y ks ≡ chained y ks
       with_links_is y [] = refl
@@ -180,24 +174,32 @@ FirstArm env xs x a =
     AreArms env (x ∷ xs) (arms_core env (a ∷ map arm_of xs)) (locals_of_arms env.scope (a ∷ map arm_of xs))
     (arms_made env.scope (a ∷ map arm_of xs))
 
+first_arm : (env : Env) (xs : List Arm) (a : ArmLayer) → PartTied a.condition → BlockTied a.block →
+    ((at : Env) → ReadyArms at (map arm_of xs) →
+    AreArms at xs (arms_core at (map arm_of xs)) (locals_of_arms at.scope (map arm_of xs)) (arms_made at.scope (map arm_of xs))) →
+    FirstArm env xs (roll-Arm a) (arm_step (record { condition = part_of a.condition; block = block_of a.block }))
+first_arm env xs a h k later q =
+    let condition : judged.Judgement = (part_of a.condition).part.judged true env.scope in
+    let block : judged.Finished = (block_of a.block).piece env.scope in
+    let own : Ready env (condition.uses ++ block.uses) (condition.faults ++ (wants wanted.Boolean condition.value ++ block.faults)) =
+    first_ready _ _ _ _ q in
+    ties.arm (h true env (first_ready condition.uses block.uses condition.faults (wants wanted.Boolean condition.value ++ block.faults) own))
+    (k env
+    (ready_behind (wants wanted.Boolean condition.value) block.faults
+    (second_ready condition.uses block.uses condition.faults (wants wanted.Boolean condition.value ++ block.faults) own)))
+    (later (further (length ((block_of a.block).locals env.scope)) env)
+    (ready_further (length ((block_of a.block).locals env.scope)) (second_ready _ _ _ _ q)))
+  where
+    ready_behind : {us : List Use} (fs gs : List StaticFault) → Ready env us (fs ++ gs) → Ready env us gs
+    ready_behind fs gs r = record { fit = r.fit; reach = r.reach; faultless = none_right fs gs r.faultless }
+
 arms_tied : (xs : List Arm) → Every ArmTied xs → (env : Env) → ReadyArms env (map arm_of xs) →
     AreArms env xs (arms_core env (map arm_of xs)) (locals_of_arms env.scope (map arm_of xs)) (arms_made env.scope (map arm_of xs))
 arms_tied [] h env r = ties.arms_end
 arms_tied (x ∷ xs) h env r =
     subst (λ y. FirstArm env xs y (arm_of x)) (roll-out-Arm x)
     (subst (FirstArm env xs (roll-Arm (out-Arm x))) (sym (arm_step_of x))
-    (λ q.
-    let own : Ready env (uses_of true env (out-Arm x).condition ++ ((block_of (out-Arm x).block).piece env.scope).uses)
-    (faults_of true env (out-Arm x).condition ++ (_ ++ ((block_of (out-Arm x).block).piece env.scope).faults)) = first_ready _ _ _ _ q in
-    ties.arm (h.0.0 true env (first_ready _ _ _ _ own))
-    (h.0.1 env
-    (record {
-      fit = q.fit;
-      reach = (second_ready _ _ _ _ own).reach;
-      faultless = none_right _ _ (none_right _ _ own.faultless);
-    }))
-    (arms_tied xs h.1 (further (length ((block_of (out-Arm x).block).locals env.scope)) env)
-    (ready_further (length ((block_of (out-Arm x).block).locals env.scope)) (second_ready _ _ _ _ q))))) r
+    (λ q. first_arm env xs (out-Arm x) h.0.0 h.0.1 (λ at. arms_tied xs h.1 at) q)) r
 
 else_tied : (at : Env) (x : Option Block) → Where BlockTied x →
     Ready at (each (piece_uses at.scope) (pieces_of_block (option_map (λ b. b.piece) (option_map block_of x))))
@@ -279,7 +281,7 @@ layer_tied (Statement-F.Loop b at) h =
     (h (in_scope (in_a_loop env.scope) env)
     (record {
       fit = loop_fits env r.fit;
-      reach = (first_ready ((block_of b).piece (in_a_loop env.scope)).uses [] [] [] (record { fit = r.fit; reach = r.reach; faultless = refl })).reach;
+      reach = (first_ready {env = env} ((block_of b).piece (in_a_loop env.scope)).uses [] [] [] (record { fit = r.fit; reach = r.reach; faultless = refl })).reach;
       faultless = none_left _ _ (none_left _ _ r.faultless);
     })))
 layer_tied (Statement-F.Exit None at) h =
@@ -353,7 +355,7 @@ numbered_once x n scope =
     subst (λ (p : StatementPart). NumberedOnce n (p.part.declares scope))
     (sym (statement_rolled (out-Statement x)) ∙ ap statement_of (roll-out-Statement x)) (step_once (out-Statement x) n scope)
 
-with_numbers : Scope → List Text → ℕ → List ℕ → Env
+abbrev with_numbers : Scope → List Text → ℕ → List ℕ → Env
 with_numbers scope captures count numbers = record { scope = scope; captures = captures; numbers = numbers; count = count }
 
 -- what stands behind a statement, by what the rules see

@@ -11,7 +11,7 @@ use Rattle.ec_ast.specs.declared.Body.{Body, roll-Body}
 use Rattle.ec_ast.specs.declared.Class.{Class}
 use Rattle.ec_ast.specs.declared.Comparison.{Comparison}
 use Rattle.ec_ast.specs.declared.Constant.{Constant}
-use Rattle.ec_ast.specs.declared.ConstantValue.TheVariants as value
+use Rattle.ec_ast.specs.declared.ConstantValue.TheVariants as constant_value
 use Rattle.ec_ast.specs.declared.Expression.{Expression}
 use Rattle.ec_ast.specs.declared.Expression.TheVariants as tree
 use Rattle.ec_ast.specs.declared.Factor.{Factor, roll-Factor}
@@ -23,7 +23,7 @@ use Rattle.ec_ast.specs.declared.Member.TheVariants as member
 use Rattle.ec_ast.specs.declared.Multiplicative.{Multiplicative}
 use Rattle.ec_ast.specs.declared.Name.{Name}
 use Rattle.ec_ast.specs.declared.Number.{Number}
-use Rattle.ec_ast.specs.declared.ObjectConstructor.{ObjectConstructor, roll-ObjectConstructor}
+use Rattle.ec_ast.specs.declared.ObjectConstructor.{ObjectConstructor, out-ObjectConstructor}
 use Rattle.ec_ast.specs.declared.Operation.{roll-Operation}
 use Rattle.ec_ast.specs.declared.Parameter.{Parameter}
 use Rattle.ec_ast.specs.declared.ProcessSection.{ProcessSection, roll-ProcessSection}
@@ -32,7 +32,7 @@ use Rattle.ec_ast.specs.declared.Statement.{Statement}
 use Rattle.ec_ast.specs.declared.Statement.TheVariants as tree_statement
 use Rattle.ec_ast.specs.declared.TypeName.{TypeName}
 use Rattle.ec_ast.specs.declared.Typeobject.{Typeobject}
-use Rattle.ec_base.specs.Stack.{top_of}
+use Rattle.ec_base.specs.Stack.{top_of, below_of}
 use Rattle.ec_check.specs.Parts.{Made, nothing_made, both_made}
 use Rattle.ec_check.specs.Places.{Env}
 use Rattle.ec_conform.specs.Types.{number_at, vector_of}
@@ -73,9 +73,9 @@ use Rattle.ec_scopes.specs.Scopes.{class_named, in_a_loop, in_a_process, written
 -- An operation without a declaration has this name.
 pub data IsBuiltin : Builtin → Text → Type 0 where
   as_string : {name : Text} → is_same name (codes "asString") ≡ true → IsBuiltin builtin.AsString name
-  length : {name : Text} → is_same name (codes "length") ≡ true → IsBuiltin builtin.Length name
+  length_of : {name : Text} → is_same name (codes "length") ≡ true → IsBuiltin builtin.Length name
   get_slice : {name : Text} → is_same name (codes "getSlice") ≡ true → IsBuiltin builtin.GetSlice name
-  size : {name : Text} → is_same name (codes "size") ≡ true → IsBuiltin builtin.Size name
+  size_of : {name : Text} → is_same name (codes "size") ≡ true → IsBuiltin builtin.Size name
 
 -- an expression alone, or with calls and indices behind it
 abbrev pub with_links : CoreExpression → List CoreLink → CoreExpression
@@ -187,10 +187,9 @@ mutual
     parenthesised : {env : Env} {x : Expression} {y : CoreExpression} {m : Made} {at : Span} → TiedExpression env x y m →
         TiedExpression env (tree.Parenthesised x at) y m
     -- Each captured value is read where the name stands outside.
-    construct : {env : Env} {o : ObjectConstructor} {at : Span} {is_monitored : Bool} {name end_name : Name} {body : Body}
-        {places : List Place} {m : Made} →
-        roll-ObjectConstructor (record { at = at; is_monitored = is_monitored; name = name; body = body; end_name = end_name }) ≡ o →
-        AreFor env (captures_of env.scope (object_of o).holder) places → TiedHolder env.scope (object_of o).holder body m →
+    construct : {env : Env} (o : ObjectConstructor) {places : List Place} {m : Made} →
+        AreFor env (captures_of env.scope (object_of o).holder) places →
+        TiedHolder env.scope (object_of o).holder (out-ObjectConstructor o).body m →
         TiedExpression env (tree.Constructor o) (e.Construct (number_of env.scope (object_of o).holder) places) m
     -- at the word `at`
     node_at : {env : Env} {x : Expression} {y : CoreExpression} {m : Made} {at word : Span} → TiedExpression env x y m →
@@ -203,7 +202,7 @@ mutual
     chain : {env : Env} {x : Expression} {xs : List Link} {y : CoreExpression} {ks : List CoreLink} {m n : Made} →
         TiedExpression env x y m → AreLinks env xs ks n → TiedExpression env (tree.Postfix x xs) (with_links y ks) (both_made m n)
     -- `NAME.create`: the name is that of a class, and of no value.
-    creation : {env : Env} {name word : Name} {c : ClassMeant} {xs : List Expression} {links : List Link} {ys : List CoreExpression}
+    creation : {env : Env} (name word : Name) {c : ClassMeant} {xs : List Expression} {links : List Link} {ys : List CoreExpression}
         {ks : List CoreLink} {m n : Made} →
         class_named env.scope name.text ≡ Some c → is_same word.text (codes "create") ≡ true → AreTied env xs ys m → AreLinks env links ks n →
         TiedExpression env (tree.Postfix (tree.Variable name) (tree_link.Call word xs ∷ links)) (with_links (e.Create c.number ys) ks)
@@ -249,7 +248,7 @@ mutual
   -- what a product takes to the right of its operators, each told at its operator
   pub data AreFactors : Env → List Factor → List CoreFactor → Made → Type 0 where
     factors_end : {env : Env} → AreFactors env [] [] nothing_made
-    factor : {env : Env} {op : Multiplicative} {at : Span} {x : Expression} {xs : List Factor} {y : CoreExpression} {ys : List CoreFactor}
+    factor : {env : Env} (op : Multiplicative) (at : Span) {x : Expression} {xs : List Factor} {y : CoreExpression} {ys : List CoreFactor}
         {m n : Made} → TiedExpression env x y m → AreFactors env xs ys n →
         AreFactors env (roll-Factor (record { operator = op; at = at; value = x }) ∷ xs)
         (core_factor (record { operator = op; value = y; at = at.from }) ∷ ys) (both_made m n)
@@ -257,7 +256,7 @@ mutual
   -- what a sum takes to the right of its operators, each told at its operator
   pub data AreAddends : Env → List Addend → List CoreAddend → Made → Type 0 where
     addends_end : {env : Env} → AreAddends env [] [] nothing_made
-    addend : {env : Env} {op : Additive} {at : Span} {x : Expression} {xs : List Addend} {y : CoreExpression} {ys : List CoreAddend}
+    addend : {env : Env} (op : Additive) (at : Span) {x : Expression} {xs : List Addend} {y : CoreExpression} {ys : List CoreAddend}
         {m n : Made} → TiedExpression env x y m → AreAddends env xs ys n →
         AreAddends env (roll-Addend (record { operator = op; at = at; value = x }) ∷ xs)
         (core_addend (record { operator = op; value = y; at = at.from }) ∷ ys) (both_made m n)
@@ -276,9 +275,10 @@ mutual
         TiedExpression env x (e.Read at) m → TiedExpression env z w n →
         TiedStatement env (tree_statement.Assign x z) (s.Assign at w) [] (both_made m n)
     -- The target ends in an index: the vector is what stands before it.
-    set_element : {env : Env} {x z : Expression} {y number w : CoreExpression} {ks : List CoreLink} {of : StaticType} {at : ℕ} {m n : Made} →
-        TiedExpression env x (e.Chain y (ks ++ l.Element number of at ∷ [])) m → TiedExpression env z w n →
-        TiedStatement env (tree_statement.Assign x z) (s.SetElement (with_links y ks) number w at) [] (both_made m n)
+    set_element : {env : Env} {x z : Expression} (y : CoreExpression) (ks : List CoreLink) (of : StaticType) {number w : CoreExpression} {at : ℕ}
+        {m n : Made} →
+        TiedExpression env x (e.Chain y ks) m → top_of ks ≡ Some (l.Element number of at) → TiedExpression env z w n →
+        TiedStatement env (tree_statement.Assign x z) (s.SetElement (with_links y (below_of ks)) number w at) [] (both_made m n)
     -- No text has such an assignment: what stands before its `<-` is a name, or ends in an index.
     no_target : {env : Env} {x z : Expression} {y w : CoreExpression} {m n : Made} →
         TiedExpression env x y m → is_target (layer_of y) ≡ false → TiedExpression env z w n →
@@ -361,7 +361,7 @@ mutual
         {m : Made} → AreMembers class env xs fields ys conditions m →
         AreMembers class env (member.Condition name ∷ xs) fields ys (1 + conditions) m
     -- told at its name
-    operation : {class : ℕ} {env : Env} {is_exported : Bool} {name end_name : Name} {parameters : List Parameter} {result : Option Parameter}
+    operation : {class : ℕ} {env : Env} (is_exported : Bool) (name end_name : Name) (parameters : List Parameter) (result : Option Parameter)
         {x : Block} {xs : List Member} {fields : List Field} {y : CoreBlock} {ys : List CoreStatement} {ts : List StaticType}
         {conditions : ℕ} {m n : Made} → TiedBlock (behind_heading env parameters result) x y ts m →
         AreMembers class env xs fields ys conditions n →
@@ -399,7 +399,7 @@ mutual
 
   pub data IsProcess : ℕ → Env → Name → Option ProcessSection → Made → Type 0 where
     no_process : {class : ℕ} {env : Env} {name : Name} → IsProcess class env name None nothing_made
-    process : {class : ℕ} {env : Env} {name : Name} {at : Span} {x : Block} {y : CoreBlock} {ts : List StaticType} {m : Made} →
+    process : {class : ℕ} {env : Env} {name : Name} (at : Span) {x : Block} {y : CoreBlock} {ts : List StaticType} {m : Made} →
         TiedBlock (record { scope = in_a_process env.scope; captures = env.captures; numbers = []; count = 0 }) x y ts m →
         IsProcess class env name (Some (roll-ProcessSection (record { block = x; at = at }))) (both_made (just (process_of class name at ts y)) m)
 
@@ -421,11 +421,11 @@ pub data AreConstants : Env → ℕ → List Constant → List CoreConstant → 
   value : {env : Env} {number : ℕ} {at : Span} {name : Name} {of : Option TypeName} {type : StaticType} {x : Expression}
       {xs : List Constant} {y : CoreExpression} {ys : List CoreConstant} {m n : Made} →
       constant_type env.scope of (part_of x).form ≡ Some type → TiedExpression env x y m → AreConstants env (suc number) xs ys n →
-      AreConstants env number ((record { at = at; name = name; of = of; value = value.Expression x }) ∷ xs)
+      AreConstants env number ((record { at = at; name = name; of = of; value = constant_value.Expression x }) ∷ xs)
       ((record { number = number; of = type; value = y }) ∷ ys) (both_made m n)
   class : {env : Env} {number : ℕ} {at : Span} {name : Name} {of : Option TypeName} {c : Class} {xs : List Constant}
       {ys : List CoreConstant} {m n : Made} → TiedHolder env.scope (class_part c) c.body m → AreConstants env (suc number) xs ys n →
-      AreConstants env number ((record { at = at; name = name; of = of; value = value.Class c }) ∷ xs) ys (both_made m n)
+      AreConstants env number ((record { at = at; name = name; of = of; value = constant_value.Class c }) ∷ xs) ys (both_made m n)
   typeobject : {env : Env} {number : ℕ} {at : Span} {name : Name} {of : Option TypeName} {t : Typeobject} {xs : List Constant}
       {ys : List CoreConstant} {n : Made} → AreConstants env (suc number) xs ys n →
-      AreConstants env number ((record { at = at; name = name; of = of; value = value.Typeobject t }) ∷ xs) ys n
+      AreConstants env number ((record { at = at; name = name; of = of; value = constant_value.Typeobject t }) ∷ xs) ys n
