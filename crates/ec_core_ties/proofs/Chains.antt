@@ -1,26 +1,25 @@
 -- An expression with calls and indices behind it is tied to its tree.
 use Rattle.std.proofs.Common.{◌≡◌, ◌&&◌, Bool, true, false, List, [], ◌∷◌, ◌++◌, map, Option, Some, None, is_some, if◌then◌else◌, refl, sym, ap, ◌∙◌, subst}
-use Rattle.std.specs.Prelude.{codes}
 use Rattle.ec_ast.specs.declared.Expression.{Expression, roll-Expression, out-Expression, roll-out-Expression}
 use Rattle.ec_ast.specs.declared.Expression.TheOpen.{Expression-F, Link-F}
 use Rattle.ec_ast.specs.declared.Expression.TheVariants as tree
 use Rattle.ec_ast.specs.declared.Link.{Link, roll-Link, out-Link, roll-out-Link}
 use Rattle.ec_ast.specs.declared.Link.TheVariants as tree_link
 use Rattle.ec_ast.specs.declared.Name.{Name}
-use Rattle.ec_check.proofs.Every.{Every, none_left, none_right, not_both, first_holds, second_holds}
+use Rattle.ec_check.proofs.Every.{Every, none_left, not_both, first_holds, second_holds}
 use Rattle.ec_check.proofs.KnownTypes.{clean}
 use Rattle.ec_check.proofs.RangedChains.{creation_arguments}
 use Rattle.ec_check.proofs.Rolled.{ExpressionLayer, LinkLayer, expression_mapped, link_mapped, part_rolled, link_rolled}
 use Rattle.ec_check.specs.Layers.{expression_judged}
-use Rattle.ec_check.specs.Parts.{both_made, Part, LinkPart, call, index, link_judged}
+use Rattle.ec_check.specs.Parts.{both_made, Part, LinkPart, call, link_judged}
 use Rattle.ec_check.specs.Places.{Env}
-use Rattle.ec_check.specs.Resolving.{all_made, cores_of, link_core, links_core, chained, number_of_class, arguments_in, created, chain_core, chain_of}
+use Rattle.ec_check.specs.Resolving.{all_made, cores_of, links_core, chained, number_of_class, chain_core, chain_of}
 use Rattle.ec_check.specs.Resolving.{parts_of_links, chain_parts, parts_of_chain}
 use Rattle.ec_check.specs.Tree.{part_of, link_of, link_step, expression_step}
 use Rattle.ec_conform.specs.declared.static_type.StaticType.{StaticType}
 use Rattle.ec_core.specs.declared.Expression.{Expression as CoreExpression}
 use Rattle.ec_core.specs.declared.Expression.TheVariants as e
-use Rattle.ec_core.specs.declared.Link.{Link as CoreLink, out-Link as out-core-link}
+use Rattle.ec_core.specs.declared.Link.{Link as CoreLink}
 use Rattle.ec_core_ties.proofs.Links.{LinkTied, ReadyLinks, links_tied, first_link, later_links, parts_joined}
 use Rattle.ec_core_ties.proofs.Ready.{Ready, ReadyPart, second_ready, first_ready, PartTied, StatementTied, BlockTied, parts_tied}
 use Rattle.ec_core_ties.proofs.Trees as trees
@@ -36,7 +35,6 @@ use Rattle.ec_rules.specs.Parts as judged
 use Rattle.ec_rules.specs.Parts.{value_in, uses_in, faults_in}
 use Rattle.ec_rules.specs.Rules.{is_clean}
 use Rattle.ec_scopes.specs.declared.globals.ClassMeant.{ClassMeant}
-use Rattle.ec_scopes.specs.declared.scope.Scope.{Scope}
 use Rattle.ec_scopes.specs.Scopes.{class_named}
 
 -- ---- a name alone

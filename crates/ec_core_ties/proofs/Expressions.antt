@@ -1,52 +1,46 @@
 -- The core of an expression of parts that are tied is tied to its tree.
-use Rattle.std.proofs.Common.{◌≡◌, ℕ, zero, suc, Bool, true, List, [], ◌∷◌, ◌++◌, map, Option, Some, None, refl, sym, ap, ◌∙◌, subst}
-use Rattle.ec_ast.specs.declared.Addend.{Addend}
+use Rattle.std.proofs.Common.{◌≡◌, ℕ, zero, suc, Bool, true, List, [], ◌∷◌, ◌++◌, map, Some, sym, ◌∙◌, subst}
 use Rattle.ec_ast.specs.declared.Expression.{Expression, roll-Expression}
 use Rattle.ec_ast.specs.declared.Expression.TheOpen.{Expression-F}
 use Rattle.ec_ast.specs.declared.Expression.TheVariants as tree
-use Rattle.ec_ast.specs.declared.Factor.{Factor}
 use Rattle.ec_ast.specs.declared.Name.{Name}
 use Rattle.ec_ast.specs.declared.ObjectConstructor.{ObjectConstructor, out-ObjectConstructor}
 use Rattle.ec_check.proofs.CapturedNames.{HeldAt, each_captured}
 use Rattle.ec_check.proofs.Equations.{object_step_of}
-use Rattle.ec_check.proofs.Every.{Every, every_left, every_right, none_left, none_right, not_both}
+use Rattle.ec_check.proofs.Every.{Every, every_left, every_right, none_left}
 use Rattle.ec_check.proofs.FoundPlaces.{held_out, held_is_found}
 use Rattle.ec_check.proofs.Fusion.{same_object}
 use Rattle.ec_check.proofs.KnownTypes.{test_holds}
 use Rattle.ec_check.proofs.RangedHolders.{inner_used, outside_body}
-use Rattle.ec_check.proofs.RangedParts.{values_same}
 use Rattle.ec_check.proofs.RangedTrees.{ranged_body}
 use Rattle.ec_check.proofs.ReachedNames.{IsReached}
 use Rattle.ec_check.proofs.Rolled.{ExpressionLayer, expression_mapped, part_rolled}
 use Rattle.ec_check.proofs.Steps.{made_none}
 use Rattle.ec_check.specs.Layers.{expression_judged}
-use Rattle.ec_check.specs.Parts.{Made, both_made, nothing_made, Part, ObjectPart, Holder, holder_judged, object_judged, link_judged}
+use Rattle.ec_check.specs.Parts.{Made, both_made, nothing_made, Part, ObjectPart, Holder, holder_judged, object_judged}
 use Rattle.ec_check.specs.Places.{Env, place_of}
 use Rattle.ec_check.specs.Resolving.{core_of_expression, expression_made, captures_of, number_of_holder, holder_made}
-use Rattle.ec_check.specs.Tree.{part_of, link_of, factor_of, addend_of, object_of, object_step, body_of, expression_step}
-use Rattle.ec_core.specs.declared.Expression.{Expression as CoreExpression}
+use Rattle.ec_check.specs.Tree.{part_of, object_of, object_step, body_of, expression_step}
 use Rattle.ec_core.specs.declared.Expression.TheVariants as e
 use Rattle.ec_core.specs.declared.Place.{Place}
 use Rattle.ec_core_ties.proofs.Chains.{chain_tied}
 use Rattle.ec_core_ties.proofs.Holders.{BodyTied, holder_tied}
 use Rattle.ec_core_ties.proofs.Links.{factors_tied, addends_tied}
 use Rattle.ec_core_ties.proofs.Naming.{Fit, stands}
-use Rattle.ec_core_ties.proofs.Ready.{Ready, ReadyPart, ReadyParts, first_ready, second_ready, ready_within, PartTied, StatementTied, BlockTied, parts_tied}
+use Rattle.ec_core_ties.proofs.Ready.{Ready, first_ready, second_ready, ready_within, PartTied, StatementTied, BlockTied, parts_tied}
 use Rattle.ec_core_ties.proofs.Trees as trees
 use Rattle.ec_core_ties.specs.Names.{AreFor, StandsFor}
 use Rattle.ec_core_ties.specs.Names as names
 use Rattle.ec_core_ties.specs.Ties as ties
 use Rattle.ec_core_ties.specs.Ties.{TiedExpression, TiedHolder, number_of}
 use Rattle.ec_names.specs.Names.{Text, has_name}
-use Rattle.ec_rules.specs.Captures.{Use, captured, use_of, use_outside, uses_outside}
+use Rattle.ec_rules.specs.Captures.{Use, use_of, use_outside, uses_outside}
 use Rattle.ec_rules.specs.Judging.{expression_part, faults_of, faults_in_holder, uses_of, uses_within}
-use Rattle.ec_rules.specs.Judging as judging
 use Rattle.ec_rules.specs.Parts as judged
 use Rattle.ec_rules.specs.Tree as judged_tree
 use Rattle.ec_rules.specs.declared.StaticFault.{StaticFault}
 use Rattle.ec_scopes.specs.declared.scope.Found.{Found}
 use Rattle.ec_scopes.specs.declared.scope.Found.TheVariants as found
-use Rattle.ec_scopes.specs.declared.scope.Scope.{Scope}
 use Rattle.ec_scopes.specs.Scopes.{find}
 
 -- ---- names

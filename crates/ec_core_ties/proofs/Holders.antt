@@ -1,7 +1,7 @@
 -- What a class or an object constructor makes is tied to its tree.
-use Rattle.std.proofs.Common.{◌≡◌, ℕ, zero, suc, ◌+◌, ◌≤◌, Bool, true, false, List, [], ◌∷◌, ◌++◌, length, map, Option, Some, None, option_map, is_some}
+use Rattle.std.proofs.Common.{◌≡◌, ℕ, suc, ◌+◌, ◌≤◌, Bool, true, List, [], ◌∷◌, ◌++◌, length, map, Option, Some, None, option_map, is_some}
 use Rattle.std.proofs.Common.{refl, sym, ap, ◌∙◌, subst, arith}
-use Rattle.std.proofs.lemmas.List.{append-nil, length-append, length-map, map-append}
+use Rattle.std.proofs.lemmas.List.{length-append, length-map, map-append}
 use Rattle.ec_ast.specs.declared.Block.{Block}
 use Rattle.ec_ast.specs.declared.Body.{Body, roll-Body, out-Body, roll-out-Body}
 use Rattle.ec_ast.specs.declared.Expression.{Expression}
@@ -22,15 +22,15 @@ use Rattle.ec_check.proofs.KnownTypes.{test_holds}
 use Rattle.ec_check.proofs.ReachedNames.{each_reached}
 use Rattle.ec_check.proofs.Rolled.{MemberLayer, member_mapped, member_rolled}
 use Rattle.ec_check.proofs.SuitingBodies.{all_members}
-use Rattle.ec_check.specs.Parts.{Part, Piece, ProcessPart, OperationPart, MemberPart, variable, constant, condition, operation, BodyPart, Holder}
-use Rattle.ec_check.specs.Parts.{member_judged, operation_judged, process_judged, holder_judged, Made, both_made}
-use Rattle.ec_check.specs.Places.{Env, field_named, fields_of, names_of, type_or}
-use Rattle.ec_check.specs.Resolving.{env_in, env_of_body, env_of_operation, field_of, field_stored, conditions_in, members_made, operation_core}
+use Rattle.ec_check.specs.Parts.{Piece, ProcessPart, OperationPart, MemberPart, variable, constant, condition, operation, BodyPart, Holder}
+use Rattle.ec_check.specs.Parts.{member_judged, operation_judged, process_judged, holder_judged, Made}
+use Rattle.ec_check.specs.Places.{Env, fields_of, names_of, type_or}
+use Rattle.ec_check.specs.Resolving.{env_in, env_of_body, env_of_operation, field_of, field_stored, conditions_in, members_made}
 use Rattle.ec_check.specs.Resolving.{heading_entries, heading_types, types_written, result_written, numbers_from, initially_core, initially_made, locals_of_block}
 use Rattle.ec_check.specs.Resolving.{process_made, number_of_holder, captures_of, holder_made}
-use Rattle.ec_check.specs.Tree.{part_of, block_of, body_of, body_step, member_of, member_step, operation_of, operation_step, process_of, process_step}
+use Rattle.ec_check.specs.Tree.{part_of, block_of, body_of, body_step, member_of, member_step, operation_of, operation_step, process_of}
 use Rattle.ec_conform.specs.declared.static_type.StaticType.{StaticType}
-use Rattle.ec_core.specs.declared.Block.{Block as CoreBlock, out-Block as out-core-block, roll-out-Block as roll-out-core-block}
+use Rattle.ec_core.specs.declared.Block.{roll-out-Block as roll-out-core-block}
 use Rattle.ec_core.specs.declared.Field.{Field}
 use Rattle.ec_core.specs.declared.Statement.{Statement as CoreStatement}
 use Rattle.ec_core_ties.proofs.Naming.{Fit, field_is, there_first, there_right}
@@ -53,7 +53,6 @@ use Rattle.ec_rules.specs.Operands.{wrong_constant}
 use Rattle.ec_rules.specs.Parts as judged
 use Rattle.ec_rules.specs.Tree as judged_tree
 use Rattle.ec_scopes.specs.declared.entries.Entry.{Entry}
-use Rattle.ec_scopes.specs.declared.object.Object.{Object}
 use Rattle.ec_scopes.specs.declared.scope.Scope.{Scope}
 use Rattle.ec_scopes.specs.Scopes.{at_process, declaring, in_a_process, innermost, locals_of}
 

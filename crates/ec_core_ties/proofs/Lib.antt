@@ -1,4 +1,5 @@
 pub mod Chains
+pub mod Declared
 pub mod Expressions
 pub mod Holders
 pub mod Links

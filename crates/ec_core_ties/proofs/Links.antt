@@ -1,5 +1,5 @@
 -- The operands of products and sums, calls and indices are tied to their trees.
-use Rattle.std.proofs.Common.{◌≡◌, ◌||◌, Bool, true, false, not, List, [], ◌∷◌, ◌++◌, map, Option, Some, None, if◌then◌else◌, refl, sym, ap, ◌∙◌, subst}
+use Rattle.std.proofs.Common.{◌≡◌, Bool, true, false, List, [], ◌∷◌, ◌++◌, map, Option, Some, None, if◌then◌else◌, refl, sym, ap, ◌∙◌, subst}
 use Rattle.std.proofs.lemmas.List.{append-nil}
 use Rattle.ec_ast.specs.declared.Addend.{Addend, roll-Addend, out-Addend, roll-out-Addend}
 use Rattle.ec_ast.specs.declared.Expression.{Expression}
@@ -18,24 +18,20 @@ use Rattle.ec_check.proofs.Steps.{made_joined}
 use Rattle.ec_check.proofs.WellChains.{next_faults}
 use Rattle.ec_check.specs.Parts.{Made, both_made, Part, LinkPart, call, index, FactorPart, AddendPart, link_judged, factor_judged, addend_judged}
 use Rattle.ec_check.specs.Places.{Env}
-use Rattle.ec_check.specs.Resolving.{all_made, cores_of, builtin_of, called, link_core, links_core, factor_core, addend_core, parts_of_links}
+use Rattle.ec_check.specs.Resolving.{all_made, cores_of, builtin_of, called, links_core, factor_core, addend_core, parts_of_links}
 use Rattle.ec_check.specs.Tree.{part_of, link_of, factor_of, addend_of, link_step}
-use Rattle.ec_conform.specs.declared.static_type.Plain.{Plain as PlainType}
 use Rattle.ec_conform.specs.declared.static_type.Plain.TheVariants.{Integer, Boolean, String, Any, Node, Named}
 use Rattle.ec_conform.specs.declared.static_type.StaticType.{StaticType}
 use Rattle.ec_conform.specs.declared.static_type.StaticType.TheVariants.{Plain, Vector, Nil, Unknown}
-use Rattle.ec_core.specs.declared.Addend.{Addend as CoreAddend}
 use Rattle.ec_core.specs.declared.Builtin.{Builtin}
 use Rattle.ec_core.specs.declared.Builtin.TheVariants.{AsString, Length, GetSlice, Size}
 use Rattle.ec_core.specs.declared.Expression.{Expression as CoreExpression}
-use Rattle.ec_core.specs.declared.Factor.{Factor as CoreFactor}
 use Rattle.ec_core.specs.declared.Link.{Link as CoreLink}
-use Rattle.ec_core_ties.proofs.Ready.{Ready, first_ready, second_ready, ready_within, PartTied, ReadyPart, ReadyParts, parts_tied, each_joined}
+use Rattle.ec_core_ties.proofs.Ready.{Ready, first_ready, second_ready, PartTied, parts_tied, each_joined}
 use Rattle.ec_core_ties.proofs.Trees as trees
 use Rattle.ec_core_ties.proofs.Ready.{StatementTied, BlockTied}
 use Rattle.ec_core_ties.specs.Ties as ties
 use Rattle.ec_core_ties.specs.Ties.{AreTied, AreLinks, AreFactors, AreAddends, IsBuiltin}
-use Rattle.ec_names.specs.Names.{Text}
 use Rattle.ec_rules.specs.Calls.{Receiver, Creation, Own, Typed, callee, callee_of_string, is_missing, is_word, link_type, faults_of_links}
 use Rattle.ec_rules.specs.Calls.{callee_if, type_of_receiver, type_of_object, Callee, Called, result_of, is_last}
 use Rattle.ec_rules.specs.Calls as calls

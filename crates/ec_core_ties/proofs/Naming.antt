@@ -1,25 +1,22 @@
 -- A name that is found stands for the place where its value is kept.
-use Rattle.std.proofs.Common.{◌≡◌, ℕ, zero, suc, ◌+◌, ◌<◌, ◌≤◌, Bool, true, false, ◌||◌, List, [], ◌∷◌, ◌++◌, length, map, Option, Some, None}
+use Rattle.std.proofs.Common.{◌≡◌, ℕ, zero, suc, ◌+◌, ◌<◌, ◌≤◌, Bool, true, false, List, [], ◌∷◌, ◌++◌, length, map, Option, Some, None}
 use Rattle.std.proofs.Common.{refl, sym, ap, not, ◌∙◌, subst, is_some, if◌then◌else◌, arith, slice_get}
 use Rattle.std.proofs.lemmas.Bool.{or_parts}
-use Rattle.std.proofs.lemmas.List.{length-map, map-append}
+use Rattle.std.proofs.lemmas.List.{length-map}
 use Rattle.ec_check.proofs.Every.{not_both, second_holds}
 use Rattle.ec_check.proofs.FirstNames.{same_itself}
 use Rattle.ec_check.proofs.FoundPlaces.{held_out, own_entries, own_entry, named_below, some_names}
 use Rattle.ec_check.proofs.FoundTypes.{found_value}
 use Rattle.ec_check.proofs.WellValues.{first_of_two, second_of_two}
-use Rattle.ec_check.specs.Places.{Env, number_or, number_named, names_of, fields_of, conditions_of, number_at_or, held_place, own_place, place_found, place_of}
+use Rattle.ec_check.specs.Places.{Env, number_or, number_named, names_of, fields_of, conditions_of, number_at_or, held_place, place_found, place_of}
 use Rattle.ec_check.specs.Places.{field_named, condition_named}
 use Rattle.ec_conform.proofs.Names.{has_name_more}
-use Rattle.ec_conform.specs.declared.static_type.StaticType.{StaticType}
 use Rattle.ec_core.specs.declared.Place.TheVariants as place
 use Rattle.ec_core_ties.specs.Names.{IsCondition, IsField, StandsFor, local, field, captured, constant}
 use Rattle.ec_names.specs.Names.{Text, first_from, first_named, has_name, is_same}
 use Rattle.ec_rules.specs.Names.{is_found}
 use Rattle.ec_scopes.specs.declared.entries.Entry.{Entry}
 use Rattle.ec_scopes.specs.declared.globals.Global.{Global}
-use Rattle.ec_scopes.specs.declared.globals.Meaning.{Meaning}
-use Rattle.ec_scopes.specs.declared.globals.Meaning.TheVariants as means
 use Rattle.ec_scopes.specs.declared.object.Object.{Object}
 use Rattle.ec_scopes.specs.declared.scope.Found.{Found}
 use Rattle.ec_scopes.specs.declared.scope.Found.TheVariants as found

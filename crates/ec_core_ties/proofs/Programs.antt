@@ -13,13 +13,11 @@ use Rattle.ec_check.proofs.Fusion.{same_part, same_class}
 use Rattle.ec_check.proofs.RangedPrograms.{none_held, none_in_order}
 use Rattle.ec_check.proofs.RangedTrees.{ranged_part}
 use Rattle.ec_check.proofs.ReachedNames.{IsReached}
-use Rattle.ec_check.specs.Parts.{Holder, holder_judged}
 use Rattle.ec_check.specs.Places.{Env}
-use Rattle.ec_check.specs.Program.{constant_core, constant_made, constants_core, constants_made, outermost, core_of}
+use Rattle.ec_check.specs.Program.{constants_core, constants_made, outermost, core_of}
 use Rattle.ec_check.specs.Resolving.{env_in, holder_made}
 use Rattle.ec_check.specs.Tree.{class_part, part_of}
 use Rattle.ec_conform.specs.Table.{Table}
-use Rattle.ec_core.specs.declared.Constant.{Constant as CoreConstant}
 use Rattle.ec_core_ties.proofs.Expressions.{expression_has}
 use Rattle.ec_core_ties.proofs.Holders.{constant_is_typed, holder_tied}
 use Rattle.ec_core_ties.proofs.Ready.{PartTied, StatementTied, BlockTied}
@@ -32,7 +30,6 @@ use Rattle.ec_rules.specs.Captures.{uses_outside}
 use Rattle.ec_rules.specs.Faults.{StaticFaults, faults_in_constant, faults_of_program, scope_with}
 use Rattle.ec_rules.specs.Judging.{faults_in_holder}
 use Rattle.ec_rules.specs.Operands.{wrong_constant}
-use Rattle.ec_rules.specs.Parts as judged
 use Rattle.ec_rules.specs.Parts.{faults_in}
 use Rattle.ec_rules.specs.Tree.{constant_part, constant_parts, value_part}
 use Rattle.ec_scopes.specs.declared.globals.Global.{Global}

@@ -1,10 +1,9 @@
 -- What is shown of each part of a tree: where it has no fault, its core is tied to it.
-use Rattle.std.proofs.Common.{◌≡◌, ℕ, zero, suc, ◌≤◌, Bool, true, List, [], ◌∷◌, ◌++◌, length, map, refl, sym, ap, ◌∙◌, subst, append_assoc}
+use Rattle.std.proofs.Common.{◌≡◌, Bool, true, List, [], ◌∷◌, ◌++◌, map, refl, sym, ap, ◌∙◌, subst, append_assoc}
 use Rattle.ec_ast.specs.declared.Block.{Block}
 use Rattle.ec_ast.specs.declared.Expression.{Expression}
 use Rattle.ec_ast.specs.declared.Statement.{Statement}
-use Rattle.ec_check.proofs.CapturedNames.{outside_joined}
-use Rattle.ec_check.proofs.Every.{Every, every_joined, every_left, every_right, none_left, none_right}
+use Rattle.ec_check.proofs.Every.{Every, none_left, none_right}
 use Rattle.ec_check.proofs.ReachedNames.{IsReached}
 use Rattle.ec_check.proofs.WellReady.{first_reach, second_reach}
 use Rattle.ec_check.specs.Parts.{Part}

@@ -23,7 +23,6 @@ use Rattle.ec_check.specs.Resolving.{chained, element_set, element_set_if, assig
 use Rattle.ec_check.specs.Resolving.{locals_of_block, locals_of, behind, statements_core, locals_of_statements, statements_made, arms_made, initially_made, statement_made}
 use Rattle.ec_check.specs.Tree.{part_of, statement_of, arm_of, block_of, statement_step, block_step, arm_step}
 use Rattle.ec_core.specs.declared.Addend.{Addend as CoreAddend}
-use Rattle.ec_core.specs.declared.Block.{Block as CoreBlock}
 use Rattle.ec_core.specs.declared.Expression.{Expression as CoreExpression, roll-Expression, out-Expression, out-roll-Expression, roll-out-Expression}
 use Rattle.ec_core.specs.declared.Expression.TheOpen.{Expression-F as Core-F, Link-F as CoreLink-F}
 use Rattle.ec_core.specs.declared.Expression.TheVariants as e

@@ -1,5 +1,5 @@
 -- What holds of each part of a tree, where it holds of a layer whose parts have it: one induction over all kinds of parts.
-use Rattle.std.proofs.Common.{◌≡◌, List, [], ◌∷◌, map, Option, Some, None, refl, sym, subst}
+use Rattle.std.proofs.Common.{◌≡◌, List, [], ◌∷◌, map, Option, Some, None, sym, subst}
 use Rattle.ec_ast.specs.declared.Expression.{Expression, roll-Expression, map-Expression, ind-Expression}
 use Rattle.ec_ast.specs.declared.Link.{Link, roll-Link, out-Link, out-roll-Link, map-Link}
 use Rattle.ec_ast.specs.declared.Member.{Member, roll-Member, out-Member, out-roll-Member, map-Member}

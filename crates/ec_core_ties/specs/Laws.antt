@@ -1,11 +1,11 @@
 -- What ties the core of every program that breaks no static rule to its tree.
-use Rattle.std.specs.Prelude.{◌≡◌, []}
+use Rattle.std.specs.Prelude.{◌≡◌, ◌<◌, All, [], length}
 use Rattle.ec_ast.specs.declared.Program.{Program}
-use Rattle.ec_check.specs.Parts.{Made}
 use Rattle.ec_check.specs.Places.{Env}
 use Rattle.ec_check.specs.Program.{core_of}
 use Rattle.ec_conform.specs.Declarations.{declarations_of}
 use Rattle.ec_conform.specs.Table.{Table, IsTable}
+use Rattle.ec_core.specs.declared.Class.{Class}
 use Rattle.ec_core.specs.declared.Core.{Core}
 use Rattle.ec_core_ties.specs.Ties.{AreConstants}
 use Rattle.ec_rules.specs.Faults.{StaticFaults, scope_of_program}
@@ -30,3 +30,11 @@ EachCoreIsTied =
     IsTable (declarations_of program) table →
     StaticFaults table program ≡ [] →
     IsTied table program (core_of table program)
+
+-- The number of each of its classes, which is that of the type declared at its name, is one of a declared type.
+abbrev pub EachClassIsDeclared : Type 0
+EachClassIsDeclared =
+    (table : Table) (program : Program) →
+    IsTable (declarations_of program) table →
+    StaticFaults table program ≡ [] →
+    All (λ (c : Class). c.number < length table.places) (core_of table program).classes
