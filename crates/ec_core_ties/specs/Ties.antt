@@ -204,7 +204,8 @@ mutual
     -- `NAME.create`: the name is that of a class, and of no value.
     creation : {env : Env} (name word : Name) {c : ClassMeant} {xs : List Expression} {links : List Link} {ys : List CoreExpression}
         {ks : List CoreLink} {m n : Made} →
-        class_named env.scope name.text ≡ Some c → is_same word.text (codes "create") ≡ true → AreTied env xs ys m → AreLinks env links ks n →
+        class_named env.scope name.text ≡ Some c → is_same word.text (codes "create") ≡ true → AreTied env xs ys m →
+        AreLinks env links ks n →
         TiedExpression env (tree.Postfix (tree.Variable name) (tree_link.Call word xs ∷ links)) (with_links (e.Create c.number ys) ks)
         (both_made m n)
     negative : {env : Env} {x : Expression} {y : CoreExpression} {m : Made} {at : Span} → TiedExpression env x y m →
@@ -266,7 +267,8 @@ mutual
   pub data TiedStatement : Env → Statement → CoreStatement → List StaticType → Made → Type 0 where
     local_variable : {env : Env} {name : Name} {of : TypeName} →
         TiedStatement env (tree_statement.LocalVariable name of None) (s.Declare env.count None) (written_in env.scope of ∷ []) nothing_made
-    local_with_value : {env : Env} {name : Name} {of : TypeName} {x : Expression} {y : CoreExpression} {m : Made} → TiedExpression env x y m →
+    local_with_value : {env : Env} {name : Name} {of : TypeName} {x : Expression} {y : CoreExpression} {m : Made} →
+        TiedExpression env x y m →
         TiedStatement env (tree_statement.LocalVariable name of (Some x)) (s.Declare env.count (Some y)) (written_in env.scope of ∷ []) m
     local_constant : {env : Env} {name : Name} {of : Option TypeName} {x : Expression} {y : CoreExpression} {type : StaticType} {m : Made} →
         constant_type env.scope of (part_of x).form ≡ Some type → TiedExpression env x y m →
@@ -275,8 +277,8 @@ mutual
         TiedExpression env x (e.Read at) m → TiedExpression env z w n →
         TiedStatement env (tree_statement.Assign x z) (s.Assign at w) [] (both_made m n)
     -- The target ends in an index: the vector is what stands before it.
-    set_element : {env : Env} {x z : Expression} (y : CoreExpression) (ks : List CoreLink) (of : StaticType) {number w : CoreExpression} {at : ℕ}
-        {m n : Made} →
+    set_element : {env : Env} {x z : Expression} (y : CoreExpression) (ks : List CoreLink) (of : StaticType) {number w : CoreExpression}
+        {at : ℕ} {m n : Made} →
         TiedExpression env x (e.Chain y ks) m → top_of ks ≡ Some (l.Element number of at) → TiedExpression env z w n →
         TiedStatement env (tree_statement.Assign x z) (s.SetElement (with_links y (below_of ks)) number w at) [] (both_made m n)
     -- No text has such an assignment: what stands before its `<-` is a name, or ends in an index.
@@ -298,11 +300,14 @@ mutual
     return : {env : Env} {at : Span} → TiedStatement env (tree_statement.Return at) s.Return [] nothing_made
     assert : {env : Env} {x : Expression} {y : CoreExpression} {m : Made} {at : Span} → TiedExpression env x y m →
         TiedStatement env (tree_statement.Assert x at) (s.Assert y at.from) [] m
-    move : {env : Env} {x z : Expression} {y w : CoreExpression} {m n : Made} {at : Span} → TiedExpression env x y m → TiedExpression env z w n →
+    move : {env : Env} {x z : Expression} {y w : CoreExpression} {m n : Made} {at : Span} →
+        TiedExpression env x y m → TiedExpression env z w n →
         TiedStatement env (tree_statement.Move x z at) (s.Move y w at.from) [] (both_made m n)
-    fix : {env : Env} {x z : Expression} {y w : CoreExpression} {m n : Made} {at : Span} → TiedExpression env x y m → TiedExpression env z w n →
+    fix : {env : Env} {x z : Expression} {y w : CoreExpression} {m n : Made} {at : Span} →
+        TiedExpression env x y m → TiedExpression env z w n →
         TiedStatement env (tree_statement.Fix x z at) (s.Fix y w at.from) [] (both_made m n)
-    refix : {env : Env} {x z : Expression} {y w : CoreExpression} {m n : Made} {at : Span} → TiedExpression env x y m → TiedExpression env z w n →
+    refix : {env : Env} {x z : Expression} {y w : CoreExpression} {m n : Made} {at : Span} →
+        TiedExpression env x y m → TiedExpression env z w n →
         TiedStatement env (tree_statement.Refix x z at) (s.Refix y w at.from) [] (both_made m n)
     unfix : {env : Env} {x : Expression} {y : CoreExpression} {m : Made} {at : Span} → TiedExpression env x y m →
         TiedStatement env (tree_statement.Unfix x at) (s.Unfix y at.from) [] m
@@ -361,9 +366,9 @@ mutual
         {m : Made} → AreMembers class env xs fields ys conditions m →
         AreMembers class env (member.Condition name ∷ xs) fields ys (1 + conditions) m
     -- told at its name
-    operation : {class : ℕ} {env : Env} (is_exported : Bool) (name end_name : Name) (parameters : List Parameter) (result : Option Parameter)
-        {x : Block} {xs : List Member} {fields : List Field} {y : CoreBlock} {ys : List CoreStatement} {ts : List StaticType}
-        {conditions : ℕ} {m n : Made} → TiedBlock (behind_heading env parameters result) x y ts m →
+    operation : {class : ℕ} {env : Env} (is_exported : Bool) (name end_name : Name) (parameters : List Parameter)
+        (result : Option Parameter) {x : Block} {xs : List Member} {fields : List Field} {y : CoreBlock} {ys : List CoreStatement}
+        {ts : List StaticType} {conditions : ℕ} {m n : Made} → TiedBlock (behind_heading env parameters result) x y ts m →
         AreMembers class env xs fields ys conditions n →
         AreMembers class env
         (member.Operation
@@ -401,7 +406,8 @@ mutual
     no_process : {class : ℕ} {env : Env} {name : Name} → IsProcess class env name None nothing_made
     process : {class : ℕ} {env : Env} {name : Name} (at : Span) {x : Block} {y : CoreBlock} {ts : List StaticType} {m : Made} →
         TiedBlock (record { scope = in_a_process env.scope; captures = env.captures; numbers = []; count = 0 }) x y ts m →
-        IsProcess class env name (Some (roll-ProcessSection (record { block = x; at = at }))) (both_made (just (process_of class name at ts y)) m)
+        IsProcess class env name (Some (roll-ProcessSection (record { block = x; at = at })))
+        (both_made (just (process_of class name at ts y)) m)
 
   -- What a class or an object constructor makes, in the scope around it: its class; operation 0; then what stands in its body.
   pub data TiedHolder : Scope → Holder → Body → Made → Type 0 where
