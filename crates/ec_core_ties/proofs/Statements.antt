@@ -144,7 +144,7 @@ module _ (env : Env) (x z : Expression) (m n : Made) (w : CoreExpression) (value
   becomes y (Core-F.IsFixed v at) is h = dropped y (Core-F.IsFixed v at) is refl h
   becomes y (Core-F.Term v more) is h = dropped y (Core-F.Term v more) is refl h
   becomes y (Core-F.Sum v more) is h = dropped y (Core-F.Sum v more) is refl h
-  becomes y (Core-F.Compare v op u) is h = dropped y (Core-F.Compare v op u) is refl h
+  becomes y (Core-F.Compare v op what u) is h = dropped y (Core-F.Compare v op what u) is refl h
   becomes y (Core-F.And v more) is h = dropped y (Core-F.And v more) is refl h
   becomes y (Core-F.Or v more) is h = dropped y (Core-F.Or v more) is refl h
 

@@ -43,6 +43,7 @@ use Rattle.ec_core.specs.declared.Block.{Block as CoreBlock, roll-Block as core_
 use Rattle.ec_core.specs.declared.Builtin.{Builtin}
 use Rattle.ec_core.specs.declared.Builtin.TheVariants as builtin
 use Rattle.ec_core.specs.declared.Class.{Class as CoreClass}
+use Rattle.ec_core.specs.declared.Compared.{Compared}
 use Rattle.ec_core.specs.declared.Constant.{Constant as CoreConstant}
 use Rattle.ec_core.specs.declared.Expression.{Expression as CoreExpression, out-Expression as layer_of}
 use Rattle.ec_core.specs.declared.Expression.TheOpen.{Expression-F as Core-F, Link-F as CoreLink-F}
@@ -218,8 +219,9 @@ mutual
         TiedExpression env x y m → AreFactors env xs ys n → TiedExpression env (tree.Term x xs) (e.Term y ys) (both_made m n)
     sum : {env : Env} {x : Expression} {xs : List Addend} {y : CoreExpression} {ys : List CoreAddend} {m n : Made} →
         TiedExpression env x y m → AreAddends env xs ys n → TiedExpression env (tree.Sum x xs) (e.Sum y ys) (both_made m n)
-    compare : {env : Env} {x z : Expression} {op : Comparison} {at : Span} {y w : CoreExpression} {m n : Made} →
-        TiedExpression env x y m → TiedExpression env z w n → TiedExpression env (tree.Compare x op at z) (e.Compare y op w) (both_made m n)
+    -- What its operands are, `IsWellTyped` says.
+    compare : {env : Env} {x z : Expression} {op : Comparison} {at : Span} {what : Compared} {y w : CoreExpression} {m n : Made} →
+        TiedExpression env x y m → TiedExpression env z w n → TiedExpression env (tree.Compare x op at z) (e.Compare y op what w) (both_made m n)
     not : {env : Env} {x : Expression} {y : CoreExpression} {m : Made} {at : Span} → TiedExpression env x y m →
         TiedExpression env (tree.Not x at) (e.Not y) m
     and : {env : Env} {x : Expression} {xs : List Expression} {y : CoreExpression} {ys : List CoreExpression} {m n : Made} →
