@@ -1,0 +1,10 @@
+pub mod Chains
+pub mod Declared
+pub mod Expressions
+pub mod Holders
+pub mod Links
+pub mod Naming
+pub mod Programs
+pub mod Ready
+pub mod Statements
+pub mod Trees
