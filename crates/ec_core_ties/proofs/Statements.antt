@@ -130,30 +130,6 @@ module _ (env : Env) (x z : Expression) (m n : Made) (w : CoreExpression) (value
   last_set head links None is top h = dropped (Core-F.Chain head links) is (ap ends_in_index top) h
   last_set head links (Some last) is top h = element_set_is head links last (out-Link last) is top refl h
 
-<<<<<<< HEAD
-  becomes : (y : CoreExpression) (t : CoreLayer) → roll-Expression t ≡ y → Becomes y t
-  becomes y (Core-F.Read at) is h = place_set y at is h
-  becomes y (Core-F.Chain head links) is h = last_set y head links (top_of links) is refl h
-  becomes y (Core-F.Number n) is h = dropped y (Core-F.Number n) is refl h
-  becomes y (Core-F.Literal text) is h = dropped y (Core-F.Literal text) is refl h
-  becomes y (Core-F.Truth b) is h = dropped y (Core-F.Truth b) is refl h
-  becomes y Core-F.Nil is h = dropped y Core-F.Nil is refl h
-  becomes y Core-F.Itself is h = dropped y Core-F.Itself is refl h
-  becomes y Core-F.NodeCount is h = dropped y Core-F.NodeCount is refl h
-  becomes y (Core-F.NodeAt v at) is h = dropped y (Core-F.NodeAt v at) is refl h
-  becomes y (Core-F.NewVector of v at) is h = dropped y (Core-F.NewVector of v at) is refl h
-  becomes y (Core-F.Construct class places) is h = dropped y (Core-F.Construct class places) is refl h
-  becomes y (Core-F.Create class arguments) is h = dropped y (Core-F.Create class arguments) is refl h
-  becomes y (Core-F.Negative v) is h = dropped y (Core-F.Negative v) is refl h
-  becomes y (Core-F.Not v) is h = dropped y (Core-F.Not v) is refl h
-  becomes y (Core-F.View v of at) is h = dropped y (Core-F.View v of at) is refl h
-  becomes y (Core-F.IsFixed v at) is h = dropped y (Core-F.IsFixed v at) is refl h
-  becomes y (Core-F.Term v more) is h = dropped y (Core-F.Term v more) is refl h
-  becomes y (Core-F.Sum v more) is h = dropped y (Core-F.Sum v more) is refl h
-  becomes y (Core-F.Compare v op what u) is h = dropped y (Core-F.Compare v op what u) is refl h
-  becomes y (Core-F.And v more) is h = dropped y (Core-F.And v more) is refl h
-  becomes y (Core-F.Or v more) is h = dropped y (Core-F.Or v more) is refl h
-=======
   becomes : (t : CoreLayer) → roll-Expression t ≡ y → Becomes t
   becomes (Core-F.Read at) is h = place_set at is h
   becomes (Core-F.Chain head links) is h = last_set head links (top_of links) is refl h
@@ -173,10 +149,9 @@ module _ (env : Env) (x z : Expression) (m n : Made) (w : CoreExpression) (value
   becomes (Core-F.IsFixed v at) is h = dropped (Core-F.IsFixed v at) is refl h
   becomes (Core-F.Term v more) is h = dropped (Core-F.Term v more) is refl h
   becomes (Core-F.Sum v more) is h = dropped (Core-F.Sum v more) is refl h
-  becomes (Core-F.Compare v op u) is h = dropped (Core-F.Compare v op u) is refl h
+  becomes (Core-F.Compare v op what u) is h = dropped (Core-F.Compare v op what u) is refl h
   becomes (Core-F.And v more) is h = dropped (Core-F.And v more) is refl h
   becomes (Core-F.Or v more) is h = dropped (Core-F.Or v more) is refl h
->>>>>>> 05c3c22e602cf0e4779f0e4152842067c0e1343c
 
 -- ---- blocks within a statement
 
