@@ -7,4 +7,5 @@ pub mod Naming
 pub mod Programs
 pub mod Ready
 pub mod Statements
+pub mod Targets
 pub mod Trees

@@ -11,7 +11,7 @@ use Rattle.ec_ast.specs.declared.Statement.{Statement, roll-Statement, out-State
 use Rattle.ec_ast.specs.declared.Statement.TheVariants as tree
 use Rattle.ec_base.specs.Stack.{top_of, below_of}
 use Rattle.ec_check.proofs.Equations.{arm_step_of}
-use Rattle.ec_check.proofs.Every.{Every, Where, none_left, none_right}
+use Rattle.ec_check.proofs.Every.{Every, Where, none_left, none_right, not_both}
 use Rattle.ec_check.proofs.FittingScopes.{locals_changed, locals_declared}
 use Rattle.ec_check.proofs.Fusion.{same_statement}
 use Rattle.ec_check.proofs.KnownTypes.{test_holds}
@@ -34,11 +34,12 @@ use Rattle.ec_core.specs.declared.Statement.TheVariants as s
 use Rattle.ec_core_ties.proofs.Holders.{constant_is_typed}
 use Rattle.ec_core_ties.proofs.Naming.{Fit, condition_is}
 use Rattle.ec_core_ties.proofs.Ready.{Ready, first_ready, second_ready, ready_within, same_ready, PartTied, StatementTied, BlockTied, each_joined}
+use Rattle.ec_core_ties.proofs.Targets.{target_is}
 use Rattle.ec_core_ties.proofs.Trees as trees
 use Rattle.ec_core_ties.specs.Names.{numbered}
 use Rattle.ec_core_ties.specs.Names as names
 use Rattle.ec_core_ties.specs.Ties as ties
-use Rattle.ec_core_ties.specs.Ties.{TiedExpression, TiedStatement, TiedBlock, AreArms, IsElse, AreStatements, is_index, ends_in_index, is_target}
+use Rattle.ec_core_ties.specs.Ties.{TiedExpression, TiedStatement, TiedBlock, AreArms, IsElse, AreStatements, IsTarget, is_index, ends_in_index, is_target}
 use Rattle.ec_names.specs.Names.{Text}
 use Rattle.ec_rules.specs.Captures.{Use}
 use Rattle.ec_rules.specs.Judging.{block_finished, entries_of, statement_finished, statement_part}
@@ -92,21 +93,25 @@ second_of_two env x y own h r =
 abbrev CoreLayer : Type 0
 CoreLayer = Core-F CoreExpression CoreLink CoreAddend CoreFactor
 
-module _ (env : Env) (x z : Expression) (m n : Made) (w : CoreExpression) (value : TiedExpression env z w n) where
-  abbrev Becomes : CoreExpression → CoreLayer → Type 0
-  Becomes y t = TiedExpression env x y m → TiedStatement env (tree.Assign x z) (assigned t w) [] (both_made m n)
+module _ (env : Env) (x z : Expression) (m n : Made) (w : CoreExpression) (value : TiedExpression env z w n)
+    (y : CoreExpression) (kept : IsTarget x → is_target (out-Expression y) ≡ true) where
+  abbrev Becomes : CoreLayer → Type 0
+  Becomes t = TiedExpression env x y m → TiedStatement env (tree.Assign x z) (assigned t w) [] (both_made m n)
 
-  dropped : (y : CoreExpression) (t : CoreLayer) → roll-Expression t ≡ y → is_target t ≡ false → TiedExpression env x y m →
+  dropped : (t : CoreLayer) → roll-Expression t ≡ y → is_target t ≡ false → TiedExpression env x y m →
       TiedStatement env (tree.Assign x z) (s.Drop w) [] (both_made m n)
-  dropped y t is none h = ties.no_target h (ap (λ y. is_target (out-Expression y)) (sym is) ∙ (ap is_target (out-roll-Expression t) ∙ none)) value
+  dropped t is none h = ties.no_target (λ k. not_both (sym none_left_over ∙ kept k)) h none_left_over value
+    where
+      none_left_over : is_target (out-Expression y) ≡ false
+      none_left_over = ap (λ y. is_target (out-Expression y)) (sym is) ∙ (ap is_target (out-roll-Expression t) ∙ none)
 
-  place_set : (y : CoreExpression) (at : Place) → roll-Expression (Core-F.Read at) ≡ y → Becomes y (Core-F.Read at)
-  place_set y at is h = ties.assign (subst (λ y. TiedExpression env x y m) (sym is ∙ e.rolls-Read at) h) value
+  place_set : (at : Place) → roll-Expression (Core-F.Read at) ≡ y → Becomes (Core-F.Read at)
+  place_set at is h = ties.assign (subst (λ y. TiedExpression env x y m) (sym is ∙ e.rolls-Read at) h) value
 
-  element_set_is : (y head : CoreExpression) (links : List CoreLink) (last : CoreLink) (k : CoreLink-F CoreExpression CoreLink CoreAddend CoreFactor) →
+  element_set_is : (head : CoreExpression) (links : List CoreLink) (last : CoreLink) (k : CoreLink-F CoreExpression CoreLink CoreAddend CoreFactor) →
       roll-Expression (Core-F.Chain head links) ≡ y → top_of links ≡ Some last → out-Link last ≡ k → TiedExpression env x y m →
       TiedStatement env (tree.Assign x z) (element_set (chained head (below_of links)) k w) [] (both_made m n)
-  element_set_is y head links last (CoreLink-F.Element number of at) is top out h =
+  element_set_is head links last (CoreLink-F.Element number of at) is top out h =
       subst (λ v. TiedStatement env (tree.Assign x z) (s.SetElement v number w at) [] (both_made m n)) (with_links_is head (below_of links))
       (ties.set_element head links of (subst (λ y. TiedExpression env x y m) (sym is ∙ e.rolls-Chain head links) h)
       (top ∙ ap Some (sym (roll-out-Link last) ∙ (ap roll-Link out ∙ l.rolls-Element number of at))) value)
@@ -114,39 +119,39 @@ module _ (env : Env) (x z : Expression) (m n : Made) (w : CoreExpression) (value
       with_links_is : (y : CoreExpression) (ks : List CoreLink) → ties.with_links y ks ≡ chained y ks
       with_links_is y [] = refl
       with_links_is y (k ∷ ks) = refl
-  element_set_is y head links last (CoreLink-F.Invoke name arguments of at) is top out h =
-      dropped y (Core-F.Chain head links) is (ap ends_in_index top ∙ ap is_index out) h
-  element_set_is y head links last (CoreLink-F.Call builtin arguments at) is top out h =
-      dropped y (Core-F.Chain head links) is (ap ends_in_index top ∙ ap is_index out) h
+  element_set_is head links last (CoreLink-F.Invoke name arguments of at) is top out h =
+      dropped (Core-F.Chain head links) is (ap ends_in_index top ∙ ap is_index out) h
+  element_set_is head links last (CoreLink-F.Call builtin arguments at) is top out h =
+      dropped (Core-F.Chain head links) is (ap ends_in_index top ∙ ap is_index out) h
 
-  last_set : (y head : CoreExpression) (links : List CoreLink) (last : Option CoreLink) → roll-Expression (Core-F.Chain head links) ≡ y →
+  last_set : (head : CoreExpression) (links : List CoreLink) (last : Option CoreLink) → roll-Expression (Core-F.Chain head links) ≡ y →
       top_of links ≡ last → TiedExpression env x y m →
       TiedStatement env (tree.Assign x z) (element_set_if head (below_of links) last w) [] (both_made m n)
-  last_set y head links None is top h = dropped y (Core-F.Chain head links) is (ap ends_in_index top) h
-  last_set y head links (Some last) is top h = element_set_is y head links last (out-Link last) is top refl h
+  last_set head links None is top h = dropped (Core-F.Chain head links) is (ap ends_in_index top) h
+  last_set head links (Some last) is top h = element_set_is head links last (out-Link last) is top refl h
 
-  becomes : (y : CoreExpression) (t : CoreLayer) → roll-Expression t ≡ y → Becomes y t
-  becomes y (Core-F.Read at) is h = place_set y at is h
-  becomes y (Core-F.Chain head links) is h = last_set y head links (top_of links) is refl h
-  becomes y (Core-F.Number n) is h = dropped y (Core-F.Number n) is refl h
-  becomes y (Core-F.Literal text) is h = dropped y (Core-F.Literal text) is refl h
-  becomes y (Core-F.Truth b) is h = dropped y (Core-F.Truth b) is refl h
-  becomes y Core-F.Nil is h = dropped y Core-F.Nil is refl h
-  becomes y Core-F.Itself is h = dropped y Core-F.Itself is refl h
-  becomes y Core-F.NodeCount is h = dropped y Core-F.NodeCount is refl h
-  becomes y (Core-F.NodeAt v at) is h = dropped y (Core-F.NodeAt v at) is refl h
-  becomes y (Core-F.NewVector of v at) is h = dropped y (Core-F.NewVector of v at) is refl h
-  becomes y (Core-F.Construct class places) is h = dropped y (Core-F.Construct class places) is refl h
-  becomes y (Core-F.Create class arguments) is h = dropped y (Core-F.Create class arguments) is refl h
-  becomes y (Core-F.Negative v) is h = dropped y (Core-F.Negative v) is refl h
-  becomes y (Core-F.Not v) is h = dropped y (Core-F.Not v) is refl h
-  becomes y (Core-F.View v of at) is h = dropped y (Core-F.View v of at) is refl h
-  becomes y (Core-F.IsFixed v at) is h = dropped y (Core-F.IsFixed v at) is refl h
-  becomes y (Core-F.Term v more) is h = dropped y (Core-F.Term v more) is refl h
-  becomes y (Core-F.Sum v more) is h = dropped y (Core-F.Sum v more) is refl h
-  becomes y (Core-F.Compare v op what u) is h = dropped y (Core-F.Compare v op what u) is refl h
-  becomes y (Core-F.And v more) is h = dropped y (Core-F.And v more) is refl h
-  becomes y (Core-F.Or v more) is h = dropped y (Core-F.Or v more) is refl h
+  becomes : (t : CoreLayer) → roll-Expression t ≡ y → Becomes t
+  becomes (Core-F.Read at) is h = place_set at is h
+  becomes (Core-F.Chain head links) is h = last_set head links (top_of links) is refl h
+  becomes (Core-F.Number n) is h = dropped (Core-F.Number n) is refl h
+  becomes (Core-F.Literal text) is h = dropped (Core-F.Literal text) is refl h
+  becomes (Core-F.Truth b) is h = dropped (Core-F.Truth b) is refl h
+  becomes Core-F.Nil is h = dropped Core-F.Nil is refl h
+  becomes Core-F.Itself is h = dropped Core-F.Itself is refl h
+  becomes Core-F.NodeCount is h = dropped Core-F.NodeCount is refl h
+  becomes (Core-F.NodeAt v at) is h = dropped (Core-F.NodeAt v at) is refl h
+  becomes (Core-F.NewVector of v at) is h = dropped (Core-F.NewVector of v at) is refl h
+  becomes (Core-F.Construct class places) is h = dropped (Core-F.Construct class places) is refl h
+  becomes (Core-F.Create class arguments) is h = dropped (Core-F.Create class arguments) is refl h
+  becomes (Core-F.Negative v) is h = dropped (Core-F.Negative v) is refl h
+  becomes (Core-F.Not v) is h = dropped (Core-F.Not v) is refl h
+  becomes (Core-F.View v of at) is h = dropped (Core-F.View v of at) is refl h
+  becomes (Core-F.IsFixed v at) is h = dropped (Core-F.IsFixed v at) is refl h
+  becomes (Core-F.Term v more) is h = dropped (Core-F.Term v more) is refl h
+  becomes (Core-F.Sum v more) is h = dropped (Core-F.Sum v more) is refl h
+  becomes (Core-F.Compare v op what u) is h = dropped (Core-F.Compare v op what u) is refl h
+  becomes (Core-F.And v more) is h = dropped (Core-F.And v more) is refl h
+  becomes (Core-F.Or v more) is h = dropped (Core-F.Or v more) is refl h
 
 -- ---- blocks within a statement
 
@@ -262,7 +267,7 @@ layer_tied (Statement-F.Assign x y) h =
     subst (LayerTied (Statement-F.Assign x y)) (sym (tree.rolls-Assign x y))
     (λ env r.
     becomes env x y ((part_of x).made env.scope) ((part_of y).made env.scope) ((part_of y).core env) (second_of_two env x y _ h.1 r)
-    ((part_of x).core env) (out-Expression ((part_of x).core env)) (roll-out-Expression ((part_of x).core env))
+    ((part_of x).core env) (λ k. target_is x k env) (out-Expression ((part_of x).core env)) (roll-out-Expression ((part_of x).core env))
     (first_of_two env x y _ h.0 r))
 layer_tied (Statement-F.Invoke x) h =
     subst (LayerTied (Statement-F.Invoke x)) (sym (tree.rolls-Invoke x)) (λ env r. ties.invoke_statement (one false env x _ h r))

@@ -173,6 +173,12 @@ is_target (Core-F.Read at) = true
 is_target (Core-F.Chain x ks) = ends_in_index (top_of ks)
 is_target _ = false
 
+-- In a text a name stands before a `<-`, or what ends in an index.
+pub data IsTarget : Expression → Type 0 where
+  a_name : (name : Name) → IsTarget (tree.Variable name)
+  an_index : (x : Expression) (before : List Link) (number : Expression) (at : Span) →
+      IsTarget (tree.Postfix x (before ++ tree_link.Index number at ∷ []))
+
 -- ---- the relation
 
 mutual
@@ -283,9 +289,9 @@ mutual
         {at : ℕ} {m n : Made} →
         TiedExpression env x (e.Chain y ks) m → top_of ks ≡ Some (l.Element number of at) → TiedExpression env z w n →
         TiedStatement env (tree_statement.Assign x z) (s.SetElement (with_links y (below_of ks)) number w at) [] (both_made m n)
-    -- No text has such an assignment: what stands before its `<-` is a name, or ends in an index.
+    -- No text has such an assignment.
     no_target : {env : Env} {x z : Expression} {y w : CoreExpression} {m n : Made} →
-        TiedExpression env x y m → is_target (layer_of y) ≡ false → TiedExpression env z w n →
+        (IsTarget x → ⊥) → TiedExpression env x y m → is_target (layer_of y) ≡ false → TiedExpression env z w n →
         TiedStatement env (tree_statement.Assign x z) (s.Drop w) [] (both_made m n)
     invoke_statement : {env : Env} {x : Expression} {y : CoreExpression} {m : Made} → TiedExpression env x y m →
         TiedStatement env (tree_statement.Invoke x) (s.Drop y) [] m
