@@ -12,6 +12,11 @@ use Rattle.ec_driver.specs.declared.driver.Refusal.TheVariants.{Full, Memory}
 use Rattle.ec_driver.specs.declared.step.Step.TheVariants.{Stops, Does}
 use Rattle.ec_driver.specs.Progress.{Progress, IsStep, advanced}
 
+-- the end of a run whose next entry was refused
+abbrev pub IsFullEnd : Refusal → ReportEnd → Type 0
+IsFullEnd (Full node part need free) end = end ≡ IsFull node part need free
+IsFullEnd Memory end = ⊥
+
 -- By `Stands start schedule budget statuses progress state` the run from a start along a schedule, within a budget of entries,
 -- comes to a state, where the processes have these statuses, and has not ended before. By `FindsFull start schedule k` the
 -- entry behind k entries of that run finds a node full: the node, the part, what is needed there and what is free.

@@ -1,7 +1,7 @@
 //! The driver: entries are done up to the end of the run.
 ghost use Rattle.std.specs.Prelude.{IfOk, List};
 ghost use Rattle.ec_world.specs.declared.process.ProcStatus.{ProcStatus};
-ghost use Rattle.ec_driver.specs.Driver.{HasEnded};
+ghost use Rattle.ec_driver.specs.Driver.{HasEnded, IsFullEnd};
 ghost use Rattle.ec_driver.specs.Progress.{at_start};
 
 use crate::course::Course;
@@ -34,11 +34,43 @@ pub fn drive<S, D: Driver<S>>(
     'entries: loop {
         let statuses = driver.statuses(alloc, state)?;
         match course.next(alloc, &statuses, budget)? {
-            Step::Stops(how) => return Ok(at_end(course.done(), ReportEnd::Ends(how))),
+            Step::Stops(how) => {
+                let end = ReportEnd::Ends(how);
+                return Ok(Ended {
+                    done: course.done(),
+                    end,
+                });
+            }
             Step::Does(entry) => match driver.does(state, entry) {
                 Ok(()) => course.advance(entry),
-                Err(refusal) => return Ok(at_end(course.done(), full_end(refusal)?)),
+                Err(refusal) => {
+                    let end = full_end(refusal)?;
+                    return Ok(Ended {
+                        done: course.done(),
+                        end,
+                    });
+                }
             },
         }
+    }
+}
+
+/// The end of a run whose next entry was refused as a node was full. The error is want of memory.
+fn full_end(refusal: Refusal) -> Result<ReportEnd, AllocError>
+    ensures { IfOk result (λ end. IsFullEnd refusal end) }
+{
+    match refusal {
+        Refusal::Full {
+            node,
+            part,
+            need,
+            free,
+        } => Ok(ReportEnd::IsFull {
+            node,
+            part,
+            need,
+            free,
+        }),
+        Refusal::Memory => Err(AllocError),
     }
 }

@@ -4,4 +4,5 @@
 
 pub mod course;
 pub mod drive;
+pub mod driver;
 pub mod step;
