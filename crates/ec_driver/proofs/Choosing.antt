@@ -6,10 +6,8 @@ use Rattle.std.proofs.lemmas.Grind.{common_steps}
 use Rattle.ec_world.specs.declared.process.ProcStatus.{ProcStatus}
 use Rattle.ec_world.specs.declared.run.RunEnd.TheVariants.{Finished, Stuck, Spent}
 use Rattle.ec_world.specs.Run.{is_ready, is_over, all_true, first_true, or_else, next_ready_of, robin_entry, spent_if, end_by}
-use Rattle.ec_world.specs.declared.run.RunEntry.{RunEntry}
 use Rattle.ec_world.specs.declared.run.RunEntry.TheVariants.{TurnOf}
 use Rattle.ec_driver.specs.declared.step.Step.TheVariants.{Stops, Does}
-use Rattle.ec_driver.specs.Lines.{first_of}
 use Rattle.ec_driver.specs.Progress.{IsStep}
 
 all_true-map : (f : ProcStatus → Bool) (ss : List ProcStatus) → all_true (map f ss) ≡ list_all f ss
@@ -89,18 +87,3 @@ module _ (ss : List ProcStatus) (budget done : ℕ) (last : Option ℕ) where
 
       pub step_turn : done < budget → IsStep ss budget (record { left = []; last = last; done = done }) (Does (TurnOf p))
       step_turn h = let e : nat_le budget done ≡ false = grind (arith, common_steps) in (end_is ∙ ap spent_if e, ap robin_entry next, h)
-
--- the schedule has an entry next
-module _ (ss : List ProcStatus) (budget done : ℕ) (last : Option ℕ) (e : RunEntry) where
-  pub scheduled_spent : (left : List RunEntry) → first_of left ≡ Some e → budget ≤ done → IsStep ss budget (record { left = left; last = last; done = done }) (Stops Spent)
-  scheduled_spent [] f h = cc
-  scheduled_spent (x ∷ xs) f h = let t : nat_le budget done ≡ true = grind (arith, common_steps) in ap spent_if t
-
-  pub scheduled : (left : List RunEntry) → first_of left ≡ Some e → done < budget → IsStep ss budget (record { left = left; last = last; done = done }) (Does e)
-  scheduled [] f h = cc
-  scheduled (x ∷ xs) f h = let t : nat_le budget done ≡ false = grind (arith, common_steps) in (ap spent_if t, f, h)
-
--- the schedule is used up
-pub none_left : (left : List RunEntry) → first_of left ≡ None → left ≡ []
-none_left [] e = refl
-none_left (x ∷ xs) e = cc

@@ -1,9 +1,10 @@
 //! What runs are driven on: a plain meaning, or a network.
-ghost use Rattle.std.specs.Prelude.{IfErr, IfOk, List, OnOk, ℕ};
+ghost use Rattle.std.specs.Prelude.{◌≡◌, IfErr, IfOk, List, OnOk, ℕ};
 ghost use Rattle.ec_world.specs.declared.process.ProcStatus.{ProcStatus as AStatus};
 ghost use Rattle.ec_world.specs.declared.run.Entry.{Entry};
 ghost use Rattle.ec_nodes.specs.declared.room.Part.{Part as APart};
 ghost use Rattle.ec_driver.specs.Progress.{Progress};
+ghost use Rattle.ec_driver.specs.declared.driver.Refusal.TheVariants.{Memory};
 
 use ec_nodes::room::Part;
 use ec_world::process::ProcStatus;
@@ -23,6 +24,14 @@ pub enum Refusal {
     },
     /// There was no memory.
     Memory,
+}
+
+impl From<AllocError> for Refusal {
+    ghost from_gives = { λ _ e. e ≡ Memory };
+
+    fn from(_error: AllocError) -> Refusal {
+        Refusal::Memory
+    }
 }
 
 /// How entries are done on a state.
