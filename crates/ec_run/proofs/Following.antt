@@ -1,15 +1,22 @@
--- A network follows the run: at the load, and from one turn to the next.
-use Rattle.std.proofs.Common.{◌≡◌, ◌⊎◌, inl, inr, ⊎_elim, ℕ, zero, suc, ◌+◌, ◌*◌, ◌^◌, ◌<◌, ◌≤◌, List, [], ◌∷◌, ◌++◌, length, replicate, get_or, below_none, below_more, Option, Some, None, Err, refl, sym, ap, subst, ◌∙◌, arith, length-append, add-one}
-use Rattle.std.specs.Prelude.{slice_get, ◌↔◌, nat_le}
+-- A network follows the run: at the load, and from one entry to the next.
+use Rattle.std.proofs.Common.{◌≡◌, ◌⊎◌, inl, inr, ⊎_elim, ℕ, zero, suc, ◌+◌, ◌-◌, ◌*◌, ◌^◌, ◌<◌, ◌≤◌, Bool, true, false, List, [], ◌∷◌, ◌++◌, length, replicate, get_or, below_none, below_more, Option, Some, None, refl, sym, ap, subst, ◌∙◌, arith, length-append, length-map, add-one}
+use Rattle.std.specs.Prelude.{slice_get, ◌↔◌}
 use Rattle.std.proofs.lemmas.List.{length-replicate}
 use Rattle.std.proofs.lemmas.Option.{slice_get_past, slice_get_cases}
 use Rattle.ec_base.proofs.Lists.{get_there, get_within}
+use Rattle.ec_world.specs.declared.common.Common.{Common}
 use Rattle.ec_world.specs.declared.node.NodeSpec.{NodeSpec}
+use Rattle.ec_world.specs.declared.process.Proc.{Proc}
+use Rattle.ec_world.specs.declared.process.ProcStatus.{ProcStatus}
+use Rattle.ec_world.specs.declared.run.Entry.{Entry}
 use Rattle.ec_world.specs.declared.run.RunEntry.{RunEntry}
-use Rattle.ec_world.specs.declared.run.RunEntry.TheVariants.{TurnOf as ATurn}
-use Rattle.ec_world.specs.declared.run.RunEnd.{RunEnd}
-use Rattle.ec_world.specs.Run.{RunState, statuses_of, is_ready, next_ready_of, robin_entry, next_entry, end_by, end_of, node_object, program_object, after_entries, stepped, run_after}
+use Rattle.ec_world.specs.declared.run.RunEntry.TheVariants.{TurnOf as ATurn, MoveOf as AMove}
+use Rattle.ec_world.specs.Moves.{is_idle_move, moved_unless}
+use Rattle.ec_world.specs.Run.{RunState, statuses_of, node_object, program_object, after_entry, after_entries, stepped}
 use Rattle.ec_world.proofs.Entries.{run_world}
+use Rattle.ec_driver.specs.Progress.{IsStep, Progress, advanced, at_start}
+use Rattle.ec_driver.specs.declared.step.Step.TheVariants.{Does}
+use Rattle.ec_driver.proofs.Coming.{comes_first, comes_next, entry_is, run_more, run_start_is}
 use Rattle.ec_ir.specs.declared.code.Parts.{Parts}
 use Rattle.ec_ir.specs.declared.activation.IrActivation.{IrActivation}
 use Rattle.ec_ir.specs.Meaning.{ir_meaning, ir_silent, ir_start}
@@ -22,25 +29,22 @@ use Rattle.ec_frames.specs.Node.{store_of}
 use Rattle.ec_network.specs.declared.cluster.Cluster.{Cluster}
 use Rattle.ec_network.specs.declared.network.Did.{Did}
 use Rattle.ec_network.specs.Shows.{IrWorld, stores, store_if}
-use Rattle.ec_network.specs.Room.{Room, Strings, FullAt, held}
-use Rattle.ec_network.specs.Worlds.{ir_action, ir_turn}
+use Rattle.ec_network.specs.Room.{Room, Strings, FirstTexts, FullAt, held}
+use Rattle.ec_network.specs.Worlds.{ir_action}
 use Rattle.ec_network.specs.Holds.{Holds}
-use Rattle.ec_network.specs.Turns.{SameMachines, StepsTo, Idles, Rests, Waits, Runs, EntryOf, Along, IsLoaded, rooms_of, room_if as spec_room}
+use Rattle.ec_network.specs.Turns.{SameMachines, SamePools, StepsTo, Idles, Rests, Waits, Runs, EntryOf, Along, IsLoaded, rooms_of, room_if as spec_room}
 use Rattle.ec_network.specs.Full.{room_of, rooms, pool_if, Pools}
-use Rattle.ec_network.specs.Net.{Net, count_of, count_if, EntryFull, EntryFits}
-use Rattle.ec_network.specs.declared.network.NetError.{NetError}
-use Rattle.ec_network.specs.declared.network.NetError.TheVariants.{Full, Memory}
-use Rattle.ec_network.specs.Answers.{WhenFull, ForShown, LoadAnswer, TurnAnswer}
+use Rattle.ec_network.specs.Net.{IsOneNode, Net, whole_net, count_of, count_if, counts_if, counts_of, EntryFull, EntryFits}
+use Rattle.ec_network.specs.Answers.{CanNumber, ForShown, LoadAnswer, MoveAnswer, TurnAnswer}
 use Rattle.rv_codegen.specs.Meaning.{rv_meaning}
-use Rattle.ec_report.specs.declared.end.ReportEnd.{ReportEnd}
-use Rattle.ec_report.specs.declared.end.ReportEnd.TheVariants.{Ends, IsFull}
-use Rattle.ec_report.specs.declared.step.Step.TheVariants.{Stops, Turns}
-use Rattle.ec_report.specs.Step.{IsStep}
-use Rattle.ec_run.specs.Runs.{ir_run, action_if, next_action, PoolAfter, NextFull}
-use Rattle.ec_run.specs.Running.{IsShown, Follows, IsAfter, StopsItself, StopsFull, IsFullEnd, IsEnded}
+use Rattle.ec_run.specs.Runs.{ir_run, action_if, after_action, next_action, PoolAfter, NextFull}
+use Rattle.ec_run.specs.Running.{IsShown, Follows, FullNext}
 use Rattle.ec_run.proofs.Counting.{no_count, counts_rise}
 use Rattle.ec_run.proofs.Growth.{GrowsByOne, turn_grows}
 use Rattle.ec_run.proofs.Rooms.{full_along}
+
+pub same_start : (old : Net) (a b : Cluster) → old ≡ whole_net a → old ≡ whole_net b → a ≡ b
+same_start old a b e f = let h : Some a ≡ Some b = ap (λ (x : Net). x.loaded) (sym e ∙ f) in cc
 
 -- ---- machines
 
@@ -102,29 +106,18 @@ module _ (specs : List NodeSpec) (start now : Cluster) (loaded : IsLoaded rv_mea
 
 along_push : (program : Parts) (c : Cluster) (w : IrWorld) (es : List RunEntry) (e : RunEntry) (m m' : Cluster) → Along rv_meaning program c w es m → EntryOf rv_meaning m (after_entries ir_meaning (ir_silent program) w es) e m' → Along rv_meaning program c w (es ++ e ∷ []) m'
 along_push program c w [] e m m' a h = (m', subst (λ (x : Cluster). EntryOf rv_meaning x w e m') a h, refl)
-along_push program c w (x ∷ es) e m m' a h = (a.0, a.1, along_push program a.0 (Rattle.ec_world.specs.Run.after_entry ir_meaning (ir_silent program) w x) es e m m' a.2 h)
+along_push program c w (x ∷ es) e m m' a h = (a.0, a.1, along_push program a.0 (after_entry ir_meaning (ir_silent program) w x) es e m m' a.2 h)
 
 -- ---- one entry more
 
-module _ (ir : Parts) (n k : ℕ) where
-  abbrev run_so_far : RunState IrActivation
-  run_so_far = ir_run ir n [] k
-
-  pub run_one_more : (p : ℕ) → next_entry run_so_far.left (statuses_of run_so_far.world) run_so_far.last ≡ Some (ATurn p) → ir_run ir n [] (suc k) ≡ stepped ir_meaning (ir_silent ir) run_so_far (Some (ATurn p))
-  unfolding run_after
-  run_one_more p e = ap (stepped ir_meaning (ir_silent ir) run_so_far) e
-
-  pool_one_more : (node : ℕ) (text : List ℕ) → PoolAfter ir n [] (suc k) node text ≡ (PoolAfter ir n [] k node text ⊎ Strings ir (next_action ir n [] k) node text)
-  unfolding PoolAfter
-  pool_one_more node text = refl
-
-start_is : (ir : Parts) (n : ℕ) → ir_run ir n [] 0 ≡ record { world = ir_start ir n; left = []; last = None; done = [] }
-unfolding run_after
-start_is ir n = refl
-
-first_pool : (ir : Parts) (n node : ℕ) (text : List ℕ) → PoolAfter ir n [] 0 node text ≡ Rattle.ec_network.specs.Room.FirstTexts ir (ir_start ir n) node text
+pool_one_more : (ir : Parts) (n : ℕ) (schedule : List Entry) (k node : ℕ) (text : List ℕ) →
+    PoolAfter ir n schedule (suc k) node text ≡ (PoolAfter ir n schedule k node text ⊎ Strings ir (next_action ir n schedule k) node text)
 unfolding PoolAfter
-first_pool ir n node text = refl
+pool_one_more ir n schedule k node text = refl
+
+first_pool : (ir : Parts) (n : ℕ) (schedule : List Entry) (node : ℕ) (text : List ℕ) → PoolAfter ir n schedule 0 node text ≡ FirstTexts ir (ir_start ir n) node text
+unfolding PoolAfter
+first_pool ir n schedule node text = refl
 
 -- ---- texts in pools
 
@@ -159,180 +152,239 @@ either_ways e f = (
 strings_same : (P P' : Parts) (v v' : IrWorld) → P ≡ P' → v ≡ v' → (j : ℕ) (text : List ℕ) → Strings P v j text ↔ Strings P' v' j text
 strings_same P P' v v' e h j text = rw (e, h) ((λ x. x), (λ x. x))
 
--- ---- the turn that comes next
+-- ---- what an entry leaves
 
--- a network that follows is whole, and shows a world
-pub follows_shown : (specs : List NodeSpec) (budget : ℕ) (old : Net) (k : ℕ) (net : Net) → Follows specs budget old k net → IsShown net
-follows_shown specs budget old k net f =
-    record {
-      cluster = f.now;
-      world = (ir_run f.start.program (length specs) [] k).world;
-      loaded = ap (λ (n : Net). n.loaded) f.is;
-      whole = ap (λ (n : Net). n.whole) f.is;
-      holds = f.holds;
-    }
+-- a network after an entry, from one that shows w
+pub record GoneOn (c : Cluster) (w : IrWorld) (e : RunEntry) (net' : Net) : Type 0 where
+  pub after : Cluster
+  pub is : net' ≡ whole_net after
+  pub entry : EntryOf rv_meaning c w e after
+  pub machines : SameMachines c after
+  pub pools : SamePools c after (after_action w e)
+  pub counts : (j : ℕ) → count_of after j ≤ count_of c j + 2 ^ 26
+  pub holds : Holds rv_meaning after (after_entry ir_meaning (ir_silent c.program) w e)
+  pub fits : EntryFits c w (after_action w e)
+  pub grown : GrowsByOne w (after_entry ir_meaning (ir_silent c.program) w e)
 
-module _ (specs : List NodeSpec) (budget : ℕ) (old : Net) (k : ℕ) (last : Option ℕ) (net : Net) (a : IsAfter specs budget old k last net) where
-  abbrev f : Follows specs budget old k net
-  f = a.follows
+pub gone_by_turn : (c : Cluster) (w : IrWorld) (p : ℕ) (net' : Net) (did : Did) → Holds rv_meaning c w → TurnAnswer rv_meaning c w p net' did → GoneOn c w (ATurn p) net'
+gone_by_turn c w p net' did h t = record {
+  after = t.after;
+  is = t.is;
+  entry = t.turn;
+  machines = turn_machines t.turn.steps;
+  pools = t.turn.pools;
+  counts = counts_rise h.steady t.turn.steps;
+  holds = t.holds;
+  fits = t.fits;
+  grown = turn_grows c.program w p (fine_plain c.program w.common.classes h.steady.fine h.fine.facts.classes);
+}
+
+-- a move makes no object and no process
+moved_objects : (c : Common) (o k : ℕ) (b : Bool) → length (moved_unless c o k b).objects ≤ suc (length c.objects)
+moved_objects c o k true = omega arith
+moved_objects c o k false = omega arith
+
+pub gone_by_move : (c : Cluster) (w : IrWorld) (o k : ℕ) (net' : Net) (did : Did) → MoveAnswer rv_meaning c w o k net' did → GoneOn c w (AMove o k) net'
+gone_by_move c w o k net' did m = record {
+  after = m.after;
+  is = m.is;
+  entry = m.move;
+  machines = m.move.machines;
+  pools = m.move.pools;
+  counts = λ j. (let same = m.counts j in omega arith);
+  holds = m.holds;
+  fits = m.fits;
+  grown = record { objects = moved_objects w.common o k (is_idle_move w.common o k); processes = refl };
+}
+
+-- ---- the entry that comes next
+
+module _ (specs : List NodeSpec) (old : Net) (schedule : List Entry) (budget : ℕ) (statuses : List ProcStatus) (progress : Progress) (net : Net)
+    (f : Follows specs old schedule budget statuses progress net) where
+  -- a network that follows is whole, and shows a world
+  pub follows_shown : IsShown net
+  follows_shown = record {
+    cluster = f.now;
+    world = f.world;
+    loaded = ap (λ (n : Net). n.loaded) f.is;
+    whole = ap (λ (n : Net). n.whole) f.is;
+    holds = f.holds;
+  }
+
+  loaded_now : net.loaded ≡ Some f.now
+  loaded_now = ap (λ (n : Net). n.loaded) f.is
+
+  one_spec : length specs ≡ 1
+  one_spec = ap length f.nodes.one
+
+  few_places : (c : Cluster) → f.now ≡ c → length c.places < 2 ^ 32 - 1
+  few_places c e =
+      let places : length f.now.places ≡ length f.world.common.objects = ap length f.holds.shows.places_are ∙ f.holds.fine.facts.placed in
+      let few = f.few_objects in
+      let done = f.within in
+      let limit = f.limit in
+      let one = one_spec in
+      rw (sym e) (omega arith)
+
+  few_statuses : (c : Cluster) → f.now ≡ c → length c.statuses < 2 ^ 32 - 1
+  few_statuses c e =
+      let same : length f.now.statuses ≡ length f.world.processes = ap length f.holds.shows.statuses ∙ length-map (λ (p : Proc IrActivation). p.status) f.world.processes in
+      let one = f.one_process in
+      rw (sym e) (omega arith)
+
+  same_now : (c : Cluster) → net.loaded ≡ Some c → f.now ≡ c
+  same_now c e = let h : Some f.now ≡ Some c = sym loaded_now ∙ e in cc
+
+  pub can_number : CanNumber net
+  can_number = record { objects = λ c e. few_places c (same_now c e); processes = λ c e. few_statuses c (same_now c e) }
+
+  pub few_counts : (j : ℕ) → counts_of net j < 2 ^ 63
+  few_counts j =
+      let same : counts_of net j ≡ count_of f.now j = ap (λ (o : Option Cluster). counts_if o j) loaded_now in
+      let rise = f.counts j in
+      let done = f.within in
+      let limit = f.limit in
+      omega arith
+
+  pub statuses_shown : (found : List ProcStatus) → ForShown rv_meaning net (λ c w. found ≡ statuses_of w) → found ≡ statuses
+  statuses_shown found h = h f.now f.world loaded_now f.holds ∙ f.comes.statuses_are
 
   abbrev ir : Parts
-  ir = a.follows.start.program
+  ir = f.start.program
 
   abbrev n : ℕ
   n = length specs
 
   abbrev s : RunState IrActivation
-  s = ir_run a.follows.start.program (length specs) [] k
-
-  abbrev w : IrWorld
-  w = (ir_run a.follows.start.program (length specs) [] k).world
-
-  pub end_here : end_of budget s ≡ end_by [] (statuses_of w) (nat_le budget k)
-  end_here =
-      ap (λ (l : List RunEntry). end_by l (statuses_of w) (nat_le budget (length s.done))) f.left
-      ∙ ap (λ (j : ℕ). end_by [] (statuses_of w) (nat_le budget j)) f.counted
+  s = ir_run f.start.program (length specs) schedule progress.done
 
   program_is : f.now.program ≡ ir
   program_is = f.machines.program
 
-  pools_are : (j : ℕ) (r : Room) → rooms f.now j ≡ Some r → (text : List ℕ) → Pools f.now j text ↔ PoolAfter ir n [] k j text
+  pools_are : (j : ℕ) (r : Room) → rooms f.now j ≡ Some r → (text : List ℕ) → Pools f.now j text ↔ PoolAfter ir n schedule progress.done j text
   pools_are j r e text =
       let h = store_at f.now.nodes j (room_there f.now.nodes j r e) in
-      subst (λ (x : Option Store). pool_if x text ↔ PoolAfter ir n [] k j text) (sym h.1) (f.pools j h.0 text h.1)
+      subst (λ (x : Option Store). pool_if x text ↔ PoolAfter ir n schedule progress.done j text) (sym h.1) (f.pools j h.0 text h.1)
 
-  module _ (p : ℕ) (step : IsStep (statuses_of w) budget k last (Turns p)) where
-    next_is : next_entry s.left (statuses_of w) s.last ≡ Some (ATurn p)
-    next_is =
-        ap (λ (l : List RunEntry). next_entry l (statuses_of w) s.last) f.left
-        ∙ (ap (λ (o : Option ℕ). next_entry [] (statuses_of w) o) a.last_is ∙ ap robin_entry step.1)
+  module _ (e : RunEntry) (step : IsStep statuses budget progress (Does e)) where
+    abbrev wanted : IrWorld
+    wanted = after_action f.world e
 
-    action_is : next_action ir n [] k ≡ ir_action w p
-    action_is = ap (action_if w) next_is
+    action_is : next_action ir n schedule progress.done ≡ wanted
+    action_is =
+        ap (action_if s.world) (entry_is ir_meaning (ir_silent ir) (ir_start ir n) schedule budget statuses progress f.world f.comes e step)
+        ∙ ap (λ (v : IrWorld). after_action v e) (sym f.comes.world_is)
 
-    strings_are : (j : ℕ) (text : List ℕ) → Strings f.now.program (ir_action w p) j text ↔ Strings ir (next_action ir n [] k) j text
-    strings_are j text = strings_same f.now.program ir (ir_action w p) (next_action ir n [] k) program_is (sym action_is) j text
+    strings_are : (j : ℕ) (text : List ℕ) → Strings f.now.program wanted j text ↔ Strings ir (next_action ir n schedule progress.done) j text
+    strings_are j text = strings_same f.now.program ir wanted (next_action ir n schedule progress.done) program_is (sym action_is) j text
 
-    pub full_next : (node : ℕ) (part : Part) (need free : ℕ) → EntryFull f.now w (ir_action w p) node part need free → NextFull ir specs [] k node part need free
+    abbrev IsFullBy : IrWorld → IrWorld → ℕ → Part → ℕ → ℕ → Type 0
+    IsFullBy v x node part need free =
+        FullAt (rooms_of specs) (held v) (held x) (PoolAfter ir n schedule progress.done) (Strings ir (next_action ir n schedule progress.done)) node part need free
+
+    full_next : (node : ℕ) (part : Part) (need free : ℕ) → EntryFull f.now f.world wanted node part need free → NextFull ir specs schedule progress.done node part need free
     full_next node part need free h =
-        let g = full_along (rooms f.now) (rooms_of specs) (held w) (held (ir_action w p)) (Pools f.now) (PoolAfter ir n [] k) (Strings f.now.program (ir_action w p)) (Strings ir (next_action ir n [] k)) (same_rooms specs f.start f.now f.loaded f.machines) pools_are strings_are node part need free h in
-        subst (λ (v : IrWorld). FullAt (rooms_of specs) (held w) (held v) (PoolAfter ir n [] k) (Strings ir (next_action ir n [] k)) node part need free) (sym action_is) g
+        let g = full_along (rooms f.now) (rooms_of specs) (held f.world) (held wanted) (Pools f.now) (PoolAfter ir n schedule progress.done) (Strings f.now.program wanted) (Strings ir (next_action ir n schedule progress.done)) (same_rooms specs f.start f.now f.loaded f.machines) pools_are strings_are node part need free h in
+        subst (λ (v : IrWorld). IsFullBy v (next_action ir n schedule progress.done) node part need free) f.comes.world_is
+        (subst (λ (v : IrWorld). IsFullBy f.world v node part need free) (sym action_is) g)
 
-    fits_next : EntryFits f.now w (ir_action w p) → (node need free : ℕ) (part : Part) → NextFull ir specs [] k node part need free → ⊥
+    fits_next : EntryFits f.now f.world wanted → (node need free : ℕ) (part : Part) → NextFull ir specs schedule progress.done node part need free → ⊥
     fits_next fits node need free part h =
-        let g = subst (λ (v : IrWorld). FullAt (rooms_of specs) (held w) (held v) (PoolAfter ir n [] k) (Strings ir (next_action ir n [] k)) node part need free) action_is h in
+        let g = subst (λ (v : IrWorld). IsFullBy f.world v node part need free) action_is
+        (subst (λ (v : IrWorld). IsFullBy v (next_action ir n schedule progress.done) node part need free) (sym f.comes.world_is) h) in
         fits node part need free
-        (full_along (rooms_of specs) (rooms f.now) (held w) (held (ir_action w p)) (PoolAfter ir n [] k) (Pools f.now) (Strings ir (next_action ir n [] k)) (Strings f.now.program (ir_action w p))
+        (full_along (rooms_of specs) (rooms f.now) (held f.world) (held wanted) (PoolAfter ir n schedule progress.done) (Pools f.now) (Strings ir (next_action ir n schedule progress.done)) (Strings f.now.program wanted)
         (λ j. sym (same_rooms specs f.start f.now f.loaded f.machines j))
         (λ j r e text. let q = pools_are j r (same_rooms specs f.start f.now f.loaded f.machines j ∙ e) text in (q.1, q.0))
         (λ j text. let q = strings_are j text in (q.1, q.0))
         node part need free g)
 
-    module _ (net' : Net) (did : Did) (t : TurnAnswer rv_meaning f.now w p net' did) where
-      more : ir_run ir n [] (suc k) ≡ stepped ir_meaning (ir_silent ir) s (Some (ATurn p))
-      more = run_one_more ir n k p next_is
+    -- the entry finds a node full, and the network is as before
+    pub follows_full : (net' : Net) → net' ≡ net → (node : ℕ) (part : Part) (need free : ℕ) → ForShown rv_meaning net (λ c w. EntryFull c w (after_action w e) node part need free) →
+        Follows specs old schedule budget statuses progress net' × FullNext specs old schedule progress.done node part need free
+    follows_full net' same node part need free h = (
+      rw same f,
+      λ start started.
+          let is : f.start ≡ start = same_start old f.start start f.started started in
+          subst (λ (c : Cluster). NextFull c.program specs schedule progress.done node part need free) is (full_next node part need free (h f.now f.world loaded_now f.holds)),
+    )
 
-      world_is : (ir_run ir n [] (suc k)).world ≡ ir_turn ir w p
-      world_is = ap (λ (r : RunState IrActivation). r.world) more
+    module _ (net' : Net) (g : GoneOn f.now f.world e net') where
+      abbrev next_world : IrWorld
+      next_world = after_entry ir_meaning (ir_silent ir) f.world e
 
-      done_is : (ir_run ir n [] (suc k)).done ≡ s.done ++ ATurn p ∷ []
+      more : ir_run ir n schedule (suc progress.done) ≡ stepped ir_meaning (ir_silent ir) s (Some e)
+      more = run_more ir_meaning (ir_silent ir) (ir_start ir n) schedule budget statuses progress f.world f.comes e step
+
+      next_world_is : after_entry ir_meaning (ir_silent f.now.program) f.world e ≡ next_world
+      next_world_is = ap (λ (x : Parts). after_entry ir_meaning (ir_silent x) f.world e) program_is
+
+      done_is : (ir_run ir n schedule (suc progress.done)).done ≡ s.done ++ e ∷ []
       done_is = ap (λ (r : RunState IrActivation). r.done) more
 
-      left_is : (ir_run ir n [] (suc k)).left ≡ []
-      left_is = ap (λ (r : RunState IrActivation). r.left) more ∙ ap Rattle.ec_world.specs.Run.tail_of f.left
-
-      machines_are : SameMachines f.now t.after
-      machines_are = turn_machines t.turn.steps
-
-      grown : GrowsByOne w (ir_turn ir w p)
-      grown = turn_grows ir w p (fine_plain f.now.program w.common.classes f.holds.steady.fine f.holds.fine.facts.classes)
-
-      holds_is : Holds rv_meaning t.after (ir_run ir n [] (suc k)).world
-      holds_is = subst (λ (v : IrWorld). Holds rv_meaning t.after v) (ap (λ (x : Parts). ir_turn x w p) program_is ∙ sym world_is) t.holds
-
-      along_is : Along rv_meaning ir f.start (ir_start ir n) (ir_run ir n [] (suc k)).done t.after
+      along_is : Along rv_meaning ir f.start (ir_start ir n) (ir_run ir n schedule (suc progress.done)).done g.after
       along_is =
-          let here = subst (λ (v : IrWorld). EntryOf rv_meaning f.now v (ATurn p) t.after) (run_world ir_meaning (ir_silent ir) (ir_start ir n) [] k) t.turn in
-          subst (λ (es : List RunEntry). Along rv_meaning ir f.start (ir_start ir n) es t.after) (sym done_is)
-          (along_push ir f.start (ir_start ir n) s.done (ATurn p) f.now t.after f.along here)
+          let world : f.world ≡ after_entries ir_meaning (ir_silent ir) (ir_start ir n) s.done = f.comes.world_is ∙ run_world ir_meaning (ir_silent ir) (ir_start ir n) schedule progress.done in
+          let here = subst (λ (v : IrWorld). EntryOf rv_meaning f.now v e g.after) world g.entry in
+          subst (λ (es : List RunEntry). Along rv_meaning ir f.start (ir_start ir n) es g.after) (sym done_is)
+          (along_push ir f.start (ir_start ir n) s.done e f.now g.after f.along here)
 
-      pools_next : (j : ℕ) (x : Store) (text : List ℕ) → stores t.after j ≡ Some x → InPool x text ↔ PoolAfter ir n [] (suc k) j text
-      pools_next j x text e =
-          let before = store_at f.now.nodes j (let l = store_there t.after.nodes j x e in let c = machines_are.counted in omega arith) in
-          let kept = t.turn.pools.each j before.0 x text before.1 e in
+      pools_next : (j : ℕ) (x : Store) (text : List ℕ) → stores g.after j ≡ Some x → InPool x text ↔ PoolAfter ir n schedule (suc progress.done) j text
+      pools_next j x text is =
+          let before = store_at f.now.nodes j (let l = store_there g.after.nodes j x is in let c = g.machines.counted in omega arith) in
+          let kept = g.pools.each j before.0 x text before.1 is in
           let so_far = f.pools j before.0 text before.1 in
-          let wanted = strings_are j text in
-          let both : InPool x text ↔ (PoolAfter ir n [] k j text ⊎ Strings f.now.program (ir_action w p) j text) = both_ways kept so_far in
-          subst (λ (T : Type 0). InPool x text ↔ T) (sym (pool_one_more ir n k j text)) (either_ways both wanted)
+          let both : InPool x text ↔ (PoolAfter ir n schedule progress.done j text ⊎ Strings f.now.program wanted j text) = both_ways kept so_far in
+          subst (λ (T : Type 0). InPool x text ↔ T) (sym (pool_one_more ir n schedule progress.done j text)) (either_ways both (strings_are j text))
 
-      counts_next : (j : ℕ) → count_of t.after j ≤ (k + 1) * 2 ^ 26
+      counts_next : (j : ℕ) → count_of g.after j ≤ (progress.done + 1) * 2 ^ 26
       counts_next j =
           let a = f.counts j in
-          let b = counts_rise f.holds.steady t.turn.steps j in
+          let b = g.counts j in
           omega arith
 
-      follows_next : Follows specs budget old (k + 1) net'
+      grown_next : GrowsByOne f.world next_world
+      grown_next = subst (λ (v : IrWorld). GrowsByOne f.world v) next_world_is g.grown
+
+      pub follows_next : Follows specs old schedule budget (statuses_of (after_entry ir_meaning (ir_silent f.start.program) f.world e)) (advanced progress e) net'
       follows_next = record {
+        nodes = f.nodes;
+        limit = f.limit;
         start = f.start;
         started = f.started;
         loaded = f.loaded;
-        now = t.after;
-        is = t.is;
-        machines = machines_along f.start f.now t.after f.machines machines_are;
-        holds = rw (add-one k) holds_is;
-        along = rw (add-one k) along_is;
-        going = below_more (λ j. end_of budget (ir_run ir n [] j) ≡ None) k f.going (end_here ∙ step.0);
-        fits = below_more (λ j. (node need free : ℕ) (part : Part) → NextFull ir specs [] j node part need free → ⊥) k f.fits (fits_next t.fits);
-        pools = rw (add-one k) pools_next;
+        now = g.after;
+        is = g.is;
+        machines = machines_along f.start f.now g.after f.machines g.machines;
+        world = next_world;
+        comes = comes_next ir_meaning (ir_silent ir) (ir_start ir n) schedule budget statuses progress f.world f.comes e step next_world refl;
+        holds = subst (λ (v : IrWorld). Holds rv_meaning g.after v) next_world_is g.holds;
+        along = rw (add-one progress.done) along_is;
+        fits = below_more (λ j. (node need free : ℕ) (part : Part) → NextFull ir specs schedule j node part need free → ⊥) progress.done f.fits (fits_next g.fits);
+        pools = rw (add-one progress.done) pools_next;
         counts = counts_next;
         within = omega (arith, step.2);
-        left = rw (add-one k) left_is;
-        counted = rw (add-one k) (ap length done_is ∙ (length-append s.done (ATurn p ∷ []) ∙ (ap (λ (j : ℕ). j + 1) f.counted ∙ add-one k)));
-        few_objects = rw (add-one k, world_is) (let g = grown.objects in let h = f.few_objects in omega arith);
-        one_process = rw (add-one k, world_is) (grown.processes ∙ f.one_process);
+        few_objects = (let g = grown_next.objects in let h = f.few_objects in omega arith);
+        one_process = grown_next.processes ∙ f.one_process;
       }
-
-      pub after_next : IsAfter specs budget old (k + 1) (Some p) net'
-      unfolding follows_next
-      after_next = record { follows = follows_next; last_is = rw (add-one k) (ap (λ (r : RunState IrActivation). r.last) more) }
-
--- ---- the ends
-
-pub ended_by_itself : (specs : List NodeSpec) (budget : ℕ) (old : Net) (k : ℕ) (last : Option ℕ) (net : Net) (a : IsAfter specs budget old k last net) (how : RunEnd) → IsStep (statuses_of (ir_run a.follows.start.program (length specs) [] k).world) budget k last (Stops how) → IsEnded specs budget old k (Ends how) net
-ended_by_itself specs budget old k last net a how step = record { follows = a.follows; ends = StopsItself how (end_here specs budget old k last net a ∙ step) }
-
-ended_full : (specs : List NodeSpec) (budget : ℕ) (old : Net) (k : ℕ) (last : Option ℕ) (net : Net) (a : IsAfter specs budget old k last net) (p : ℕ) → IsStep (statuses_of (ir_run a.follows.start.program (length specs) [] k).world) budget k last (Turns p) → (node : ℕ) (part : Part) (need free : ℕ) → EntryFull a.follows.now (ir_run a.follows.start.program (length specs) [] k).world (ir_action (ir_run a.follows.start.program (length specs) [] k).world p) node part need free → IsEnded specs budget old k (IsFull node part need free) net
-ended_full specs budget old k last net a p step node part need free h = record {
-  follows = a.follows;
-  ends = StopsFull node need free part (end_here specs budget old k last net a ∙ step.0) (full_next specs budget old k last net a p step node part need free h);
-}
-
-pub ended_refused : (specs : List NodeSpec) (budget : ℕ) (old : Net) (k : ℕ) (last : Option ℕ) (net : Net) (a : IsAfter specs budget old k last net) (p : ℕ) → IsStep (statuses_of (ir_run a.follows.start.program (length specs) [] k).world) budget k last (Turns p) → (net' : Net) (e : NetError) (end : ReportEnd) → IsFullEnd e end → WhenFull (Err e) (λ node part need free. ForShown rv_meaning net (λ c w. EntryFull c w (ir_action w p) node part need free)) → WhenFull (Err e) (λ node part need free. net' ≡ net) → IsEnded specs budget old k end net'
-ended_refused specs budget old k last net a p step net' (Full node part need free) end e full same =
-    let ended = ended_full specs budget old k last net a p step node part need free (full a.follows.now (ir_run a.follows.start.program (length specs) [] k).world (ap (λ (x : Net). x.loaded) a.follows.is) a.follows.holds) in
-    rw (e, same) ended
-ended_refused specs budget old k last net a p step net' Memory end e full same = absurd e
 
 -- ---- the load
 
-module _ (program : Parts) (specs : List NodeSpec) (budget : ℕ) (net : Net) (l : LoadAnswer rv_meaning program specs net) where
+module _ (program : Parts) (specs : List NodeSpec) (schedule : List Entry) (budget : ℕ) (net : Net) (nodes : IsOneNode specs) (limit : budget ≤ 4000000000) (l : LoadAnswer rv_meaning program specs net) where
   abbrev first_world : IrWorld
   first_world = ir_start l.start.program (length specs)
 
   loaded_is : IsLoaded rv_meaning l.start.program specs l.start
   loaded_is = subst (λ (x : Parts). IsLoaded rv_meaning x specs l.start) (sym l.loaded.program_is) l.loaded
 
-  first_world_is : (ir_run l.start.program (length specs) [] 0).world ≡ first_world
-  first_world_is = ap (λ (r : RunState IrActivation). r.world) (start_is l.start.program (length specs))
-
-  first_pools : (j : ℕ) (s : Store) (text : List ℕ) → stores l.start j ≡ Some s → InPool s text ↔ PoolAfter l.start.program (length specs) [] 0 j text
+  first_pools : (j : ℕ) (s : Store) (text : List ℕ) → stores l.start j ≡ Some s → InPool s text ↔ PoolAfter l.start.program (length specs) schedule 0 j text
   first_pools j s text e =
       let spec = get_there specs j (let h = store_there l.start.nodes j s e in let c = loaded_is.counted in omega arith) in
       let node = get_there l.start.nodes j (store_there l.start.nodes j s e) in
       let first = (loaded_is.nodes j spec.0 node.0 spec.1 node.1).pool text in
       let i : Some (store_of node.0) ≡ Some s = sym (ap store_if node.1) ∙ e in
       let same : store_of node.0 ≡ s = cc in
-      subst (λ (T : Type 0). InPool s text ↔ T) (sym (first_pool l.start.program (length specs) j text)) (subst (λ (x : Store). InPool x text ↔ Rattle.ec_network.specs.Room.FirstTexts l.start.program first_world j text) same first)
+      subst (λ (T : Type 0). InPool s text ↔ T) (sym (first_pool l.start.program (length specs) schedule j text)) (subst (λ (x : Store). InPool x text ↔ FirstTexts l.start.program first_world j text) same first)
 
   first_counts : (j : ℕ) → count_of l.start j ≡ 0
   first_counts j = ⊎_elim
@@ -342,26 +394,27 @@ module _ (program : Parts) (specs : List NodeSpec) (budget : ℕ) (net : Net) (l
       (λ (h : (length specs ≤ j) × (slice_get specs j ≡ None)). no_count l.start.nodes j (let c = loaded_is.counted in omega arith))
       (slice_get_cases specs j).1
 
-  pub follows_load : Follows specs budget net 0 net
-  follows_load = record {
-    start = l.start;
-    started = l.is;
-    loaded = loaded_is;
-    now = l.start;
-    is = l.is;
-    machines = same_machines l.start;
-    holds = rw first_world_is (subst (λ (x : Parts). Holds rv_meaning l.start (ir_start x (length specs))) (sym l.loaded.program_is) l.holds);
-    along = rw (ap (λ (r : RunState IrActivation). r.done) (start_is l.start.program (length specs))) refl;
-    going = below_none (λ j. end_of budget (ir_run l.start.program (length specs) [] j) ≡ None);
-    fits = below_none (λ j. (node need free : ℕ) (part : Part) → NextFull l.start.program specs [] j node part need free → ⊥);
-    pools = first_pools;
-    counts = λ j. (let e = first_counts j in omega arith);
-    within = omega arith;
-    left = ap (λ (r : RunState IrActivation). r.left) (start_is l.start.program (length specs));
-    counted = ap (λ (r : RunState IrActivation). length r.done) (start_is l.start.program (length specs));
-    few_objects = rw first_world_is (omega (arith, length-append (replicate (length specs) node_object) (program_object ∷ []), length-replicate (length specs) node_object));
-    one_process = rw first_world_is refl;
-  }
-
-pub after_load : (specs : List NodeSpec) (budget : ℕ) (net : Net) → Follows specs budget net 0 net → IsAfter specs budget net 0 None net
-after_load specs budget net f = record { follows = f; last_is = ap (λ (r : RunState IrActivation). r.last) (start_is f.start.program (length specs)) }
+  pub follows_load : (statuses : List ProcStatus) × Follows specs net schedule budget statuses (at_start schedule) net
+  follows_load = (
+    statuses_of first_world,
+    record {
+      nodes = nodes;
+      limit = limit;
+      start = l.start;
+      started = l.is;
+      loaded = loaded_is;
+      now = l.start;
+      is = l.is;
+      machines = same_machines l.start;
+      world = first_world;
+      comes = comes_first ir_meaning (ir_silent l.start.program) first_world schedule budget first_world refl;
+      holds = subst (λ (x : Parts). Holds rv_meaning l.start (ir_start x (length specs))) (sym l.loaded.program_is) l.holds;
+      along = rw (ap (λ (r : RunState IrActivation). r.done) (run_start_is ir_meaning (ir_silent l.start.program) first_world schedule)) refl;
+      fits = below_none (λ j. (node need free : ℕ) (part : Part) → NextFull l.start.program specs schedule j node part need free → ⊥);
+      pools = first_pools;
+      counts = λ j. (let e = first_counts j in omega arith);
+      within = omega arith;
+      few_objects = omega (arith, length-append (replicate (length specs) node_object) (program_object ∷ []), length-replicate (length specs) node_object);
+      one_process = refl;
+    },
+  )

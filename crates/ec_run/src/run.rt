@@ -1,18 +1,22 @@
-//! The run of an accepted source: its code is built and loaded, and each Ready process has its turn, up to the end.
-ghost use Rattle.std.specs.Prelude.{◌≡◌, ◌-◌, ◌<◌, ◌≤◌, ◌^◌, [], length, IfOk};
+//! The run of an accepted source: its code is built and loaded, and the entries of a schedule are done, and then turns of
+//! Ready processes, up to the end.
+ghost use Rattle.std.specs.Prelude.{◌≡◌, ◌-◌, ◌<◌, ◌≤◌, ◌^◌, List, length, IfOk};
+ghost use Rattle.ec_world.specs.declared.process.ProcStatus.{ProcStatus};
 ghost use Rattle.ec_world.specs.Run.{statuses_of};
+ghost use Rattle.ec_driver.specs.Progress.{at_start};
 ghost use Rattle.ec_lower.specs.Short.{IsShort};
 ghost use Rattle.ec_network.specs.Answers.{CanNumber, ForShown};
 ghost use Rattle.ec_network.specs.Net.{AreBuilt, IsOneNode, empty_net, counts_of};
 ghost use Rattle.rv_codegen.specs.Meaning.{rv_meaning};
 ghost use Rattle.ec_report.specs.Report.{load_report};
 ghost use Rattle.ec_report.specs.Status.{status_of};
-ghost use Rattle.ec_report.specs.Step.{IsStep};
 ghost use Rattle.ec_run.specs.Runs.{RunsTo, run_report};
-ghost use Rattle.ec_run.specs.Running.{IsShown, IsFullEnd, Follows, IsAfter, IsEnded, IsReported};
+ghost use Rattle.ec_run.specs.Running.{IsShown, IsFullEnd, Follows, IsReported};
 
+use crate::driver::OnNodes;
 use crate::processes::statuses_in;
 use crate::report::{load_report, report};
+use ec_driver::drive::{Ended, drive};
 use ec_ir::program::IrProgram;
 use ec_lower::lower::lower;
 use ec_network::image::{Image, Images};
@@ -20,26 +24,18 @@ use ec_network::network::{NetError, Network};
 use ec_printing::Program;
 use ec_report::answer::Answer;
 use ec_report::end::ReportEnd;
-use ec_report::processes::ready_ones;
 use ec_report::status::{Status, status_after};
-use ec_report::step::{Step, step_of};
 use ec_world::node::NodeSpec;
-use ec_world::value::Pid;
+use ec_world::run::Entry;
 use rv_codegen::generate::build;
 use std::alloc::{AllocError, Global};
 
-/// How many entries a run has done, and how it came to its end.
-#[derive(Clone, Copy)]
-struct Ended {
-    done: u64,
-    end: ReportEnd,
-}
-
-/// Runs a program on nodes, each Ready process in turn, for at most so many entries, and reports the end.
+/// Runs a program on nodes along a schedule, for at most so many entries, and reports the end.
 pub fn run(
     alloc: Global,
     program: &Program,
     specs: &[NodeSpec],
+    schedule: &[Entry],
     budget: u64,
     net: &mut Network,
 ) -> Result<Answer, AllocError>
@@ -47,12 +43,12 @@ pub fn run(
     requires nodes { IsOneNode specs.now }
     requires budget { budget ≤ 4000000000 }
     requires empty { net.old ≡ empty_net }
-    ensures { IfOk result (λ answer. RunsTo program.now specs.now [] budget net.old net.new answer.status answer.text.items) }
+    ensures { IfOk result (λ answer. RunsTo program.now specs.now schedule.now budget net.old net.new answer.status answer.text.items) }
 {
     let ir = lower(alloc, program)?;
     let images = build_images(alloc, &ir)?;
     match net.load(&ir, images, specs) {
-        Ok(_) => run_loaded(alloc, specs, budget, net),
+        Ok(_) => run_loaded(alloc, specs, schedule, budget, net),
         Err(error) => {
             let end = full_end(error)?;
             answer_full(alloc, specs, net, end)
@@ -95,50 +91,15 @@ fn answer_full(
 fn run_loaded(
     alloc: Global,
     specs: &[NodeSpec],
+    schedule: &[Entry],
     budget: u64,
     net: &mut Network,
 ) -> Result<Answer, AllocError>
-    requires loaded { Follows specs.now budget net.old 0 net.old }
-    requires nodes { IsOneNode specs.now }
-    requires budget { budget ≤ 4000000000 }
-    ensures { IfOk result (λ answer. IsReported specs.now budget net.old net.new answer.status answer.text.items) }
+    requires loaded { (statuses : List ProcStatus) × Follows specs.now net.old schedule.now budget statuses (at_start schedule.now) net.old }
+    ensures { IfOk result (λ answer. IsReported specs.now schedule.now budget net.old net.new answer.status answer.text.items) }
 {
-    let ended = run_entries(alloc, specs, budget, net)?;
-    answer_end(alloc, specs, net, ended.done, ended.end)
-}
-
-/// Does entries up to the end.
-fn run_entries(
-    alloc: Global,
-    specs: &[NodeSpec],
-    budget: u64,
-    net: &mut Network,
-) -> Result<Ended, AllocError>
-    requires loaded { Follows specs.now budget net.old 0 net.old }
-    requires nodes { IsOneNode specs.now }
-    requires budget { budget ≤ 4000000000 }
-    ensures { IfOk result (λ ended. IsEnded specs.now budget net.old ended.done ended.end net.new) }
-{
-    let mut done = 0;
-    let mut last = None;
-    'entries: loop {
-        match next_step(alloc, net, budget, done, last)? {
-            Step::Stops(how) => {
-                let end = ReportEnd::Ends(how);
-                return Ok(Ended { done, end });
-            }
-            Step::Turns(p) => match net.turn(p) {
-                Ok(_) => {
-                    done += 1;
-                    last = Some(p);
-                }
-                Err(error) => {
-                    let end = full_end(error)?;
-                    return Ok(Ended { done, end });
-                }
-            },
-        }
-    }
+    let ended = drive(alloc, &OnNodes { specs }, net, schedule, budget)?;
+    answer_end(alloc, specs, net, ended)
 }
 
 /// The end of a run where the network refused a call as a node was full.
@@ -161,40 +122,22 @@ fn full_end(error: NetError) -> Result<ReportEnd, AllocError>
     }
 }
 
-/// What comes next, after so many entries.
-fn next_step(
-    alloc: Global,
-    net: &Network,
-    budget: u64,
-    done: u64,
-    last: Option<Pid>,
-) -> Result<Step, AllocError>
-    requires shown { IsShown net.now }
-    requires numbers { CanNumber net.now }
-    ensures { IfOk result (λ step. ForShown rv_meaning net.now (λ c w. IsStep (statuses_of w) budget done last step)) }
-{
-    let statuses = statuses_in(alloc, net)?;
-    let ready = ready_ones(alloc, &statuses)?;
-    Ok(step_of(&statuses, &ready, budget, done, last))
-}
-
 /// The status and the report of a run that has come to its end.
 fn answer_end(
     alloc: Global,
     specs: &[NodeSpec],
     net: &Network,
-    done: u64,
-    end: ReportEnd,
+    ended: Ended,
 ) -> Result<Answer, AllocError>
     requires shown { IsShown net.now }
     requires numbers { CanNumber net.now }
     requires nodes { ForShown rv_meaning net.now (λ c w. w.common.nodes ≡ length specs.now) }
     requires few { length specs.now < 2 ^ 32 - 1 }
-    ensures status { IfOk result (λ answer. ForShown rv_meaning net.now (λ c w. answer.status ≡ status_of (statuses_of w) end)) }
-    ensures text { IfOk result (λ answer. ForShown rv_meaning net.now (λ c w. answer.text.items ≡ run_report w specs.now (counts_of net.now) done end)) }
+    ensures status { IfOk result (λ answer. ForShown rv_meaning net.now (λ c w. answer.status ≡ status_of (statuses_of w) ended.end)) }
+    ensures text { IfOk result (λ answer. ForShown rv_meaning net.now (λ c w. answer.text.items ≡ run_report w specs.now (counts_of net.now) ended.done ended.end)) }
 {
     let statuses = statuses_in(alloc, net)?;
-    let text = report(alloc, net, specs, &statuses, done, end)?;
-    let status = status_after(&statuses, end);
+    let text = report(alloc, net, specs, &statuses, ended.done, ended.end)?;
+    let status = status_after(&statuses, ended.end);
     Ok(Answer { status, text })
 }

@@ -1,6 +1,6 @@
 use Rattle.std.proofs.Common.{◌≡◌, ◌++◌, drop, map}
 use Rattle.ec_world.specs.Run.{statuses_of}
-use Rattle.ec_plain.proofs.run.statuses_in.Given as goal
+use Rattle.ec_plain.proofs.driver.statuses_in.Given as goal
 
 -- the processes from this one on are still to come
 abbrev pub invariant-loop-process : goal.invariant-loop-process

@@ -1,0 +1,89 @@
+-- Whose turn is next, and when nobody's is.
+use Rattle.std.proofs.Common.{◌≡◌, ℕ, suc, ◌<◌, ◌≤◌, Bool, true, false, ◌&&◌, ◌||◌, not, List, [], ◌∷◌, map, nat_le, Option, Some, None, ◌⊎◌, inl, inr, ⊎_elim, refl, ap, ◌∙◌, arith}
+use Rattle.std.specs.Prelude.{if◌then◌else◌}
+use Rattle.std.specs.List.{list_all}
+use Rattle.std.proofs.lemmas.Grind.{common_steps}
+use Rattle.ec_world.specs.declared.process.ProcStatus.{ProcStatus}
+use Rattle.ec_world.specs.declared.run.RunEnd.TheVariants.{Finished, Stuck, Spent}
+use Rattle.ec_world.specs.Run.{is_ready, is_over, all_true, first_true, or_else, next_ready_of, robin_entry, spent_if, end_by}
+use Rattle.ec_world.specs.declared.run.RunEntry.TheVariants.{TurnOf}
+use Rattle.ec_driver.specs.declared.step.Step.TheVariants.{Stops, Does}
+use Rattle.ec_driver.specs.Progress.{IsStep}
+
+all_true-map : (f : ProcStatus → Bool) (ss : List ProcStatus) → all_true (map f ss) ≡ list_all f ss
+all_true-map f [] = refl
+all_true-map f (s ∷ ss) = ap (λ b. f s && b) (all_true-map f ss)
+
+-- none of these statuses is Ready
+abbrev none_ready : List ProcStatus → Bool
+none_ready ss = all_true (map (λ s. not (is_ready s)) ss)
+
+zero_le : (i : ℕ) → nat_le 0 i ≡ true
+zero_le i = grind (arith, common_steps)
+
+none_here : (i : ℕ) (b : Bool) (bs : List Bool) → first_true 0 i (b ∷ bs) ≡ None → (b ≡ false) × (first_true 0 (suc i) bs ≡ None)
+none_here i true bs e = let k = zero_le i in let h : (if true then Some i else first_true 0 (suc i) bs) ≡ None = rw k at e in cc
+none_here i false bs e = (refl, e)
+
+first_none : (i : ℕ) (ss : List ProcStatus) → first_true 0 i (map is_ready ss) ≡ None → none_ready ss ≡ true
+first_none i [] e = refl
+first_none i (s ∷ ss) e =
+    let h = none_here i (is_ready s) (map is_ready ss) e in
+    let k = first_none (suc i) ss h.1 in
+    rw (h.0, k) refl
+
+ready_here : (b : Bool) (rest : Bool) → b ≡ true → (not b && rest) ≡ false
+ready_here true rest e = refl
+ready_here false rest e = cc
+
+unready_rest : (b : Bool) (rest : Bool) → rest ≡ false → (not b && rest) ≡ false
+unready_rest true rest e = refl
+unready_rest false rest e = e
+
+first_some : (from i : ℕ) (ss : List ProcStatus) (p : ℕ) → first_true from i (map is_ready ss) ≡ Some p → none_ready ss ≡ false
+first_some from i [] p e = cc
+first_some from i (s ∷ ss) p e =
+    elim (is_ready s) as (λ b. (if b && nat_le from i then Some i else first_true from (suc i) (map is_ready ss)) ≡ Some p → (not b && none_ready ss) ≡ false)
+    [ true ↦ λ h. refl | false ↦ λ h. first_some from (suc i) ss p h ] e
+
+or_none : (a b : Option ℕ) → or_else a b ≡ None → b ≡ None
+or_none None b e = e
+or_none (Some p) b e = cc
+
+or_some : (a b : Option ℕ) (p : ℕ) → or_else a b ≡ Some p → (a ≡ Some p) ⊎ (b ≡ Some p)
+or_some None b p e = inr e
+or_some (Some q) b p e = inl e
+
+pub next_none : (ss : List ProcStatus) (last : Option ℕ) → next_ready_of (map is_ready ss) last ≡ None → none_ready ss ≡ true
+next_none ss None e = first_none 0 ss e
+next_none ss (Some last) e = first_none 0 ss (or_none (first_true (suc last) 0 (map is_ready ss)) (first_true 0 0 (map is_ready ss)) e)
+
+pub next_some : (ss : List ProcStatus) (last : Option ℕ) (p : ℕ) → next_ready_of (map is_ready ss) last ≡ Some p → none_ready ss ≡ false
+next_some ss None p e = first_some 0 0 ss p e
+next_some ss (Some last) p e = ⊎_elim
+    (λ (h : first_true (suc last) 0 (map is_ready ss) ≡ Some p). first_some (suc last) 0 ss p h)
+    (λ (h : first_true 0 0 (map is_ready ss) ≡ Some p). first_some 0 0 ss p h)
+    (or_some (first_true (suc last) 0 (map is_ready ss)) (first_true 0 0 (map is_ready ss)) p e)
+
+-- ---- what comes next
+
+module _ (ss : List ProcStatus) (budget done : ℕ) (last : Option ℕ) where
+  pub step_finished : list_all is_over ss ≡ true → IsStep ss budget (record { left = []; last = last; done = done }) (Stops Finished)
+  step_finished h = let e : all_true (map is_over ss) ≡ true = all_true-map is_over ss ∙ h in rw e refl
+
+  module _ (going : list_all is_over ss ≡ false) where
+    not_over : all_true (map is_over ss) ≡ false
+    not_over = all_true-map is_over ss ∙ going
+
+    pub step_stuck : next_ready_of (map is_ready ss) last ≡ None → IsStep ss budget (record { left = []; last = last; done = done }) (Stops Stuck)
+    step_stuck h = let e = not_over in let k = next_none ss last h in rw (e, k) refl
+
+    module _ (p : ℕ) (next : next_ready_of (map is_ready ss) last ≡ Some p) where
+      end_is : end_by [] ss (nat_le budget done) ≡ spent_if (nat_le budget done)
+      end_is = let e = not_over in let k = next_some ss last p next in rw (e, k) refl
+
+      pub step_spent : budget ≤ done → IsStep ss budget (record { left = []; last = last; done = done }) (Stops Spent)
+      step_spent h = let e : nat_le budget done ≡ true = grind (arith, common_steps) in end_is ∙ ap spent_if e
+
+      pub step_turn : done < budget → IsStep ss budget (record { left = []; last = last; done = done }) (Does (TurnOf p))
+      step_turn h = let e : nat_le budget done ≡ false = grind (arith, common_steps) in (end_is ∙ ap spent_if e, ap robin_entry next, h)

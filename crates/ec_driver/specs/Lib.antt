@@ -1,0 +1,4 @@
+pub mod Progress
+pub mod Lines
+pub mod Driver
+pub mod Comes
