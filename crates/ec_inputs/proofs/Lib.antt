@@ -3,7 +3,6 @@ pub mod Commands
 pub mod Documents
 pub mod Forms
 pub mod Lines
-pub mod NoEntries
 pub mod Numbers
 pub mod OneNode
 pub mod Reading

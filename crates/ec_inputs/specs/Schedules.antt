@@ -7,8 +7,6 @@ use Rattle.std.specs.Str.Lines.{lines}
 use Rattle.std.specs.Str.Parse.{digits_value}
 use Rattle.ec_world.specs.declared.run.Entry.{Entry}
 use Rattle.ec_world.specs.declared.run.Entry.TheVariants as entry
-use Rattle.ec_inputs.specs.declared.schedule.Forms.{Forms}
-use Rattle.ec_inputs.specs.declared.schedule.Forms.TheVariants as forms
 use Rattle.ec_inputs.specs.declared.schedule.ScheduleRule.{ScheduleRule}
 use Rattle.ec_inputs.specs.declared.schedule.ScheduleRule.TheVariants as rule
 use Rattle.ec_inputs.specs.declared.schedule.ScheduleError.{ScheduleError}
@@ -87,21 +85,20 @@ move_by (o ∷ to ∷ k ∷ []) = if bytes_eq to (codes "to") then move o k else
 move_by _ = Err rule.Form
 
 -- the forms of a line by its first word, one line each
-abbrev pub entry_by : Forms → Text → List Text → Result (Option Entry) ScheduleRule
-entry_by forms.Empty word more = Err rule.Word
-entry_by forms.Whole word more =
+abbrev pub entry_by : Text → List Text → Result (Option Entry) ScheduleRule
+entry_by word more =
     if bytes_eq word (codes "turn") then turn_by more else
     (if bytes_eq word (codes "move") then move_by more else
     Err rule.Word)
 
 -- what the words of a line say; no words say nothing
-abbrev pub entry_of : Forms → List Text → Result (Option Entry) ScheduleRule
-entry_of f [] = Ok None
-entry_of f (word ∷ more) = entry_by f word more
+abbrev pub entry_of : List Text → Result (Option Entry) ScheduleRule
+entry_of [] = Ok None
+entry_of (word ∷ more) = entry_by word more
 
 -- what a line says, or the least rule that it breaks
-unfoldable pub entry_in : Forms → Text → Result (Option Entry) ScheduleRule
-entry_in f line = if list_all is_plain (before_comment line) then entry_of f (words (before_comment line)) else Err rule.Byte
+unfoldable pub entry_in : Text → Result (Option Entry) ScheduleRule
+entry_in line = if list_all is_plain (before_comment line) then entry_of (words (before_comment line)) else Err rule.Byte
 
 -- ---- the file
 
@@ -119,21 +116,14 @@ with_line n (Ok said) more = with_entry said more
 with_line n (Err r) more = Err (r, Some n)
 
 -- the entries of lines, the first of which has this number, or the first line that breaks a rule
-abbrev pub entries_from : Forms → ℕ → List Text → Result (List Entry) Fault
-entries_from f n [] = Ok []
-entries_from f n (line ∷ more) = with_line n (entry_in f line) (entries_from f (n + 1) more)
+abbrev pub entries_from : ℕ → List Text → Result (List Entry) Fault
+entries_from n [] = Ok []
+entries_from n (line ∷ more) = with_line n (entry_in line) (entries_from (n + 1) more)
 
--- Lines end at line feeds, and one carriage return before a line feed is dropped.
-unfoldable pub entries_by : Forms → Text → Result (List Entry) Fault
-entries_by f bytes = if nat_le (length bytes) longest then entries_from f 1 (lines bytes) else Err (rule.Length, None)
-
--- The entries of a schedule of which only lines that are empty are read so far, or the first fault.
-abbrev pub EntriesOf : Text → Result (List Entry) Fault
-EntriesOf bytes = entries_by forms.Empty bytes
-
--- The same where each form of a line is read.
-abbrev pub WholeEntriesOf : Text → Result (List Entry) Fault
-WholeEntriesOf bytes = entries_by forms.Whole bytes
+-- The entries of a schedule, or the first fault. Lines end at line feeds, and one carriage return before a line feed is
+-- dropped.
+unfoldable pub EntriesOf : Text → Result (List Entry) Fault
+EntriesOf bytes = if nat_le (length bytes) longest then entries_from 1 (lines bytes) else Err (rule.Length, None)
 
 -- a fact of the fault that an error names; none of want of memory
 abbrev pub IfRefused : ScheduleError → (Fault → Type 0) → Type 0

@@ -4,7 +4,7 @@ ghost use Rattle.std.specs.List.{list_all, position_or_len};
 ghost use Rattle.std.specs.Char.{is_ascii_digit};
 ghost use Rattle.std.specs.Str.Lines.{lines, strip_carriage_return};
 ghost use Rattle.ec_inputs.specs.Schedules as spec;
-ghost use Rattle.ec_inputs.specs.Schedules.{EntriesOf, WholeEntriesOf, IfRefused};
+ghost use Rattle.ec_inputs.specs.Schedules.{EntriesOf, IfRefused};
 ghost use Rattle.ec_inputs.specs.declared.schedule.ScheduleError.TheVariants.{Memory};
 
 use ec_world::run::Entry;
@@ -57,40 +57,14 @@ impl From<AllocFailed<Entry>> for ScheduleError {
     }
 }
 
-/// Which forms a line may have.
-#[derive(Clone, Copy, PartialEq, Eq, Debug)]
-enum Forms {
-    /// It is empty.
-    Empty,
-    /// Any that a schedule has.
-    Whole,
-}
-
 /// The most bytes of a schedule.
 const LONGEST: usize = 1_048_576;
 
-/// The entries of a schedule, in their order. Only lines that are empty but for a comment are read so far, so there is
-/// none; each other line is refused.
+/// The entries of a schedule, in their order.
+#[tactic(auto, unfolding(crate::specs::Schedules::EntriesOf))]
 pub fn read_schedule(alloc: Global, bytes: &[u8]) -> Result<Vec<Entry>, ScheduleError>
     ensures entries { IfOk result (λ entries. EntriesOf bytes.now ≡ Ok entries.items) }
     ensures refused { IfErr result (λ error. IfRefused error (λ fault. EntriesOf bytes.now ≡ Err fault)) }
-{
-    entries_by(alloc, Forms::Empty, bytes)
-}
-
-/// The entries of a schedule, in their order, where each form of a line is read.
-pub fn read_whole_schedule(alloc: Global, bytes: &[u8]) -> Result<Vec<Entry>, ScheduleError>
-    ensures entries { IfOk result (λ entries. WholeEntriesOf bytes.now ≡ Ok entries.items) }
-    ensures refused { IfErr result (λ error. IfRefused error (λ fault. WholeEntriesOf bytes.now ≡ Err fault)) }
-{
-    entries_by(alloc, Forms::Whole, bytes)
-}
-
-/// The entries of a schedule whose lines have these forms.
-#[tactic(auto, unfolding(crate::specs::Schedules::entries_by))]
-fn entries_by(alloc: Global, forms: Forms, bytes: &[u8]) -> Result<Vec<Entry>, ScheduleError>
-    ensures entries { IfOk result (λ entries. spec.entries_by forms bytes.now ≡ Ok entries.items) }
-    ensures refused { IfErr result (λ error. IfRefused error (λ fault. spec.entries_by forms bytes.now ≡ Err fault)) }
 {
     if bytes.len() > LONGEST {
         return Err(ScheduleError::Refused {
@@ -98,20 +72,21 @@ fn entries_by(alloc: Global, forms: Forms, bytes: &[u8]) -> Result<Vec<Entry>, S
             line: None,
         });
     }
-    entries_in(alloc, forms, bytes)
+    entries_in(alloc, bytes)
 }
 
-fn entries_in(alloc: Global, forms: Forms, bytes: &[u8]) -> Result<Vec<Entry>, ScheduleError>
+/// The entries of lines, or the first fault.
+fn entries_in(alloc: Global, bytes: &[u8]) -> Result<Vec<Entry>, ScheduleError>
     requires { length bytes.now ≤ spec.longest }
-    ensures entries { IfOk result (λ entries. spec.entries_from forms 1 (lines bytes.now) ≡ Ok entries.items) }
-    ensures refused { IfErr result (λ error. IfRefused error (λ fault. spec.entries_from forms 1 (lines bytes.now) ≡ Err fault)) }
+    ensures entries { IfOk result (λ entries. spec.entries_from 1 (lines bytes.now) ≡ Ok entries.items) }
+    ensures refused { IfErr result (λ error. IfRefused error (λ fault. spec.entries_from 1 (lines bytes.now) ≡ Err fault)) }
 {
     let mut entries = Vec::new(alloc);
     let mut rest = bytes;
     let mut number = 1;
     while !rest.is_empty() {
         let (line, after) = first_line(rest);
-        match entry_in(alloc, forms, line)? {
+        match entry_in(alloc, line)? {
             Ok(Some(entry)) => entries.push(entry)?,
             Ok(None) => {}
             Err(rule) => {
@@ -165,19 +140,15 @@ fn without_return(line: &[u8]) -> &[u8]
 
 /// What a line says, or the least rule that it breaks.
 #[tactic(auto, unfolding(crate::specs::Schedules::entry_in))]
-fn entry_in(
-    alloc: Global,
-    forms: Forms,
-    line: &[u8],
-) -> Result<Result<Option<Entry>, ScheduleRule>, AllocError>
-    ensures { IfOk result (λ said. said ≡ spec.entry_in forms line.now) }
+fn entry_in(alloc: Global, line: &[u8]) -> Result<Result<Option<Entry>, ScheduleRule>, AllocError>
+    ensures { IfOk result (λ said. said ≡ spec.entry_in line.now) }
 {
     let text = &line[..place_of(b'%', line)];
     if !are_plain(text) {
         return Ok(Err(ScheduleRule::Byte));
     }
     let words = words(alloc, text)?;
-    Ok(entry_of(forms, words.as_slice()))
+    Ok(entry_of(words.as_slice()))
 }
 
 fn are_plain(text: &[u8]) -> bool
@@ -197,15 +168,15 @@ fn words(alloc: Global, text: &[u8]) -> Result<Vec<&[u8]>, AllocError>
 }
 
 /// What the words of a line say.
-fn entry_of(forms: Forms, words: &[&[u8]]) -> Result<Option<Entry>, ScheduleRule>
-    ensures { result ≡ spec.entry_of forms (map (λ word. word.now) words.now) }
+fn entry_of(words: &[&[u8]]) -> Result<Option<Entry>, ScheduleRule>
+    ensures { result ≡ spec.entry_of (map (λ word. word.now) words.now) }
 {
     let [first, more @ ..] = words else {
         return Ok(None);
     };
-    match (forms, *first) {
-        (Forms::Whole, b"turn") => turn_by(more),
-        (Forms::Whole, b"move") => move_by(more),
+    match *first {
+        b"turn" => turn_by(more),
+        b"move" => move_by(more),
         _ => Err(ScheduleRule::Word),
     }
 }

@@ -1,5 +1,4 @@
 pub mod Status
-pub mod Step
 pub mod Report
 pub mod ObjectLines
 pub mod Says

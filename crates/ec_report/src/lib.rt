@@ -1,4 +1,4 @@
-//! What is told of a run: the lines of its report and its status; and the choice of its next step.
+//! What is told of a run: the lines of its report and its status.
 #![tactic(auto)]
 
 pub mod answer;
@@ -6,4 +6,3 @@ pub mod end;
 pub mod lines;
 pub mod processes;
 pub mod status;
-pub mod step;

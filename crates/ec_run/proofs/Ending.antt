@@ -106,7 +106,8 @@ module _ (program : Program) (specs : List NodeSpec) (schedule : List Entry) (bu
       r.text_is ∙ (ap (λ (j : ℕ). run_report f.world specs (counts_of net') j r.how) r.ended.counted
       ∙ (ap (λ (v : World IrActivation). run_report v specs (counts_of net') k r.how) f.comes.world_is
       ∙ report_same (source_run program n schedule k).world (ir_run f.start.program n schedule k).world specs (counts_of net') k r.how same.worlds.common ss)) in
-      rw (s, t) runs
+      subst (λ (x : Status). RunsTo program specs schedule budget net net' x text) (sym s)
+      (subst (λ (y : List ℕ). RunsTo program specs schedule budget net net' (status_of (statuses_of (source_run program n schedule k).world) r.how) y) (sym t) runs)
 
 -- a run that is reported, from an empty network
 pub runs_loaded : (program : Program) (ir : Parts) (specs : List NodeSpec) (schedule : List Entry) (budget : ℕ) (net old net' : Net) (status : Status) (text : List ℕ) → Means program ir → net ≡ empty_net → LoadAnswer rv_meaning ir specs old → IsReported specs schedule budget old net' status text → RunsTo program specs schedule budget net net' status text

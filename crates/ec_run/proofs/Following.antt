@@ -1,12 +1,11 @@
 -- A network follows the run: at the load, and from one entry to the next.
-use Rattle.std.proofs.Common.{◌≡◌, ◌⊎◌, inl, inr, ⊎_elim, ℕ, zero, suc, ◌+◌, ◌-◌, ◌*◌, ◌^◌, ◌<◌, ◌≤◌, Bool, true, false, List, [], ◌∷◌, ◌++◌, length, replicate, get_or, below_none, below_more, Option, Some, None, refl, sym, ap, subst, ◌∙◌, arith, length-append, length-map, add-one}
+use Rattle.std.proofs.Common.{◌≡◌, ◌⊎◌, inl, inr, ⊎_elim, ℕ, zero, suc, ◌+◌, ◌-◌, ◌*◌, ◌^◌, ◌<◌, ◌≤◌, Bool, true, false, List, [], ◌∷◌, ◌++◌, length, replicate, get_or, below_none, below_more, Option, Some, None, Err, refl, sym, ap, subst, ◌∙◌, arith, length-append, add-one}
 use Rattle.std.specs.Prelude.{slice_get, ◌↔◌}
-use Rattle.std.proofs.lemmas.List.{length-replicate}
+use Rattle.std.proofs.lemmas.List.{length-map, length-replicate}
 use Rattle.std.proofs.lemmas.Option.{slice_get_past, slice_get_cases}
 use Rattle.ec_base.proofs.Lists.{get_there, get_within}
 use Rattle.ec_world.specs.declared.common.Common.{Common}
 use Rattle.ec_world.specs.declared.node.NodeSpec.{NodeSpec}
-use Rattle.ec_world.specs.declared.process.Proc.{Proc}
 use Rattle.ec_world.specs.declared.process.ProcStatus.{ProcStatus}
 use Rattle.ec_world.specs.declared.run.Entry.{Entry}
 use Rattle.ec_world.specs.declared.run.RunEntry.{RunEntry}
@@ -14,7 +13,9 @@ use Rattle.ec_world.specs.declared.run.RunEntry.TheVariants.{TurnOf as ATurn, Mo
 use Rattle.ec_world.specs.Moves.{is_idle_move, moved_unless}
 use Rattle.ec_world.specs.Run.{RunState, statuses_of, node_object, program_object, after_entry, after_entries, stepped}
 use Rattle.ec_world.proofs.Entries.{run_world}
+use Rattle.ec_driver.specs.Driver.{IsRefused}
 use Rattle.ec_driver.specs.Progress.{IsStep, Progress, advanced, at_start}
+use Rattle.ec_driver.specs.declared.driver.Refusal.{Refusal}
 use Rattle.ec_driver.specs.declared.step.Step.TheVariants.{Does}
 use Rattle.ec_driver.proofs.Coming.{comes_first, comes_next, entry_is, run_more, run_start_is}
 use Rattle.ec_ir.specs.declared.code.Parts.{Parts}
@@ -28,6 +29,8 @@ use Rattle.ec_frames.specs.declared.node.NodeStore.{NodeStore}
 use Rattle.ec_frames.specs.Node.{store_of}
 use Rattle.ec_network.specs.declared.cluster.Cluster.{Cluster}
 use Rattle.ec_network.specs.declared.network.Did.{Did}
+use Rattle.ec_network.specs.declared.network.NetError.{NetError}
+use Rattle.ec_network.specs.declared.network.NetError.TheVariants.{Full, Memory}
 use Rattle.ec_network.specs.Shows.{IrWorld, stores, store_if}
 use Rattle.ec_network.specs.Room.{Room, Strings, FirstTexts, FullAt, held}
 use Rattle.ec_network.specs.Worlds.{ir_action}
@@ -35,10 +38,10 @@ use Rattle.ec_network.specs.Holds.{Holds}
 use Rattle.ec_network.specs.Turns.{SameMachines, SamePools, StepsTo, Idles, Rests, Waits, Runs, EntryOf, Along, IsLoaded, rooms_of, room_if as spec_room}
 use Rattle.ec_network.specs.Full.{room_of, rooms, pool_if, Pools}
 use Rattle.ec_network.specs.Net.{IsOneNode, Net, whole_net, count_of, count_if, counts_if, counts_of, EntryFull, EntryFits}
-use Rattle.ec_network.specs.Answers.{CanNumber, ForShown, LoadAnswer, MoveAnswer, TurnAnswer}
+use Rattle.ec_network.specs.Answers.{CanNumber, ForShown, LoadAnswer, MoveAnswer, TurnAnswer, WhenFull}
 use Rattle.rv_codegen.specs.Meaning.{rv_meaning}
 use Rattle.ec_run.specs.Runs.{ir_run, action_if, after_action, next_action, PoolAfter, NextFull}
-use Rattle.ec_run.specs.Running.{IsShown, Follows, FullNext}
+use Rattle.ec_run.specs.Running.{IsShown, Follows, FullNext, refusal_of}
 use Rattle.ec_run.proofs.Counting.{no_count, counts_rise}
 use Rattle.ec_run.proofs.Growth.{GrowsByOne, turn_grows}
 use Rattle.ec_run.proofs.Rooms.{full_along}
@@ -228,7 +231,8 @@ module _ (specs : List NodeSpec) (old : Net) (schedule : List Entry) (budget : �
 
   few_statuses : (c : Cluster) → f.now ≡ c → length c.statuses < 2 ^ 32 - 1
   few_statuses c e =
-      let same : length f.now.statuses ≡ length f.world.processes = ap length f.holds.shows.statuses ∙ length-map (λ (p : Proc IrActivation). p.status) f.world.processes in
+      let mapped : length (statuses_of f.world) ≡ length f.world.processes = simp length-map in
+      let same : length f.now.statuses ≡ length f.world.processes = ap length f.holds.shows.statuses ∙ mapped in
       let one = f.one_process in
       rw (sym e) (omega arith)
 
@@ -300,7 +304,7 @@ module _ (specs : List NodeSpec) (old : Net) (schedule : List Entry) (budget : �
         node part need free g)
 
     -- the entry finds a node full, and the network is as before
-    pub follows_full : (net' : Net) → net' ≡ net → (node : ℕ) (part : Part) (need free : ℕ) → ForShown rv_meaning net (λ c w. EntryFull c w (after_action w e) node part need free) →
+    follows_full : (net' : Net) → net' ≡ net → (node : ℕ) (part : Part) (need free : ℕ) → ForShown rv_meaning net (λ c w. EntryFull c w (after_action w e) node part need free) →
         Follows specs old schedule budget statuses progress net' × FullNext specs old schedule progress.done node part need free
     follows_full net' same node part need free h = (
       rw same f,
@@ -346,7 +350,7 @@ module _ (specs : List NodeSpec) (old : Net) (schedule : List Entry) (budget : �
       grown_next : GrowsByOne f.world next_world
       grown_next = subst (λ (v : IrWorld). GrowsByOne f.world v) next_world_is g.grown
 
-      pub follows_next : Follows specs old schedule budget (statuses_of (after_entry ir_meaning (ir_silent f.start.program) f.world e)) (advanced progress e) net'
+      follows_next : Follows specs old schedule budget (statuses_of (after_entry ir_meaning (ir_silent f.start.program) f.world e)) (advanced progress e) net'
       follows_next = record {
         nodes = f.nodes;
         limit = f.limit;
@@ -367,6 +371,32 @@ module _ (specs : List NodeSpec) (old : Net) (schedule : List Entry) (budget : �
         few_objects = (let g = grown_next.objects in let h = f.few_objects in omega arith);
         one_process = grown_next.processes ∙ f.one_process;
       }
+
+-- ---- what the network answers
+
+pub goes_on : (specs : List NodeSpec) (old : Net) (schedule : List Entry) (budget : ℕ) (statuses : List ProcStatus) (progress : Progress) (net net' : Net)
+    (f : Follows specs old schedule budget statuses progress net) (e entry : RunEntry) → entry ≡ e → IsStep statuses budget progress (Does entry) → GoneOn f.now f.world e net' →
+    (after : List ProcStatus) × Follows specs old schedule budget after (advanced progress entry) net'
+goes_on specs old schedule budget statuses progress net net' f e entry is step g = (
+  statuses_of (after_entry ir_meaning (ir_silent f.start.program) f.world entry),
+  follows_next specs old schedule budget statuses progress net f entry step net' (subst (λ (x : RunEntry). GoneOn f.now f.world x net') (sym is) g),
+)
+
+module _ (specs : List NodeSpec) (net net' : Net) (e entry : RunEntry) (is : entry ≡ e) where
+  abbrev IsRefusal : RunEntry → Refusal → Type 0
+  IsRefusal x r = IsRefused (Follows specs) (FullNext specs) x net net' r
+
+  refused_by : (error : NetError) → WhenFull (Err error) (λ node part need free. ForShown rv_meaning net (λ c w. EntryFull c w (after_action w e) node part need free)) →
+      WhenFull (Err error) (λ node part need free. net' ≡ net) → IsRefusal e (refusal_of error)
+  refused_by (Full node part need free) full same =
+      λ old schedule budget statuses progress f step. follows_full specs old schedule budget statuses progress net f e step net' same node part need free full
+  refused_by Memory full same = tt
+
+  pub refused : (error : NetError) (r : Refusal) → r ≡ refusal_of error →
+      WhenFull (Err error) (λ node part need free. ForShown rv_meaning net (λ c w. EntryFull c w (after_action w e) node part need free)) →
+      WhenFull (Err error) (λ node part need free. net' ≡ net) → IsRefused (Follows specs) (FullNext specs) entry net net' r
+  refused error r why full same =
+      subst (λ (x : RunEntry). IsRefusal x r) (sym is) (subst (λ (y : Refusal). IsRefusal e y) (sym why) (refused_by error full same))
 
 -- ---- the load
 

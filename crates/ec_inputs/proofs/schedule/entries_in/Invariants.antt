@@ -6,7 +6,7 @@ use Rattle.ec_inputs.proofs.schedule.entries_in.Given as goal
 
 abbrev pub invariant-loop-rest : goal.invariant-loop-rest
 invariant-loop-rest l =
-    (after l.entries.items (entries_from l.forms l.number (lines l.rest)) ≡ entries_from l.forms 1 (lines l.bytes))
+    (after l.entries.items (entries_from l.number (lines l.rest)) ≡ entries_from 1 (lines l.bytes))
     × (l.number + length l.rest ≤ longest + 1)
 
 abbrev pub decreases-loop-rest : goal.decreases-loop-rest
