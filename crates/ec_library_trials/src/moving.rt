@@ -1,6 +1,6 @@
 //! Moves between two nodes by a plain meaning, and the network that a run leaves behind.
 use ec_check::check::{Checked, check};
-use ec_inputs::schedule::read_whole_schedule;
+use ec_inputs::schedule::read_schedule;
 use ec_lexer::lex;
 use ec_meaning::meaning::Meaning;
 use ec_meaning::source::Program;
@@ -43,7 +43,7 @@ fn accepted(alloc: Global, text: &[u8]) -> Result<Checked, Fail> {
 
 /// Does the entries of a schedule.
 fn follow(alloc: Global, meaning: &mut Meaning<'_>, schedule: &[u8]) -> Result<(), Fail> {
-    for entry in &read_whole_schedule(alloc, schedule)? {
+    for entry in &read_schedule(alloc, schedule)? {
         match *entry {
             Entry::Turn { p, times } => {
                 for _ in 0..times {
