@@ -5,19 +5,20 @@ use Rattle.ec_ast.specs.declared.Link.{Link}
 use Rattle.ec_ast.specs.declared.Link.TheVariants as tree_link
 use Rattle.ec_ast.specs.declared.Span.{Span}
 use Rattle.ec_base.specs.Stack.{top_of}
-use Rattle.ec_check.proofs.Equations.{index_link, postfix_layer, variable_layer}
+use Rattle.ec_check.proofs.Equations.{index_link}
 use Rattle.ec_check.proofs.Every.{not_both}
 use Rattle.ec_check.proofs.Fields.{part_core}
 use Rattle.ec_check.proofs.RangedParts.{map_both}
 use Rattle.ec_check.specs.Parts.{Part, LinkPart, index, link_judged}
 use Rattle.ec_check.specs.Places.{Env, place_of, type_or}
 use Rattle.ec_check.specs.Resolving.{arguments_in, chain_core, chain_of, chained, core_of_expression, link_core, links_core, number_of_class}
-use Rattle.ec_check.specs.Tree.{part_of, link_of}
+use Rattle.ec_check.specs.Tree.{part_of, link_of, parts}
 use Rattle.ec_conform.specs.declared.static_type.StaticType.{StaticType}
 use Rattle.ec_core.specs.declared.Expression.{Expression as CoreExpression, out-Expression, out-roll-Expression}
 use Rattle.ec_core.specs.declared.Expression.TheOpen.{Expression-F as Core-F, Link-F as CoreLink-F}
 use Rattle.ec_core.specs.declared.Expression.TheVariants as e
 use Rattle.ec_core.specs.declared.Link.{Link as CoreLink, out-Link, out-roll-Link}
+use Rattle.ec_tree_folds.proofs.Layers as layers
 use Rattle.ec_core.specs.declared.Link.TheVariants as l
 use Rattle.ec_core_ties.specs.Ties as ties
 use Rattle.ec_core_ties.specs.Ties.{IsTarget, ends_in_index, is_index, is_target}
@@ -89,11 +90,11 @@ links_end before number at =
 pub target_is : (x : Expression) → IsTarget x → (env : Env) → is_target (out-Expression ((part_of x).core env)) ≡ true
 target_is x (ties.a_name name) env =
     ap (λ y. is_target (out-Expression y))
-    (part_core x env ∙ (ap (λ y. core_of_expression y env) (variable_layer name) ∙ sym (e.rolls-Read (place_of env name.text))))
+    (part_core x env ∙ (ap (λ y. core_of_expression y env) (layers.variable_layer parts name) ∙ sym (e.rolls-Read (place_of env name.text))))
     ∙ ap is_target (out-roll-Expression (Core-F.Read (place_of env name.text)))
 target_is x (ties.an_index head before number at) env =
     ap (λ y. is_target (out-Expression y))
     (part_core x env
-    ∙ (ap (λ y. core_of_expression y env) (postfix_layer head (before ++ tree_link.Index number at ∷ []))
+    ∙ (ap (λ y. core_of_expression y env) (layers.postfix_layer parts head (before ++ tree_link.Index number at ∷ []))
     ∙ ap (chain_of env (part_of head)) (links_end before number at)))
     ∙ links_are env (part_of head) (map link_of before) (part_of number) at
