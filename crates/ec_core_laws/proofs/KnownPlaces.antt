@@ -1,12 +1,11 @@
 -- The variables, fields, captured names and constants of an accepted program are of known types.
-use Rattle.std.proofs.Common.{◌≡◌, ℕ, suc, Bool, true, false, List, [], ◌∷◌, ◌++◌, map, Option, Some, None, All, refl, sym, subst}
+use Rattle.std.proofs.Common.{◌≡◌, ℕ, suc, Bool, true, List, [], ◌∷◌, ◌++◌, map, Option, Some, None, All, refl, sym, subst}
 use Rattle.ec_ast.specs.declared.Constant.{Constant}
 use Rattle.ec_ast.specs.declared.ConstantValue.{ConstantValue}
 use Rattle.ec_ast.specs.declared.ConstantValue.TheVariants as stands
 use Rattle.ec_ast.specs.declared.Name.{Name}
 use Rattle.ec_ast.specs.declared.Parameter.{Parameter}
 use Rattle.ec_ast.specs.declared.Program.{Program}
-use Rattle.ec_ast.specs.declared.TypeName.{TypeName}
 use Rattle.ec_check.proofs.CapturedNames.{HeldAt, each_captured}
 use Rattle.ec_check.proofs.Every.{Every, every_joined, every_weaker, all_of, none_left, none_right, not_both}
 use Rattle.ec_check.proofs.FoundPlaces.{held_is_found}
@@ -22,7 +21,7 @@ use Rattle.ec_check.proofs.SoundHolders.{sound_in_operation}
 use Rattle.ec_check.proofs.SoundScopes.{SoundScope, TypedFound, found_is_typed, sound_in_a_process}
 use Rattle.ec_check.specs.Parts.{Made, OperationPart, ProcessPart, MemberPart, variable, constant, condition, operation, Holder}
 use Rattle.ec_check.specs.Parts.{member_judged, operation_judged, holder_judged}
-use Rattle.ec_check.specs.Places.{Env, type_found, type_or}
+use Rattle.ec_check.specs.Places.{Env, type_found}
 use Rattle.ec_check.specs.Program.{constant_core, constants_core, core_of, outermost}
 use Rattle.ec_check.specs.Resolving.{captures_of, class_core, env_in, field_of, heading_types, parameter_field, result_written, types_written}
 use Rattle.ec_check.specs.Tree.{part_of}
@@ -33,14 +32,12 @@ use Rattle.ec_conform.specs.declared.static_type.StaticType.TheVariants.{Plain, 
 use Rattle.ec_core.specs.declared.Class.{Class}
 use Rattle.ec_core.specs.declared.Constant.{Constant as CoreConstant}
 use Rattle.ec_core.specs.declared.Field.{Field}
-use Rattle.ec_core.specs.declared.Operation.{Operation}
 use Rattle.ec_core_laws.proofs.Bodies.{block_faultless, section_faultless, members_faultless, initially_faultless}
 use Rattle.ec_core_laws.proofs.KnownLocals.{IsTyped, type_there, piece_typed, initially_typed}
 use Rattle.ec_core_laws.proofs.Operations.{Known, OperationFaultless, ProcessFaultless, Steps, body_is_sound, sound_in, scope_in}
 use Rattle.ec_core_laws.proofs.Operations.{first_of, named_of, process_of, process_with}
 use Rattle.ec_core_laws.proofs.Programs.{Faultless, constants_faultless, made_holds}
 use Rattle.ec_core_laws.proofs.Trees.{IsPiece}
-use Rattle.ec_core_laws.specs.Known.{is_known}
 use Rattle.ec_core_laws.specs.KnownPlaces.{IsKnown, KnowsVariables, KnowsClass, KnowsItsPlaces}
 use Rattle.ec_names.specs.Names.{Text}
 use Rattle.ec_rules.specs.Captures.{Use, uses_outside}

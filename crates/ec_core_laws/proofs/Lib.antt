@@ -2,6 +2,11 @@ pub mod Beginnings
 pub mod Bodies
 pub mod Exits
 pub mod Expressions
+pub mod FittingExpressions
+pub mod FittingMade
+pub mod FittingPrograms
+pub mod FittingStatements
+pub mod FittingTrees
 pub mod Headings
 pub mod Known
 pub mod KnownLocals
@@ -15,5 +20,8 @@ pub mod SmallOperations
 pub mod SmallStatements
 pub mod SoundLayers
 pub mod Statements
+pub mod TextParts
+pub mod TextPrograms
+pub mod TextTrees
 pub mod Trees
 pub mod Waiting

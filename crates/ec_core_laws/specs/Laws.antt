@@ -1,5 +1,5 @@
 -- What holds of the core of every program that breaks no static rule.
-use Rattle.std.specs.Prelude.{◌≡◌, false, All, []}
+use Rattle.std.specs.Prelude.{◌≡◌, ℕ, false, All, List, []}
 use Rattle.ec_ast.specs.declared.Program.{Program}
 use Rattle.ec_check.specs.Program.{core_of}
 use Rattle.ec_conform.specs.Declarations.{declarations_of}
@@ -13,7 +13,12 @@ use Rattle.ec_core_laws.specs.Known.{KnowsItsTypes}
 use Rattle.ec_core_laws.specs.KnownPlaces.{KnowsItsPlaces}
 use Rattle.ec_core_laws.specs.Literals.{HasShortTexts}
 use Rattle.ec_core_laws.specs.Measures.{IsSmall}
+use Rattle.ec_core_laws.specs.Numbers.{HasSmallIntegers}
+use Rattle.ec_core_laws.specs.TreeNumbers.{HasSmallNumbers}
 use Rattle.ec_core_laws.specs.Waiting.{UsesItsConditions}
+use Rattle.ec_lexer.specs.Tokens.{HasTokens}
+use Rattle.ec_lexer.specs.declared.token.Token.{Token}
+use Rattle.ec_parser.specs.HasTree.{HasTree}
 use Rattle.ec_places.specs.Rising.{IsRising}
 use Rattle.ec_rules.specs.Faults.{StaticFaults}
 
@@ -81,3 +86,18 @@ EachTypeOfAPlaceIsKnown =
     IsTable (declarations_of program) table →
     StaticFaults table program ≡ [] →
     KnowsItsPlaces (core_of table program)
+
+-- Where each number in a program is below 2^31, each number in its core is. This holds of all programs.
+abbrev pub EachNumberIsSmall : Type 0
+EachNumberIsSmall =
+    (table : Table) (program : Program) →
+    HasSmallNumbers program →
+    HasSmallIntegers (core_of table program)
+
+-- Each number in a program of a text is below 2^31.
+abbrev pub EachNumberOfATextIsSmall : Type 0
+EachNumberOfATextIsSmall =
+    (text : List ℕ) (tokens : List Token) (program : Program) →
+    HasTokens text tokens →
+    HasTree tokens program →
+    HasSmallNumbers program

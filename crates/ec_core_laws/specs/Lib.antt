@@ -6,4 +6,6 @@ pub mod Known
 pub mod KnownPlaces
 pub mod Literals
 pub mod Measures
+pub mod Numbers
+pub mod TreeNumbers
 pub mod Waiting

@@ -1,6 +1,7 @@
 //! What lowering may rest on, in the core of every program that breaks no static rule.
-ghost use Rattle.ec_core_laws.specs.Laws.{EachClassBeginsOnce, EachExitStandsInALoop, EachHeadingFits, EachOperationIsSmall};
-ghost use Rattle.ec_core_laws.specs.Laws.{EachTextIsShort, EachTypeInCodeIsKnown, EachTypeOfAPlaceIsKnown, EachUsesItsConditions};
+ghost use Rattle.ec_core_laws.specs.Laws.{EachClassBeginsOnce, EachExitStandsInALoop, EachHeadingFits};
+ghost use Rattle.ec_core_laws.specs.Laws.{EachNumberIsSmall, EachNumberOfATextIsSmall, EachOperationIsSmall, EachTextIsShort};
+ghost use Rattle.ec_core_laws.specs.Laws.{EachTypeInCodeIsKnown, EachTypeOfAPlaceIsKnown, EachUsesItsConditions};
 
 /// Parameters and result of each operation have variables of their own.
 pub fn each_heading_fits()
@@ -40,4 +41,14 @@ pub fn each_type_in_code_is_known()
 /// No type of a variable, a field, a captured name or a constant is unknown.
 pub fn each_type_of_a_place_is_known()
     ensures { EachTypeOfAPlaceIsKnown }
+{}
+
+/// Each number in the code is below 2^31, where each in the tree is.
+pub fn each_number_is_small()
+    ensures { EachNumberIsSmall }
+{}
+
+/// Each number in a program of a text is below 2^31.
+pub fn each_number_of_a_text_is_small()
+    ensures { EachNumberOfATextIsSmall }
 {}
