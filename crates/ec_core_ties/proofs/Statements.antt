@@ -299,7 +299,8 @@ abbrev StepTied : Statement → StatementPart → Type 0
 StepTied x p = (env : Env) → Ready env (p.part.finished env.scope).uses (p.part.finished env.scope).faults →
     TiedStatement env x (p.core env) (p.locals env.scope) (p.made env.scope)
 
-step_tied : (x : StatementLayer) → AllTied x → trees.HasTarget x → StepTied (roll-Statement x) (statement_step (statement_mapped x))
+step_tied : (x : StatementLayer) → AllTied x → trees.HasTarget x →
+    StepTied (roll-Statement x) (statement_step (statement_mapped x))
 unfolding statement_step statement_part
 step_tied x h t env r = layer_tied x h t env r
 

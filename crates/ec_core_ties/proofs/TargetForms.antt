@@ -55,11 +55,13 @@ chain x (ends before number at) = an_index x before number at
 
 target_layer : (y : ExpressionLayer) → is_target (layers.expression_mapped said y) ≡ true → IsTarget (roll-Expression y)
 target_layer (Expression-F.Expression::Variable name) h = subst IsTarget (sym (tree.rolls-Variable name)) (a_name name)
-target_layer (Expression-F.Postfix x links) h = subst IsTarget (sym (tree.rolls-Postfix x links)) (chain x (last_index links h))
+target_layer (Expression-F.Postfix x links) h =
+    subst IsTarget (sym (tree.rolls-Postfix x links)) (chain x (last_index links h))
 target_layer _ h = not_both h
 
 pub form_of_target : (x : Expression) → (said.expression x).is_target ≡ true → IsTarget x
 form_of_target x h =
     subst IsTarget (roll-out-Expression x)
     (target_layer (out-Expression x)
-    (ap (λ (p : Part). p.is_target) (sym (rolled.expression (out-Expression x)) ∙ ap said.expression (roll-out-Expression x)) ∙ h))
+    (ap (λ (p : Part). p.is_target)
+    (sym (rolled.expression (out-Expression x)) ∙ ap said.expression (roll-out-Expression x)) ∙ h))

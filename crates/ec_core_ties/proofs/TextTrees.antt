@@ -17,14 +17,16 @@ use Rattle.ec_ast.specs.declared.Statement.{Statement}
 use Rattle.ec_ast.specs.declared.Statement.TheVariants as s
 use Rattle.ec_base.specs.Stack.{top_of}
 use Rattle.ec_core_ties.proofs.AllTargets.{AreTargets, none, more, both, said}
-use Rattle.ec_core_ties.proofs.TextParts.{of_expression, of_link, of_member, of_statement, of_addend, of_arm, of_block, of_factor}
-use Rattle.ec_core_ties.proofs.TextParts.{of_local_variable, of_if, of_variable, of_members, of_object, of_operation, of_process}
-use Rattle.ec_core_ties.proofs.TextParts.{or_chain, and_chain, sum_chain, term_chain, postfix_chain, expression_is, link_is, postfix_is}
+use Rattle.ec_core_ties.proofs.TextParts.{of_expression, of_link, of_member, of_statement, of_addend, of_arm, of_block}
+use Rattle.ec_core_ties.proofs.TextParts.{of_factor, of_object, of_operation, of_process, of_local_variable, of_if}
+use Rattle.ec_core_ties.proofs.TextParts.{of_variable, of_members, or_chain, and_chain, sum_chain, term_chain}
+use Rattle.ec_core_ties.proofs.TextParts.{postfix_chain, expression_is, link_is, postfix_is}
 use Rattle.ec_core_ties.specs.Targets.{Part, joined, if_there, all_within, if_within, ends_in_index}
 use Rattle.ec_lexer.specs.declared.token.Token.{Token}
-use Rattle.ec_parser.specs.HasTree.{Ending, IsTarget, IsPrimary, IsPostfix, AreLinks, AreArguments, AreMoreArguments, IsUnary, IsTerm}
-use Rattle.ec_parser.specs.HasTree.{AreFactors, IsSum, AreAddends, IsRel, IsNot, IsAnd, AreNots, IsExpr, AreAnds, IsInitial, IsStmt}
-use Rattle.ec_parser.specs.HasTree.{AreArms, IsElse, IsBlock, IsMember, AreMembers, IsInitially, IsProcess, IsBody, IsObject}
+use Rattle.ec_parser.specs.HasTree.{Ending, IsTarget, IsPrimary, IsPostfix, AreLinks, AreArguments, AreMoreArguments}
+use Rattle.ec_parser.specs.HasTree.{IsUnary, IsTerm, AreFactors, IsSum, AreAddends, IsRel, IsNot, IsAnd, AreNots}
+use Rattle.ec_parser.specs.HasTree.{IsExpr, AreAnds, IsInitial, IsStmt, AreArms, IsElse, IsBlock, IsMember}
+use Rattle.ec_parser.specs.HasTree.{AreMembers, IsInitially, IsProcess, IsBody, IsObject}
 
 -- ---- what stands before a `<-`
 
@@ -44,22 +46,27 @@ primary_is (IsPrimary.node_count e f g) t = absurd t
 primary_is (IsPrimary.vector e f g i of j k l n h o) t = absurd t
 
 -- behind a part
-last_is : {before last : Ending} {ts us : List Token} {xs : List Link} (p : Part) → (IsTarget before → p.is_target ≡ true) →
-    AreLinks before ts us xs last → IsTarget last → ends_in_index (top_of (p ∷ map said.link xs)) ≡ true
+last_is : {before last : Ending} {ts us : List Token} {xs : List Link} (p : Part) →
+    (IsTarget before → p.is_target ≡ true) → AreLinks before ts us xs last → IsTarget last →
+    ends_in_index (top_of (p ∷ map said.link xs)) ≡ true
 last_is p is AreLinks.links_end t = is t
-last_is p is (AreLinks.field {name = name} e f k) t = last_is (said.link (link.Call name [])) (λ u. absurd u) k t
-last_is p is (AreLinks.call {name = name} {xs = xs} e f g h i k) t = last_is (said.link (link.Call name xs)) (λ u. absurd u) k t
+last_is p is (AreLinks.field {name = name} e f k) t =
+    last_is (said.link (link.Call name [])) (λ u. absurd u) k t
+last_is p is (AreLinks.call {name = name} {xs = xs} e f g h i k) t =
+    last_is (said.link (link.Call name xs)) (λ u. absurd u) k t
 last_is p is (AreLinks.index {a = a} {x = x} may e h f k) t =
     last_is (said.link (link.Index x a.at)) (λ u. link_is _ (link.rolls-Index x a.at) refl) k t
 
 target_is : {ts us : List Token} {x : Expression} {last : Ending} → IsPostfix ts us x last → IsTarget last →
     (said.expression x).is_target ≡ true
-target_is (IsPostfix.postfix {x = x} {links = xs} h k) t = postfix_is x xs (last_is (said.expression x) (primary_is h) k t)
+target_is (IsPostfix.postfix {x = x} {links = xs} h k) t =
+    postfix_is x xs (last_is (said.expression x) (primary_is h) k t)
 
 mutual
   -- ---- primaries and postfixes
 
-  primary : {ts us : List Token} {x : Expression} {last : Ending} → IsPrimary ts us x last → AreTargets (said.expression x).within
+  primary : {ts us : List Token} {x : Expression} {last : Ending} → IsPrimary ts us x last →
+      AreTargets (said.expression x).within
   primary (IsPrimary.int e) = of_expression _ (form.rolls-Number _) none
   primary (IsPrimary.string e) = of_expression _ (form.rolls-Literal _) none
   primary (IsPrimary.true_word e) = of_expression _ (form.rolls-Truth _ _) none
@@ -73,7 +80,8 @@ mutual
   primary (IsPrimary.node_count e f g) = of_expression _ (form.rolls-NodeCount _) none
   primary (IsPrimary.vector e f g i of j k l n h o) = of_expression _ (form.rolls-NewVector _ _ _ _) (expr h)
 
-  postfix : {ts us : List Token} {x : Expression} {last : Ending} → IsPostfix ts us x last → AreTargets (said.expression x).within
+  postfix : {ts us : List Token} {x : Expression} {last : Ending} → IsPostfix ts us x last →
+      AreTargets (said.expression x).within
   postfix (IsPostfix.postfix h k) = postfix_chain _ _ (both (primary h) (links k))
 
   links : {before last : Ending} {ts us : List Token} {xs : List Link} → AreLinks before ts us xs last →
@@ -83,7 +91,8 @@ mutual
   links (AreLinks.call e f g h i k) = both (of_link _ (link.rolls-Call _ _) (arguments h)) (links k)
   links (AreLinks.index may e h f k) = both (of_link _ (link.rolls-Index _ _) (expr h)) (links k)
 
-  arguments : {ts us : List Token} {xs : List Expression} → AreArguments ts us xs → AreTargets (all_within (map said.expression xs))
+  arguments : {ts us : List Token} {xs : List Expression} → AreArguments ts us xs →
+      AreTargets (all_within (map said.expression xs))
   arguments AreArguments.no_arguments = none
   arguments (AreArguments.arguments h k) = both (expr h) (more_arguments k)
 
@@ -125,25 +134,29 @@ mutual
   and : {ts us : List Token} {x : Expression} → IsAnd ts us x → AreTargets (said.expression x).within
   and (IsAnd.and h k) = and_chain _ _ (both (not h) (nots k))
 
-  nots : {ts us : List Token} {xs : List Expression} → AreNots ts us xs → AreTargets (all_within (map said.expression xs))
+  nots : {ts us : List Token} {xs : List Expression} → AreNots ts us xs →
+      AreTargets (all_within (map said.expression xs))
   nots AreNots.nots_end = none
   nots (AreNots.and_not e h k) = both (not h) (nots k)
 
   pub expr : {ts us : List Token} {x : Expression} → IsExpr ts us x → AreTargets (said.expression x).within
   expr (IsExpr.expr h k) = or_chain _ _ (both (and h) (ands k))
 
-  ands : {ts us : List Token} {xs : List Expression} → AreAnds ts us xs → AreTargets (all_within (map said.expression xs))
+  ands : {ts us : List Token} {xs : List Expression} → AreAnds ts us xs →
+      AreTargets (all_within (map said.expression xs))
   ands AreAnds.ands_end = none
   ands (AreAnds.or_and e h k) = both (and h) (ands k)
 
-  initial : {ts us : List Token} {x : Option Expression} → IsInitial ts us x → AreTargets (if_within (option_map said.expression x))
+  initial : {ts us : List Token} {x : Option Expression} → IsInitial ts us x →
+      AreTargets (if_within (option_map said.expression x))
   initial IsInitial.no_initial = none
   initial (IsInitial.initial e h) = expr h
 
   -- ---- statements
 
   statement : {ts us : List Token} {x : Statement} → IsStmt ts us x → AreTargets (said.statement x)
-  statement (IsStmt.assign h is e k) = of_statement _ (s.rolls-Assign _ _) (more (target_is h is) (both (postfix h) (expr k)))
+  statement (IsStmt.assign h is e k) =
+      of_statement _ (s.rolls-Assign _ _) (more (target_is h is) (both (postfix h) (expr k)))
   statement (IsStmt.invoke h is) = of_statement _ (s.rolls-Invoke _) (postfix h)
   statement (IsStmt.print e f g i h j) = of_statement _ (s.rolls-Print _ _) (expr h)
   statement (IsStmt.if_word e h f k l n g i) =
@@ -187,7 +200,8 @@ mutual
   members AreMembers.members_end = none
   members (AreMembers.member h k) = both (member h) (members k)
 
-  initially : {ts us : List Token} {x : Option Block} → IsInitially ts us x → AreTargets (if_there (option_map said.block x))
+  initially : {ts us : List Token} {x : Option Block} → IsInitially ts us x →
+      AreTargets (if_there (option_map said.block x))
   initially IsInitially.no_initially = none
   initially (IsInitially.initially e h f g) = of_block _ (block h)
 

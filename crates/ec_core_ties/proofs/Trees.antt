@@ -1,5 +1,5 @@
--- What holds of each part of a tree in which each assignment has a target, where it holds of a layer whose parts have it: one
--- induction over all kinds of parts.
+-- What holds of each part of a tree in which each assignment has a target, where it holds of a layer whose parts have
+-- it: one induction over all kinds of parts.
 use Rattle.std.proofs.Common.{◌≡◌, true, List, [], ◌∷◌, ◌++◌, map, Option, Some, None, sym, subst}
 use Rattle.ec_ast.specs.declared.Expression.{Expression, roll-Expression}
 use Rattle.ec_ast.specs.declared.Link.{Link, roll-Link, out-Link, out-roll-Link}
@@ -17,18 +17,20 @@ use Rattle.ec_ast.specs.declared.ProcessSection.{ProcessSection, roll-ProcessSec
 use Rattle.ec_ast.specs.declared.ProcessSection.{out-ProcessSection, out-roll-ProcessSection}
 use Rattle.ec_ast.specs.declared.Expression.TheOpen.{Expression-F, Link-F, Member-F, Statement-F}
 use Rattle.ec_check.proofs.Every.{Every, Where}
-use Rattle.ec_core_ties.proofs.AllTargets.{AreTargets, first_target, later_targets, left_targets, right_targets, said, rolled}
-use Rattle.ec_core_ties.specs.Targets.{Targets, Part, joined, all_within, within_expression, within_link, within_member, within_statement}
-use Rattle.ec_core_ties.specs.Targets.{within_body}
-use Rattle.ec_tree_folds.proofs.Claims.{Claims, Passes, Held, trees, ExpressionWith, LinkWith, MemberWith, StatementWith, AddendWith}
-use Rattle.ec_tree_folds.proofs.Claims.{ArmWith, BlockWith, BodyWith, FactorWith, ObjectWith, OperationWith, ProcessWith}
-use Rattle.ec_tree_folds.proofs.Claims.{bare_expression, bare_link, bare_member, bare_statement, bare_addend, bare_arm, bare_block}
-use Rattle.ec_tree_folds.proofs.Claims.{bare_body, bare_factor, bare_object, bare_operation, bare_process, expression_holds, body_holds}
-use Rattle.ec_tree_folds.specs.Kinds.{ExpressionLayer, LinkLayer, MemberLayer, StatementLayer, AddendLayer, ArmLayer, BlockLayer}
-use Rattle.ec_tree_folds.specs.Kinds.{BodyLayer, FactorLayer, ObjectLayer, OperationLayer, ProcessLayer}
+use Rattle.ec_core_ties.proofs.AllTargets.{AreTargets, first_target, later_targets, left_targets, right_targets}
+use Rattle.ec_core_ties.proofs.AllTargets.{said, rolled}
+use Rattle.ec_core_ties.specs.Targets.{Targets, Part, joined, all_within}
+use Rattle.ec_core_ties.specs.Targets.{within_expression, within_link, within_member, within_statement, within_body}
+use Rattle.ec_tree_folds.proofs.Claims.{Claims, Passes, Held, trees, expression_holds, body_holds}
+use Rattle.ec_tree_folds.proofs.Claims.{ExpressionWith, LinkWith, MemberWith, StatementWith, AddendWith, ArmWith}
+use Rattle.ec_tree_folds.proofs.Claims.{BlockWith, BodyWith, FactorWith, ObjectWith, OperationWith, ProcessWith}
+use Rattle.ec_tree_folds.proofs.Claims.{bare_expression, bare_link, bare_member, bare_statement, bare_addend, bare_arm}
+use Rattle.ec_tree_folds.proofs.Claims.{bare_block, bare_body, bare_factor, bare_object, bare_operation, bare_process}
+use Rattle.ec_tree_folds.specs.Kinds.{ExpressionLayer, LinkLayer, MemberLayer, StatementLayer, AddendLayer, ArmLayer}
+use Rattle.ec_tree_folds.specs.Kinds.{BlockLayer, BodyLayer, FactorLayer, ObjectLayer, OperationLayer, ProcessLayer}
 use Rattle.ec_tree_folds.specs.Layers as layers
 
--- what an assignment has besides
+-- besides, an assignment has a target
 abbrev pub HasTarget : StatementLayer → Type 0
 HasTarget (Statement-F.Assign x y) = (said.expression x).is_target ≡ true
 HasTarget _ = Unit {0}
@@ -176,7 +178,8 @@ module _ (P : Expression → Type 0) (S : Statement → Type 0) (B : Block → T
       (statement_has : (x : StatementLayer) → StatementHas x → HasTarget x → S (roll-Statement x))
       (block_has : (b : BlockLayer) → Every S b.statements → B (roll-Block b)) where
     -- of one part and of several behind it
-    one_and : {A : Type 0} (t : A → Targets) (Q : A → Type 0) (x : Held PartClaim) (ys : List (Held (λ y. AreTargets (t y) → Q y))) →
+    one_and : {A : Type 0} (t : A → Targets) (Q : A → Type 0) (x : Held PartClaim)
+        (ys : List (Held (λ y. AreTargets (t y) → Q y))) →
         AreTargets ((said.expression x.0).within ++ joined (map t (trees ys))) → P x.0 × Every Q (trees ys)
     one_and t Q x ys h = (
       x.1 (left_targets (said.expression x.0).within (joined (map t (trees ys))) h),
@@ -191,7 +194,8 @@ module _ (P : Expression → Type 0) (S : Statement → Type 0) (B : Block → T
       each_within f Q ys (right_targets (said.expression x.0).within (all_within (map f (trees ys))) h),
     )
 
-    two : (x y : Held PartClaim) → AreTargets ((said.expression x.0).within ++ (said.expression y.0).within) → P x.0 × P y.0
+    two : (x y : Held PartClaim) → AreTargets ((said.expression x.0).within ++ (said.expression y.0).within) →
+        P x.0 × P y.0
     two x y h = (
       x.1 (left_targets (said.expression x.0).within (said.expression y.0).within h),
       y.1 (right_targets (said.expression x.0).within (said.expression y.0).within h),
@@ -298,7 +302,8 @@ module _ (P : Expression → Type 0) (S : Statement → Type 0) (B : Block → T
         subst (λ (z : AddendLayer). P z.value) (sym (out-roll-Addend (bare_addend claims y)))
         (y.value.1 (subst AreTargets (rolled.addend (bare_addend claims y)) h))
 
-    member_parts_are : (y : MemberWith claims) → AreTargets (within_member (layers.member_mapped said (bare_member claims y))) →
+    member_parts_are : (y : MemberWith claims) →
+        AreTargets (within_member (layers.member_mapped said (bare_member claims y))) →
         MemberLayerHas (bare_member claims y)
     member_parts_are (Member-F.Member::Variable is_attached name of None) h = tt
     member_parts_are (Member-F.Member::Variable is_attached name of (Some x)) h = x.1 h
@@ -321,7 +326,8 @@ module _ (P : Expression → Type 0) (S : Statement → Type 0) (B : Block → T
         subst (λ (z : ProcessLayer). B z.block) (sym (out-roll-ProcessSection (bare_process claims y)))
         (y.block.1 (subst AreTargets (rolled.process (bare_process claims y)) h))
 
-    abbrev body_layer : List (Held MemberClaim) → Option (Held BlockClaim) → Option (Held ProcessClaim) → BodyWith claims
+    abbrev body_layer : List (Held MemberClaim) → Option (Held BlockClaim) → Option (Held ProcessClaim) →
+        BodyWith claims
     body_layer ms i p = record { members = ms; initially = i; process = p }
 
     abbrev in_members : List (Held MemberClaim) → Targets

@@ -15,10 +15,13 @@ use Rattle.ec_tree_folds.specs.Kinds.{Kinds, ExpressionOf, LinkOf, MemberOf, Sta
 abbrev pub Targets : Type 0
 Targets = List Bool
 
--- An expression: whether it is a target, and the assignments within it. A link: the same of a chain that ends in it.
+-- What is said of an expression: whether it is a target, and the assignments within it. Of a link: whether a chain that
+-- ends in it is a target, and the assignments within the link.
 pub record Part : Type 0 where
   pub is_target : Bool
   pub within : Targets
+
+-- the assignments of several parts, in order, and of one that may be left out
 
 abbrev pub joined : List Targets → Targets
 joined [] = []
@@ -36,7 +39,7 @@ abbrev pub if_within : Option Part → Targets
 if_within None = []
 if_within (Some x) = x.within
 
--- All other parts become the assignments within them, in order.
+-- what a part of each kind becomes
 abbrev pub kinds : Kinds
 kinds = record {
   expression = Part;
@@ -53,11 +56,12 @@ kinds = record {
   process = Targets;
 }
 
--- A chain is a target by its last link.
+-- a chain, by its last link
 abbrev pub ends_in_index : Option Part → Bool
 ends_in_index None = false
 ends_in_index (Some last) = last.is_target
 
+-- a name, or a chain that ends in an index
 abbrev pub is_target : ExpressionOf kinds → Bool
 is_target (Expression-F.Expression::Variable name) = true
 is_target (Expression-F.Postfix x links) = ends_in_index (top_of links)
@@ -88,6 +92,7 @@ abbrev pub within_link : LinkOf kinds → Targets
 within_link (Link-F.Call name arguments) = all_within arguments
 within_link (Link-F.Index number at) = number.within
 
+-- An assignment stands before those within its sides.
 abbrev pub within_statement : StatementOf kinds → Targets
 within_statement (Statement-F.LocalVariable name of x) = if_within x
 within_statement (Statement-F.LocalConstant name of x) = x.within
