@@ -1,3 +1,4 @@
+pub mod AllTargets
 pub mod Chains
 pub mod Declared
 pub mod Expressions
@@ -7,5 +8,9 @@ pub mod Naming
 pub mod Programs
 pub mod Ready
 pub mod Statements
+pub mod TargetForms
 pub mod Targets
+pub mod TextParts
+pub mod TextPrograms
+pub mod TextTrees
 pub mod Trees

@@ -18,12 +18,14 @@ use Rattle.ec_check.specs.Program.{constants_core, constants_made, outermost, co
 use Rattle.ec_check.specs.Resolving.{env_in, holder_made}
 use Rattle.ec_check.specs.Tree.{class_part, part_of}
 use Rattle.ec_conform.specs.Table.{Table}
+use Rattle.ec_core_ties.proofs.AllTargets.{AreTargets, left_targets, right_targets, are_all}
 use Rattle.ec_core_ties.proofs.Expressions.{expression_has}
 use Rattle.ec_core_ties.proofs.Holders.{constant_is_typed, holder_tied}
 use Rattle.ec_core_ties.proofs.Ready.{PartTied, StatementTied, BlockTied}
 use Rattle.ec_core_ties.proofs.Statements.{statement_has, block_has}
 use Rattle.ec_core_ties.proofs.Trees as trees
 use Rattle.ec_core_ties.specs.Laws.{IsTied}
+use Rattle.ec_core_ties.specs.Targets.{HasTargets, targets_in, targets_in_value, targets_in_constants}
 use Rattle.ec_core_ties.specs.Ties as ties
 use Rattle.ec_core_ties.specs.Ties.{AreConstants, TiedHolder}
 use Rattle.ec_rules.specs.Captures.{uses_outside}
@@ -36,7 +38,7 @@ use Rattle.ec_scopes.specs.declared.globals.Global.{Global}
 use Rattle.ec_scopes.specs.declared.scope.Scope.{Scope}
 use Rattle.ec_scopes.specs.Scopes.{outside}
 
-part_tied : (x : Expression) → PartTied x
+part_tied : (x : Expression) → AreTargets (targets_in x) → PartTied x
 part_tied = trees.part_has PartTied StatementTied BlockTied expression_has statement_has block_has
 
 abbrev Faultless : Scope → Constant → Type 0
@@ -59,39 +61,42 @@ module _ (table : Table) (globals : List Global) where
       (sym (none_held (outside scope) (uses_outside ((part_of x).part.judged true scope).uses) refl ((ranged_part x).uses true scope))) tt
 
   value_tied : (number : ℕ) (at : Span) (name : Name) (of : Option TypeName) (v : ConstantValue) (cs : List Constant) →
-      faults_in_constant scope name of (value_part v) ≡ [] →
+      faults_in_constant scope name of (value_part v) ≡ [] → AreTargets (targets_in_value v) →
       AreConstants env (suc number) cs (constants_core env (suc number) cs) (constants_made scope cs) →
       AreConstants env number (constant_with at name of v ∷ cs) (constants_core env number (constant_with at name of v ∷ cs))
       (constants_made scope (constant_with at name of v ∷ cs))
-  value_tied number at name of (stands.Expression x) cs e more =
+  value_tied number at name of (stands.Expression x) cs e t more =
       ties.value
       (constant_is_typed scope name of x
       (subst (λ p. wrong_constant scope name of p ≡ []) (sym (same_part x)) (none_right _ _ (none_right _ _ e))))
-      (part_tied x true env
+      (part_tied x t true env
       (record {
         fit = omega arith;
         reach = none_reached x;
         faultless = subst (λ p. faults_in scope p ≡ []) (sym (same_part x)) (none_left _ _ e);
       }))
       more
-  value_tied number at name of (stands.Class c) cs e more =
+  value_tied number at name of (stands.Class c) cs e t more =
       ties.class
       (subst (λ h. TiedHolder scope h c.body (holder_made scope (class_part c))) (same_class c)
       (holder_tied scope c.name c.is_monitored c.parameters c.end_name c.body
-      (trees.body_has PartTied StatementTied BlockTied expression_has statement_has block_has c.body)
+      (trees.body_has PartTied StatementTied BlockTied expression_has statement_has block_has c.body t)
       (subst (λ h. faults_in_holder scope h ≡ []) (sym (same_class c)) (none_left _ _ e))))
       more
-  value_tied number at name of (stands.Typeobject t) cs e more = ties.typeobject more
+  value_tied number at name of (stands.Typeobject o) cs e t more = ties.typeobject more
 
-  constants_tied : (number : ℕ) (cs : List Constant) → Every (Faultless scope) cs →
+  constants_tied : (number : ℕ) (cs : List Constant) → Every (Faultless scope) cs → AreTargets (targets_in_constants cs) →
       AreConstants env number cs (constants_core env number cs) (constants_made scope cs)
-  constants_tied number [] e = ties.constants_end
-  constants_tied number (c ∷ cs) e =
-      value_tied number c.at c.name c.of c.value cs e.0 (constants_tied (suc number) cs e.1)
+  constants_tied number [] e t = ties.constants_end
+  constants_tied number (c ∷ cs) e t =
+      value_tied number c.at c.name c.of c.value cs e.0 (left_targets (targets_in_value c.value) (targets_in_constants cs) t)
+      (constants_tied (suc number) cs e.1 (right_targets (targets_in_value c.value) (targets_in_constants cs) t))
 
-pub program_tied : (table : Table) (program : Program) → StaticFaults table program ≡ [] → IsTied table program (core_of table program)
-program_tied table program none =
+pub program_tied : (table : Table) (program : Program) → StaticFaults table program ≡ [] → HasTargets program →
+    IsTied table program (core_of table program)
+program_tied table program none targets =
     constants_tied table (outermost table program).globals 0 program.constants
     (every_unmap (λ c. faults_in_constant (outermost table program) c.name c.of c.value ≡ []) constant_part program.constants
     (none_each (λ c. faults_in_constant (outermost table program) c.name c.of c.value) (constant_parts program)
     (none_left _ _ (none_in_order (faults_of_program table program) none))))
+    (are_all (targets_in_constants program.constants) targets)

@@ -34,12 +34,12 @@ use Rattle.ec_core.specs.declared.Statement.TheVariants as s
 use Rattle.ec_core_ties.proofs.Holders.{constant_is_typed}
 use Rattle.ec_core_ties.proofs.Naming.{Fit, condition_is}
 use Rattle.ec_core_ties.proofs.Ready.{Ready, first_ready, second_ready, ready_within, same_ready, PartTied, StatementTied, BlockTied, each_joined}
-use Rattle.ec_core_ties.proofs.Targets.{target_is}
+use Rattle.ec_core_ties.proofs.Targets.{target_is, is_index, ends_in_index, is_target}
 use Rattle.ec_core_ties.proofs.Trees as trees
 use Rattle.ec_core_ties.specs.Names.{numbered}
 use Rattle.ec_core_ties.specs.Names as names
 use Rattle.ec_core_ties.specs.Ties as ties
-use Rattle.ec_core_ties.specs.Ties.{TiedExpression, TiedStatement, TiedBlock, AreArms, IsElse, AreStatements, IsTarget, is_index, ends_in_index, is_target}
+use Rattle.ec_core_ties.specs.Ties.{TiedExpression, TiedStatement, TiedBlock, AreArms, IsElse, AreStatements}
 use Rattle.ec_names.specs.Names.{Text}
 use Rattle.ec_rules.specs.Captures.{Use}
 use Rattle.ec_rules.specs.Judging.{block_finished, entries_of, statement_finished, statement_part}
@@ -94,16 +94,16 @@ abbrev CoreLayer : Type 0
 CoreLayer = Core-F CoreExpression CoreLink CoreAddend CoreFactor
 
 module _ (env : Env) (x z : Expression) (m n : Made) (w : CoreExpression) (value : TiedExpression env z w n)
-    (y : CoreExpression) (kept : IsTarget x → is_target (out-Expression y) ≡ true) where
+    (y : CoreExpression) (target : is_target (out-Expression y) ≡ true) where
   abbrev Becomes : CoreLayer → Type 0
   Becomes t = TiedExpression env x y m → TiedStatement env (tree.Assign x z) (assigned t w) [] (both_made m n)
 
-  dropped : (t : CoreLayer) → roll-Expression t ≡ y → is_target t ≡ false → TiedExpression env x y m →
-      TiedStatement env (tree.Assign x z) (s.Drop w) [] (both_made m n)
-  dropped t is none h = ties.no_target (λ k. not_both (sym none_left_over ∙ kept k)) h none_left_over value
-    where
-      none_left_over : is_target (out-Expression y) ≡ false
-      none_left_over = ap (λ y. is_target (out-Expression y)) (sym is) ∙ (ap is_target (out-roll-Expression t) ∙ none)
+  -- no core of a target has such a layer
+  no_target : {A : Type 0} (t : CoreLayer) → roll-Expression t ≡ y → is_target t ≡ false → A
+  no_target t is none =
+      not_both
+      (sym none
+      ∙ (ap is_target (sym (out-roll-Expression t)) ∙ (ap (λ y. is_target (out-Expression y)) is ∙ target)))
 
   place_set : (at : Place) → roll-Expression (Core-F.Read at) ≡ y → Becomes (Core-F.Read at)
   place_set at is h = ties.assign (subst (λ y. TiedExpression env x y m) (sym is ∙ e.rolls-Read at) h) value
@@ -120,38 +120,20 @@ module _ (env : Env) (x z : Expression) (m n : Made) (w : CoreExpression) (value
       with_links_is y [] = refl
       with_links_is y (k ∷ ks) = refl
   element_set_is head links last (CoreLink-F.Invoke name arguments of at) is top out h =
-      dropped (Core-F.Chain head links) is (ap ends_in_index top ∙ ap is_index out) h
+      no_target (Core-F.Chain head links) is (ap ends_in_index top ∙ ap is_index out)
   element_set_is head links last (CoreLink-F.Call builtin arguments at) is top out h =
-      dropped (Core-F.Chain head links) is (ap ends_in_index top ∙ ap is_index out) h
+      no_target (Core-F.Chain head links) is (ap ends_in_index top ∙ ap is_index out)
 
   last_set : (head : CoreExpression) (links : List CoreLink) (last : Option CoreLink) → roll-Expression (Core-F.Chain head links) ≡ y →
       top_of links ≡ last → TiedExpression env x y m →
       TiedStatement env (tree.Assign x z) (element_set_if head (below_of links) last w) [] (both_made m n)
-  last_set head links None is top h = dropped (Core-F.Chain head links) is (ap ends_in_index top) h
+  last_set head links None is top h = no_target (Core-F.Chain head links) is (ap ends_in_index top)
   last_set head links (Some last) is top h = element_set_is head links last (out-Link last) is top refl h
 
   becomes : (t : CoreLayer) → roll-Expression t ≡ y → Becomes t
   becomes (Core-F.Read at) is h = place_set at is h
   becomes (Core-F.Chain head links) is h = last_set head links (top_of links) is refl h
-  becomes (Core-F.Number n) is h = dropped (Core-F.Number n) is refl h
-  becomes (Core-F.Literal text) is h = dropped (Core-F.Literal text) is refl h
-  becomes (Core-F.Truth b) is h = dropped (Core-F.Truth b) is refl h
-  becomes Core-F.Nil is h = dropped Core-F.Nil is refl h
-  becomes Core-F.Itself is h = dropped Core-F.Itself is refl h
-  becomes Core-F.NodeCount is h = dropped Core-F.NodeCount is refl h
-  becomes (Core-F.NodeAt v at) is h = dropped (Core-F.NodeAt v at) is refl h
-  becomes (Core-F.NewVector of v at) is h = dropped (Core-F.NewVector of v at) is refl h
-  becomes (Core-F.Construct class places) is h = dropped (Core-F.Construct class places) is refl h
-  becomes (Core-F.Create class arguments) is h = dropped (Core-F.Create class arguments) is refl h
-  becomes (Core-F.Negative v) is h = dropped (Core-F.Negative v) is refl h
-  becomes (Core-F.Not v) is h = dropped (Core-F.Not v) is refl h
-  becomes (Core-F.View v of at) is h = dropped (Core-F.View v of at) is refl h
-  becomes (Core-F.IsFixed v at) is h = dropped (Core-F.IsFixed v at) is refl h
-  becomes (Core-F.Term v more) is h = dropped (Core-F.Term v more) is refl h
-  becomes (Core-F.Sum v more) is h = dropped (Core-F.Sum v more) is refl h
-  becomes (Core-F.Compare v op what u) is h = dropped (Core-F.Compare v op what u) is refl h
-  becomes (Core-F.And v more) is h = dropped (Core-F.And v more) is refl h
-  becomes (Core-F.Or v more) is h = dropped (Core-F.Or v more) is refl h
+  becomes t is h = no_target t is refl
 
 -- ---- blocks within a statement
 
@@ -250,35 +232,35 @@ choice_tied arms other at h k env own r =
 abbrev AllTied : StatementLayer → Type 0
 AllTied = trees.StatementHas PartTied StatementTied BlockTied
 
-layer_tied : (x : StatementLayer) → AllTied x → LayerTied x (roll-Statement x)
-layer_tied (Statement-F.LocalVariable name of None) h =
+layer_tied : (x : StatementLayer) → AllTied x → trees.HasTarget x → LayerTied x (roll-Statement x)
+layer_tied (Statement-F.LocalVariable name of None) h t =
     subst (LayerTied (Statement-F.LocalVariable name of None)) (sym (tree.rolls-LocalVariable name of None)) (λ env r. ties.local_variable)
-layer_tied (Statement-F.LocalVariable name of (Some x)) h =
+layer_tied (Statement-F.LocalVariable name of (Some x)) h t =
     subst (LayerTied (Statement-F.LocalVariable name of (Some x))) (sym (tree.rolls-LocalVariable name of (Some x)))
     (λ env r. ties.local_with_value (one true env x _ h r))
-layer_tied (Statement-F.LocalConstant name of x) h =
+layer_tied (Statement-F.LocalConstant name of x) h t =
     subst (LayerTied (Statement-F.LocalConstant name of x)) (sym (tree.rolls-LocalConstant name of x))
     (λ env r.
     ties.local_constant
     (constant_is_typed env.scope name of x
     (none_left _ _ (none_right _ _ (none_right _ _ (none_right (faults_of true env x ++ []) _ r.faultless)))))
     (one true env x _ h r))
-layer_tied (Statement-F.Assign x y) h =
+layer_tied (Statement-F.Assign x y) h t =
     subst (LayerTied (Statement-F.Assign x y)) (sym (tree.rolls-Assign x y))
     (λ env r.
     becomes env x y ((part_of x).made env.scope) ((part_of y).made env.scope) ((part_of y).core env) (second_of_two env x y _ h.1 r)
-    ((part_of x).core env) (λ k. target_is x k env) (out-Expression ((part_of x).core env)) (roll-out-Expression ((part_of x).core env))
+    ((part_of x).core env) (target_is x t env) (out-Expression ((part_of x).core env)) (roll-out-Expression ((part_of x).core env))
     (first_of_two env x y _ h.0 r))
-layer_tied (Statement-F.Invoke x) h =
+layer_tied (Statement-F.Invoke x) h t =
     subst (LayerTied (Statement-F.Invoke x)) (sym (tree.rolls-Invoke x)) (λ env r. ties.invoke_statement (one false env x _ h r))
-layer_tied (Statement-F.Print x at) h =
+layer_tied (Statement-F.Print x at) h t =
     subst (LayerTied (Statement-F.Print x at)) (sym (tree.rolls-Print x at)) (λ env r. ties.print (one true env x _ h r))
-layer_tied (Statement-F.If arms None at) h =
+layer_tied (Statement-F.If arms None at) h t =
     subst (LayerTied (Statement-F.If arms None at)) (sym (tree.rolls-If arms None at)) (λ env r. choice_tied arms None at h.0 h.1 env _ r)
-layer_tied (Statement-F.If arms (Some b) at) h =
+layer_tied (Statement-F.If arms (Some b) at) h t =
     subst (LayerTied (Statement-F.If arms (Some b) at)) (sym (tree.rolls-If arms (Some b) at))
     (λ env r. choice_tied arms (Some b) at h.0 h.1 env _ r)
-layer_tied (Statement-F.Loop b at) h =
+layer_tied (Statement-F.Loop b at) h t =
     subst (LayerTied (Statement-F.Loop b at)) (sym (tree.rolls-Loop b at))
     (λ env r.
     ties.loop
@@ -288,28 +270,28 @@ layer_tied (Statement-F.Loop b at) h =
       reach = (first_ready {env = env} ((block_of b).piece (in_a_loop env.scope)).uses [] [] [] (record { fit = r.fit; reach = r.reach; faultless = refl })).reach;
       faultless = none_left _ _ (none_left _ _ r.faultless);
     })))
-layer_tied (Statement-F.Exit None at) h =
+layer_tied (Statement-F.Exit None at) h t =
     subst (LayerTied (Statement-F.Exit None at)) (sym (tree.rolls-Exit None at)) (λ env r. ties.exit)
-layer_tied (Statement-F.Exit (Some x) at) h =
+layer_tied (Statement-F.Exit (Some x) at) h t =
     subst (LayerTied (Statement-F.Exit (Some x) at)) (sym (tree.rolls-Exit (Some x) at)) (λ env r. ties.exit_when (one true env x _ h r))
-layer_tied (Statement-F.Return at) h = subst (LayerTied (Statement-F.Return at)) (sym (tree.rolls-Return at)) (λ env r. ties.return)
-layer_tied (Statement-F.Assert x at) h =
+layer_tied (Statement-F.Return at) h t = subst (LayerTied (Statement-F.Return at)) (sym (tree.rolls-Return at)) (λ env r. ties.return)
+layer_tied (Statement-F.Assert x at) h t =
     subst (LayerTied (Statement-F.Assert x at)) (sym (tree.rolls-Assert x at)) (λ env r. ties.assert (one true env x _ h r))
-layer_tied (Statement-F.Move x y at) h =
+layer_tied (Statement-F.Move x y at) h t =
     subst (LayerTied (Statement-F.Move x y at)) (sym (tree.rolls-Move x y at))
     (λ env r. ties.move (first_of_two env x y _ h.0 r) (second_of_two env x y _ h.1 r))
-layer_tied (Statement-F.Fix x y at) h =
+layer_tied (Statement-F.Fix x y at) h t =
     subst (LayerTied (Statement-F.Fix x y at)) (sym (tree.rolls-Fix x y at))
     (λ env r. ties.fix (first_of_two env x y _ h.0 r) (second_of_two env x y _ h.1 r))
-layer_tied (Statement-F.Refix x y at) h =
+layer_tied (Statement-F.Refix x y at) h t =
     subst (LayerTied (Statement-F.Refix x y at)) (sym (tree.rolls-Refix x y at))
     (λ env r. ties.refix (first_of_two env x y _ h.0 r) (second_of_two env x y _ h.1 r))
-layer_tied (Statement-F.Unfix x at) h =
+layer_tied (Statement-F.Unfix x at) h t =
     subst (LayerTied (Statement-F.Unfix x at)) (sym (tree.rolls-Unfix x at)) (λ env r. ties.unfix (one true env x _ h r))
-layer_tied (Statement-F.Wait name at) h =
+layer_tied (Statement-F.Wait name at) h t =
     subst (LayerTied (Statement-F.Wait name at)) (sym (tree.rolls-Wait name at))
     (λ env r. ties.wait (condition_is env name.text (test_holds _ _ _ (none_left _ [] r.faultless))))
-layer_tied (Statement-F.Signal name at) h =
+layer_tied (Statement-F.Signal name at) h t =
     subst (LayerTied (Statement-F.Signal name at)) (sym (tree.rolls-Signal name at))
     (λ env r. ties.signal (condition_is env name.text (test_holds _ _ _ (none_left _ [] r.faultless))))
 
@@ -317,12 +299,13 @@ abbrev StepTied : Statement → StatementPart → Type 0
 StepTied x p = (env : Env) → Ready env (p.part.finished env.scope).uses (p.part.finished env.scope).faults →
     TiedStatement env x (p.core env) (p.locals env.scope) (p.made env.scope)
 
-step_tied : (x : StatementLayer) → AllTied x → StepTied (roll-Statement x) (statement_step (statement_mapped x))
+step_tied : (x : StatementLayer) → AllTied x → trees.HasTarget x →
+    StepTied (roll-Statement x) (statement_step (statement_mapped x))
 unfolding statement_step statement_part
-step_tied x h env r = layer_tied x h env r
+step_tied x h t env r = layer_tied x h t env r
 
-pub statement_has : (x : StatementLayer) → AllTied x → StatementTied (roll-Statement x)
-statement_has x h = subst (StepTied (roll-Statement x)) (sym (statement_rolled x)) (step_tied x h)
+pub statement_has : (x : StatementLayer) → AllTied x → trees.HasTarget x → StatementTied (roll-Statement x)
+statement_has x h t = subst (StepTied (roll-Statement x)) (sym (statement_rolled x)) (step_tied x h t)
 
 -- ---- what a statement declares
 

@@ -1,5 +1,5 @@
--- The core of a name, and of what ends in an index, may be assigned to.
-use Rattle.std.proofs.Common.{◌≡◌, ℕ, true, List, [], ◌∷◌, ◌++◌, map, Option, sym, ap, ◌∙◌}
+-- The core of a target is a place, or ends in an index.
+use Rattle.std.proofs.Common.{◌≡◌, ℕ, Bool, true, false, List, [], ◌∷◌, ◌++◌, map, Option, Some, None, sym, ap, ◌∙◌}
 use Rattle.ec_ast.specs.declared.Expression.{Expression}
 use Rattle.ec_ast.specs.declared.Link.{Link}
 use Rattle.ec_ast.specs.declared.Link.TheVariants as tree_link
@@ -14,18 +14,35 @@ use Rattle.ec_check.specs.Places.{Env, place_of, type_or}
 use Rattle.ec_check.specs.Resolving.{arguments_in, chain_core, chain_of, chained, core_of_expression, link_core, links_core, number_of_class}
 use Rattle.ec_check.specs.Tree.{part_of, link_of, parts}
 use Rattle.ec_conform.specs.declared.static_type.StaticType.{StaticType}
+use Rattle.ec_core.specs.declared.Addend.{Addend as CoreAddend}
 use Rattle.ec_core.specs.declared.Expression.{Expression as CoreExpression, out-Expression, out-roll-Expression}
 use Rattle.ec_core.specs.declared.Expression.TheOpen.{Expression-F as Core-F, Link-F as CoreLink-F}
 use Rattle.ec_core.specs.declared.Expression.TheVariants as e
+use Rattle.ec_core.specs.declared.Factor.{Factor as CoreFactor}
 use Rattle.ec_core.specs.declared.Link.{Link as CoreLink, out-Link, out-roll-Link}
-use Rattle.ec_tree_folds.proofs.Layers as layers
 use Rattle.ec_core.specs.declared.Link.TheVariants as l
-use Rattle.ec_core_ties.specs.Ties as ties
-use Rattle.ec_core_ties.specs.Ties.{IsTarget, ends_in_index, is_index, is_target}
+use Rattle.ec_core_ties.proofs.AllTargets.{said}
+use Rattle.ec_core_ties.proofs.TargetForms as target
+use Rattle.ec_core_ties.proofs.TargetForms.{IsTarget, form_of_target}
 use Rattle.ec_rules.specs.Calls.{Receiver, Creation, Own, Typed, class_created, link_type, receiver, receiver_if, type_indexed, type_of_receiver}
 use Rattle.ec_rules.specs.Forms.{Form, Literal, Negated, Constructor, Vector, Created, Itself, NameAlone, Other}
 use Rattle.ec_rules.specs.Parts.{value_in}
 use Rattle.ec_scopes.specs.Scopes.{class_named}
+use Rattle.ec_tree_folds.proofs.Layers as layers
+
+abbrev pub is_index : CoreLink-F CoreExpression CoreLink CoreAddend CoreFactor → Bool
+is_index (CoreLink-F.Element number of at) = true
+is_index _ = false
+
+abbrev pub ends_in_index : Option CoreLink → Bool
+ends_in_index None = false
+ends_in_index (Some k) = is_index (out-Link k)
+
+-- whether a core is a place, or ends in an index
+abbrev pub is_target : Core-F CoreExpression CoreLink CoreAddend CoreFactor → Bool
+is_target (Core-F.Read at) = true
+is_target (Core-F.Chain x ks) = ends_in_index (top_of ks)
+is_target _ = false
 
 element_is : (number : CoreExpression) (of : StaticType) (at : ℕ) → is_index (out-Link (l.Element number of at)) ≡ true
 element_is number of at =
@@ -87,14 +104,18 @@ links_end before number at =
     map_both link_of before (tree_link.Index number at ∷ [])
     ∙ ap (λ x. map link_of before ++ x ∷ []) (index_link number at)
 
-pub target_is : (x : Expression) → IsTarget x → (env : Env) → is_target (out-Expression ((part_of x).core env)) ≡ true
-target_is x (ties.a_name name) env =
+form_is : (x : Expression) → IsTarget x → (env : Env) → is_target (out-Expression ((part_of x).core env)) ≡ true
+form_is x (target.a_name name) env =
     ap (λ y. is_target (out-Expression y))
     (part_core x env ∙ (ap (λ y. core_of_expression y env) (layers.variable_layer parts name) ∙ sym (e.rolls-Read (place_of env name.text))))
     ∙ ap is_target (out-roll-Expression (Core-F.Read (place_of env name.text)))
-target_is x (ties.an_index head before number at) env =
+form_is x (target.an_index head before number at) env =
     ap (λ y. is_target (out-Expression y))
     (part_core x env
     ∙ (ap (λ y. core_of_expression y env) (layers.postfix_layer parts head (before ++ tree_link.Index number at ∷ []))
     ∙ ap (chain_of env (part_of head)) (links_end before number at)))
     ∙ links_are env (part_of head) (map link_of before) (part_of number) at
+
+pub target_is : (x : Expression) → (said.expression x).is_target ≡ true → (env : Env) →
+    is_target (out-Expression ((part_of x).core env)) ≡ true
+target_is x h env = form_is x (form_of_target x h) env

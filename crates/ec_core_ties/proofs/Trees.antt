@@ -1,28 +1,57 @@
--- What holds of each part of a tree, where it holds of a layer whose parts have it: one induction over all kinds of parts.
-use Rattle.std.proofs.Common.{◌≡◌, List, [], ◌∷◌, map, Option, Some, None, sym, subst}
-use Rattle.ec_ast.specs.declared.Expression.{Expression, roll-Expression, map-Expression, ind-Expression}
-use Rattle.ec_ast.specs.declared.Link.{Link, roll-Link, out-Link, out-roll-Link, map-Link}
-use Rattle.ec_ast.specs.declared.Member.{Member, roll-Member, out-Member, out-roll-Member, map-Member}
-use Rattle.ec_ast.specs.declared.Statement.{Statement, roll-Statement, map-Statement}
-use Rattle.ec_ast.specs.declared.Addend.{Addend, roll-Addend, out-Addend, out-roll-Addend, map-Addend}
-use Rattle.ec_ast.specs.declared.Arm.{Arm, roll-Arm, out-Arm, out-roll-Arm, map-Arm}
-use Rattle.ec_ast.specs.declared.Block.{Block, roll-Block, map-Block}
-use Rattle.ec_ast.specs.declared.Body.{Body, roll-Body, out-Body, out-roll-Body, map-Body, ind-Body}
-use Rattle.ec_ast.specs.declared.Factor.{Factor, roll-Factor, out-Factor, out-roll-Factor, map-Factor}
-use Rattle.ec_ast.specs.declared.ObjectConstructor.{ObjectConstructor, roll-ObjectConstructor, map-ObjectConstructor}
+-- What holds of each part of a tree in which each assignment has a target, where it holds of a layer whose parts have
+-- it: one induction over all kinds of parts.
+use Rattle.std.proofs.Common.{◌≡◌, true, List, [], ◌∷◌, ◌++◌, map, Option, Some, None, sym, subst}
+use Rattle.ec_ast.specs.declared.Expression.{Expression, roll-Expression}
+use Rattle.ec_ast.specs.declared.Link.{Link, roll-Link, out-Link, out-roll-Link}
+use Rattle.ec_ast.specs.declared.Member.{Member, roll-Member, out-Member, out-roll-Member}
+use Rattle.ec_ast.specs.declared.Statement.{Statement, roll-Statement}
+use Rattle.ec_ast.specs.declared.Addend.{Addend, roll-Addend, out-Addend, out-roll-Addend}
+use Rattle.ec_ast.specs.declared.Arm.{Arm, roll-Arm, out-Arm, out-roll-Arm}
+use Rattle.ec_ast.specs.declared.Block.{Block, roll-Block}
+use Rattle.ec_ast.specs.declared.Body.{Body, roll-Body, out-Body, out-roll-Body}
+use Rattle.ec_ast.specs.declared.Factor.{Factor, roll-Factor, out-Factor, out-roll-Factor}
+use Rattle.ec_ast.specs.declared.ObjectConstructor.{ObjectConstructor, roll-ObjectConstructor}
 use Rattle.ec_ast.specs.declared.ObjectConstructor.{out-ObjectConstructor, out-roll-ObjectConstructor}
-use Rattle.ec_ast.specs.declared.Operation.{Operation, roll-Operation, out-Operation, out-roll-Operation, map-Operation}
-use Rattle.ec_ast.specs.declared.ProcessSection.{ProcessSection, roll-ProcessSection, map-ProcessSection}
+use Rattle.ec_ast.specs.declared.Operation.{Operation, roll-Operation, out-Operation, out-roll-Operation}
+use Rattle.ec_ast.specs.declared.ProcessSection.{ProcessSection, roll-ProcessSection}
 use Rattle.ec_ast.specs.declared.ProcessSection.{out-ProcessSection, out-roll-ProcessSection}
-use Rattle.ec_ast.specs.declared.Expression.TheOpen.{Expression-F, Link-F, Member-F, Statement-F, Addend-F, Arm-F, Block-F}
-use Rattle.ec_ast.specs.declared.Expression.TheOpen.{Body-F, Factor-F, ObjectConstructor-F, Operation-F, ProcessSection-F}
+use Rattle.ec_ast.specs.declared.Expression.TheOpen.{Expression-F, Link-F, Member-F, Statement-F}
 use Rattle.ec_check.proofs.Every.{Every, Where}
-use Rattle.ec_check.proofs.Rolled.{ExpressionLayer, LinkLayer, MemberLayer, StatementLayer, AddendLayer, ArmLayer, BlockLayer}
-use Rattle.ec_check.proofs.Rolled.{BodyLayer, FactorLayer, ObjectLayer, OperationLayer, ProcessLayer}
+use Rattle.ec_core_ties.proofs.AllTargets.{AreTargets, first_target, later_targets, left_targets, right_targets}
+use Rattle.ec_core_ties.proofs.AllTargets.{said, rolled}
+use Rattle.ec_core_ties.specs.Targets.{Targets, Part, joined, all_within}
+use Rattle.ec_core_ties.specs.Targets.{within_expression, within_link, within_member, within_statement, within_body}
+use Rattle.ec_tree_folds.proofs.Claims.{Claims, Passes, Held, trees, expression_holds, body_holds}
+use Rattle.ec_tree_folds.proofs.Claims.{ExpressionWith, LinkWith, MemberWith, StatementWith, AddendWith, ArmWith}
+use Rattle.ec_tree_folds.proofs.Claims.{BlockWith, BodyWith, FactorWith, ObjectWith, OperationWith, ProcessWith}
+use Rattle.ec_tree_folds.proofs.Claims.{bare_expression, bare_link, bare_member, bare_statement, bare_addend, bare_arm}
+use Rattle.ec_tree_folds.proofs.Claims.{bare_block, bare_body, bare_factor, bare_object, bare_operation, bare_process}
+use Rattle.ec_tree_folds.specs.Kinds.{ExpressionLayer, LinkLayer, MemberLayer, StatementLayer, AddendLayer, ArmLayer}
+use Rattle.ec_tree_folds.specs.Kinds.{BlockLayer, BodyLayer, FactorLayer, ObjectLayer, OperationLayer, ProcessLayer}
+use Rattle.ec_tree_folds.specs.Layers as layers
 
-each_held : {A : Type 0} (P : A → Type 0) (xs : List ((x : A) × P x)) → Every P (map (λ x. x.0) xs)
-each_held P [] = tt
-each_held P (x ∷ xs) = (x.1, each_held P xs)
+-- besides, an assignment has a target
+abbrev pub HasTarget : StatementLayer → Type 0
+HasTarget (Statement-F.Assign x y) = (said.expression x).is_target ≡ true
+HasTarget _ = Unit {0}
+
+-- ---- lists of parts
+
+each_held : {A : Type 0} (t : A → Targets) (P : A → Type 0) (xs : List (Held (λ x. AreTargets (t x) → P x))) →
+    AreTargets (joined (map t (trees xs))) → Every P (trees xs)
+each_held t P [] h = tt
+each_held t P (x ∷ xs) h = (
+  x.1 (left_targets (t x.0) (joined (map t (trees xs))) h),
+  each_held t P xs (right_targets (t x.0) (joined (map t (trees xs))) h),
+)
+
+each_within : {A : Type 0} (f : A → Part) (P : A → Type 0) (xs : List (Held (λ x. AreTargets (f x).within → P x))) →
+    AreTargets (all_within (map f (trees xs))) → Every P (trees xs)
+each_within f P [] h = tt
+each_within f P (x ∷ xs) h = (
+  x.1 (left_targets (f x.0).within (all_within (map f (trees xs))) h),
+  each_within f P xs (right_targets (f x.0).within (all_within (map f (trees xs))) h),
+)
 
 module _ (P : Expression → Type 0) (S : Statement → Type 0) (B : Block → Type 0) where
   -- ---- what is held of each kind of part
@@ -112,405 +141,249 @@ module _ (P : Expression → Type 0) (S : Statement → Type 0) (B : Block → T
   StatementHas (Statement-F.Wait name at) = Unit {0}
   StatementHas (Statement-F.Signal name at) = Unit {0}
 
-  -- ---- parts, each with its proof
+  -- ---- what is claimed of each part: this, where each assignment within it has a target
 
-  abbrev PartHeld : Type 0
-  PartHeld = (x : Expression) × P x
+  abbrev PartClaim : Expression → Type 0
+  PartClaim x = AreTargets (said.expression x).within → P x
 
-  abbrev bare_part : PartHeld → Expression
-  bare_part x = x.0
+  abbrev BlockClaim : Block → Type 0
+  BlockClaim x = AreTargets (said.block x) → B x
 
-  abbrev LinkHeld : Type 0
-  LinkHeld = (x : Link) × TreeLinkHas x
+  abbrev MemberClaim : Member → Type 0
+  MemberClaim x = AreTargets (said.member x) → TreeMemberHas x
 
-  abbrev bare_link : LinkHeld → Link
-  bare_link x = x.0
+  abbrev ProcessClaim : ProcessSection → Type 0
+  ProcessClaim x = AreTargets (said.process x) → TreeProcessHas x
 
-  abbrev MemberHeld : Type 0
-  MemberHeld = (x : Member) × TreeMemberHas x
-
-  abbrev bare_member : MemberHeld → Member
-  bare_member x = x.0
-
-  abbrev StatementHeld : Type 0
-  StatementHeld = (x : Statement) × S x
-
-  abbrev bare_statement : StatementHeld → Statement
-  bare_statement x = x.0
-
-  abbrev AddendHeld : Type 0
-  AddendHeld = (x : Addend) × TreeAddendHas x
-
-  abbrev bare_addend : AddendHeld → Addend
-  bare_addend x = x.0
-
-  abbrev ArmHeld : Type 0
-  ArmHeld = (x : Arm) × TreeArmHas x
-
-  abbrev bare_arm : ArmHeld → Arm
-  bare_arm x = x.0
-
-  abbrev BlockHeld : Type 0
-  BlockHeld = (x : Block) × B x
-
-  abbrev bare_block : BlockHeld → Block
-  bare_block x = x.0
-
-  abbrev BodyHeld : Type 0
-  BodyHeld = (x : Body) × TreeBodyHas x
-
-  abbrev bare_body : BodyHeld → Body
-  bare_body x = x.0
-
-  abbrev FactorHeld : Type 0
-  FactorHeld = (x : Factor) × TreeFactorHas x
-
-  abbrev bare_factor : FactorHeld → Factor
-  bare_factor x = x.0
-
-  abbrev ObjectHeld : Type 0
-  ObjectHeld = (x : ObjectConstructor) × TreeObjectHas x
-
-  abbrev bare_object : ObjectHeld → ObjectConstructor
-  bare_object x = x.0
-
-  abbrev OperationHeld : Type 0
-  OperationHeld = (x : Operation) × TreeOperationHas x
-
-  abbrev bare_operation : OperationHeld → Operation
-  bare_operation x = x.0
-
-  abbrev ProcessHeld : Type 0
-  ProcessHeld = (x : ProcessSection) × TreeProcessHas x
-
-  abbrev bare_process : ProcessHeld → ProcessSection
-  bare_process x = x.0
-
-  -- ---- one layer with such parts in it
-
-  abbrev ExpressionWith : Type 0
-  ExpressionWith =
-      Expression-F PartHeld LinkHeld MemberHeld StatementHeld AddendHeld ArmHeld BlockHeld BodyHeld FactorHeld ObjectHeld
-      OperationHeld ProcessHeld
-
-  abbrev bare_expression_layer : ExpressionWith → ExpressionLayer
-  bare_expression_layer =
-      map-Expression
-      PartHeld LinkHeld MemberHeld StatementHeld AddendHeld ArmHeld BlockHeld BodyHeld FactorHeld ObjectHeld OperationHeld
-      ProcessHeld
-      Expression Link Member Statement Addend Arm Block Body Factor ObjectConstructor Operation ProcessSection
-      bare_part bare_link bare_member bare_statement bare_addend bare_arm bare_block bare_body bare_factor bare_object
-      bare_operation bare_process
-
-  abbrev LinkWith : Type 0
-  LinkWith =
-      Link-F PartHeld LinkHeld MemberHeld StatementHeld AddendHeld ArmHeld BlockHeld BodyHeld FactorHeld ObjectHeld OperationHeld
-      ProcessHeld
-
-  abbrev bare_link_layer : LinkWith → LinkLayer
-  bare_link_layer =
-      map-Link
-      PartHeld LinkHeld MemberHeld StatementHeld AddendHeld ArmHeld BlockHeld BodyHeld FactorHeld ObjectHeld OperationHeld
-      ProcessHeld
-      Expression Link Member Statement Addend Arm Block Body Factor ObjectConstructor Operation ProcessSection
-      bare_part bare_link bare_member bare_statement bare_addend bare_arm bare_block bare_body bare_factor bare_object
-      bare_operation bare_process
-
-  abbrev MemberWith : Type 0
-  MemberWith =
-      Member-F PartHeld LinkHeld MemberHeld StatementHeld AddendHeld ArmHeld BlockHeld BodyHeld FactorHeld ObjectHeld
-      OperationHeld ProcessHeld
-
-  abbrev bare_member_layer : MemberWith → MemberLayer
-  bare_member_layer =
-      map-Member
-      PartHeld LinkHeld MemberHeld StatementHeld AddendHeld ArmHeld BlockHeld BodyHeld FactorHeld ObjectHeld OperationHeld
-      ProcessHeld
-      Expression Link Member Statement Addend Arm Block Body Factor ObjectConstructor Operation ProcessSection
-      bare_part bare_link bare_member bare_statement bare_addend bare_arm bare_block bare_body bare_factor bare_object
-      bare_operation bare_process
-
-  abbrev StatementWith : Type 0
-  StatementWith =
-      Statement-F PartHeld LinkHeld MemberHeld StatementHeld AddendHeld ArmHeld BlockHeld BodyHeld FactorHeld ObjectHeld
-      OperationHeld ProcessHeld
-
-  abbrev bare_statement_layer : StatementWith → StatementLayer
-  bare_statement_layer =
-      map-Statement
-      PartHeld LinkHeld MemberHeld StatementHeld AddendHeld ArmHeld BlockHeld BodyHeld FactorHeld ObjectHeld OperationHeld
-      ProcessHeld
-      Expression Link Member Statement Addend Arm Block Body Factor ObjectConstructor Operation ProcessSection
-      bare_part bare_link bare_member bare_statement bare_addend bare_arm bare_block bare_body bare_factor bare_object
-      bare_operation bare_process
-
-  abbrev AddendWith : Type 0
-  AddendWith =
-      Addend-F PartHeld LinkHeld MemberHeld StatementHeld AddendHeld ArmHeld BlockHeld BodyHeld FactorHeld ObjectHeld
-      OperationHeld ProcessHeld
-
-  abbrev bare_addend_layer : AddendWith → AddendLayer
-  bare_addend_layer =
-      map-Addend
-      PartHeld LinkHeld MemberHeld StatementHeld AddendHeld ArmHeld BlockHeld BodyHeld FactorHeld ObjectHeld OperationHeld
-      ProcessHeld
-      Expression Link Member Statement Addend Arm Block Body Factor ObjectConstructor Operation ProcessSection
-      bare_part bare_link bare_member bare_statement bare_addend bare_arm bare_block bare_body bare_factor bare_object
-      bare_operation bare_process
-
-  abbrev ArmWith : Type 0
-  ArmWith =
-      Arm-F PartHeld LinkHeld MemberHeld StatementHeld AddendHeld ArmHeld BlockHeld BodyHeld FactorHeld ObjectHeld OperationHeld
-      ProcessHeld
-
-  abbrev bare_arm_layer : ArmWith → ArmLayer
-  bare_arm_layer =
-      map-Arm
-      PartHeld LinkHeld MemberHeld StatementHeld AddendHeld ArmHeld BlockHeld BodyHeld FactorHeld ObjectHeld OperationHeld
-      ProcessHeld
-      Expression Link Member Statement Addend Arm Block Body Factor ObjectConstructor Operation ProcessSection
-      bare_part bare_link bare_member bare_statement bare_addend bare_arm bare_block bare_body bare_factor bare_object
-      bare_operation bare_process
-
-  abbrev BlockWith : Type 0
-  BlockWith =
-      Block-F PartHeld LinkHeld MemberHeld StatementHeld AddendHeld ArmHeld BlockHeld BodyHeld FactorHeld ObjectHeld OperationHeld
-      ProcessHeld
-
-  abbrev bare_block_layer : BlockWith → BlockLayer
-  bare_block_layer =
-      map-Block
-      PartHeld LinkHeld MemberHeld StatementHeld AddendHeld ArmHeld BlockHeld BodyHeld FactorHeld ObjectHeld OperationHeld
-      ProcessHeld
-      Expression Link Member Statement Addend Arm Block Body Factor ObjectConstructor Operation ProcessSection
-      bare_part bare_link bare_member bare_statement bare_addend bare_arm bare_block bare_body bare_factor bare_object
-      bare_operation bare_process
-
-  abbrev BodyWith : Type 0
-  BodyWith =
-      Body-F PartHeld LinkHeld MemberHeld StatementHeld AddendHeld ArmHeld BlockHeld BodyHeld FactorHeld ObjectHeld OperationHeld
-      ProcessHeld
-
-  abbrev bare_body_layer : BodyWith → BodyLayer
-  bare_body_layer =
-      map-Body
-      PartHeld LinkHeld MemberHeld StatementHeld AddendHeld ArmHeld BlockHeld BodyHeld FactorHeld ObjectHeld OperationHeld
-      ProcessHeld
-      Expression Link Member Statement Addend Arm Block Body Factor ObjectConstructor Operation ProcessSection
-      bare_part bare_link bare_member bare_statement bare_addend bare_arm bare_block bare_body bare_factor bare_object
-      bare_operation bare_process
-
-  abbrev FactorWith : Type 0
-  FactorWith =
-      Factor-F PartHeld LinkHeld MemberHeld StatementHeld AddendHeld ArmHeld BlockHeld BodyHeld FactorHeld ObjectHeld
-      OperationHeld ProcessHeld
-
-  abbrev bare_factor_layer : FactorWith → FactorLayer
-  bare_factor_layer =
-      map-Factor
-      PartHeld LinkHeld MemberHeld StatementHeld AddendHeld ArmHeld BlockHeld BodyHeld FactorHeld ObjectHeld OperationHeld
-      ProcessHeld
-      Expression Link Member Statement Addend Arm Block Body Factor ObjectConstructor Operation ProcessSection
-      bare_part bare_link bare_member bare_statement bare_addend bare_arm bare_block bare_body bare_factor bare_object
-      bare_operation bare_process
-
-  abbrev ObjectWith : Type 0
-  ObjectWith =
-      ObjectConstructor-F PartHeld LinkHeld MemberHeld StatementHeld AddendHeld ArmHeld BlockHeld BodyHeld FactorHeld ObjectHeld
-      OperationHeld ProcessHeld
-
-  abbrev bare_object_layer : ObjectWith → ObjectLayer
-  bare_object_layer =
-      map-ObjectConstructor
-      PartHeld LinkHeld MemberHeld StatementHeld AddendHeld ArmHeld BlockHeld BodyHeld FactorHeld ObjectHeld OperationHeld
-      ProcessHeld
-      Expression Link Member Statement Addend Arm Block Body Factor ObjectConstructor Operation ProcessSection
-      bare_part bare_link bare_member bare_statement bare_addend bare_arm bare_block bare_body bare_factor bare_object
-      bare_operation bare_process
-
-  abbrev OperationWith : Type 0
-  OperationWith =
-      Operation-F PartHeld LinkHeld MemberHeld StatementHeld AddendHeld ArmHeld BlockHeld BodyHeld FactorHeld ObjectHeld
-      OperationHeld ProcessHeld
-
-  abbrev bare_operation_layer : OperationWith → OperationLayer
-  bare_operation_layer =
-      map-Operation
-      PartHeld LinkHeld MemberHeld StatementHeld AddendHeld ArmHeld BlockHeld BodyHeld FactorHeld ObjectHeld OperationHeld
-      ProcessHeld
-      Expression Link Member Statement Addend Arm Block Body Factor ObjectConstructor Operation ProcessSection
-      bare_part bare_link bare_member bare_statement bare_addend bare_arm bare_block bare_body bare_factor bare_object
-      bare_operation bare_process
-
-  abbrev ProcessWith : Type 0
-  ProcessWith =
-      ProcessSection-F PartHeld LinkHeld MemberHeld StatementHeld AddendHeld ArmHeld BlockHeld BodyHeld FactorHeld ObjectHeld
-      OperationHeld ProcessHeld
-
-  abbrev bare_process_layer : ProcessWith → ProcessLayer
-  bare_process_layer =
-      map-ProcessSection
-      PartHeld LinkHeld MemberHeld StatementHeld AddendHeld ArmHeld BlockHeld BodyHeld FactorHeld ObjectHeld OperationHeld
-      ProcessHeld
-      Expression Link Member Statement Addend Arm Block Body Factor ObjectConstructor Operation ProcessSection
-      bare_part bare_link bare_member bare_statement bare_addend bare_arm bare_block bare_body bare_factor bare_object
-      bare_operation bare_process
+  abbrev claims : Claims
+  claims = record {
+    expression = PartClaim;
+    link = λ x. AreTargets (said.link x).within → TreeLinkHas x;
+    member = MemberClaim;
+    statement = λ x. AreTargets (said.statement x) → S x;
+    addend = λ x. AreTargets (said.addend x) → TreeAddendHas x;
+    arm = λ x. AreTargets (said.arm x) → TreeArmHas x;
+    block = BlockClaim;
+    body = λ x. AreTargets (said.body x) → TreeBodyHas x;
+    factor = λ x. AreTargets (said.factor x) → TreeFactorHas x;
+    object = λ x. AreTargets (said.object x) → TreeObjectHas x;
+    operation = λ x. AreTargets (said.operation x) → TreeOperationHas x;
+    process = ProcessClaim;
+  }
 
   -- ---- the induction, by what a layer has
 
   module _
       (expression_has : (x : ExpressionLayer) → ExpressionHas x → P (roll-Expression x))
-      (statement_has : (x : StatementLayer) → StatementHas x → S (roll-Statement x))
+      (statement_has : (x : StatementLayer) → StatementHas x → HasTarget x → S (roll-Statement x))
       (block_has : (b : BlockLayer) → Every S b.statements → B (roll-Block b)) where
-    parts_are : (y : ExpressionWith) → ExpressionHas (bare_expression_layer y)
-    parts_are (Expression-F.Number n) = tt
-    parts_are (Expression-F.Literal t) = tt
-    parts_are (Expression-F.Truth b at) = tt
-    parts_are (Expression-F.Nil at) = tt
-    parts_are (Expression-F.Itself at) = tt
-    parts_are (Expression-F.Expression::Variable name) = tt
-    parts_are (Expression-F.Parenthesised x at) = x.1
-    parts_are (Expression-F.Constructor o) = o.1
-    parts_are (Expression-F.NodeAt x at word) = x.1
-    parts_are (Expression-F.NodeCount at) = tt
-    parts_are (Expression-F.NewVector of x at word) = x.1
-    parts_are (Expression-F.Postfix x links) = (x.1, each_held TreeLinkHas links)
-    parts_are (Expression-F.Negative x at) = x.1
-    parts_are (Expression-F.View x of at) = x.1
-    parts_are (Expression-F.IsFixed x at) = x.1
-    parts_are (Expression-F.Term x more) = (x.1, each_held TreeFactorHas more)
-    parts_are (Expression-F.Sum x more) = (x.1, each_held TreeAddendHas more)
-    parts_are (Expression-F.Compare x op at y) = (x.1, y.1)
-    parts_are (Expression-F.Not x at) = x.1
-    parts_are (Expression-F.And x more) = (x.1, each_held P more)
-    parts_are (Expression-F.Or x more) = (x.1, each_held P more)
+    -- of one part and of several behind it
+    one_and : {A : Type 0} (t : A → Targets) (Q : A → Type 0) (x : Held PartClaim)
+        (ys : List (Held (λ y. AreTargets (t y) → Q y))) →
+        AreTargets ((said.expression x.0).within ++ joined (map t (trees ys))) → P x.0 × Every Q (trees ys)
+    one_and t Q x ys h = (
+      x.1 (left_targets (said.expression x.0).within (joined (map t (trees ys))) h),
+      each_held t Q ys (right_targets (said.expression x.0).within (joined (map t (trees ys))) h),
+    )
 
-    part_at : (y : ExpressionWith) → P (roll-Expression (bare_expression_layer y))
-    part_at y = expression_has (bare_expression_layer y) (parts_are y)
+    one_within : {A : Type 0} (f : A → Part) (Q : A → Type 0) (x : Held PartClaim)
+        (ys : List (Held (λ y. AreTargets (f y).within → Q y))) →
+        AreTargets ((said.expression x.0).within ++ all_within (map f (trees ys))) → P x.0 × Every Q (trees ys)
+    one_within f Q x ys h = (
+      x.1 (left_targets (said.expression x.0).within (all_within (map f (trees ys))) h),
+      each_within f Q ys (right_targets (said.expression x.0).within (all_within (map f (trees ys))) h),
+    )
 
-    statement_parts_are : (y : StatementWith) → StatementHas (bare_statement_layer y)
-    statement_parts_are (Statement-F.LocalVariable name of None) = tt
-    statement_parts_are (Statement-F.LocalVariable name of (Some x)) = x.1
-    statement_parts_are (Statement-F.LocalConstant name of x) = x.1
-    statement_parts_are (Statement-F.Assign x y) = (x.1, y.1)
-    statement_parts_are (Statement-F.Invoke x) = x.1
-    statement_parts_are (Statement-F.Print x at) = x.1
-    statement_parts_are (Statement-F.If arms None at) = (each_held TreeArmHas arms, tt)
-    statement_parts_are (Statement-F.If arms (Some b) at) = (each_held TreeArmHas arms, b.1)
-    statement_parts_are (Statement-F.Loop b at) = b.1
-    statement_parts_are (Statement-F.Exit None at) = tt
-    statement_parts_are (Statement-F.Exit (Some x) at) = x.1
-    statement_parts_are (Statement-F.Return at) = tt
-    statement_parts_are (Statement-F.Assert x at) = x.1
-    statement_parts_are (Statement-F.Move x y at) = (x.1, y.1)
-    statement_parts_are (Statement-F.Fix x y at) = (x.1, y.1)
-    statement_parts_are (Statement-F.Refix x y at) = (x.1, y.1)
-    statement_parts_are (Statement-F.Unfix x at) = x.1
-    statement_parts_are (Statement-F.Wait name at) = tt
-    statement_parts_are (Statement-F.Signal name at) = tt
+    two : (x y : Held PartClaim) → AreTargets ((said.expression x.0).within ++ (said.expression y.0).within) →
+        P x.0 × P y.0
+    two x y h = (
+      x.1 (left_targets (said.expression x.0).within (said.expression y.0).within h),
+      y.1 (right_targets (said.expression x.0).within (said.expression y.0).within h),
+    )
 
-    statement_at : (y : StatementWith) → S (roll-Statement (bare_statement_layer y))
-    statement_at y = statement_has (bare_statement_layer y) (statement_parts_are y)
+    parts_are : (y : ExpressionWith claims) →
+        AreTargets (within_expression (layers.expression_mapped said (bare_expression claims y))) →
+        ExpressionHas (bare_expression claims y)
+    parts_are (Expression-F.Number n) h = tt
+    parts_are (Expression-F.Literal t) h = tt
+    parts_are (Expression-F.Truth b at) h = tt
+    parts_are (Expression-F.Nil at) h = tt
+    parts_are (Expression-F.Itself at) h = tt
+    parts_are (Expression-F.Expression::Variable name) h = tt
+    parts_are (Expression-F.Parenthesised x at) h = x.1 h
+    parts_are (Expression-F.Constructor o) h = o.1 h
+    parts_are (Expression-F.NodeAt x at word) h = x.1 h
+    parts_are (Expression-F.NodeCount at) h = tt
+    parts_are (Expression-F.NewVector of x at word) h = x.1 h
+    parts_are (Expression-F.Postfix x links) h = one_within said.link TreeLinkHas x links h
+    parts_are (Expression-F.Negative x at) h = x.1 h
+    parts_are (Expression-F.View x of at) h = x.1 h
+    parts_are (Expression-F.IsFixed x at) h = x.1 h
+    parts_are (Expression-F.Term x more) h = one_and said.factor TreeFactorHas x more h
+    parts_are (Expression-F.Sum x more) h = one_and said.addend TreeAddendHas x more h
+    parts_are (Expression-F.Compare x op at y) h = two x y h
+    parts_are (Expression-F.Not x at) h = x.1 h
+    parts_are (Expression-F.And x more) h = one_within said.expression P x more h
+    parts_are (Expression-F.Or x more) h = one_within said.expression P x more h
 
-    block_at : (y : BlockWith) → B (roll-Block (bare_block_layer y))
-    block_at y = block_has (bare_block_layer y) (each_held S y.statements)
+    part_at : (y : ExpressionWith claims) → claims.expression (roll-Expression (bare_expression claims y))
+    part_at y h =
+        expression_has (bare_expression claims y)
+        (parts_are y (subst (λ (p : Part). AreTargets p.within) (rolled.expression (bare_expression claims y)) h))
 
-    link_is : (y : LinkWith) → LinkLayerHas (bare_link_layer y)
-    link_is (Link-F.Call name xs) = each_held P xs
-    link_is (Link-F.Index x at) = x.1
+    abbrev StatementIs : StatementWith claims → Type 0
+    StatementIs y = AreTargets (within_statement (layers.statement_mapped said (bare_statement claims y)))
 
-    link_at : (y : LinkWith) → TreeLinkHas (roll-Link (bare_link_layer y))
-    link_at y = subst LinkLayerHas (sym (out-roll-Link (bare_link_layer y))) (link_is y)
+    statement_parts_are : (y : StatementWith claims) → StatementIs y → StatementHas (bare_statement claims y)
+    statement_parts_are (Statement-F.LocalVariable name of None) h = tt
+    statement_parts_are (Statement-F.LocalVariable name of (Some x)) h = x.1 h
+    statement_parts_are (Statement-F.LocalConstant name of x) h = x.1 h
+    statement_parts_are (Statement-F.Assign x y) h = two x y (later_targets h)
+    statement_parts_are (Statement-F.Invoke x) h = x.1 h
+    statement_parts_are (Statement-F.Print x at) h = x.1 h
+    statement_parts_are (Statement-F.If arms None at) h =
+        (each_held said.arm TreeArmHas arms (left_targets (joined (map said.arm (trees arms))) [] h), tt)
+    statement_parts_are (Statement-F.If arms (Some b) at) h = (
+      each_held said.arm TreeArmHas arms (left_targets (joined (map said.arm (trees arms))) (said.block b.0) h),
+      b.1 (right_targets (joined (map said.arm (trees arms))) (said.block b.0) h),
+    )
+    statement_parts_are (Statement-F.Loop b at) h = b.1 h
+    statement_parts_are (Statement-F.Exit None at) h = tt
+    statement_parts_are (Statement-F.Exit (Some x) at) h = x.1 h
+    statement_parts_are (Statement-F.Return at) h = tt
+    statement_parts_are (Statement-F.Assert x at) h = x.1 h
+    statement_parts_are (Statement-F.Move x y at) h = two x y h
+    statement_parts_are (Statement-F.Fix x y at) h = two x y h
+    statement_parts_are (Statement-F.Refix x y at) h = two x y h
+    statement_parts_are (Statement-F.Unfix x at) h = x.1 h
+    statement_parts_are (Statement-F.Wait name at) h = tt
+    statement_parts_are (Statement-F.Signal name at) h = tt
 
-    arm_at : (y : ArmWith) → TreeArmHas (roll-Arm (bare_arm_layer y))
-    arm_at y = subst ArmLayerHas (sym (out-roll-Arm (bare_arm_layer y))) (y.condition.1, y.block.1)
+    target_at : (y : StatementWith claims) → StatementIs y → HasTarget (bare_statement claims y)
+    target_at (Statement-F.Assign x y) h = first_target h
+    target_at _ h = tt
 
-    factor_at : (y : FactorWith) → TreeFactorHas (roll-Factor (bare_factor_layer y))
-    factor_at y = subst (λ (z : FactorLayer). P z.value) (sym (out-roll-Factor (bare_factor_layer y))) y.value.1
+    statement_at : (y : StatementWith claims) → claims.statement (roll-Statement (bare_statement claims y))
+    statement_at y h =
+        let inner : StatementIs y = subst AreTargets (rolled.statement (bare_statement claims y)) h in
+        statement_has (bare_statement claims y) (statement_parts_are y inner) (target_at y inner)
 
-    addend_at : (y : AddendWith) → TreeAddendHas (roll-Addend (bare_addend_layer y))
-    addend_at y = subst (λ (z : AddendLayer). P z.value) (sym (out-roll-Addend (bare_addend_layer y))) y.value.1
+    block_at : (y : BlockWith claims) → claims.block (roll-Block (bare_block claims y))
+    block_at y h =
+        block_has (bare_block claims y)
+        (each_held said.statement S y.statements (subst AreTargets (rolled.block (bare_block claims y)) h))
 
-    member_is : (y : MemberWith) → MemberLayerHas (bare_member_layer y)
-    member_is (Member-F.Member::Variable is_attached name of None) = tt
-    member_is (Member-F.Member::Variable is_attached name of (Some x)) = x.1
-    member_is (Member-F.Constant is_attached name of x) = x.1
-    member_is (Member-F.Condition name) = tt
-    member_is (Member-F.Operation o) = o.1
+    link_parts_are : (y : LinkWith claims) → AreTargets (within_link (layers.link_mapped said (bare_link claims y))) →
+        LinkLayerHas (bare_link claims y)
+    link_parts_are (Link-F.Call name xs) h = each_within said.expression P xs h
+    link_parts_are (Link-F.Index x at) h = x.1 h
 
-    member_at : (y : MemberWith) → TreeMemberHas (roll-Member (bare_member_layer y))
-    member_at y = subst MemberLayerHas (sym (out-roll-Member (bare_member_layer y))) (member_is y)
+    link_at : (y : LinkWith claims) → claims.link (roll-Link (bare_link claims y))
+    link_at y h =
+        subst LinkLayerHas (sym (out-roll-Link (bare_link claims y)))
+        (link_parts_are y (subst (λ (p : Part). AreTargets p.within) (rolled.link (bare_link claims y)) h))
 
-    operation_at : (y : OperationWith) → TreeOperationHas (roll-Operation (bare_operation_layer y))
-    operation_at y = subst (λ (z : OperationLayer). B z.block) (sym (out-roll-Operation (bare_operation_layer y))) y.block.1
+    arm_at : (y : ArmWith claims) → claims.arm (roll-Arm (bare_arm claims y))
+    arm_at y h =
+        let inner : AreTargets ((said.expression y.condition.0).within ++ said.block y.block.0) =
+        subst AreTargets (rolled.arm (bare_arm claims y)) h in
+        subst ArmLayerHas (sym (out-roll-Arm (bare_arm claims y))) (
+          y.condition.1 (left_targets (said.expression y.condition.0).within (said.block y.block.0) inner),
+          y.block.1 (right_targets (said.expression y.condition.0).within (said.block y.block.0) inner),
+        )
 
-    process_at : (y : ProcessWith) → TreeProcessHas (roll-ProcessSection (bare_process_layer y))
-    process_at y = subst (λ (z : ProcessLayer). B z.block) (sym (out-roll-ProcessSection (bare_process_layer y))) y.block.1
+    factor_at : (y : FactorWith claims) → claims.factor (roll-Factor (bare_factor claims y))
+    factor_at y h =
+        subst (λ (z : FactorLayer). P z.value) (sym (out-roll-Factor (bare_factor claims y)))
+        (y.value.1 (subst AreTargets (rolled.factor (bare_factor claims y)) h))
 
-    abbrev body_layer : List MemberHeld → Option BlockHeld → Option ProcessHeld → BodyWith
+    addend_at : (y : AddendWith claims) → claims.addend (roll-Addend (bare_addend claims y))
+    addend_at y h =
+        subst (λ (z : AddendLayer). P z.value) (sym (out-roll-Addend (bare_addend claims y)))
+        (y.value.1 (subst AreTargets (rolled.addend (bare_addend claims y)) h))
+
+    member_parts_are : (y : MemberWith claims) →
+        AreTargets (within_member (layers.member_mapped said (bare_member claims y))) →
+        MemberLayerHas (bare_member claims y)
+    member_parts_are (Member-F.Member::Variable is_attached name of None) h = tt
+    member_parts_are (Member-F.Member::Variable is_attached name of (Some x)) h = x.1 h
+    member_parts_are (Member-F.Constant is_attached name of x) h = x.1 h
+    member_parts_are (Member-F.Condition name) h = tt
+    member_parts_are (Member-F.Operation o) h = o.1 h
+
+    member_at : (y : MemberWith claims) → claims.member (roll-Member (bare_member claims y))
+    member_at y h =
+        subst MemberLayerHas (sym (out-roll-Member (bare_member claims y)))
+        (member_parts_are y (subst AreTargets (rolled.member (bare_member claims y)) h))
+
+    operation_at : (y : OperationWith claims) → claims.operation (roll-Operation (bare_operation claims y))
+    operation_at y h =
+        subst (λ (z : OperationLayer). B z.block) (sym (out-roll-Operation (bare_operation claims y)))
+        (y.block.1 (subst AreTargets (rolled.operation (bare_operation claims y)) h))
+
+    process_at : (y : ProcessWith claims) → claims.process (roll-ProcessSection (bare_process claims y))
+    process_at y h =
+        subst (λ (z : ProcessLayer). B z.block) (sym (out-roll-ProcessSection (bare_process claims y)))
+        (y.block.1 (subst AreTargets (rolled.process (bare_process claims y)) h))
+
+    abbrev body_layer : List (Held MemberClaim) → Option (Held BlockClaim) → Option (Held ProcessClaim) →
+        BodyWith claims
     body_layer ms i p = record { members = ms; initially = i; process = p }
 
-    body_is : (ms : List MemberHeld) (i : Option BlockHeld) (p : Option ProcessHeld) →
-        BodyLayerHas (bare_body_layer (body_layer ms i p))
-    body_is ms None None = (each_held TreeMemberHas ms, tt, tt)
-    body_is ms None (Some p) = (each_held TreeMemberHas ms, tt, p.1)
-    body_is ms (Some i) None = (each_held TreeMemberHas ms, i.1, tt)
-    body_is ms (Some i) (Some p) = (each_held TreeMemberHas ms, i.1, p.1)
+    abbrev in_members : List (Held MemberClaim) → Targets
+    in_members ms = joined (map said.member (trees ms))
 
-    body_at : (y : BodyWith) → TreeBodyHas (roll-Body (bare_body_layer y))
-    body_at y = subst BodyLayerHas (sym (out-roll-Body (bare_body_layer y))) (body_is y.members y.initially y.process)
+    members_have : (ms : List (Held MemberClaim)) (more : Targets) → AreTargets (in_members ms ++ more) →
+        Every TreeMemberHas (trees ms)
+    members_have ms more h = each_held said.member TreeMemberHas ms (left_targets (in_members ms) more h)
 
-    object_at : (y : ObjectWith) → TreeObjectHas (roll-ObjectConstructor (bare_object_layer y))
-    object_at y = subst (λ (z : ObjectLayer). TreeBodyHas z.body) (sym (out-roll-ObjectConstructor (bare_object_layer y))) y.body.1
+    body_parts_are : (ms : List (Held MemberClaim)) (i : Option (Held BlockClaim)) (p : Option (Held ProcessClaim)) →
+        AreTargets (within_body (layers.body_mapped said (bare_body claims (body_layer ms i p)))) →
+        BodyLayerHas (bare_body claims (body_layer ms i p))
+    body_parts_are ms None None h = (members_have ms [] h, tt, tt)
+    body_parts_are ms None (Some p) h =
+        (members_have ms (said.process p.0) h, tt, p.1 (right_targets (in_members ms) (said.process p.0) h))
+    body_parts_are ms (Some i) None h = (
+      members_have ms (said.block i.0 ++ []) h,
+      i.1 (left_targets (said.block i.0) [] (right_targets (in_members ms) (said.block i.0 ++ []) h)),
+      tt,
+    )
+    body_parts_are ms (Some i) (Some p) h =
+        let inner : AreTargets (said.block i.0 ++ said.process p.0) =
+        right_targets (in_members ms) (said.block i.0 ++ said.process p.0) h in (
+          members_have ms (said.block i.0 ++ said.process p.0) h,
+          i.1 (left_targets (said.block i.0) (said.process p.0) inner),
+          p.1 (right_targets (said.block i.0) (said.process p.0) inner),
+        )
 
-    part_from : (x : ExpressionLayer) (y : ExpressionWith) → bare_expression_layer y ≡ x → P (roll-Expression x)
-    part_from x y is = subst (λ z. P (roll-Expression z)) is (part_at y)
+    body_at : (y : BodyWith claims) → claims.body (roll-Body (bare_body claims y))
+    body_at y h =
+        subst BodyLayerHas (sym (out-roll-Body (bare_body claims y)))
+        (body_parts_are y.members y.initially y.process (subst AreTargets (rolled.body (bare_body claims y)) h))
 
-    link_from : (x : LinkLayer) (y : LinkWith) → bare_link_layer y ≡ x → TreeLinkHas (roll-Link x)
-    link_from x y is = subst (λ z. TreeLinkHas (roll-Link z)) is (link_at y)
+    object_at : (y : ObjectWith claims) → claims.object (roll-ObjectConstructor (bare_object claims y))
+    object_at y h =
+        subst (λ (z : ObjectLayer). TreeBodyHas z.body) (sym (out-roll-ObjectConstructor (bare_object claims y)))
+        (y.body.1 (subst AreTargets (rolled.object (bare_object claims y)) h))
 
-    member_from : (x : MemberLayer) (y : MemberWith) → bare_member_layer y ≡ x → TreeMemberHas (roll-Member x)
-    member_from x y is = subst (λ z. TreeMemberHas (roll-Member z)) is (member_at y)
+    passes : Passes claims
+    passes = record {
+      expression = part_at;
+      link = link_at;
+      member = member_at;
+      statement = statement_at;
+      addend = addend_at;
+      arm = arm_at;
+      block = block_at;
+      body = body_at;
+      factor = factor_at;
+      object = object_at;
+      operation = operation_at;
+      process = process_at;
+    }
 
-    statement_from : (x : StatementLayer) (y : StatementWith) → bare_statement_layer y ≡ x → S (roll-Statement x)
-    statement_from x y is = subst (λ z. S (roll-Statement z)) is (statement_at y)
+    pub part_has : (x : Expression) → AreTargets (said.expression x).within → P x
+    part_has = expression_holds passes
 
-    addend_from : (x : AddendLayer) (y : AddendWith) → bare_addend_layer y ≡ x → TreeAddendHas (roll-Addend x)
-    addend_from x y is = subst (λ z. TreeAddendHas (roll-Addend z)) is (addend_at y)
-
-    arm_from : (x : ArmLayer) (y : ArmWith) → bare_arm_layer y ≡ x → TreeArmHas (roll-Arm x)
-    arm_from x y is = subst (λ z. TreeArmHas (roll-Arm z)) is (arm_at y)
-
-    block_from : (x : BlockLayer) (y : BlockWith) → bare_block_layer y ≡ x → B (roll-Block x)
-    block_from x y is = subst (λ z. B (roll-Block z)) is (block_at y)
-
-    body_from : (x : BodyLayer) (y : BodyWith) → bare_body_layer y ≡ x → TreeBodyHas (roll-Body x)
-    body_from x y is = subst (λ z. TreeBodyHas (roll-Body z)) is (body_at y)
-
-    factor_from : (x : FactorLayer) (y : FactorWith) → bare_factor_layer y ≡ x → TreeFactorHas (roll-Factor x)
-    factor_from x y is = subst (λ z. TreeFactorHas (roll-Factor z)) is (factor_at y)
-
-    object_from : (x : ObjectLayer) (y : ObjectWith) → bare_object_layer y ≡ x → TreeObjectHas (roll-ObjectConstructor x)
-    object_from x y is = subst (λ z. TreeObjectHas (roll-ObjectConstructor z)) is (object_at y)
-
-    operation_from : (x : OperationLayer) (y : OperationWith) → bare_operation_layer y ≡ x → TreeOperationHas (roll-Operation x)
-    operation_from x y is = subst (λ z. TreeOperationHas (roll-Operation z)) is (operation_at y)
-
-    process_from : (x : ProcessLayer) (y : ProcessWith) → bare_process_layer y ≡ x → TreeProcessHas (roll-ProcessSection x)
-    process_from x y is = subst (λ z. TreeProcessHas (roll-ProcessSection z)) is (process_at y)
-
-    pub part_has : (x : Expression) → P x
-    part_has =
-        ind-Expression
-        P TreeLinkHas TreeMemberHas S TreeAddendHas TreeArmHas B TreeBodyHas TreeFactorHas TreeObjectHas TreeOperationHas
-        TreeProcessHas
-        part_from link_from member_from statement_from addend_from arm_from block_from body_from factor_from object_from
-        operation_from process_from
-
-    pub body_has : (x : Body) → TreeBodyHas x
-    body_has =
-        ind-Body
-        P TreeLinkHas TreeMemberHas S TreeAddendHas TreeArmHas B TreeBodyHas TreeFactorHas TreeObjectHas TreeOperationHas
-        TreeProcessHas
-        part_from link_from member_from statement_from addend_from arm_from block_from body_from factor_from object_from
-        operation_from process_from
+    pub body_has : (x : Body) → AreTargets (said.body x) → TreeBodyHas x
+    body_has = body_holds passes

@@ -45,13 +45,12 @@ use Rattle.ec_core.specs.declared.Builtin.TheVariants as builtin
 use Rattle.ec_core.specs.declared.Class.{Class as CoreClass}
 use Rattle.ec_core.specs.declared.Compared.{Compared}
 use Rattle.ec_core.specs.declared.Constant.{Constant as CoreConstant}
-use Rattle.ec_core.specs.declared.Expression.{Expression as CoreExpression, out-Expression as layer_of}
-use Rattle.ec_core.specs.declared.Expression.TheOpen.{Expression-F as Core-F, Link-F as CoreLink-F}
+use Rattle.ec_core.specs.declared.Expression.{Expression as CoreExpression}
 use Rattle.ec_core.specs.declared.Expression.TheVariants as e
 use Rattle.ec_core.specs.declared.Factor.{Factor as CoreFactor, roll-Factor as core_factor}
 use Rattle.ec_core.specs.declared.Field.{Field}
 use Rattle.ec_core.specs.declared.Kind.TheVariants as kind
-use Rattle.ec_core.specs.declared.Link.{Link as CoreLink, out-Link as link_layer}
+use Rattle.ec_core.specs.declared.Link.{Link as CoreLink}
 use Rattle.ec_core.specs.declared.Link.TheVariants as l
 use Rattle.ec_core.specs.declared.Operation.{Operation as CoreOperation}
 use Rattle.ec_core.specs.declared.Place.{Place}
@@ -156,28 +155,6 @@ behind_heading env parameters result =
 
 abbrev pub just : CoreOperation → Made
 just o = record { classes = []; operations = o ∷ [] }
-
--- ---- assignments
-
-abbrev pub is_index : CoreLink-F CoreExpression CoreLink CoreAddend CoreFactor → Bool
-is_index (CoreLink-F.Element number of at) = true
-is_index _ = false
-
-abbrev pub ends_in_index : Option CoreLink → Bool
-ends_in_index None = false
-ends_in_index (Some k) = is_index (link_layer k)
-
--- whether an expression is a place, or ends in an index
-abbrev pub is_target : Core-F CoreExpression CoreLink CoreAddend CoreFactor → Bool
-is_target (Core-F.Read at) = true
-is_target (Core-F.Chain x ks) = ends_in_index (top_of ks)
-is_target _ = false
-
--- In a text a name stands before a `<-`, or what ends in an index.
-pub data IsTarget : Expression → Type 0 where
-  a_name : (name : Name) → IsTarget (tree.Variable name)
-  an_index : (x : Expression) (before : List Link) (number : Expression) (at : Span) →
-      IsTarget (tree.Postfix x (before ++ tree_link.Index number at ∷ []))
 
 -- ---- the relation
 
@@ -289,10 +266,6 @@ mutual
         {at : ℕ} {m n : Made} →
         TiedExpression env x (e.Chain y ks) m → top_of ks ≡ Some (l.Element number of at) → TiedExpression env z w n →
         TiedStatement env (tree_statement.Assign x z) (s.SetElement (with_links y (below_of ks)) number w at) [] (both_made m n)
-    -- No text has such an assignment.
-    no_target : {env : Env} {x z : Expression} {y w : CoreExpression} {m n : Made} →
-        (IsTarget x → ⊥) → TiedExpression env x y m → is_target (layer_of y) ≡ false → TiedExpression env z w n →
-        TiedStatement env (tree_statement.Assign x z) (s.Drop w) [] (both_made m n)
     invoke_statement : {env : Env} {x : Expression} {y : CoreExpression} {m : Made} → TiedExpression env x y m →
         TiedStatement env (tree_statement.Invoke x) (s.Drop y) [] m
     print : {env : Env} {x : Expression} {y : CoreExpression} {m : Made} {at : Span} → TiedExpression env x y m →

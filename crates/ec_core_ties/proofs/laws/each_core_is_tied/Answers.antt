@@ -3,4 +3,4 @@ use Rattle.ec_core_ties.proofs.Programs.{program_tied}
 use Rattle.ec_core_ties.proofs.laws.each_core_is_tied.Goals as goal
 
 pub returns : goal.returns
-returns start table program is none = program_tied table program none
+returns start table program is none targets = program_tied table program none targets
