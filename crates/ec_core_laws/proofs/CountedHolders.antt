@@ -1,7 +1,7 @@
 -- How much an object constructor or a class makes, by what it declares.
 use Rattle.std.proofs.Common.{◌≡◌, List, [], ◌++◌, map, option_map, sym, subst}
 use Rattle.ec_check.proofs.Every.{none_left, none_right}
-use Rattle.ec_check.proofs.NumberedParts.{none_both}
+use Rattle.ec_check.proofs.NumberedHolders.{faults_of_body, no_faults_in_body}
 use Rattle.ec_check.specs.Parts.{Holder, both_made, holder_judged, member_judged, process_judged}
 use Rattle.ec_check.specs.Resolving.{class_core, env_of_body, holder_made, initial_operation, initially_made, members_made, number_of_holder}
 use Rattle.ec_check.specs.Resolving.{process_made}
@@ -22,26 +22,6 @@ use Rattle.ec_rules.specs.declared.StaticFault.{StaticFault}
 use Rattle.ec_scopes.specs.declared.scope.Scope.{Scope}
 
 -- ---- its body
-
-abbrev faults_of_members : Scope → Holder → List StaticFault
-faults_of_members scope h =
-    (members_finished (scope_of scope (holder_judged h)) h.is_monitored (map member_judged h.body.members)).faults
-
-abbrev faults_of_first : Scope → Holder → List StaticFault
-faults_of_first scope h = (finished_if (scope_of scope (holder_judged h)) (option_map (λ p. p.piece) h.body.initially)).faults
-
-abbrev faults_of_process : Scope → Holder → List StaticFault
-faults_of_process scope h = (process_finished (scope_of scope (holder_judged h)) (option_map process_judged h.body.process)).faults
-
-abbrev faults_of_body : Scope → Holder → List StaticFault
-faults_of_body scope h = faults_of_members scope h ++ (faults_of_first scope h ++ faults_of_process scope h)
-
-no_faults_in_body : (scope : Scope) (h : Holder) → faults_in_holder scope (holder_judged h) ≡ [] → faults_of_body scope h ≡ []
-no_faults_in_body scope h e =
-    none_both (faults_of_members scope h) (faults_of_first scope h ++ faults_of_process scope h)
-    (none_left _ _ (none_left _ _ (none_left _ _ (none_left _ _ e))))
-    (none_both (faults_of_first scope h) (faults_of_process scope h)
-    (none_right _ _ (none_left _ _ (none_left _ _ (none_left _ _ e)))) (none_right _ _ (none_left _ _ e)))
 
 -- Where it has no fault, neither its type nor its operation 0 is one too many.
 type_fits : (scope : Scope) (h : judged.Holder) → faults_in_holder scope h ≡ [] → many_types scope.table h.name.at ≡ []

@@ -2,8 +2,9 @@
 use Rattle.std.proofs.Common.{◌≡◌, ℕ, ◌&&◌, Bool, true, List, [], ◌∷◌, ◌++◌, map, Option, Some, None, option_map, is_some, refl, sym, ap, ◌∙◌}
 use Rattle.std.proofs.Common.{append_assoc, subst}
 use Rattle.ec_ast.specs.declared.Name.{Name}
-use Rattle.ec_check.proofs.DeclaringParts.{EveryPair}
+use Rattle.ec_check.proofs.DeclaringParts.{NothingInName, EveryPair}
 use Rattle.ec_check.proofs.Every.{none_left, none_right, either}
+use Rattle.ec_check.proofs.NumberedKinds.{faults_in_all, all_made_both, faults_both}
 use Rattle.ec_check.proofs.NumberedParts.{none_both}
 use Rattle.ec_check.proofs.RangedChains.{chain_faultless}
 use Rattle.ec_check.specs.Parts.{Made, both_made, Part, Piece, StatementPart, LinkPart, FactorPart, AddendPart, ArmPart, ProcessPart}
@@ -32,29 +33,14 @@ use Rattle.ec_scopes.specs.declared.scope.Scope.{Scope}
 
 -- ---- each kind of part
 
--- A name alone declares nothing.
-abbrev pub NothingInName : Form → Declarations → Type 0
-NothingInName (Literal of) d = Unit {0}
-NothingInName Negated d = Unit {0}
-NothingInName (Constructor at) d = Unit {0}
-NothingInName (Vector of) d = Unit {0}
-NothingInName (Created name) d = Unit {0}
-NothingInName Itself d = Unit {0}
-NothingInName (NameAlone name) d = d ≡ nothing
-NothingInName Other d = Unit {0}
-
-pub record CountedPart (p : Part) (d : Declarations) : Type 0 where
-  pub name : NothingInName p.part.form d
-  pub made : (needed : Bool) (scope : Scope) → Counted scope.table (p.made scope) d (p.part.judged needed scope).faults
+abbrev pub CountedPart : Part → Declarations → Type 0
+CountedPart p d = (needed : Bool) (scope : Scope) → Counted scope.table (p.made scope) d (p.part.judged needed scope).faults
 
 abbrev pub CountedPiece : Piece → Declarations → Type 0
 CountedPiece b d = (scope : Scope) → Counted scope.table (b.made scope) d (b.piece scope).faults
 
 abbrev pub CountedStatement : StatementPart → Declarations → Type 0
 CountedStatement x d = (scope : Scope) → Counted scope.table (x.made scope) d (x.part.finished scope).faults
-
-abbrev pub faults_in_all : Scope → List Part → List StaticFault
-faults_in_all scope ps = each (faults_in scope) (map (λ p. p.part) ps)
 
 abbrev pub CountedLink : LinkPart → Declarations → Type 0
 CountedLink l d = (scope : Scope) →
@@ -106,7 +92,7 @@ pub parts_counted : (scope : Scope) (ps : List Part) (ds : List Declarations) �
 parts_counted scope [] [] h = nothing_counted
 parts_counted scope [] (d ∷ ds) h = absurd h
 parts_counted scope (p ∷ ps) [] h = absurd h
-parts_counted scope (p ∷ ps) (d ∷ ds) h = both_counted (h.0.made true scope) (parts_counted scope ps ds h.1)
+parts_counted scope (p ∷ ps) (d ∷ ds) h = both_counted (h.0 true scope) (parts_counted scope ps ds h.1)
 
 pub factors_counted : (scope : Scope) (fs : List FactorPart) (ds : List Declarations) → EveryPair CountedFactor fs ds →
     Counted scope.table (all_made scope (map (λ f. f.value) fs)) (joined ds)
@@ -125,27 +111,6 @@ addends_counted scope (x ∷ xs) [] h = absurd h
 addends_counted scope (x ∷ xs) (d ∷ ds) h = both_counted (h.0 scope) (addends_counted scope xs ds h.1)
 
 -- ---- chains
-
-three_made : (a b c : Made) → both_made a (both_made b c) ≡ both_made (both_made a b) c
-three_made a b c =
-    ap (λ cs. made cs (a.operations ++ (b.operations ++ c.operations))) (sym (append_assoc a.classes b.classes c.classes))
-    ∙ ap (made ((a.classes ++ b.classes) ++ c.classes)) (sym (append_assoc a.operations b.operations c.operations))
-  where
-    made : List Class → List Operation → Made
-    made cs os = record { classes = cs; operations = os }
-
-all_made_both : (scope : Scope) (ps qs : List Part) → all_made scope (ps ++ qs) ≡ both_made (all_made scope ps) (all_made scope qs)
-all_made_both scope [] qs = refl
-all_made_both scope (p ∷ ps) qs =
-    ap (both_made (p.made scope)) (all_made_both scope ps qs)
-    ∙ three_made (p.made scope) (all_made scope ps) (all_made scope qs)
-
-faults_both : (scope : Scope) (ps qs : List Part) →
-    faults_in_all scope (ps ++ qs) ≡ faults_in_all scope ps ++ faults_in_all scope qs
-faults_both scope [] qs = refl
-faults_both scope (p ∷ ps) qs =
-    ap (λ fs. faults_in scope p.part ++ fs) (faults_both scope ps qs)
-    ∙ sym (append_assoc (faults_in scope p.part) (faults_in_all scope ps) (faults_in_all scope qs))
 
 links_counted : (scope : Scope) (ls : List LinkPart) (ds : List Declarations) → EveryPair CountedLink ls ds →
     Counted scope.table (all_made scope (parts_of_links ls)) (joined ds) (faults_in_all scope (parts_of_links ls))
@@ -183,14 +148,14 @@ module _ (scope : Scope) (head : Part) (d : Declarations) (links : List LinkPart
   behind_head Other of ls n = both_counted own more
 
 pub postfix_counted : (needed : Bool) (scope : Scope) (head : Part) (links : List LinkPart) (d : Declarations)
-    (ds : List Declarations) → CountedPart head d → EveryPair CountedLink links ds →
+    (ds : List Declarations) → NothingInName head.part.form d → CountedPart head d → EveryPair CountedLink links ds →
     Counted scope.table (all_made scope (parts_of_chain scope head links)) (both d (joined ds))
     (chain_faults scope needed head.part (map link_judged links))
-postfix_counted needed scope head links d ds h k =
+postfix_counted needed scope head links d ds n h k =
     counted_within
     (λ e. none_both _ _ (none_left _ _ e) (chain_faultless scope _ _ _ _ links (none_right _ _ e)))
-    (behind_head scope head d links (joined ds) (faults_in_all scope (parts_of_links links)) (h.made true scope)
-    (links_counted scope links ds k) head.part.form (value_in scope head.part).of (map link_judged links) h.name)
+    (behind_head scope head d links (joined ds) (faults_in_all scope (parts_of_links links)) (h true scope)
+    (links_counted scope links ds k) head.part.form (value_in scope head.part).of (map link_judged links) n)
 
 -- ---- members
 

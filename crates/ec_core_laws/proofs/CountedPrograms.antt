@@ -42,7 +42,7 @@ typeobject_fits scope t e =
 constant_counted : (scope : Scope) (name : Name) (of : Option TypeName) (v : ConstantValue) →
     Counted scope.table (constant_made scope v) (in_value v) (faults_in_constant scope name of (value_part v))
 constant_counted scope name of (stands.Expression x) =
-    counted_within (λ e. subst (λ p. faults_in scope p ≡ []) (sym (same_part x)) (none_left _ _ e)) ((counted_part x).made true scope)
+    counted_within (λ e. subst (λ p. faults_in scope p ≡ []) (sym (same_part x)) (none_left _ _ e)) (counted_part x true scope)
 constant_counted scope name of (stands.Class c) =
     counted_within (λ e. subst (λ h. faults_in_holder scope h ≡ []) (sym (same_class c)) (none_left _ _ e))
     (holder_counted scope (class_part c) (in_body c.body) (counted_body c.body))

@@ -16,7 +16,9 @@ use Rattle.ec_ast.specs.declared.Expression.TheOpen.{Expression-F, Link-F, Membe
 use Rattle.ec_check.proofs.DeclaringParts.{EveryPair}
 use Rattle.ec_check.proofs.Every.{none_left, none_right, either}
 use Rattle.ec_check.proofs.GoodExpressions.{each_pair}
+use Rattle.ec_check.proofs.GoodTrees.{good_part}
 use Rattle.ec_check.proofs.NumberedParts.{none_both}
+use Rattle.ec_check.proofs.NumberedTrees.{two_pieces, piece_faults, pieces_both}
 use Rattle.ec_check.proofs.Rolled.{expression_mapped, link_mapped, member_mapped, statement_mapped, addend_mapped, arm_mapped, block_mapped}
 use Rattle.ec_check.proofs.Rolled.{body_mapped, factor_mapped, object_mapped, operation_mapped, process_mapped}
 use Rattle.ec_check.proofs.Rolled.{part_rolled, link_rolled, member_rolled, statement_rolled, addend_rolled, arm_rolled, block_rolled}
@@ -46,10 +48,7 @@ use Rattle.ec_places.proofs.DeclaredRolled.{operation_declared, process_declared
 use Rattle.ec_places.proofs.DeclaredRolled.{expression_declares, link_declares, member_declares, statement_declares, addend_declares}
 use Rattle.ec_places.proofs.DeclaredRolled.{arm_declares, block_declares, body_declares, factor_declares, object_declares}
 use Rattle.ec_places.proofs.DeclaredRolled.{operation_declares, process_declares, in_operation}
-use Rattle.ec_rules.specs.Calls.{is_word}
-use Rattle.ec_rules.specs.Forms.{Form, Literal, Created, NameAlone, Other}
 use Rattle.ec_rules.specs.Judging.{expression_part, statement_part, faults_of, statement_finished, block_finished, operation_faults}
-use Rattle.ec_rules.specs.Judging.{form_in_parentheses, form_negated, form_of, form_of_chain}
 use Rattle.ec_rules.specs.Limits.{many_operations, many_parameters, measured, too_large, variables_of}
 use Rattle.ec_rules.specs.Lists.{each}
 use Rattle.ec_rules.specs.Members.{scope_of_operation}
@@ -93,29 +92,29 @@ layer_counted (Expression-F.Nil at) needed scope = nothing_counted
 layer_counted (Expression-F.Itself at) needed scope = nothing_counted
 layer_counted (Expression-F.Expression::Variable name) needed scope = nothing_counted
 layer_counted (Expression-F.Parenthesised x at) needed scope =
-    one_counted (λ e. none_left _ _ (none_left _ _ e)) (x.1.made true scope)
+    one_counted (λ e. none_left _ _ (none_left _ _ e)) (x.1 true scope)
 layer_counted (Expression-F.Constructor o) needed scope = o.1 scope
-layer_counted (Expression-F.NodeAt x at word) needed scope = one_counted (λ e. none_left _ _ (none_left _ _ e)) (x.1.made true scope)
+layer_counted (Expression-F.NodeAt x at word) needed scope = one_counted (λ e. none_left _ _ (none_left _ _ e)) (x.1 true scope)
 layer_counted (Expression-F.NodeCount at) needed scope = nothing_counted
 layer_counted (Expression-F.NewVector of x at word) needed scope =
-    one_counted (λ e. none_left _ _ (none_left _ _ e)) (x.1.made true scope)
+    one_counted (λ e. none_left _ _ (none_left _ _ e)) (x.1 true scope)
 layer_counted (Expression-F.Postfix x links) needed scope =
     postfix_counted needed scope (part_of x.0) (map link_of (trees links)) (in_expression x.0)
-    (map in_link (trees links)) x.1 (link_pairs links)
-layer_counted (Expression-F.Negative x at) needed scope = one_counted (λ e. none_left _ _ (none_left _ _ e)) (x.1.made true scope)
-layer_counted (Expression-F.View x of at) needed scope = one_counted (λ e. none_left _ _ (none_left _ _ e)) (x.1.made true scope)
-layer_counted (Expression-F.IsFixed x at) needed scope = one_counted (λ e. none_left _ _ (none_left _ _ e)) (x.1.made true scope)
+    (map in_link (trees links)) (good_part x.0).1.name x.1 (link_pairs links)
+layer_counted (Expression-F.Negative x at) needed scope = one_counted (λ e. none_left _ _ (none_left _ _ e)) (x.1 true scope)
+layer_counted (Expression-F.View x of at) needed scope = one_counted (λ e. none_left _ _ (none_left _ _ e)) (x.1 true scope)
+layer_counted (Expression-F.IsFixed x at) needed scope = one_counted (λ e. none_left _ _ (none_left _ _ e)) (x.1 true scope)
 layer_counted (Expression-F.Term x more) needed scope =
     counted_within (λ e. none_left _ _ e)
-    (both_counted (x.1.made true scope)
+    (both_counted (x.1 true scope)
     (factors_counted scope (map factor_of (trees more)) (map in_factor (trees more)) (factor_pairs more)))
 layer_counted (Expression-F.Sum x more) needed scope =
     counted_within (λ e. none_left _ _ e)
-    (both_counted (x.1.made true scope)
+    (both_counted (x.1 true scope)
     (addends_counted scope (map addend_of (trees more)) (map in_addend (trees more)) (addend_pairs more)))
 layer_counted (Expression-F.Compare x op at y) needed scope =
-    counted_within (λ e. none_left _ _ e) (both_counted (x.1.made true scope) (one_counted (λ e. none_left _ _ e) (y.1.made true scope)))
-layer_counted (Expression-F.Not x at) needed scope = one_counted (λ e. none_left _ _ (none_left _ _ e)) (x.1.made true scope)
+    counted_within (λ e. none_left _ _ e) (both_counted (x.1 true scope) (one_counted (λ e. none_left _ _ e) (y.1 true scope)))
+layer_counted (Expression-F.Not x at) needed scope = one_counted (λ e. none_left _ _ (none_left _ _ e)) (x.1 true scope)
 layer_counted (Expression-F.And x more) needed scope =
     counted_within (λ e. none_left _ _ e)
     (parts_counted scope (part_of x.0 ∷ map part_of (trees more))
@@ -125,50 +124,9 @@ layer_counted (Expression-F.Or x more) needed scope =
     (parts_counted scope (part_of x.0 ∷ map part_of (trees more))
     (in_expression x.0 ∷ map in_expression (trees more)) (x.1, pairs more))
 
--- ---- a name alone declares nothing
-
-name_within : (form : Form) (d : Declarations) → NothingInName (form_in_parentheses form) d
-name_within (NameAlone name) d = tt
-name_within form d = tt
-
-name_negated : (form : Form) (d : Declarations) → NothingInName (form_negated form) d
-name_negated (Literal of) d = tt
-name_negated form d = tt
-
-name_of_chain : (form : Form) (links : List judged.LinkPart) (d : Declarations) → NothingInName (form_of_chain form links) d
-name_of_chain (NameAlone name) (judged.call word arguments ∷ []) d =
-    either (λ form. NothingInName form d) (is_word word (codes "create")) (Created name) Other tt tt
-name_of_chain form links d = tt
-
-name_declares : (y : ExpressionWith counted) →
-    NothingInName (form_of (expression_judged (expression_mapped (bare_expression counted y)))) (declared y)
-name_declares (Expression-F.Number n) = tt
-name_declares (Expression-F.Literal t) = tt
-name_declares (Expression-F.Truth b at) = tt
-name_declares (Expression-F.Nil at) = tt
-name_declares (Expression-F.Itself at) = tt
-name_declares (Expression-F.Expression::Variable name) = refl
-name_declares (Expression-F.Parenthesised x at) = name_within (part_of x.0).part.form (in_expression x.0)
-name_declares (Expression-F.Constructor o) = tt
-name_declares (Expression-F.NodeAt x at word) = tt
-name_declares (Expression-F.NodeCount at) = tt
-name_declares (Expression-F.NewVector of x at word) = tt
-name_declares (Expression-F.Postfix x links) =
-    name_of_chain (part_of x.0).part.form (map link_judged (map link_of (trees links)))
-    (declared (Expression-F.Postfix x links))
-name_declares (Expression-F.Negative x at) = name_negated (part_of x.0).part.form (in_expression x.0)
-name_declares (Expression-F.View x of at) = tt
-name_declares (Expression-F.IsFixed x at) = tt
-name_declares (Expression-F.Term x more) = tt
-name_declares (Expression-F.Sum x more) = tt
-name_declares (Expression-F.Compare x op at y) = tt
-name_declares (Expression-F.Not x at) = tt
-name_declares (Expression-F.And x more) = tt
-name_declares (Expression-F.Or x more) = tt
-
 part_is : (y : ExpressionWith counted) → CountedPart (expression_step (expression_mapped (bare_expression counted y))) (declared y)
 unfolding expression_step expression_part
-part_is y = record { name = name_declares y; made = λ needed scope. layer_counted y needed scope }
+part_is y = λ needed scope. layer_counted y needed scope
 
 part_at : (y : ExpressionWith counted) → IsCountedPart (roll-Expression (bare_expression counted y))
 part_at y =
@@ -183,26 +141,11 @@ part_at y =
 abbrev within_part : Scope → Held IsCountedPart → List StaticFault
 within_part scope x = faults_in scope (part_of x.0).part
 
-two_pieces : (fs gs own : List StaticFault) → (fs ++ (gs ++ [])) ++ own ≡ [] → fs ++ gs ≡ []
-two_pieces fs gs own e =
-    none_both fs gs (none_left fs (gs ++ []) (none_left (fs ++ (gs ++ [])) own e))
-    (none_left gs [] (none_right fs (gs ++ []) (none_left (fs ++ (gs ++ [])) own e)))
-
 two_counted : (scope : Scope) (x y : Held IsCountedPart) (own : List StaticFault) →
     Counted scope.table (both_made ((part_of x.0).made scope) ((part_of y.0).made scope))
     (both (in_expression x.0) (in_expression y.0)) ((within_part scope x ++ (within_part scope y ++ [])) ++ own)
 two_counted scope x y own =
-    counted_within (two_pieces (within_part scope x) (within_part scope y) own) (both_counted (x.1.made true scope) (y.1.made true scope))
-
-abbrev piece_faults : Scope → judged.Piece → List StaticFault
-piece_faults scope piece = (piece scope).faults
-
-pieces_both : (scope : Scope) (xs ys : List judged.Piece) →
-    each (piece_faults scope) (xs ++ ys) ≡ each (piece_faults scope) xs ++ each (piece_faults scope) ys
-pieces_both scope [] ys = refl
-pieces_both scope (x ∷ xs) ys =
-    ap (λ fs. piece_faults scope x ++ fs) (pieces_both scope xs ys)
-    ∙ sym (append_assoc (piece_faults scope x) (each (piece_faults scope) xs) (each (piece_faults scope) ys))
+    counted_within (two_pieces (within_part scope x) (within_part scope y) own) (both_counted (x.1 true scope) (y.1 true scope))
 
 arms_counted : (scope : Scope) (xs : List ArmPart) (ds : List Declarations) → EveryPair CountedArm xs ds →
     Counted scope.table (arms_made scope xs) (joined ds) (each (piece_faults scope) (map piece_of_arm (map arm_judged xs)))
@@ -234,15 +177,15 @@ statement_layer_counted : (y : StatementWith counted) (scope : Scope) →
     (statement_finished (statement_judged (statement_mapped (bare_statement counted y))) scope).faults
 statement_layer_counted (Statement-F.LocalVariable name of None) scope = nothing_counted
 statement_layer_counted (Statement-F.LocalVariable name of (Some x)) scope =
-    counted_within (λ e. none_left _ _ (none_left _ _ e)) (x.1.made true scope)
+    counted_within (λ e. none_left _ _ (none_left _ _ e)) (x.1 true scope)
 statement_layer_counted (Statement-F.LocalConstant name of x) scope =
-    counted_within (λ e. none_left _ _ (none_left _ _ e)) (x.1.made true scope)
+    counted_within (λ e. none_left _ _ (none_left _ _ e)) (x.1 true scope)
 statement_layer_counted (Statement-F.Assign x y) scope =
     two_counted scope x y _
 statement_layer_counted (Statement-F.Invoke x) scope =
-    counted_within (λ e. none_left _ _ (none_left _ _ e)) (x.1.made false scope)
+    counted_within (λ e. none_left _ _ (none_left _ _ e)) (x.1 false scope)
 statement_layer_counted (Statement-F.Print x at) scope =
-    counted_within (λ e. none_left _ _ (none_left _ _ e)) (x.1.made true scope)
+    counted_within (λ e. none_left _ _ (none_left _ _ e)) (x.1 true scope)
 statement_layer_counted (Statement-F.If arms None at) scope =
     counted_within (λ e. split_arms scope arms [] _ e) (both_counted (arms_are scope arms) nothing_counted)
 statement_layer_counted (Statement-F.If arms (Some b) at) scope =
@@ -253,10 +196,10 @@ statement_layer_counted (Statement-F.Loop b at) scope =
     counted_within (λ e. none_left _ _ (none_left _ _ e)) (b.1 (in_a_loop scope))
 statement_layer_counted (Statement-F.Exit None at) scope = nothing_counted
 statement_layer_counted (Statement-F.Exit (Some x) at) scope =
-    counted_within (λ e. none_left _ _ (none_left _ _ e)) (x.1.made true scope)
+    counted_within (λ e. none_left _ _ (none_left _ _ e)) (x.1 true scope)
 statement_layer_counted (Statement-F.Return at) scope = nothing_counted
 statement_layer_counted (Statement-F.Assert x at) scope =
-    counted_within (λ e. none_left _ _ (none_left _ _ e)) (x.1.made true scope)
+    counted_within (λ e. none_left _ _ (none_left _ _ e)) (x.1 true scope)
 statement_layer_counted (Statement-F.Move x y at) scope =
     two_counted scope x y _
 statement_layer_counted (Statement-F.Fix x y at) scope =
@@ -264,7 +207,7 @@ statement_layer_counted (Statement-F.Fix x y at) scope =
 statement_layer_counted (Statement-F.Refix x y at) scope =
     two_counted scope x y _
 statement_layer_counted (Statement-F.Unfix x at) scope =
-    counted_within (λ e. none_left _ _ (none_left _ _ e)) (x.1.made true scope)
+    counted_within (λ e. none_left _ _ (none_left _ _ e)) (x.1 true scope)
 statement_layer_counted (Statement-F.Wait name at) scope = nothing_counted
 statement_layer_counted (Statement-F.Signal name at) scope = nothing_counted
 
@@ -289,7 +232,7 @@ arm_is y = λ scope.
     (λ e.
     none_both (within_part scope y.condition) ((block_of y.block.0).piece scope).faults (none_left _ _ e)
     (none_right _ _ (none_right _ _ e)))
-    (both_counted (y.condition.1.made true scope) (y.block.1 scope))
+    (both_counted (y.condition.1 true scope) (y.block.1 scope))
 
 arm_at : (y : ArmWith counted) → IsCountedArm (roll-Arm (bare_arm counted y))
 arm_at y =
@@ -323,7 +266,7 @@ link_is : (y : LinkWith counted) →
     CountedLink (link_step (link_mapped (bare_link counted y))) (conform.link_step (link_declared (bare_link counted y)))
 link_is (Link-F.Call name xs) = λ scope.
     parts_counted scope (map part_of (trees xs)) (map in_expression (trees xs)) (pairs xs)
-link_is (Link-F.Index x at) = λ scope. one_counted (λ e. none_left _ _ e) (x.1.made true scope)
+link_is (Link-F.Index x at) = λ scope. one_counted (λ e. none_left _ _ e) (x.1 true scope)
 
 link_at : (y : LinkWith counted) → IsCountedLink (roll-Link (bare_link counted y))
 link_at y =
@@ -332,7 +275,7 @@ link_at y =
 
 factor_is : (y : FactorWith counted) →
     CountedFactor (factor_step (factor_mapped (bare_factor counted y))) (conform.factor_step (factor_declared (bare_factor counted y)))
-factor_is y = λ scope. y.value.1.made true scope
+factor_is y = λ scope. y.value.1 true scope
 
 factor_at : (y : FactorWith counted) → IsCountedFactor (roll-Factor (bare_factor counted y))
 factor_at y =
@@ -342,7 +285,7 @@ factor_at y =
 
 addend_is : (y : AddendWith counted) →
     CountedAddend (addend_step (addend_mapped (bare_addend counted y))) (conform.addend_step (addend_declared (bare_addend counted y)))
-addend_is y = λ scope. y.value.1.made true scope
+addend_is y = λ scope. y.value.1 true scope
 
 addend_at : (y : AddendWith counted) → IsCountedAddend (roll-Addend (bare_addend counted y))
 addend_at y =
@@ -356,9 +299,9 @@ member_is : (y : MemberWith counted) →
     CountedMember (member_step (member_mapped (bare_member counted y))) (conform.member_step (member_declared (bare_member counted y)))
 member_is (Member-F.Member::Variable is_attached name of None) = λ class env is_monitored. nothing_counted
 member_is (Member-F.Member::Variable is_attached name of (Some x)) = λ class env is_monitored.
-    counted_within (λ e. none_left _ _ e) (x.1.made true env.scope)
+    counted_within (λ e. none_left _ _ e) (x.1 true env.scope)
 member_is (Member-F.Constant is_attached name of x) = λ class env is_monitored.
-    counted_within (λ e. none_left _ _ e) (x.1.made true env.scope)
+    counted_within (λ e. none_left _ _ e) (x.1 true env.scope)
 member_is (Member-F.Condition name) = λ class env is_monitored. nothing_counted
 member_is (Member-F.Operation o) = o.1
 
