@@ -50,7 +50,7 @@ NothingInName (Constructor at) d = Unit {0}
 NothingInName (Vector of) d = Unit {0}
 NothingInName (Created name) d = Unit {0}
 NothingInName Itself d = Unit {0}
-NothingInName (NameAlone name) d = d.types ≡ []
+NothingInName (NameAlone name) d = d ≡ nothing
 NothingInName Other d = Unit {0}
 
 pub record DeclaringPart (p : Part) (d : Declarations) : Type 0 where
@@ -154,8 +154,8 @@ links_are_faultless scope head needed before is_clean (l ∷ ls) e = (
       (is_clean_after scope head (needed || not (is_last ls)) before is_clean l) ls (none_right _ _ e),
 )
 
-nothing_sound : (table : Table) (types : List DeclaredType) → types ≡ [] → Every (SoundDeclared table) types
-nothing_sound table types e = subst (Every (SoundDeclared table)) (sym e) tt
+nothing_sound : (table : Table) (d : Declarations) → d ≡ nothing → SoundTypes table d
+nothing_sound table d e = subst (SoundTypes table) (sym e) tt
 
 head_declares : (scope : Scope) (head : judged.Part) (d : Declarations) (form : Form) (of : Option StaticType)
     (links : List judged.LinkPart) → NothingInName form d → (faults_in scope head ≡ [] → SoundTypes scope.table d) →
@@ -166,7 +166,7 @@ head_declares scope head d (Constructor at) of links n given e = given e
 head_declares scope head d (Vector t) of links n given e = given e
 head_declares scope head d (Created name) of links n given e = given e
 head_declares scope head d Itself of links n given e = given e
-head_declares scope head d (NameAlone name) of links n given e = nothing_sound scope.table d.types n
+head_declares scope head d (NameAlone name) of links n given e = nothing_sound scope.table d n
 head_declares scope head d Other of links n given e = given e
 
 pub postfix_declares : (needed : Bool) (scope : Scope) (head : Part) (links : List LinkPart) (d : Declarations)

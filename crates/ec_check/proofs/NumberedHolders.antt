@@ -55,20 +55,20 @@ has_its_operations env c parameters ms ds h n e = record {
 
 -- ---- its body
 
-abbrev faults_of_members : Scope → Holder → List StaticFault
+abbrev pub faults_of_members : Scope → Holder → List StaticFault
 faults_of_members scope h =
     (members_finished (scope_of scope (holder_judged h)) h.is_monitored (map member_judged h.body.members)).faults
 
-abbrev faults_of_first : Scope → Holder → List StaticFault
+abbrev pub faults_of_first : Scope → Holder → List StaticFault
 faults_of_first scope h = (finished_if (scope_of scope (holder_judged h)) (option_map (λ p. p.piece) h.body.initially)).faults
 
-abbrev faults_of_process : Scope → Holder → List StaticFault
+abbrev pub faults_of_process : Scope → Holder → List StaticFault
 faults_of_process scope h = (process_finished (scope_of scope (holder_judged h)) (option_map process_judged h.body.process)).faults
 
-abbrev faults_of_body : Scope → Holder → List StaticFault
+abbrev pub faults_of_body : Scope → Holder → List StaticFault
 faults_of_body scope h = faults_of_members scope h ++ (faults_of_first scope h ++ faults_of_process scope h)
 
-no_faults_in_body : (scope : Scope) (h : Holder) → faults_in_holder scope (holder_judged h) ≡ [] → faults_of_body scope h ≡ []
+pub no_faults_in_body : (scope : Scope) (h : Holder) → faults_in_holder scope (holder_judged h) ≡ [] → faults_of_body scope h ≡ []
 no_faults_in_body scope h e =
     none_both (faults_of_members scope h) (faults_of_first scope h ++ faults_of_process scope h)
     (none_left _ _ (none_left _ _ (none_left _ _ (none_left _ _ e))))

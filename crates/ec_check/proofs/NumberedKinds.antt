@@ -123,13 +123,13 @@ three_made a b c =
     made : List Class → List Operation → Made
     made cs os = record { classes = cs; operations = os }
 
-all_made_both : (scope : Scope) (ps qs : List Part) → all_made scope (ps ++ qs) ≡ both_made (all_made scope ps) (all_made scope qs)
+pub all_made_both : (scope : Scope) (ps qs : List Part) → all_made scope (ps ++ qs) ≡ both_made (all_made scope ps) (all_made scope qs)
 all_made_both scope [] qs = refl
 all_made_both scope (p ∷ ps) qs =
     ap (both_made (p.made scope)) (all_made_both scope ps qs)
     ∙ three_made (p.made scope) (all_made scope ps) (all_made scope qs)
 
-faults_both : (scope : Scope) (ps qs : List Part) →
+pub faults_both : (scope : Scope) (ps qs : List Part) →
     faults_in_all scope (ps ++ qs) ≡ faults_in_all scope ps ++ faults_in_all scope qs
 faults_both scope [] qs = refl
 faults_both scope (p ∷ ps) qs =
@@ -167,7 +167,7 @@ module _ (scope : Scope) (head : Part) (d : Declarations) (links : List LinkPart
   behind_head (NameAlone name) of ls n =
       either (λ (o : Option Name). BehindHead (receiver_if o (NameAlone name) of))
       (is_creation ls && is_some (class_named scope name.text)) (Some name) None
-      (subst (λ ts. Numbered scope.table (all_made scope (parts_of_links links)) (ts ++ us) gs) (sym n) more)
+      (subst (λ c. Numbered scope.table (all_made scope (parts_of_links links)) (c.types ++ us) gs) (sym n) more)
       (both_numbered own more)
   behind_head Other of ls n = both_numbered own more
 

@@ -138,7 +138,7 @@ part_at y =
 abbrev within_part : Scope → Held IsNumberedPart → List StaticFault
 within_part scope x = faults_in scope (part_of x.0).part
 
-two_pieces : (fs gs own : List StaticFault) → (fs ++ (gs ++ [])) ++ own ≡ [] → fs ++ gs ≡ []
+pub two_pieces : (fs gs own : List StaticFault) → (fs ++ (gs ++ [])) ++ own ≡ [] → fs ++ gs ≡ []
 two_pieces fs gs own e =
     none_both fs gs (none_left fs (gs ++ []) (none_left (fs ++ (gs ++ [])) own e))
     (none_left gs [] (none_right fs (gs ++ []) (none_left (fs ++ (gs ++ [])) own e)))
@@ -149,10 +149,10 @@ two_numbered : (scope : Scope) (x y : Held IsNumberedPart) (own : List StaticFau
 two_numbered scope x y own =
     numbered_within (two_pieces (within_part scope x) (within_part scope y) own) (both_numbered (x.1 true scope) (y.1 true scope))
 
-abbrev piece_faults : Scope → judged.Piece → List StaticFault
+abbrev pub piece_faults : Scope → judged.Piece → List StaticFault
 piece_faults scope piece = (piece scope).faults
 
-pieces_both : (scope : Scope) (xs ys : List judged.Piece) →
+pub pieces_both : (scope : Scope) (xs ys : List judged.Piece) →
     each (piece_faults scope) (xs ++ ys) ≡ each (piece_faults scope) xs ++ each (piece_faults scope) ys
 pieces_both scope [] ys = refl
 pieces_both scope (x ∷ xs) ys =

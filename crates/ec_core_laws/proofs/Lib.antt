@@ -1,5 +1,11 @@
 pub mod Beginnings
 pub mod Bodies
+pub mod CountedHeld
+pub mod CountedHolders
+pub mod CountedKinds
+pub mod CountedParts
+pub mod CountedPrograms
+pub mod CountedTrees
 pub mod Exits
 pub mod Expressions
 pub mod FittingExpressions

@@ -7,6 +7,7 @@ use Rattle.ec_conform.specs.Table.{Table, IsTable}
 use Rattle.ec_conform.specs.Types.{places_of}
 use Rattle.ec_core.specs.declared.Operation.{Operation}
 use Rattle.ec_core_laws.specs.Beginnings.{BeginsOnce}
+use Rattle.ec_core_laws.specs.Counts.{HasFewParts}
 use Rattle.ec_core_laws.specs.Exits.{leaves_block}
 use Rattle.ec_core_laws.specs.Headings.{HeadingFits}
 use Rattle.ec_core_laws.specs.Known.{KnowsItsTypes}
@@ -62,6 +63,14 @@ EachOperationIsSmall =
     IsTable (declarations_of program) table →
     StaticFaults table program ≡ [] →
     All IsSmall (core_of table program).operations
+
+-- It has at most 1,000 classes and 4,000 operations.
+abbrev pub EachCountIsSmall : Type 0
+EachCountIsSmall =
+    (table : Table) (program : Program) →
+    IsTable (declarations_of program) table →
+    StaticFaults table program ≡ [] →
+    HasFewParts (core_of table program)
 
 -- Each of its literal texts has at most 65,535 bytes.
 abbrev pub EachTextIsShort : Type 0

@@ -1,4 +1,5 @@
 pub mod Beginnings
+pub mod Counts
 pub mod Exits
 pub mod Headings
 pub mod Laws

@@ -1,5 +1,5 @@
 //! What lowering may rest on, in the core of every program that breaks no static rule.
-ghost use Rattle.ec_core_laws.specs.Laws.{EachClassBeginsOnce, EachExitStandsInALoop, EachHeadingFits};
+ghost use Rattle.ec_core_laws.specs.Laws.{EachClassBeginsOnce, EachCountIsSmall, EachExitStandsInALoop, EachHeadingFits};
 ghost use Rattle.ec_core_laws.specs.Laws.{EachNumberIsSmall, EachNumberOfATextIsSmall, EachOperationIsSmall, EachTextIsShort};
 ghost use Rattle.ec_core_laws.specs.Laws.{EachTypeInCodeIsKnown, EachTypeOfAPlaceIsKnown, EachUsesItsConditions};
 
@@ -26,6 +26,11 @@ pub fn each_class_begins_once()
 /// Each operation is within the static rules' limits: at most 4,000 nodes, and at most 100 variables and values at one time.
 pub fn each_operation_is_small()
     ensures { EachOperationIsSmall }
+{}
+
+/// There are at most 1,000 classes, object constructors among them, and at most 4,000 operations.
+pub fn each_count_is_small()
+    ensures { EachCountIsSmall }
 {}
 
 /// Each literal text has at most 65,535 bytes.
