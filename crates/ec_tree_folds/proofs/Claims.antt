@@ -2,16 +2,16 @@
 use Rattle.std.proofs.Common.{◌≡◌, List, map, subst}
 use Rattle.ec_ast.specs.declared.Expression.{Expression, roll-Expression, ind-Expression}
 use Rattle.ec_ast.specs.declared.Link.{Link, roll-Link, ind-Link}
-use Rattle.ec_ast.specs.declared.Member.{Member, roll-Member, ind-Member}
+use Rattle.ec_ast.specs.declared.Member.{Member, roll-Member}
 use Rattle.ec_ast.specs.declared.Statement.{Statement, roll-Statement, ind-Statement}
-use Rattle.ec_ast.specs.declared.Addend.{Addend, roll-Addend, ind-Addend}
-use Rattle.ec_ast.specs.declared.Arm.{Arm, roll-Arm, ind-Arm}
+use Rattle.ec_ast.specs.declared.Addend.{Addend, roll-Addend}
+use Rattle.ec_ast.specs.declared.Arm.{Arm, roll-Arm}
 use Rattle.ec_ast.specs.declared.Block.{Block, roll-Block, ind-Block}
 use Rattle.ec_ast.specs.declared.Body.{Body, roll-Body, ind-Body}
-use Rattle.ec_ast.specs.declared.Factor.{Factor, roll-Factor, ind-Factor}
+use Rattle.ec_ast.specs.declared.Factor.{Factor, roll-Factor}
 use Rattle.ec_ast.specs.declared.ObjectConstructor.{ObjectConstructor, roll-ObjectConstructor, ind-ObjectConstructor}
 use Rattle.ec_ast.specs.declared.Operation.{Operation, roll-Operation, ind-Operation}
-use Rattle.ec_ast.specs.declared.ProcessSection.{ProcessSection, roll-ProcessSection, ind-ProcessSection}
+use Rattle.ec_ast.specs.declared.ProcessSection.{ProcessSection, roll-ProcessSection}
 use Rattle.ec_tree_folds.specs.Kinds.{Kinds, tree}
 use Rattle.ec_tree_folds.specs.Kinds.{ExpressionOf, LinkOf, MemberOf, StatementOf, AddendOf, ArmOf, BlockOf, BodyOf, FactorOf}
 use Rattle.ec_tree_folds.specs.Kinds.{ObjectOf, OperationOf, ProcessOf}
@@ -219,30 +219,9 @@ module _ {c : Claims} (p : Passes c) where
       expression_from link_from member_from statement_from addend_from arm_from block_from body_from factor_from object_from
       operation_from process_from
 
-  pub member_holds : (x : Member) → c.member x
-  member_holds =
-      ind-Member
-      c.expression c.link c.member c.statement c.addend c.arm c.block c.body c.factor c.object c.operation c.process
-      expression_from link_from member_from statement_from addend_from arm_from block_from body_from factor_from object_from
-      operation_from process_from
-
   pub statement_holds : (x : Statement) → c.statement x
   statement_holds =
       ind-Statement
-      c.expression c.link c.member c.statement c.addend c.arm c.block c.body c.factor c.object c.operation c.process
-      expression_from link_from member_from statement_from addend_from arm_from block_from body_from factor_from object_from
-      operation_from process_from
-
-  pub addend_holds : (x : Addend) → c.addend x
-  addend_holds =
-      ind-Addend
-      c.expression c.link c.member c.statement c.addend c.arm c.block c.body c.factor c.object c.operation c.process
-      expression_from link_from member_from statement_from addend_from arm_from block_from body_from factor_from object_from
-      operation_from process_from
-
-  pub arm_holds : (x : Arm) → c.arm x
-  arm_holds =
-      ind-Arm
       c.expression c.link c.member c.statement c.addend c.arm c.block c.body c.factor c.object c.operation c.process
       expression_from link_from member_from statement_from addend_from arm_from block_from body_from factor_from object_from
       operation_from process_from
@@ -261,13 +240,6 @@ module _ {c : Claims} (p : Passes c) where
       expression_from link_from member_from statement_from addend_from arm_from block_from body_from factor_from object_from
       operation_from process_from
 
-  pub factor_holds : (x : Factor) → c.factor x
-  factor_holds =
-      ind-Factor
-      c.expression c.link c.member c.statement c.addend c.arm c.block c.body c.factor c.object c.operation c.process
-      expression_from link_from member_from statement_from addend_from arm_from block_from body_from factor_from object_from
-      operation_from process_from
-
   pub object_holds : (x : ObjectConstructor) → c.object x
   object_holds =
       ind-ObjectConstructor
@@ -278,13 +250,6 @@ module _ {c : Claims} (p : Passes c) where
   pub operation_holds : (x : Operation) → c.operation x
   operation_holds =
       ind-Operation
-      c.expression c.link c.member c.statement c.addend c.arm c.block c.body c.factor c.object c.operation c.process
-      expression_from link_from member_from statement_from addend_from arm_from block_from body_from factor_from object_from
-      operation_from process_from
-
-  pub process_holds : (x : ProcessSection) → c.process x
-  process_holds =
-      ind-ProcessSection
       c.expression c.link c.member c.statement c.addend c.arm c.block c.body c.factor c.object c.operation c.process
       expression_from link_from member_from statement_from addend_from arm_from block_from body_from factor_from object_from
       operation_from process_from

@@ -12,25 +12,19 @@ use Rattle.ec_target.proofs.Running.{leads_first, leads_one}
 use Rattle.ec_target.specs.declared.outcome.Cause.TheVariants.{Unaligned}
 use Rattle.rv_isa.specs.Parts.{high_of, low_of}
 use Rattle.rv_isa.specs.Words.{word_of}
-use Rattle.rv_isa.specs.declared.field.Amount.{Amount}
-use Rattle.rv_isa.specs.declared.field.BranchOffset.{BranchOffset}
 use Rattle.rv_isa.specs.declared.field.Register.{Register}
 use Rattle.rv_isa.specs.declared.field.Twelve.{Twelve}
 use Rattle.rv_isa.specs.declared.field.Twenty.{Twenty}
-use Rattle.rv_isa.specs.declared.instr.Branch.{Branch}
 use Rattle.rv_isa.specs.declared.instr.Immediate.{Immediate}
 use Rattle.rv_isa.specs.declared.instr.Immediate.TheVariants.{Addi}
 use Rattle.rv_isa.specs.declared.instr.Instr.{Instr}
-use Rattle.rv_isa.specs.declared.instr.Instr.TheVariants.{Lui, BranchIf, LoadFrom, StoreTo, OnImmediate, OnShift, OnRegisters, Ecall}
-use Rattle.rv_isa.specs.declared.instr.Load.{Load}
-use Rattle.rv_isa.specs.declared.instr.Operation.{Operation}
-use Rattle.rv_isa.specs.declared.instr.Shift.{Shift}
+use Rattle.rv_isa.specs.declared.instr.Instr.TheVariants.{Lui, StoreTo, OnImmediate, Ecall}
 use Rattle.rv_isa.specs.declared.instr.Store.{Store}
 use Rattle.rv_isa.specs.declared.instr.Store.TheVariants.{Sw}
 use Rattle.rv_machine.specs.declared.machine.RvMachine.{RvMachine}
 use Rattle.rv_machine.specs.Machine.{state_of, rv_goes, rv_stops, rv_register}
-use Rattle.rv_machine.specs.Step.{Next, Goes, Traps, listed, does, behind, jumps, writes, loaded, loads, stores, aligned}
-use Rattle.rv_machine.specs.Values.{plus, extended, immediate_value, shift_value, operation_value, is_taken, load_size, store_size}
+use Rattle.rv_machine.specs.Step.{Next, Goes, Traps, listed, does, behind, writes, stores, aligned}
+use Rattle.rv_machine.specs.Values.{plus, extended, immediate_value, store_size}
 
 -- ---- what an instruction leaves
 
@@ -85,21 +79,6 @@ module _ (code : List ℕ) (m : RvMachine) (b : Bytes) where
   immediate_goes operation rd rs1 number here fits pos =
       listed (OnImmediate operation rd rs1 number) here (sym (writes_is m b rd (immediate_value operation (rv_register m rs1.number) (extended 12 number.bits)) pos fits))
 
-  pub shift_goes : (shift : Shift) (rd rs1 : Register) (amount : Amount) → Puts (OnShift shift rd rs1 amount) rd (shift_value shift (rv_register m rs1.number) amount.bits)
-  shift_goes shift rd rs1 amount here fits pos =
-      listed (OnShift shift rd rs1 amount) here (sym (writes_is m b rd (shift_value shift (rv_register m rs1.number) amount.bits) pos fits))
-
-  pub operation_goes : (operation : Operation) (rd rs1 rs2 : Register) → Puts (OnRegisters operation rd rs1 rs2) rd (operation_value operation (rv_register m rs1.number) (rv_register m rs2.number))
-  operation_goes operation rd rs1 rs2 here fits pos =
-      listed (OnRegisters operation rd rs1 rs2) here (sym (writes_is m b rd (operation_value operation (rv_register m rs1.number) (rv_register m rs2.number)) pos fits))
-
-  pub load_goes : (load : Load) (rd rs1 : Register) (offset : Twelve) (at v : ℕ) → at ≡ plus (rv_register m rs1.number) (extended 12 offset.bits) → at % load_size load ≡ 0 → loaded load b at ≡ Some v → Puts (LoadFrom load rd rs1 offset) rd v
-  load_goes load rd rs1 offset at v is even holds here fits pos =
-      let s = state_of m b in
-      let e : does (LoadFrom load rd rs1 offset) s ≡ Goes (state_of (wrote m rd.number v) b) =
-      ap (λ a. aligned (load_size load) a (loads s rd (loaded load b a))) (sym is) ∙ aligned_is (load_size load) at (loads s rd (loaded load b at)) even ∙ ap (loads s rd) holds ∙ writes_is m b rd v pos fits in
-      listed (LoadFrom load rd rs1 offset) here (sym e)
-
   pub store_goes : (store : Store) (rs1 rs2 : Register) (offset : Twelve) (at : ℕ) → at ≡ plus (rv_register m rs1.number) (extended 12 offset.bits) → at % store_size store ≡ 0 → IsSome (bytes_from b at (store_size store)) → word_at code m.pc ≡ Some (word_of (StoreTo store rs1 rs2 offset)) → m.pc + 4 < 2 ^ 32 → rv_goes code m b (passed m) (with_bytes b at (little_bytes (store_size store) (rv_register m rs2.number)))
   store_goes store rs1 rs2 offset at is even there here fits =
       let s = state_of m b in
@@ -109,21 +88,6 @@ module _ (code : List ℕ) (m : RvMachine) (b : Bytes) where
       ap (λ a. aligned size a (stores s a bs (is_some (bytes_from b a size)))) (sym is) ∙ aligned_is size at (stores s at bs (is_some (bytes_from b at size))) even
       ∙ ap (stores s at bs) there ∙ behind_is m (with_bytes b at bs) fits in
       listed (StoreTo store rs1 rs2 offset) here (sym e)
-
-  -- a branch that is taken to a multiple of 4, and one that isn't taken
-  pub branch_goes : (branch : Branch) (rs1 rs2 : Register) (offset : BranchOffset) (target : ℕ) → is_taken branch (rv_register m rs1.number) (rv_register m rs2.number) ≡ true → target ≡ plus m.pc (extended 13 offset.bits) → target % 4 ≡ 0 → word_at code m.pc ≡ Some (word_of (BranchIf branch rs1 rs2 offset)) → rv_goes code m b (moved m target) b
-  branch_goes branch rs1 rs2 offset target taken is even here =
-      let s = state_of m b in
-      let e : does (BranchIf branch rs1 rs2 offset) s ≡ Goes (state_of (moved m target) b) =
-      ap (λ t. cond t (jumps s (plus m.pc (extended 13 offset.bits))) (Goes (behind s))) taken ∙ ap (jumps s) (sym is) ∙ aligned_is 4 target (Goes (state_of (moved m target) b)) even in
-      listed (BranchIf branch rs1 rs2 offset) here (sym e)
-
-  pub branch_passes : (branch : Branch) (rs1 rs2 : Register) (offset : BranchOffset) → is_taken branch (rv_register m rs1.number) (rv_register m rs2.number) ≡ false → word_at code m.pc ≡ Some (word_of (BranchIf branch rs1 rs2 offset)) → m.pc + 4 < 2 ^ 32 → rv_goes code m b (passed m) b
-  branch_passes branch rs1 rs2 offset no_test here fits =
-      let s = state_of m b in
-      let e : does (BranchIf branch rs1 rs2 offset) s ≡ Goes (state_of (passed m) b) =
-      ap (λ t. cond t (jumps s (plus m.pc (extended 13 offset.bits))) (Goes (behind s))) no_test ∙ behind_is m b fits in
-      listed (BranchIf branch rs1 rs2 offset) here (sym e)
 
   pub ecall_stops : word_at code m.pc ≡ Some (word_of Ecall) → rv_stops code m b
   ecall_stops here = listed Ecall here refl
