@@ -26,12 +26,12 @@ use Rattle.ec_core.specs.declared.Statement.{Statement, roll-Statement, map-Stat
 use Rattle.ec_core.specs.declared.Statement.TheOpen.{Statement-F as Core-F}
 use Rattle.ec_core.specs.declared.Statement.TheVariants as s
 use Rattle.ec_core_laws.proofs.Expressions.{expression_is, out_is, link_out_is}
-use Rattle.ec_core_laws.proofs.Small.{Small, none_small, more_small, both_small, same_small}
+use Rattle.ec_core_laws.proofs.Small.{Small, none_small, both_small, same_small}
 use Rattle.ec_core_laws.proofs.SmallExpressions as expressions
 use Rattle.ec_core_laws.proofs.SmallExpressions.{SmallPart, is_alone}
 use Rattle.ec_core_laws.proofs.Statements.{statement_is, arm_is, block_is}
 use Rattle.ec_core_laws.proofs.Trees as trees
-use Rattle.ec_core_laws.proofs.Trees.{IsPiece, IsBody}
+use Rattle.ec_core_laws.proofs.Trees.{IsPiece}
 use Rattle.ec_core_laws.specs.Measures.{all_of, greatest_of, if_there, expression_size, link_size, factor_size, addend_size}
 use Rattle.ec_core_laws.specs.Measures.{expression_height, link_height, factor_height, addend_height, size_of_link, size_of_factor}
 use Rattle.ec_core_laws.specs.Measures.{size_of_addend}
@@ -62,9 +62,6 @@ pub record SmallPiece (b : Piece) : Type 0 where
   pub small : (env : Env) →
       SmallDone (size_of_block (b.core env)) (height_of_block (b.core env)) (length (b.locals env.scope)) (b.piece env.scope).done
 
-abbrev PartHas : Part → Type 0
-PartHas = trees.PartHas SmallPart SmallStatement SmallPiece
-
 abbrev PieceHas : Piece → Type 0
 PieceHas = trees.PieceHas SmallPart SmallStatement SmallPiece
 
@@ -88,12 +85,6 @@ two_total s h n v t i m w a b k j z = record {
 
 leaf_total : Small 1 0 (plus 1 0) 0
 leaf_total = record { size = λ l. omega arith; height = λ l. omega arith }
-
-no_locals : (n : ℕ) → n ≤ 100 → 0 ≤ n
-no_locals n l = omega arith
-
-one_local : (n : ℕ) → plus 1 n ≤ 100 → 1 ≤ plus 1 n
-one_local n l = omega arith
 
 -- ---- what a statement has
 
@@ -300,9 +291,6 @@ assigned_small env x y h k Other is = element_small env x y h k
 
 -- ---- arms
 
-abbrev piece_done : Scope → judged.Piece → Done
-piece_done scope piece = (piece scope).done
-
 -- what several pieces are found to be, one after another
 abbrev pieces_done : Scope → List judged.Piece → Done
 pieces_done scope pieces = record {
@@ -310,9 +298,6 @@ pieces_done scope pieces = record {
   nodes = total (λ (p : judged.Piece). (p scope).done.nodes) pieces;
   variables = total (λ (p : judged.Piece). (p scope).done.variables) pieces;
 }
-
-arm_small : (s h n v t i m w : ℕ) → Small s h n v → Small t i m w → Small (1 + (s + t)) (max h i) (plus 1 (plus n m)) (max v w)
-arm_small s h n v t i m w k j = more_small _ _ _ _ (both_small s h n v t i m w k j)
 
 locals_both : (xs ys : List StaticType) (n m : ℕ) → (n ≤ 100 → length xs ≤ n) → (m ≤ 100 → length ys ≤ m) → plus n m ≤ 100 →
     length (xs ++ ys) ≤ plus n m

@@ -32,14 +32,6 @@ first_none i (s ∷ ss) e =
     let k = first_none (suc i) ss h.1 in
     rw (h.0, k) refl
 
-ready_here : (b : Bool) (rest : Bool) → b ≡ true → (not b && rest) ≡ false
-ready_here true rest e = refl
-ready_here false rest e = cc
-
-unready_rest : (b : Bool) (rest : Bool) → rest ≡ false → (not b && rest) ≡ false
-unready_rest true rest e = refl
-unready_rest false rest e = e
-
 first_some : (from i : ℕ) (ss : List ProcStatus) (p : ℕ) → first_true from i (map is_ready ss) ≡ Some p → none_ready ss ≡ false
 first_some from i [] p e = cc
 first_some from i (s ∷ ss) p e =

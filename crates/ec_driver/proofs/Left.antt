@@ -1,12 +1,11 @@
 -- What is left of lines, entry by entry.
-use Rattle.std.proofs.Common.{◌≡◌, ◌==◌, ℕ, zero, suc, ◌+◌, ◌-◌, ◌<◌, ◌≤◌, Bool, true, false, List, [], ◌∷◌, ◌++◌, drop, take, length, get_or, replicate, Option, Some, None, refl, sym, ap, ◌∙◌, arith, add-one}
+use Rattle.std.proofs.Common.{◌≡◌, ◌==◌, ℕ, zero, suc, ◌+◌, ◌-◌, ◌<◌, ◌≤◌, List, [], ◌∷◌, ◌++◌, drop, take, length, get_or, replicate, Some, refl, sym, ap, ◌∙◌, arith, add-one}
 use Rattle.std.proofs.lemmas.Bool.Decides.{nat_tests}
 use Rattle.ec_world.specs.declared.run.Entry.{Entry}
 use Rattle.ec_world.specs.declared.run.Entry.TheVariants.{Turn, Move}
 use Rattle.ec_world.specs.declared.run.RunEntry.{RunEntry}
-use Rattle.ec_world.specs.declared.run.RunEntry.TheVariants.{TurnOf, MoveOf}
 use Rattle.ec_world.specs.Run.{entries_of, expanded, tail_of}
-use Rattle.ec_driver.specs.Lines.{HasLeft, begins_empty, entry_count, entry_of, first_of, left_of}
+use Rattle.ec_driver.specs.Lines.{HasLeft, entry_count, entry_of, first_of, left_of}
 
 -- one of equal entries is taken, or all of them
 one_taken : (x : RunEntry) (ys : List RunEntry) (n t : ℕ) → t < n → drop t (replicate n x ++ ys) ≡ x ∷ drop (suc t) (replicate n x ++ ys)
@@ -65,26 +64,3 @@ module _ (d : Entry) (t : ℕ) where
   behind_at (l ∷ ls) n some h e k =
       let one : length (l ∷ ls) - 1 ≡ length ls = omega arith in
       rw (one, all_of ls) (none_of_line_left l ls t h (rw e at k))
-
--- ---- lines that stand for no entry
-
-none_of_zero : (e : Entry) (ys : List RunEntry) → entry_count e ≡ 0 → entries_of e ++ ys ≡ ys
-none_of_zero e ys h = equal_entries e ys ∙ ap (λ (n : ℕ). replicate n (entry_of e) ++ ys) h
-
-none_of : (e : Entry) (ys : List RunEntry) → (entry_count e == 0) ≡ true → entries_of e ++ ys ≡ ys
-none_of e ys h = let n : entry_count e ≡ 0 = grind (arith, nat_tests) in none_of_zero e ys n
-
-pub empty_skipped : (ls : List Entry) → begins_empty ls ≡ true → expanded (drop 1 ls) ≡ expanded ls
-empty_skipped [] h = cc
-empty_skipped (e ∷ es) h = sym (none_of e (expanded es) h)
-
-pub some_there : (ls : List Entry) → begins_empty ls ≡ true → 1 ≤ length ls
-some_there [] h = cc
-some_there (e ∷ es) h = omega arith
-
-not_zero : (n : ℕ) → (n == 0) ≡ false → 0 < n
-not_zero n h = grind (arith, nat_tests)
-
-pub has_left : (ls : List Entry) → begins_empty ls ≡ false → HasLeft ls 0
-has_left [] h = refl
-has_left (e ∷ es) h = not_zero (entry_count e) h

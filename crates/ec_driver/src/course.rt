@@ -57,7 +57,7 @@ impl<'a> Course<'a> {
     }
 
     /// What comes next, by the statuses of the processes: the schedule's next entry while there is one, and then round robin's.
-    /// The error is want of memory, or more than 2^32 processes.
+    /// The error is want of memory, or, where the turn is round robin's, 2^32 processes or more.
     pub fn next(
         &self,
         alloc: Global,

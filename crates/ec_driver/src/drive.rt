@@ -18,8 +18,8 @@ pub struct Ended {
     pub end: ReportEnd,
 }
 
-/// Does the entries of a schedule in order, and then round robin, up to the end of the run. The error is want of memory, or
-/// more than 2^32 processes.
+/// Does the entries of a schedule in order, and then round robin, up to the end of the run. The error is want of memory, or,
+/// once the schedule is used up, 2^32 processes or more.
 pub fn drive<S, D: Driver<S>>(
     alloc: Global,
     driver: &D,

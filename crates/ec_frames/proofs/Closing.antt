@@ -17,7 +17,7 @@ use Rattle.ec_frames.specs.declared.node.NodeStore.{NodeStore}
 use Rattle.ec_frames.specs.Node.{store_of, row_of, owned_of, Laid}
 use Rattle.ec_frames.specs.Changes.{Closed}
 use Rattle.ec_frames.specs.Owners.{FirstBlock, HasOneBlock, StandsAtPlace}
-use Rattle.ec_frames.proofs.Rows.{row_removed, row_removed_other, once_removed, all_from, first_or, one_item}
+use Rattle.ec_frames.proofs.Rows.{row_removed, row_removed_other, once_removed, all_from, first_or}
 
 -- ---- the first block of an owner
 
@@ -45,9 +45,6 @@ module _ (node : NodeStore) (key : Key) (i : ℕ) (r : Row) (laid : Laid node) (
       ap (λ (o : Owned). length o.blocks) (sym same) ∙ one.one
 
   module _ (b : ℕ) (first : slice_get r.blocks 0 ≡ Some b) where
-    blocks_are : r.blocks ≡ b ∷ []
-    blocks_are = one_item r.blocks b has_one first
-
     owns : Has r.blocks b
     owns = record { at = 0; is = first }
 

@@ -4,7 +4,7 @@ use Rattle.std.specs.Prelude.{slice_get}
 use Rattle.byteorder.specs.Endian.{little_number, little_bytes}
 use Rattle.byteorder.specs.Numbers.{little_number-reads_back, length-bytes_low_first}
 use Rattle.ec_base.specs.Bytes.{with_bytes}
-use Rattle.ec_memory.specs.Store.{Store as Memory, IsWhole, IsNew, SameLists, same_lists, same_lists_on, store_byte}
+use Rattle.ec_memory.specs.Store.{Store as Memory, IsWhole, IsNew, SameLists, same_lists_on, store_byte}
 use Rattle.ec_memory.specs.Words.{HasWord, block_word_at, global_word_at, word_in}
 use Rattle.ec_memory.proofs.Words.{word_written, word_other}
 use Rattle.ec_memory.proofs.Places.{block_word_there, global_word_there, block_word_even, global_word_even, same_block_word, block_global_apart, same_global_word, new_global_word, little_zeros}
@@ -66,9 +66,6 @@ module _ (node : NodeStore) (m : Memory) (w : ℕ) (laid : Laid node) (same : Sa
   }
 
 -- ---- many words
-
-pub none_written : (m : Memory) (b : ℕ) (given : List ℕ) → Written m m b given 0
-none_written m b given = record { lists = same_lists m; inside = λ i w h. absurd (omega arith); outside = λ at even h. refl }
 
 pub one_more_written : (m now next : Memory) (b : ℕ) (given : List ℕ) (i w : ℕ) → Written m now b given i → slice_get given i ≡ Some w → w < 2 ^ 32 → i < 128 → SameLists now next → store_byte next ≡ with_bytes (store_byte now) (block_word_at b i) (little_bytes 4 w) → Written m next b given (i + 1)
 one_more_written m now next b given i w before is few short same bytes = record {

@@ -1,4 +1,3 @@
-pub mod Changed
 pub mod Node
 pub mod Changes
 pub mod Owners

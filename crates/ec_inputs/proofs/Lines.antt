@@ -1,12 +1,12 @@
 -- Lines, and the entries of lines when those of the first ones are known.
-use Rattle.std.proofs.Common.{◌≡◌, refl, ap, ◌∙◌, sym, ◌+◌, ◌-◌, ◌==◌, ◌<◌, ◌≤◌, ℕ, Bool, true, false, not, cond, List, [], ◌∷◌, ◌++◌, length, take, drop, append_assoc, Some, arith, length-drop}
+use Rattle.std.proofs.Common.{◌≡◌, refl, ap, ◌∙◌, sym, ◌+◌, ◌-◌, ◌==◌, ◌<◌, ◌≤◌, ℕ, Bool, true, false, not, cond, List, [], ◌∷◌, ◌++◌, length, take, drop, arith, length-drop}
 use Rattle.std.specs.Prelude.{Result, Ok, Err}
 use Rattle.std.specs.List.{slice_split, onto_first, position_or_len}
 use Rattle.std.specs.Str.Lines.{lines, lines_of_parts, strip_carriage_return}
 use Rattle.std.proofs.lemmas.List.Splits.{slice_split_first, slice_split-cons_no, slice_split-cons_yes}
 use Rattle.std.proofs.lemmas.Bool.{ne_eqb}
 use Rattle.ec_world.specs.declared.run.Entry.{Entry}
-use Rattle.ec_inputs.specs.Schedules.{Text, Fault, with_entry}
+use Rattle.ec_inputs.specs.Schedules.{Text, Fault}
 
 -- ---- lines
 
@@ -75,7 +75,3 @@ last_line (b ∷ bs) k e h g some =
 abbrev pub after : List Entry → Result (List Entry) Fault → Result (List Entry) Fault
 after es (Ok more) = Ok (es ++ more)
 after es (Err fault) = Err fault
-
-pub after_one : (es : List Entry) (e : Entry) (r : Result (List Entry) Fault) → after (es ++ e ∷ []) r ≡ after es (with_entry (Some e) r)
-after_one es e (Ok more) = let same : (es ++ e ∷ []) ++ more ≡ es ++ (e ∷ more) = append_assoc es (e ∷ []) more in ap (λ xs. Ok xs) same
-after_one es e (Err fault) = refl

@@ -14,10 +14,6 @@ pub chain-none : (links : List ℕ) (first : ℕ) → chain links first 0 ≡ []
 unfolding chain
 chain-none links first = refl
 
-pub chain-suc : (links : List ℕ) (first n : ℕ) → chain links first (suc n) ≡ first ∷ chain links (slice_index links first) n
-unfolding chain
-chain-suc links first n = refl
-
 pub chain-add : (links : List ℕ) (first n m : ℕ) → chain links first (n + m) ≡ chain links first n ++ chain links (after links first n) m
 unfolding chain after
 chain-add links first zero m = let e : zero + m ≡ m = omega arith in ap (chain links first) e

@@ -1,12 +1,11 @@
 -- The words of blocks and globals.
 use Rattle.std.proofs.Common.{◌≡◌, ◌≢◌, ℕ, zero, suc, ◌+◌, ◌*◌, ◌%◌, ◌^◌, ◌<◌, ◌≤◌, List, [], ◌∷◌, length, Some, refl, sym, ap, ◌∙◌, subst, arith}
-use Rattle.std.specs.Prelude.{slice_get, slice_index, IsSome, replicate}
+use Rattle.std.specs.Prelude.{slice_get, IsSome, replicate}
 use Rattle.std.specs.Option.{option_map}
-use Rattle.std.specs.List.{AllByRecursion}
 use Rattle.std.proofs.lemmas.Option.{slice_get-get_or}
-use Rattle.byteorder.specs.Endian.{little_number, big_number}
+use Rattle.byteorder.specs.Endian.{little_number}
 use Rattle.ec_base.specs.Bytes.{Bytes, bytes_from, before_rest, with_front}
-use Rattle.ec_memory.specs.Store.{Store, IsWhole, IsNew, Takes, Gives, IsApart, chain, store_byte, blocks_base, globals_base}
+use Rattle.ec_memory.specs.Store.{Store, IsWhole, IsNew, Takes, Gives, store_byte, blocks_base, globals_base}
 use Rattle.ec_memory.specs.Words.{HasWord, word_in, block_word_at, global_word_at}
 use Rattle.ec_memory.proofs.Regions.{globals_same, blocks_same}
 use Rattle.ec_memory.proofs.Words.{all_there}
@@ -45,9 +44,6 @@ global_word_even i = omega arith
 pub same_block_word : (b c i j : ℕ) → i < 128 → j < 128 → block_word_at b i ≡ block_word_at c j → (b ≡ c) × (i ≡ j)
 same_block_word b c i j hi hj e = (omega arith, omega arith)
 
-pub blocks_apart : (b c i j : ℕ) → i < 128 → j < 128 → b ≢ c → block_word_at b i ≢ block_word_at c j
-blocks_apart b c i j hi hj ne e = ne (same_block_word b c i j hi hj e).0
-
 pub block_global_apart : (b i j : ℕ) → b < 65536 → i < 128 → block_word_at b i ≢ global_word_at j
 block_global_apart b i j hb hi e = let no : ⊥ = omega (arith, e) in no
 
@@ -70,17 +66,6 @@ zero_bytes m at (suc n) h =
     ap (λ o. before_rest o (bytes_from m (at + 1) n)) (ap m here ∙ h 0 (omega arith)) ∙ ap (with_front 0) rest
 
 module _ (number : ℕ → List ℕ → ℕ) (zeros : number 4 (0 ∷ 0 ∷ 0 ∷ 0 ∷ []) ≡ 0) (s : Store) (whole : IsWhole s) (blocks globals : ℕ) (new : IsNew s blocks globals) where
-  -- every word of a new memory is 0, in an order in which four zero bytes are 0
-  pub new_block_word : (b i : ℕ) → b < blocks → i < 128 → word_in number (store_byte s) (block_word_at b i) ≡ Some 0
-  new_block_word b i hb hi =
-      let few = whole.few_blocks in
-      let links = new.links in
-      ap (option_map (number 4)) (zero_bytes (store_byte s) (block_word_at b i) 4 (λ k lt.
-      let e : block_word_at b i + k ≡ blocks_base + (512 * b + 4 * i + k) = omega arith in
-      ap (store_byte s) e ∙ blocks_same s whole (512 * b + 4 * i + k) (omega arith) ∙ ap (λ xs. slice_get xs (512 * b + 4 * i + k)) new.all_blocks
-      ∙ zero_byte (512 * blocks) (512 * b + 4 * i + k) (omega arith)))
-      ∙ ap Some zeros
-
   pub new_global_word : (i : ℕ) → i < globals → i < 2 ^ 20 → word_in number (store_byte s) (global_word_at i) ≡ Some 0
   new_global_word i hi few =
       ap (option_map (number 4)) (zero_bytes (store_byte s) (global_word_at i) 4 (λ k lt.
@@ -89,12 +74,9 @@ module _ (number : ℕ → List ℕ → ℕ) (zeros : number 4 (0 ∷ 0 ∷ 0 �
       ∙ zero_byte (4 * globals) (4 * i + k) (omega arith)))
       ∙ ap Some zeros
 
--- both byte orders read 0
+-- four zero bytes are 0, the least byte first
 pub little_zeros : little_number 4 (0 ∷ 0 ∷ 0 ∷ 0 ∷ []) ≡ 0
 little_zeros = refl
-
-pub big_zeros : big_number 4 (0 ∷ 0 ∷ 0 ∷ 0 ∷ []) ≡ 0
-big_zeros = refl
 
 -- ---- what takes and gives leave
 
@@ -110,17 +92,3 @@ taken_bytes s t first n h = same_regions s t h.blocks h.globals
 -- no byte changes where blocks are given
 pub given_bytes : (s t : Store) (first n : ℕ) → Gives s t first n → store_byte t ≡ store_byte s
 given_bytes s t first n h = same_regions s t h.blocks h.globals
-
--- no number of xs is one of ys
-abbrev pub AreApartFrom : List ℕ → List ℕ → Type 0
-AreApartFrom xs ys = AllByRecursion (λ x. IsApart x ys) xs
-
-chain_by : (old new : List ℕ) (gone : List ℕ) (first n : ℕ) → ((b : ℕ) → IsApart b gone → slice_index new b ≡ slice_index old b) → AreApartFrom (chain old first n) gone → chain new first n ≡ chain old first n
-unfolding chain
-chain_by old new gone first zero same apart = refl
-chain_by old new gone first (suc n) same apart =
-    ap (λ l. first ∷ l) (ap (λ f. chain new f n) (same first apart.0) ∙ chain_by old new gone (slice_index old first) n same apart.1)
-
--- a list of blocks of another owner stays, where blocks are given
-pub chain_given : (s t : Store) (first n : ℕ) → Gives s t first n → (other m : ℕ) → AreApartFrom (chain s.links other m) (chain s.links first n) → chain t.links other m ≡ chain s.links other m
-chain_given s t first n h other m apart = chain_by s.links t.links (chain s.links first n) other m h.links apart

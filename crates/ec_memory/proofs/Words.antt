@@ -81,38 +81,6 @@ all_there m at (suc n) h =
     whole_there (m at) (bytes_from m (at + 1) n) (subst (λ a. IsSome (m a)) here (h 0 (omega arith)))
     (all_there m (at + 1) n (λ k lt. let on : at + suc k ≡ at + 1 + k = omega arith in subst (λ a. IsSome (m a)) on (h (suc k) (omega arith))))
 
-byte_stays : (m : Bytes) (at : ℕ) (bs : List ℕ) (a : ℕ) → IsSome (m a) → IsSome (with_bytes m at bs a)
-byte_stays m at bs a h =
-    ⊎_elim
-    (λ below. subst (λ o. IsSome o) (sym (byte_other m at bs a (inl below))) h)
-    (λ from. ⊎_elim
-    (λ within.
-    let e : at + (a - at) ≡ a = omega arith in
-    subst (λ x. IsSome (with_bytes m at bs x)) e (subst (λ o. IsSome o) (sym (byte_written m at bs (a - at) (omega arith))) refl))
-    (λ past. subst (λ o. IsSome o) (sym (byte_other m at bs a (inr past))) h)
-    (cases_lt a (at + length bs)))
-    (cases_lt a at)
-
--- a write leaves every byte there that was there
-pub stays_there : (m : Bytes) (at : ℕ) (bs : List ℕ) (a n : ℕ) → IsSome (bytes_from m a n) → IsSome (bytes_from (with_bytes m at bs) a n)
-stays_there m at bs a n h = all_there (with_bytes m at bs) a n (λ k lt. byte_stays m at bs (a + k) (each_there m a n h k lt))
-
-byte_was : (m : Bytes) (at : ℕ) (bs : List ℕ) (a : ℕ) → IsSome (bytes_from m at (length bs)) → IsSome (with_bytes m at bs a) → IsSome (m a)
-byte_was m at bs a there h =
-    ⊎_elim
-    (λ below. subst (λ o. IsSome o) (byte_other m at bs a (inl below)) h)
-    (λ from. ⊎_elim
-    (λ within.
-    let e : at + (a - at) ≡ a = omega arith in
-    subst (λ x. IsSome (m x)) e (each_there m at (length bs) there (a - at) (omega arith)))
-    (λ past. subst (λ o. IsSome o) (byte_other m at bs a (inr past)) h)
-    (cases_lt a (at + length bs)))
-    (cases_lt a at)
-
--- and a write to bytes that are there adds none
-pub was_there : (m : Bytes) (at : ℕ) (bs : List ℕ) (a n : ℕ) → IsSome (bytes_from m at (length bs)) → IsSome (bytes_from (with_bytes m at bs) a n) → IsSome (bytes_from m a n)
-was_there m at bs a n there h = all_there m a n (λ k lt. byte_was m at bs (a + k) there (each_there (with_bytes m at bs) a n h k lt))
-
 -- ---- words
 
 -- two aligned words at different places share no byte
@@ -149,11 +117,6 @@ module _ (number : ℕ → List ℕ → ℕ) (bytes : ℕ → ℕ → List ℕ) 
   byte_beside m at w a h =
       let long = length_bytes 4 w in
       byte_other m at (bytes 4 w) a (⊎_elim (λ p. inl p) (λ p. inr (omega (arith, long, p))) h)
-
-  -- a word is there after the write where it was there before
-  pub has_word : (m : Bytes) (at w a : ℕ) → HasWord m at → HasWord (with_bytes m at (bytes 4 w)) a ↔ HasWord m a
-  has_word m at w a there =
-      (was_there m at (bytes 4 w) a 4 (subst (λ n. IsSome (bytes_from m at n)) (sym (length_bytes 4 w)) there), stays_there m at (bytes 4 w) a 4)
 
 some_word : (number : ℕ → List ℕ → ℕ) (o : Option (List ℕ)) → IsSome o → (w : ℕ) × (option_map (number 4) o ≡ Some w)
 some_word number None h = absurd (cc)

@@ -14,10 +14,6 @@ use Rattle.ec_monitors.proofs.Counting.{nobody_lost}
 
 -- each process stands at most once
 
-at_most_once : (b : Bool) → one_if b ≤ 1
-at_most_once true = omega arith
-at_most_once false = omega arith
-
 not_held : (p : ℕ) (o : Option Hold) → is_hold_of p o ≡ false → times_held p o ≡ 0
 not_held p None e = refl
 not_held p (Some h) e = ap one_if e

@@ -116,9 +116,6 @@ module _ {program : Parts} {w : IrWorld} {p : ℕ} {stop : StopRec} {below : Lis
   abbrev pub new_object : ObjectRec
   new_object = record { class = Made k; fields = new_fields [] c.class.fields; fixed = false; monitor = None }
 
-  abbrev pub new_oid : ℕ
-  new_oid = suc (length w.common.objects)
-
   abbrev pub new_activation : IrActivation
   new_activation = begun c.class.initial (suc (length w.common.objects)) []
 

@@ -52,9 +52,6 @@ module _ (program : Parts) (spec : NodeSpec) (globals : ℕ) (globals_are : glob
     pub place_is : (store_of more).text place ≡ Some []
     place_is = interns.is ∙ ap Some text_is
 
-    pub globals_more : length program.globals ≡ more.globals
-    globals_more = sym (same_more.globals ∙ same_texts.globals ∙ sized.1 ∙ globals_are)
-
     module _ (same_constants : SameNode more constants) (only : OnlyConstants (store_of more) (store_of constants)) (has : HasConstants (store_of constants) program.globals (length program.globals)) where
       pub no_rows : (key : Key) → (store_of constants).row key ≡ None
       no_rows key = only.rows key ∙ interns.only.rows key ∙ no_owner key

@@ -99,15 +99,6 @@ only_twice a b c x y = record {
   count = y.count ∙ x.count;
 }
 
-pub only_self : (s : Store) → OnlyTables s s
-only_self s = record {
-  grown = record { kind = refl; local = λ i o e. e; text = λ i t e. e; global = λ i. refl; room = refl };
-  rows = λ key. refl;
-  words = λ b i. refl;
-  free = refl;
-  count = refl;
-}
-
 -- ---- a fresh node
 
 pub no_texts : (node : NodeStore) (kind : Kind) (blocks text globals : ℕ) → IsFresh (store_of node) kind blocks text globals → node.pool ≡ []

@@ -1,11 +1,11 @@
 -- One node of a network, and what becomes of it.
-use Rattle.std.proofs.Common.{◌≡◌, ℕ, zero, suc, List, [], ◌∷◌, Option, Some, None, refl, sym, ap, ◌∙◌}
+use Rattle.std.proofs.Common.{◌≡◌, ℕ, List, [], ◌∷◌, Some, sym, ap, ◌∙◌}
 use Rattle.std.specs.Prelude.{slice_get, slice_set}
 use Rattle.ec_nodes.specs.declared.key.Key.{Key}
 use Rattle.ec_nodes.specs.Store.{Store, Owned}
 use Rattle.ec_frames.specs.declared.node.NodeStore.{NodeStore}
 use Rattle.ec_frames.specs.Node.{Laid, SameNode}
-use Rattle.ec_frames.specs.Owners.{FirstBlock, HasBlock, HasOneBlock}
+use Rattle.ec_frames.specs.Owners.{FirstBlock, HasBlock}
 use Rattle.ec_network.specs.declared.cluster.Cluster.{Cluster}
 use Rattle.ec_network.specs.Kernel.{Becomes}
 
@@ -45,10 +45,6 @@ becomes_one net net' n node node' one is set program images laid same = record {
 -- an owner of the one block b has a first block
 pub owns_block : (s : Store) (key : Key) (r : Owned) (b : ℕ) → s.row key ≡ Some r → r.blocks ≡ b ∷ [] → HasBlock s key
 owns_block s key r b there is = (b, record { row = r; there = there; first = ap (λ xs. slice_get xs 0) is })
-
--- and has one block alone
-pub owns_one : (s : Store) (key : Key) (r : Owned) (b : ℕ) → s.row key ≡ Some r → r.blocks ≡ b ∷ [] → HasOneBlock s key
-owns_one s key r b there is = record { row = r; there = there; one = ap Rattle.std.proofs.Common.length is }
 
 -- its first block is b
 pub first_is : (s : Store) (key : Key) (r : Owned) (b c : ℕ) → s.row key ≡ Some r → r.blocks ≡ b ∷ [] → FirstBlock s key c → c ≡ b

@@ -11,7 +11,7 @@ use Rattle.ec_memory.specs.Store.{store_byte}
 use Rattle.ec_memory.specs.Words.{block_word_at, word_in}
 use Rattle.ec_memory.proofs.Words.{word_there}
 use Rattle.ec_memory.proofs.Places.{block_word_there}
-use Rattle.ec_target.specs.Runs.{Trapping, Halts, Leads, IsOneWay, AreApart, SetsRegister, SetsPlace}
+use Rattle.ec_target.specs.Runs.{Trapping, Halts, Leads, IsOneWay, AreApart}
 use Rattle.ec_target.specs.declared.outcome.Trap.{Trap}
 use Rattle.ec_target.proofs.Running.{native_halts, native_no_trap}
 use Rattle.ec_stops.specs.declared.table.Place.TheVariants.{Slot}
@@ -29,15 +29,6 @@ use Rattle.ec_network.proofs.ActionsStores.{alone_net}
 use Rattle.ec_network.proofs.ActionsFrames.{heads_of, live_below}
 use Rattle.ec_network.proofs.RunningTop.{GoingOn}
 use Rattle.ec_network.proofs.RunningWalk.{settled_operation}
-
--- a machine is behind a stop, once both registers and the place are set
-pub stands_behind : {S : Type 0} (M : MachineMeaning S) (beside : S → List ℕ) (first second third last : S) (address f b : ℕ) → 0 < M.frame_base → 0 < M.own_base → M.frame_base ≢ M.own_base → SetsRegister M.register M.place M.rests beside first second M.frame_base (block_at f) → SetsRegister M.register M.place M.rests beside second third M.own_base (block_at b) → SetsPlace M.register M.place M.rests beside third last (address + 4) → StandsBehind M last address f b
-stands_behind M beside first second third last address f b frame own two sets_frame sets_own sets_place = record {
-  rests = sets_place.now_rests;
-  behind = sets_place.at;
-  frame_base = sets_place.registers M.frame_base ∙ sets_own.others M.frame_base two ∙ sets_frame.set frame;
-  own_base = sets_place.registers M.own_base ∙ sets_own.set own;
-}
 
 no_value : (P : Type 0) (fields : List Value) (i : ℕ) (v : Value) → fields ≡ [] → slice_get fields i ≡ Some v → P
 no_value P [] i v e f = cc

@@ -6,7 +6,6 @@ pub mod World
 pub mod Steps
 pub mod Sums
 pub mod Items
-pub mod OneNode
 pub mod Texts
 pub mod Ran
 pub mod Create

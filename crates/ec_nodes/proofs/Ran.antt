@@ -1,9 +1,8 @@
 -- A native run: the top activation and its own object have changed at their node, and nothing else.
-use Rattle.std.proofs.Common.{◌≡◌, ◌≢◌, ℕ, zero, suc, ◌+◌, ◌*◌, ◌/◌, ◌<◌, ◌≤◌, List, [], ◌∷◌, ◌++◌, length, Option, Some, None, refl, sym, ap, ◌∙◌, subst, arith, ◌⊎◌, inl, inr, ⊎_elim}
+use Rattle.std.proofs.Common.{◌≡◌, ◌≢◌, ℕ, zero, suc, ◌+◌, ◌*◌, ◌/◌, ◌<◌, ◌≤◌, List, [], ◌∷◌, ◌++◌, Option, Some, refl, sym, ap, ◌∙◌, arith, ◌⊎◌, inl, inr, ⊎_elim}
 use Rattle.std.specs.Prelude.{slice_get, slice_set}
 use Rattle.ec_world.specs.declared.value.Value.{Value}
 use Rattle.ec_world.specs.declared.object.ObjectRec.{ObjectRec}
-use Rattle.ec_world.specs.declared.common.Common.{Common}
 use Rattle.ec_world.specs.declared.process.Proc.{Proc}
 use Rattle.ec_world.specs.declared.world.World.{World}
 use Rattle.ec_ir.specs.declared.activation.IrActivation.{IrActivation}
@@ -11,13 +10,9 @@ use Rattle.ec_base.proofs.Lists.{get_set_same, get_set_other, get_within}
 use Rattle.ec_world.specs.declared.node.Kind.{Kind}
 use Rattle.ec_nodes.specs.declared.key.Key.{Key}
 use Rattle.ec_nodes.specs.declared.key.Key.TheVariants.{Object, Frame}
-use Rattle.ec_nodes.specs.Store.{Store, KeptRow, Grown, Tidy}
-use Rattle.ec_nodes.specs.Things.{Thing, ThingsPut, PutsAll, NodePut, Shown, IsAt, things_of, frame_thing, frame_if, object_if, object_thing, blocks_of, activation_at}
-use Rattle.ec_nodes.specs.Held.{Held, if_at, total, process_weight, frame_weight, object_weight}
-use Rattle.ec_nodes.specs.Shows.{ShowsNodes}
+use Rattle.ec_nodes.specs.Things.{ThingsPut, things_of, frame_thing, frame_if, object_if, object_thing, blocks_of, activation_at}
 use Rattle.ec_nodes.proofs.Put.{same_or_not, key_or_not}
-use Rattle.ec_nodes.proofs.Procs.{activation_here, activation_there, activation_is, total_set}
-use Rattle.ec_nodes.proofs.OneNode.{node_changed}
+use Rattle.ec_nodes.proofs.Procs.{activation_here, activation_there, activation_is}
 
 -- the world after: object i + 1 and the activation at depth d of process p are others
 abbrev pub ran_world : World IrActivation → ℕ → ObjectRec → ℕ → Proc IrActivation → World IrActivation
@@ -77,25 +72,3 @@ module _ (live : IrActivation → List Value) (spot : IrActivation → Kind → 
         (λ (e : key ≡ Frame p d). rw (e, new_frame) (ap place own' ∙ at))
         t;
   }
-
-  pub run_held : (j : ℕ) → Held place j w' ≡ Held place j w
-  run_held j =
-      let x : total (object_weight place j) 0 (slice_set w.common.objects i o') + object_weight place j i o ≡ total (object_weight place j) 0 w.common.objects + object_weight place j i o' = total_set (object_weight place j) 0 w.common.objects i i o o' object_is (omega arith) in
-      let y : total (process_weight place j) 0 (slice_set w.processes p proc') + process_weight place j p proc ≡ total (process_weight place j) 0 w.processes + process_weight place j p proc' = total_set (process_weight place j) 0 w.processes p p proc proc' is (omega arith) in
-      let z : process_weight place j p proc' + frame_weight place j d a ≡ process_weight place j p proc + frame_weight place j d a' = rw next (total_set (frame_weight place j) 0 proc.activations d d a a' top (omega arith)) in
-      let m : object_weight place j i o' ≡ object_weight place j i o = ap (λ n. if_at j n (place (suc i))) size in
-      let n : frame_weight place j d a' ≡ frame_weight place j d a = ap (λ q. if_at j 1 (place q)) (own' ∙ sym own) in
-      omega arith
-
-  -- the nodes show the world after the run
-  pub run_shows : (nodes nodes' : ℕ → Option Store) (s s' : Store) → ShowsNodes live spot nodes w place → NodePut nodes nodes' k s s' → Shown s' (Object (suc i)) (object_thing (suc i) o') → Shown s' (Frame p d) (frame_thing live spot p d a') → ((key : Key) → (Touched key → ⊥) → KeptRow s s' key) → Grown s s' → (Tidy s → Tidy s') → s'.free ≡ s.free → ShowsNodes live spot nodes' w' place
-  run_shows nodes nodes' s s' shows n object frame kept grown tidy free =
-      node_changed live spot place nodes nodes' k s s' w w' Touched shows n (record {
-        here = λ key t. ⊎_elim
-            (λ (e : key ≡ Object (suc i)). rw (e, new_object) object)
-            (λ (e : key ≡ Frame p d). rw (e, new_frame) frame)
-            t;
-        others = kept;
-        grown = grown;
-        tidy = tidy;
-      }) run_puts refl (λ j ne. run_held j) (omega (arith, run_held k, free))

@@ -1,18 +1,15 @@
 -- What a world holds at a node, its texts there, and when an entry finds no room.
-use Rattle.std.specs.Prelude.{◌≡◌, ℕ, zero, suc, ◌+◌, ◌-◌, ◌<◌, ◌≤◌, ◌==◌, ◌⊎◌, ◌↔◌, Bool, true, false, List, [], ◌∷◌, length, Option, Some, None, slice_get, nat_lt, if◌then◌else◌}
-use Rattle.ec_world.specs.declared.value.Value.{Value}
-use Rattle.ec_world.specs.declared.value.Value.TheVariants.{Str}
+use Rattle.std.specs.Prelude.{◌≡◌, ℕ, suc, ◌+◌, ◌-◌, ◌<◌, ◌≤◌, ◌==◌, ◌⊎◌, ◌↔◌, List, [], ◌∷◌, Option, Some, None, slice_get, if◌then◌else◌}
 use Rattle.ec_world.specs.declared.object.ObjectRec.{ObjectRec}
 use Rattle.ec_world.specs.declared.process.Proc.{Proc}
 use Rattle.ec_world.specs.declared.world.World.{World}
 use Rattle.ec_ir.specs.declared.activation.IrActivation.{IrActivation}
-use Rattle.ec_nodes.specs.declared.key.Key.{Key}
 use Rattle.ec_nodes.specs.declared.room.Needs.{Needs}
 use Rattle.ec_nodes.specs.declared.room.Part.{Part}
 use Rattle.ec_nodes.specs.declared.room.Part.TheVariants.{Blocks, Text}
 use Rattle.ec_nodes.specs.Store.{Store, text_bytes}
 use Rattle.ec_world.specs.Group.{Has}
-use Rattle.ec_nodes.specs.Things.{Thing, blocks_of}
+use Rattle.ec_nodes.specs.Things.{blocks_of}
 
 -- the sum of a number for each item and its place in the list
 abbrev pub total : {A : Type 0} → (ℕ → A → ℕ) → ℕ → List A → ℕ
@@ -36,11 +33,6 @@ module _ (place : ℕ → Option ℕ) (k : ℕ) where
   -- the blocks held at a node
   abbrev pub Held : World IrActivation → ℕ
   Held w = total object_weight 0 w.common.objects + total process_weight 0 w.processes
-
--- a text is in a value of a thing at node k, or in a constant
-pub data StringsAt (things : Key → Option Thing) (globals : List Value) (place : ℕ → Option ℕ) (k : ℕ) (text : List ℕ) : Type 0 where
-  InThing : (key : Key) (t : Thing) → things key ≡ Some t → place t.home ≡ Some k → Has t.values (Str text) → StringsAt things globals place k text
-  InGlobal : Has globals (Str text) → StringsAt things globals place k text
 
 abbrev pub InPool : Store → List ℕ → Type 0
 InPool s text = (i : ℕ) × (s.text i ≡ Some text)

@@ -1,5 +1,5 @@
 -- Objects and activations alike: what lies in blocks at the place of an object.
-use Rattle.std.specs.Prelude.{◌≡◌, ◌≢◌, ◌⊎◌, ℕ, zero, suc, ◌+◌, ◌*◌, ◌/◌, max, Bool, false, List, [], ◌∷◌, length, Option, Some, None, slice_get, if◌then◌else◌}
+use Rattle.std.specs.Prelude.{◌≡◌, ◌≢◌, ◌⊎◌, ℕ, ◌+◌, ◌*◌, ◌/◌, max, Bool, false, List, [], ◌∷◌, length, Option, Some, None, slice_get, if◌then◌else◌}
 use Rattle.ec_world.specs.declared.value.Value.{Value}
 use Rattle.ec_world.specs.declared.object.ObjectRec.{ObjectRec}
 use Rattle.ec_monitors.specs.declared.record.MonitorRec.{MonitorRec}
@@ -135,13 +135,6 @@ IsAt place k (Some t) = place t.home ≡ Some k
 pub record ThingPut (things things' : Key → Option Thing) (key : Key) (now : Option Thing) : Type 0 where
   pub here : things' key ≡ now
   pub others : (other : Key) → other ≢ key → things' other ≡ things other
-
--- some owners of a store have changed: each now has this thing, or none; all others are as they were
-pub record PutsAll (s s' : Store) (Touched : Key → Type 0) (now : Key → Option Thing) : Type 0 where
-  pub here : (key : Key) → Touched key → ShowsHere s' key (now key)
-  pub others : (key : Key) → (Touched key → ⊥) → KeptRow s s' key
-  pub grown : Grown s s'
-  pub tidy : Tidy s → Tidy s'
 
 -- some things at one node have changed
 pub record ThingsPut (place : ℕ → Option ℕ) (k : ℕ) (Touched : Key → Type 0) (things things' : Key → Option Thing) : Type 0 where

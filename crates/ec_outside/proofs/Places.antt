@@ -21,9 +21,6 @@ length-map_names f (x ∷ xs) = ap suc (length-map_names f xs)
 pub position-map : {X Y : Type 0} (f : X → Y) (p : Y → Bool) (xs : List X) → position p (map f xs) ≡ position (λ x. p (f x)) xs
 position-map f p xs = rw (position_or_len-map f p xs, length-map_names f xs) refl
 
-pub place_within : (names : List (List ℕ)) (name : List ℕ) (i : ℕ) → place_of names name ≡ Some i → i < length names
-place_within names name i e = (position-Some (λ kept. bytes_eq kept name) names i name e).0
-
 -- a name that is there has a place before the end
 there : (names : List (List ℕ)) (name : List ℕ) (k : ℕ) → k < length names → get_or names k name ≡ name → position_or_len (λ kept. bytes_eq kept name) names < length names
 there [] name k h e = absurd (omega arith)

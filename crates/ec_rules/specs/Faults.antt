@@ -3,7 +3,6 @@
 -- faults this part has, from the types of the parts within it; Judging.antt joins the faults of a part with those within
 -- it, and Tree.antt goes over the tree.
 use Rattle.std.specs.Prelude.{◌≡◌, List, [], ◌∷◌, ◌++◌, map, Option}
-use Rattle.ec_ast.specs.declared.Expression.{Expression as Tree}
 use Rattle.ec_ast.specs.declared.Name.{Name}
 use Rattle.ec_ast.specs.declared.Program.{Program}
 use Rattle.ec_ast.specs.declared.TypeName.{TypeName}
@@ -11,7 +10,6 @@ use Rattle.ec_ast.specs.declared.Typeobject.{Typeobject}
 use Rattle.ec_conform.specs.Declarations.{declarations_of}
 use Rattle.ec_conform.specs.Table.{Table, IsTable}
 use Rattle.ec_conform.specs.Types.{number_at}
-use Rattle.ec_conform.specs.declared.static_type.StaticType.{StaticType}
 use Rattle.ec_rules.specs.declared.StaticFault.{StaticFault}
 use Rattle.ec_rules.specs.declared.judged.Done.{Done}
 use Rattle.ec_rules.specs.Doubled.{doubled, doubled_in_typeobject}
@@ -25,7 +23,7 @@ use Rattle.ec_rules.specs.Operands.{wrong_constant}
 use Rattle.ec_rules.specs.Parts.{ValuePart, expression, class, typeobject, ConstantPart, faults_in, value_in}
 use Rattle.ec_rules.specs.Rules.{in_order}
 use Rattle.ec_rules.specs.Statements.{nothing_done, done_both, done_of}
-use Rattle.ec_rules.specs.Tree.{part_of, constant_parts}
+use Rattle.ec_rules.specs.Tree.{constant_parts}
 use Rattle.ec_scopes.specs.declared.globals.Global.{Global}
 use Rattle.ec_scopes.specs.declared.globals.Meaning.{Meaning}
 use Rattle.ec_scopes.specs.declared.globals.Meaning.TheVariants as means
@@ -107,7 +105,3 @@ HasFaults program faults = (table : Table) × IsTable (declarations_of program) 
 -- the program breaks no static rule
 abbrev pub IsAccepted : Program → Type 0
 IsAccepted program = HasFaults program []
-
--- The type of an expression in a scope, where its value is needed.
-abbrev pub type_of_expression : Scope → Tree → Option StaticType
-type_of_expression scope e = (value_in scope (part_of e)).of

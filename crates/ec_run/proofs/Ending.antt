@@ -11,7 +11,7 @@ use Rattle.ec_world.specs.Agree.{SameRest}
 use Rattle.ec_world.specs.Places.{places}
 use Rattle.ec_world.specs.Run.{Reaches, statuses_of, end_by, end_of}
 use Rattle.ec_world.proofs.Simulation.{statuses_agree}
-use Rattle.ec_driver.specs.Driver.{EndsAs}
+use Rattle.ec_driver.specs.Driver.{EndsAs, IsFullEnd}
 use Rattle.ec_driver.specs.Progress.{Progress}
 use Rattle.ec_driver.proofs.Coming.{end_here, run_ends}
 use Rattle.ec_printing.specs.declared.activation.SourceActivation.{SourceActivation}
@@ -38,7 +38,7 @@ use Rattle.ec_report.specs.Status.{status_of}
 use Rattle.ec_run.specs.Runs.{ir_run, source_run, EndsAfter, RunsTo, run_report}
 use Rattle.ec_run.specs.Runs.EndsAfter.{ByItself, AsFull}
 use Rattle.ec_run.specs.Runs.RunsTo.{LoadIsFull, RanUntil}
-use Rattle.ec_run.specs.Running.{Follows, FullNext, IsFullEnd, IsReported}
+use Rattle.ec_run.specs.Running.{Follows, FullNext, IsReported, refusal_of}
 use Rattle.ec_run.proofs.Following.{same_start}
 
 abbrev text_of : Common → List ProcStatus → List NodeSpec → (ℕ → ℕ) → ℕ → ReportEnd → List ℕ
@@ -120,7 +120,7 @@ runs_loaded program ir specs schedule budget net old net' status text means empt
     (subst (λ (x : Parts). (node : ℕ) (part : Part) (need free : ℕ) → LoadFull x specs node part need free → ⊥) (sym ir_is) l.fits)
 
 -- a load that found no room
-pub runs_full : (program : Program) (ir : Parts) (specs : List NodeSpec) (schedule : List Entry) (budget : ℕ) (net net' : Net) (e : NetError) (end : ReportEnd) (status : Status) (text : List ℕ) → Means program ir → net ≡ empty_net → IsFullEnd e end → WhenFull (Err e) (LoadFull ir specs) → WhenFull (Err e) (λ node part need free. net' ≡ net) → status ≡ statuses.Full → text ≡ load_report specs end → RunsTo program specs schedule budget net net' status text
+pub runs_full : (program : Program) (ir : Parts) (specs : List NodeSpec) (schedule : List Entry) (budget : ℕ) (net net' : Net) (e : NetError) (end : ReportEnd) (status : Status) (text : List ℕ) → Means program ir → net ≡ empty_net → IsFullEnd (refusal_of e) end → WhenFull (Err e) (LoadFull ir specs) → WhenFull (Err e) (λ node part need free. net' ≡ net) → status ≡ statuses.Full → text ≡ load_report specs end → RunsTo program specs schedule budget net net' status text
 runs_full program ir specs schedule budget net net' (Full node part need free) end status text means empty is full same s t =
     let u : text ≡ load_report specs (IsFull node part need free) = t ∙ ap (load_report specs) is in
     rw (s, u) (LoadIsFull ir node need free part means full (Refused empty node need free part full refl same))

@@ -33,7 +33,6 @@ use Rattle.ec_network.specs.declared.network.NetError.{NetError}
 use Rattle.ec_network.specs.declared.network.NetError.TheVariants.{Full, Memory}
 use Rattle.ec_network.specs.Shows.{IrWorld, stores, store_if}
 use Rattle.ec_network.specs.Room.{Room, Strings, FirstTexts, FullAt, held}
-use Rattle.ec_network.specs.Worlds.{ir_action}
 use Rattle.ec_network.specs.Holds.{Holds}
 use Rattle.ec_network.specs.Turns.{SameMachines, SamePools, StepsTo, Idles, Rests, Waits, Runs, EntryOf, Along, IsLoaded, rooms_of, room_if as spec_room}
 use Rattle.ec_network.specs.Full.{room_of, rooms, pool_if, Pools}
@@ -249,9 +248,6 @@ module _ (specs : List NodeSpec) (old : Net) (schedule : List Entry) (budget : �
       let done = f.within in
       let limit = f.limit in
       omega arith
-
-  pub statuses_shown : (found : List ProcStatus) → ForShown rv_meaning net (λ c w. found ≡ statuses_of w) → found ≡ statuses
-  statuses_shown found h = h f.now f.world loaded_now f.holds ∙ f.comes.statuses_are
 
   abbrev ir : Parts
   ir = f.start.program

@@ -1,11 +1,10 @@
 -- What holds of a network that shows a world.
-use Rattle.std.proofs.Common.{◌≡◌, ℕ, zero, suc, ◌+◌, ◌-◌, ◌^◌, ◌<◌, ◌≤◌, List, [], ◌∷◌, ◌++◌, length, take, Some, None, Fits, w32, refl, sym, ◌∙◌, arith}
+use Rattle.std.proofs.Common.{◌≡◌, ℕ, zero, suc, ◌+◌, ◌-◌, ◌^◌, ◌<◌, ◌≤◌, List, [], ◌∷◌, ◌++◌, length, take, Some, None, refl, sym, ◌∙◌, arith}
 use Rattle.std.proofs.lemmas.List.{take_all}
 use Rattle.std.specs.Prelude.{slice_get}
 use Rattle.std.proofs.lemmas.Grind.{common_steps}
 use Rattle.ec_base.proofs.Lists.{get_within, take_next}
 use Rattle.ec_world.specs.declared.process.ProcStatus.{ProcStatus}
-use Rattle.ec_world.specs.Run.{statuses_of}
 use Rattle.ec_network.specs.declared.cluster.Cluster.{Cluster}
 use Rattle.ec_network.specs.Shows.{IrWorld}
 use Rattle.ec_network.specs.Holds.{Holds}
@@ -14,16 +13,10 @@ use Rattle.ec_network.specs.Net.{Net}
 use Rattle.rv_codegen.specs.Meaning.{rv_meaning}
 
 module _ (net : Net) (c : Cluster) (w : IrWorld) (loaded : net.loaded ≡ Some c) (holds : Holds rv_meaning c w) (can : CanNumber net) where
-  pub few_processes : length (statuses_of w) < 2 ^ 32 - 1
-  few_processes = rw (sym holds.shows.statuses) (can.processes c loaded)
-
   pub few_objects : length w.common.objects < 2 ^ 32 - 1
   few_objects = rw (sym holds.fine.facts.placed, sym holds.shows.places_are) (can.objects c loaded)
 
 -- ---- statuses, one after the other
-
-pub status_fits : (ss : List ProcStatus) (p : ℕ) (s : ProcStatus) → slice_get ss p ≡ Some s → length ss < 2 ^ 32 - 1 → Fits w32 (p + 1)
-status_fits ss p s e h = let k = get_within ss p s e in grind (arith, common_steps)
 
 pub status_next : (ss found : List ProcStatus) (p : ℕ) (s : ProcStatus) → slice_get ss p ≡ Some s → found ≡ take p ss → (found ++ s ∷ [] ≡ take (p + 1) ss) × (p + 1 ≤ length ss)
 status_next ss found p s e h = let k = get_within ss p s e in (rw (take_next ss p s e, h) refl, omega arith)

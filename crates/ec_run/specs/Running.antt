@@ -23,7 +23,6 @@ use Rattle.ec_network.specs.Net.{IsOneNode, Net, whole_net, count_of, counts_of}
 use Rattle.rv_codegen.specs.Meaning.{rv_meaning}
 use Rattle.ec_report.specs.declared.status.Status.{Status}
 use Rattle.ec_report.specs.declared.end.ReportEnd.{ReportEnd}
-use Rattle.ec_report.specs.declared.end.ReportEnd.TheVariants.{IsFull}
 use Rattle.ec_report.specs.Status.{status_of}
 use Rattle.ec_run.specs.Runs.{ir_run, PoolAfter, NextFull, NoneFullBefore, run_report}
 
@@ -34,11 +33,6 @@ pub record IsShown (net : Net) : Type 0 where
   pub loaded : net.loaded ≡ Some cluster
   pub whole : IsTrue net.whole
   pub holds : Holds rv_meaning cluster world
-
--- a refused call ends a run where a node was full
-abbrev pub IsFullEnd : NetError → ReportEnd → Type 0
-IsFullEnd (Full node part need free) end = end ≡ IsFull node part need free
-IsFullEnd Memory end = ⊥
 
 -- why an entry wasn't done
 abbrev pub refusal_of : NetError → Refusal

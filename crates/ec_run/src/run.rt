@@ -3,6 +3,7 @@
 ghost use Rattle.std.specs.Prelude.{◌≡◌, ◌-◌, ◌<◌, ◌≤◌, ◌^◌, List, length, IfOk};
 ghost use Rattle.ec_world.specs.declared.process.ProcStatus.{ProcStatus};
 ghost use Rattle.ec_world.specs.Run.{statuses_of};
+ghost use Rattle.ec_driver.specs.Driver.{IsFullEnd};
 ghost use Rattle.ec_driver.specs.Progress.{at_start};
 ghost use Rattle.ec_lower.specs.Short.{IsShort};
 ghost use Rattle.ec_network.specs.Answers.{CanNumber, ForShown};
@@ -11,7 +12,7 @@ ghost use Rattle.rv_codegen.specs.Meaning.{rv_meaning};
 ghost use Rattle.ec_report.specs.Report.{load_report};
 ghost use Rattle.ec_report.specs.Status.{status_of};
 ghost use Rattle.ec_run.specs.Runs.{RunsTo, run_report};
-ghost use Rattle.ec_run.specs.Running.{IsShown, IsFullEnd, Follows, IsReported};
+ghost use Rattle.ec_run.specs.Running.{IsShown, Follows, IsReported, refusal_of};
 
 use crate::driver::OnNodes;
 use crate::processes::statuses_in;
@@ -104,7 +105,7 @@ fn run_loaded(
 
 /// The end of a run where the network refused a call as a node was full.
 fn full_end(error: NetError) -> Result<ReportEnd, AllocError>
-    ensures { IfOk result (IsFullEnd error) }
+    ensures { IfOk result (IsFullEnd (refusal_of error)) }
 {
     match error {
         NetError::Full {

@@ -1,14 +1,13 @@
 -- Scopes within scopes, and what is left of them behind a block, a loop, a process section and an object.
-use Rattle.std.proofs.Common.{◌≡◌, ℕ, Bool, true, List, [], ◌++◌, length, take, Option, Some, None, refl, ap, ◌∙◌, append_assoc}
-use Rattle.std.specs.Prelude.{option_map}
+use Rattle.std.proofs.Common.{◌≡◌, ℕ, Bool, true, List, [], ◌++◌, length, take, Some, refl, ap, ◌∙◌, append_assoc}
 use Rattle.std.proofs.lemmas.List.{append-nil}
 use Rattle.std.proofs.Math.Seq.{take-append_seam}
-use Rattle.ec_base.proofs.Stacks.{top_of-push, below_of-push}
+use Rattle.ec_base.proofs.Stacks.{below_of-push}
 use Rattle.ec_scopes.specs.Scopes.{innermost, locals_of, in_loop_of, is_in_loop, within, outside, with_locals, at_loop, at_process, first_locals, declaring, forgetting, looping, in_a_loop, in_a_process}
 use Rattle.ec_scopes.specs.declared.entries.Entry.{Entry}
 use Rattle.ec_scopes.specs.declared.object.Object.{Object}
 use Rattle.ec_scopes.specs.declared.scope.Scope.{Scope}
-use Rattle.ec_scopes.proofs.Innermost.{top_of-change, below_of-change, change-same, change-change, change-as, change-commutes}
+use Rattle.ec_scopes.proofs.Innermost.{below_of-change, change-same, change-change, change-as, change-commutes}
 
 -- a scope with other objects
 abbrev with_objects : Scope → List Object → Scope
@@ -19,55 +18,11 @@ with_objects scope objects = record scope { objects = objects }
 pub outside-within : (scope : Scope) (object : Object) → outside (within scope object) ≡ scope
 outside-within scope object = ap (with_objects scope) (below_of-push scope.objects object)
 
-pub innermost-within : (scope : Scope) (object : Object) → innermost (within scope object) ≡ Some object
-innermost-within scope object = top_of-push scope.objects object
-
 pub outside-declaring : (more : List Entry) (scope : Scope) → outside (declaring more scope) ≡ outside scope
 outside-declaring more scope = ap (with_objects scope) (below_of-change (with_locals more) scope.objects)
 
-pub outside-forgetting : (count : ℕ) (scope : Scope) → outside (forgetting count scope) ≡ outside scope
-outside-forgetting count scope = ap (with_objects scope) (below_of-change (first_locals count) scope.objects)
-
-pub outside-looping : (is_in_loop : Bool) (scope : Scope) → outside (looping is_in_loop scope) ≡ outside scope
-outside-looping is_in_loop scope = ap (with_objects scope) (below_of-change (at_loop is_in_loop) scope.objects)
-
 pub outside-process : (scope : Scope) → outside (in_a_process scope) ≡ outside scope
 outside-process scope = ap (with_objects scope) (below_of-change at_process scope.objects)
-
--- ---- the innermost object
-
-pub innermost-declaring : (more : List Entry) (scope : Scope)
-    → innermost (declaring more scope) ≡ option_map (with_locals more) (innermost scope)
-innermost-declaring more scope = top_of-change (with_locals more) scope.objects
-
-pub innermost-looping : (is_in_loop : Bool) (scope : Scope)
-    → innermost (looping is_in_loop scope) ≡ option_map (at_loop is_in_loop) (innermost scope)
-innermost-looping is_in_loop scope = top_of-change (at_loop is_in_loop) scope.objects
-
-pub innermost-process : (scope : Scope) → innermost (in_a_process scope) ≡ option_map at_process (innermost scope)
-innermost-process scope = top_of-change at_process scope.objects
-
-locals_of-loop : (b : Bool) (object : Option Object) → locals_of (option_map (at_loop b) object) ≡ locals_of object
-locals_of-loop b None = refl
-locals_of-loop b (Some o) = refl
-
-pub locals-looping : (b : Bool) (scope : Scope) → locals_of (innermost (looping b scope)) ≡ locals_of (innermost scope)
-locals-looping b scope = ap locals_of (innermost-looping b scope) ∙ locals_of-loop b (innermost scope)
-
-locals_of-process : (object : Option Object) → locals_of (option_map at_process object) ≡ locals_of object
-locals_of-process None = refl
-locals_of-process (Some o) = refl
-
-pub locals-process : (scope : Scope) → locals_of (innermost (in_a_process scope)) ≡ locals_of (innermost scope)
-locals-process scope = ap locals_of (innermost-process scope) ∙ locals_of-process (innermost scope)
-
-in_loop_of-declared : (more : List Entry) (object : Option Object)
-    → in_loop_of (option_map (with_locals more) object) ≡ in_loop_of object
-in_loop_of-declared more None = refl
-in_loop_of-declared more (Some o) = refl
-
-pub is_in_loop-declaring : (more : List Entry) (scope : Scope) → is_in_loop (declaring more scope) ≡ is_in_loop scope
-is_in_loop-declaring more scope = ap in_loop_of (innermost-declaring more scope) ∙ in_loop_of-declared more (innermost scope)
 
 -- ---- declarations, and the end of their block
 
@@ -136,10 +91,6 @@ behind_loop more scope =
     ∙ looping-loop scope
 
 -- ---- a process section
-
-pub declaring-process : (more : List Entry) (scope : Scope)
-    → declaring more (in_a_process scope) ≡ in_a_process (declaring more scope)
-declaring-process more scope = ap (with_objects scope) (change-commutes at_process (with_locals more) scope.objects (λ o. refl))
 
 -- what was declared in a process section is gone behind its object
 pub behind_process : (more : List Entry) (scope : Scope) (object : Object)

@@ -77,10 +77,6 @@ module _ {S : Type 0} (goes : Going S) where
 -- ---- runs to a stop
 
 module _ {S : Type 0} (goes : Going S) (stops : Standing S) (traps : Trapping S) (one : IsOneWay goes) (apart : AreApart goes stops traps) where
-  -- a run, and behind it a run to a stop
-  pub native_append : (m : S) (b : Bytes) (j : ℕ) (n : S) (c : Bytes) (k : ℕ) (u : S) (d : Bytes) → Leads goes m b j n c → Native goes stops n c k u d → Native goes stops m b (j + k) u d
-  native_append m b j n c k u d near far = (leads_append goes m b j n c k u d near far.0, far.1)
-
   -- a run to a stop is one: its length and where it ends
   pub one_native : (m : S) (b : Bytes) (j k : ℕ) (n : S) (c : Bytes) (u : S) (d : Bytes) → Native goes stops m b j n c → Native goes stops m b k u d → (j ≡ k) × (n ≡ u) × (c ≡ d)
   one_native m b j k n c u d l r =

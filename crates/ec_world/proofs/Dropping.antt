@@ -1,7 +1,7 @@
 -- What a failed process gives up, one monitor after the other, and the objects of its activations, the innermost first.
 use Rattle.std.proofs.Common.{◌≡◌, ℕ, ◌+◌, ◌-◌, ◌<◌, List, [], ◌∷◌, ◌++◌, length, map, reverse, drop, get_or, Option, Some, None, refl, sym, ap, ◌∙◌, arith, add-one, append_assoc, drop-cons}
 use Rattle.std.specs.Prelude.{slice_get}
-use Rattle.std.proofs.lemmas.List.{reverse-append, map-append, drop_all}
+use Rattle.std.proofs.lemmas.List.{reverse-append, map-append}
 use Rattle.ec_base.proofs.Lists.{drop_at}
 use Rattle.ec_monitors.specs.declared.record.Granted.{Granted}
 use Rattle.ec_world.specs.declared.object.ObjectRec.{ObjectRec}
@@ -33,9 +33,6 @@ dropped_next p i owns freed freed' objects objects' granted h e f =
     ap (beside others.0) g ∙ sym (ap (and_freed freed) all)
 
 module _ {A : Type 0} (own : A → ℕ) where
-  pub none_yet : (xs : List A) (n : ℕ) → n ≡ length xs → [] ≡ reverse (map own (drop (n - 0) xs))
-  none_yet xs n e = let d : drop (n - 0) xs ≡ [] = drop_all (n - 0) xs (omega arith) in rw d refl
-
   -- one activation further down
   pub one_down : (xs : List A) (n i : ℕ) (x : A) → i < n → slice_get xs (n - 1 - i) ≡ Some x → reverse (map own (drop (n - i) xs)) ++ own x ∷ [] ≡ reverse (map own (drop (n - (i + 1)) xs))
   one_down xs n i x h e =

@@ -1,13 +1,10 @@
 -- The least true place of a list from one place on.
-use Rattle.std.proofs.Common.{◌≡◌, ℕ, zero, suc, ◌+◌, ◌<◌, ◌≤◌, Bool, true, false, List, [], ◌∷◌, drop, nat_le, Some, refl, ◌∙◌, arith}
+use Rattle.std.proofs.Common.{◌≡◌, ℕ, zero, suc, ◌+◌, ◌<◌, ◌≤◌, Bool, true, false, List, [], ◌∷◌, drop, nat_le, refl, ◌∙◌, arith}
 use Rattle.std.proofs.lemmas.Grind.{common_steps}
 use Rattle.ec_world.specs.Run.{first_true}
 
 no_le : (m n : ℕ) → n < m → nat_le m n ≡ false
 no_le m n h = grind (arith, common_steps)
-
-is_le : (m n : ℕ) → m ≤ n → nat_le m n ≡ true
-is_le m n h = grind (arith, common_steps)
 
 skipped : (from i : ℕ) (b : Bool) (bs : List Bool) → i < from → first_true from i (b ∷ bs) ≡ first_true from (suc i) bs
 skipped from i false bs h = refl
@@ -18,6 +15,3 @@ pub first_true-skip : (n i : ℕ) (bs : List Bool) (from : ℕ) → from ≡ i +
 first_true-skip zero i bs from e = let j : i ≡ from = omega arith in rw j refl
 first_true-skip (suc n) i [] from e = refl
 first_true-skip (suc n) i (b ∷ bs) from e = skipped from i b bs (omega arith) ∙ first_true-skip n (suc i) bs from (omega arith)
-
-pub first_true-here : (from i : ℕ) (bs : List Bool) → from ≤ i → first_true from i (true ∷ bs) ≡ Some i
-first_true-here from i bs h = rw (is_le from i h) refl

@@ -1,7 +1,6 @@
 -- A search along attached fields finds the whole group.
 use Rattle.std.proofs.Common.{◌≡◌, ℕ, zero, suc, ◌+◌, ◌-◌, ◌<◌, ◌≤◌, min, ◌⊎◌, inl, inr, ⊎_elim, Bool, true, false, List, [], ◌∷◌, ◌++◌, length, drop, replicate, Option, Some, None, refl, sym, ap, ◌∙◌, arith, append_assoc, length-append, if◌then◌else◌}
 use Rattle.std.specs.Prelude.{slice_get, slice_set, IsSome}
-use Rattle.std.proofs.lemmas.List.{append-nil, drop_all}
 use Rattle.ec_base.specs.Stack.{top_of, below_of}
 use Rattle.ec_base.proofs.Lists.{length_set, get_there, drop_at}
 use Rattle.ec_base.proofs.Stacks.{stack_parts, top_of_none}
@@ -59,9 +58,6 @@ pub unmarked_next : (xs : List ℕ) (ms : List Bool) (i : ℕ) → slice_get ms 
 unmarked_next xs ms i e =
     let s : i + 1 + 1 ≡ suc (i + 1) = omega arith in
     rw (drop_at ms i false e, s) refl
-
-pub marked_over : (xs : List ℕ) (ms : List Bool) (i k : ℕ) → length ms ≤ i → xs ++ marked_from k (drop i ms) ≡ xs
-marked_over xs ms i k l = rw (drop_all i ms l) (append-nil xs)
 
 -- ---- setting a mark
 
