@@ -30,7 +30,8 @@ use Rattle.ec_parser.specs.Nesting.{nestings_of}
 use Rattle.ec_parser.specs.Program.{IsShallow}
 use Rattle.ec_parser.specs.Terminals.{terminal_of_kind, terminal_of_name}
 use Rattle.ec_rules.specs.Faults.{IsAccepted}
-use Rattle.ec_subset.specs.Grammar.{empty as no_constant, word, id, string, mark, print, none, more, object, constant, HasTree, with_constant}
+use Rattle.ec_subset.specs.Grammar.{empty as no_constant, word, id, string, mark, print, none, more, object, constant, HasTree}
+use Rattle.ec_subset.specs.Grammar.{with_constant}
 use Rattle.ec_world.specs.declared.node.Kind.TheVariants.{Riscv}
 use Rattle.ec_world.specs.declared.node.NodeSpec.{NodeSpec}
 use Rattle.ec_world.specs.declared.run.RunEnd.TheVariants.{Finished}
@@ -82,7 +83,8 @@ empty_is_program accepted = record {
 }
 
 pub empty_is_source : IsAccepted empty_whole → IsSource [] empty
-empty_is_source accepted = record { tokens = []; whole_program = empty_whole; is_program = empty_is_program accepted; is_printing = no_constant }
+empty_is_source accepted =
+    record { tokens = []; whole_program = empty_whole; is_program = empty_is_program accepted; is_printing = no_constant }
 
 empty_goes_on : (j : ℕ) → j < 2 → end_of budget (source_run empty 1 [] j) ≡ None
 unfolding run_after
@@ -140,7 +142,8 @@ hello_tokens =
 
 -- the tree of the whole language
 abbrev hello_block : List WholeStatement
-hello_block = statement.Print (expression.Literal (record { text = codes "hi"; at = record { from = 59; to = 63 } })) (record { from = 42; to = 48 }) ∷ []
+hello_block = statement.Print (expression.Literal (record { text = codes "hi"; at = record { from = 59; to = 63 } }))
+    (record { from = 42; to = 48 }) ∷ []
 
 abbrev hello_whole_object : WholeObject
 hello_whole_object = roll-ObjectConstructor (record {
@@ -153,7 +156,14 @@ hello_whole_object = roll-ObjectConstructor (record {
 
 abbrev hello_whole : WholeProgram
 hello_whole = record {
-  constants = record { at = record { from = 0; to = 5 }; name = record { text = codes "main"; at = record { from = 6; to = 10 } }; of = None; value = value.Expression (expression.Constructor hello_whole_object) } ∷ [];
+  constants =
+      record {
+        at = record { from = 0; to = 5 };
+        name = record { text = codes "main"; at = record { from = 6; to = 10 } };
+        of =
+            None;
+        value = value.Expression (expression.Constructor hello_whole_object);
+      } ∷ [];
 }
 
 -- a primary alone is an expression
@@ -161,7 +171,8 @@ as_expr : {ts us : List Token} {x : Expression} {last : whole.Ending} → whole.
 unfolding or_of and_of sum_of term_of postfix_of
 as_expr p =
     whole.IsExpr.expr (whole.IsAnd.and (whole.IsNot.rel (whole.IsRel.sum_alone (whole.IsSum.sum (whole.IsTerm.term
-    (whole.IsUnary.postfix_alone (whole.IsPostfix.postfix p whole.AreLinks.links_end)) whole.AreFactors.factors_end) whole.AreAddends.addends_end)))
+    (whole.IsUnary.postfix_alone (whole.IsPostfix.postfix p whole.AreLinks.links_end)) whole.AreFactors.factors_end)
+    whole.AreAddends.addends_end)))
     whole.AreNots.nots_end) whole.AreAnds.ands_end
 
 -- a step along a text, by what its front reads as
@@ -181,13 +192,16 @@ hello_has_tokens =
     read_token {n = 2} {form = form.Symbol LeftArrow} refl (read_separator {n = 1} refl (
     read_token {n = 6} {form = form.Reserved Object} refl (read_separator {n = 1} refl (
     read_token {n = 4} {form = form.Name} refl (read_separator {n = 1} refl (read_separator {n = 1} refl (read_separator {n = 1} refl (
-    read_token {n = 9} {form = form.Reserved Initially} refl (read_separator {n = 1} refl (read_separator {n = 1} refl (read_separator {n = 1} refl (read_separator {n = 1} refl (read_separator {n = 1} refl (
+    read_token {n = 9} {form = form.Reserved Initially} refl
+    (read_separator {n = 1} refl
+    (read_separator {n = 1} refl (read_separator {n = 1} refl (read_separator {n = 1} refl (read_separator {n = 1} refl (
     read_token {n = 6} {form = form.Reserved Stdout} refl (
     read_token {n = 1} {form = form.Symbol Dot} refl (
     read_token {n = 9} {form = form.Name} refl (
     read_token {n = 1} {form = form.Symbol OpenBracket} refl (
     read_token {n = 4} {form = form.Literal} refl (
-    read_token {n = 1} {form = form.Symbol CloseBracket} refl (read_separator {n = 1} refl (read_separator {n = 1} refl (read_separator {n = 1} refl (
+    read_token {n = 1} {form = form.Symbol CloseBracket} refl
+    (read_separator {n = 1} refl (read_separator {n = 1} refl (read_separator {n = 1} refl (
     read_token {n = 3} {form = form.Reserved End} refl (read_separator {n = 1} refl (
     read_token {n = 9} {form = form.Reserved Initially} refl (read_separator {n = 1} refl (
     read_token {n = 3} {form = form.Reserved End} refl (read_separator {n = 1} refl (
@@ -199,22 +213,47 @@ hello_has_tree = with_constant (constant (object _ _ _ _ _ _ _ (more (print refl
 -- in the whole language it is a constant whose value is an expression, down to a primary that is an object
 hello_statements : whole.IsBlock (drop 6 hello_tokens) (drop 12 hello_tokens) hello_block
 unfolding terminal_of_kind terminal_of_name
-hello_statements = whole.IsBlock.stmt (whole.IsStmt.print refl refl refl refl (as_expr (whole.IsPrimary.string refl)) refl) whole.IsBlock.block_end
+hello_statements = whole.IsBlock.stmt (whole.IsStmt.print refl refl refl refl (as_expr (whole.IsPrimary.string refl)) refl)
+    whole.IsBlock.block_end
 
 hello_object : whole.IsObject (drop 3 hello_tokens) [] hello_whole_object
 unfolding terminal_of_kind terminal_of_name
 hello_object =
     whole.IsObject.object_constructor whole.IsFlag.without refl (whole.IsId.other refl)
-    (whole.IsBody.body whole.AreMembers.members_end (whole.IsInitially.initially refl hello_statements refl refl) whole.IsProcess.no_process)
+    (whole.IsBody.body whole.AreMembers.members_end (whole.IsInitially.initially refl hello_statements refl refl)
+    whole.IsProcess.no_process)
     refl (whole.IsId.other refl)
 
 hello_has_whole : whole.HasTree hello_tokens hello_whole
 unfolding terminal_of_kind terminal_of_name
-hello_has_whole = whole.HasTree.program (whole.AreConstants.expr refl (whole.IsId.other refl) whole.IsTypeOption.none refl (as_expr (whole.IsPrimary.object hello_object)) whole.AreConstants.none)
+hello_has_whole = whole.HasTree.program
+    (whole.AreConstants.expr refl (whole.IsId.other refl) whole.IsTypeOption.none refl
+    (as_expr (whole.IsPrimary.object hello_object)) whole.AreConstants.none)
 
 hello_is_shallow : IsShallow hello_tokens
 unfolding nestings_of terminal_of_kind terminal_of_name
-hello_is_shallow = (lit≤ tt, (lit≤ tt, (lit≤ tt, (lit≤ tt, (lit≤ tt, (lit≤ tt, (lit≤ tt, (lit≤ tt, (lit≤ tt, (lit≤ tt, (lit≤ tt, (lit≤ tt, (lit≤ tt, (lit≤ tt, (lit≤ tt, (lit≤ tt, tt))))))))))))))))
+hello_is_shallow = (
+  lit≤ tt,
+  (
+    lit≤ tt,
+    (
+      lit≤ tt,
+      (
+        lit≤ tt,
+        (
+          lit≤ tt,
+          (
+            lit≤ tt,
+            (
+              lit≤ tt,
+              (lit≤ tt, (lit≤ tt, (lit≤ tt, (lit≤ tt, (lit≤ tt, (lit≤ tt, (lit≤ tt, (lit≤ tt, (lit≤ tt, tt))))))))),
+            ),
+          ),
+        ),
+      ),
+    ),
+  ),
+)
 
 pub hello_is_program : IsAccepted hello_whole → IsProgram hello_source hello_tokens hello_whole
 hello_is_program accepted = record {
@@ -225,7 +264,8 @@ hello_is_program accepted = record {
 }
 
 pub hello_is_source : IsAccepted hello_whole → IsSource hello_source hello
-hello_is_source accepted = record { tokens = hello_tokens; whole_program = hello_whole; is_program = hello_is_program accepted; is_printing = hello_has_tree }
+hello_is_source accepted =
+    record { tokens = hello_tokens; whole_program = hello_whole; is_program = hello_is_program accepted; is_printing = hello_has_tree }
 
 hello_goes_on : (j : ℕ) → j < 7 → end_of budget (source_run hello 1 [] j) ≡ None
 unfolding run_after
@@ -246,6 +286,7 @@ pub hello_status : status_after hello 7 ≡ statuses.Finished
 unfolding run_after
 hello_status = refl
 
-pub hello_text : text_of hello 7 3 ≡ codes "hi\nturns 7\nprocess 0 ended\nobject 2 program at a\nobject 3 main at a\nnode a riscv instructions 3\nstop finished\n"
+pub hello_text : text_of hello 7 3 ≡ codes
+    "hi\nturns 7\nprocess 0 ended\nobject 2 program at a\nobject 3 main at a\nnode a riscv instructions 3\nstop finished\n"
 unfolding run_after digits
 hello_text = refl

@@ -31,7 +31,8 @@ module _ (asked : CommandWords) (held : FileOf → List ℕ) (net net' : Net) wh
   by_files (IsEnded specs entries s t m k c) = Ended s (end_status asked s (ends_with asked (held Source) specs entries net net' s t c))
   by_files (Accepts h n) = Ended statuses.Finished Finishes
 
-  pub source_refused : {s : Status} {t : List ℕ} → Judged asked held net net' s t → s ≡ statuses.SourceRefused → IsNoSource asked held t × (net' ≡ net)
+  pub source_refused : {s : Status} {t : List ℕ} → Judged asked held net net' s t → s ≡ statuses.SourceRefused →
+      IsNoSource asked held t × (net' ≡ net)
   source_refused (SourceRefused refusal at r n) e = (record { refusal = refusal; at = at; refuses = r; text_is = refl }, n)
   source_refused (NodesRefused rule takes m n) e = cc
   source_refused (ScheduleRefused specs rule line takes m k n) e = cc
@@ -39,7 +40,8 @@ module _ (asked : CommandWords) (held : FileOf → List ℕ) (net net' : Net) wh
       absurd ((run_apart (end_status asked s (ends_with asked (held Source) specs entries net net' s t c))).not_source e)
   source_refused (Accepts h n) e = cc
 
-  pub input_refused : {s : Status} {t : List ℕ} → Judged asked held net net' s t → s ≡ statuses.InputRefused → IsNoInput asked held t × (net' ≡ net)
+  pub input_refused : {s : Status} {t : List ℕ} → Judged asked held net net' s t → s ≡ statuses.InputRefused →
+      IsNoInput asked held t × (net' ≡ net)
   input_refused (SourceRefused refusal at r n) e = cc
   input_refused (NodesRefused rule takes m n) e = ((takes, ByNodes rule m), n)
   input_refused (ScheduleRefused specs rule line takes m k n) e = ((takes, BySchedule specs rule line m k), n)
@@ -53,7 +55,8 @@ module _ (asked : CommandWords) (held : FileOf → List ℕ) (net net' : Net) wh
   judged_ended (SourceRefused refusal at r n) e = elim e [ ]
   judged_ended (NodesRefused rule takes m n) e = elim e [ ]
   judged_ended (ScheduleRefused specs rule line takes m k n) e = elim e [ ]
-  judged_ended (IsEnded specs entries s t m k c) e = inl (record { specs = specs; entries = entries; nodes_are = m; entries_are = k; comes_to = c })
+  judged_ended (IsEnded specs entries s t m k c) e =
+      inl (record { specs = specs; entries = entries; nodes_are = m; entries_are = k; comes_to = c })
   judged_ended (Accepts h n) e = inr (refl, (h, n, refl))
 
   either : (s : Status) (t : List ℕ) → HasEnded asked held net net' s t ⊎ ((s ≡ statuses.Finished) × HasAccepted asked held net net' t) →
@@ -61,15 +64,18 @@ module _ (asked : CommandWords) (held : FileOf → List ℕ) (net net' : Net) wh
   either s t (inl h) = inl h
   either s t (inr h) = inr h.1
 
-  pub has_finished : (s : Status) (t : List ℕ) → Judged asked held net net' s t → IsRunStatus s → HasEnded asked held net net' s t ⊎ HasAccepted asked held net net' t
+  pub has_finished : (s : Status) (t : List ℕ) → Judged asked held net net' s t → IsRunStatus s →
+      HasEnded asked held net net' s t ⊎ HasAccepted asked held net net' t
   has_finished s t j r = either s t (judged_ended j r)
 
-  only_ended : (s : Status) (t : List ℕ) → (s ≡ statuses.Finished → ⊥) → HasEnded asked held net net' s t ⊎ ((s ≡ statuses.Finished) × HasAccepted asked held net net' t) →
+  only_ended : (s : Status) (t : List ℕ) → (s ≡ statuses.Finished → ⊥) →
+      HasEnded asked held net net' s t ⊎ ((s ≡ statuses.Finished) × HasAccepted asked held net net' t) →
       HasEnded asked held net net' s t
   only_ended s t n (inl h) = h
   only_ended s t n (inr h) = absurd (n h.0)
 
-  pub has_ended : (s : Status) (t : List ℕ) → Judged asked held net net' s t → IsRunStatus s → (s ≡ statuses.Finished → ⊥) → HasEnded asked held net net' s t
+  pub has_ended : (s : Status) (t : List ℕ) → Judged asked held net net' s t → IsRunStatus s → (s ≡ statuses.Finished → ⊥) →
+      HasEnded asked held net net' s t
   has_ended s t j r n = only_ended s t n (judged_ended j r)
 
   pub full_run : (s : Status) (t : List ℕ) → HasEnded asked held net net' s t → s ≡ statuses.Full → IsRun asked
@@ -89,7 +95,8 @@ source_named (command.Mean mean) = (mean.source, refl)
 source_named (command.Check check) = (check.source, refl)
 
 -- what is accepted isn't refused
-no_refusal : (asked : CommandWords) (held : FileOf → List ℕ) (refusal : Refusal) (at : ℕ) → AreAccepted asked held → Refuses asked (held Source) refusal at → ⊥
+no_refusal : (asked : CommandWords) (held : FileOf → List ℕ) (refusal : Refusal) (at : ℕ) → AreAccepted asked held →
+    Refuses asked (held Source) refusal at → ⊥
 no_refusal (command.Run run) held refusal at a r = not_refused a.0.1 r
 no_refusal (command.Mean mean) held refusal at a r =
     let m = a.0.1 in
@@ -105,16 +112,20 @@ no_line schedule rule line held i e m = let y : Err (rule, line) ≡ Ok i.entrie
 
 -- where the same texts are accepted
 module _ (held other : FileOf → List ℕ) (net net' : Net) where
-  nodes_accepted : (asked : CommandWords) → ((file : FileOf) (name : List ℕ) → name_of asked file ≡ Some name → held file ≡ other file) → AreAccepted asked other →
+  nodes_accepted : (asked : CommandWords) →
+      ((file : FileOf) (name : List ℕ) → name_of asked file ≡ Some name → held file ≡ other file) → AreAccepted asked other →
       (rule : NodeRule) → Takes asked (held Source) → NodesOf (held Nodes) ≡ Err rule → ⊥
   nodes_accepted (command.Run run) same a rule takes m = no_rule (held Nodes) rule other a.1 (same Nodes run.nodes refl) m
   nodes_accepted (command.Mean mean) same a rule takes m = no_rule (held Nodes) rule other a.1 (same Nodes mean.nodes refl) m
   nodes_accepted (command.Check check) same a rule takes m = takes
 
-  schedule_accepted : (asked : CommandWords) → ((file : FileOf) (name : List ℕ) → name_of asked file ≡ Some name → held file ≡ other file) → AreAccepted asked other →
+  schedule_accepted : (asked : CommandWords) →
+      ((file : FileOf) (name : List ℕ) → name_of asked file ≡ Some name → held file ≡ other file) → AreAccepted asked other →
       (rule : ScheduleRule) (line : Option ℕ) → Takes asked (held Source) → EntriesOf (held Schedule) ≡ Err (rule, line) → ⊥
-  schedule_accepted (command.Run run) same a rule line takes m = no_line (held Schedule) rule line other a.1 (same Schedule run.schedule refl) m
-  schedule_accepted (command.Mean mean) same a rule line takes m = no_line (held Schedule) rule line other a.1 (same Schedule mean.schedule refl) m
+  schedule_accepted (command.Run run) same a rule line takes m =
+      no_line (held Schedule) rule line other a.1 (same Schedule run.schedule refl) m
+  schedule_accepted (command.Mean mean) same a rule line takes m =
+      no_line (held Schedule) rule line other a.1 (same Schedule mean.schedule refl) m
   schedule_accepted (command.Check check) same a rule line takes m = takes
 
   checked_ends : (asked : CommandWords) (source : List ℕ) → Checks asked source → EndsWith asked statuses.Finished
@@ -122,7 +133,8 @@ module _ (held other : FileOf → List ℕ) (net net' : Net) where
   checked_ends (command.Mean mean) source h = absurd h
   checked_ends (command.Check check) source h = refl
 
-  accepted_ends : (asked : CommandWords) → ((file : FileOf) (name : List ℕ) → name_of asked file ≡ Some name → held file ≡ other file) → AreAccepted asked other →
+  accepted_ends : (asked : CommandWords) →
+      ((file : FileOf) (name : List ℕ) → name_of asked file ≡ Some name → held file ≡ other file) → AreAccepted asked other →
       {s : Status} {t : List ℕ} → Judged asked held net net' s t → EndsWith asked s
   accepted_ends asked same a (SourceRefused refusal at r n) =
       let named = source_named asked in
@@ -134,7 +146,8 @@ module _ (held other : FileOf → List ℕ) (net net' : Net) where
   accepted_ends asked same a (Accepts h n) = checked_ends asked (held Source) h
 
   -- files that were read whole and are accepted lead to an end of the command
-  pub ends_of : (content : List ℕ → Option (List ℕ)) (asked : CommandWords) → AreRead content asked held → AreRead content asked other → AreAccepted asked other →
+  pub ends_of : (content : List ℕ → Option (List ℕ)) (asked : CommandWords) → AreRead content asked held →
+      AreRead content asked other → AreAccepted asked other →
       (s : Status) (t : List ℕ) → Judged asked held net net' s t → EndsWith asked s
   ends_of content asked r q a s t j =
       accepted_ends asked (λ file name e. same_whole (content name) file_limit (held file) (other file) (r file name e) (q file name e)) a j

@@ -2,7 +2,8 @@
 use Rattle.std.proofs.Common.{◌≡◌, ◌⊎◌, inl, inr, ⊎_elim, ℕ, List, ◌++◌, Option, Some, None, refl, sym, ap, subst, ◌∙◌}
 use Rattle.ec_answers.specs.Asked.{name_of, AreRead, HasRead}
 use Rattle.ec_answers.specs.Lines.{usage_line}
-use Rattle.ec_answers.specs.Promises.{IsRunStatus, EndsWith, HasReadFault, IsNoSource, IsNoInput, HasEnded, HasAccepted, IsRun, IsAccepted, NoneRisen}
+use Rattle.ec_answers.specs.Promises.{IsRunStatus, EndsWith, HasReadFault, IsNoSource, IsNoInput, HasEnded, HasAccepted, IsRun}
+use Rattle.ec_answers.specs.Promises.{IsAccepted, NoneRisen}
 use Rattle.ec_answers.specs.Promises.IsRunStatus.{Finishes, Fills}
 use Rattle.ec_answers.specs.Verdict.{Judged, Call, Verdict, Answers, Came}
 use Rattle.ec_answers.specs.Verdict.Verdict.{NoCommand, ReadFailed, IsJudged}
@@ -85,8 +86,10 @@ module _ (Told TakenTold : Type 0) (call : Call) (taken taken' : List ℕ) (coun
     verdict : Verdict Told call s text
     written : TakenTold → taken' ≡ taken ++ text
 
-  said_by : {st r : Status} {tx : List ℕ} → Verdict Told call st tx → Answers TakenTold taken taken' count count' st tx r → (s : Status) → IsTold s → r ≡ s → Said s
-  said_by {tx = tx} v (Written w k) s told e = record { text = tx; verdict = subst (λ (x : Status). Verdict Told call x tx) e v; written = w }
+  said_by : {st r : Status} {tx : List ℕ} → Verdict Told call st tx → Answers TakenTold taken taken' count count' st tx r →
+      (s : Status) → IsTold s → r ≡ s → Said s
+  said_by {tx = tx} v (Written w k) s told e =
+      record { text = tx; verdict = subst (λ (x : Status). Verdict Told call x tx) e v; written = w }
   said_by v (Broken w h) s told e = absurd (told.not_write (sym e))
 
   said_of : {r : Status} → Ends r → (s : Status) → IsTold s → r ≡ s → Said s
@@ -94,7 +97,8 @@ module _ (Told TakenTold : Type 0) (call : Call) (taken taken' : List ℕ) (coun
   said_of (Answered st tx r v a) s told e = said_by v a s told e
 
   -- what was answered is the verdict's, or the sink has met a fault
-  result_is : {st r : Status} {tx : List ℕ} → Answers TakenTold taken taken' count count' st tx r → (r ≡ st) ⊎ ((r ≡ statuses.WriteFault) × HasRisen count count')
+  result_is : {st r : Status} {tx : List ℕ} → Answers TakenTold taken taken' count count' st tx r →
+      (r ≡ st) ⊎ ((r ≡ statuses.WriteFault) × HasRisen count count')
   result_is (Written w k) = inl refl
   result_is (Broken w h) = inr (refl, h)
 
@@ -102,7 +106,8 @@ module _ (Told TakenTold : Type 0) (call : Call) (taken taken' : List ℕ) (coun
   memory (NoMemory m k) e = (m, k)
   memory (Answered st tx r v a) e = ⊎_elim
       (λ (i : r ≡ st). absurd ((verdict_told Told call v).not_memory (sym i ∙ e)))
-      (λ (i : (r ≡ statuses.WriteFault) × HasRisen count count'). absurd (let k : statuses.WriteFault ≡ statuses.NoMemory = sym i.0 ∙ e in cc))
+      (λ (i : (r ≡ statuses.WriteFault) × HasRisen count count'). absurd
+      (let k : statuses.WriteFault ≡ statuses.NoMemory = sym i.0 ∙ e in cc))
       (result_is a)
 
   broken : {r : Status} → Ends r → r ≡ statuses.WriteFault → HasRisen count count'
@@ -112,21 +117,25 @@ module _ (Told TakenTold : Type 0) (call : Call) (taken taken' : List ℕ) (coun
       (λ (i : (r ≡ statuses.WriteFault) × HasRisen count count'). i.1)
       (result_is a)
 
-  no_command : {r : Status} → Ends r → WordsOf call.words ≡ None → (r ≡ statuses.Usage) ⊎ ((r ≡ statuses.WriteFault) ⊎ (r ≡ statuses.NoMemory))
+  no_command : {r : Status} → Ends r → WordsOf call.words ≡ None →
+      (r ≡ statuses.Usage) ⊎ ((r ≡ statuses.WriteFault) ⊎ (r ≡ statuses.NoMemory))
   no_command (NoMemory m k) w = inr (inr refl)
   no_command (Answered st tx r v a) w = ⊎_elim
       (λ (i : r ≡ st). inl (i ∙ verdict_none Told call v w))
       (λ (i : (r ≡ statuses.WriteFault) × HasRisen count count'). inr (inl i.0))
       (result_is a)
 
-  reads : {r : Status} → Ends r → (call.faults_after ≡ call.faults) ⊎ ((r ≡ statuses.ReadFault) ⊎ ((r ≡ statuses.WriteFault) ⊎ (r ≡ statuses.NoMemory)))
+  reads : {r : Status} → Ends r →
+      (call.faults_after ≡ call.faults) ⊎ ((r ≡ statuses.ReadFault) ⊎ ((r ≡ statuses.WriteFault) ⊎ (r ≡ statuses.NoMemory)))
   reads (NoMemory m k) = inr (inr (inr refl))
   reads (Answered st tx r v a) = ⊎_elim
-      (λ (i : r ≡ st). ⊎_elim (λ (q : call.faults_after ≡ call.faults). inl q) (λ (f : st ≡ statuses.ReadFault). inr (inl (i ∙ f))) (verdict_reads Told call v))
+      (λ (i : r ≡ st). ⊎_elim (λ (q : call.faults_after ≡ call.faults). inl q) (λ (f : st ≡ statuses.ReadFault). inr (inl (i ∙ f)))
+      (verdict_reads Told call v))
       (λ (i : (r ≡ statuses.WriteFault) × HasRisen count count'). inr (inr (inl i.0)))
       (result_is a)
 
-  complete : {r : Status} → Ends r → Told → (a : IsAccepted call.words call.content) → NoneRisen a.asked call.faults call.faults_after → ¬ HasRisen count count' →
+  complete : {r : Status} → Ends r → Told → (a : IsAccepted call.words call.content) →
+      NoneRisen a.asked call.faults call.faults_after → ¬ HasRisen count count' →
       EndsWith a.asked r ⊎ (r ≡ statuses.NoMemory)
   complete (NoMemory m k) told a quiet calm = inr refl
   complete (Answered st tx r v x) told a quiet calm = ⊎_elim
@@ -147,38 +156,49 @@ module _ (Told TakenTold : Type 0) (call : Call) (taken taken' : List ℕ) (coun
 
 -- ---- the clauses
 
-pub usage_of : {Told TakenTold : Type 0} {call : Call} {taken taken' : List ℕ} {count count' : ℕ} {r : Status} → Came Told TakenTold call taken taken' count count' r →
+pub usage_of : {Told TakenTold : Type 0} {call : Call} {taken taken' : List ℕ} {count count' : ℕ} {r : Status} →
+    Came Told TakenTold call taken taken' count count' r →
     r ≡ statuses.Usage → (WordsOf call.words ≡ None) × (TakenTold → taken' ≡ taken ++ usage_line)
 usage_of {Told} {TakenTold} {call} {taken} {taken'} {count} {count'} c e =
-    let said = said_of Told TakenTold call taken taken' count count' c statuses.Usage (record { not_write = λ k. cc; not_memory = λ k. cc }) e in
+    let said = said_of Told TakenTold call taken taken' count count' c statuses.Usage
+    (record { not_write = λ k. cc; not_memory = λ k. cc }) e in
     let p = verdict_usage Told call said.verdict refl in
     (p.0, λ k. said.written k ∙ ap (λ (x : List ℕ). taken ++ x) p.1)
 
-pub no_command_of : {Told TakenTold : Type 0} {call : Call} {taken taken' : List ℕ} {count count' : ℕ} {r : Status} → Came Told TakenTold call taken taken' count count' r →
+pub no_command_of : {Told TakenTold : Type 0} {call : Call} {taken taken' : List ℕ} {count count' : ℕ} {r : Status} →
+    Came Told TakenTold call taken taken' count count' r →
     WordsOf call.words ≡ None → (r ≡ statuses.Usage) ⊎ ((r ≡ statuses.WriteFault) ⊎ (r ≡ statuses.NoMemory))
 no_command_of {Told} {TakenTold} {call} {taken} {taken'} {count} {count'} c w = no_command Told TakenTold call taken taken' count count' c w
 
-pub read_fault_of : {Told TakenTold : Type 0} {call : Call} {taken taken' : List ℕ} {count count' : ℕ} {r : Status} → Came Told TakenTold call taken taken' count count' r →
+pub read_fault_of : {Told TakenTold : Type 0} {call : Call} {taken taken' : List ℕ} {count count' : ℕ} {r : Status} →
+    Came Told TakenTold call taken taken' count count' r →
     r ≡ statuses.ReadFault → (text : List ℕ) × HasReadFault Told call.words call.content call.kept call.faults call.faults_after text ×
     (TakenTold → taken' ≡ taken ++ text)
 read_fault_of {Told} {TakenTold} {call} {taken} {taken'} {count} {count'} c e =
-    let said = said_of Told TakenTold call taken taken' count count' c statuses.ReadFault (record { not_write = λ k. cc; not_memory = λ k. cc }) e in
+    let said = said_of Told TakenTold call taken taken' count count' c statuses.ReadFault
+    (record { not_write = λ k. cc; not_memory = λ k. cc }) e in
     (said.text, verdict_fault Told call said.verdict refl, said.written)
 
-pub reads_of : {Told TakenTold : Type 0} {call : Call} {taken taken' : List ℕ} {count count' : ℕ} {r : Status} → Came Told TakenTold call taken taken' count count' r →
+pub reads_of : {Told TakenTold : Type 0} {call : Call} {taken taken' : List ℕ} {count count' : ℕ} {r : Status} →
+    Came Told TakenTold call taken taken' count count' r →
     (call.faults_after ≡ call.faults) ⊎ ((r ≡ statuses.ReadFault) ⊎ ((r ≡ statuses.WriteFault) ⊎ (r ≡ statuses.NoMemory)))
 reads_of {Told} {TakenTold} {call} {taken} {taken'} {count} {count'} c = reads Told TakenTold call taken taken' count count' c
 
-pub write_fault_of : {Told TakenTold : Type 0} {call : Call} {taken taken' : List ℕ} {count count' : ℕ} {r : Status} → Came Told TakenTold call taken taken' count count' r →
+pub write_fault_of : {Told TakenTold : Type 0} {call : Call} {taken taken' : List ℕ} {count count' : ℕ} {r : Status} →
+    Came Told TakenTold call taken taken' count count' r →
     r ≡ statuses.WriteFault → HasRisen count count'
 write_fault_of {Told} {TakenTold} {call} {taken} {taken'} {count} {count'} c e = broken Told TakenTold call taken taken' count count' c e
 
-pub no_memory_of : {Told TakenTold : Type 0} {call : Call} {taken taken' : List ℕ} {count count' : ℕ} {r : Status} → Came Told TakenTold call taken taken' count count' r →
+pub no_memory_of : {Told TakenTold : Type 0} {call : Call} {taken taken' : List ℕ} {count count' : ℕ} {r : Status} →
+    Came Told TakenTold call taken taken' count count' r →
     r ≡ statuses.NoMemory → (taken' ≡ taken) × (count' ≡ count)
 no_memory_of {Told} {TakenTold} {call} {taken} {taken'} {count} {count'} c e = memory Told TakenTold call taken taken' count count' c e
 
-pub source_refused_of : {Told TakenTold : Type 0} {call : Call} {taken taken' : List ℕ} {count count' : ℕ} {r : Status} → Came Told TakenTold call taken taken' count count' r →
-    r ≡ statuses.SourceRefused → (text : List ℕ) × (read : HasRead Told call.words call.content) × IsNoSource read.asked read.held text × (call.net_after ≡ call.net) ×
+pub source_refused_of : {Told TakenTold : Type 0} {call : Call} {taken taken' : List ℕ} {count count' : ℕ} {r : Status} →
+    Came Told TakenTold call taken taken' count count' r →
+    r ≡ statuses.SourceRefused →
+    (text : List ℕ) × (read : HasRead Told call.words call.content) × IsNoSource read.asked read.held text
+    × (call.net_after ≡ call.net) ×
     (TakenTold → taken' ≡ taken ++ text)
 source_refused_of {Told} {TakenTold} {call} {taken} {taken'} {count} {count'} c e =
     let f = files_of Told TakenTold call taken taken' count count' c statuses.SourceRefused (files_apart RefusesSource) e in
@@ -186,8 +206,11 @@ source_refused_of {Told} {TakenTold} {call} {taken} {taken'} {count} {count'} c 
     let p = source_refused read.asked read.held call.net call.net_after f.judged.judged refl in
     (f.text, read, p.0, p.1, f.written)
 
-pub input_refused_of : {Told TakenTold : Type 0} {call : Call} {taken taken' : List ℕ} {count count' : ℕ} {r : Status} → Came Told TakenTold call taken taken' count count' r →
-    r ≡ statuses.InputRefused → (text : List ℕ) × (read : HasRead Told call.words call.content) × IsNoInput read.asked read.held text × (call.net_after ≡ call.net) ×
+pub input_refused_of : {Told TakenTold : Type 0} {call : Call} {taken taken' : List ℕ} {count count' : ℕ} {r : Status} →
+    Came Told TakenTold call taken taken' count count' r →
+    r ≡ statuses.InputRefused →
+    (text : List ℕ) × (read : HasRead Told call.words call.content) × IsNoInput read.asked read.held text
+    × (call.net_after ≡ call.net) ×
     (TakenTold → taken' ≡ taken ++ text)
 input_refused_of {Told} {TakenTold} {call} {taken} {taken'} {count} {count'} c e =
     let f = files_of Told TakenTold call taken taken' count count' c statuses.InputRefused (files_apart RefusesInput) e in
@@ -195,9 +218,11 @@ input_refused_of {Told} {TakenTold} {call} {taken} {taken'} {count} {count'} c e
     let p = input_refused read.asked read.held call.net call.net_after f.judged.judged refl in
     (f.text, read, p.0, p.1, f.written)
 
-pub finished_of : {Told TakenTold : Type 0} {call : Call} {taken taken' : List ℕ} {count count' : ℕ} {r : Status} → Came Told TakenTold call taken taken' count count' r →
+pub finished_of : {Told TakenTold : Type 0} {call : Call} {taken taken' : List ℕ} {count count' : ℕ} {r : Status} →
+    Came Told TakenTold call taken taken' count count' r →
     r ≡ statuses.Finished → (text : List ℕ) × (read : HasRead Told call.words call.content) ×
-    (HasEnded read.asked read.held call.net call.net_after statuses.Finished text ⊎ HasAccepted read.asked read.held call.net call.net_after text) ×
+    (HasEnded read.asked read.held call.net call.net_after statuses.Finished text ⊎ HasAccepted read.asked read.held call.net
+    call.net_after text) ×
     (TakenTold → taken' ≡ taken ++ text)
 finished_of {Told} {TakenTold} {call} {taken} {taken'} {count} {count'} c e =
     let f = files_of Told TakenTold call taken taken' count count' c statuses.Finished ((run_apart Finishes).files) e in
@@ -205,7 +230,8 @@ finished_of {Told} {TakenTold} {call} {taken} {taken'} {count} {count'} c e =
     (f.text, read, has_finished read.asked read.held call.net call.net_after statuses.Finished f.text f.judged.judged Finishes, f.written)
 
 -- a status of a run or a plain meaning, other than that of an accepted check
-pub ended_of : {Told TakenTold : Type 0} {call : Call} {taken taken' : List ℕ} {count count' : ℕ} {r : Status} → Came Told TakenTold call taken taken' count count' r →
+pub ended_of : {Told TakenTold : Type 0} {call : Call} {taken taken' : List ℕ} {count count' : ℕ} {r : Status} →
+    Came Told TakenTold call taken taken' count count' r →
     (s : Status) → IsRunStatus s → (s ≡ statuses.Finished → ⊥) → r ≡ s → (text : List ℕ) × (read : HasRead Told call.words call.content) ×
     HasEnded read.asked read.held call.net call.net_after s text × (TakenTold → taken' ≡ taken ++ text)
 ended_of {Told} {TakenTold} {call} {taken} {taken'} {count} {count'} c s is not e =
@@ -213,7 +239,8 @@ ended_of {Told} {TakenTold} {call} {taken} {taken'} {count} {count'} c s is not 
     let read = f.judged.read in
     (f.text, read, has_ended read.asked read.held call.net call.net_after s f.text f.judged.judged is not, f.written)
 
-pub full_of : {Told TakenTold : Type 0} {call : Call} {taken taken' : List ℕ} {count count' : ℕ} {r : Status} → Came Told TakenTold call taken taken' count count' r →
+pub full_of : {Told TakenTold : Type 0} {call : Call} {taken taken' : List ℕ} {count count' : ℕ} {r : Status} →
+    Came Told TakenTold call taken taken' count count' r →
     r ≡ statuses.Full → (text : List ℕ) × (read : HasRead Told call.words call.content) × IsRun read.asked ×
     HasEnded read.asked read.held call.net call.net_after statuses.Full text × (TakenTold → taken' ≡ taken ++ text)
 full_of {Told} {TakenTold} {call} {taken} {taken'} {count} {count'} c e =
@@ -222,7 +249,9 @@ full_of {Told} {TakenTold} {call} {taken} {taken'} {count} {count'} c e =
     let h = has_ended read.asked read.held call.net call.net_after statuses.Full f.text f.judged.judged Fills (λ k. cc) in
     (f.text, read, full_run read.asked read.held call.net call.net_after statuses.Full f.text h refl, h, f.written)
 
-pub complete_of : {Told TakenTold : Type 0} {call : Call} {taken taken' : List ℕ} {count count' : ℕ} {r : Status} → Came Told TakenTold call taken taken' count count' r →
+pub complete_of : {Told TakenTold : Type 0} {call : Call} {taken taken' : List ℕ} {count count' : ℕ} {r : Status} →
+    Came Told TakenTold call taken taken' count count' r →
     Told → (a : IsAccepted call.words call.content) → NoneRisen a.asked call.faults call.faults_after → ¬ HasRisen count count' →
     EndsWith a.asked r ⊎ (r ≡ statuses.NoMemory)
-complete_of {Told} {TakenTold} {call} {taken} {taken'} {count} {count'} c told a quiet calm = complete Told TakenTold call taken taken' count count' c told a quiet calm
+complete_of {Told} {TakenTold} {call} {taken} {taken'} {count} {count'} c told a quiet calm =
+    complete Told TakenTold call taken taken' count count' c told a quiet calm

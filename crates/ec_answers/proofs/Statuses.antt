@@ -36,10 +36,12 @@ run_status_of ss (Ends Stuck) = Sticks
 run_status_of ss (Ends Spent) = Spends
 run_status_of ss (IsFull node part need free) = Fills
 
-run_status : {program : Program} {specs : List NodeSpec} {entries : List Entry} {budget : ℕ} {net net' : Net} {status : Status} {text : List ℕ} →
+run_status : {program : Program} {specs : List NodeSpec} {entries : List Entry} {budget : ℕ} {net net' : Net} {status : Status}
+    {text : List ℕ} →
     RunsTo program specs entries budget net net' status text → IsRunStatus status
 run_status (LoadIsFull ir node need free part m f r) = Fills
-run_status {program} {specs} {entries} (RanUntil ir k how m f n e r) = run_status_of (statuses_of (source_run program (length specs) entries k).world) how
+run_status {program} {specs} {entries} (RanUntil ir k how m f n e r) =
+    run_status_of (statuses_of (source_run program (length specs) entries k).world) how
 
 plain_ends : (b : Bool) → IsPlainStatus (finished_status b)
 plain_ends true = plainly.Fails
@@ -56,7 +58,8 @@ plain_status meant specs entries budget status text r =
     rw r.status_is (plain_status_of (statuses_of (plain_run meant (length specs) entries r.entries).world) r.how)
 
 -- what a source comes to on nodes has the status of an end of its command
-pub ends_with : (asked : CommandWords) (source : List ℕ) (specs : List NodeSpec) (entries : List Entry) (net net' : Net) (status : Status) (text : List ℕ) →
+pub ends_with : (asked : CommandWords) (source : List ℕ) (specs : List NodeSpec) (entries : List Entry) (net net' : Net)
+    (status : Status) (text : List ℕ) →
     ComesTo asked source specs entries net net' status text → EndsWith asked status
 ends_with (command.Run run) source specs entries net net' status text c = run_status c.2
 ends_with (command.Mean mean) source specs entries net net' status text c = plain_status c.0 specs entries mean.budget status text c.2
@@ -81,10 +84,12 @@ never_full plainly.Spends e = cc
 never_full plainly.Sticks e = cc
 
 -- only a run ends with a full node
-pub full_is_run : (asked : CommandWords) (source : List ℕ) (specs : List NodeSpec) (entries : List Entry) (net net' : Net) (status : Status) (text : List ℕ) →
+pub full_is_run : (asked : CommandWords) (source : List ℕ) (specs : List NodeSpec) (entries : List Entry) (net net' : Net)
+    (status : Status) (text : List ℕ) →
     ComesTo asked source specs entries net net' status text → status ≡ statuses.Full → IsRun asked
 full_is_run (command.Run run) source specs entries net net' status text c e = (run, refl)
-full_is_run (command.Mean mean) source specs entries net net' status text c e = absurd (never_full (plain_status c.0 specs entries mean.budget status text c.2) e)
+full_is_run (command.Mean mean) source specs entries net net' status text c e =
+    absurd (never_full (plain_status c.0 specs entries mean.budget status text c.2) e)
 full_is_run (command.Check check) source specs entries net net' status text c e = absurd c
 
 -- ---- statuses apart
@@ -113,11 +118,41 @@ pub record IsOfEnd (s : Status) : Type 0 where
   pub not_input : s ≡ statuses.InputRefused → ⊥
 
 pub run_apart : {s : Status} → IsRunStatus s → IsOfEnd s
-run_apart Finishes = record { files = record { told = record { not_write = λ e. cc; not_memory = λ e. cc }; not_usage = λ e. cc; not_read = λ e. cc }; not_source = λ e. cc; not_input = λ e. cc }
-run_apart Fails = record { files = record { told = record { not_write = λ e. cc; not_memory = λ e. cc }; not_usage = λ e. cc; not_read = λ e. cc }; not_source = λ e. cc; not_input = λ e. cc }
-run_apart Spends = record { files = record { told = record { not_write = λ e. cc; not_memory = λ e. cc }; not_usage = λ e. cc; not_read = λ e. cc }; not_source = λ e. cc; not_input = λ e. cc }
-run_apart Fills = record { files = record { told = record { not_write = λ e. cc; not_memory = λ e. cc }; not_usage = λ e. cc; not_read = λ e. cc }; not_source = λ e. cc; not_input = λ e. cc }
-run_apart Sticks = record { files = record { told = record { not_write = λ e. cc; not_memory = λ e. cc }; not_usage = λ e. cc; not_read = λ e. cc }; not_source = λ e. cc; not_input = λ e. cc }
+run_apart Finishes =
+    record {
+      files =
+          record { told = record { not_write = λ e. cc; not_memory = λ e. cc }; not_usage = λ e. cc; not_read = λ e. cc };
+      not_source = λ e. cc;
+      not_input = λ e. cc;
+    }
+run_apart Fails =
+    record {
+      files =
+          record { told = record { not_write = λ e. cc; not_memory = λ e. cc }; not_usage = λ e. cc; not_read = λ e. cc };
+      not_source = λ e. cc;
+      not_input = λ e. cc;
+    }
+run_apart Spends =
+    record {
+      files =
+          record { told = record { not_write = λ e. cc; not_memory = λ e. cc }; not_usage = λ e. cc; not_read = λ e. cc };
+      not_source = λ e. cc;
+      not_input = λ e. cc;
+    }
+run_apart Fills =
+    record {
+      files =
+          record { told = record { not_write = λ e. cc; not_memory = λ e. cc }; not_usage = λ e. cc; not_read = λ e. cc };
+      not_source = λ e. cc;
+      not_input = λ e. cc;
+    }
+run_apart Sticks =
+    record {
+      files =
+          record { told = record { not_write = λ e. cc; not_memory = λ e. cc }; not_usage = λ e. cc; not_read = λ e. cc };
+      not_source = λ e. cc;
+      not_input = λ e. cc;
+    }
 
 pub files_apart : {s : Status} → IsByFiles s → IsOfFiles s
 files_apart RefusesSource = record { told = record { not_write = λ e. cc; not_memory = λ e. cc }; not_usage = λ e. cc; not_read = λ e. cc }

@@ -39,7 +39,8 @@ file_limit = 1048577
 
 -- each file that the command names was read whole
 abbrev pub AreRead : (List ℕ → Option (List ℕ)) → CommandWords → (FileOf → List ℕ) → Type 0
-AreRead content asked held = (file : FileOf) (name : List ℕ) → name_of asked file ≡ Some name → IsWhole (content name) file_limit (held file)
+AreRead content asked held = (file : FileOf) (name : List ℕ) → name_of asked file ≡ Some name →
+    IsWhole (content name) file_limit (held file)
 
 -- The words ask for a command, and these texts were read for its files: they are what the files hold, where the shelf tells it.
 pub record HasRead (Told : Type 0) (words : List (List ℕ)) (content : List ℕ → Option (List ℕ)) : Type 0 where

@@ -4,7 +4,9 @@ use Rattle.ec_answers.specs.declared.file.FileOf.{FileOf}
 use Rattle.ec_answers.specs.declared.file.FileOf.TheVariants.{Source, Nodes, Schedule}
 
 abbrev pub usage_line : List ℕ
-usage_line = codes "usage: emerald run SOURCE NODES SCHEDULE [--budget N] | check SOURCE | mean SOURCE NODES SCHEDULE [--budget N] | trial N" ++ 10 ∷ []
+usage_line =
+    codes "usage: emerald run SOURCE NODES SCHEDULE [--budget N] | check SOURCE | mean SOURCE NODES SCHEDULE [--budget N] | trial N"
+    ++ 10 ∷ []
 
 abbrev pub fault_line : FileOf → List ℕ
 fault_line Source = codes "read fault source" ++ 10 ∷ []

@@ -64,7 +64,8 @@ pub record IsNoSource (asked : CommandWords) (held : FileOf → List ℕ) (text 
 -- the node file breaks a rule, or the nodes are there and the schedule breaks one
 pub data BreaksRule (nodes schedule : List ℕ) : List ℕ → Type 0 where
   ByNodes : (rule : NodeRule) → NodesOf nodes ≡ Err rule → BreaksRule nodes schedule (nodes_line rule)
-  BySchedule : (specs : List NodeSpec) (rule : ScheduleRule) (line : Option ℕ) → NodesOf nodes ≡ Ok specs → EntriesOf schedule ≡ Err (rule, line) →
+  BySchedule : (specs : List NodeSpec) (rule : ScheduleRule) (line : Option ℕ) → NodesOf nodes ≡ Ok specs →
+      EntriesOf schedule ≡ Err (rule, line) →
       BreaksRule nodes schedule (schedule_line rule line)
 
 -- the source is taken to nodes, but the node file or the schedule breaks a rule

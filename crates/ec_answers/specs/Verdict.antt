@@ -28,7 +28,8 @@ pub data Judged (asked : CommandWords) (held : FileOf → List ℕ) (net net' : 
       Judged asked held net net' statuses.SourceRefused (refused_line (held Source) refusal at)
   NodesRefused : (rule : NodeRule) → Takes asked (held Source) → NodesOf (held Nodes) ≡ Err rule → net' ≡ net →
       Judged asked held net net' statuses.InputRefused (nodes_line rule)
-  ScheduleRefused : (specs : List NodeSpec) (rule : ScheduleRule) (line : Option ℕ) → Takes asked (held Source) → NodesOf (held Nodes) ≡ Ok specs →
+  ScheduleRefused : (specs : List NodeSpec) (rule : ScheduleRule) (line : Option ℕ) → Takes asked (held Source) →
+      NodesOf (held Nodes) ≡ Ok specs →
       EntriesOf (held Schedule) ≡ Err (rule, line) → net' ≡ net →
       Judged asked held net net' statuses.InputRefused (schedule_line rule line)
   -- a run or a plain meaning comes to its end
@@ -68,7 +69,8 @@ pub data Verdict (Told : Type 0) (call : Call) : Status → List ℕ → Type 0 
 -- What is answered of a verdict: the whole text is written, or the sink has met a fault and has taken a front of it.
 pub data Answers (Told : Type 0) (taken taken' : List ℕ) (count count' : ℕ) (status : Status) (text : List ℕ) : Status → Type 0 where
   Written : (Told → taken' ≡ taken ++ text) → count' ≡ count → Answers Told taken taken' count count' status text status
-  Broken : (Told → GrowsByFront taken taken' text) → HasRisen count count' → Answers Told taken taken' count count' status text statuses.WriteFault
+  Broken : (Told → GrowsByFront taken taken' text) → HasRisen count count' →
+      Answers Told taken taken' count count' status text statuses.WriteFault
 
 -- What the whole call comes to: want of memory, and nothing was written; or the answer of a verdict.
 pub data Came (Told TakenTold : Type 0) (call : Call) (taken taken' : List ℕ) (count count' : ℕ) : Status → Type 0 where

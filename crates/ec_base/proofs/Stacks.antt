@@ -37,7 +37,8 @@ module _ {A : Type 0} where
       let j : i ≡ length xs - 1 = omega arith in
       top_of_last xs x (top_of_some xs some) ∙ ap Some (rw (← j) (sym g))
 
-  pub pop_parts : (old new : List A) (r : Option A) (n : ℕ) → n ≡ length old → old ≡ new ++ option_to_list r → (IsSome r ↔ (0 < n)) → (r ≡ top_of old) × (new ≡ below_of old)
+  pub pop_parts : (old new : List A) (r : Option A) (n : ℕ) → n ≡ length old → old ≡ new ++ option_to_list r →
+      (IsSome r ↔ (0 < n)) → (r ≡ top_of old) × (new ≡ below_of old)
   pop_parts old new (Some x) n l e some = rw e (sym (top_of-push new x), sym (below_of-push new x))
   pop_parts [] [] None n l e some = (refl, refl)
   pop_parts (y ∷ ys) new None n l e some = let h : IsSome {T = A} None = some.1 (omega arith) in cc

@@ -46,7 +46,8 @@ along_next {start} {now} {next} {m} {all} rest a h = record {
   made = ap (λ x. both_made x rest) h.made ∙ made_joined (made_of now.made) m rest ∙ a.made;
 }
 
-pub along_same : {start now : Resolver} {rest other all : Made} → rest ≡ other → AlongMade start now rest all → AlongMade start now other all
+pub along_same : {start now : Resolver} {rest other all : Made} → rest ≡ other → AlongMade start now rest all →
+    AlongMade start now other all
 along_same {start} {now} e a = record {
   place = a.place;
   types = a.types;
@@ -57,7 +58,8 @@ pub along_end : {start now : Resolver} {all : Made} → AlongMade start now noth
 along_end {start} {now} a = record { place = a.place; types = a.types; made = sym (made_none (made_of now.made)) ∙ a.made }
 
 -- over a list
-module _ {A : Type 0} (one : A → Made) (all : List A → Made) (cons : (x : A) (ys : List A) → all (x ∷ ys) ≡ both_made (one x) (all ys)) where
+module _ {A : Type 0} (one : A → Made) (all : List A → Made)
+    (cons : (x : A) (ys : List A) → all (x ∷ ys) ≡ both_made (one x) (all ys)) where
   pub over_next : {start now next : Resolver} (xs : List A) (i : ℕ) (x : A) → i < length xs → x ≡ get_or xs i x →
       AlongMade start now (all (drop i xs)) (all xs) → HasMade now next (one x) → AlongMade start next (all (drop (i + 1) xs)) (all xs)
   over_next xs i x lt is a h =

@@ -1,5 +1,6 @@
 -- The end of a block, of a loop and of the arms of an `if`.
-use Rattle.std.proofs.Common.{◌≡◌, ℕ, ◌+◌, ◌<◌, Bool, List, [], ◌∷◌, ◌++◌, drop, get_or, take, length, map, Option, Result, Ok, Err, refl, sym, ap, subst, ◌∙◌, append_assoc, arith}
+use Rattle.std.proofs.Common.{◌≡◌, ℕ, ◌+◌, ◌<◌, Bool, List, [], ◌∷◌, ◌++◌, drop, get_or, take, length, map, Option, Result, Ok, Err}
+use Rattle.std.proofs.Common.{refl, sym, ap, subst, ◌∙◌, append_assoc, arith}
 use Rattle.std.specs.Prelude.{OnOk}
 use Rattle.std.proofs.lemmas.List.{append-nil, length-append}
 use Rattle.std.proofs.Math.Seq.{take-append_seam}
@@ -14,7 +15,8 @@ use Rattle.ec_check.proofs.Steps.{gone_on, gone_same, made_gone, made_none, same
 use Rattle.ec_check.specs.Making.{HasGone, HasMade, env_of, made_of}
 use Rattle.ec_check.specs.Parts.{ArmPart, Made, Part, Piece, StatementPart, both_made, nothing_made}
 use Rattle.ec_check.specs.Places.{Env}
-use Rattle.ec_check.specs.Resolving.{arms_core, arms_made, behind, behind_all, behind_block, declaring_one, further, in_scope, locals_of_arms, locals_of_block}
+use Rattle.ec_check.specs.Resolving.{arms_core, arms_made, behind, behind_all, behind_block, declaring_one, further, in_scope}
+use Rattle.ec_check.specs.Resolving.{locals_of_arms, locals_of_block}
 use Rattle.ec_check.specs.Resolving.{initially_made, locals_of_choice, locals_of_statements, statements_core, statements_made}
 use Rattle.ec_check.specs.Tree.{arm_of, block_of, part_of, statement_of}
 use Rattle.ec_check.specs.declared.resolver.Resolver.{Resolver}
@@ -94,7 +96,8 @@ module _ (old mid end : Resolver) (b : Block) (ss : List Statement) (e : ss ≡ 
         types = types;
         made =
             m ∙ h.made
-            ∙ ap (both_made (made_of old.made)) (sym (made_in_block b scope ∙ ap (λ xs. statements_made (map statement_of xs) scope) (sym e)));
+            ∙ ap (both_made (made_of old.made))
+            (sym (made_in_block b scope ∙ ap (λ xs. statements_made (map statement_of xs) scope) (sym e)));
       }
 
   pub block_cored : (core : List CoreStatement) → core ≡ statements_core parts (env_of old) →
@@ -113,7 +116,8 @@ pub loop_gone : (old mid : Resolver) (first last : Scope) (block : Piece) (was :
     was ≡ is_in_loop old.walk.scope → first ≡ in_a_loop old.walk.scope →
     HasGone (at_scope old first) mid (behind_block (env_of (at_scope old first)) block) (block.locals first) (block.made first) →
     last ≡ looping was mid.walk.scope →
-    HasGone old (at_scope mid last) (further (length (block.locals (in_a_loop old.walk.scope))) (env_of old)) (block.locals (in_a_loop old.walk.scope))
+    HasGone old (at_scope mid last) (further (length (block.locals (in_a_loop old.walk.scope))) (env_of old))
+    (block.locals (in_a_loop old.walk.scope))
     (block.made (in_a_loop old.walk.scope))
 loop_gone old mid first last block was w f h l =
     let scope = old.walk.scope in
@@ -142,7 +146,8 @@ further_again a b env = let e : env.count + a + b ≡ env.count + (a + b) = omeg
 abbrev pub AlongArms : Resolver → Resolver → List ArmPart → List ArmPart → Type 0
 AlongArms start now rest all =
     AlongGone start now
-    (further (length (locals_of_arms start.walk.scope rest)) (env_of now)) (further (length (locals_of_arms start.walk.scope all)) (env_of start))
+    (further (length (locals_of_arms start.walk.scope rest)) (env_of now))
+    (further (length (locals_of_arms start.walk.scope all)) (env_of start))
     (locals_of_arms start.walk.scope rest) (locals_of_arms start.walk.scope all)
     (arms_made start.walk.scope rest) (arms_made start.walk.scope all)
 
@@ -199,7 +204,8 @@ pub choice_gone : {old mid new : Resolver} (arms : List ArmPart) (other : Option
     (arms_made old.walk.scope arms) →
     HasGone mid new (further (length (locals_of_block mid.walk.scope other)) (env_of mid)) (locals_of_block mid.walk.scope other)
     (initially_made mid.walk.scope other) →
-    HasGone old new (further (length (locals_of_choice old.walk.scope arms other)) (env_of old)) (locals_of_choice old.walk.scope arms other)
+    HasGone old new (further (length (locals_of_choice old.walk.scope arms other)) (env_of old))
+    (locals_of_choice old.walk.scope arms other)
     (both_made (arms_made old.walk.scope arms) (initially_made old.walk.scope other))
 choice_gone {old} {mid} {new} arms other h g =
     let scope = old.walk.scope in
@@ -215,10 +221,12 @@ choice_gone {old} {mid} {new} arms other h g =
 
 -- ---- what is found of statements and arms, one after another
 
-pub statement_found : (now next : Resolver) (found more : List CoreStatement) (core : CoreStatement) (xs : List Statement) (i : ℕ) (x : Statement) →
+pub statement_found : (now next : Resolver) (found more : List CoreStatement) (core : CoreStatement) (xs : List Statement) (i : ℕ)
+    (x : Statement) →
     i < length xs → x ≡ get_or xs i x → more ≡ found ++ core ∷ [] → core ≡ (statement_of x).core (env_of now) →
     env_of next ≡ behind (env_of now) (statement_of x) →
-    more ++ statements_core (map statement_of (drop (i + 1) xs)) (env_of next) ≡ found ++ statements_core (map statement_of (drop i xs)) (env_of now)
+    more ++ statements_core (map statement_of (drop (i + 1) xs)) (env_of next) ≡ found
+    ++ statements_core (map statement_of (drop i xs)) (env_of now)
 statement_found now next found more core xs i x lt is p c e =
     let rest = map statement_of (drop (i + 1) xs) in
     ap (λ n. n ++ statements_core rest (env_of next)) (p ∙ ap (λ y. found ++ y ∷ []) c)
@@ -226,7 +234,8 @@ statement_found now next found more core xs i x lt is p c e =
     ∙ append_assoc found ((statement_of x).core (env_of now) ∷ []) (statements_core rest (behind (env_of now) (statement_of x)))
     ∙ sym (ap (λ ys. found ++ statements_core (map statement_of ys) (env_of now)) (drop_more xs i x lt is))
 
-pub arm_found : (now mid next : Resolver) (found more : List CoreArm) (condition : CoreExpression) (block : CoreBlock) (xs : List Arm) (i : ℕ) (x : Arm)
+pub arm_found : (now mid next : Resolver) (found more : List CoreArm) (condition : CoreExpression) (block : CoreBlock)
+    (xs : List Arm) (i : ℕ) (x : Arm)
     {m : Made} {ls : List StaticType} {n : Made} →
     i < length xs → x ≡ get_or xs i x →
     more ≡ found ++ roll-Arm (record { condition = condition; block = block }) ∷ [] →

@@ -1,5 +1,6 @@
 -- What the making of operations, process sections and bodies leaves behind, of what each part within leaves behind.
-use Rattle.std.proofs.Common.{◌≡◌, ℕ, Bool, false, List, [], ◌∷◌, ◌++◌, length, Option, Some, is_some, option_map, refl, sym, ap, ◌∙◌, append_assoc}
+use Rattle.std.proofs.Common.{◌≡◌, ℕ, Bool, false, List, [], ◌∷◌, ◌++◌, length, Option, Some, is_some, option_map, refl, sym, ap}
+use Rattle.std.proofs.Common.{◌∙◌, append_assoc}
 use Rattle.std.proofs.Common.{OnOk, Result, Ok, Err}
 use Rattle.std.proofs.lemmas.List.{append-nil}
 use Rattle.ec_ast.specs.declared.Name.{Name}
@@ -61,7 +62,8 @@ made_from classes operations = record { classes = classes; operations = operatio
 pub same_made_from : {cs ds : List Class} {os ps : List Operation} → cs ≡ ds → os ≡ ps → made_from cs os ≡ made_from ds ps
 same_made_from {cs} {ds} {os} {ps} e f = ap (λ x. made_from x os) e ∙ ap (made_from ds) f
 
-pub operation_before : (old : Made) (own : Operation) (more : Made) (classes : List Class) (none behind within before pushed all : List Operation) →
+pub operation_before : (old : Made) (own : Operation) (more : Made) (classes : List Class)
+    (none behind within before pushed all : List Operation) →
     none ≡ [] →
     made_from classes behind ≡ both_made (made_from old.classes none) more →
     within ≡ behind →
@@ -88,7 +90,8 @@ operation_from class of name at is_exported parameters has_result variables bloc
   block = block;
 }
 
-pub same_operation_from : (class : ℕ) (of : Kind) (at : ℕ) (e : Bool) {n m : Text} {p q : ℕ} {r s : Bool} {v w : List StaticType} {b c : Block} →
+pub same_operation_from : (class : ℕ) (of : Kind) (at : ℕ) (e : Bool) {n m : Text} {p q : ℕ} {r s : Bool} {v w : List StaticType}
+    {b c : Block} →
     n ≡ m → p ≡ q → r ≡ s → v ≡ w → b ≡ c → operation_from class of n at e p r v b ≡ operation_from class of m at e q s w c
 same_operation_from class of at e {n} {m} {p} {q} {r} {s} {v} {w} {b} {c} f g h i j =
     ap (λ x. operation_from class of x at e p r v b) f
@@ -106,7 +109,8 @@ operation_part_made : (class : ℕ) (o : OperationPart) (old begun done : Resolv
     fresh.numbers.items ≡ [] →
     fresh.types ≡ [] →
     HasGone (with_variables fresh old) begun
-    (behind_heading (env_of (with_variables fresh old)) o.parameters o.result) (heading_types old.walk.scope o.parameters o.result) nothing_made →
+    (behind_heading (env_of (with_variables fresh old)) o.parameters o.result) (heading_types old.walk.scope o.parameters o.result)
+    nothing_made →
     none ≡ [] →
     block ≡ o.block.core (env_of begun) →
     HasGone (with_operations none begun) done
@@ -148,11 +152,13 @@ operation_part_made class o old begun done count fresh none block within before 
       place = same_env back captured (ap (λ (x : Variables). x.numbers.items) r) (ap (λ (x : Variables). length x.types) r);
       types = ap (λ (x : Variables). x.types) r;
       made =
-          operation_before (made_of begun.made) own (o.block.made begun.walk.scope) done.made.classes none done.made.operations within before
+          operation_before (made_of begun.made) own (o.block.made begun.walk.scope) done.made.classes none done.made.operations
+          within before
           pushed all e d.made w i p a
           ∙ ap (λ x. both_made x (both_made (just_operation own) (o.block.made begun.walk.scope))) first
           ∙ ap (λ x. both_made (made_of old.made) (both_made (just_operation x) (o.block.made begun.walk.scope))) same
-          ∙ ap (λ x. both_made (made_of old.made) (both_made (just_operation (operation_core class (env_of old) o)) (o.block.made x))) own_scope;
+          ∙ ap (λ x. both_made (made_of old.made)
+          (both_made (just_operation (operation_core class (env_of old) o)) (o.block.made x))) own_scope;
     }
 
 abbrev operation_part : OperationTree → OperationPart
@@ -245,14 +251,16 @@ process_part_gone class own_name p old done scope fresh none block within before
           operation_before (made_of old.made) own (p.block.made scope) done.made.classes none done.made.operations within before pushed all
           e d.made w i u a
           ∙ ap (λ x. both_made (made_of old.made) (both_made (just_operation x) (p.block.made scope))) same
-          ∙ ap (λ x. both_made (made_of old.made) (both_made (just_operation (process_operation class (env_of old) own_name p)) (p.block.made x))) s;
+          ∙ ap (λ x. both_made (made_of old.made)
+          (both_made (just_operation (process_operation class (env_of old) own_name p)) (p.block.made x))) s;
     }
 
 abbrev process_part : ProcessSection → ProcessPart
 process_part p = process_step (record { block = block_of (out-ProcessSection p).block; at = (out-ProcessSection p).at })
 
 abbrev ProcessGone : ℕ → Name → Resolver → Resolver → Option ProcessPart → Type 0
-ProcessGone class name old new process = HasGone old new (behind_process (env_of old) process) [] (process_made class (env_of old) name process)
+ProcessGone class name old new process =
+    HasGone old new (behind_process (env_of old) process) [] (process_made class (env_of old) name process)
 
 process_same : (class : ℕ) (name : Name) {old new : Resolver} {p q : Option ProcessPart} → p ≡ q →
     ProcessGone class name old new p → ProcessGone class name old new q
@@ -261,7 +269,8 @@ process_same class name {old} {new} {p} {q} e h =
 
 -- where there is one: it stands before what its block made
 pub process_gone : (class : ℕ) (own_name : Name) (process : Option ProcessSection) (p : ProcessSection) (old done : Resolver)
-    (scope : Scope) (fresh : Variables) (none : List Operation) (block : Block) (within before : List Operation) (variables kept : Variables)
+    (scope : Scope) (fresh : Variables) (none : List Operation) (block : Block) (within before : List Operation)
+    (variables kept : Variables)
     (name : Text) (pushed all : List Operation) →
     process ≡ Some p →
     scope ≡ in_a_process old.walk.scope →

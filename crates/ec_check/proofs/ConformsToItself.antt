@@ -12,10 +12,12 @@ use Rattle.ec_check.proofs.FirstNames.{same_itself}
 use Rattle.ec_check.proofs.FoundPlaces.{first_below}
 use Rattle.ec_check.proofs.WellParts.{ConformsToItself}
 use Rattle.ec_check.proofs.WellValues.{both_hold, first_of_two, second_of_two, same_plain}
-use Rattle.ec_conform.specs.Conforms.{Relation, operations_in, operations_at, conforms_in, parameters_fit, results_fit, stands_for, has_operation, has_operations}
+use Rattle.ec_conform.specs.Conforms.{Relation, operations_in, operations_at, conforms_in, parameters_fit, results_fit, stands_for}
+use Rattle.ec_conform.specs.Conforms.{has_operation, has_operations}
 use Rattle.ec_conform.specs.Conforms.{meets, IsClosed}
 use Rattle.ec_conform.specs.Table.{Table, IsTable}
-use Rattle.ec_conform.specs.Types.{named, vector_of, type_with_number, written, type_of, operation_of, operation_names, operations_from, type_with}
+use Rattle.ec_conform.specs.Types.{named, vector_of, type_with_number, written, type_of, operation_of, operation_names}
+use Rattle.ec_conform.specs.Types.{operations_from, type_with}
 use Rattle.ec_conform.specs.Types.{names_of, types_of}
 use Rattle.ec_conform.specs.declared.declared.DeclaredType.{DeclaredType}
 use Rattle.ec_conform.specs.declared.declared.Declarations.{Declarations}

@@ -1,5 +1,6 @@
 -- The types that a part of a tree declares have operations with known results, where no fault is within the part.
-use Rattle.std.proofs.Common.{◌≡◌, Bool, true, not, ◌||◌, List, [], ◌∷◌, ◌++◌, map, Option, Some, None, option_map, sym, subst, if◌then◌else◌}
+use Rattle.std.proofs.Common.{◌≡◌, Bool, true, not, ◌||◌, List, [], ◌∷◌, ◌++◌, map, Option, Some, None, option_map, sym, subst}
+use Rattle.std.proofs.Common.{if◌then◌else◌}
 use Rattle.ec_ast.specs.declared.Name.{Name}
 use Rattle.ec_ast.specs.declared.Parameter.{Parameter}
 use Rattle.ec_ast.specs.declared.Signature.{Signature}
@@ -9,12 +10,14 @@ use Rattle.ec_check.specs.Parts.{Part, Piece, StatementPart, LinkPart, FactorPar
 use Rattle.ec_check.specs.Parts.{MemberPart, BodyPart, Holder, ObjectPart, link_judged, arm_judged, process_judged, operation_judged}
 use Rattle.ec_check.specs.Parts.{member_judged, holder_judged}
 use Rattle.ec_conform.specs.Declarations as conform
-use Rattle.ec_conform.specs.Declarations.{both, joined, nothing, if_there, operation_at, within_members, operations_behind, object_of, signature_with}
+use Rattle.ec_conform.specs.Declarations.{both, joined, nothing, if_there, operation_at, within_members, operations_behind}
+use Rattle.ec_conform.specs.Declarations.{object_of, signature_with}
 use Rattle.ec_conform.specs.Table.{Table}
 use Rattle.ec_conform.specs.declared.declared.Declarations.{Declarations}
 use Rattle.ec_conform.specs.declared.declared.DeclaredType.{DeclaredType}
 use Rattle.ec_names.specs.Names.{Text, has_name}
-use Rattle.ec_rules.specs.Calls.{Receiver, link_parts, is_last, faults_of_links, behind, is_clean_after, class_created, receiver_if, faults_of_head, chain_faults}
+use Rattle.ec_rules.specs.Calls.{Receiver, link_parts, is_last, faults_of_links, behind, is_clean_after, class_created, receiver_if}
+use Rattle.ec_rules.specs.Calls.{faults_of_head, chain_faults}
 use Rattle.ec_rules.specs.Forms.{Form, Literal, Negated, Constructor, Vector, Created, Itself, NameAlone, Other}
 use Rattle.ec_rules.specs.Judging.{member_finished, members_finished, finished_if, process_finished, faults_in_holder}
 use Rattle.ec_rules.specs.Lists.{each, each_of}

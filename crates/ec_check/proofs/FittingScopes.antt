@@ -1,5 +1,6 @@
 -- The scopes within an object fit its class: those of its operations, those behind declarations, and those in loops.
-use Rattle.std.proofs.Common.{◌≡◌, ℕ, zero, suc, ◌+◌, ◌<◌, ◌≤◌, Bool, true, false, List, [], ◌∷◌, ◌++◌, length, map, Option, Some, None, option_map}
+use Rattle.std.proofs.Common.{◌≡◌, ℕ, zero, suc, ◌+◌, ◌<◌, ◌≤◌, Bool, true, false, List, [], ◌∷◌, ◌++◌, length, map, Option, Some}
+use Rattle.std.proofs.Common.{None, option_map}
 use Rattle.std.proofs.Common.{refl, sym, ap, ◌∙◌, subst, if◌then◌else◌, arith}
 use Rattle.std.proofs.lemmas.List.{length-map, length-append}
 use Rattle.ec_ast.specs.declared.Parameter.{Parameter}
@@ -8,22 +9,27 @@ use Rattle.ec_check.proofs.CapturedNames.{with_objects}
 use Rattle.ec_check.proofs.Every.{Every, every_joined}
 use Rattle.ec_check.proofs.FoundPlaces.{Fits, GlobalsAre}
 use Rattle.ec_check.specs.Numbers.{Whole, Limits, limits_of}
-use Rattle.ec_check.specs.Parts.{StatementPart, MemberPart, variable, constant, condition, operation, Holder, OperationPart, member_judged, holder_judged}
+use Rattle.ec_check.specs.Parts.{StatementPart, MemberPart, variable, constant, condition, operation, Holder, OperationPart}
+use Rattle.ec_check.specs.Parts.{member_judged, holder_judged}
 use Rattle.ec_check.specs.Places.{Env, fields_of, conditions_of}
-use Rattle.ec_check.specs.Resolving.{further, in_scope, behind, numbers_from, types_written, result_written, heading_types, heading_entries, env_in}
-use Rattle.ec_check.specs.Resolving.{at_start, env_of_operation, field_of, parameter_field, condition_count, conditions_in, class_core, captures_of, env_of_body}
+use Rattle.ec_check.specs.Resolving.{further, in_scope, behind, numbers_from, types_written, result_written, heading_types}
+use Rattle.ec_check.specs.Resolving.{heading_entries, env_in}
+use Rattle.ec_check.specs.Resolving.{at_start, env_of_operation, field_of, parameter_field, condition_count, conditions_in}
+use Rattle.ec_check.specs.Resolving.{class_core, captures_of, env_of_body}
 use Rattle.ec_core.specs.declared.Class.{Class}
 use Rattle.ec_core.specs.declared.Operation.{Operation}
 use Rattle.ec_names.specs.Names.{Text, has_name}
 use Rattle.ec_rules.specs.Lists.{each}
 use Rattle.ec_rules.specs.Members as rules
-use Rattle.ec_rules.specs.Members.{parameter_entries, result_entries, fields_in, first_members, members_of, member_name, object_with, scope_of_names, scope_of}
+use Rattle.ec_rules.specs.Members.{parameter_entries, result_entries, fields_in, first_members, members_of, member_name}
+use Rattle.ec_rules.specs.Members.{object_with, scope_of_names, scope_of}
 use Rattle.ec_rules.specs.Parts as judged
 use Rattle.ec_scopes.proofs.Innermost.{top_of-change}
 use Rattle.ec_scopes.specs.declared.entries.Entry.{Entry}
 use Rattle.ec_scopes.specs.declared.object.Object.{Object}
 use Rattle.ec_scopes.specs.declared.scope.Scope.{Scope}
-use Rattle.ec_scopes.specs.Scopes.{innermost, locals_of, change_innermost, with_locals, at_loop, at_process, declaring, in_a_loop, in_a_process}
+use Rattle.ec_scopes.specs.Scopes.{innermost, locals_of, change_innermost, with_locals, at_loop, at_process, declaring, in_a_loop}
+use Rattle.ec_scopes.specs.Scopes.{in_a_process}
 
 -- ---- the innermost object, changed
 
@@ -63,9 +69,11 @@ declared_to entries (Some o) =
 pub locals_declared : (entries : List Entry) (scope : Scope) →
     length (locals_of (innermost (declaring entries scope))) ≤ length (locals_of (innermost scope)) + length entries
 locals_declared entries scope =
-    let e : length (locals_of (innermost (declaring entries scope))) ≡ length (locals_of (option_map (with_locals entries) (innermost scope))) =
+    let e : length (locals_of (innermost (declaring entries scope))) ≡ length
+    (locals_of (option_map (with_locals entries) (innermost scope))) =
     ap (λ o. length (locals_of o)) (top_of-change (with_locals entries) scope.objects) in
-    let d : length (locals_of (option_map (with_locals entries) (innermost scope))) ≤ length (locals_of (innermost scope)) + length entries =
+    let d : length (locals_of (option_map (with_locals entries) (innermost scope))) ≤ length (locals_of (innermost scope)) + length
+    entries =
     declared_to entries (innermost scope) in
     omega arith
 

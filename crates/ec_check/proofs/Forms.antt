@@ -35,7 +35,8 @@ module _ (x y : Expression) (l : AnExpression) (e : x ≡ y) (h : layer_of y ≡
 
 -- ---- statements
 
-declared_by : (x : Statement) (scope : Scope) → (statement_of x).part.declares scope ≡ entries_of (statement_judged (statement_layer x)) scope
+declared_by : (x : Statement) (scope : Scope) →
+    (statement_of x).part.declares scope ≡ entries_of (statement_judged (statement_layer x)) scope
 unfolding statement_step statement_part
 declared_by x scope = ap (λ (p : StatementPart). p.part.declares scope) (statement_is_step x)
 
@@ -72,7 +73,8 @@ module _ (x y : Statement) (l : AStatement) (e : x ≡ y) (h : statement_layer y
       (ap (λ ls. env.count + length ls) k)
 
   pub has_gone : (a b : Resolver) →
-      HasGone a b (behind_layer (env_of a) (entries a.walk.scope) (locals_of l a.walk.scope)) (locals_of l a.walk.scope) (statement_made l a.walk.scope) →
+      HasGone a b (behind_layer (env_of a) (entries a.walk.scope) (locals_of l a.walk.scope)) (locals_of l a.walk.scope)
+      (statement_made l a.walk.scope) →
       HasGone a b (behind (env_of a) (statement_of x)) ((statement_of x).locals a.walk.scope) ((statement_of x).made a.walk.scope)
   has_gone a b k =
       let scope = a.walk.scope in
@@ -86,5 +88,6 @@ module _ (x y : Statement) (l : AStatement) (e : x ≡ y) (h : statement_layer y
   has_only_made a b n m k =
       has_gone a b
       (gone_same
-      (sym (behind_nothing (env_of a)) ∙ ap (λ es. behind_layer (env_of a) es []) (sym n) ∙ ap (behind_layer (env_of a) (entries a.walk.scope)) (sym m))
+      (sym (behind_nothing (env_of a)) ∙ ap (λ es. behind_layer (env_of a) es []) (sym n)
+      ∙ ap (behind_layer (env_of a) (entries a.walk.scope)) (sym m))
       (sym m) refl (gone_made k))

@@ -6,7 +6,8 @@ use Rattle.std.proofs.lemmas.List.{length-map}
 use Rattle.ec_base.specs.Stack.{top_of, below_of}
 use Rattle.ec_check.proofs.Every.{Every, Where, either, not_both}
 use Rattle.ec_check.specs.Numbers.{Whole, Limits, IsPlace}
-use Rattle.ec_check.specs.Places.{Env, number_or, number_named, names_of, fields_of, conditions_of, number_at_or, held_place, place_found, place_of}
+use Rattle.ec_check.specs.Places.{Env, number_or, number_named, names_of, fields_of, conditions_of, number_at_or, held_place}
+use Rattle.ec_check.specs.Places.{place_found, place_of}
 use Rattle.ec_core.specs.declared.Class.{Class}
 use Rattle.ec_core.specs.declared.Place.TheVariants as place
 use Rattle.ec_names.specs.Names.{Text, first_from, first_named, has_name, is_same}
@@ -20,7 +21,8 @@ use Rattle.ec_scopes.specs.declared.object.Object.{Object}
 use Rattle.ec_scopes.specs.declared.scope.Found.{Found}
 use Rattle.ec_scopes.specs.declared.scope.Found.TheVariants as found
 use Rattle.ec_scopes.specs.declared.scope.Scope.{Scope}
-use Rattle.ec_scopes.specs.Scopes.{entry_named, meaning_named, found_meaning, held_or, found_within, find, class_meant, unless_value, class_named}
+use Rattle.ec_scopes.specs.Scopes.{entry_named, meaning_named, found_meaning, held_or, found_within, find, class_meant}
+use Rattle.ec_scopes.specs.Scopes.{unless_value, class_named}
 use Rattle.ec_scopes.specs.Scopes.{innermost, locals_of, is_local, outside}
 
 -- ---- how many objects further out something is found

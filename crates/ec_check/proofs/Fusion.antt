@@ -217,7 +217,8 @@ link_at : (y : LinkWith same) → IsSameLink (roll-Link (bare_link same y))
 link_at y = ap link_judged (link_rolled (bare_link same y)) ∙ (link_same y ∙ sym (ruled.link (bare_link same y)))
 
 member_same : (y : MemberWith same) →
-    member_judged (member_step (member_mapped (bare_member same y))) ≡ member_part (layers.member_mapped judged_tree.parts (bare_member same y))
+    member_judged (member_step (member_mapped (bare_member same y))) ≡ member_part
+    (layers.member_mapped judged_tree.parts (bare_member same y))
 member_same (Member-F.Member::Variable is_attached name of None) = refl
 member_same (Member-F.Member::Variable is_attached name of (Some x)) = ap (λ p. judged.variable is_attached name of (Some p)) x.1
 member_same (Member-F.Constant is_attached name of x) = ap (judged.constant is_attached name of) x.1
@@ -233,7 +234,8 @@ abbrev addend_with : Additive → judged.Part → judged.AddendPart
 addend_with operator value = record { operator = operator; value = value }
 
 addend_same : (y : AddendWith same) →
-    addend_judged (addend_step (addend_mapped (bare_addend same y))) ≡ addend_part (layers.addend_mapped judged_tree.parts (bare_addend same y))
+    addend_judged (addend_step (addend_mapped (bare_addend same y))) ≡ addend_part
+    (layers.addend_mapped judged_tree.parts (bare_addend same y))
 addend_same y = ap (addend_with y.operator) y.value.1
 
 addend_at : (y : AddendWith same) → IsSameAddend (roll-Addend (bare_addend same y))
@@ -245,7 +247,8 @@ abbrev factor_with : Multiplicative → judged.Part → judged.FactorPart
 factor_with operator value = record { operator = operator; value = value }
 
 factor_same : (y : FactorWith same) →
-    factor_judged (factor_step (factor_mapped (bare_factor same y))) ≡ factor_part (layers.factor_mapped judged_tree.parts (bare_factor same y))
+    factor_judged (factor_step (factor_mapped (bare_factor same y))) ≡ factor_part
+    (layers.factor_mapped judged_tree.parts (bare_factor same y))
 factor_same y = ap (factor_with y.operator) y.value.1
 
 factor_at : (y : FactorWith same) → IsSameFactor (roll-Factor (bare_factor same y))
@@ -302,7 +305,8 @@ object_with at name is_monitored end_name body = record {
 }
 
 object_same : (y : ObjectWith same) →
-    object_judged (object_step (object_mapped (bare_object same y))) ≡ object_part (layers.object_mapped judged_tree.parts (bare_object same y))
+    object_judged (object_step (object_mapped (bare_object same y))) ≡ object_part
+    (layers.object_mapped judged_tree.parts (bare_object same y))
 object_same y = ap (object_with y.at y.name y.is_monitored y.end_name) y.body.1
 
 object_at : (y : ObjectWith same) → IsSameObject (roll-ObjectConstructor (bare_object same y))

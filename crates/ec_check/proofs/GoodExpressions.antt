@@ -3,7 +3,8 @@ use Rattle.std.proofs.Common.{◌≡◌, Bool, true, List, [], ◌∷◌, map, c
 use Rattle.ec_ast.specs.declared.Expression.{roll-Expression}
 use Rattle.ec_ast.specs.declared.Expression.TheOpen.{Expression-F}
 use Rattle.ec_places.proofs.DeclaredRolled.{expression_declared, expression_declares}
-use Rattle.ec_check.proofs.DeclaringParts.{SoundTypes, both_sound, NothingInName, DeclaringPart, DeclaringLink, DeclaringFactor, DeclaringAddend}
+use Rattle.ec_check.proofs.DeclaringParts.{SoundTypes, both_sound, NothingInName, DeclaringPart, DeclaringLink, DeclaringFactor}
+use Rattle.ec_check.proofs.DeclaringParts.{DeclaringAddend}
 use Rattle.ec_check.proofs.DeclaringParts.{EveryPair, parts_declare, values_declare, postfix_declares}
 use Rattle.ec_check.proofs.Every.{Every, none_left, none_right, either}
 use Rattle.ec_check.proofs.Rolled.{expression_mapped, part_rolled}

@@ -13,7 +13,8 @@ use Rattle.ec_ast.specs.declared.Operation.{Operation}
 use Rattle.ec_ast.specs.declared.ProcessSection.{ProcessSection}
 use Rattle.ec_places.proofs.DeclaredRolled.{in_operation}
 use Rattle.ec_check.proofs.DeclaringParts.{DeclaringPart, DeclaringLink, DeclaringMember, DeclaringStatement, DeclaringAddend, DeclaringArm}
-use Rattle.ec_check.proofs.DeclaringParts.{DeclaringPiece, DeclaringBody, DeclaringFactor, DeclaringObject, DeclaringOperation, DeclaringProcess}
+use Rattle.ec_check.proofs.DeclaringParts.{DeclaringPiece, DeclaringBody, DeclaringFactor, DeclaringObject, DeclaringOperation}
+use Rattle.ec_check.proofs.DeclaringParts.{DeclaringProcess}
 use Rattle.ec_check.proofs.SoundParts.{SoundPart, SoundLink, SoundMember, SoundStatement, SoundAddend, SoundArm, SoundPiece, SoundBody}
 use Rattle.ec_check.proofs.SoundParts.{SoundFactor, SoundConstructor, SoundOperation, SoundProcess}
 use Rattle.ec_check.specs.Tree.{part_of, link_of, member_of, statement_of, addend_of, arm_of, block_of, body_of, factor_of}

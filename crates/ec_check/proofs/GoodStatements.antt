@@ -4,8 +4,10 @@ use Rattle.ec_ast.specs.declared.Statement.{roll-Statement}
 use Rattle.ec_ast.specs.declared.Arm.{roll-Arm}
 use Rattle.ec_ast.specs.declared.Block.{roll-Block}
 use Rattle.ec_ast.specs.declared.Expression.TheOpen.{Statement-F}
-use Rattle.ec_places.proofs.DeclaredRolled.{statement_declared, statement_declares, arm_declared, arm_declares, block_declared, block_declares}
-use Rattle.ec_check.proofs.DeclaringParts.{SoundTypes, both_sound, DeclaringStatement, DeclaringArm, DeclaringPiece, EveryPair, joined_sound}
+use Rattle.ec_places.proofs.DeclaredRolled.{statement_declared, statement_declares, arm_declared, arm_declares, block_declared}
+use Rattle.ec_places.proofs.DeclaredRolled.{block_declares}
+use Rattle.ec_check.proofs.DeclaringParts.{SoundTypes, both_sound, DeclaringStatement, DeclaringArm, DeclaringPiece, EveryPair}
+use Rattle.ec_check.proofs.DeclaringParts.{joined_sound}
 use Rattle.ec_check.proofs.Every.{Every, every_left, every_right, every_unmap, none_left, none_right, none_each}
 use Rattle.ec_check.proofs.GoodExpressions.{each_good, each_pair}
 use Rattle.ec_check.proofs.Rolled.{statement_mapped, statement_rolled, arm_mapped, arm_rolled, block_mapped, block_rolled}

@@ -13,10 +13,12 @@ use Rattle.ec_ast.specs.declared.Operation.{roll-Operation}
 use Rattle.ec_ast.specs.declared.ProcessSection.{roll-ProcessSection}
 use Rattle.ec_ast.specs.declared.Expression.TheOpen.{Link-F, Member-F}
 use Rattle.ec_places.proofs.DeclaredRolled.{in_operation, link_declared, link_declares, member_declared, member_declares, addend_declared}
-use Rattle.ec_places.proofs.DeclaredRolled.{addend_declares, body_declared, body_declares, factor_declared, factor_declares, object_declared}
+use Rattle.ec_places.proofs.DeclaredRolled.{addend_declares, body_declared, body_declares, factor_declared, factor_declares}
+use Rattle.ec_places.proofs.DeclaredRolled.{object_declared}
 use Rattle.ec_places.proofs.DeclaredRolled.{object_declares, operation_declared, operation_declares, process_declared, process_declares}
 use Rattle.ec_check.proofs.DeclaringParts.{SoundTypes, both_sound, SoundMemberTypes, SoundBodyTypes, DeclaringLink, DeclaringMember}
-use Rattle.ec_check.proofs.DeclaringParts.{DeclaringAddend, DeclaringFactor, DeclaringBody, DeclaringObject, DeclaringOperation, DeclaringProcess}
+use Rattle.ec_check.proofs.DeclaringParts.{DeclaringAddend, DeclaringFactor, DeclaringBody, DeclaringObject, DeclaringOperation}
+use Rattle.ec_check.proofs.DeclaringParts.{DeclaringProcess}
 use Rattle.ec_check.proofs.DeclaringParts.{parts_declare, members_declare, within_members_sound, holder_declares}
 use Rattle.ec_check.proofs.DeclaringParts as declaring
 use Rattle.ec_check.proofs.Every.{Every, none_left}
@@ -25,7 +27,8 @@ use Rattle.ec_check.proofs.GoodStatements.{statement_at, arm_at, block_at}
 use Rattle.ec_check.proofs.Rolled.{link_mapped, member_mapped, addend_mapped, body_mapped, factor_mapped, object_mapped, operation_mapped}
 use Rattle.ec_check.proofs.Rolled.{process_mapped, link_rolled, member_rolled, addend_rolled, body_rolled, factor_rolled, object_rolled}
 use Rattle.ec_check.proofs.Rolled.{operation_rolled, process_rolled}
-use Rattle.ec_check.proofs.SoundParts.{SoundLink, SoundMember, SoundAddend, SoundBody, SoundFactor, SoundConstructor, SoundOperation, SoundProcess}
+use Rattle.ec_check.proofs.SoundParts.{SoundLink, SoundMember, SoundAddend, SoundBody, SoundFactor, SoundConstructor}
+use Rattle.ec_check.proofs.SoundParts.{SoundOperation, SoundProcess}
 use Rattle.ec_check.specs.Tree.{link_step, member_step, addend_step, body_step, factor_step, object_step, operation_step, process_step}
 use Rattle.ec_check.specs.Tree.{part_of, member_of}
 use Rattle.ec_conform.specs.Declarations as conform

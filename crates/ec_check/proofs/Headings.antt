@@ -14,7 +14,8 @@ use Rattle.ec_scopes.specs.Scopes.{declaring, written_in}
 use Rattle.ec_scopes.specs.declared.scope.Scope.{Scope}
 
 pub numbers_joined : (from a b : ℕ) → numbers_from from a ++ numbers_from (from + a) b ≡ numbers_from from (a + b)
-numbers_joined from zero b = let e : from + 0 ≡ from = omega arith in let f : 0 + b ≡ b = omega arith in ap (λ n. numbers_from n b) e ∙ sym (ap (numbers_from from) f)
+numbers_joined from zero b = let e : from + 0 ≡ from = omega arith in let f : 0 + b ≡ b =
+    omega arith in ap (λ n. numbers_from n b) e ∙ sym (ap (numbers_from from) f)
 numbers_joined from (suc a) b =
     let e : from + suc a ≡ suc from + a = omega arith in
     let f : suc a + b ≡ suc (a + b) = omega arith in

@@ -6,19 +6,23 @@ use Rattle.ec_ast.specs.declared.Member.{Member}
 use Rattle.ec_ast.specs.declared.Name.{Name}
 use Rattle.ec_ast.specs.declared.ObjectConstructor.{ObjectConstructor, out-ObjectConstructor}
 use Rattle.ec_ast.specs.declared.Parameter.{Parameter}
-use Rattle.ec_check.proofs.Bodies.{at_first, operation_before, operation_from, same_made_from, same_operation_from, with_operations, with_scope, with_variables}
+use Rattle.ec_check.proofs.Bodies.{at_first, operation_before, operation_from, same_made_from, same_operation_from, with_operations}
+use Rattle.ec_check.proofs.Bodies.{with_scope, with_variables}
 use Rattle.ec_check.proofs.Classes.{same_holder}
 use Rattle.ec_check.proofs.Equations.{body_step_of, object_step_of}
 use Rattle.ec_check.proofs.Fusion.{same_object}
 use Rattle.ec_check.proofs.Headings.{same_env}
 use Rattle.ec_check.proofs.Steps.{gone_same, kept as kept_scope, made_gone, made_joined, same_made}
 use Rattle.ec_check.specs.Making.{HasGone, HasMade, env_of, holder_of, made_of}
-use Rattle.ec_check.specs.Parts.{Made, both_made, BodyPart, Holder, MemberPart, ObjectPart, Piece, ProcessPart, variable, constant, condition, operation}
+use Rattle.ec_check.specs.Parts.{Made, both_made, BodyPart, Holder, MemberPart, ObjectPart, Piece, ProcessPart, variable, constant}
+use Rattle.ec_check.specs.Parts.{condition, operation}
 use Rattle.ec_check.specs.Parts.{holder_judged}
 use Rattle.ec_check.specs.Places.{Env, place_of}
 use Rattle.ec_check.specs.Resolving.{statements_in}
-use Rattle.ec_check.specs.Resolving.{at_start, behind_process, body_made, captures_of, class_core, class_with, env_of_body, field_stored, further}
-use Rattle.ec_check.specs.Resolving.{initial_operation, initially_core, initially_made, just_class, just_operation, locals_of_block, member_made, members_made}
+use Rattle.ec_check.specs.Resolving.{at_start, behind_process, body_made, captures_of, class_core, class_with, env_of_body}
+use Rattle.ec_check.specs.Resolving.{field_stored, further}
+use Rattle.ec_check.specs.Resolving.{initial_operation, initially_core, initially_made, just_class, just_operation, locals_of_block}
+use Rattle.ec_check.specs.Resolving.{member_made, members_made}
 use Rattle.ec_check.specs.Resolving.{number_of_holder, process_made}
 use Rattle.ec_check.specs.Resolving as spec
 use Rattle.ec_check.specs.Tree.{block_of, body_of, body_step, member_of, object_of, object_step, process_of}
@@ -127,7 +131,8 @@ body_part_gone class h old behind_members behind_initially new fresh none stored
       place = place;
       types = ap (λ (x : Variables). x.types) r;
       made =
-          operation_before (made_of old.made) own (both_made members block) behind_initially.made.classes none behind_initially.made.operations
+          operation_before (made_of old.made) own (both_made members block) behind_initially.made.classes none
+          behind_initially.made.operations
           within before pushed all z more w l p a
           ∙ ap (λ x. both_made (made_of old.made) (both_made (just_operation x) (both_made members block))) same;
     } in
@@ -281,7 +286,8 @@ module _ (body : Body) (heading : Heading) (old entered done : Resolver) (number
       ap (λ (x : Walk). x.scope) w
       ∙ walked_scope old.walk (faults_in_holder around seen) (uses_outside (uses_within around seen)) in
       let all_names = names_captured c in
-      let inside : entered.walk.scope ≡ scope_of around known = ap (λ (x : Resolver). x.walk.scope) e ∙ ap (λ x. scope_of x known) own_scope in
+      let inside : entered.walk.scope ≡ scope_of around known =
+      ap (λ (x : Resolver). x.walk.scope) e ∙ ap (λ x. scope_of x known) own_scope in
       let env : start ≡ env_of_body around holder = same_env inside (q ∙ all_names) n (ap length t) in
       let same_class : class ≡ class_core around holder =
       k ∙ ap (λ x. class_with x captures holder) own_scope ∙ ap (λ x. class_with around x holder) all_names in
@@ -351,7 +357,8 @@ pub constructed_made : (object : ObjectConstructor) (heading : Heading) (old new
     HasMade old new (spec.holder_made old.walk.scope (object_of object).holder)
 constructed_made object heading old new e h = same_made (ap (spec.holder_made old.walk.scope) (heading_of_object object heading e)) h
 
-pub constructed : (object : ObjectConstructor) (heading : Heading) (old new : Resolver) (number : ℕ) (names : List Text) (places : List Place) →
+pub constructed : (object : ObjectConstructor) (heading : Heading) (old new : Resolver) (number : ℕ) (names : List Text)
+    (places : List Place) →
     number ≡ number_at old.walk.scope.table.places (out-ObjectConstructor object).name.at.from →
     holder_seen heading (out-ObjectConstructor object).body ≡ (object_seen object).holder →
     names ≡ captures_of old.walk.scope (holder_of heading (out-ObjectConstructor object).body) →

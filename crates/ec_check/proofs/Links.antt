@@ -12,7 +12,8 @@ use Rattle.ec_check.specs.Making.{HasMade, env_of}
 use Rattle.ec_check.specs.Parts.{LinkPart, Made, Part, both_made, link_judged}
 use Rattle.ec_check.specs.Places.{type_or}
 use Rattle.ec_check.specs.Resolving as spec
-use Rattle.ec_check.specs.Resolving.{all_made, chain_parts, cores_of, head_core, head_parts, link_core, link_parts, links_core, parts_of_links}
+use Rattle.ec_check.specs.Resolving.{all_made, chain_parts, cores_of, head_core, head_parts, link_core, link_parts, links_core}
+use Rattle.ec_check.specs.Resolving.{parts_of_links}
 use Rattle.ec_check.specs.Tree.{link_of, part_of}
 use Rattle.ec_check.specs.declared.resolver.Resolver.{Resolver}
 use Rattle.ec_core.specs.declared.Expression.{Expression as Core}
@@ -35,7 +36,8 @@ pub links_cons : (scope : Scope) (x : Link) (ys : List Link) →
 links_cons scope x ys = all_joined scope (link_parts (link_of x)) (parts_of_links (map link_of ys))
 
 pub chain_made : (scope : Scope) (before : Receiver) (head : Part) (links : List LinkPart) →
-    both_made (all_made scope (head_parts before head)) (all_made scope (parts_of_links links)) ≡ all_made scope (chain_parts before head links)
+    both_made (all_made scope (head_parts before head)) (all_made scope (parts_of_links links)) ≡ all_made scope
+    (chain_parts before head links)
 chain_made scope (Creation name) head links = refl
 chain_made scope Own head links = ap (λ m. both_made m (all_made scope (parts_of_links links))) (made_none (head.made scope))
 chain_made scope (Typed of) head links = ap (λ m. both_made m (all_made scope (parts_of_links links))) (made_none (head.made scope))
@@ -66,7 +68,8 @@ module _ (old new : Resolver) (before : Receiver) (x : Link) where
 
   pub index_core : (number : Expression) (at : Span) (found : Core) →
       found ≡ (part_of number).core (env_of old) → x ≡ l.Index number at →
-      core.Element found (type_or (type_indexed (type_of_receiver old.walk.scope before))) at.from ≡ link_core (env_of old) before (link_of x)
+      core.Element found (type_or (type_indexed (type_of_receiver old.walk.scope before))) at.from ≡ link_core (env_of old) before
+      (link_of x)
   index_core number at found f e =
       ap (λ c. core.Element c (type_or (type_indexed (type_of_receiver old.walk.scope before))) at.from) f
       ∙ ap (link_core (env_of old) before) (sym (ap link_of e ∙ index_link number at))
@@ -87,6 +90,8 @@ behind_link scope before x = ap (λ y. Typed (link_type scope before y)) (sym (s
 -- ---- what stands before the links
 
 pub same_receiver : (scope : Scope) (head : Expression) (links : List Link) →
-    receiver scope (judged.part_of head) (map judged.link_of links) ≡ receiver scope (part_of head).part (map link_judged (map link_of links))
+    receiver scope (judged.part_of head) (map judged.link_of links) ≡ receiver scope (part_of head).part
+    (map link_judged (map link_of links))
 same_receiver scope head links =
-    sym (ap (λ p. receiver scope p (map link_judged (map link_of links))) (same_part head) ∙ ap (receiver scope (judged.part_of head)) (same_links links))
+    sym (ap (λ p. receiver scope p (map link_judged (map link_of links))) (same_part head)
+    ∙ ap (receiver scope (judged.part_of head)) (same_links links))

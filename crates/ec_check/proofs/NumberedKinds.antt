@@ -1,17 +1,20 @@
 -- What is shown of each kind of part of a tree, and of lists of parts: its classes have the numbers of the types that it
 -- declares, and each has the operations of its type.
-use Rattle.std.proofs.Common.{◌≡◌, ℕ, ◌&&◌, Bool, true, List, [], ◌∷◌, ◌++◌, map, Option, Some, None, option_map, is_some, refl, sym, ap, ◌∙◌, subst, append_assoc}
+use Rattle.std.proofs.Common.{◌≡◌, ℕ, ◌&&◌, Bool, true, List, [], ◌∷◌, ◌++◌, map, Option, Some, None, option_map, is_some, refl}
+use Rattle.std.proofs.Common.{sym, ap, ◌∙◌, subst, append_assoc}
 use Rattle.ec_ast.specs.declared.Name.{Name}
 use Rattle.ec_check.proofs.DeclaringParts.{NothingInName, EveryPair}
 use Rattle.ec_check.proofs.Every.{none_left, none_right, either}
-use Rattle.ec_check.proofs.NumberedParts.{Numbered, NumberedIn, nothing_numbered, numbered_within, within_class, both_numbered, both_in, none_both}
+use Rattle.ec_check.proofs.NumberedParts.{Numbered, NumberedIn, nothing_numbered, numbered_within, within_class, both_numbered}
+use Rattle.ec_check.proofs.NumberedParts.{both_in, none_both}
 use Rattle.ec_check.proofs.OwnOperations.{Declares, own_core}
 use Rattle.ec_check.proofs.RangedChains.{chain_faultless}
 use Rattle.ec_check.specs.Parts.{Made, both_made, Part, Piece, StatementPart, LinkPart, FactorPart, AddendPart, ArmPart, ProcessPart}
 use Rattle.ec_check.specs.Parts.{OperationPart, MemberPart, operation, BodyPart, ObjectPart, link_judged, factor_judged, addend_judged}
 use Rattle.ec_check.specs.Parts.{arm_judged, process_judged, member_judged, holder_judged}
 use Rattle.ec_check.specs.Places.{Env}
-use Rattle.ec_check.specs.Resolving.{all_made, member_made, members_made, initially_made, process_made, holder_made, link_parts, parts_of_links, chain_parts, parts_of_chain}
+use Rattle.ec_check.specs.Resolving.{all_made, member_made, members_made, initially_made, process_made, holder_made, link_parts}
+use Rattle.ec_check.specs.Resolving.{parts_of_links, chain_parts, parts_of_chain}
 use Rattle.ec_conform.specs.Declarations as conform
 use Rattle.ec_conform.specs.Declarations.{both, joined, within_members}
 use Rattle.ec_conform.specs.declared.declared.Declarations.{Declarations}

@@ -1,7 +1,8 @@
 -- What is made within a part of a tree, by the types that are declared within it: its classes have the numbers of these
 -- types, and each of its operations is of one of its classes; and where no fault is within it, and the numbers rise, each
 -- class has the operations of its type.
-use Rattle.std.proofs.Common.{◌≡◌, ℕ, ◌==◌, ◌&&◌, Bool, true, false, if◌then◌else◌, List, [], ◌∷◌, ◌++◌, map, refl, sym, ap, ◌∙◌, subst, append_assoc}
+use Rattle.std.proofs.Common.{◌≡◌, ℕ, ◌==◌, ◌&&◌, Bool, true, false, if◌then◌else◌, List, [], ◌∷◌, ◌++◌, map, refl, sym, ap, ◌∙◌}
+use Rattle.std.proofs.Common.{subst, append_assoc}
 use Rattle.std.proofs.lemmas.Bool.{eq-eqb, ne_eqb}
 use Rattle.std.proofs.lemmas.List.{append-nil}
 use Rattle.ec_check.proofs.ClassNumbers.{Below, Apart, Ascending, below_apart, ascending_left, ascending_right, each_below, apart_before}

@@ -14,10 +14,14 @@ use Rattle.ec_ast.specs.declared.ObjectConstructor.{roll-ObjectConstructor}
 use Rattle.ec_ast.specs.declared.Operation.{roll-Operation}
 use Rattle.ec_ast.specs.declared.ProcessSection.{roll-ProcessSection}
 use Rattle.ec_ast.specs.declared.Expression.TheOpen.{Expression-F, Link-F, Member-F, Statement-F}
-use Rattle.ec_places.proofs.DeclaredRolled.{expression_declared, link_declared, member_declared, statement_declared, addend_declared, arm_declared}
-use Rattle.ec_places.proofs.DeclaredRolled.{block_declared, body_declared, factor_declared, object_declared, operation_declared, process_declared}
-use Rattle.ec_places.proofs.DeclaredRolled.{expression_declares, link_declares, member_declares, statement_declares, addend_declares, arm_declares}
-use Rattle.ec_places.proofs.DeclaredRolled.{block_declares, body_declares, factor_declares, object_declares, operation_declares, process_declares}
+use Rattle.ec_places.proofs.DeclaredRolled.{expression_declared, link_declared, member_declared, statement_declared}
+use Rattle.ec_places.proofs.DeclaredRolled.{addend_declared, arm_declared}
+use Rattle.ec_places.proofs.DeclaredRolled.{block_declared, body_declared, factor_declared, object_declared, operation_declared}
+use Rattle.ec_places.proofs.DeclaredRolled.{process_declared}
+use Rattle.ec_places.proofs.DeclaredRolled.{expression_declares, link_declares, member_declares, statement_declares}
+use Rattle.ec_places.proofs.DeclaredRolled.{addend_declares, arm_declares}
+use Rattle.ec_places.proofs.DeclaredRolled.{block_declares, body_declares, factor_declares, object_declares, operation_declares}
+use Rattle.ec_places.proofs.DeclaredRolled.{process_declares}
 use Rattle.ec_places.proofs.DeclaredRolled.{in_operation}
 use Rattle.ec_check.proofs.DeclaringParts.{EveryPair}
 use Rattle.ec_check.proofs.Every.{none_left, none_right}
@@ -31,12 +35,14 @@ use Rattle.ec_check.proofs.NumberedParts.{Numbered, nothing_numbered, numbered_w
 use Rattle.ec_check.proofs.NumberedParts.{within_class, in_within, both_in, named_in, nameless_in}
 use Rattle.ec_check.proofs.Rolled.{expression_mapped, link_mapped, member_mapped, statement_mapped, addend_mapped, arm_mapped, block_mapped}
 use Rattle.ec_check.proofs.Rolled.{body_mapped, factor_mapped, object_mapped, operation_mapped, process_mapped}
-use Rattle.ec_check.proofs.Rolled.{part_rolled, link_rolled, member_rolled, statement_rolled, addend_rolled, arm_rolled, block_rolled, body_rolled}
+use Rattle.ec_check.proofs.Rolled.{part_rolled, link_rolled, member_rolled, statement_rolled, addend_rolled, arm_rolled}
+use Rattle.ec_check.proofs.Rolled.{block_rolled, body_rolled}
 use Rattle.ec_check.proofs.Rolled.{factor_rolled, object_rolled, operation_rolled, process_rolled}
 use Rattle.ec_check.specs.Layers.{expression_judged, statement_judged}
 use Rattle.ec_check.specs.Parts.{ArmPart, StatementPart, both_made, arm_judged, operation_judged}
 use Rattle.ec_check.specs.Resolving.{expression_made, statement_made, statements_made, arms_made, operation_core, process_operation}
-use Rattle.ec_check.specs.Tree.{expression_step, link_step, member_step, statement_step, addend_step, arm_step, block_step, body_step, factor_step}
+use Rattle.ec_check.specs.Tree.{expression_step, link_step, member_step, statement_step, addend_step, arm_step, block_step}
+use Rattle.ec_check.specs.Tree.{body_step, factor_step}
 use Rattle.ec_check.specs.Tree.{object_step, operation_step, process_step}
 use Rattle.ec_check.specs.Tree.{part_of, link_of, member_of, statement_of, addend_of, arm_of, block_of, factor_of, process_of}
 use Rattle.ec_conform.specs.Declarations as conform
@@ -238,7 +244,8 @@ statement_at y =
 
 -- ---- arms and blocks
 
-arm_is : (y : ArmWith numbered) → NumberedArm (arm_step (arm_mapped (bare_arm numbered y))) (conform.arm_step (arm_declared (bare_arm numbered y)))
+arm_is : (y : ArmWith numbered) →
+    NumberedArm (arm_step (arm_mapped (bare_arm numbered y))) (conform.arm_step (arm_declared (bare_arm numbered y)))
 arm_is y = λ scope.
     numbered_within
     (λ e.

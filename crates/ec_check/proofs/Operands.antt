@@ -14,7 +14,8 @@ use Rattle.ec_check.specs.Making.{HasMade, env_of}
 use Rattle.ec_check.specs.Parts.{AddendPart, FactorPart, Part, both_made, link_judged, nothing_made}
 use Rattle.ec_check.specs.Places.{Env}
 use Rattle.ec_check.specs.Resolving as spec
-use Rattle.ec_check.specs.Resolving.{addend_core, all_made, chain_of, compared_in, compared_of, factor_core, head_core, head_parts, links_core, parts_of_chain, parts_of_links}
+use Rattle.ec_check.specs.Resolving.{addend_core, all_made, chain_of, compared_in, compared_of, factor_core, head_core, head_parts}
+use Rattle.ec_check.specs.Resolving.{links_core, parts_of_chain, parts_of_links}
 use Rattle.ec_check.specs.Tree.{addend_of, factor_of, link_of, part_of}
 use Rattle.ec_check.specs.declared.resolver.Resolver.{Resolver}
 use Rattle.ec_core.specs.declared.Addend.{roll-Addend}
@@ -34,7 +35,8 @@ one_made old new seen x e h =
     same_made (ap (λ y. (part_of y).made old.walk.scope) e ∙ sym (made_none ((part_of x).made old.walk.scope))) h
 
 -- one operand, and then several
-pub two_made : {A : Type 0} (old mid new : Resolver) (seen x : Expression) → seen ≡ x → (parts : List A → List Part) (slice more : List A) → slice ≡ more →
+pub two_made : {A : Type 0} (old mid new : Resolver) (seen x : Expression) → seen ≡ x →
+    (parts : List A → List Part) (slice more : List A) → slice ≡ more →
     HasMade old mid ((part_of seen).made old.walk.scope) → HasMade mid new (all_made mid.walk.scope (parts slice)) →
     HasMade old new (both_made ((part_of x).made old.walk.scope) (all_made old.walk.scope (parts more)))
 two_made old mid new seen x e parts slice more s h k =

@@ -37,5 +37,6 @@ core_made old new constants found c n t a b f h =
     let env : env_of old ≡ env_in old.walk.scope [] = same_env refl c n (ap length t) in
     ap (λ x. core_from x new.made.classes new.made.operations) (f ∙ ap (λ e. constants_core e 0 constants) env)
     ∙ ap (λ m. core_from (constants_core (env_in old.walk.scope []) 0 constants) m.classes m.operations) h.made
-    ∙ ap (λ x. core_from (constants_core (env_in old.walk.scope []) 0 constants) (x ++ all.classes) (old.made.operations ++ all.operations)) a
+    ∙ ap (λ x. core_from (constants_core (env_in old.walk.scope []) 0 constants) (x ++ all.classes)
+    (old.made.operations ++ all.operations)) a
     ∙ ap (λ x. core_from (constants_core (env_in old.walk.scope []) 0 constants) all.classes (x ++ all.operations)) b

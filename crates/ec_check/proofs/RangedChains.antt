@@ -1,6 +1,7 @@
 -- In a chain of parts whose numbers are in range, each number is in range; a creation has as many arguments as its class has
 -- parameters.
-use Rattle.std.proofs.Common.{◌≡◌, ℕ, Bool, true, false, ◌&&◌, ◌||◌, not, List, [], ◌∷◌, ◌++◌, length, map, Option, Some, None, is_some, if◌then◌else◌}
+use Rattle.std.proofs.Common.{◌≡◌, ℕ, Bool, true, false, ◌&&◌, ◌||◌, not, List, [], ◌∷◌, ◌++◌, length, map, Option, Some, None}
+use Rattle.std.proofs.Common.{is_some, if◌then◌else◌}
 use Rattle.std.proofs.Common.{refl, sym, ap, ◌∙◌, subst}
 use Rattle.std.proofs.lemmas.Bool.{eqb-true}
 use Rattle.std.proofs.lemmas.List.{append-nil, length-map}
@@ -14,7 +15,8 @@ use Rattle.ec_check.proofs.RangedParts.{Ready, Ranged, RangedPart, RangedLink, p
 use Rattle.ec_check.specs.Numbers.{Limits, InRange, Created, joined, in_expression, in_link}
 use Rattle.ec_check.specs.Parts.{Part, LinkPart, call, index, link_judged}
 use Rattle.ec_check.specs.Places.{Env, type_or}
-use Rattle.ec_check.specs.Resolving.{all_made, cores_of, builtin_of, called, link_core, links_core, chained, number_of_class, arguments_in, created, chain_core}
+use Rattle.ec_check.specs.Resolving.{all_made, cores_of, builtin_of, called, link_core, links_core, chained, number_of_class}
+use Rattle.ec_check.specs.Resolving.{arguments_in, created, chain_core}
 use Rattle.ec_check.specs.Resolving.{link_parts, parts_of_links, chain_parts}
 use Rattle.ec_conform.specs.declared.static_type.StaticType.{StaticType}
 use Rattle.ec_core.specs.declared.Builtin.{Builtin}
@@ -23,7 +25,8 @@ use Rattle.ec_core.specs.declared.Expression.TheOpen.{Expression-F as Core-F, Li
 use Rattle.ec_core.specs.declared.Expression.TheVariants as e
 use Rattle.ec_core.specs.declared.Link.{Link, out-Link, out-roll-Link}
 use Rattle.ec_core.specs.declared.Link.TheVariants as l
-use Rattle.ec_rules.specs.Calls.{Receiver, Creation, Own, Typed, is_creation, class_created, receiver_of_form, receiver_if, receiver, is_last}
+use Rattle.ec_rules.specs.Calls.{Receiver, Creation, Own, Typed, is_creation, class_created, receiver_of_form, receiver_if}
+use Rattle.ec_rules.specs.Calls.{receiver, is_last}
 use Rattle.ec_rules.specs.Calls.{callee, callee_of_class, is_arity, link_type, faults_of_links, faults_of_link, faults_of_head}
 use Rattle.ec_rules.specs.Calls as calls
 use Rattle.ec_rules.specs.Forms.{Form, Literal, Negated, Constructor, Vector, Created as CreatedForm, Itself, NameAlone, Other}
@@ -163,7 +166,8 @@ creation_if scope head needed clean name of ls true is e =
 creation_if scope head needed clean name of ls false is e = tt
 
 creation_of : (scope : Scope) (head : Span) (needed clean : Bool) (form : Form) (of : Option StaticType) (ls : List LinkPart) →
-    faults_of_links scope head needed (receiver_if (class_created scope form (map link_judged ls)) form of) clean (map link_judged ls) ≡ [] →
+    faults_of_links scope head needed (receiver_if (class_created scope form (map link_judged ls)) form of) clean
+    (map link_judged ls) ≡ [] →
     IsCreation scope (receiver_if (class_created scope form (map link_judged ls)) form of) ls
 creation_of scope head needed clean (Literal t) of ls e = tt
 creation_of scope head needed clean Negated of ls e = tt
@@ -190,13 +194,15 @@ class_in_range limits (Some c) arguments s h e = (h.0, h.1, h.2, h.3, (h.4.0, h.
 
 created_counted : (class : ℕ) (l : Link) (ls : List Link) →
     in_expression (created class (l ∷ ls))
-    ≡ (Created class (length (arguments_in (out-Link l))) ∷ joined (map in_expression (arguments_in (out-Link l)))) ++ joined (map in_link ls)
+    ≡ (Created class (length (arguments_in (out-Link l))) ∷ joined (map in_expression (arguments_in (out-Link l))))
+    ++ joined (map in_link ls)
 created_counted class l ls =
     chained_counted (e.Create class (arguments_in (out-Link l))) ls
     ∙ ap (λ x. x ++ joined (map in_link ls))
     (expression_has (e.Create class (arguments_in (out-Link l))) (Core-F.Create class (arguments_in (out-Link l)))
     (e.rolls-Create class (arguments_in (out-Link l)))
-    ∙ ap (λ n. Created class n ∷ joined (map in_expression (arguments_in (out-Link l)))) (length-map (arguments_in (out-Link l)) in_expression))
+    ∙ ap (λ n. Created class n ∷ joined (map in_expression (arguments_in (out-Link l))))
+    (length-map (arguments_in (out-Link l)) in_expression))
 
 pub creation_arguments : (env : Env) (name word : Name) (arguments : List Part) →
     arguments_in (out-Link (link_core env (Creation name) (call word arguments))) ≡ cores_of env arguments

@@ -14,7 +14,8 @@ use Rattle.ec_check.proofs.RangedParts.{Ready, Ranged, RangedPart, RangedLink, R
 use Rattle.ec_check.proofs.RangedParts.{ready_within, same_ranged, parts_used, parts_ranged, values_same, any_of}
 use Rattle.ec_check.specs.Layers.{expression_judged}
 use Rattle.ec_check.specs.Numbers.{Kept, Limits, InRange, IsPlace, joined, in_expression, in_addend, in_factor}
-use Rattle.ec_check.specs.Parts.{Part, AnExpression, FactorPart, AddendPart, Holder, link_judged, factor_judged, addend_judged, holder_judged}
+use Rattle.ec_check.specs.Parts.{Part, AnExpression, FactorPart, AddendPart, Holder, link_judged, factor_judged, addend_judged}
+use Rattle.ec_check.specs.Parts.{holder_judged}
 use Rattle.ec_check.specs.Places.{Env, place_of}
 use Rattle.ec_check.specs.Resolving.{all_made, cores_of, core_of_expression, expression_made, parts_of_links, holder_made}
 use Rattle.ec_check.specs.Resolving.{compared_in, factor_core, addend_core, captures_of, number_of_holder, class_core}
@@ -251,7 +252,8 @@ layer_ranged (Expression-F.Postfix x links) h needed limits env r =
       reach =
           subst
           (λ ps. env.captures ≡ [] →
-          uses_outside (uses_of_head env.scope (receiver env.scope x.part (map link_judged links)) x.part ++ each (uses_in env.scope) ps) ≡ [])
+          uses_outside
+          (uses_of_head env.scope (receiver env.scope x.part (map link_judged links)) x.part ++ each (uses_in env.scope) ps) ≡ [])
           (links_same links) r.reach;
       faultless =
           ap (λ f. f ++ each (faults_in env.scope) (map (λ p. p.part) (parts_of_links links))) (none_left _ _ r.faultless)

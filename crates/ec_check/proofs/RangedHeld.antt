@@ -11,7 +11,8 @@ use Rattle.ec_ast.specs.declared.Factor.{Factor}
 use Rattle.ec_ast.specs.declared.ObjectConstructor.{ObjectConstructor}
 use Rattle.ec_ast.specs.declared.Operation.{Operation}
 use Rattle.ec_ast.specs.declared.ProcessSection.{ProcessSection}
-use Rattle.ec_check.proofs.RangedParts.{RangedPart, RangedLink, RangedMember, RangedStatement, RangedAddend, RangedArm, RangedPiece, RangedBody}
+use Rattle.ec_check.proofs.RangedParts.{RangedPart, RangedLink, RangedMember, RangedStatement, RangedAddend, RangedArm, RangedPiece}
+use Rattle.ec_check.proofs.RangedParts.{RangedBody}
 use Rattle.ec_check.proofs.RangedParts.{RangedFactor, RangedConstructor, RangedOperation, RangedProcess}
 use Rattle.ec_check.specs.Tree.{part_of, link_of, member_of, statement_of, addend_of, arm_of, block_of, body_of, factor_of}
 use Rattle.ec_check.specs.Tree.{object_of, operation_of, process_of}

@@ -1,9 +1,11 @@
 -- In the operations of a class or an object constructor of parts whose numbers are in range, each number is in range.
-use Rattle.std.proofs.Common.{◌≡◌, ℕ, ◌+◌, ◌<◌, ◌≤◌, Bool, true, List, [], ◌∷◌, ◌++◌, length, map, Option, Some, None, option_map, refl, sym, ap, ◌∙◌, subst, arith}
+use Rattle.std.proofs.Common.{◌≡◌, ℕ, ◌+◌, ◌<◌, ◌≤◌, Bool, true, List, [], ◌∷◌, ◌++◌, length, map, Option, Some, None, option_map}
+use Rattle.std.proofs.Common.{refl, sym, ap, ◌∙◌, subst, arith}
 use Rattle.std.specs.Prelude.{Contains}
 use Rattle.std.proofs.lemmas.List.{length-append, length-map}
 use Rattle.ec_ast.specs.declared.Name.{Name}
-use Rattle.ec_check.proofs.CapturedNames.{UsesHeld, held_both, held_changed, held_outside, outside_within, none_captured, none_outside_left, none_outside_right}
+use Rattle.ec_check.proofs.CapturedNames.{UsesHeld, held_both, held_changed, held_outside, outside_within, none_captured}
+use Rattle.ec_check.proofs.CapturedNames.{none_outside_left, none_outside_right}
 use Rattle.ec_check.proofs.Every.{Every, Where, every_joined, every_left, every_right, none_left, none_right, all_of}
 use Rattle.ec_check.proofs.FittingScopes.{BodyFits, fits_at_start, fits_in_a_process, fits_in_operation, body_fits}
 use Rattle.ec_check.proofs.FoundPlaces.{Fits, GlobalsAre, first_below, number_below}
@@ -14,8 +16,10 @@ use Rattle.ec_check.specs.Numbers.{Kept, Whole, Limits, InRange, IsOperation, li
 use Rattle.ec_check.specs.Parts.{Piece, ProcessPart, OperationPart, MemberPart, variable, constant, condition, operation, Holder}
 use Rattle.ec_check.specs.Parts.{member_judged, operation_judged, process_judged, holder_judged}
 use Rattle.ec_check.specs.Places.{Env, field_named, fields_of, names_of}
-use Rattle.ec_check.specs.Resolving.{env_of_operation, operation_core, heading_types, member_made, members_made, field_of, stored, field_stored}
-use Rattle.ec_check.specs.Resolving.{initially_core, initial_block, initial_operation, locals_of_block, process_operation, process_made, initially_made}
+use Rattle.ec_check.specs.Resolving.{env_of_operation, operation_core, heading_types, member_made, members_made, field_of, stored}
+use Rattle.ec_check.specs.Resolving.{field_stored}
+use Rattle.ec_check.specs.Resolving.{initially_core, initial_block, initial_operation, locals_of_block, process_operation}
+use Rattle.ec_check.specs.Resolving.{process_made, initially_made}
 use Rattle.ec_check.specs.Resolving.{env_of_body, env_in, class_core, holder_made, captures_of}
 use Rattle.ec_core.specs.declared.Block.{Block, out-Block, roll-out-Block}
 use Rattle.ec_core.specs.declared.Class.{Class}
@@ -26,7 +30,8 @@ use Rattle.ec_core.specs.declared.Statement.TheOpen.{Statement-F as Core-F}
 use Rattle.ec_core.specs.declared.Statement.TheVariants as s
 use Rattle.ec_names.specs.Names.{first_named}
 use Rattle.ec_rules.specs.Captures.{Use, uses_outside}
-use Rattle.ec_rules.specs.Judging.{member_finished, members_finished, finished_if, process_finished, body_finished, faults_in_holder, uses_within}
+use Rattle.ec_rules.specs.Judging.{member_finished, members_finished, finished_if, process_finished, body_finished}
+use Rattle.ec_rules.specs.Judging.{faults_in_holder, uses_within}
 use Rattle.ec_rules.specs.Lists.{each}
 use Rattle.ec_rules.specs.Members as rules
 use Rattle.ec_rules.specs.Members.{parameter_entries, result_entries, scope_of, scope_of_operation, object_with}
@@ -85,7 +90,8 @@ outside_body scope h = outside_within scope (object_with scope (holder_judged h)
 
 pub holder_used : (scope : Scope) (h : Holder) → RangedHolder h → UsesHeld scope (uses_outside (uses_within scope (holder_judged h)))
 holder_used scope h k =
-    held_outside scope (scope_of scope (holder_judged h)) (uses_within scope (holder_judged h)) (outside_body scope h) (inner_used scope h k)
+    held_outside scope (scope_of scope (holder_judged h)) (uses_within scope (holder_judged h)) (outside_body scope h)
+    (inner_used scope h k)
 
 -- ---- the values of fields
 

@@ -1,5 +1,6 @@
 -- In a statement or a block of parts whose numbers are in range, each number is in range.
-use Rattle.std.proofs.Common.{◌≡◌, ℕ, ◌+◌, ◌<◌, ◌≤◌, Bool, true, false, List, [], ◌∷◌, ◌++◌, length, map, Option, Some, None, option_map, refl, sym, ap, ◌∙◌, subst, arith, append_assoc}
+use Rattle.std.proofs.Common.{◌≡◌, ℕ, ◌+◌, ◌<◌, ◌≤◌, Bool, true, false, List, [], ◌∷◌, ◌++◌, length, map, Option, Some, None}
+use Rattle.std.proofs.Common.{option_map, refl, sym, ap, ◌∙◌, subst, arith, append_assoc}
 use Rattle.std.proofs.lemmas.List.{length-append}
 use Rattle.ec_ast.specs.declared.Expression.TheOpen.{Statement-F}
 use Rattle.ec_ast.specs.declared.Name.{Name}
@@ -9,17 +10,21 @@ use Rattle.ec_check.proofs.Every.{Every, Where, every_joined, every_left, every_
 use Rattle.ec_check.proofs.FittingScopes.{fits_further, fits_in_a_loop, fits_behind}
 use Rattle.ec_check.proofs.FoundPlaces.{Fits, named_below, some_names}
 use Rattle.ec_check.proofs.KnownTypes.{test_holds}
-use Rattle.ec_check.proofs.NumbersRolled.{expression_rolled, expression_counted, link_rolled, link_counted, statement_has, arm_rolled, block_rolled}
+use Rattle.ec_check.proofs.NumbersRolled.{expression_rolled, expression_counted, link_rolled, link_counted, statement_has}
+use Rattle.ec_check.proofs.NumbersRolled.{arm_rolled, block_rolled}
 use Rattle.ec_check.proofs.RangedChains.{chained_counted}
-use Rattle.ec_check.proofs.RangedParts.{Ready, Ranged, RangedPart, RangedPiece, RangedStatement, RangedArm, first_ready, second_ready, ready_within}
+use Rattle.ec_check.proofs.RangedParts.{Ready, Ranged, RangedPart, RangedPiece, RangedStatement, RangedArm, first_ready}
+use Rattle.ec_check.proofs.RangedParts.{second_ready, ready_within}
 use Rattle.ec_check.proofs.RangedParts.{both_ranged, same_ranged}
 use Rattle.ec_check.specs.Layers.{statement_judged}
 use Rattle.ec_check.specs.Numbers.{Condition, Limits, InRange, joined, if_there, in_expression, in_link, in_statement, in_arm, in_block}
 use Rattle.ec_check.specs.Numbers.{expression_numbers, link_numbers}
 use Rattle.ec_check.specs.Parts.{Part, Piece, StatementPart, ArmPart, AStatement, ABlock, arm_judged}
 use Rattle.ec_check.specs.Places.{Env, condition_named, conditions_of}
-use Rattle.ec_check.specs.Resolving.{chained, element_set, element_set_if, assigned, further, in_scope, arms_core, locals_of_arms, choice_core}
-use Rattle.ec_check.specs.Resolving.{core_of_statement, locals_of_block, locals_of, behind, statements_core, locals_of_statements, statements_made}
+use Rattle.ec_check.specs.Resolving.{chained, element_set, element_set_if, assigned, further, in_scope, arms_core, locals_of_arms}
+use Rattle.ec_check.specs.Resolving.{choice_core}
+use Rattle.ec_check.specs.Resolving.{core_of_statement, locals_of_block, locals_of, behind, statements_core, locals_of_statements}
+use Rattle.ec_check.specs.Resolving.{statements_made}
 use Rattle.ec_check.specs.Resolving.{arms_made, initially_made, statement_made}
 use Rattle.ec_check.specs.Tree.{statement_step, block_step}
 use Rattle.ec_core.specs.declared.Expression.{Expression, out-Expression, roll-out-Expression}
@@ -247,7 +252,8 @@ two_ranged : (limits : Limits) (env : Env) (p q : Part) (own : List StaticFault)
     Ready limits env ((p.part.judged true env.scope).uses ++ ((q.part.judged true env.scope).uses ++ []))
     (((p.part.judged true env.scope).faults ++ ((q.part.judged true env.scope).faults ++ [])) ++ own)
     ((p.made env.scope).classes ++ (q.made env.scope).classes) →
-    Ranged limits (in_expression (p.core env) ++ in_expression (q.core env)) ((p.made env.scope).operations ++ (q.made env.scope).operations)
+    Ranged limits (in_expression (p.core env) ++ in_expression (q.core env))
+    ((p.made env.scope).operations ++ (q.made env.scope).operations)
 two_ranged limits env p q own h k r =
     both_ranged (in_expression (p.core env)) (in_expression (q.core env)) (p.made env.scope).operations (q.made env.scope).operations
     (h.ranged true limits env
@@ -567,5 +573,6 @@ unfolding block_step
 block_ranged b h = record {
   uses = λ scope. statements_used b.statements h scope;
   ranged = λ limits env r l.
-      same_ranged (block_rolled (record { statements = statements_core b.statements env })) (statements_ranged b.statements h limits env r l);
+      same_ranged (block_rolled (record { statements = statements_core b.statements env }))
+      (statements_ranged b.statements h limits env r l);
 }

@@ -16,12 +16,14 @@ use Rattle.ec_ast.specs.declared.ProcessSection.{roll-ProcessSection}
 use Rattle.ec_ast.specs.declared.Expression.TheOpen.{Expression-F, Link-F, Member-F, Statement-F}
 use Rattle.ec_check.proofs.Every.{Every}
 use Rattle.ec_check.proofs.RangedExpressions.{expression_ranged, RangedParts}
-use Rattle.ec_check.proofs.RangedParts.{RangedPart, RangedLink, RangedMember, RangedStatement, RangedAddend, RangedArm, RangedPiece, RangedBody}
+use Rattle.ec_check.proofs.RangedParts.{RangedPart, RangedLink, RangedMember, RangedStatement, RangedAddend, RangedArm, RangedPiece}
+use Rattle.ec_check.proofs.RangedParts.{RangedBody}
 use Rattle.ec_check.proofs.RangedParts.{RangedFactor, RangedConstructor, RangedOperation, RangedProcess}
 use Rattle.ec_check.proofs.RangedStatements.{statement_ranged, block_ranged}
 use Rattle.ec_check.proofs.RangedStatements as statements
 use Rattle.ec_check.proofs.Rolled.{expression_mapped, link_mapped, member_mapped, statement_mapped, body_mapped}
-use Rattle.ec_check.proofs.Rolled.{part_rolled, link_rolled, member_rolled, statement_rolled, addend_rolled, arm_rolled, block_rolled, body_rolled}
+use Rattle.ec_check.proofs.Rolled.{part_rolled, link_rolled, member_rolled, statement_rolled, addend_rolled, arm_rolled}
+use Rattle.ec_check.proofs.Rolled.{block_rolled, body_rolled}
 use Rattle.ec_check.proofs.Rolled.{factor_rolled, object_rolled, operation_rolled, process_rolled, block_mapped}
 use Rattle.ec_check.specs.Tree.{link_step, member_step, body_step}
 use Rattle.ec_check.specs.Tree.{part_of, link_of, member_of, statement_of, addend_of, arm_of, factor_of}

@@ -7,7 +7,8 @@ use Rattle.ec_check.proofs.Every.{Every, every_joined, none_left, none_right, ei
 use Rattle.ec_check.proofs.KnownTypes.{HasType, written_is_known, vector_is_written, test_holds, clean, type_is_known}
 use Rattle.ec_check.proofs.SoundForms.{SoundForm}
 use Rattle.ec_check.proofs.SoundHolders.{holder_types}
-use Rattle.ec_check.proofs.SoundParts.{SoundPart, SoundLink, SoundFactor, SoundAddend, SoundConstructor, part_types, parts_types, values_types}
+use Rattle.ec_check.proofs.SoundParts.{SoundPart, SoundLink, SoundFactor, SoundAddend, SoundConstructor, part_types, parts_types}
+use Rattle.ec_check.proofs.SoundParts.{values_types}
 use Rattle.ec_check.proofs.SoundParts.{postfix_within, postfix_value}
 use Rattle.ec_check.proofs.SoundScopes.{SoundScope, self_has_type, found_has_type, found_is_typed}
 use Rattle.ec_check.specs.Layers.{expression_judged}
@@ -18,7 +19,8 @@ use Rattle.ec_conform.specs.Types.{vector_of}
 use Rattle.ec_conform.specs.declared.static_type.StaticType.{StaticType}
 use Rattle.ec_rules.specs.Calls.{is_word}
 use Rattle.ec_rules.specs.Forms.{Form, Literal, Negated, Constructor, Vector, Created, Itself, NameAlone, Other}
-use Rattle.ec_rules.specs.Judging.{expression_part, form_in_parentheses, form_negated, form_of_chain, form_of, type_of, type_of_sum, faults_of}
+use Rattle.ec_rules.specs.Judging.{expression_part, form_in_parentheses, form_negated, form_of_chain, form_of, type_of, type_of_sum}
+use Rattle.ec_rules.specs.Judging.{faults_of}
 use Rattle.ec_rules.specs.Lists.{each}
 use Rattle.ec_rules.specs.Operands.{result_type}
 use Rattle.ec_rules.specs.Parts as judged

@@ -1,5 +1,6 @@
 -- The types that the forms of values name: they are known, and don't hang on the types of names.
-use Rattle.std.proofs.Common.{◌≡◌, ℕ, Bool, true, false, List, [], ◌∷◌, ◌++◌, length, map, Option, Some, None, refl, sym, ap, ◌∙◌, is_some, if◌then◌else◌}
+use Rattle.std.proofs.Common.{◌≡◌, ℕ, Bool, true, false, List, [], ◌∷◌, ◌++◌, length, map, Option, Some, None, refl, sym, ap, ◌∙◌}
+use Rattle.std.proofs.Common.{is_some, if◌then◌else◌}
 use Rattle.std.proofs.Math.Path.{ap₂}
 use Rattle.std.proofs.lemmas.List.{map-append}
 use Rattle.ec_ast.specs.declared.Name.{Name}
@@ -15,7 +16,8 @@ use Rattle.ec_rules.specs.Members.{type_created, form_type, constant_type, const
 use Rattle.ec_rules.specs.Members.{field_names, fields_of, scope_of_names, scope_of, members_of, object_with}
 use Rattle.ec_rules.specs.Names.{is_found, unknown_types}
 use Rattle.ec_rules.specs.Operands.{wrong_constant}
-use Rattle.ec_rules.specs.Parts.{Part, MemberPart, variable, constant, condition, operation, Holder, ConstantPart, ValuePart, expression, class, typeobject}
+use Rattle.ec_rules.specs.Parts.{Part, MemberPart, variable, constant, condition, operation, Holder, ConstantPart, ValuePart}
+use Rattle.ec_rules.specs.Parts.{expression, class, typeobject}
 use Rattle.ec_scopes.specs.declared.globals.ClassMeant.{ClassMeant}
 use Rattle.ec_scopes.specs.declared.entries.Entry.{Entry}
 use Rattle.ec_scopes.specs.declared.scope.Found.{Found}
@@ -24,7 +26,8 @@ use Rattle.ec_scopes.specs.declared.globals.Global.{Global}
 use Rattle.ec_scopes.specs.declared.globals.Meaning.{Meaning}
 use Rattle.ec_scopes.specs.declared.object.Object.{Object}
 use Rattle.ec_scopes.specs.declared.scope.Scope.{Scope}
-use Rattle.ec_scopes.specs.Scopes.{entry_named, meaning_named, found_meaning, held_or, found_within, innermost, class_meant, unless_value, class_named, written_in}
+use Rattle.ec_scopes.specs.Scopes.{entry_named, meaning_named, found_meaning, held_or, found_within, innermost, class_meant}
+use Rattle.ec_scopes.specs.Scopes.{unless_value, class_named, written_in}
 
 -- ---- names of entries
 

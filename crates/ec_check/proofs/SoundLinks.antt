@@ -1,11 +1,13 @@
 -- In a sound scope a call or an index without a fault, behind something of a known type, has a known type.
-use Rattle.std.proofs.Common.{◌≡◌, ◌==◌, Bool, true, false, ◌&&◌, List, [], ◌∷◌, length, codes, Option, Some, None, refl, is_some, if◌then◌else◌}
+use Rattle.std.proofs.Common.{◌≡◌, ◌==◌, Bool, true, false, ◌&&◌, List, [], ◌∷◌, length, codes, Option, Some, None, refl, is_some}
+use Rattle.std.proofs.Common.{if◌then◌else◌}
 use Rattle.ec_ast.specs.declared.Name.{Name}
 use Rattle.ec_ast.specs.declared.Span.{Span}
 use Rattle.ec_check.proofs.Every.{Where, either, not_both, none_left, none_right, first_holds, second_holds}
 use Rattle.ec_check.proofs.KnownTypes.{HasType, KnownIfThere, still_known, element_has_type, test_holds}
 use Rattle.ec_check.proofs.SoundForms.{SoundForm}
-use Rattle.ec_check.proofs.SoundScopes.{SoundTable, SoundScope, KnownResult, found_operation, operations_of_type, own_operation_is_known, self_has_type}
+use Rattle.ec_check.proofs.SoundScopes.{SoundTable, SoundScope, KnownResult, found_operation, operations_of_type}
+use Rattle.ec_check.proofs.SoundScopes.{own_operation_is_known, self_has_type}
 use Rattle.ec_conform.specs.Conforms.{operations_at}
 use Rattle.ec_conform.specs.Table.{Table}
 use Rattle.ec_conform.specs.Types.{operation_named}

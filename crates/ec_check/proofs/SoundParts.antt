@@ -7,10 +7,12 @@ use Rattle.ec_check.proofs.SoundForms.{SoundForm}
 use Rattle.ec_check.proofs.SoundScopes.{SoundScope, TypedEntry}
 use Rattle.ec_check.proofs.SoundLinks.{SoundReceiver, link_has_type, receiver_is_sound}
 use Rattle.ec_check.specs.Parts.{Part, Piece, StatementPart, LinkPart, call, index, FactorPart, AddendPart, ArmPart, ProcessPart}
-use Rattle.ec_check.specs.Parts.{OperationPart, MemberPart, variable, constant, condition, operation, BodyPart, Holder, ObjectPart, link_judged}
+use Rattle.ec_check.specs.Parts.{OperationPart, MemberPart, variable, constant, condition, operation, BodyPart, Holder, ObjectPart}
+use Rattle.ec_check.specs.Parts.{link_judged}
 use Rattle.ec_check.specs.Resolving.{link_parts, parts_of_links, chain_parts}
 use Rattle.ec_check.specs.Typing.{types_in, all_types, types_along}
-use Rattle.ec_rules.specs.Calls.{Receiver, Creation, Own, Typed, is_last, link_type, link_faults, faults_of_link, faults_of_links, type_of_links, type_unless, faults_of_head, receiver, chain_faults, chain_type}
+use Rattle.ec_rules.specs.Calls.{Receiver, Creation, Own, Typed, is_last, link_type, link_faults, faults_of_link, faults_of_links}
+use Rattle.ec_rules.specs.Calls.{type_of_links, type_unless, faults_of_head, receiver, chain_faults, chain_type}
 use Rattle.ec_rules.specs.Calls as calls
 use Rattle.ec_rules.specs.Lists.{each}
 use Rattle.ec_rules.specs.Parts as judged
@@ -138,7 +140,8 @@ chain_is_sound scope head needed before (l ∷ m ∷ ls) s r h e =
     (subst (λ b. link_faults scope head b before (link_judged l) ≡ []) (or_true needed) (none_right _ _ here)) in
     let later : SoundChain scope head needed (Typed (link_type scope before (link_judged l))) (m ∷ ls) =
     chain_is_sound scope head needed (Typed (link_type scope before (link_judged l))) (m ∷ ls) s type h.1
-    (subst (λ b. faults_of_links scope head needed (Typed (type_unless b (link_type scope before (link_judged l)))) b (map link_judged (m ∷ ls)) ≡ [])
+    (subst (λ b. faults_of_links scope head needed (Typed (type_unless b (link_type scope before (link_judged l)))) b
+    (map link_judged (m ∷ ls)) ≡ [])
     (clean _ here) (none_right _ _ e)) in
     record {
       parts =
@@ -146,7 +149,9 @@ chain_is_sound scope head needed before (l ∷ m ∷ ls) s r h e =
           later.parts;
       along = (type, later.along);
       value = λ n.
-          subst (λ b. HasType (type_of_links scope head needed (Typed (type_unless b (link_type scope before (link_judged l)))) b (map link_judged (m ∷ ls))))
+          subst (λ b. HasType
+          (type_of_links scope head needed (Typed (type_unless b (link_type scope before (link_judged l)))) b
+          (map link_judged (m ∷ ls))))
           (sym (clean _ here)) (later.value n);
     }
 

@@ -1,5 +1,6 @@
 -- In a program without faults, with the table of its types, each type within it is known.
-use Rattle.std.proofs.Common.{◌≡◌, Bool, true, false, List, [], ◌∷◌, ◌++◌, map, Option, Some, None, option_map, refl, sym, subst, if◌then◌else◌}
+use Rattle.std.proofs.Common.{◌≡◌, Bool, true, false, List, [], ◌∷◌, ◌++◌, map, Option, Some, None, option_map, refl, sym, subst}
+use Rattle.std.proofs.Common.{if◌then◌else◌}
 use Rattle.ec_ast.specs.declared.Class.{Class}
 use Rattle.ec_ast.specs.declared.Constant.{Constant}
 use Rattle.ec_ast.specs.declared.ConstantValue.{ConstantValue}
@@ -28,7 +29,8 @@ use Rattle.ec_conform.specs.declared.declared.DeclaredType.{DeclaredType}
 use Rattle.ec_conform.specs.declared.declared.Declarations.{Declarations}
 use Rattle.ec_conform.specs.declared.operations.NamedOperation.{NamedOperation}
 use Rattle.ec_names.specs.Names.{has_name}
-use Rattle.ec_rules.specs.Faults.{meaning_of, globals_in, scope_with, scope_of_names, scope_of_program, faults_in_constant, faults_of_program, StaticFaults}
+use Rattle.ec_rules.specs.Faults.{meaning_of, globals_in, scope_with, scope_of_names, scope_of_program, faults_in_constant}
+use Rattle.ec_rules.specs.Faults.{faults_of_program, StaticFaults}
 use Rattle.ec_rules.specs.Judging.{faults_in_holder}
 use Rattle.ec_rules.specs.Lists.{each, each_of}
 use Rattle.ec_rules.specs.Names.{unknown_types, unknown_in_signature}

@@ -21,7 +21,8 @@ use Rattle.ec_scopes.specs.declared.globals.Meaning.{Meaning}
 use Rattle.ec_scopes.specs.declared.globals.Meaning.TheVariants as means
 use Rattle.ec_scopes.specs.declared.object.Object.{Object}
 use Rattle.ec_scopes.specs.declared.scope.Scope.{Scope}
-use Rattle.ec_scopes.specs.Scopes.{entry_named, meaning_named, found_meaning, held_or, found_within, find, innermost, own_operation_of, own_operation}
+use Rattle.ec_scopes.specs.Scopes.{entry_named, meaning_named, found_meaning, held_or, found_within, find, innermost}
+use Rattle.ec_scopes.specs.Scopes.{own_operation_of, own_operation}
 use Rattle.ec_scopes.specs.Scopes.{within, change_innermost, with_locals, at_loop, at_process, declaring, in_a_loop, in_a_process}
 
 -- ---- operations

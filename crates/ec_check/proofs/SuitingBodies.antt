@@ -1,5 +1,6 @@
 -- The scopes within an object suit its class: that of its body, and those in which its operations begin.
-use Rattle.std.proofs.Common.{◌≡◌, ℕ, suc, Bool, true, false, List, [], ◌∷◌, ◌++◌, length, map, take, Option, Some, None, option_map, is_some, slice_get}
+use Rattle.std.proofs.Common.{◌≡◌, ℕ, suc, Bool, true, false, List, [], ◌∷◌, ◌++◌, length, map, take, Option, Some, None}
+use Rattle.std.proofs.Common.{option_map, is_some, slice_get}
 use Rattle.std.proofs.Common.{refl, sym, ap, ◌∙◌, subst, if◌then◌else◌, append_assoc}
 use Rattle.std.specs.Prelude.{Contains}
 use Rattle.std.proofs.lemmas.List.{append-nil}
@@ -12,10 +13,13 @@ use Rattle.ec_check.proofs.FittingScopes.{fields_changed, locals_changed}
 use Rattle.ec_check.proofs.RangedHolders.{outside_body}
 use Rattle.ec_check.proofs.SoundForms.{same_constant, same_class_in_body}
 use Rattle.ec_check.proofs.WellParts.{AreFrom, AreNumbered, AreCaptured, AreFields, GlobalsSuit, OperationStands, OperationsStand, Suits}
-use Rattle.ec_check.specs.Parts.{OperationPart, MemberPart, variable, constant, condition, operation, Holder, member_judged, holder_judged, operation_judged}
+use Rattle.ec_check.specs.Parts.{OperationPart, MemberPart, variable, constant, condition, operation, Holder, member_judged}
+use Rattle.ec_check.specs.Parts.{holder_judged, operation_judged}
 use Rattle.ec_check.specs.Places.{Env, fields_of, type_found, type_or}
-use Rattle.ec_check.specs.Resolving.{at_start, env_in, numbers_from, types_written, result_written, heading_types, heading_entries, env_of_operation}
-use Rattle.ec_check.specs.Resolving.{operation_core, field_of, parameter_field, member_made, members_made, captures_of, env_of_body, class_core}
+use Rattle.ec_check.specs.Resolving.{at_start, env_in, numbers_from, types_written, result_written, heading_types, heading_entries}
+use Rattle.ec_check.specs.Resolving.{env_of_operation}
+use Rattle.ec_check.specs.Resolving.{operation_core, field_of, parameter_field, member_made, members_made, captures_of, env_of_body}
+use Rattle.ec_check.specs.Resolving.{class_core}
 use Rattle.ec_check.specs.WellTyped.{site_in}
 use Rattle.ec_conform.specs.Table.{Table}
 use Rattle.ec_conform.specs.declared.static_type.StaticType.{StaticType}

@@ -4,7 +4,8 @@ use Rattle.ec_core.specs.declared.Addend.{Addend, roll-Addend, fold-roll-Addend}
 use Rattle.ec_core.specs.declared.Arm.{Arm, roll-Arm, map-Arm, fold-roll-Arm}
 use Rattle.ec_core.specs.declared.Block.{Block, roll-Block, map-Block, fold-roll-Block}
 use Rattle.ec_core.specs.declared.Statement.TheOpen.{Statement-F, Arm-F, Block-F}
-use Rattle.ec_core.specs.declared.Expression.{Expression, roll-Expression, out-Expression, roll-out-Expression, map-Expression, fold-roll-Expression}
+use Rattle.ec_core.specs.declared.Expression.{Expression, roll-Expression, out-Expression, roll-out-Expression, map-Expression}
+use Rattle.ec_core.specs.declared.Expression.{fold-roll-Expression}
 use Rattle.ec_core.specs.declared.Expression.TheOpen.{Expression-F, Link-F, Addend-F, Factor-F}
 use Rattle.ec_core.specs.declared.Expression.TheVariants as e
 use Rattle.ec_core.specs.declared.Factor.{Factor, roll-Factor, fold-roll-Factor}
@@ -92,6 +93,7 @@ module _ (site : Site) where
   statement_has x y e = ap (is_well_statement site) (sym e) ∙ statement_rolled y
 
   -- what stands alone, or before links
-  pub chained_typed : (head : Expression) (ls : List Link) → typed site (chained head ls) ≡ along (typed site head) (map (typed_link site) ls)
+  pub chained_typed : (head : Expression) (ls : List Link) →
+      typed site (chained head ls) ≡ along (typed site head) (map (typed_link site) ls)
   chained_typed head [] = refl
   chained_typed head (l ∷ ls) = expression_has (e.Chain head (l ∷ ls)) (Expression-F.Chain head (l ∷ ls)) (e.rolls-Chain head (l ∷ ls))

@@ -142,7 +142,8 @@ rest_well site env head needed before l ls x s g b h i e =
 
 -- ---- `self` before links
 
-pub itself_well : (site : Site) (env : Env) → Suits site env → is_some (innermost env.scope) ≡ true → Is (typed site core.Itself) (type_of_self env.scope)
+pub itself_well : (site : Site) (env : Env) → Suits site env → is_some (innermost env.scope) ≡ true →
+    Is (typed site core.Itself) (type_of_self env.scope)
 itself_well site env s there =
     same_is (expression_has site core.Itself Core-F.Itself core.rolls-Itself)
     (record {
@@ -341,7 +342,8 @@ pub chain_well : (needed : Bool) (site : Site) (env : Env) (head : Part) (ls : L
     (all_made env.scope (chain_parts (receiver env.scope head.part (map link_judged ls)) head ls)).operations
 chain_well needed site env head ls h k r =
     let here : faults_of_head env.scope (receiver env.scope head.part (map link_judged ls)) head.part ≡ [] = none_left _ _ r.faultless in
-    let later : faults_of_links env.scope head.part.at needed (receiver env.scope head.part (map link_judged ls)) true (map link_judged ls) ≡ [] =
+    let later : faults_of_links env.scope head.part.at needed (receiver env.scope head.part (map link_judged ls)) true
+    (map link_judged ls) ≡ [] =
     subst
     (λ b. faults_of_links env.scope head.part.at needed (receiver env.scope head.part (map link_judged ls)) b (map link_judged ls) ≡ [])
     (clean _ here) (none_right _ _ r.faultless) in

@@ -20,7 +20,8 @@ use Rattle.ec_check.specs.Places.{Env}
 use Rattle.ec_check.specs.Resolving.{all_made, compared_in, cores_of, core_of_expression, expression_made}
 use Rattle.ec_check.specs.Resolving.{factor_core, addend_core, number_of_holder, class_core}
 use Rattle.ec_check.specs.Tree.{expression_step}
-use Rattle.ec_check.specs.WellTyped.{Site, Typed as TypedValue, TypedAddend, typed_if, typed, typed_addend, typed_factor, is_of, all_are, added}
+use Rattle.ec_check.specs.WellTyped.{Site, Typed as TypedValue, TypedAddend, typed_if, typed, typed_addend, typed_factor, is_of}
+use Rattle.ec_check.specs.WellTyped.{all_are, added}
 use Rattle.ec_conform.specs.Types.{known, named, vector_of}
 use Rattle.ec_conform.specs.declared.static_type.StaticType.TheVariants.{Plain, Vector, Nil, Unknown}
 use Rattle.ec_conform.specs.declared.static_type.StaticType.{StaticType}
@@ -31,9 +32,11 @@ use Rattle.ec_core.specs.declared.Operation.{Operation}
 use Rattle.ec_rules.specs.Calls.{faults_of_head, faults_of_links, type_of_links}
 use Rattle.ec_rules.specs.Calls.{receiver, is_word}
 use Rattle.ec_rules.specs.Forms.{Form, Literal, Negated, Constructor, Vector as VectorForm, Created, Itself, NameAlone, Other}
-use Rattle.ec_rules.specs.Judging.{expression_part, form_in_parentheses, form_negated, form_of_chain, form_of, type_of, type_of_sum, uses_of, faults_of}
+use Rattle.ec_rules.specs.Judging.{expression_part, form_in_parentheses, form_negated, form_of_chain, form_of, type_of, type_of_sum}
+use Rattle.ec_rules.specs.Judging.{uses_of, faults_of}
 use Rattle.ec_rules.specs.Lists.{each}
-use Rattle.ec_rules.specs.Operands.{wants, added_in, addend_faults, is_clean_behind, operand_of, result_type, sum_faults, type_if, wants_all}
+use Rattle.ec_rules.specs.Operands.{wants, added_in, addend_faults, is_clean_behind, operand_of, result_type, sum_faults, type_if}
+use Rattle.ec_rules.specs.Operands.{wants_all}
 use Rattle.ec_rules.specs.Parts as judged
 use Rattle.ec_rules.specs.Parts.{value_in, values_in, uses_in, faults_in}
 use Rattle.ec_rules.specs.Rules.{is_clean}
@@ -166,7 +169,8 @@ sum_well (a ∷ more) site env at x of l h e =
     (type_of_sum (Some (result_type a.operator)) (map addend_judged more)))
     (sym (addend_rolled site (record { operator = a.operator; value = a.value.core env; at = a.at.from })))
     (sum_well more site env at
-    (typed_if (is_of (operand_of a.operator) x && is_of (operand_of a.operator) (typed site (a.value.core env))) (Some (result_type a.operator)))
+    (typed_if (is_of (operand_of a.operator) x && is_of (operand_of a.operator) (typed site (a.value.core env)))
+    (Some (result_type a.operator)))
     (Some (result_type a.operator))
     (record {
       has_type = refl;
@@ -204,12 +208,15 @@ vector_is Unknown w = not_both w
 -- ---- one layer
 
 layer_well : (x : AnExpression) → WellParts x → (needed : Bool) (site : Site) (env : Env) →
-    Ready site env (uses_of env.scope (expression_judged x)) (faults_of needed env.scope (expression_judged x)) (expression_made x env.scope) →
+    Ready site env (uses_of env.scope (expression_judged x)) (faults_of needed env.scope (expression_judged x))
+    (expression_made x env.scope) →
     Well site (core_of_expression x env) (type_of needed env.scope (expression_judged x)) (expression_made x env.scope).operations
 layer_well (Expression-F.Number n) h needed site env r =
-    alone (same_is (expression_has site (e.Number n.value) (Core-F.Number n.value) (e.rolls-Number n.value)) (is_if true (Some integer) refl))
+    alone (same_is (expression_has site (e.Number n.value) (Core-F.Number n.value) (e.rolls-Number n.value))
+    (is_if true (Some integer) refl))
 layer_well (Expression-F.Literal t) h needed site env r =
-    alone (same_is (expression_has site (e.Literal t.text) (Core-F.Literal t.text) (e.rolls-Literal t.text)) (is_if true (Some string) refl))
+    alone (same_is (expression_has site (e.Literal t.text) (Core-F.Literal t.text) (e.rolls-Literal t.text))
+    (is_if true (Some string) refl))
 layer_well (Expression-F.Truth b at) h needed site env r =
     alone (same_is (expression_has site (e.Truth b) (Core-F.Truth b) (e.rolls-Truth b)) (is_if true (Some boolean) refl))
 layer_well (Expression-F.Nil at) h needed site env r =
@@ -411,7 +418,8 @@ well_is : {site : Site} {x : Expression} {of : Option StaticType} {os : List Ope
 well_is w = record { has_type = w.has_type; is_well = w.is_well }
 
 layer_goes : (x : AnExpression) → WellParts x → (site : Site) (env : Env) →
-    Ready site env (uses_of env.scope (expression_judged x)) (faults_of true env.scope (expression_judged x)) (expression_made x env.scope) →
+    Ready site env (uses_of env.scope (expression_judged x)) (faults_of true env.scope (expression_judged x))
+    (expression_made x env.scope) →
     Goes site.table env.scope (form_of (expression_judged x)) (typed site (core_of_expression x env))
 layer_goes (Expression-F.Number n) h site env r = λ there.
     goes site.table (typed site (e.Number n.value)) integer (well_is (layer_well (Expression-F.Number n) h true site env r)) refl
@@ -471,7 +479,8 @@ expression_well x h sound ranged = record {
   clean = λ scope e. clean _ e;
   formed = λ site env r. layer_goes x h site env r;
   well = λ needed site env r.
-      let w : Well site (core_of_expression x env) (type_of needed env.scope (expression_judged x)) (expression_made x env.scope).operations =
+      let w : Well site (core_of_expression x env) (type_of needed env.scope (expression_judged x))
+      (expression_made x env.scope).operations =
       layer_well x h needed site env r in
       record {
         has_type =

@@ -1,5 +1,6 @@
 -- A value whose form names a type goes into a place of this type.
-use Rattle.std.proofs.Common.{◌≡◌, ◌==◌, Bool, true, false, List, [], ◌∷◌, codes, Option, Some, None, refl, sym, ap, subst, is_some, if◌then◌else◌}
+use Rattle.std.proofs.Common.{◌≡◌, ◌==◌, Bool, true, false, List, [], ◌∷◌, codes, Option, Some, None, refl, sym, ap, subst, is_some}
+use Rattle.std.proofs.Common.{if◌then◌else◌}
 use Rattle.std.proofs.lemmas.Bool.{eq-eqb}
 use Rattle.std.proofs.lemmas.List.Elements.{All-contains}
 use Rattle.std.specs.Prelude.{Contains}
@@ -20,7 +21,8 @@ use Rattle.ec_conform.specs.declared.static_type.StaticType.{StaticType}
 use Rattle.ec_conform.specs.declared.static_type.StaticType.TheVariants.{Plain, Vector, Nil, Unknown}
 use Rattle.ec_core.specs.declared.Class.{Class}
 use Rattle.ec_core.specs.declared.Core.{Core}
-use Rattle.ec_rules.specs.Calls.{Receiver, Creation, class_created, receiver_if, is_word, callee_of_class, result_of, faults_of_links, type_of_links}
+use Rattle.ec_rules.specs.Calls.{Receiver, Creation, class_created, receiver_if, is_word, callee_of_class, result_of}
+use Rattle.ec_rules.specs.Calls.{faults_of_links, type_of_links}
 use Rattle.ec_rules.specs.Forms.{Form, Literal, Negated, Constructor, Vector as VectorForm, Created, Itself, NameAlone, Other}
 use Rattle.ec_rules.specs.Judging.{form_in_parentheses, form_negated, form_of_chain}
 use Rattle.ec_rules.specs.Members.{form_type, type_created}

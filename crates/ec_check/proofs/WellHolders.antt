@@ -1,5 +1,6 @@
 -- The operations of a class or an object constructor of well typed parts are well typed.
-use Rattle.std.proofs.Common.{◌≡◌, ◌+◌, Bool, true, List, [], ◌∷◌, ◌++◌, length, map, Option, Some, None, option_map, refl, sym, ap, ◌∙◌, arith}
+use Rattle.std.proofs.Common.{◌≡◌, ◌+◌, Bool, true, List, [], ◌∷◌, ◌++◌, length, map, Option, Some, None, option_map, refl, sym, ap}
+use Rattle.std.proofs.Common.{◌∙◌, arith}
 use Rattle.std.specs.Prelude.{Contains}
 use Rattle.ec_ast.specs.declared.Name.{Name}
 use Rattle.ec_check.proofs.Every.{Every, Where, every_joined, every_left, every_right, none_left, none_right}
@@ -8,14 +9,16 @@ use Rattle.ec_check.proofs.ReachedNames.{IsReached, each_reached}
 use Rattle.ec_check.proofs.SoundHolders.{sound_in_body, sound_in_operation}
 use Rattle.ec_check.proofs.SoundScopes.{SoundScope, sound_in_a_process}
 use Rattle.ec_check.proofs.StoredFields.{FieldIs, fields_are, members_stored, all_well_joined}
-use Rattle.ec_check.proofs.SuitingBodies.{BodySuits, body_suits, suits_at_start, suits_in_a_process, suits_in_operation, from_first, from_last, from_all}
+use Rattle.ec_check.proofs.SuitingBodies.{BodySuits, body_suits, suits_at_start, suits_in_a_process, suits_in_operation, from_first}
+use Rattle.ec_check.proofs.SuitingBodies.{from_last, from_all}
 use Rattle.ec_check.proofs.TypedRolled.{block_rolled}
 use Rattle.ec_check.proofs.WellParts.{Ready, WellMember, WellPiece, WellProcess, WellHolder, GlobalsSuit, AreWell, AreFrom}
 use Rattle.ec_check.proofs.WellReady.{first_reach, second_reach, first_ready, second_ready, ready_within}
 use Rattle.ec_check.specs.Parts.{Piece, ProcessPart, OperationPart, MemberPart, variable, constant, condition, operation, Holder, Made}
 use Rattle.ec_check.specs.Parts.{member_judged, operation_judged, process_judged, holder_judged}
 use Rattle.ec_check.specs.Places.{Env}
-use Rattle.ec_check.specs.Resolving.{env_of_operation, operation_core, heading_types, member_made, members_made, field_stored, initially_core}
+use Rattle.ec_check.specs.Resolving.{env_of_operation, operation_core, heading_types, member_made, members_made, field_stored}
+use Rattle.ec_check.specs.Resolving.{initially_core}
 use Rattle.ec_check.specs.Resolving.{initial_block, initial_operation, locals_of_block, process_operation, process_made, initially_made}
 use Rattle.ec_check.specs.Resolving.{env_of_body, env_in, class_core, holder_made, captures_of}
 use Rattle.ec_check.specs.WellTyped.{Site, site_in, is_well_block, is_well_statement}
@@ -53,7 +56,8 @@ module _ (table : Table) (core : Core) (c : Class) (there : Contains core.classe
   abbrev AllWell : List Operation → Type 0
   AllWell os = Every (IsWellOperation table core) os
 
-  operation_well : (env : Env) (is_monitored : Bool) (o : OperationPart) → BodySuits table core c env → WellPiece o.block → (made : Operation) →
+  operation_well : (env : Env) (is_monitored : Bool) (o : OperationPart) → BodySuits table core c env → WellPiece o.block →
+      (made : Operation) →
       Ready (site_in table core c made) env (member_finished env.scope is_monitored (judged.operation (operation_judged o))).uses
       (member_finished env.scope is_monitored (judged.operation (operation_judged o))).faults
       (member_made c.number env (operation o)) →
@@ -196,7 +200,8 @@ body_ready : (table : Table) (core : Core) (scope : Scope) (h : Holder) → Well
     Every (Contains core.classes) (holder_made scope h).classes →
     Every (Contains core.operations) (holder_made scope h).operations → BodyReady table core scope h
 body_ready table core scope h k t g s e cs os =
-    let reach : Every (IsReached (captures_of scope h)) (uses_outside ((member_uses scope h ++ initial_uses scope h) ++ process_uses scope h)) =
+    let reach : Every (IsReached (captures_of scope h))
+    (uses_outside ((member_uses scope h ++ initial_uses scope h) ++ process_uses scope h)) =
     each_reached (uses_within scope (holder_judged h)) in
     let first : Every (IsReached (captures_of scope h)) (uses_outside (member_uses scope h ++ initial_uses scope h)) =
     first_reach (captures_of scope h) (member_uses scope h ++ initial_uses scope h) (process_uses scope h) reach in

@@ -1,6 +1,7 @@
 -- What is known of a call or an index by what is known of what stands before it: where no rule is broken, it is well typed,
 -- and of the type that the rules give it.
-use Rattle.std.proofs.Common.{◌≡◌, ℕ, ◌==◌, Bool, true, false, ◌&&◌, ◌||◌, not, List, [], ◌∷◌, length, map, codes, Option, Some, None, refl, sym, ap, ◌∙◌, subst}
+use Rattle.std.proofs.Common.{◌≡◌, ℕ, ◌==◌, Bool, true, false, ◌&&◌, ◌||◌, not, List, [], ◌∷◌, length, map, codes, Option, Some}
+use Rattle.std.proofs.Common.{None, refl, sym, ap, ◌∙◌, subst}
 use Rattle.std.proofs.Common.{option_and_then, option_map, is_some, if◌then◌else◌, arith}
 use Rattle.std.proofs.lemmas.Bool.{eqb-true, eq-eqb}
 use Rattle.ec_ast.specs.declared.Name.{Name}
@@ -9,12 +10,15 @@ use Rattle.ec_check.proofs.Every.{Where, none_left, none_right, not_both, first_
 use Rattle.ec_check.proofs.KnownTypes.{HasType, test_holds, element_has_type}
 use Rattle.ec_check.proofs.TypedRolled.{expression_has, link_has}
 use Rattle.ec_check.proofs.WellParts.{ClassStands, OperationStands}
-use Rattle.ec_check.proofs.WellValues.{both_hold, first_of_two, second_of_two, some_class_is, some_operation_is, same_as_itself, same_result, is_type}
+use Rattle.ec_check.proofs.WellValues.{both_hold, first_of_two, second_of_two, some_class_is, some_operation_is, same_as_itself}
+use Rattle.ec_check.proofs.WellValues.{same_result, is_type}
 use Rattle.ec_check.proofs.WellValues.{IsValue, Values, is_of_type, is_wanted, values_go_in, integer_is}
 use Rattle.ec_check.specs.Places.{type_or}
 use Rattle.ec_check.specs.Resolving.{builtin_of, called, number_of_class}
-use Rattle.ec_check.specs.WellTyped.{Site, Typed as TypedValue, typed_if, typed, typed_link, is_taken, is_of, go_in, is_same_result, can_be_called, is_own, own_has}
-use Rattle.ec_check.specs.WellTyped.{fits_operation, type_has, can_invoke, are_none, are_two_integers, call_typed, is_element, parameters_of_class}
+use Rattle.ec_check.specs.WellTyped.{Site, Typed as TypedValue, typed_if, typed, typed_link, is_taken, is_of, go_in, is_same_result}
+use Rattle.ec_check.specs.WellTyped.{can_be_called, is_own, own_has}
+use Rattle.ec_check.specs.WellTyped.{fits_operation, type_has, can_invoke, are_none, are_two_integers, call_typed, is_element}
+use Rattle.ec_check.specs.WellTyped.{parameters_of_class}
 use Rattle.ec_check.specs.WellTyped.{result_of as result_variable}
 use Rattle.ec_conform.specs.Conforms.{operations_at}
 use Rattle.ec_conform.specs.Table.{Table}
@@ -31,7 +35,8 @@ use Rattle.ec_core.specs.declared.Expression.TheVariants as e
 use Rattle.ec_core.specs.declared.Link.TheVariants as l
 use Rattle.ec_names.specs.Names.{Text, is_same}
 use Rattle.ec_rules.specs.Calls.{Callee, Called, Missing, Whatever, is_word, called_as, callee_if, callee_of_type, callee_of_self}
-use Rattle.ec_rules.specs.Calls.{callee_of_class, is_missing, is_arity, call_faults, wrong_arguments, wrong_arguments_for, result_of, type_indexed, type_of_object}
+use Rattle.ec_rules.specs.Calls.{callee_of_class, is_missing, is_arity, call_faults, wrong_arguments, wrong_arguments_for}
+use Rattle.ec_rules.specs.Calls.{result_of, type_indexed, type_of_object}
 use Rattle.ec_rules.specs.Operands.{wants, must_conform}
 use Rattle.ec_rules.specs.Rules.{fault_if}
 use Rattle.ec_rules.specs.Types.{integer, string, fits}
@@ -149,7 +154,8 @@ builtin_well : (site : Site) (x : TypedValue) (builtin : Builtin) (name : Name) 
 builtin_well site x builtin name given b of result c e f =
     same_is
     (ap (λ g. g x)
-    (link_has site (l.Call builtin given name.at.from) (CoreLink-F.Call builtin given name.at.from) (l.rolls-Call builtin given name.at.from))
+    (link_has site (l.Call builtin given name.at.from) (CoreLink-F.Call builtin given name.at.from)
+    (l.rolls-Call builtin given name.at.from))
     ∙ c)
     (is_if_other b (Some of) result e f)
 
@@ -172,7 +178,8 @@ string_well site x name given vs true c h s f =
 string_well site x name given vs false true h s f =
     builtin_well site x GetSlice name given _ string (Some string) refl
     (both_hold _ _ s
-    (integers_given site.table (map (typed site) given) vs h (eqb-true 2 (length vs) (first_holds (2 == length vs) true f.arity)) f.arguments))
+    (integers_given site.table (map (typed site) given) vs h (eqb-true 2 (length vs) (first_holds (2 == length vs) true f.arity))
+    f.arguments))
     refl
 string_well site x name given vs false false h s f = not_both (sym f.missing)
 

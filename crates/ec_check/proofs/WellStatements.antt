@@ -1,5 +1,6 @@
 -- A statement or a block of well typed parts is well typed.
-use Rattle.std.proofs.Common.{◌≡◌, ℕ, suc, ◌+◌, Bool, true, false, ◌&&◌, List, [], ◌∷◌, ◌++◌, length, map, Option, Some, None, option_map, is_some, slice_get}
+use Rattle.std.proofs.Common.{◌≡◌, ℕ, suc, ◌+◌, Bool, true, false, ◌&&◌, List, [], ◌∷◌, ◌++◌, length, map, Option, Some, None}
+use Rattle.std.proofs.Common.{option_map, is_some, slice_get}
 use Rattle.std.proofs.Common.{refl, sym, ap, ◌∙◌, subst, arith, append_assoc}
 use Rattle.ec_ast.specs.declared.Expression.TheOpen.{Statement-F}
 use Rattle.ec_check.proofs.Every.{Every, Where, every_joined, none_left, none_right}
@@ -11,16 +12,20 @@ use Rattle.ec_check.proofs.TypedRolled.{expression_is, statement_has, arm_rolled
 use Rattle.ec_check.proofs.WellAssigned.{assigned_well, dropped_well}
 use Rattle.ec_check.proofs.WellLinks.{Is}
 use Rattle.ec_check.proofs.WellParts.{AreFrom, DeclaresAll, Ready, WellPart, WellPiece, WellStatement, WellArm, AreWell}
-use Rattle.ec_check.proofs.WellReady.{Valued, ReadyPart, first_ready, second_ready, ready_within, ready_alone, same_ready, part_well, part_valued}
+use Rattle.ec_check.proofs.WellReady.{Valued, ReadyPart, first_ready, second_ready, ready_within, ready_alone, same_ready}
+use Rattle.ec_check.proofs.WellReady.{part_well, part_valued}
 use Rattle.ec_check.proofs.WellReady.{written_goes_in, constant_goes_in}
 use Rattle.ec_check.proofs.WellValues.{both_hold, is_type, is_wanted, value_goes_in}
 use Rattle.ec_check.specs.Layers.{statement_judged}
 use Rattle.ec_check.specs.Parts.{Made, Part, Piece, StatementPart, ArmPart, AStatement, ABlock, arm_judged, both_made}
 use Rattle.ec_check.specs.Places.{Env, condition_named, type_or}
-use Rattle.ec_check.specs.Resolving.{assigned, further, in_scope, arms_core, locals_of_arms, choice_core, core_of_statement, locals_of_block}
-use Rattle.ec_check.specs.Resolving.{locals_of, behind, statements_core, locals_of_statements, statements_made, arms_made, initially_made, statement_made}
+use Rattle.ec_check.specs.Resolving.{assigned, further, in_scope, arms_core, locals_of_arms, choice_core, core_of_statement}
+use Rattle.ec_check.specs.Resolving.{locals_of_block}
+use Rattle.ec_check.specs.Resolving.{locals_of, behind, statements_core, locals_of_statements, statements_made, arms_made}
+use Rattle.ec_check.specs.Resolving.{initially_made, statement_made}
 use Rattle.ec_check.specs.Tree.{statement_step, block_step}
-use Rattle.ec_check.specs.WellTyped.{Site, typed, is_of, goes_in, goes_in_if, holds_if, all_well, is_well_if, are_references, IsWellOperation}
+use Rattle.ec_check.specs.WellTyped.{Site, typed, is_of, goes_in, goes_in_if, holds_if, all_well, is_well_if, are_references}
+use Rattle.ec_check.specs.WellTyped.{IsWellOperation}
 use Rattle.ec_check.specs.WellTyped.{is_well_statement, is_well_arm, is_well_block}
 use Rattle.ec_conform.specs.declared.static_type.StaticType.{StaticType}
 use Rattle.ec_core.specs.declared.Arm.{Arm}

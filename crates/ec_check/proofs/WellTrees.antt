@@ -24,7 +24,8 @@ use Rattle.ec_check.proofs.RangedParts.{RangedPart, RangedStatement, RangedPiece
 use Rattle.ec_check.proofs.RangedTrees.{ranged_part, ranged_statement, ranged_block, ranged_body}
 use Rattle.ec_check.proofs.SoundParts.{SoundPart, SoundStatement, SoundPiece, SoundBody}
 use Rattle.ec_check.proofs.Rolled.{expression_mapped, link_mapped, member_mapped, statement_mapped, body_mapped}
-use Rattle.ec_check.proofs.Rolled.{part_rolled, link_rolled, member_rolled, statement_rolled, addend_rolled, arm_rolled, block_rolled, body_rolled}
+use Rattle.ec_check.proofs.Rolled.{part_rolled, link_rolled, member_rolled, statement_rolled, addend_rolled, arm_rolled}
+use Rattle.ec_check.proofs.Rolled.{block_rolled, body_rolled}
 use Rattle.ec_check.proofs.Rolled.{factor_rolled, object_rolled, operation_rolled, process_rolled, block_mapped}
 use Rattle.ec_check.specs.Tree.{link_step, member_step, body_step}
 use Rattle.ec_check.specs.Tree.{part_of, link_of, member_of, statement_of, addend_of, arm_of, factor_of}

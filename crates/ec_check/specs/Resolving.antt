@@ -34,7 +34,8 @@ use Rattle.ec_core.specs.declared.Place.TheVariants as place
 use Rattle.ec_core.specs.declared.Statement.{Statement}
 use Rattle.ec_core.specs.declared.Statement.TheVariants as s
 use Rattle.ec_names.specs.Names.{Text}
-use Rattle.ec_rules.specs.Calls.{Receiver, Creation, Own, Typed, callee, is_word, link_type, receiver, result_of, type_indexed, type_of_receiver}
+use Rattle.ec_rules.specs.Calls.{Receiver, Creation, Own, Typed, callee, is_word, link_type, receiver, result_of, type_indexed}
+use Rattle.ec_rules.specs.Calls.{type_of_receiver}
 use Rattle.ec_rules.specs.Captures.{captured}
 use Rattle.ec_rules.specs.Judging.{uses_within}
 use Rattle.ec_rules.specs.Lists.{each}

@@ -15,10 +15,13 @@ use Rattle.ec_ast.specs.declared.Operation.{Operation}
 use Rattle.ec_ast.specs.declared.ProcessSection.{ProcessSection}
 use Rattle.ec_ast.specs.declared.Expression.TheOpen.{Link-F, Member-F}
 use Rattle.ec_check.specs.Layers.{expression_judged, statement_judged}
-use Rattle.ec_check.specs.Parts.{Part, LinkPart, call, index, MemberPart, variable, constant, condition, operation, StatementPart, AddendPart, ArmPart}
-use Rattle.ec_check.specs.Parts.{Piece, BodyPart, FactorPart, Holder, ObjectPart, OperationPart, ProcessPart, AnExpression, AStatement, ALink, AMember}
+use Rattle.ec_check.specs.Parts.{Part, LinkPart, call, index, MemberPart, variable, constant, condition, operation, StatementPart}
+use Rattle.ec_check.specs.Parts.{AddendPart, ArmPart}
+use Rattle.ec_check.specs.Parts.{Piece, BodyPart, FactorPart, Holder, ObjectPart, OperationPart, ProcessPart, AnExpression}
+use Rattle.ec_check.specs.Parts.{AStatement, ALink, AMember}
 use Rattle.ec_check.specs.Parts.{AnAddend, AnArm, ABlock, ABody, AFactor, AnObject, AnOperation, AProcess, kinds}
-use Rattle.ec_check.specs.Resolving.{core_of_expression, expression_made, core_of_statement, statement_made, locals_of, statements_core, statements_made, locals_of_statements}
+use Rattle.ec_check.specs.Resolving.{core_of_expression, expression_made, core_of_statement, statement_made, locals_of}
+use Rattle.ec_check.specs.Resolving.{statements_core, statements_made, locals_of_statements}
 use Rattle.ec_check.specs.Typing.{expression_within, statement_within, statements_within}
 use Rattle.ec_core.specs.declared.Block.{roll-Block}
 use Rattle.ec_rules.specs.Judging.{block_finished, expression_part, statement_part}

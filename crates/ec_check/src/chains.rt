@@ -64,7 +64,9 @@ fn called(
     name: &Name,
     arguments: Items<Expression>,
 ) -> Result<Link, AllocError>
-    ensures { IfOk result (λ l. l ≡ spec.called (spec.builtin_of (calls.type_of_receiver scope.now (calls.receiver_seen before.entry)) name.now) name.now arguments (calls.result_of (calls.callee scope.now (calls.receiver_seen before.entry) name.now))) }
+    ensures { IfOk result
+        (λ l. l ≡ spec.called (spec.builtin_of (calls.type_of_receiver scope.now (calls.receiver_seen before.entry)) name.now)
+        name.now arguments (calls.result_of (calls.callee scope.now (calls.receiver_seen before.entry) name.now))) }
 {
     match builtin_of(type_of_receiver(scope, before), name) {
         Some(builtin) => Ok(Link::Call(builtin, arguments, name.at.from)),
@@ -105,7 +107,9 @@ fn behind<'a>(
     before: Receiver<'a>,
     link: &tree::Link,
 ) -> Result<Receiver<'a>, AllocError>
-    ensures { IfOk result (λ next. calls.receiver_seen next ≡ calls.Typed (calls.link_type scope.now (calls.receiver_seen before.entry) (judged.link_of link.now))) }
+    ensures { IfOk result
+        (λ next. calls.receiver_seen next ≡ calls.Typed
+        (calls.link_type scope.now (calls.receiver_seen before.entry) (judged.link_of link.now))) }
 {
     match link {
         tree::Link::Call(name, _) => {
@@ -207,7 +211,8 @@ pub fn receiver_before<'a>(
     head: &'a tree::Expression,
     links: &[tree::Link],
 ) -> Result<Receiver<'a>, AllocError>
-    ensures receiver { IfOk result (λ before. calls.receiver_seen before ≡ calls.receiver walk.old.scope (judged.part_of head.now) (map judged.link_of links.now)) }
+    ensures receiver { IfOk result
+        (λ before. calls.receiver_seen before ≡ calls.receiver walk.old.scope (judged.part_of head.now) (map judged.link_of links.now)) }
     ensures scope { OnOk result (walk.new.scope ≡ walk.old.scope) }
 {
     let form = form_of(head);
@@ -229,7 +234,8 @@ pub fn resolve_head<'a>(
     before: Receiver<'a>,
 ) -> Result<Option<Expression>, AllocError>
     ensures core { IfOk result (λ c. c ≡ spec.head_core (env_of r.old) (calls.receiver_seen before.entry) (part_of head.now)) }
-    ensures made { OnOk result (HasMade r.old r.new (spec.all_made r.old.walk.scope (spec.head_parts (calls.receiver_seen before.entry) (part_of head.now)))) }
+    ensures made { OnOk result
+        (HasMade r.old r.new (spec.all_made r.old.walk.scope (spec.head_parts (calls.receiver_seen before.entry) (part_of head.now)))) }
 {
     match before {
         Receiver::Creation(_) => Ok(None),
@@ -247,7 +253,9 @@ pub fn resolve_behind<'a>(
     before: Receiver<'a>,
     head: Option<Expression>,
 ) -> Result<Expression, AllocError>
-    ensures core { IfOk result (λ c. c ≡ spec.joined r.old.walk.scope (calls.receiver_seen before.entry) head (spec.links_core (env_of r.old) (calls.receiver_seen before.entry) (map link_of links.now))) }
+    ensures core { IfOk result
+        (λ c. c ≡ spec.joined r.old.walk.scope (calls.receiver_seen before.entry) head
+        (spec.links_core (env_of r.old) (calls.receiver_seen before.entry) (map link_of links.now))) }
     ensures made { OnOk result (HasMade r.old r.new (spec.all_made r.old.walk.scope (spec.parts_of_links (map link_of links.now)))) }
 {
     let more = resolve_links(alloc, r, before, links)?;

@@ -141,7 +141,9 @@ fn enter_class<'a>(
     heading: Heading<'a>,
 ) -> Result<Class, AllocError>
     ensures class { IfOk result (λ c. c ≡ spec.class_with r.old.walk.scope captures.now (holder_of heading.entry body.now)) }
-    ensures scope { OnOk result (r.new ≡ record r.old { walk = record r.old.walk { scope = scope_of r.old.walk.scope (holder_judged (holder_of heading.entry body.now)) } }) }
+    ensures scope { OnOk result
+        (r.new ≡ record r.old
+        { walk = record r.old.walk { scope = scope_of r.old.walk.scope (holder_judged (holder_of heading.entry body.now)) } }) }
 {
     let captured = types_captured(alloc, &r.walk.scope, captures)?;
     let mut fields = Items::new(alloc);
@@ -245,7 +247,9 @@ fn begin_operation(
     parameters: &[Parameter],
     returned: &Option<Parameter>,
 ) -> Result<(), AllocError>
-    ensures { OnOk result (HasGone r.old r.new (spec.behind_heading (env_of r.old) parameters.now returned.now) (spec.heading_types r.old.walk.scope parameters.now returned.now) nothing_made) }
+    ensures { OnOk result
+        (HasGone r.old r.new (spec.behind_heading (env_of r.old) parameters.now returned.now)
+        (spec.heading_types r.old.walk.scope parameters.now returned.now) nothing_made) }
 {
     add_written(&r.walk.scope, &mut r.variables, parameters)?;
     add_result(&r.walk.scope, &mut r.variables, returned)?;
@@ -258,7 +262,9 @@ fn add_result(
     variables: &mut Variables,
     returned: &Option<Parameter>,
 ) -> Result<(), AllocError>
-    ensures numbers { OnOk result (variables.new.numbers.items ≡ variables.old.numbers.items ++ spec.numbers_from (length variables.old.types) (length (spec.result_written scope.now returned.now))) }
+    ensures numbers { OnOk result
+        (variables.new.numbers.items ≡ variables.old.numbers.items
+        ++ spec.numbers_from (length variables.old.types) (length (spec.result_written scope.now returned.now))) }
     ensures types { OnOk result (variables.new.types ≡ variables.old.types ++ spec.result_written scope.now returned.now) }
 {
     match returned {
@@ -273,7 +279,9 @@ fn add_written(
     variables: &mut Variables,
     parameters: &[Parameter],
 ) -> Result<(), AllocError>
-    ensures numbers { OnOk result (variables.new.numbers.items ≡ variables.old.numbers.items ++ spec.numbers_from (length variables.old.types) (length parameters.now)) }
+    ensures numbers { OnOk result
+        (variables.new.numbers.items ≡ variables.old.numbers.items
+        ++ spec.numbers_from (length variables.old.types) (length parameters.now)) }
     ensures types { OnOk result (variables.new.types ≡ variables.old.types ++ spec.types_written scope.now parameters.now) }
 {
     for p in parameters {
@@ -308,7 +316,9 @@ fn resolve_process<'a>(
     name: &Name,
     process: &'a Option<tree::ProcessSection>,
 ) -> Result<(), AllocError>
-    ensures { OnOk result (HasGone r.old r.new (spec.behind_process (env_of r.old) (option_map process_of process.now)) [] (spec.process_made class (env_of r.old) name.now (option_map process_of process.now))) }
+    ensures { OnOk result
+        (HasGone r.old r.new (spec.behind_process (env_of r.old) (option_map process_of process.now)) []
+        (spec.process_made class (env_of r.old) name.now (option_map process_of process.now))) }
 {
     let Some(p) = process else {
         return Ok(());
@@ -360,7 +370,9 @@ fn resolve_body<'a>(
     body: &'a tree::Body,
     heading: Heading<'a>,
 ) -> Result<(), AllocError>
-    ensures { OnOk result (HasGone r.old r.new (spec.behind_process (env_of r.old) (option_map process_of (out-Body body.now).process)) [] (spec.body_made class (env_of r.old) (holder_of heading.entry body.now))) }
+    ensures { OnOk result
+        (HasGone r.old r.new (spec.behind_process (env_of r.old) (option_map process_of (out-Body body.now).process)) []
+        (spec.body_made class (env_of r.old) (holder_of heading.entry body.now))) }
 {
     let around = std::mem::replace(&mut r.variables, Variables::new(alloc));
     let before = std::mem::replace(&mut r.made.operations, Items::new(alloc));
@@ -426,7 +438,9 @@ pub fn resolve_object<'a>(
     r: &mut Resolver<'a>,
     object: &'a tree::ObjectConstructor,
 ) -> Result<Expression, AllocError>
-    ensures core { IfOk result (λ c. c ≡ e.Construct (spec.number_of_holder r.old.walk.scope (object_of object.now).holder) (map (place_of (env_of r.old)) (spec.captures_of r.old.walk.scope (object_of object.now).holder))) }
+    ensures core { IfOk result
+        (λ c. c ≡ e.Construct (spec.number_of_holder r.old.walk.scope (object_of object.now).holder)
+        (map (place_of (env_of r.old)) (spec.captures_of r.old.walk.scope (object_of object.now).holder))) }
     ensures made { OnOk result (HasMade r.old r.new (spec.holder_made r.old.walk.scope (object_of object.now).holder)) }
 {
     let number = r.walk.scope.table.number_at(object.name.at);

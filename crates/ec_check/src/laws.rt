@@ -1,5 +1,6 @@
 //! What holds of every program that breaks no static rule.
-ghost use Rattle.ec_check.specs.Laws.{EachClassHasItsNumber, EachClassHasItsOperations, EachCoreIsWellTyped, EachHasItsType, EachNumberIsInRange};
+ghost use Rattle.ec_check.specs.Laws.{EachClassHasItsNumber, EachClassHasItsOperations, EachCoreIsWellTyped, EachHasItsType};
+ghost use Rattle.ec_check.specs.Laws.{EachNumberIsInRange};
 
 /// Each expression of an accepted program has its type.
 pub fn each_has_its_type()

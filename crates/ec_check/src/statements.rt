@@ -32,7 +32,9 @@ pub fn resolve_block<'a>(
     block: &'a tree::Block,
 ) -> Result<Block, AllocError>
     ensures core { IfOk result (λ b. b ≡ (block_of block.now).core (env_of r.old)) }
-    ensures gone { OnOk result (HasGone r.old r.new (spec.behind_block (env_of r.old) (block_of block.now)) ((block_of block.now).locals r.old.walk.scope) ((block_of block.now).made r.old.walk.scope)) }
+    ensures gone { OnOk result
+        (HasGone r.old r.new (spec.behind_block (env_of r.old) (block_of block.now)) ((block_of block.now).locals r.old.walk.scope)
+        ((block_of block.now).made r.old.walk.scope)) }
 {
     let count = r.walk.scope.local_count();
     let numbers = r.variables.count_in_scope();
@@ -49,7 +51,10 @@ fn resolve_statements<'a>(
     statements: &'a [tree::Statement],
 ) -> Result<Items<Statement>, AllocError>
     ensures core { IfOk result (λ cs. cs ≡ spec.statements_core (map statement_of statements.now) (env_of r.old)) }
-    ensures gone { OnOk result (HasGone r.old r.new (spec.behind_all (env_of r.old) (map statement_of statements.now)) (spec.locals_of_statements (map statement_of statements.now) r.old.walk.scope) (spec.statements_made (map statement_of statements.now) r.old.walk.scope)) }
+    ensures gone { OnOk result
+        (HasGone r.old r.new (spec.behind_all (env_of r.old) (map statement_of statements.now))
+        (spec.locals_of_statements (map statement_of statements.now) r.old.walk.scope)
+        (spec.statements_made (map statement_of statements.now) r.old.walk.scope)) }
 {
     let mut found = Items::new(alloc);
     for s in statements {
@@ -66,7 +71,9 @@ fn resolve_statement<'a>(
     s: &'a tree::Statement,
 ) -> Result<Statement, AllocError>
     ensures core { IfOk result (λ c. c ≡ (statement_of s.now).core (env_of r.old)) }
-    ensures gone { OnOk result (HasGone r.old r.new (spec.behind (env_of r.old) (statement_of s.now)) ((statement_of s.now).locals r.old.walk.scope) ((statement_of s.now).made r.old.walk.scope)) }
+    ensures gone { OnOk result
+        (HasGone r.old r.new (spec.behind (env_of r.old) (statement_of s.now)) ((statement_of s.now).locals r.old.walk.scope)
+        ((statement_of s.now).made r.old.walk.scope)) }
 {
     match s {
         tree::Statement::LocalVariable(name, of, e) => resolve_variable(alloc, r, name, e, of),
@@ -115,8 +122,12 @@ fn resolve_variable<'a>(
     e: &'a Option<tree::Expression>,
     of: &TypeName,
 ) -> Result<Statement, AllocError>
-    ensures core { IfOk result (λ c. c ≡ spec.core_of_statement (Statement-F.LocalVariable name.now of.now (option_map part_of e.now)) (env_of r.old)) }
-    ensures gone { OnOk result (HasGone r.old r.new (spec.declaring_one (env_of r.old) (variable_entry r.old.walk.scope name.now of.now)) (spec.locals_of (Statement-F.LocalVariable name.now of.now (option_map part_of e.now)) r.old.walk.scope) (spec.statement_made (Statement-F.LocalVariable name.now of.now (option_map part_of e.now)) r.old.walk.scope)) }
+    ensures core { IfOk result
+        (λ c. c ≡ spec.core_of_statement (Statement-F.LocalVariable name.now of.now (option_map part_of e.now)) (env_of r.old)) }
+    ensures gone { OnOk result
+        (HasGone r.old r.new (spec.declaring_one (env_of r.old) (variable_entry r.old.walk.scope name.now of.now))
+        (spec.locals_of (Statement-F.LocalVariable name.now of.now (option_map part_of e.now)) r.old.walk.scope)
+        (spec.statement_made (Statement-F.LocalVariable name.now of.now (option_map part_of e.now)) r.old.walk.scope)) }
 {
     let value = resolve_if(alloc, r, e)?;
     let written = r.walk.scope.written(of)?;
@@ -131,8 +142,14 @@ fn resolve_constant<'a>(
     e: &'a tree::Expression,
     of: &Option<TypeName>,
 ) -> Result<Statement, AllocError>
-    ensures core { IfOk result (λ c. c ≡ spec.core_of_statement (Statement-F.LocalConstant name.now of.now (part_of e.now)) (env_of r.old)) }
-    ensures gone { OnOk result (HasGone r.old r.new (spec.declaring_one (env_of r.old) (constant_entry name.now (members.constant_type r.old.walk.scope of.now (part_of e.now).part.form))) (spec.locals_of (Statement-F.LocalConstant name.now of.now (part_of e.now)) r.old.walk.scope) (spec.statement_made (Statement-F.LocalConstant name.now of.now (part_of e.now)) r.old.walk.scope)) }
+    ensures core { IfOk result
+        (λ c. c ≡ spec.core_of_statement (Statement-F.LocalConstant name.now of.now (part_of e.now)) (env_of r.old)) }
+    ensures gone { OnOk result
+        (HasGone r.old r.new
+        (spec.declaring_one (env_of r.old)
+        (constant_entry name.now (members.constant_type r.old.walk.scope of.now (part_of e.now).part.form)))
+        (spec.locals_of (Statement-F.LocalConstant name.now of.now (part_of e.now)) r.old.walk.scope)
+        (spec.statement_made (Statement-F.LocalConstant name.now of.now (part_of e.now)) r.old.walk.scope)) }
 {
     let value = resolve(alloc, r, e)?;
     let found = constant_type(&r.walk.scope, of, form_of(e))?;
@@ -205,7 +222,11 @@ fn resolve_otherwise<'a>(
     met: Items<Arm>,
 ) -> Result<Statement, AllocError>
     ensures core { IfOk result (λ c. c ≡ s.If met (option_map (λ piece. piece.core (env_of r.old)) (option_map block_of other.now))) }
-    ensures gone { OnOk result (HasGone r.old r.new (spec.further (length (spec.locals_of_block r.old.walk.scope (option_map block_of other.now))) (env_of r.old)) (spec.locals_of_block r.old.walk.scope (option_map block_of other.now)) (spec.initially_made r.old.walk.scope (option_map block_of other.now))) }
+    ensures gone { OnOk result
+        (HasGone r.old r.new
+        (spec.further (length (spec.locals_of_block r.old.walk.scope (option_map block_of other.now))) (env_of r.old))
+        (spec.locals_of_block r.old.walk.scope (option_map block_of other.now))
+        (spec.initially_made r.old.walk.scope (option_map block_of other.now))) }
 {
     Ok(Statement::If(met, resolve_block_if(alloc, r, other)?))
 }
@@ -236,7 +257,10 @@ fn declare(
     value: Option<Expression>,
 ) -> Result<Statement, AllocError>
     ensures core { IfOk result (λ c. c ≡ s.Declare (env_of r.old).count value) }
-    ensures gone { OnOk result (HasGone r.old r.new (spec.declaring_one (env_of r.old) (record { name = name.now.text; of = of; is_variable = is_variable })) (places.type_or of ∷ []) nothing_made) }
+    ensures gone { OnOk result
+        (HasGone r.old r.new
+        (spec.declaring_one (env_of r.old) (record { name = name.now.text; of = of; is_variable = is_variable }))
+        (places.type_or of ∷ []) nothing_made) }
 {
     let number = r.variables.types.len();
     r.walk.scope.declare(entry(alloc, name, of, is_variable)?)?;
@@ -293,7 +317,9 @@ fn resolve_arms<'a>(
     arms: &'a [tree::Arm],
 ) -> Result<Items<Arm>, AllocError>
     ensures core { IfOk result (λ cs. cs ≡ spec.arms_core (env_of r.old) (map arm_of arms.now)) }
-    ensures gone { OnOk result (HasGone r.old r.new (spec.further (length (spec.locals_of_arms r.old.walk.scope (map arm_of arms.now))) (env_of r.old)) (spec.locals_of_arms r.old.walk.scope (map arm_of arms.now)) (spec.arms_made r.old.walk.scope (map arm_of arms.now))) }
+    ensures gone { OnOk result
+        (HasGone r.old r.new (spec.further (length (spec.locals_of_arms r.old.walk.scope (map arm_of arms.now))) (env_of r.old))
+        (spec.locals_of_arms r.old.walk.scope (map arm_of arms.now)) (spec.arms_made r.old.walk.scope (map arm_of arms.now))) }
 {
     let mut found = Items::new(alloc);
     for arm in arms {
@@ -312,7 +338,11 @@ pub fn resolve_block_if<'a>(
     block: &'a Option<tree::Block>,
 ) -> Result<Option<Block>, AllocError>
     ensures core { IfOk result (λ b. b ≡ option_map (λ piece. piece.core (env_of r.old)) (option_map block_of block.now)) }
-    ensures gone { OnOk result (HasGone r.old r.new (spec.further (length (spec.locals_of_block r.old.walk.scope (option_map block_of block.now))) (env_of r.old)) (spec.locals_of_block r.old.walk.scope (option_map block_of block.now)) (spec.initially_made r.old.walk.scope (option_map block_of block.now))) }
+    ensures gone { OnOk result
+        (HasGone r.old r.new
+        (spec.further (length (spec.locals_of_block r.old.walk.scope (option_map block_of block.now))) (env_of r.old))
+        (spec.locals_of_block r.old.walk.scope (option_map block_of block.now))
+        (spec.initially_made r.old.walk.scope (option_map block_of block.now))) }
 {
     match block {
         None => Ok(None),
@@ -327,7 +357,9 @@ fn resolve_loop<'a>(
     block: &'a tree::Block,
 ) -> Result<Statement, AllocError>
     ensures core { IfOk result (λ c. c ≡ s.Loop ((block_of block.now).core (spec.in_scope (in_a_loop r.old.walk.scope) (env_of r.old)))) }
-    ensures gone { OnOk result (HasGone r.old r.new (spec.further (length ((block_of block.now).locals (in_a_loop r.old.walk.scope))) (env_of r.old)) ((block_of block.now).locals (in_a_loop r.old.walk.scope)) ((block_of block.now).made (in_a_loop r.old.walk.scope))) }
+    ensures gone { OnOk result
+        (HasGone r.old r.new (spec.further (length ((block_of block.now).locals (in_a_loop r.old.walk.scope))) (env_of r.old))
+        ((block_of block.now).locals (in_a_loop r.old.walk.scope)) ((block_of block.now).made (in_a_loop r.old.walk.scope))) }
 {
     let was_in_loop = r.walk.scope.is_in_loop();
     r.walk.scope.set_in_loop(true);

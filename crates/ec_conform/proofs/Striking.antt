@@ -1,11 +1,16 @@
 -- Relations of named types: what more pairs allow, and what striking one out of a table does.
-use Rattle.std.proofs.Common.{◌≡◌, ◌↔◌, ℕ, ◌+◌, ◌*◌, ◌/◌, ◌%◌, ◌<◌, ◌≤◌, Bool, true, false, ◌&&◌, ◌||◌, ◌⊎◌, ⊎_elim, inl, inr, ltb, List, [], ◌∷◌, length, get_or, set, Option, Some, None, refl, sym, ◌∙◌, ap, subst, arith, length-set, length-append, ◌++◌, get_or-set_other, replicate, zero, suc}
+use Rattle.std.proofs.Common.{◌≡◌, ◌↔◌, ℕ, ◌+◌, ◌*◌, ◌/◌, ◌%◌, ◌<◌, ◌≤◌, Bool, true, false, ◌&&◌, ◌||◌, ◌⊎◌, ⊎_elim, inl, inr, ltb}
+use Rattle.std.proofs.Common.{List, [], ◌∷◌, length, get_or, set, Option, Some, None, refl, sym, ◌∙◌, ap, subst, arith, length-set}
+use Rattle.std.proofs.Common.{length-append, ◌++◌, get_or-set_other, replicate, zero, suc}
 use Rattle.std.proofs.lemmas.Bool.{cases_lt, lt-ltb, le-ltb}
 use Rattle.std.proofs.lemmas.Nat.{div-mul-add, mod-mul-add, mul-add-lt}
 use Rattle.std.proofs.lemmas.List.{get_or-replicate}
 use borrow.Author.Tests.{ltb-true}
-use Rattle.ec_conform.specs.Conforms.{Relation, named_conforms, plain_conforms, conforms_to_plain, conforms_in, parameters_fit, results_fit, stands_for, has_operation, has_operations, operations_at, meets, most_types, IsClosed, Conforms}
-use Rattle.ec_conform.specs.Pairs.{compared, in_rows, in_table, rows, IsFull, IsStable, IsWithin, KeepsClosed, IsWrong, IsRight, IsLargest, Follows, Fewer, Passed, Struck, count_true}
+use Rattle.ec_conform.specs.Conforms.{Relation, named_conforms, plain_conforms, conforms_to_plain, conforms_in, parameters_fit}
+use Rattle.ec_conform.specs.Conforms.{results_fit, stands_for, has_operation, has_operations, operations_at, meets, most_types}
+use Rattle.ec_conform.specs.Conforms.{IsClosed, Conforms}
+use Rattle.ec_conform.specs.Pairs.{compared, in_rows, in_table, rows, IsFull, IsStable, IsWithin, KeepsClosed, IsWrong, IsRight}
+use Rattle.ec_conform.specs.Pairs.{IsLargest, Follows, Fewer, Passed, Struck, count_true}
 use Rattle.ec_conform.specs.declared.named_type.NamedType.{NamedType}
 use Rattle.ec_conform.specs.declared.operations.NamedOperation.{NamedOperation}
 use Rattle.ec_conform.specs.declared.static_type.Plain.{Plain as PlainType}

@@ -9,7 +9,8 @@ use Rattle.ec_ast.specs.declared.Class.{Class}
 use Rattle.ec_ast.specs.declared.ConstantValue.{ConstantValue}
 use Rattle.ec_ast.specs.declared.ConstantValue.TheVariants as value
 use Rattle.ec_ast.specs.declared.Expression.{Expression, fold-Expression}
-use Rattle.ec_ast.specs.declared.Expression.TheOpen.{Expression-F, Link-F, Member-F, Statement-F, Addend-F, Arm-F, Block-F, Body-F, Factor-F, ObjectConstructor-F, Operation-F, ProcessSection-F}
+use Rattle.ec_ast.specs.declared.Expression.TheOpen.{Expression-F, Link-F, Member-F, Statement-F, Addend-F, Arm-F, Block-F, Body-F}
+use Rattle.ec_ast.specs.declared.Expression.TheOpen.{Factor-F, ObjectConstructor-F, Operation-F, ProcessSection-F}
 use Rattle.ec_ast.specs.declared.Factor.{Factor, fold-Factor}
 use Rattle.ec_ast.specs.declared.Link.{Link, fold-Link}
 use Rattle.ec_ast.specs.declared.Member.{Member, fold-Member}

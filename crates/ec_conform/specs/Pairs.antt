@@ -1,5 +1,6 @@
 -- Tables of pairs of named types, from which the pairs that do not meet the clauses are struck.
-use Rattle.std.specs.Prelude.{◌≡◌, ℕ, ◌+◌, ◌*◌, ◌/◌, ◌%◌, ◌<◌, ◌≤◌, min, ◌&&◌, nat_lt, if◌then◌else◌, Bool, true, false, List, [], ◌∷◌, length, Option, Some, None, slice_index_or}
+use Rattle.std.specs.Prelude.{◌≡◌, ℕ, ◌+◌, ◌*◌, ◌/◌, ◌%◌, ◌<◌, ◌≤◌, min, ◌&&◌, nat_lt, if◌then◌else◌, Bool, true, false, List, []}
+use Rattle.std.specs.Prelude.{◌∷◌, length, Option, Some, None, slice_index_or}
 use Rattle.ec_conform.specs.Conforms.{Relation, parameters_fit, results_fit, meets, most_types, IsClosed}
 use Rattle.ec_conform.specs.declared.named_type.NamedType.{NamedType}
 use Rattle.ec_conform.specs.declared.operations.NamedOperation.{NamedOperation}

@@ -133,7 +133,9 @@ fn take_operation(
     taken: &mut Names,
     signatures: &mut Items<Signature>,
 ) -> Result<(), AllocError>
-    ensures signatures { OnOk result (signatures.new ≡ signatures.old ++ (if has_name taken.old (spec.in_member member.now).name then [] else (spec.in_member member.now).operations)) }
+    ensures signatures { OnOk result
+        (signatures.new ≡ signatures.old
+        ++ (if has_name taken.old (spec.in_member member.now).name then [] else (spec.in_member member.now).operations)) }
     ensures taken { OnOk result (taken.new ≡ taken.old ++ (spec.in_member member.now).name ∷ []) }
 {
     let name = name_of(member).text.as_slice();

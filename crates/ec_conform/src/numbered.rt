@@ -77,7 +77,8 @@ impl NumberedTypes {
 
     /// The operation of the one type that has the name of the one at a place among those of the other.
     pub fn like(&self, own: usize, other: usize, place: usize) -> Option<&NamedOperation>
-        ensures named { IfSome (slice_get (operations_at self.now other) place) (λ wanted. option_copied result ≡ operation_named (operations_at self.now own) wanted.name) }
+        ensures named { IfSome (slice_get (operations_at self.now other) place)
+            (λ wanted. option_copied result ≡ operation_named (operations_at self.now own) wanted.name) }
         ensures distinct { spec.IsDistinct (operations_at self.now own) }
     {
         let number = number_at(self.rows.as_slice(), other, place)?;

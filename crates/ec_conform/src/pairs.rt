@@ -66,7 +66,8 @@ fn strike_block(
 ) -> Result<bool, AllocError>
     requires full { table.IsFull types.now pairs.old.items }
     requires near { from ≤ table.rows types.now }
-    ensures { IfOk result (λ struck. table.Passed types.now pairs.old.items 0 (table.rows types.now) from (from + BLOCK) struck pairs.new.items) }
+    ensures { IfOk result
+        (λ struck. table.Passed types.now pairs.old.items 0 (table.rows types.now) from (from + BLOCK) struck pairs.new.items) }
 {
     let mut struck = false;
     for s in 0..compared(types.len()) {

@@ -3,7 +3,8 @@ use Rattle.std.proofs.Common.{◌≡◌, List, [], ◌++◌, map, option_map, sy
 use Rattle.ec_check.proofs.Every.{none_left, none_right}
 use Rattle.ec_check.proofs.NumberedHolders.{faults_of_body, no_faults_in_body}
 use Rattle.ec_check.specs.Parts.{Holder, both_made, holder_judged, member_judged, process_judged}
-use Rattle.ec_check.specs.Resolving.{class_core, env_of_body, holder_made, initial_operation, initially_made, members_made, number_of_holder}
+use Rattle.ec_check.specs.Resolving.{class_core, env_of_body, holder_made, initial_operation, initially_made, members_made}
+use Rattle.ec_check.specs.Resolving.{number_of_holder}
 use Rattle.ec_check.specs.Resolving.{process_made}
 use Rattle.ec_conform.specs.Declarations as conform
 use Rattle.ec_conform.specs.Declarations.{both, object_of, object_with, within_members}

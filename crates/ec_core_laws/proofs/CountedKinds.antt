@@ -1,5 +1,6 @@
 -- What is shown of each kind of part of a tree, and of lists of parts: how much is made within it, by what it declares.
-use Rattle.std.proofs.Common.{◌≡◌, ℕ, ◌&&◌, Bool, true, List, [], ◌∷◌, ◌++◌, map, Option, Some, None, option_map, is_some, refl, sym, ap, ◌∙◌}
+use Rattle.std.proofs.Common.{◌≡◌, ℕ, ◌&&◌, Bool, true, List, [], ◌∷◌, ◌++◌, map, Option, Some, None, option_map, is_some, refl}
+use Rattle.std.proofs.Common.{sym, ap, ◌∙◌}
 use Rattle.std.proofs.Common.{append_assoc, subst}
 use Rattle.ec_ast.specs.declared.Name.{Name}
 use Rattle.ec_check.proofs.DeclaringParts.{NothingInName, EveryPair}

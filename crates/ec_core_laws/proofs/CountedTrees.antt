@@ -1,5 +1,6 @@
 -- How much is made within a part of a tree, by what it declares: one induction over all kinds of parts.
-use Rattle.std.proofs.Common.{◌≡◌, Bool, true, false, List, [], ◌∷◌, ◌++◌, codes, map, Option, Some, None, refl, sym, ap, ◌∙◌, subst, append_assoc}
+use Rattle.std.proofs.Common.{◌≡◌, Bool, true, false, List, [], ◌∷◌, ◌++◌, codes, map, Option, Some, None, refl, sym, ap, ◌∙◌}
+use Rattle.std.proofs.Common.{subst, append_assoc}
 use Rattle.ec_ast.specs.declared.Expression.{Expression, roll-Expression}
 use Rattle.ec_ast.specs.declared.Link.{roll-Link}
 use Rattle.ec_ast.specs.declared.Member.{roll-Member}
@@ -226,7 +227,8 @@ statement_at y =
 
 -- ---- arms and blocks
 
-arm_is : (y : ArmWith counted) → CountedArm (arm_step (arm_mapped (bare_arm counted y))) (conform.arm_step (arm_declared (bare_arm counted y)))
+arm_is : (y : ArmWith counted) →
+    CountedArm (arm_step (arm_mapped (bare_arm counted y))) (conform.arm_step (arm_declared (bare_arm counted y)))
 arm_is y = λ scope.
     counted_within
     (λ e.

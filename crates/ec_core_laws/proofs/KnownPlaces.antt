@@ -23,7 +23,8 @@ use Rattle.ec_check.specs.Parts.{Made, OperationPart, ProcessPart, MemberPart, v
 use Rattle.ec_check.specs.Parts.{member_judged, operation_judged, holder_judged}
 use Rattle.ec_check.specs.Places.{Env, type_found}
 use Rattle.ec_check.specs.Program.{constant_core, constants_core, core_of, outermost}
-use Rattle.ec_check.specs.Resolving.{captures_of, class_core, env_in, field_of, heading_types, parameter_field, result_written, types_written}
+use Rattle.ec_check.specs.Resolving.{captures_of, class_core, env_in, field_of, heading_types, parameter_field, result_written}
+use Rattle.ec_check.specs.Resolving.{types_written}
 use Rattle.ec_check.specs.Tree.{part_of}
 use Rattle.ec_conform.specs.Declarations.{declarations_of}
 use Rattle.ec_conform.specs.Table.{Table, IsTable}
@@ -178,7 +179,8 @@ class_knows scope h k = record {
   captured = all_known (class_core scope h).captured (captured_typed scope h k);
   fields =
       all_of (λ (f : Field). IsKnown f.of) (fields_of_class scope h)
-      (every_weaker FieldTyped (λ (f : Field). IsKnown f.of) (λ f t. typed_known f.of t) (fields_of_class scope h) (fields_typed scope h k));
+      (every_weaker FieldTyped (λ (f : Field). IsKnown f.of) (λ f t. typed_known f.of t) (fields_of_class scope h)
+      (fields_typed scope h k));
 }
 
 -- ---- all that is made

@@ -16,7 +16,8 @@ use Rattle.ec_check.proofs.SoundScopes.{SoundScope, sound_declaring, sound_in_a_
 use Rattle.ec_check.proofs.SoundStatements.{statement_is_sound}
 use Rattle.ec_check.specs.Layers.{expression_judged, statement_judged}
 use Rattle.ec_check.specs.Parts.{Made, nothing_made, both_made, Part, Piece, StatementPart, LinkPart, call, index, FactorPart, AddendPart}
-use Rattle.ec_check.specs.Parts.{ArmPart, ProcessPart, OperationPart, MemberPart, variable, constant, condition, operation, BodyPart, Holder}
+use Rattle.ec_check.specs.Parts.{ArmPart, ProcessPart, OperationPart, MemberPart, variable, constant, condition, operation}
+use Rattle.ec_check.specs.Parts.{BodyPart, Holder}
 use Rattle.ec_check.specs.Parts.{AnExpression, AStatement, ABlock, link_judged, factor_judged, addend_judged, arm_judged}
 use Rattle.ec_check.specs.Parts.{member_judged, operation_judged, process_judged, holder_judged}
 use Rattle.ec_check.specs.Resolving.{operation_core, initial_operation, process_operation, just_operation, just_class, class_core}
@@ -257,9 +258,11 @@ module _ (classes : List Class) (M : Made → Type 0) (steps : Steps classes M) 
       (process_with scope h p (p.block.made (in_a_process (scope_in scope h)))))
       (steps.section scope h k p s.0 t.faultless (both_made (members_of scope h) (initially_of scope h))
       (p.block.made (in_a_process (scope_in scope h))) (steps.both (members_of scope h) (initially_of scope h) m i)
-      (s.1 (in_a_process (scope_in scope h)) (sound_in_a_process (scope_in scope h) (sound_in scope h k)) (record { faultless = none_left _ _ t.faultless; within = t.within })))
+      (s.1 (in_a_process (scope_in scope h)) (sound_in_a_process (scope_in scope h) (sound_in scope h k))
+      (record { faultless = none_left _ _ t.faultless; within = t.within })))
 
-  pub holder_has_made : (scope : Scope) (h : Holder) → SoundScope scope → IsBody h.body → trees.BodyHas PartMade StatementMade PieceMade h.body →
+  pub holder_has_made : (scope : Scope) (h : Holder) → SoundScope scope → IsBody h.body →
+      trees.BodyHas PartMade StatementMade PieceMade h.body →
       Taken classes (faults_in_holder scope (holder_judged h)) (holder_made scope h).classes → M (holder_made scope h)
   holder_has_made scope h s tree b t =
       let k : Known classes scope h = record { there = t.within.0; sound = s; faultless = t.faultless; tree = tree } in
@@ -298,7 +301,8 @@ module _ (classes : List Class) (M : Made → Type 0) (steps : Steps classes M) 
   chain_made scope Own head ls s h k t = parts_made scope (head ∷ parts_of_links ls) s (h, link_parts_are ls k) t
   chain_made scope (Typed of) head ls s h k t = parts_made scope (head ∷ parts_of_links ls) s (h, link_parts_are ls k) t
 
-  layer_made : (x : AnExpression) → trees.ExpressionHas PartMade StatementMade PieceMade x → (needed : Bool) (scope : Scope) → SoundScope scope →
+  layer_made : (x : AnExpression) → trees.ExpressionHas PartMade StatementMade PieceMade x → (needed : Bool) (scope : Scope) →
+      SoundScope scope →
       Taken classes (faults_of needed scope (expression_judged x)) (expression_made x scope).classes → M (expression_made x scope)
   layer_made (Expression-F.Number n) h needed scope s t = steps.nothing
   layer_made (Expression-F.Literal l) h needed scope s t = steps.nothing

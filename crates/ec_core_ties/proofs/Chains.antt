@@ -1,5 +1,6 @@
 -- An expression with calls and indices behind it is tied to its tree.
-use Rattle.std.proofs.Common.{◌≡◌, ◌&&◌, Bool, true, false, List, [], ◌∷◌, ◌++◌, map, Option, Some, None, is_some, if◌then◌else◌, refl, sym, ap, ◌∙◌, subst}
+use Rattle.std.proofs.Common.{◌≡◌, ◌&&◌, Bool, true, false, List, [], ◌∷◌, ◌++◌, map, Option, Some, None, is_some, if◌then◌else◌}
+use Rattle.std.proofs.Common.{refl, sym, ap, ◌∙◌, subst}
 use Rattle.ec_ast.specs.declared.Expression.{Expression, roll-Expression, out-Expression, roll-out-Expression}
 use Rattle.ec_ast.specs.declared.Expression.TheOpen.{Expression-F, Link-F}
 use Rattle.ec_ast.specs.declared.Expression.TheVariants as tree
@@ -25,7 +26,8 @@ use Rattle.ec_core_ties.proofs.Ready.{Ready, ReadyPart, second_ready, first_read
 use Rattle.ec_core_ties.proofs.Trees as trees
 use Rattle.ec_core_ties.specs.Ties as ties
 use Rattle.ec_core_ties.specs.Ties.{TiedExpression, AreTied, AreLinks, with_links}
-use Rattle.ec_rules.specs.Calls.{Receiver, Creation, Own, Typed, is_creation, class_created, receiver_of_form, receiver_if, receiver, link_type, faults_of_links}
+use Rattle.ec_rules.specs.Calls.{Receiver, Creation, Own, Typed, is_creation, class_created, receiver_of_form, receiver_if}
+use Rattle.ec_rules.specs.Calls.{receiver, link_type, faults_of_links}
 use Rattle.ec_rules.specs.Calls.{faults_of_head, chain_faults}
 use Rattle.ec_rules.specs.Calls as calls
 use Rattle.ec_rules.specs.Forms.{Form, Literal, Negated, Constructor, Vector, Created, Itself, NameAlone, Other}
@@ -93,7 +95,8 @@ layer_alone (Expression-F.Constructor o) name is = cc
 layer_alone (Expression-F.NodeAt x at word) name is = cc
 layer_alone (Expression-F.NodeCount at) name is = cc
 layer_alone (Expression-F.NewVector of x at word) name is = cc
-layer_alone (Expression-F.Postfix x links) name is = absurd (no_name_behind (part_of x).part.form (map link_judged (map link_of links)) name is)
+layer_alone (Expression-F.Postfix x links) name is =
+    absurd (no_name_behind (part_of x).part.form (map link_judged (map link_of links)) name is)
 layer_alone (Expression-F.Negative x at) name is = absurd (no_name_negated (part_of x).part.form name is)
 layer_alone (Expression-F.View x of at) name is = cc
 layer_alone (Expression-F.IsFixed x at) name is = cc
@@ -174,7 +177,8 @@ module _ (env : Env) (needed : Bool) (name : Name) (x : Expression) (alone : tre
       FirstIs env needed name x xs (roll-Link y) (link_step (link_mapped y))
   first_created (Link-F.Call word arguments) h is r =
       let parts : List Part = map part_of arguments in
-      let class : (d : ClassMeant) × (class_named env.scope name.text ≡ Some d) × (d.number ≡ number_of_class (class_named env.scope name.text)) =
+      let class : (d : ClassMeant) × (class_named env.scope name.text ≡ Some d)
+      × (d.number ≡ number_of_class (class_named env.scope name.text)) =
       some_class (class_named env.scope name.text) there in
       let rest : Receiver = Typed (link_type env.scope (Creation name) (link_judged (call word parts))) in
       let behind : List CoreLink = links_core env rest (map link_of xs) in
@@ -246,7 +250,8 @@ own_chain : (env : Env) (needed : Bool) (x : Expression) (xs : List Link) → Pa
 own_chain env needed x xs h k r =
     value_chain env needed Own x xs h k (first_ready _ _ _ _ r) (behind_head env needed Own (part_of x) (map link_of xs) r)
 
-form_chain : (env : Env) (needed : Bool) (form : Form) (of : Option StaticType) (x : Expression) (xs : List Link) → PartTied x → Every LinkTied xs →
+form_chain : (env : Env) (needed : Bool) (form : Form) (of : Option StaticType) (x : Expression) (xs : List Link) → PartTied x →
+    Every LinkTied xs →
     ReadyChain env needed (receiver_of_form form of) (part_of x) (map link_of xs) → ChainTied env x xs (receiver_of_form form of)
 form_chain env needed (Literal t) of x xs h k r = typed_chain env needed of x xs h k r
 form_chain env needed Negated of x xs h k r = typed_chain env needed of x xs h k r
@@ -269,7 +274,8 @@ created_if env needed name of x xs alone h k false is r = typed_chain env needed
 
 by_form : (env : Env) (needed : Bool) (form : Form) (of : Option StaticType) (x : Expression) (xs : List Link) →
     (part_of x).part.form ≡ form → PartTied x → Every LinkTied xs →
-    ReadyChain env needed (receiver_if (class_created env.scope form (map link_judged (map link_of xs))) form of) (part_of x) (map link_of xs) →
+    ReadyChain env needed (receiver_if (class_created env.scope form (map link_judged (map link_of xs))) form of) (part_of x)
+    (map link_of xs) →
     ChainTied env x xs (receiver_if (class_created env.scope form (map link_judged (map link_of xs))) form of)
 by_form env needed (Literal t) of x xs is h k r = form_chain env needed (Literal t) of x xs h k r
 by_form env needed Negated of x xs is h k r = form_chain env needed Negated of x xs h k r

@@ -125,7 +125,8 @@ constructor_tied : (env : Env) (x : ObjectConstructor) → BodyTied (out-ObjectC
     (holder_made env.scope (object_of x).holder)
 constructor_tied env x h r =
     let both : AreFor env (captures_of env.scope (object_of x).holder) (map (place_of env) (captures_of env.scope (object_of x).holder))
-    × TiedHolder env.scope (holder_judged (object_of x).holder) (out-ObjectConstructor x).body (holder_made env.scope (object_of x).holder) =
+    × TiedHolder env.scope (holder_judged (object_of x).holder) (out-ObjectConstructor x).body
+    (holder_made env.scope (object_of x).holder) =
     subst (ConstructorTied env x) (sym (object_step_of x)) (constructor_is env x h) r in
     constructed env x (map (place_of env) (captures_of env.scope (object_of x).holder)) (holder_made env.scope (object_of x).holder)
     (object_judged (object_of x)) (same_object x) both.0 both.1
@@ -134,7 +135,8 @@ constructor_tied env x h r =
 
 abbrev LayerTied : ExpressionLayer → Expression → Type 0
 LayerTied x y = (needed : Bool) (env : Env) →
-    Ready env (uses_of env.scope (expression_judged (expression_mapped x))) (faults_of needed env.scope (expression_judged (expression_mapped x))) →
+    Ready env (uses_of env.scope (expression_judged (expression_mapped x)))
+    (faults_of needed env.scope (expression_judged (expression_mapped x))) →
     TiedExpression env y (core_of_expression (expression_mapped x) env) (expression_made (expression_mapped x) env.scope)
 
 -- of a single part
@@ -190,11 +192,13 @@ layer_tied (Expression-F.IsFixed x at) h =
 layer_tied (Expression-F.Term x more) h =
     subst (LayerTied (Expression-F.Term x more)) (sym (tree.rolls-Term x more))
     (λ needed env r.
-    ties.term (h.0 true env (first_ready _ _ _ _ (ready_within _ _ r))) (factors_tied more h.1 env (second_ready _ _ _ _ (ready_within _ _ r))))
+    ties.term (h.0 true env (first_ready _ _ _ _ (ready_within _ _ r)))
+    (factors_tied more h.1 env (second_ready _ _ _ _ (ready_within _ _ r))))
 layer_tied (Expression-F.Sum x more) h =
     subst (LayerTied (Expression-F.Sum x more)) (sym (tree.rolls-Sum x more))
     (λ needed env r.
-    ties.sum (h.0 true env (first_ready _ _ _ _ (ready_within _ _ r))) (addends_tied more h.1 env (second_ready _ _ _ _ (ready_within _ _ r))))
+    ties.sum (h.0 true env (first_ready _ _ _ _ (ready_within _ _ r)))
+    (addends_tied more h.1 env (second_ready _ _ _ _ (ready_within _ _ r))))
 layer_tied (Expression-F.Compare x op at y) h =
     subst (LayerTied (Expression-F.Compare x op at y)) (sym (tree.rolls-Compare x op at y))
     (λ needed env r.
@@ -212,7 +216,8 @@ layer_tied (Expression-F.Not x at) h =
 layer_tied (Expression-F.And x more) h =
     subst (LayerTied (Expression-F.And x more)) (sym (tree.rolls-And x more))
     (λ needed env r.
-    ties.and (h.0 true env (first_ready _ _ _ _ (ready_within _ _ r))) (parts_tied more h.1 env (second_ready _ _ _ _ (ready_within _ _ r))))
+    ties.and (h.0 true env (first_ready _ _ _ _ (ready_within _ _ r)))
+    (parts_tied more h.1 env (second_ready _ _ _ _ (ready_within _ _ r))))
 layer_tied (Expression-F.Or x more) h =
     subst (LayerTied (Expression-F.Or x more)) (sym (tree.rolls-Or x more))
     (λ needed env r.

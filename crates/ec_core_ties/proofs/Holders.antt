@@ -26,7 +26,8 @@ use Rattle.ec_check.specs.Parts.{Piece, ProcessPart, OperationPart, MemberPart, 
 use Rattle.ec_check.specs.Parts.{member_judged, operation_judged, process_judged, holder_judged, Made}
 use Rattle.ec_check.specs.Places.{Env, fields_of, names_of, type_or}
 use Rattle.ec_check.specs.Resolving.{env_in, env_of_body, env_of_operation, field_of, field_stored, conditions_in, members_made}
-use Rattle.ec_check.specs.Resolving.{heading_entries, heading_types, types_written, result_written, numbers_from, initially_core, initially_made, locals_of_block}
+use Rattle.ec_check.specs.Resolving.{heading_entries, heading_types, types_written, result_written, numbers_from, initially_core}
+use Rattle.ec_check.specs.Resolving.{initially_made, locals_of_block}
 use Rattle.ec_check.specs.Resolving.{process_made, number_of_holder, captures_of, holder_made}
 use Rattle.ec_check.specs.Tree.{part_of, block_of, body_of, body_step, member_of, member_step, operation_of, operation_step, process_of}
 use Rattle.ec_conform.specs.declared.static_type.StaticType.{StaticType}
@@ -43,10 +44,12 @@ use Rattle.ec_names.specs.Names.{Text, has_name}
 use Rattle.ec_rules.specs.Captures.{captured}
 use Rattle.ec_rules.specs.Doubled.{doubled_in_body}
 use Rattle.ec_rules.specs.EndNames.{end_of_holder}
-use Rattle.ec_rules.specs.Judging.{body_finished, heading_faults, type_faults, member_finished, members_finished, finished_if, process_finished, faults_in_holder, uses_within}
+use Rattle.ec_rules.specs.Judging.{body_finished, heading_faults, type_faults, member_finished, members_finished, finished_if}
+use Rattle.ec_rules.specs.Judging.{process_finished, faults_in_holder, uses_within}
 use Rattle.ec_rules.specs.Limits.{many_fields, many_parameters}
 use Rattle.ec_rules.specs.Lists.{each}
-use Rattle.ec_rules.specs.Members.{constant_type, fields_in, form_type, members_of, object_with, parameter_entries, result_entries, scope_of, scope_of_names}
+use Rattle.ec_rules.specs.Members.{constant_type, fields_in, form_type, members_of, object_with, parameter_entries, result_entries}
+use Rattle.ec_rules.specs.Members.{scope_of, scope_of_names}
 use Rattle.ec_rules.specs.Members as rules
 use Rattle.ec_rules.specs.Names.{unknown_in_parameters}
 use Rattle.ec_rules.specs.Operands.{wrong_constant}
@@ -228,7 +231,8 @@ module _ (scope : Scope) (captures : List Text) (class : ℕ) (is_monitored : Bo
       Ready env (member_finished scope is_monitored (judged.operation (operation_judged o))).uses
       (member_finished scope is_monitored (judged.operation (operation_judged o))).faults →
       TiedBlock (behind_heading env o.parameters o.result) x (o.block.core (env_of_operation env o))
-      (o.block.locals (rules.scope_of_operation scope (operation_judged o))) (o.block.made (rules.scope_of_operation scope (operation_judged o)))
+      (o.block.locals (rules.scope_of_operation scope (operation_judged o)))
+      (o.block.made (rules.scope_of_operation scope (operation_judged o)))
   block_behind x o h is r =
       subst
       (λ at.
@@ -358,7 +362,8 @@ no_doubled_in scope h e =
 
 body_makes : (scope : Scope) (name : Name) (is_monitored : Bool) (parameters : List Parameter) (end_name : Name) (ms : List Member)
     (i : Option Block) (p : Option ProcessSection) → Every MemberTied ms → Where BlockTied i → Where ProcessTied p →
-    BodyMakes scope name is_monitored parameters end_name (roll-Body (record { members = ms; initially = i; process = p })) (body_with ms i p)
+    BodyMakes scope name is_monitored parameters end_name (roll-Body (record { members = ms; initially = i; process = p }))
+    (body_with ms i p)
 body_makes scope name is_monitored parameters end_name ms i p h k g e =
     let around : Holder = holder_with name is_monitored parameters end_name (body_with ms i p) in
     let inner : Scope = scope_of scope (holder_judged around) in
@@ -378,7 +383,8 @@ body_makes scope name is_monitored parameters end_name ms i p h k g e =
     (initially_tied (env_of_body scope around) i k (second_ready _ _ _ _ first))
     (process_tied (number_of_holder scope around) inner (captures_of scope around) name p fit g (second_ready _ _ _ _ all))
 
-pub holder_tied : (scope : Scope) (name : Name) (is_monitored : Bool) (parameters : List Parameter) (end_name : Name) (x : Body) → BodyTied x →
+pub holder_tied : (scope : Scope) (name : Name) (is_monitored : Bool) (parameters : List Parameter) (end_name : Name) (x : Body) →
+    BodyTied x →
     BodyMakes scope name is_monitored parameters end_name x (body_of x)
 holder_tied scope name is_monitored parameters end_name x h =
     subst (λ y. BodyMakes scope name is_monitored parameters end_name y (body_of x)) (roll-out-Body x)

@@ -1,5 +1,6 @@
 -- The operands of products and sums, calls and indices are tied to their trees.
-use Rattle.std.proofs.Common.{◌≡◌, Bool, true, false, List, [], ◌∷◌, ◌++◌, map, Option, Some, None, if◌then◌else◌, refl, sym, ap, ◌∙◌, subst}
+use Rattle.std.proofs.Common.{◌≡◌, Bool, true, false, List, [], ◌∷◌, ◌++◌, map, Option, Some, None, if◌then◌else◌, refl, sym, ap}
+use Rattle.std.proofs.Common.{◌∙◌, subst}
 use Rattle.std.proofs.lemmas.List.{append-nil}
 use Rattle.ec_ast.specs.declared.Addend.{Addend, roll-Addend, out-Addend, roll-out-Addend}
 use Rattle.ec_ast.specs.declared.Expression.{Expression}
@@ -16,7 +17,8 @@ use Rattle.ec_check.proofs.ReachedNames.{IsReached}
 use Rattle.ec_check.proofs.Rolled.{LinkLayer, link_mapped, link_rolled}
 use Rattle.ec_check.proofs.Steps.{made_joined}
 use Rattle.ec_check.proofs.WellChains.{next_faults}
-use Rattle.ec_check.specs.Parts.{Made, both_made, Part, LinkPart, call, index, FactorPart, AddendPart, link_judged, factor_judged, addend_judged}
+use Rattle.ec_check.specs.Parts.{Made, both_made, Part, LinkPart, call, index, FactorPart, AddendPart, link_judged, factor_judged}
+use Rattle.ec_check.specs.Parts.{addend_judged}
 use Rattle.ec_check.specs.Places.{Env}
 use Rattle.ec_check.specs.Resolving.{all_made, cores_of, builtin_of, called, links_core, factor_core, addend_core, parts_of_links}
 use Rattle.ec_check.specs.Tree.{part_of, link_of, factor_of, addend_of, link_step}
@@ -73,7 +75,8 @@ factors_tied (x ∷ xs) h env r =
     subst (λ y. FirstFactor env xs y (factor_of x)) (roll-out-Factor x)
     (subst (FirstFactor env xs (roll-Factor (out-Factor x))) (sym (factor_step_of x))
     (λ q.
-    ties.factor (out-Factor x).operator (out-Factor x).at (h.0 true env (first_ready _ _ _ _ q)) (factors_tied xs h.1 env (second_ready _ _ _ _ q)))) r
+    ties.factor (out-Factor x).operator (out-Factor x).at (h.0 true env (first_ready _ _ _ _ q))
+    (factors_tied xs h.1 env (second_ready _ _ _ _ q)))) r
 
 -- ---- operands of sums
 
@@ -94,7 +97,8 @@ addends_tied (x ∷ xs) h env r =
     subst (λ y. FirstAddend env xs y (addend_of x)) (roll-out-Addend x)
     (subst (FirstAddend env xs (roll-Addend (out-Addend x))) (sym (addend_step_of x))
     (λ q.
-    ties.addend (out-Addend x).operator (out-Addend x).at (h.0 true env (first_ready _ _ _ _ q)) (addends_tied xs h.1 env (second_ready _ _ _ _ q)))) r
+    ties.addend (out-Addend x).operator (out-Addend x).at (h.0 true env (first_ready _ _ _ _ q))
+    (addends_tied xs h.1 env (second_ready _ _ _ _ q)))) r
 
 -- ---- operations without a declaration
 
@@ -111,15 +115,18 @@ string_named name false is e = ties.get_slice (if_missing _ _ e)
 
 type_named : (scope : Scope) (name : Name) (of : StaticType) → is_missing (callee scope (Typed (Some of)) name) ≡ false → (b : Builtin) →
     builtin_of (Some of) name ≡ Some b → IsBuiltin b name.text
-type_named scope name (Plain Integer) e b is = let same : AsString ≡ b = cc in subst (λ b. IsBuiltin b name.text) same (ties.as_string (if_missing _ _ e))
-type_named scope name (Plain Boolean) e b is = let same : AsString ≡ b = cc in subst (λ b. IsBuiltin b name.text) same (ties.as_string (if_missing _ _ e))
+type_named scope name (Plain Integer) e b is = let same : AsString ≡ b =
+    cc in subst (λ b. IsBuiltin b name.text) same (ties.as_string (if_missing _ _ e))
+type_named scope name (Plain Boolean) e b is = let same : AsString ≡ b =
+    cc in subst (λ b. IsBuiltin b name.text) same (ties.as_string (if_missing _ _ e))
 type_named scope name (Plain String) e b is =
     let same : (if is_word name (codes "length") then Length else GetSlice) ≡ b = cc in
     subst (λ b. IsBuiltin b name.text) same (string_named name (is_word name (codes "length")) refl e)
 type_named scope name (Plain Any) e b is = cc
 type_named scope name (Plain Node) e b is = cc
 type_named scope name (Plain (Named n)) e b is = cc
-type_named scope name (Vector inner of) e b is = let same : Size ≡ b = cc in subst (λ b. IsBuiltin b name.text) same (ties.size_of (if_missing _ _ e))
+type_named scope name (Vector inner of) e b is = let same : Size ≡ b =
+    cc in subst (λ b. IsBuiltin b name.text) same (ties.size_of (if_missing _ _ e))
 type_named scope name Nil e b is = cc
 type_named scope name Unknown e b is = cc
 

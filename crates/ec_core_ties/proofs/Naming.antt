@@ -8,7 +8,8 @@ use Rattle.ec_check.proofs.FirstNames.{same_itself}
 use Rattle.ec_check.proofs.FoundPlaces.{held_out, own_entries, own_entry, named_below, some_names}
 use Rattle.ec_check.proofs.FoundTypes.{found_value}
 use Rattle.ec_check.proofs.WellValues.{first_of_two, second_of_two}
-use Rattle.ec_check.specs.Places.{Env, number_or, number_named, names_of, fields_of, conditions_of, number_at_or, held_place, place_found, place_of}
+use Rattle.ec_check.specs.Places.{Env, number_or, number_named, names_of, fields_of, conditions_of, number_at_or, held_place}
+use Rattle.ec_check.specs.Places.{place_found, place_of}
 use Rattle.ec_check.specs.Places.{field_named, condition_named}
 use Rattle.ec_conform.proofs.Names.{has_name_more}
 use Rattle.ec_core.specs.declared.Place.TheVariants as place

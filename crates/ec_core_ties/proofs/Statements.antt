@@ -19,11 +19,14 @@ use Rattle.ec_check.proofs.Rolled.{ArmLayer, StatementLayer, BlockLayer, stateme
 use Rattle.ec_check.specs.Layers.{statement_judged}
 use Rattle.ec_check.specs.Parts.{Made, both_made, Piece, StatementPart, ArmPart, arm_judged}
 use Rattle.ec_check.specs.Places.{Env}
-use Rattle.ec_check.specs.Resolving.{chained, element_set, element_set_if, assigned, further, in_scope, arms_core, locals_of_arms, choice_core, core_of_statement}
-use Rattle.ec_check.specs.Resolving.{locals_of_block, locals_of, behind, statements_core, locals_of_statements, statements_made, arms_made, initially_made, statement_made}
+use Rattle.ec_check.specs.Resolving.{chained, element_set, element_set_if, assigned, further, in_scope, arms_core, locals_of_arms}
+use Rattle.ec_check.specs.Resolving.{choice_core, core_of_statement}
+use Rattle.ec_check.specs.Resolving.{locals_of_block, locals_of, behind, statements_core, locals_of_statements, statements_made}
+use Rattle.ec_check.specs.Resolving.{arms_made, initially_made, statement_made}
 use Rattle.ec_check.specs.Tree.{part_of, statement_of, arm_of, block_of, statement_step, block_step, arm_step}
 use Rattle.ec_core.specs.declared.Addend.{Addend as CoreAddend}
-use Rattle.ec_core.specs.declared.Expression.{Expression as CoreExpression, roll-Expression, out-Expression, out-roll-Expression, roll-out-Expression}
+use Rattle.ec_core.specs.declared.Expression.{Expression as CoreExpression, roll-Expression, out-Expression, out-roll-Expression}
+use Rattle.ec_core.specs.declared.Expression.{roll-out-Expression}
 use Rattle.ec_core.specs.declared.Expression.TheOpen.{Expression-F as Core-F, Link-F as CoreLink-F}
 use Rattle.ec_core.specs.declared.Expression.TheVariants as e
 use Rattle.ec_core.specs.declared.Factor.{Factor as CoreFactor}
@@ -33,7 +36,8 @@ use Rattle.ec_core.specs.declared.Place.{Place}
 use Rattle.ec_core.specs.declared.Statement.TheVariants as s
 use Rattle.ec_core_ties.proofs.Holders.{constant_is_typed}
 use Rattle.ec_core_ties.proofs.Naming.{Fit, condition_is}
-use Rattle.ec_core_ties.proofs.Ready.{Ready, first_ready, second_ready, ready_within, same_ready, PartTied, StatementTied, BlockTied, each_joined}
+use Rattle.ec_core_ties.proofs.Ready.{Ready, first_ready, second_ready, ready_within, same_ready, PartTied, StatementTied}
+use Rattle.ec_core_ties.proofs.Ready.{BlockTied, each_joined}
 use Rattle.ec_core_ties.proofs.Targets.{target_is, is_index, ends_in_index, is_target}
 use Rattle.ec_core_ties.proofs.Trees as trees
 use Rattle.ec_core_ties.specs.Names.{numbered}
@@ -108,7 +112,8 @@ module _ (env : Env) (x z : Expression) (m n : Made) (w : CoreExpression) (value
   place_set : (at : Place) → roll-Expression (Core-F.Read at) ≡ y → Becomes (Core-F.Read at)
   place_set at is h = ties.assign (subst (λ y. TiedExpression env x y m) (sym is ∙ e.rolls-Read at) h) value
 
-  element_set_is : (head : CoreExpression) (links : List CoreLink) (last : CoreLink) (k : CoreLink-F CoreExpression CoreLink CoreAddend CoreFactor) →
+  element_set_is : (head : CoreExpression) (links : List CoreLink) (last : CoreLink)
+      (k : CoreLink-F CoreExpression CoreLink CoreAddend CoreFactor) →
       roll-Expression (Core-F.Chain head links) ≡ y → top_of links ≡ Some last → out-Link last ≡ k → TiedExpression env x y m →
       TiedStatement env (tree.Assign x z) (element_set (chained head (below_of links)) k w) [] (both_made m n)
   element_set_is head links last (CoreLink-F.Element number of at) is top out h =
@@ -169,7 +174,8 @@ first_arm env xs a h k later q =
     let block : judged.Finished = (block_of a.block).piece env.scope in
     let own : Ready env (condition.uses ++ block.uses) (condition.faults ++ (wants wanted.Boolean condition.value ++ block.faults)) =
     first_ready _ _ _ _ q in
-    ties.arm (h true env (first_ready condition.uses block.uses condition.faults (wants wanted.Boolean condition.value ++ block.faults) own))
+    ties.arm (h true env
+    (first_ready condition.uses block.uses condition.faults (wants wanted.Boolean condition.value ++ block.faults) own))
     (k env
     (ready_behind (wants wanted.Boolean condition.value) block.faults
     (second_ready condition.uses block.uses condition.faults (wants wanted.Boolean condition.value ++ block.faults) own)))
@@ -214,7 +220,8 @@ choice_tied : (arms : List Arm) (other : Option Block) (at : Span) → Every Arm
     (each (piece_uses env.scope)
     (map piece_of_arm (map arm_judged (map arm_of arms)) ++ pieces_of_block (option_map (λ b. b.piece) (option_map block_of other))))
     (each (piece_faults env.scope)
-    (map piece_of_arm (map arm_judged (map arm_of arms)) ++ pieces_of_block (option_map (λ b. b.piece) (option_map block_of other))) ++ own) →
+    (map piece_of_arm (map arm_judged (map arm_of arms)) ++ pieces_of_block (option_map (λ b. b.piece) (option_map block_of other)))
+    ++ own) →
     TiedStatement env (tree.If arms other at) (choice_core (map arm_of arms) (option_map block_of other) env)
     (locals_of_arms env.scope (map arm_of arms) ++ locals_of_block env.scope (option_map block_of other))
     (both_made (arms_made env.scope (map arm_of arms)) (initially_made env.scope (option_map block_of other)))
@@ -267,7 +274,8 @@ layer_tied (Statement-F.Loop b at) h t =
     (h (in_scope (in_a_loop env.scope) env)
     (record {
       fit = loop_fits env r.fit;
-      reach = (first_ready {env = env} ((block_of b).piece (in_a_loop env.scope)).uses [] [] [] (record { fit = r.fit; reach = r.reach; faultless = refl })).reach;
+      reach = (first_ready {env = env} ((block_of b).piece (in_a_loop env.scope)).uses [] [] []
+          (record { fit = r.fit; reach = r.reach; faultless = refl })).reach;
       faultless = none_left _ _ (none_left _ _ r.faultless);
     })))
 layer_tied (Statement-F.Exit None at) h t =
@@ -354,7 +362,8 @@ behind_same env x =
     (with_numbers (declaring ((statement_of x).part.declares env.scope) env.scope) env.captures
     (env.count + length ((statement_of x).locals env.scope)))
     (ap (λ ns. env.numbers ++ ns) (numbered_once x env.count env.scope))
-    ∙ ap (λ (p : judged.StatementPart). names.behind env (p.declares env.scope) (length ((statement_of x).locals env.scope))) (same_statement x)
+    ∙ ap (λ (p : judged.StatementPart). names.behind env (p.declares env.scope) (length ((statement_of x).locals env.scope)))
+    (same_statement x)
 
 behind_fits : (env : Env) (x : Statement) → Fit env → Fit (behind env (statement_of x))
 behind_fits env x f =

@@ -11,7 +11,8 @@ use Rattle.ec_check.proofs.Fields.{part_core}
 use Rattle.ec_check.proofs.RangedParts.{map_both}
 use Rattle.ec_check.specs.Parts.{Part, LinkPart, index, link_judged}
 use Rattle.ec_check.specs.Places.{Env, place_of, type_or}
-use Rattle.ec_check.specs.Resolving.{arguments_in, chain_core, chain_of, chained, core_of_expression, link_core, links_core, number_of_class}
+use Rattle.ec_check.specs.Resolving.{arguments_in, chain_core, chain_of, chained, core_of_expression, link_core, links_core}
+use Rattle.ec_check.specs.Resolving.{number_of_class}
 use Rattle.ec_check.specs.Tree.{part_of, link_of, parts}
 use Rattle.ec_conform.specs.declared.static_type.StaticType.{StaticType}
 use Rattle.ec_core.specs.declared.Addend.{Addend as CoreAddend}
@@ -24,7 +25,8 @@ use Rattle.ec_core.specs.declared.Link.TheVariants as l
 use Rattle.ec_core_ties.proofs.AllTargets.{said}
 use Rattle.ec_core_ties.proofs.TargetForms as target
 use Rattle.ec_core_ties.proofs.TargetForms.{IsTarget, form_of_target}
-use Rattle.ec_rules.specs.Calls.{Receiver, Creation, Own, Typed, class_created, link_type, receiver, receiver_if, type_indexed, type_of_receiver}
+use Rattle.ec_rules.specs.Calls.{Receiver, Creation, Own, Typed, class_created, link_type, receiver, receiver_if, type_indexed}
+use Rattle.ec_rules.specs.Calls.{type_of_receiver}
 use Rattle.ec_rules.specs.Forms.{Form, Literal, Negated, Constructor, Vector, Created, Itself, NameAlone, Other}
 use Rattle.ec_rules.specs.Parts.{value_in}
 use Rattle.ec_scopes.specs.Scopes.{class_named}
@@ -107,7 +109,8 @@ links_end before number at =
 form_is : (x : Expression) → IsTarget x → (env : Env) → is_target (out-Expression ((part_of x).core env)) ≡ true
 form_is x (target.a_name name) env =
     ap (λ y. is_target (out-Expression y))
-    (part_core x env ∙ (ap (λ y. core_of_expression y env) (layers.variable_layer parts name) ∙ sym (e.rolls-Read (place_of env name.text))))
+    (part_core x env
+    ∙ (ap (λ y. core_of_expression y env) (layers.variable_layer parts name) ∙ sym (e.rolls-Read (place_of env name.text))))
     ∙ ap is_target (out-roll-Expression (Core-F.Read (place_of env name.text)))
 form_is x (target.an_index head before number at) env =
     ap (λ y. is_target (out-Expression y))

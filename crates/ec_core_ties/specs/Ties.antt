@@ -204,7 +204,8 @@ mutual
         TiedExpression env x y m → AreAddends env xs ys n → TiedExpression env (tree.Sum x xs) (e.Sum y ys) (both_made m n)
     -- What its operands are, `IsWellTyped` says.
     compare : {env : Env} {x z : Expression} {op : Comparison} {at : Span} {what : Compared} {y w : CoreExpression} {m n : Made} →
-        TiedExpression env x y m → TiedExpression env z w n → TiedExpression env (tree.Compare x op at z) (e.Compare y op what w) (both_made m n)
+        TiedExpression env x y m → TiedExpression env z w n →
+        TiedExpression env (tree.Compare x op at z) (e.Compare y op what w) (both_made m n)
     not : {env : Env} {x : Expression} {y : CoreExpression} {m : Made} {at : Span} → TiedExpression env x y m →
         TiedExpression env (tree.Not x at) (e.Not y) m
     and : {env : Env} {x : Expression} {xs : List Expression} {y : CoreExpression} {ys : List CoreExpression} {m n : Made} →

@@ -1,5 +1,6 @@
 -- Whose turn is next, and when nobody's is.
-use Rattle.std.proofs.Common.{◌≡◌, ℕ, suc, ◌<◌, ◌≤◌, Bool, true, false, ◌&&◌, ◌||◌, not, List, [], ◌∷◌, map, nat_le, Option, Some, None, ◌⊎◌, inl, inr, ⊎_elim, refl, ap, ◌∙◌, arith}
+use Rattle.std.proofs.Common.{◌≡◌, ℕ, suc, ◌<◌, ◌≤◌, Bool, true, false, ◌&&◌, ◌||◌, not, List, [], ◌∷◌, map, nat_le, Option, Some}
+use Rattle.std.proofs.Common.{None, ◌⊎◌, inl, inr, ⊎_elim, refl, ap, ◌∙◌, arith}
 use Rattle.std.specs.Prelude.{if◌then◌else◌}
 use Rattle.std.specs.List.{list_all}
 use Rattle.std.proofs.lemmas.Grind.{common_steps}
@@ -35,7 +36,9 @@ first_none i (s ∷ ss) e =
 first_some : (from i : ℕ) (ss : List ProcStatus) (p : ℕ) → first_true from i (map is_ready ss) ≡ Some p → none_ready ss ≡ false
 first_some from i [] p e = cc
 first_some from i (s ∷ ss) p e =
-    elim (is_ready s) as (λ b. (if b && nat_le from i then Some i else first_true from (suc i) (map is_ready ss)) ≡ Some p → (not b && none_ready ss) ≡ false)
+    elim (is_ready s) as
+    (λ b. (if b && nat_le from i then Some i else first_true from (suc i) (map is_ready ss)) ≡ Some p →
+    (not b && none_ready ss) ≡ false)
     [ true ↦ λ h. refl | false ↦ λ h. first_some from (suc i) ss p h ] e
 
 or_none : (a b : Option ℕ) → or_else a b ≡ None → b ≡ None
@@ -67,7 +70,8 @@ module _ (ss : List ProcStatus) (budget done : ℕ) (last : Option ℕ) where
     not_over : all_true (map is_over ss) ≡ false
     not_over = all_true-map is_over ss ∙ going
 
-    pub step_stuck : next_ready_of (map is_ready ss) last ≡ None → IsStep ss budget (record { left = []; last = last; done = done }) (Stops Stuck)
+    pub step_stuck : next_ready_of (map is_ready ss) last ≡ None →
+        IsStep ss budget (record { left = []; last = last; done = done }) (Stops Stuck)
     step_stuck h = let e = not_over in let k = next_none ss last h in rw (e, k) refl
 
     module _ (p : ℕ) (next : next_ready_of (map is_ready ss) last ≡ Some p) where

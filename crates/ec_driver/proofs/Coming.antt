@@ -1,5 +1,6 @@
 -- From one world of a run to the next.
-use Rattle.std.proofs.Common.{◌≡◌, ℕ, zero, suc, ◌+◌, ◌<◌, List, [], ◌∷◌, ◌++◌, length, nat_le, Option, Some, None, below_none, below_more, length-append, refl, sym, ap, ◌∙◌, add-one}
+use Rattle.std.proofs.Common.{◌≡◌, ℕ, zero, suc, ◌+◌, ◌<◌, List, [], ◌∷◌, ◌++◌, length, nat_le, Option, Some, None, below_none}
+use Rattle.std.proofs.Common.{below_more, length-append, refl, sym, ap, ◌∙◌, add-one}
 use Rattle.ec_world.specs.declared.common.Common.{Common}
 use Rattle.ec_world.specs.declared.process.ProcStatus.{ProcStatus}
 use Rattle.ec_world.specs.declared.run.Entry.{Entry}
@@ -7,7 +8,8 @@ use Rattle.ec_world.specs.declared.run.RunEnd.{RunEnd}
 use Rattle.ec_world.specs.declared.run.RunEntry.{RunEntry}
 use Rattle.ec_world.specs.declared.world.World.{World}
 use Rattle.ec_world.specs.Meaning.{ActivationMeaning}
-use Rattle.ec_world.specs.Run.{Reaches, Run, RunState, after_entry, end_by, end_of, expanded, last_of, next_entry, run_after, statuses_of, stepped, tail_of}
+use Rattle.ec_world.specs.Run.{Reaches, Run, RunState, after_entry, end_by, end_of, expanded, last_of, next_entry, run_after}
+use Rattle.ec_world.specs.Run.{statuses_of, stepped, tail_of}
 use Rattle.ec_driver.specs.Comes.{Comes}
 use Rattle.ec_driver.specs.Progress.{IsStep, Progress, advanced, at_start}
 use Rattle.ec_driver.specs.declared.step.Step.TheVariants.{Stops, Does}
@@ -17,7 +19,9 @@ module _ {A : Type 0} (M : ActivationMeaning A) (advance : Common → A → Comm
   unfolding run_after
   run_start_is = refl
 
-  one_more : (k : ℕ) (e : RunEntry) → next_entry (run_after M advance w schedule k).left (statuses_of (run_after M advance w schedule k).world) (run_after M advance w schedule k).last ≡ Some e →
+  one_more : (k : ℕ) (e : RunEntry) →
+      next_entry (run_after M advance w schedule k).left (statuses_of (run_after M advance w schedule k).world)
+      (run_after M advance w schedule k).last ≡ Some e →
       run_after M advance w schedule (suc k) ≡ stepped M advance (run_after M advance w schedule k) (Some e)
   unfolding run_after
   one_more k e is = ap (stepped M advance (run_after M advance w schedule k)) is
@@ -34,7 +38,8 @@ module _ {A : Type 0} (M : ActivationMeaning A) (advance : Common → A → Comm
       going = below_none (λ j. end_of budget (run_after M advance w schedule j) ≡ None);
     }
 
-    module _ (statuses : List ProcStatus) (progress : Progress) (v : World A) (c : Comes M advance w schedule budget statuses progress v) where
+    module _ (statuses : List ProcStatus) (progress : Progress) (v : World A)
+        (c : Comes M advance w schedule budget statuses progress v) where
       abbrev now : RunState A
       now = run_after M advance w schedule progress.done
 
@@ -71,7 +76,8 @@ module _ {A : Type 0} (M : ActivationMeaning A) (advance : Common → A → Comm
             ∙ (length-append now.done (e ∷ []) ∙ ap (λ (j : ℕ). j + 1) c.counted)
 
         -- one entry more
-        pub comes_next : (x : World A) → x ≡ after_entry M advance v e → Comes M advance w schedule budget (statuses_of x) (advanced progress e) x
+        pub comes_next : (x : World A) → x ≡ after_entry M advance v e →
+            Comes M advance w schedule budget (statuses_of x) (advanced progress e) x
         comes_next x same = record {
           world_is = rw (add-one progress.done) (world_more x same);
           statuses_are = refl;

@@ -1,5 +1,6 @@
 -- What is left of lines, entry by entry.
-use Rattle.std.proofs.Common.{◌≡◌, ◌==◌, ℕ, zero, suc, ◌+◌, ◌-◌, ◌<◌, ◌≤◌, List, [], ◌∷◌, ◌++◌, drop, take, length, get_or, replicate, Some, refl, sym, ap, ◌∙◌, arith, add-one}
+use Rattle.std.proofs.Common.{◌≡◌, ◌==◌, ℕ, zero, suc, ◌+◌, ◌-◌, ◌<◌, ◌≤◌, List, [], ◌∷◌, ◌++◌, drop, take, length, get_or}
+use Rattle.std.proofs.Common.{replicate, Some, refl, sym, ap, ◌∙◌, arith, add-one}
 use Rattle.std.proofs.lemmas.Bool.Decides.{nat_tests}
 use Rattle.ec_world.specs.declared.run.Entry.{Entry}
 use Rattle.ec_world.specs.declared.run.Entry.TheVariants.{Turn, Move}
@@ -40,7 +41,8 @@ module _ (e : Entry) (es : List Entry) (t : ℕ) (h : t < entry_count e) where
       let n : suc t ≡ entry_count e = omega arith in
       let all : left_of (e ∷ es) (suc t) ≡ expanded es =
       ap (drop (suc t)) (equal_entries e (expanded es))
-      ∙ (ap (λ (j : ℕ). drop j (replicate (entry_count e) (entry_of e) ++ expanded es)) n ∙ all_taken (entry_of e) (expanded es) (entry_count e)) in
+      ∙ (ap (λ (j : ℕ). drop j (replicate (entry_count e) (entry_of e) ++ expanded es)) n
+      ∙ all_taken (entry_of e) (expanded es) (entry_count e)) in
       sym all ∙ ap tail_of (sym taken)
 
 -- ---- the first line of some
@@ -50,7 +52,8 @@ all_of [] = refl
 all_of (x ∷ xs) = ap (λ ys. x ∷ ys) (all_of xs)
 
 module _ (d : Entry) (t : ℕ) where
-  pub first_at : (ls : List Entry) (x : RunEntry) → 1 ≤ length ls → HasLeft ls t → x ≡ entry_of (get_or ls 0 d) → Some x ≡ first_of (left_of ls t)
+  pub first_at : (ls : List Entry) (x : RunEntry) → 1 ≤ length ls → HasLeft ls t → x ≡ entry_of (get_or ls 0 d) →
+      Some x ≡ first_of (left_of ls t)
   first_at [] x some h e = absurd (omega arith)
   first_at (l ∷ ls) x some h e = ap (λ (y : RunEntry). Some y) e ∙ first_left l ls t h
 

@@ -10,7 +10,8 @@ use Rattle.ec_driver.specs.Progress.{Progress}
 
 -- The run from a world along a schedule comes to world v, where the processes have these statuses, with this progress;
 -- within a budget of entries it has not ended before.
-pub record Comes {A : Type 0} (M : ActivationMeaning A) (advance : Common → A → Common × A) (w : World A) (schedule : List Entry) (budget : ℕ) (statuses : List ProcStatus) (progress : Progress) (v : World A) : Type 0 where
+pub record Comes {A : Type 0} (M : ActivationMeaning A) (advance : Common → A → Common × A) (w : World A) (schedule : List Entry)
+    (budget : ℕ) (statuses : List ProcStatus) (progress : Progress) (v : World A) : Type 0 where
   pub world_is : v ≡ (run_after M advance w schedule progress.done).world
   pub statuses_are : statuses_of v ≡ statuses
   pub left_is : (run_after M advance w schedule progress.done).left ≡ progress.left

@@ -20,7 +20,8 @@ IsFullEnd Memory end = ⊥
 -- By `Stands start schedule budget statuses progress state` the run from a start along a schedule, within a budget of entries,
 -- comes to a state, where the processes have these statuses, and has not ended before. By `FindsFull start schedule k` the
 -- entry behind k entries of that run finds a node full: the node, the part, what is needed there and what is free.
-module _ {S : Type 0} (Stands : S → List Entry → ℕ → List ProcStatus → Progress → S → Type 0) (FindsFull : S → List Entry → ℕ → ℕ → Part → ℕ → ℕ → Type 0) where
+module _ {S : Type 0} (Stands : S → List Entry → ℕ → List ProcStatus → Progress → S → Type 0)
+    (FindsFull : S → List Entry → ℕ → ℕ → Part → ℕ → ℕ → Type 0) where
   -- some run comes to a state
   pub record IsOnWay (state : S) : Type 0 where
     pub start : S

@@ -27,8 +27,10 @@ pub fn drive<S, D: Driver<S>>(
     schedule: &[Entry],
     budget: u64,
 ) -> Result<Ended, AllocError>
-    requires starts { (statuses : List ProcStatus) × D.Stands driver.now state.old schedule.now budget statuses (at_start schedule.now) state.old }
-    ensures { IfOk result (λ ended. HasEnded (D.Stands driver.now) (D.FindsFull driver.now) state.old schedule.now budget ended.done ended.end state.new) }
+    requires starts { (statuses : List ProcStatus)
+        × D.Stands driver.now state.old schedule.now budget statuses (at_start schedule.now) state.old }
+    ensures { IfOk result
+        (λ ended. HasEnded (D.Stands driver.now) (D.FindsFull driver.now) state.old schedule.now budget ended.done ended.end state.new) }
 {
     let mut course = Course::new(schedule);
     'entries: loop {

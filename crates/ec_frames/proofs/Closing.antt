@@ -29,7 +29,8 @@ first_small node key b laid f = (let l = first_within node key b laid f in let n
 
 -- ---- its only block
 
-module _ (node : NodeStore) (key : Key) (i : ℕ) (r : Row) (laid : Laid node) (one : HasOneBlock (store_of node) key) (stands : StandsAtPlace node.rows key i) (there : slice_get node.rows i ≡ Some r) where
+module _ (node : NodeStore) (key : Key) (i : ℕ) (r : Row) (laid : Laid node) (one : HasOneBlock (store_of node) key)
+    (stands : StandsAtPlace node.rows key i) (there : slice_get node.rows i ≡ Some r) where
   is_row : stands.row ≡ r
   is_row = (let e = stands.there in cc)
 
@@ -53,7 +54,11 @@ module _ (node : NodeStore) (key : Key) (i : ℕ) (r : Row) (laid : Laid node) (
         ((let l = laid.rows_in key (owned_of r) b found owns in let n = laid.blocks in omega arith), tt)
 
     apart_from_free : AreApart (b ∷ node.memory.free)
-    apart_from_free = (all_from (λ y. b ≢ y) node.memory.free (λ y h e. laid.rows_out key (owned_of r) b found owns (subst (λ x. Has node.memory.free x) (sym e) h)), laid.whole.apart)
+    apart_from_free = (
+      all_from (λ y. b ≢ y) node.memory.free
+          (λ y h e. laid.rows_out key (owned_of r) b found owns (subst (λ x. Has node.memory.free x) (sym e) h)),
+      laid.whole.apart,
+    )
 
     pub close_apart : AreApart (chain node.memory.links b 1 ++ node.memory.free)
     close_apart = subst (λ (l : List ℕ). AreApart (l ++ node.memory.free)) (sym (chain-one node.memory.links b)) apart_from_free
@@ -70,7 +75,8 @@ module _ (node : NodeStore) (key : Key) (i : ℕ) (r : Row) (laid : Laid node) (
       free_is = gives.free ∙ ap (λ (l : List ℕ). l ++ node.memory.free) (chain-one node.memory.links b)
 
       gone : row_of rows' key ≡ None
-      gone = ap (λ rs. row_of rs key) rows_is ∙ subst (λ k. row_of (remove node.rows i) k ≡ None) key_is (row_removed node.rows r i laid.once there)
+      gone = ap (λ rs. row_of rs key) rows_is
+          ∙ subst (λ k. row_of (remove node.rows i) k ≡ None) key_is (row_removed node.rows r i laid.once there)
 
       kept : (other : Key) → other ≢ key → row_of rows' other ≡ row_of node.rows other
       kept other ne = ap (λ rs. row_of rs other) rows_is ∙ row_removed_other node.rows r i other there (λ e. ne (sym e ∙ key_is))
@@ -91,7 +97,9 @@ module _ (node : NodeStore) (key : Key) (i : ℕ) (r : Row) (laid : Laid node) (
         few_globals = laid.few_globals;
         room = laid.room;
         texts_fit = laid.texts_fit;
-        once = subst (λ (rs : List Row). (j k : ℕ) (p q : Row) → slice_get rs j ≡ Some p → slice_get rs k ≡ Some q → p.key ≡ q.key → j ≡ k) (sym rows_is) (once_removed node.rows i laid.once);
+        once = subst
+            (λ (rs : List Row). (j k : ℕ) (p q : Row) → slice_get rs j ≡ Some p → slice_get rs k ≡ Some q → p.key ≡ q.key → j ≡ k)
+            (sym rows_is) (once_removed node.rows i laid.once);
         rows_in = λ other q c e h. laid.rows_in other q c (owner other q e).1 h;
         rows_once = λ other q j k c e f g. laid.rows_once other q j k c (owner other q e).1 f g;
         rows_out = λ other q c e h f.

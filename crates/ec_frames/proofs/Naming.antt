@@ -1,5 +1,6 @@
 -- Local references and texts, found or made.
-use Rattle.std.proofs.Common.{◌≡◌, ◌≢◌, ℕ, zero, suc, ◌+◌, ◌-◌, ◌≤◌, List, [], ◌∷◌, ◌++◌, length, Some, refl, sym, ap, ◌∙◌, subst, arith, inl, inr, ⊎_elim}
+use Rattle.std.proofs.Common.{◌≡◌, ◌≢◌, ℕ, zero, suc, ◌+◌, ◌-◌, ◌≤◌, List, [], ◌∷◌, ◌++◌, length, Some, refl, sym, ap, ◌∙◌, subst}
+use Rattle.std.proofs.Common.{arith, inl, inr, ⊎_elim}
 use Rattle.std.specs.Prelude.{slice_get}
 use Rattle.ec_nodes.specs.Store.{text_bytes}
 use Rattle.ec_nodes.specs.Held.{InPool}
@@ -15,7 +16,9 @@ local_kept : (xs : List ℕ) (x i b : ℕ) → local_in xs i ≡ Some b → loca
 local_kept xs x zero b e = e
 local_kept xs x (suc i) b e = kept_end xs x i b e
 
-locals_once : (xs : List ℕ) (x : ℕ) → ((i : ℕ) → slice_get xs i ≢ Some x) → ((i j o : ℕ) → local_in xs i ≡ Some o → local_in xs j ≡ Some o → i ≡ j) → (i j o : ℕ) → local_in (xs ++ x ∷ []) i ≡ Some o → local_in (xs ++ x ∷ []) j ≡ Some o → i ≡ j
+locals_once : (xs : List ℕ) (x : ℕ) → ((i : ℕ) → slice_get xs i ≢ Some x) →
+    ((i j o : ℕ) → local_in xs i ≡ Some o → local_in xs j ≡ Some o → i ≡ j) → (i j o : ℕ) → local_in (xs ++ x ∷ []) i ≡ Some o →
+    local_in (xs ++ x ∷ []) j ≡ Some o → i ≡ j
 locals_once xs x new old zero j o e f = cc
 locals_once xs x new old (suc i) zero o e f = cc
 locals_once xs x new old (suc i) (suc j) o e f = ⊎_elim
@@ -29,7 +32,8 @@ locals_once xs x new old (suc i) (suc j) o e f = ⊎_elim
     (end_or xs x j o f))
     (end_or xs x i o e)
 
-module _ (node : NodeStore) (oid place : ℕ) (locals' : List ℕ) (new : (i : ℕ) → slice_get node.locals i ≢ Some oid) (is : locals' ≡ node.locals ++ oid ∷ []) where
+module _ (node : NodeStore) (oid place : ℕ) (locals' : List ℕ) (new : (i : ℕ) → slice_get node.locals i ≢ Some oid)
+    (is : locals' ≡ node.locals ++ oid ∷ []) where
   pub laid_local : Laid node → Laid (record node { locals = locals' })
   laid_local laid = record {
     whole = laid.whole;
@@ -46,7 +50,8 @@ module _ (node : NodeStore) (oid place : ℕ) (locals' : List ℕ) (new : (i : �
     tidy = record {
       apart = laid.tidy.apart;
       nil = refl;
-      locals = subst (λ (ls : List ℕ). (i j o : ℕ) → local_in ls i ≡ Some o → local_in ls j ≡ Some o → i ≡ j) (sym is) (locals_once node.locals oid new laid.tidy.locals);
+      locals = subst (λ (ls : List ℕ). (i j o : ℕ) → local_in ls i ≡ Some o → local_in ls j ≡ Some o → i ≡ j) (sym is)
+          (locals_once node.locals oid new laid.tidy.locals);
       texts = laid.tidy.texts;
     };
   }
@@ -54,7 +59,15 @@ module _ (node : NodeStore) (oid place : ℕ) (locals' : List ℕ) (new : (i : �
   pub made_refers : place ≡ length node.locals → Refers (store_of node) (store_of (record node { locals = locals' })) oid (place + 1)
   made_refers n = record {
     only = record {
-      grown = record { kind = refl; local = λ j o h. ap (λ (ls : List ℕ). local_in ls j) is ∙ local_kept node.locals oid j o h; text = λ j t h. h; global = λ j. refl; room = refl };
+      grown = record {
+        kind = refl;
+        local =
+            λ j o h. ap (λ (ls : List ℕ). local_in ls j) is ∙ local_kept node.locals oid j o h;
+        text = λ j t h. h;
+        global =
+            λ j. refl;
+        room = refl;
+      };
       rows = λ key. refl;
       words = λ b j. refl;
       free = refl;
@@ -72,7 +85,9 @@ bytes_end : (pool : List (List ℕ)) (text : List ℕ) → text_bytes (pool ++ t
 bytes_end [] text = omega arith
 bytes_end (t ∷ ts) text = (let e = bytes_end ts text in omega arith)
 
-texts_once : (pool : List (List ℕ)) (text : List ℕ) → ((i : ℕ) → slice_get pool i ≢ Some text) → ((i j : ℕ) (t : List ℕ) → slice_get pool i ≡ Some t → slice_get pool j ≡ Some t → i ≡ j) → (i j : ℕ) (t : List ℕ) → slice_get (pool ++ text ∷ []) i ≡ Some t → slice_get (pool ++ text ∷ []) j ≡ Some t → i ≡ j
+texts_once : (pool : List (List ℕ)) (text : List ℕ) → ((i : ℕ) → slice_get pool i ≢ Some text) →
+    ((i j : ℕ) (t : List ℕ) → slice_get pool i ≡ Some t → slice_get pool j ≡ Some t → i ≡ j) → (i j : ℕ) (t : List ℕ) →
+    slice_get (pool ++ text ∷ []) i ≡ Some t → slice_get (pool ++ text ∷ []) j ≡ Some t → i ≡ j
 texts_once pool text new old i j t e f = ⊎_elim
     (λ (a : slice_get pool i ≡ Some t). ⊎_elim
     (λ (b : slice_get pool j ≡ Some t). old i j t a b)
@@ -84,7 +99,9 @@ texts_once pool text new old i j t e f = ⊎_elim
     (end_or pool text j t f))
     (end_or pool text i t e)
 
-module _ (node : NodeStore) (text : List ℕ) (place : ℕ) (pool' : List (List ℕ)) (new : (i : ℕ) → slice_get node.pool i ≢ Some text) (is : pool' ≡ node.pool ++ text ∷ []) (laid : Laid node) (room : (InPool (store_of node) text → ⊥) → length text ≤ node.room - text_bytes node.pool) where
+module _ (node : NodeStore) (text : List ℕ) (place : ℕ) (pool' : List (List ℕ)) (new : (i : ℕ) → slice_get node.pool i ≢ Some text)
+    (is : pool' ≡ node.pool ++ text ∷ []) (laid : Laid node)
+    (room : (InPool (store_of node) text → ⊥) → length text ≤ node.room - text_bytes node.pool) where
   not_in_pool : InPool (store_of node) text → ⊥
   not_in_pool h = new h.0 h.1
 
@@ -108,7 +125,8 @@ module _ (node : NodeStore) (text : List ℕ) (place : ℕ) (pool' : List (List 
       apart = laid.tidy.apart;
       nil = laid.tidy.nil;
       locals = laid.tidy.locals;
-      texts = subst (λ (ts : List (List ℕ)). (i j : ℕ) (t : List ℕ) → slice_get ts i ≡ Some t → slice_get ts j ≡ Some t → i ≡ j) (sym is) (texts_once node.pool text new laid.tidy.texts);
+      texts = subst (λ (ts : List (List ℕ)). (i j : ℕ) (t : List ℕ) → slice_get ts i ≡ Some t → slice_get ts j ≡ Some t → i ≡ j)
+          (sym is) (texts_once node.pool text new laid.tidy.texts);
     };
   }
 

@@ -1,5 +1,6 @@
 -- A new owner, with a free block or none.
-use Rattle.std.proofs.Common.{◌≡◌, ◌≢◌, ℕ, zero, suc, ◌<◌, ◌≤◌, Bool, List, [], ◌∷◌, ◌++◌, length, Option, Some, None, refl, sym, ap, ◌∙◌, subst, arith, ◌⊎◌, inl, inr, ⊎_elim}
+use Rattle.std.proofs.Common.{◌≡◌, ◌≢◌, ℕ, zero, suc, ◌<◌, ◌≤◌, Bool, List, [], ◌∷◌, ◌++◌, length, Option, Some, None, refl, sym}
+use Rattle.std.proofs.Common.{ap, ◌∙◌, subst, arith, ◌⊎◌, inl, inr, ⊎_elim}
 use Rattle.std.specs.Prelude.{slice_get}
 use Rattle.byteorder.specs.Endian.{little_number}
 use Rattle.ec_base.proofs.Lists.{get_within}
@@ -23,7 +24,8 @@ use Rattle.ec_frames.proofs.Rows.{row_push_same, row_push_other, once_push, all_
 
 -- ---- one row more, whose blocks were free, over a memory whose free blocks are fewer
 
-module _ (node : NodeStore) (m : Memory) (r : Row) (rows' : List Row) (laid : Laid node) (new : row_of node.rows r.key ≡ None) (rows_is : rows' ≡ node.rows ++ r ∷ []) where
+module _ (node : NodeStore) (m : Memory) (r : Row) (rows' : List Row) (laid : Laid node) (new : row_of node.rows r.key ≡ None)
+    (rows_is : rows' ≡ node.rows ++ r ∷ []) where
   abbrev pub with_row : NodeStore
   with_row = record node { memory = m; rows = rows' }
 
@@ -34,7 +36,8 @@ module _ (node : NodeStore) (m : Memory) (r : Row) (rows' : List Row) (laid : La
   row_there other ne = ap (λ rs. row_of rs other) rows_is ∙ row_push_other node.rows r other (λ e. ne (sym e))
 
   -- an owner: the new one, or one that was there
-  owner : (other : Key) (q : Owned) → row_of rows' other ≡ Some q → ((other ≡ r.key) × (q ≡ owned_of r)) ⊎ ((other ≢ r.key) × (row_of node.rows other ≡ Some q))
+  owner : (other : Key) (q : Owned) → row_of rows' other ≡ Some q →
+      ((other ≡ r.key) × (q ≡ owned_of r)) ⊎ ((other ≢ r.key) × (row_of node.rows other ≡ Some q))
   owner other q e = ⊎_elim
       (λ (same : other ≡ r.key).
       let here : row_of rows' other ≡ Some (owned_of r) = ap (row_of rows') same ∙ row_here in
@@ -63,7 +66,10 @@ module _ (node : NodeStore) (m : Memory) (r : Row) (rows' : List Row) (laid : La
       texts = laid.tidy.texts;
     }
 
-    pub laid_row : IsWhole m → length m.links ≡ length node.memory.links → length m.globals ≡ length node.memory.globals → ((b : ℕ) → Has r.blocks b → b < node.blocks) → ((i j b : ℕ) → slice_get r.blocks i ≡ Some b → slice_get r.blocks j ≡ Some b → i ≡ j) → ((b : ℕ) → Has m.free b → Has node.memory.free b) → ((b : ℕ) → Has r.blocks b → Has m.free b → ⊥) → Laid with_row
+    pub laid_row : IsWhole m → length m.links ≡ length node.memory.links → length m.globals ≡ length node.memory.globals →
+        ((b : ℕ) → Has r.blocks b → b < node.blocks) →
+        ((i j b : ℕ) → slice_get r.blocks i ≡ Some b → slice_get r.blocks j ≡ Some b → i ≡ j) →
+        ((b : ℕ) → Has m.free b → Has node.memory.free b) → ((b : ℕ) → Has r.blocks b → Has m.free b → ⊥) → Laid with_row
     laid_row whole links globals within once still taken = record {
       whole = whole;
       blocks = links ∙ laid.blocks;
@@ -72,7 +78,9 @@ module _ (node : NodeStore) (m : Memory) (r : Row) (rows' : List Row) (laid : La
       few_globals = laid.few_globals;
       room = laid.room;
       texts_fit = laid.texts_fit;
-      once = subst (λ (rs : List Row). (i j : ℕ) (p q : Row) → slice_get rs i ≡ Some p → slice_get rs j ≡ Some q → p.key ≡ q.key → i ≡ j) (sym rows_is) (once_push node.rows r laid.once new);
+      once = subst
+          (λ (rs : List Row). (i j : ℕ) (p q : Row) → slice_get rs i ≡ Some p → slice_get rs j ≡ Some q → p.key ≡ q.key → i ≡ j)
+          (sym rows_is) (once_push node.rows r laid.once new);
       rows_in = λ other q b e h. ⊎_elim
           (λ (i : (other ≡ r.key) × (q ≡ owned_of r)). within b (of_new q b i.1 h))
           (λ (i : (other ≢ r.key) × (row_of node.rows other ≡ Some q)). laid.rows_in other q b i.1 h)
@@ -92,7 +100,9 @@ module _ (node : NodeStore) (m : Memory) (r : Row) (rows' : List Row) (laid : La
 
 -- ---- an owner without blocks
 
-module _ (node : NodeStore) (key : Key) (class : Option ClassNo) (fixed : Bool) (blocks : List ℕ) (rows' : List Row) (laid : Laid node) (new : row_of node.rows key ≡ None) (none : blocks ≡ []) (rows_is : rows' ≡ node.rows ++ record { key = key; blocks = blocks; class = class; fixed = fixed; monitor = None } ∷ []) where
+module _ (node : NodeStore) (key : Key) (class : Option ClassNo) (fixed : Bool) (blocks : List ℕ) (rows' : List Row)
+    (laid : Laid node) (new : row_of node.rows key ≡ None) (none : blocks ≡ [])
+    (rows_is : rows' ≡ node.rows ++ record { key = key; blocks = blocks; class = class; fixed = fixed; monitor = None } ∷ []) where
   abbrev bare : Row
   bare = record { key = key; blocks = blocks; class = class; fixed = fixed; monitor = None }
 
@@ -100,12 +110,14 @@ module _ (node : NodeStore) (key : Key) (class : Option ClassNo) (fixed : Bool) 
   no_block b h = let e : slice_get [] h.at ≡ Some b = ap (λ (l : List ℕ). slice_get l h.at) (sym none) ∙ h.is in (let no : ⊥ = cc in no)
 
   pub laid_named : Laid (record node { rows = rows' })
-  laid_named = laid_row node node.memory bare rows' laid new rows_is (λ b h. absurd (no_block b h)) laid.whole refl refl (λ b h. absurd (no_block b h))
+  laid_named = laid_row node node.memory bare rows' laid new rows_is (λ b h. absurd (no_block b h)) laid.whole refl refl
+      (λ b h. absurd (no_block b h))
       (λ i j b e f. absurd (no_block b (record { at = i; is = e }))) (λ b h. h) (λ b h f. no_block b h)
 
   pub named : Named (store_of node) (store_of (record node { rows = rows' })) key class fixed None
   named = record {
-    row = row_here node node.memory bare rows' laid new rows_is ∙ ap (λ (l : List ℕ). Some (record { blocks = l; class = class; fixed = fixed; monitor = None })) none;
+    row = row_here node node.memory bare rows' laid new rows_is
+        ∙ ap (λ (l : List ℕ). Some (record { blocks = l; class = class; fixed = fixed; monitor = None })) none;
     others = λ other ne. record { row = row_there node node.memory bare rows' laid new rows_is other ne; words = λ r b i e h l. refl };
     rest = record { kind = refl; global = λ i. refl; local = λ i. refl; text = λ i. refl; room = refl; text_free = refl; count = refl };
     free = refl;
@@ -130,7 +142,12 @@ module _ (old new : Memory) (b : ℕ) (takes : Takes old new b 1) (whole : IsWho
   pub taken_in : b < length old.links
   taken_in = all_has (λ c. c < length old.links) old.free b whole.in_range taken_was_free
 
-module _ (node : NodeStore) (key : Key) (class : Option ClassNo) (fixed : Bool) (given blocks : List ℕ) (b : ℕ) (taken m : Memory) (rows' : List Row) (laid : Laid node) (new : row_of node.rows key ≡ None) (short : length given ≤ 128) (takes : Takes node.memory taken b 1) (one : blocks ≡ b ∷ []) (rows_is : rows' ≡ node.rows ++ record { key = key; blocks = blocks; class = class; fixed = fixed; monitor = None } ∷ []) (written : Written taken m b given (length given)) where
+module _ (node : NodeStore) (key : Key) (class : Option ClassNo) (fixed : Bool) (given blocks : List ℕ) (b : ℕ) (taken m : Memory)
+    (rows' : List Row) (laid : Laid node) (new : row_of node.rows key ≡ None) (short : length given ≤ 128)
+    (takes : Takes node.memory taken b 1) (one : blocks ≡ b ∷ [])
+    (rows_is : rows' ≡ node.rows
+    ++ record { key = key; blocks = blocks; class = class; fixed = fixed; monitor = None } ∷ [])
+    (written : Written taken m b given (length given)) where
   abbrev placed_row : Row
   placed_row = record { key = key; blocks = blocks; class = class; fixed = fixed; monitor = None }
 
@@ -176,18 +193,22 @@ module _ (node : NodeStore) (key : Key) (class : Option ClassNo) (fixed : Bool) 
 
   pub placed : Placed (store_of node) (store_of (record node { memory = m; rows = rows' })) key class fixed None given b
   placed = record {
-    row = row_here node m placed_row rows' laid new rows_is ∙ ap (λ (l : List ℕ). Some (record { blocks = l; class = class; fixed = fixed; monitor = None })) one;
+    row = row_here node m placed_row rows' laid new rows_is
+        ∙ ap (λ (l : List ℕ). Some (record { blocks = l; class = class; fixed = fixed; monitor = None })) one;
     small = (let w = placed_within in let f = laid.few_blocks in omega arith);
     words = λ i n e. written.inside i n (get_within given i n e) e;
-    there = λ i l. word_there little_number (store_byte m) (block_word_at b i) (block_word_there m whole_after b i (let w = placed_within in let n = laid.blocks in let k = links_after in omega arith) l);
+    there = λ i l. word_there little_number (store_byte m) (block_word_at b i)
+        (block_word_there m whole_after b i (let w = placed_within in let n = laid.blocks in let k = links_after in omega arith) l);
     others = λ other ne. record {
       row = row_there node m placed_row rows' laid new rows_is other ne;
-      words = λ r c i e h l. other_word c i (λ same. laid.rows_out other r c e h (subst (λ x. Has node.memory.free x) (sym same) was_free)) l;
+      words = λ r c i e h l. other_word c i
+          (λ same. laid.rows_out other r c e h (subst (λ x. Has node.memory.free x) (sym same) was_free)) l;
     };
     rest = record {
       kind = refl;
       global = λ i.
-          written.outside (global_word_at i) (global_word_even i) (λ j h e. let w = placed_within in let f = laid.few_blocks in block_global_apart b j i (omega arith) (omega arith) (sym e))
+          written.outside (global_word_at i) (global_word_even i)
+          (λ j h e. let w = placed_within in let f = laid.few_blocks in block_global_apart b j i (omega arith) (omega arith) (sym e))
           ∙ ap (λ bytes. word_in little_number bytes (global_word_at i)) (taken_bytes node.memory taken b 1 takes);
       local = λ i. refl;
       text = λ i. refl;
@@ -195,5 +216,6 @@ module _ (node : NodeStore) (key : Key) (class : Option ClassNo) (fixed : Bool) 
       text_free = refl;
       count = refl;
     };
-    free = (let n = ap (λ (l : List ℕ). length l) (free_was node.memory taken b takes laid.whole) in let k = ap (λ (l : List ℕ). length l) written.lists.free in omega arith);
+    free = (let n = ap (λ (l : List ℕ). length l) (free_was node.memory taken b takes laid.whole) in let k =
+        ap (λ (l : List ℕ). length l) written.lists.free in omega arith);
   }

@@ -1,5 +1,6 @@
 -- What a call leaves of a node's tables is one owner changed.
-use Rattle.std.proofs.Common.{◌≡◌, ◌≢◌, ℕ, zero, suc, ◌/◌, ◌%◌, ◌<◌, ◌≤◌, Bool, List, [], ◌∷◌, length, Option, Some, None, refl, sym, ap, ◌∙◌, arith, ◌⊎◌}
+use Rattle.std.proofs.Common.{◌≡◌, ◌≢◌, ℕ, zero, suc, ◌/◌, ◌%◌, ◌<◌, ◌≤◌, Bool, List, [], ◌∷◌, length, Option, Some, None, refl}
+use Rattle.std.proofs.Common.{sym, ap, ◌∙◌, arith, ◌⊎◌}
 use Rattle.std.specs.Prelude.{slice_get}
 use Rattle.ec_base.proofs.Lists.{get_within}
 use Rattle.ec_world.specs.declared.value.Value.{Value}
@@ -32,12 +33,17 @@ word_of_one s b i n h = by (i / 128) refl h
 
 -- ---- an owner comes
 
-module _ (s s' : Store) (key : Key) (class : Option ClassNo) (fixed : Bool) (monitor : Option MonitorRec) (given : List ℕ) (b : ℕ) (t : Thing) (placed : Placed s s' key class fixed monitor given b) (tidy : Tidy s → Tidy s') (new : s.row key ≡ None) (short : length given ≤ 128) (one : t.blocks ≡ 1) (class_is : t.class ≡ class) (fixed_is : t.fixed ≡ fixed) (monitor_is : t.monitor ≡ monitor) (heads : (i n : ℕ) → slice_get t.heads i ≡ Some n → slice_get given i ≡ Some n) where
+module _ (s s' : Store) (key : Key) (class : Option ClassNo) (fixed : Bool) (monitor : Option MonitorRec) (given : List ℕ) (b : ℕ)
+    (t : Thing) (placed : Placed s s' key class fixed monitor given b) (tidy : Tidy s → Tidy s') (new : s.row key ≡ None)
+    (short : length given ≤ 128) (one : t.blocks ≡ 1) (class_is : t.class ≡ class) (fixed_is : t.fixed ≡ fixed)
+    (monitor_is : t.monitor ≡ monitor) (heads : (i n : ℕ) → slice_get t.heads i ≡ Some n → slice_get given i ≡ Some n) where
   given_word : (i n : ℕ) → slice_get given i ≡ Some n → word_of s' (b ∷ []) i ≡ Some n
   given_word i n e = word_in_one s' b i n (let l = get_within given i n e in omega arith) (placed.words i n e)
 
   -- a thing whose values are given too
-  pub placed_puts_values : ((i : ℕ) (v : Value) → slice_get t.values i ≡ Some v → (at : ℕ) × (t.spot s'.kind i ≡ Some at) × ((w : ℕ) × (slice_get given at ≡ Some w) × Stands s' v w)) → Puts s s' key (Some t)
+  pub placed_puts_values :
+      ((i : ℕ) (v : Value) → slice_get t.values i ≡ Some v →
+      (at : ℕ) × (t.spot s'.kind i ≡ Some at) × ((w : ℕ) × (slice_get given at ≡ Some w) × Stands s' v w)) → Puts s s' key (Some t)
   placed_puts_values values = record {
     here = record {
       row = record { blocks = b ∷ []; class = class; fixed = fixed; monitor = monitor };
@@ -60,7 +66,9 @@ module _ (s s' : Store) (key : Key) (class : Option ClassNo) (fixed : Bool) (mon
   }
 
   pub placed_puts : t.values ≡ [] → Puts s s' key (Some t)
-  placed_puts none = placed_puts_values (λ i v e. let no : slice_get {X = Value} [] i ≡ Some v = ap (λ (vs : List Value). slice_get vs i) (sym none) ∙ e in absurd (let f : ⊥ = cc in f))
+  placed_puts none = placed_puts_values
+      (λ i v e. let no : slice_get {X = Value} [] i ≡ Some v =
+      ap (λ (vs : List Value). slice_get vs i) (sym none) ∙ e in absurd (let f : ⊥ = cc in f))
 
 -- ---- an owner goes
 

@@ -1,5 +1,6 @@
 -- Owners in a list of rows: one comes at the end, one goes.
-use Rattle.std.proofs.Common.{◌≡◌, ◌≢◌, ℕ, zero, suc, ◌<◌, ◌≤◌, ◌==◌, Bool, true, false, List, [], ◌∷◌, ◌++◌, length, Option, Some, None, refl, sym, ap, ◌∙◌, subst, arith, ◌⊎◌, inl, inr, ⊎_elim, if◌then◌else◌}
+use Rattle.std.proofs.Common.{◌≡◌, ◌≢◌, ℕ, zero, suc, ◌<◌, ◌≤◌, ◌==◌, Bool, true, false, List, [], ◌∷◌, ◌++◌, length, Option, Some}
+use Rattle.std.proofs.Common.{None, refl, sym, ap, ◌∙◌, subst, arith, ◌⊎◌, inl, inr, ⊎_elim, if◌then◌else◌}
 use Rattle.std.specs.Prelude.{slice_get}
 use Rattle.std.specs.List.{AllByRecursion, remove}
 use Rattle.ec_base.proofs.Lists.{get_within}
@@ -44,7 +45,8 @@ is_same_key a b e = subst (λ k. same_key a k ≡ true) e (same_key_self a)
 
 module _ {A : Type 0} where
   -- an item of a longer list is an old one or the new one
-  pub end_or : (xs : List A) (x : A) (i : ℕ) (b : A) → slice_get (xs ++ x ∷ []) i ≡ Some b → (slice_get xs i ≡ Some b) ⊎ ((i ≡ length xs) × (b ≡ x))
+  pub end_or : (xs : List A) (x : A) (i : ℕ) (b : A) → slice_get (xs ++ x ∷ []) i ≡ Some b →
+      (slice_get xs i ≡ Some b) ⊎ ((i ≡ length xs) × (b ≡ x))
   end_or xs x i b e = ⊎_elim
       (λ (same : i ≡ length xs).
       let h : slice_get (xs ++ x ∷ []) i ≡ Some x = ap (slice_get (xs ++ x ∷ [])) same ∙ get_end xs x in
@@ -71,7 +73,8 @@ module _ {A : Type 0} where
       record {
         at = suc r.at;
         there = r.there;
-        place = ⊎_elim (λ (p : (j < i) × (r.at ≡ j)). inl (let l = p.0 in omega arith, ap suc p.1)) (λ (p : (i ≤ j) × (r.at ≡ suc j)). inr (let l = p.0 in omega arith, ap suc p.1)) r.place;
+        place = ⊎_elim (λ (p : (j < i) × (r.at ≡ j)). inl (let l = p.0 in omega arith, ap suc p.1))
+            (λ (p : (i ≤ j) × (r.at ≡ suc j)). inr (let l = p.0 in omega arith, ap suc p.1)) r.place;
       }
 
   pub all_has : (P : A → Type 0) (xs : List A) (x : A) → AllByRecursion P xs → Has xs x → P x
@@ -112,7 +115,8 @@ module _ {A : Type 0} where
 
 -- ---- which row is an owner's
 
-pub row_is : (rows : List Row) (r : Row) (i : ℕ) (key : Key) → slice_get rows i ≡ Some r → r.key ≡ key → ((k : ℕ) (q : Row) → k < i → slice_get rows k ≡ Some q → q.key ≢ key) → row_of rows key ≡ Some (owned_of r)
+pub row_is : (rows : List Row) (r : Row) (i : ℕ) (key : Key) → slice_get rows i ≡ Some r → r.key ≡ key →
+    ((k : ℕ) (q : Row) → k < i → slice_get rows k ≡ Some q → q.key ≢ key) → row_of rows key ≡ Some (owned_of r)
 row_is [] r i key e h before = cc
 row_is (x ∷ xs) r zero key e h before =
     let is : x ≡ r = cc in
@@ -122,13 +126,15 @@ row_is (x ∷ xs) r (suc i) key e h before =
     ap (λ b. if b then Some (owned_of x) else row_of xs key) (same_key_other x.key key (before 0 x (omega arith) refl))
     ∙ row_is xs r i key e h (λ k q l f. before (suc k) q (omega arith) f)
 
-pub stands : (rows : List Row) (r : Row) (i : ℕ) (key : Key) → slice_get rows i ≡ Some r → r.key ≡ key → ((k : ℕ) (q : Row) → k < i → slice_get rows k ≡ Some q → q.key ≢ key) → StandsAtPlace rows key i
+pub stands : (rows : List Row) (r : Row) (i : ℕ) (key : Key) → slice_get rows i ≡ Some r → r.key ≡ key →
+    ((k : ℕ) (q : Row) → k < i → slice_get rows k ≡ Some q → q.key ≢ key) → StandsAtPlace rows key i
 stands rows r i key e h before = record { row = r; there = e; is = h; found = row_is rows r i key e h before }
 
 pub row_none : (rows : List Row) (key : Key) → ((k : ℕ) (q : Row) → slice_get rows k ≡ Some q → q.key ≢ key) → row_of rows key ≡ None
 row_none [] key h = refl
 row_none (x ∷ xs) key h =
-    ap (λ b. if b then Some (owned_of x) else row_of xs key) (same_key_other x.key key (h 0 x refl)) ∙ row_none xs key (λ k q e. h (suc k) q e)
+    ap (λ b. if b then Some (owned_of x) else row_of xs key) (same_key_other x.key key (h 0 x refl))
+    ∙ row_none xs key (λ k q e. h (suc k) q e)
 
 -- where no owner is found, none stands
 pub none_stands : (rows : List Row) (key : Key) → row_of rows key ≡ None → (k : ℕ) (q : Row) → slice_get rows k ≡ Some q → q.key ≢ key
@@ -136,7 +142,8 @@ none_stands [] key h k q e = cc
 none_stands (x ∷ xs) key h zero q e = λ same.
     let is : x ≡ q = cc in
     let k : x.key ≡ key = ap (λ (r : Row). r.key) is ∙ same in
-    let found : row_of (x ∷ xs) key ≡ Some (owned_of x) = ap (λ b. if b then Some (owned_of x) else row_of xs key) (is_same_key x.key key k) in
+    let found : row_of (x ∷ xs) key ≡ Some (owned_of x) =
+    ap (λ b. if b then Some (owned_of x) else row_of xs key) (is_same_key x.key key k) in
     (let no : ⊥ = cc in no)
 none_stands (x ∷ xs) key h (suc k) q e = none_stands xs key (by (same_key x.key key) h) k q e
   where
@@ -175,19 +182,22 @@ once_push rows r once new i j a b e f same = ⊎_elim
 
 -- ---- one row less
 
-pub row_removed_other : (rows : List Row) (r : Row) (i : ℕ) (key : Key) → slice_get rows i ≡ Some r → r.key ≢ key → row_of (remove rows i) key ≡ row_of rows key
+pub row_removed_other : (rows : List Row) (r : Row) (i : ℕ) (key : Key) → slice_get rows i ≡ Some r → r.key ≢ key →
+    row_of (remove rows i) key ≡ row_of rows key
 row_removed_other [] r i key e h = cc
 row_removed_other (x ∷ xs) r zero key e h =
     let is : x ≡ r = cc in
     let k : x.key ≢ key = λ f. h (ap (λ (q : Row). q.key) (sym is) ∙ f) in
     sym (ap (λ b. if b then Some (owned_of x) else row_of xs key) (same_key_other x.key key k))
-row_removed_other (x ∷ xs) r (suc i) key e h = ap (λ (z : Option Owned). if same_key x.key key then Some (owned_of x) else z) (row_removed_other xs r i key e h)
+row_removed_other (x ∷ xs) r (suc i) key e h =
+    ap (λ (z : Option Owned). if same_key x.key key then Some (owned_of x) else z) (row_removed_other xs r i key e h)
 
 pub row_removed : (rows : List Row) (r : Row) (i : ℕ) → Once rows → slice_get rows i ≡ Some r → row_of (remove rows i) r.key ≡ None
 row_removed rows r i once e = row_none (remove rows i) r.key (λ k q f same.
     let s = get_removed rows i k q f in
     let at = once s.at i q r s.there e same in
-    ⊎_elim (λ (p : (k < i) × (s.at ≡ k)). let l = p.0 in let m = p.1 in let no : ⊥ = omega arith in no) (λ (p : (i ≤ k) × (s.at ≡ suc k)). let l = p.0 in let m = p.1 in let no : ⊥ = omega arith in no) s.place)
+    ⊎_elim (λ (p : (k < i) × (s.at ≡ k)). let l = p.0 in let m = p.1 in let no : ⊥ = omega arith in no)
+    (λ (p : (i ≤ k) × (s.at ≡ suc k)). let l = p.0 in let m = p.1 in let no : ⊥ = omega arith in no) s.place)
 
 pub once_removed : (rows : List Row) (i : ℕ) → Once rows → Once (remove rows i)
 once_removed rows i once j k a b e f same =

@@ -56,7 +56,8 @@ pub record WritesGlobal (s s' : Store) (i w : ℕ) : Type 0 where
   pub count : s'.count ≡ s.count
 
 -- a new owner of the one block b, which begins with these words
-pub record Placed (s s' : Store) (key : Key) (class : Option ClassNo) (fixed : Bool) (monitor : Option MonitorRec) (given : List ℕ) (b : ℕ) : Type 0 where
+pub record Placed (s s' : Store) (key : Key) (class : Option ClassNo) (fixed : Bool) (monitor : Option MonitorRec) (given : List ℕ)
+    (b : ℕ) : Type 0 where
   pub row : s'.row key ≡ Some (record { blocks = b ∷ []; class = class; fixed = fixed; monitor = monitor })
   pub small : b < 65536
   pub words : (i n : ℕ) → slice_get given i ≡ Some n → s'.word b i ≡ Some n

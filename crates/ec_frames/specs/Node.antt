@@ -1,5 +1,6 @@
 -- A node's tables as functions, and what they keep by themselves.
-use Rattle.std.specs.Prelude.{◌≡◌, ℕ, zero, suc, ◌-◌, ◌*◌, ◌^◌, ◌<◌, ◌≤◌, ◌==◌, ◌&&◌, Bool, false, List, [], ◌∷◌, length, Option, Some, None, slice_get, if◌then◌else◌}
+use Rattle.std.specs.Prelude.{◌≡◌, ℕ, zero, suc, ◌-◌, ◌*◌, ◌^◌, ◌<◌, ◌≤◌, ◌==◌, ◌&&◌, Bool, false, List, [], ◌∷◌, length, Option}
+use Rattle.std.specs.Prelude.{Some, None, slice_get, if◌then◌else◌}
 use Rattle.byteorder.specs.Endian.{little_number}
 use Rattle.ec_world.specs.Group.{Has}
 use Rattle.ec_memory.specs.Store.{store_byte, IsWhole}
@@ -54,7 +55,8 @@ pub record Laid (node : NodeStore) : Type 0 where
   -- each owner stands once; its blocks are the node's, each once, and not free
   pub once : (i j : ℕ) (r q : Row) → slice_get node.rows i ≡ Some r → slice_get node.rows j ≡ Some q → r.key ≡ q.key → i ≡ j
   pub rows_in : (key : Key) (r : Owned) (b : ℕ) → row_of node.rows key ≡ Some r → Has r.blocks b → b < node.blocks
-  pub rows_once : (key : Key) (r : Owned) (i j b : ℕ) → row_of node.rows key ≡ Some r → slice_get r.blocks i ≡ Some b → slice_get r.blocks j ≡ Some b → i ≡ j
+  pub rows_once : (key : Key) (r : Owned) (i j b : ℕ) → row_of node.rows key ≡ Some r → slice_get r.blocks i ≡ Some b →
+      slice_get r.blocks j ≡ Some b → i ≡ j
   pub rows_out : (key : Key) (r : Owned) (b : ℕ) → row_of node.rows key ≡ Some r → Has r.blocks b → Has node.memory.free b → ⊥
   pub tidy : Tidy (store_of node)
 

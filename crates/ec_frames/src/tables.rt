@@ -1,5 +1,6 @@
 //! Local references and texts.
-ghost use Rattle.std.specs.Prelude.{◌≡◌, ◌≢◌, ◌≤◌, ◌<◌, ◌+◌, ◌-◌, ◌^◌, ◌↔◌, ℕ, length, OnOk, IfOk, IfSome, IfNone, IsOk, IsSome, IsTrue, Some, slice_get};
+ghost use Rattle.std.specs.Prelude.{◌≡◌, ◌≢◌, ◌≤◌, ◌<◌, ◌+◌, ◌-◌, ◌^◌, ◌↔◌, ℕ, length, OnOk, IfOk, IfSome, IfNone, IsOk, IsSome};
+ghost use Rattle.std.specs.Prelude.{IsTrue, Some, slice_get};
 ghost use Rattle.ec_nodes.specs.Store.{text_bytes};
 ghost use Rattle.ec_nodes.specs.Held.{InPool};
 ghost use Rattle.ec_frames.specs.Node.{store_of, Laid, SameNode};

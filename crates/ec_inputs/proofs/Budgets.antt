@@ -1,6 +1,7 @@
 -- Where clap takes the words of a run, or of its meaning, what it found for the budget is a number in its range: among its rows there is
 -- at most one of the budget, which has one value, and the value passed the budget's parser.
-use Rattle.std.proofs.Common.{◌≡◌, refl, sym, ap, ◌∙◌, subst, arith, ℕ, Bool, true, false, cond, zero, suc, ◌==◌, ◌&&◌, ◌||◌, ◌⊎◌, inl, inr, List, [], ◌∷◌, ◌++◌, length, drop, Option, Some, None, true≢false, is_some, codes, unwrap_or}
+use Rattle.std.proofs.Common.{◌≡◌, refl, sym, ap, ◌∙◌, subst, arith, ℕ, Bool, true, false, cond, zero, suc, ◌==◌, ◌&&◌, ◌||◌, ◌⊎◌}
+use Rattle.std.proofs.Common.{inl, inr, List, [], ◌∷◌, ◌++◌, length, drop, Option, Some, None, true≢false, is_some, codes, unwrap_or}
 use Rattle.std.specs.Prelude.{slice_get, option_map, option_and_then, encode_utf8}
 use Rattle.std.specs.List.{find, fold}
 use Rattle.std.specs.Option.{option_map_or}
@@ -11,8 +12,17 @@ use Rattle.clap.specs.Lexer.{long_of, short_of, without_minus}
 use Rattle.clap.specs.ValueTests.{accepts}
 use Rattle.clap.specs.Facts.{parser_of_value}
 use Rattle.clap.specs.Kinds.{Kinds, or_else, range_kinds, value_kinds}
-use Rattle.clap.specs.Faults.{use_fault, repeat_fault, values_fault, settle_fault, stray_fault, react_fault, option_fault, long_fault, short_fault, bundle_step_fault, flags_fault, flag_word_fault, other_fault, word_fault, positional_fault, step_fault, turn_fault, walk_fault, level_fault, entered_fault, fault_of}
-use Rattle.clap.specs.Walk.{Held, Outcome, Row, Rule, Step, Text, Waiting, Walk, action_of, after_flag, after_step, answers_to, arg_by_id, arg_by_index, arg_by_long, arg_by_short, at_row, attached_value, bundle_met, bundle_step, default_rows, done, has_row, idle, is_pending, long_met, long_or_other, more_values, next, nothing_held, one_of, option, option_met, option_word, plain, plain_word, positional, reacted, reading_by, refused, row_text, rows_after, settled, settled_rows, short_met, short_or_plain, stop_after, subcommand, subcommand_met, subcommand_or_other, takes_several, takes_values, to_positional, trailing, used, used_as, used_by_id, value, values_or_missing, waits, walk, walk_from, walked, walked_from, flag_met, with_default, with_values, without, word_met}
+use Rattle.clap.specs.Faults.{use_fault, repeat_fault, values_fault, settle_fault, stray_fault, react_fault, option_fault}
+use Rattle.clap.specs.Faults.{long_fault, short_fault, bundle_step_fault, flags_fault, flag_word_fault, other_fault, word_fault}
+use Rattle.clap.specs.Faults.{positional_fault, step_fault, turn_fault, walk_fault, level_fault, entered_fault, fault_of}
+use Rattle.clap.specs.Walk.{Held, Outcome, Row, Rule, Step, Text, Waiting, Walk, action_of, after_flag, after_step, answers_to}
+use Rattle.clap.specs.Walk.{arg_by_id, arg_by_index, arg_by_long, arg_by_short, at_row, attached_value, bundle_met, bundle_step}
+use Rattle.clap.specs.Walk.{default_rows, done, has_row, idle, is_pending, long_met, long_or_other, more_values, next, nothing_held}
+use Rattle.clap.specs.Walk.{one_of, option, option_met, option_word, plain, plain_word, positional, reacted, reading_by, refused}
+use Rattle.clap.specs.Walk.{row_text, rows_after, settled, settled_rows, short_met, short_or_plain, stop_after, subcommand}
+use Rattle.clap.specs.Walk.{subcommand_met, subcommand_or_other, takes_several, takes_values, to_positional, trailing, used}
+use Rattle.clap.specs.Walk.{used_as, used_by_id, value, values_or_missing, waits, walk, walk_from, walked, walked_from, flag_met}
+use Rattle.clap.specs.Walk.{with_default, with_values, without, word_met}
 use Rattle.clap.specs.Simple.{App, Shape, argument_words, built, built_leaf, entered, filled, inherited, label_of, marked_built}
 use Rattle.clap.specs.Simple.{names_of, rows_at, subcommand_of, with_index, with_leaf_noted}
 use Rattle.clap.specs.declared.builder.action.ArgAction.TheVariants.{Set}
@@ -106,7 +116,8 @@ module _ (id : Text) (change : Row → List Row) (missing : List Row) (other : i
   at_absent [] e = misses
   at_absent (r ∷ rs) e = let parts = or_false _ _ e in go (at_absent rs parts.1) (bytes_eq r.id id) refl parts.0 parts.1
     where
-      go : has_row own.id (at_row id change missing rs) ≡ false → (b : Bool) → bytes_eq r.id id ≡ b → is_own r.id ≡ false → has_row own.id rs ≡ false
+      go : has_row own.id (at_row id change missing rs) ≡ false → (b : Bool) → bytes_eq r.id id ≡ b → is_own r.id ≡ false →
+          has_row own.id rs ≡ false
           → has_row own.id (cond b (change r ++ rs) (r ∷ at_row id change missing rs)) ≡ false
       go more true is mine rest = append_absent (change r) rs (changes r ((bytes_eq-Decides r.id id).0 is)) rest
       go more false is mine rest = rw mine more
@@ -153,7 +164,8 @@ other_values a s values rows other f = at_fine a.id (more_values s values)
     (record { id = a.id; values = values; count = None; source = Some s; reading = reading_by a } ∷ []) other
     (λ r same. let mine : is_own r.id ≡ false = ap is_own same ∙ other in rw mine refl) (rw other refl) rows f
 
-own_used : (again : Bool) (values : List Text) (rows : List Row) → use_fault again own values rows ≡ [] → Fine rows → Fine (used own values rows)
+own_used : (again : Bool) (values : List Text) (rows : List Row) → use_fault again own values rows ≡ [] → Fine rows →
+    Fine (used own values rows)
 own_used again values rows none f =
     let parts = or_none _ _ none in
     let one = one_value values (one_wanted (length values) parts.0) in
@@ -162,18 +174,22 @@ own_used again values rows none f =
     by : (v : Text) → use_fault again own (v ∷ []) rows ≡ [] → v ∷ [] ≡ values → Fine (used own values rows)
     by v e same =
         let faults = or_none (repeat_fault again own.id rows) (values_fault own (v ∷ [])) e in
-        let passed = passes_if (own_passes v) kind.ValueValidation [] (or_none (value_kinds own.ignore_case (parser_of_value own.parser) v) [] faults.1).0 in
+        let passed = passes_if (own_passes v) kind.ValueValidation []
+        (or_none (value_kinds own.ignore_case (parser_of_value own.parser) v) [] faults.1).0 in
         subst (λ vs. Fine (used own vs rows)) same (added (without own.id rows) CommandLine v (removed rows f) passed)
 
-used_fine : (again : Bool) (a : Rule) (values : List Text) (rows : List Row) → IsKnown a → use_fault again a values rows ≡ [] → Fine rows → Fine (used a values rows)
+used_fine : (again : Bool) (a : Rule) (values : List Text) (rows : List Row) → IsKnown a → use_fault again a values rows ≡ [] →
+    Fine rows → Fine (used a values rows)
 used_fine again a values rows known none f = go (is_own a.id) refl
   where
     go : (b : Bool) → is_own a.id ≡ b → Fine (used a values rows)
     go true is =
         let same = sym (known.same is) in
-        subst (λ r. Fine (used r values rows)) same (own_used again values rows (subst (λ r. use_fault again r values rows ≡ []) (known.same is) none) f)
+        subst (λ r. Fine (used r values rows)) same
+        (own_used again values rows (subst (λ r. use_fault again r values rows ≡ []) (known.same is) none) f)
     go false is = subst (λ x. Fine (used_as x a.id (reading_by a) (values_or_missing a values) rows)) (sym known.set)
-        (other_values a CommandLine (values_or_missing a values) (without a.id rows) is (at_fine a.id (λ _. []) [] is (λ r same. refl) refl rows f))
+        (other_values a CommandLine (values_or_missing a values) (without a.id rows) is
+        (at_fine a.id (λ _. []) [] is (λ r same. refl) refl rows f))
 
 -- ---- the steps of a walk over the words
 
@@ -186,17 +202,20 @@ module _ (s : Shape) (known : (p : Rule → Bool) (a : Rule) → find p s.rules 
       by None values k e = f
       by (Some a) values k e = used_fine s.args_override_self a values h.rows (k a refl) e f
 
-      go : (p : Option (Text × List Text)) → option_map_or (λ q. option_map_or (λ a. use_fault s.args_override_self a q.1 h.rows) (arg_by_id s.rules q.0) []) p [] ≡ []
+      go : (p : Option (Text × List Text)) →
+          option_map_or (λ q. option_map_or (λ a. use_fault s.args_override_self a q.1 h.rows) (arg_by_id s.rules q.0) []) p [] ≡ []
           → Fine (settled_rows s.rules p h.rows)
       go None e = f
       go (Some q) e = by (arg_by_id s.rules q.0) q.1 (λ a found. known _ a found) e
 
-  reacted_fine : (a : Rule) (values : List Text) (h : Held) → IsKnown a → react_fault s.rules s.args_override_self a values h ≡ [] → Fine h.rows → Fine (reacted s.rules a values h).rows
+  reacted_fine : (a : Rule) (values : List Text) (h : Held) → IsKnown a → react_fault s.rules s.args_override_self a values h ≡ [] →
+      Fine h.rows → Fine (reacted s.rules a values h).rows
   reacted_fine a values h k none f =
       let parts = or_none _ _ none in
       used_fine s.args_override_self a values (settled s.rules h).rows k parts.1 (settled_fine h parts.0 f)
 
-  option_fine : (a : Rule) (v : Option Text) (h : Held) → IsKnown a → option_fault s.rules s.args_override_self a v h ≡ [] → Fine h.rows → Fine (option_met s.rules a v h).0.rows
+  option_fine : (a : Rule) (v : Option Text) (h : Held) → IsKnown a → option_fault s.rules s.args_override_self a v h ≡ [] →
+      Fine h.rows → Fine (option_met s.rules a v h).0.rows
   option_fine a (Some v) h k none f = reacted_fine a (v ∷ []) h k none f
   option_fine a None h k none f = settled_fine h none f
 
@@ -205,31 +224,42 @@ module _ (s : Shape) (known : (p : Rule → Bool) (a : Rule) → find p s.rules 
   long_fine None v h k none f = f
   long_fine (Some a) v h k none f = go (takes_values a) v none
     where
-      go : (b : Bool) (w : Option Text) → cond b (option_fault s.rules s.args_override_self a w h) (cond (is_some w) (kind.TooManyValues ∷ []) (react_fault s.rules s.args_override_self a [] h)) ≡ []
+      go : (b : Bool) (w : Option Text) →
+          cond b (option_fault s.rules s.args_override_self a w h)
+          (cond (is_some w) (kind.TooManyValues ∷ []) (react_fault s.rules s.args_override_self a [] h)) ≡ []
           → Fine (cond b (option_met s.rules a w h) (flag_met s.rules a w h)).0.rows
       go true w e = option_fine a w h (k a refl) e f
       go false None e = reacted_fine a [] h (k a refl) e f
       go false (Some w) e = f
 
-  bundle_fine : (n : ℕ) (flags : Text) (skip : ℕ) (so_far : Outcome) (h : Held) → flags_fault s.rules s.args_override_self n flags skip h ≡ [] → Fine h.rows
+  bundle_fine : (n : ℕ) (flags : Text) (skip : ℕ) (so_far : Outcome) (h : Held) →
+      flags_fault s.rules s.args_override_self n flags skip h ≡ [] → Fine h.rows
       → Fine (bundle_met s.rules n flags skip so_far h).0.rows
   unfolding flags_fault bundle_met
   bundle_fine zero flags skip so_far h none f = f
   bundle_fine (suc n) flags skip so_far h none f = go (λ fs k o i e g. bundle_fine n fs k o i e g) (slice_get (chars flags) 0) skip none
     where
-      short : ((fs : Text) (k : ℕ) (o : Outcome) (i : Held) → flags_fault s.rules s.args_override_self n fs k i ≡ [] → Fine i.rows → Fine (bundle_met s.rules n fs k o i).0.rows) → (o : Option Rule) (rest : Text) → ((a : Rule) → o ≡ Some a → IsKnown a)
-          → short_fault s.rules s.args_override_self o rest h (flags_fault s.rules s.args_override_self n rest 0) ≡ [] → Fine (short_met s.rules o rest h (bundle_met s.rules n rest 0 done)).0.rows
+      short : ((fs : Text) (k : ℕ) (o : Outcome) (i : Held) → flags_fault s.rules s.args_override_self n fs k i ≡ [] → Fine i.rows →
+          Fine (bundle_met s.rules n fs k o i).0.rows) → (o : Option Rule) (rest : Text) → ((a : Rule) → o ≡ Some a → IsKnown a)
+          → short_fault s.rules s.args_override_self o rest h (flags_fault s.rules s.args_override_self n rest 0) ≡ [] →
+          Fine (short_met s.rules o rest h (bundle_met s.rules n rest 0 done)).0.rows
       short more None rest k e = f
       short more (Some a) rest k e = by (takes_values a) e
         where
-          by : (b : Bool) → cond b (option_fault s.rules s.args_override_self a (attached_value rest) h) (or_else (react_fault s.rules s.args_override_self a [] h) (flags_fault s.rules s.args_override_self n rest 0 (reacted s.rules a [] h))) ≡ []
-              → Fine (cond b (option_met s.rules a (attached_value rest) h) (bundle_met s.rules n rest 0 done (reacted s.rules a [] h))).0.rows
+          by : (b : Bool) → cond b (option_fault s.rules s.args_override_self a (attached_value rest) h)
+              (or_else (react_fault s.rules s.args_override_self a [] h)
+              (flags_fault s.rules s.args_override_self n rest 0 (reacted s.rules a [] h))) ≡ []
+              → Fine (cond b (option_met s.rules a (attached_value rest) h)
+              (bundle_met s.rules n rest 0 done (reacted s.rules a [] h))).0.rows
           by true e = option_fine a (attached_value rest) h (k a refl) e f
           by false e =
               let parts = or_none _ _ e in
               more rest 0 done (reacted s.rules a [] h) parts.1 (reacted_fine a [] h (k a refl) parts.0 f)
 
-      go : ((fs : Text) (k : ℕ) (o : Outcome) (i : Held) → flags_fault s.rules s.args_override_self n fs k i ≡ [] → Fine i.rows → Fine (bundle_met s.rules n fs k o i).0.rows) → (o : Option ℕ) (k : ℕ) → bundle_step_fault s.rules s.args_override_self o flags k h (flags_fault s.rules s.args_override_self n) ≡ [] → Fine (bundle_step s.rules o flags k so_far h (bundle_met s.rules n)).0.rows
+      go : ((fs : Text) (k : ℕ) (o : Outcome) (i : Held) → flags_fault s.rules s.args_override_self n fs k i ≡ [] → Fine i.rows →
+          Fine (bundle_met s.rules n fs k o i).0.rows) → (o : Option ℕ) (k : ℕ) →
+          bundle_step_fault s.rules s.args_override_self o flags k h (flags_fault s.rules s.args_override_self n) ≡ [] →
+          Fine (bundle_step s.rules o flags k so_far h (bundle_met s.rules n)).0.rows
       go more None k e = f
       go more (Some x) zero e = short more (arg_by_short s.rules x) (drop (length (encode_utf8 x)) flags) (λ a found. known _ a found) e
       go more (Some x) (suc k) e = more (drop (length (encode_utf8 x)) flags) k so_far h e f
@@ -253,18 +283,23 @@ module _ (s : Shape) (known : (p : Rule → Bool) (a : Rule) → find p s.rules 
   fine_as : (a b : List Row) → a ≡ b → Fine b → Fine a
   fine_as a b same f = subst (λ rows. Fine rows) (sym same) f
 
-  flag_word_fine : (w : Waiting) (word : Text) (l : Option (Text × Option Text)) (h : Held) → flag_word_fault s.rules s.args_override_self l word h ≡ [] → Fine h.rows
+  flag_word_fine : (w : Waiting) (word : Text) (l : Option (Text × Option Text)) (h : Held) →
+      flag_word_fault s.rules s.args_override_self l word h ≡ [] → Fine h.rows
       → Fine (long_or_other s.rules w word l h).0.rows
   flag_word_fine w word (Some p) h none f =
-      fine_as _ _ (flag_rows w word (long_met s.rules (arg_by_long s.rules p.0) p.1 h).0 (long_met s.rules (arg_by_long s.rules p.0) p.1 h).1)
+      fine_as _ _
+      (flag_rows w word (long_met s.rules (arg_by_long s.rules p.0) p.1 h).0 (long_met s.rules (arg_by_long s.rules p.0) p.1 h).1)
       (long_fine (arg_by_long s.rules p.0) p.1 h (λ a found. known _ a found) none f)
   flag_word_fine w word None h none f = go (short_of word) none
     where
-      go : (o : Option Text) → option_map_or (λ flags. flags_fault s.rules s.args_override_self (length flags) flags h.skip (record h { skip = 0 })) o [] ≡ []
+      go : (o : Option Text) →
+          option_map_or (λ flags. flags_fault s.rules s.args_override_self (length flags) flags h.skip (record h { skip = 0 })) o [] ≡ []
           → Fine (short_or_plain s.rules w word o h).0.rows
       go None e = fine_as _ _ (plain_rows w word h) f
       go (Some flags) e =
-          fine_as _ _ (flag_rows w word (bundle_met s.rules (length flags) flags h.skip plain (record h { skip = 0 })).0 (bundle_met s.rules (length flags) flags h.skip plain (record h { skip = 0 })).1)
+          fine_as _ _
+          (flag_rows w word (bundle_met s.rules (length flags) flags h.skip plain (record h { skip = 0 })).0
+          (bundle_met s.rules (length flags) flags h.skip plain (record h { skip = 0 })).1)
           (bundle_fine (length flags) flags h.skip plain (record h { skip = 0 }) e f)
 
   no_subcommand : (w : Waiting) (word : Text) → subcommand_met [] w word ≡ None
@@ -277,14 +312,16 @@ module _ (s : Shape) (known : (p : Rule → Bool) (a : Rule) → find p s.rules 
   word_fine true w position word h none f = f
   word_fine false w position word h none f =
       let other : other_fault s None word h ≡ [] = sym (ap (λ o. other_fault s o word h) (no_subcommand w word)) ∙ none in
-      subst (λ o. Fine (subcommand_or_other s.rules o w position word h).0.rows) (sym (no_subcommand w word)) (go (bytes_eq word (45 ∷ 45 ∷ [])) other)
+      subst (λ o. Fine (subcommand_or_other s.rules o w position word h).0.rows) (sym (no_subcommand w word))
+      (go (bytes_eq word (45 ∷ 45 ∷ [])) other)
     where
       go : (b : Bool) → cond b [] (flag_word_fault s.rules s.args_override_self (long_of word) word h) ≡ []
           → Fine (cond b (h, trailing position) (long_or_other s.rules w word (long_of word) h)).0.rows
       go true e = f
       go false e = flag_word_fine w word (long_of word) h e f
 
-  step_fine : (w : Walk) (word : Text) (h : Held) (step : Step) → step_fault s w.position h step ≡ [] → Fine h.rows → Fine (after_step s.rules word w h step).held.rows
+  step_fine : (w : Walk) (word : Text) (h : Held) (step : Step) → step_fault s w.position h step ≡ [] → Fine h.rows →
+      Fine (after_step s.rules word w h step).held.rows
   step_fine w word h (next waiting) none f = f
   step_fine w word h (trailing p) none f = f
   step_fine w word h (subcommand name) none f = f
@@ -294,7 +331,8 @@ module _ (s : Shape) (known : (p : Rule → Bool) (a : Rule) → find p s.rules 
       by true e = f
       by false e = settled_fine h e f
 
-      go : (o : Option Rule) → option_map_or (λ a. positional_fault s.rules s.args_override_self a h) o (stray_fault s) ≡ [] → Fine (to_positional s.rules o word w h).held.rows
+      go : (o : Option Rule) → option_map_or (λ a. positional_fault s.rules s.args_override_self a h) o (stray_fault s) ≡ [] →
+          Fine (to_positional s.rules o word w h).held.rows
       go None e = f
       go (Some a) e = by (is_pending a h.pending && takes_several a) e
 
@@ -302,14 +340,20 @@ module _ (s : Shape) (known : (p : Rule → Bool) (a : Rule) → find p s.rules 
   unfolding walked
   turn_fine w word none f = go w.stopped none
     where
-      go : (o : Option (Text × List Text)) → cond (is_some o) [] (or_else (word_fault s [] w.is_trailing w.waiting word w.held) (step_fault s w.position (word_met s.rules [] w.is_trailing w.waiting w.position word w.held).0 (word_met s.rules [] w.is_trailing w.waiting w.position word w.held).1)) ≡ []
+      go : (o : Option (Text × List Text)) →
+          cond (is_some o) []
+          (or_else (word_fault s [] w.is_trailing w.waiting word w.held)
+          (step_fault s w.position (word_met s.rules [] w.is_trailing w.waiting w.position word w.held).0
+          (word_met s.rules [] w.is_trailing w.waiting w.position word w.held).1)) ≡ []
           → Fine (walked_from s.rules [] o w word).held.rows
       go (Some p) e = f
       go None e =
           let parts = or_none _ _ e in
-          step_fine w word _ (word_met s.rules [] w.is_trailing w.waiting w.position word w.held).1 parts.1 (word_fine w.is_trailing w.waiting w.position word w.held parts.0 f)
+          step_fine w word _ (word_met s.rules [] w.is_trailing w.waiting w.position word w.held).1 parts.1
+          (word_fine w.is_trailing w.waiting w.position word w.held parts.0 f)
 
-  walk_fine : (words : List Text) (w : Walk) → walk_fault s [] w words ≡ [] → Fine w.held.rows → Fine (fold (walked s.rules []) w words).held.rows
+  walk_fine : (words : List Text) (w : Walk) → walk_fault s [] w words ≡ [] → Fine w.held.rows →
+      Fine (fold (walked s.rules []) w words).held.rows
   unfolding walk_fault
   walk_fine [] w none f = f
   walk_fine (word ∷ rest) w none f =
@@ -333,7 +377,8 @@ default_fine a rows known f = go (has_row a.id rows) refl
         by true is =
             let is_same = known.same is in
             let free : has_row own.id rows ≡ false = sym (ap (λ (r : Rule). has_row r.id rows) is_same) ∙ none in
-            subst (λ (r : Rule). Fine (default_rows r.id (reading_by r) r.defaults rows)) (sym is_same) (added rows DefaultValue (codes "1000000") free refl)
+            subst (λ (r : Rule). Fine (default_rows r.id (reading_by r) r.defaults rows)) (sym is_same)
+            (added rows DefaultValue (codes "1000000") free refl)
         by false is = given a.defaults is
 
 own_joins : (rows : List Row) → has_row own.id (with_values own.id (reading_by own) DefaultValue (codes "1000000" ∷ []) rows) ≡ true
@@ -341,14 +386,17 @@ own_joins [] = refl
 own_joins (r ∷ rs) = go (own_joins rs) (is_own r.id) refl
   where
     go : has_row own.id (with_values own.id (reading_by own) DefaultValue (codes "1000000" ∷ []) rs) ≡ true → (b : Bool) → is_own r.id ≡ b
-        → has_row own.id (cond b (more_values DefaultValue (codes "1000000" ∷ []) r ++ rs) (r ∷ with_values own.id (reading_by own) DefaultValue (codes "1000000" ∷ []) rs)) ≡ true
+        → has_row own.id
+        (cond b (more_values DefaultValue (codes "1000000" ∷ []) r ++ rs)
+        (r ∷ with_values own.id (reading_by own) DefaultValue (codes "1000000" ∷ []) rs)) ≡ true
     go more true is = rw is refl
     go more false is = rw is more
 
 own_there : (rows : List Row) → has_row own.id (with_default rows own) ≡ true
 own_there rows = go (has_row own.id rows) refl
   where
-    go : (b : Bool) → has_row own.id rows ≡ b → has_row own.id (cond b rows (with_values own.id (reading_by own) DefaultValue (codes "1000000" ∷ []) rows)) ≡ true
+    go : (b : Bool) → has_row own.id rows ≡ b →
+        has_row own.id (cond b rows (with_values own.id (reading_by own) DefaultValue (codes "1000000" ∷ []) rows)) ≡ true
     go true there = there
     go false none = own_joins rows
 
@@ -358,7 +406,8 @@ own_found : (rows : List Row) → Fine rows → has_row own.id rows ≡ true →
 own_found [] f there = absurd (true≢false (sym there))
 own_found (r ∷ rs) f there = go (λ h e. own_found rs h e) (is_own r.id) f there
   where
-    go : (Fine rs → has_row own.id rs ≡ true → IsBudget (one_of own.id rs)) → (b : Bool) → FineBy b r rs (Fine rs) → (b || has_row own.id rs) ≡ true → IsBudget (option_and_then row_text (cond b (Some r) (find (λ q. is_own q.id) rs)))
+    go : (Fine rs → has_row own.id rs ≡ true → IsBudget (one_of own.id rs)) → (b : Bool) → FineBy b r rs (Fine rs) →
+        (b || has_row own.id rs) ≡ true → IsBudget (option_and_then row_text (cond b (Some r) (find (λ q. is_own q.id) rs)))
     go more true h e =
         let p = h.0 in
         let text : row_text r ≡ Some (without_minus p.given) = rw (p.one, p.read) refl in
@@ -443,7 +492,8 @@ abbrev pub built_sub : App → Shape
 built_sub a = built_leaf (inherited (with_leaf_noted (marked_built app.top)) a.top)
 
 -- the rows with the defaults of the four arguments of a run
-complete : (name : Text) (rows : List Row) → Fine rows → IsBudget (one_of (codes "budget") (fold with_default rows (built_sub (run_named name)).rules))
+complete : (name : Text) (rows : List Row) → Fine rows →
+    IsBudget (one_of (codes "budget") (fold with_default rows (built_sub (run_named name)).rules))
 complete name rows f =
     let source = with_index 1 (filled (required_word (codes "source"))) in
     let nodes = with_index 2 (filled (required_word (codes "nodes"))) in
@@ -476,6 +526,7 @@ budget_found words name rows is_run none found =
     takes : RunsTake (built app).subs
     takes = (λ is. run_takes (codes "run"), (λ is. absurd (check_is_no_run is), (λ is. run_takes (codes "mean"), tt)))
 
-    go : (stop : Option (Text × List Text)) → entered_fault (built app) stop ≡ [] → entered (built app) stop ≡ Some (name, rows) → IsBudget (one_of (codes "budget") rows)
+    go : (stop : Option (Text × List Text)) → entered_fault (built app) stop ≡ [] → entered (built app) stop ≡ Some (name, rows) →
+        IsBudget (one_of (codes "budget") rows)
     go None e f = let bad : ⊥ = cc in absurd bad
     go (Some p) e f = among_found p.1 name rows is_run (λ s. answers_to p.0 (label_of s)) (built app).subs takes e f

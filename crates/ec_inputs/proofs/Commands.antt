@@ -6,7 +6,8 @@ use Rattle.std.specs.Box.{box_value}
 use Rattle.clap.specs.Faults.{check_fault, defaults_fault, entered_fault, level_fault, settle_fault, walk_fault}
 use Rattle.clap.specs.Simple.{Shape, argument_words, built, entered, names_of, rows_at}
 use Rattle.clap.specs.Walk.{Held, Names, answers_to, finished, nothing_held, settled, stop_after, walk, walk_from}
-use Rattle.clap.specs.Words.{App, Row, Text, Kinds, IsAmong, fault_of, is_simple, is_simple_and_free, one_of, subcommand_of, subcommand_rows_of, subcommand_rows, subcommand_name_of}
+use Rattle.clap.specs.Words.{App, Row, Text, Kinds, IsAmong, fault_of, is_simple, is_simple_and_free, one_of, subcommand_of}
+use Rattle.clap.specs.Words.{subcommand_rows_of, subcommand_rows, subcommand_name_of}
 use Rattle.clap.specs.declared.error.ErrorKind.{ErrorKind}
 use Rattle.clap.specs.declared.error.ErrorKind.TheVariants as kinds
 use Rattle.clap.specs.declared.parser.matches.ArgMatches.{ArgMatches}
@@ -27,7 +28,8 @@ none_left [] k o h = absurd h
 none_left (x ∷ found) k o h = refl
 
 -- clap refuses the words
-pub refused : (a : App) (ws : List Text) (k : ErrorKind) → a ≡ app → (is_simple_and_free a ≡ true → (k ≡ kinds.OutOfMemory) ⊎ IsAmong k (fault_of a ws))
+pub refused : (a : App) (ws : List Text) (k : ErrorKind) → a ≡ app →
+    (is_simple_and_free a ≡ true → (k ≡ kinds.OutOfMemory) ⊎ IsAmong k (fault_of a ws))
     → (k ≡ kinds.OutOfMemory → ⊥) → WordsOf ws ≡ None
 unfolding WordsOf
 refused a ws k e h n = elim (h (ap is_simple_and_free e ∙ simple)) [
@@ -36,7 +38,8 @@ refused a ws k e h n = elim (h (ap is_simple_and_free e ∙ simple)) [
 ]
 
 -- clap takes the words
-pub answered : (a : App) (ws : List Text) (found : Option (Text × List Row)) → a ≡ app → (is_simple_and_free a ≡ true → fault_of a ws ≡ []) → found ≡ subcommand_of a ws
+pub answered : (a : App) (ws : List Text) (found : Option (Text × List Row)) → a ≡ app →
+    (is_simple_and_free a ≡ true → fault_of a ws ≡ []) → found ≡ subcommand_of a ws
     → WordsOf ws ≡ option_and_then command_of found
 unfolding WordsOf
 answered a ws found e h f =
@@ -50,14 +53,16 @@ found_budget a ws name rows is_run e h f =
     budget_found ws name rows is_run (ap (λ b. fault_of b ws) (sym e) ∙ h (ap is_simple_and_free e ∙ simple))
     (ap (λ b. subcommand_of b ws) (sym e) ∙ sym f)
 
-pub pairs : {A B : Type 0} (o : Option (A × B)) (a : A) (b : B) → option_map (λ p. p.0) o ≡ Some a → option_map (λ p. p.1) o ≡ Some b → o ≡ Some (a, b)
+pub pairs : {A B : Type 0} (o : Option (A × B)) (a : A) (b : B) → option_map (λ p. p.0) o ≡ Some a →
+    option_map (λ p. p.1) o ≡ Some b → o ≡ Some (a, b)
 pairs None a b e f = cc
 pairs (Some p) a b e f = let x : p.0 ≡ a = cc in let y : p.1 ≡ b = cc in ap₂ (λ u v. Some (u, v)) x y
 
 pub names : (m : ArgMatches) → option_map (λ p. p.0) (subcommand_rows_of m) ≡ subcommand_name_of m
 names m = go (out-ArgMatches m).subcommand
   where
-    go : {Z : Type 0} (o : Option (Box SubCommand Z)) → option_map (λ p. p.0) (subcommand_rows o) ≡ option_map (λ b. (out-SubCommand (box_value b)).name.now) o
+    go : {Z : Type 0} (o : Option (Box SubCommand Z)) →
+        option_map (λ p. p.0) (subcommand_rows o) ≡ option_map (λ b. (out-SubCommand (box_value b)).name.now) o
     go None = refl
     go (Some b) = refl
 
@@ -87,7 +92,8 @@ named None e = e
 named (Some p) e = go (answers_to p.0 (codes "run", [])) (answers_to p.0 (codes "check", [])) (answers_to p.0 (codes "mean", [])) e
   where
     found : Bool → Bool → Bool → Option (Text × List Row)
-    found a b d = option_map (λ s. rows_at s p.1) (cond a (Some (built_sub run)) (cond b (Some (built_sub check)) (cond d (Some (built_sub mean)) None)))
+    found a b d = option_map (λ s. rows_at s p.1)
+        (cond a (Some (built_sub run)) (cond b (Some (built_sub check)) (cond d (Some (built_sub mean)) None)))
 
     go : (a b d : Bool) → is_some (found a b d) ≡ true → is_some (option_and_then command_of (found a b d)) ≡ true
     go true b d h = refl

@@ -1,5 +1,6 @@
 -- Lines, and the entries of lines when those of the first ones are known.
-use Rattle.std.proofs.Common.{◌≡◌, refl, ap, ◌∙◌, sym, ◌+◌, ◌-◌, ◌==◌, ◌<◌, ◌≤◌, ℕ, Bool, true, false, not, cond, List, [], ◌∷◌, ◌++◌, length, take, drop, arith, length-drop}
+use Rattle.std.proofs.Common.{◌≡◌, refl, ap, ◌∙◌, sym, ◌+◌, ◌-◌, ◌==◌, ◌<◌, ◌≤◌, ℕ, Bool, true, false, not, cond, List, [], ◌∷◌}
+use Rattle.std.proofs.Common.{◌++◌, length, take, drop, arith, length-drop}
 use Rattle.std.specs.Prelude.{Result, Ok, Err}
 use Rattle.std.specs.List.{slice_split, onto_first, position_or_len}
 use Rattle.std.specs.Str.Lines.{lines, lines_of_parts, strip_carriage_return}
@@ -56,7 +57,8 @@ with_part line more = go (slice_split is_feed more) (some more)
 pub line_before_feed : (bytes : Text) (k : ℕ) → k ≡ position_or_len is_feed bytes → k < length bytes →
     lines bytes ≡ strip_carriage_return (take k bytes) ∷ lines (take (length bytes - (k + 1)) (drop (k + 1) bytes))
 line_before_feed bytes k e h =
-    let first : slice_split is_feed bytes ≡ take k bytes ∷ slice_split is_feed (drop (k + 1) bytes) = rw e (slice_split_first is_feed bytes 0 (rw e at h)) in
+    let first : slice_split is_feed bytes ≡ take k bytes ∷ slice_split is_feed (drop (k + 1) bytes) =
+    rw e (slice_split_first is_feed bytes 0 (rw e at h)) in
     ap lines_of_parts first ∙ (with_part (take k bytes) (drop (k + 1) bytes)
     ∙ ap (λ rest. strip_carriage_return (take k bytes) ∷ lines rest) (sym (rest_taken (k + 1) bytes)))
 

@@ -1,5 +1,6 @@
 -- A number that is too large shows at the first digit that makes it so.
-use Rattle.std.proofs.Common.{◌≡◌, refl, ◌<◌, ◌≤◌, ◌+◌, ◌-◌, ◌*◌, ◌&&◌, ℕ, Bool, true, false, [], ◌∷◌, length, drop, zero, suc, None, arith, drop-cons}
+use Rattle.std.proofs.Common.{◌≡◌, refl, ◌<◌, ◌≤◌, ◌+◌, ◌-◌, ◌*◌, ◌&&◌, ℕ, Bool, true, false, [], ◌∷◌, length, drop, zero, suc}
+use Rattle.std.proofs.Common.{None, arith, drop-cons}
 use Rattle.std.specs.Prelude.{slice_index, nat_le}
 use Rattle.std.specs.Char.{digit_value, is_ascii_digit}
 use Rattle.std.specs.List.{list_all}
@@ -30,10 +31,12 @@ large ds h =
     rw e refl
 
 -- v is the number of the digits before place i
-pub past : (ds : Text) (v i : ℕ) → i < length ds → list_all is_ascii_digit ds ≡ true → digits_value_after 10 v (drop i ds) ≡ digits_value 10 ds
+pub past : (ds : Text) (v i : ℕ) → i < length ds → list_all is_ascii_digit ds ≡ true →
+    digits_value_after 10 v (drop i ds) ≡ digits_value 10 ds
     → 4294967295 < v * 10 + (slice_index ds i - 48) → None ≡ small_number ds
 past ds v i within digits so_far above =
     let here : digit_value (slice_index ds i) ≡ slice_index ds i - 48 = digit_minus _ (digit_at ds i within digits) in
-    let all : digits_value_after 10 (v * 10 + digit_value (slice_index ds i)) (drop (suc i) ds) ≡ digits_value 10 ds = rw (drop-cons ds i 0 within) at so_far in
+    let all : digits_value_after 10 (v * 10 + digit_value (slice_index ds i)) (drop (suc i) ds) ≡ digits_value 10 ds =
+    rw (drop-cons ds i 0 within) at so_far in
     let more = grows (v * 10 + digit_value (slice_index ds i)) (drop (suc i) ds) in
     large ds (omega arith)

@@ -1,5 +1,6 @@
 -- A node file that is read has one node, a RISC-V node whose sizes are within the limits.
-use Rattle.std.proofs.Common.{◌≡◌, refl, ℕ, ◌≤◌, Bool, true, false, ◌==◌, List, [], ◌∷◌, length, Option, Some, None, subst, arith, codes, if◌then◌else◌}
+use Rattle.std.proofs.Common.{◌≡◌, refl, ℕ, ◌≤◌, Bool, true, false, ◌==◌, List, [], ◌∷◌, length, Option, Some, None, subst, arith}
+use Rattle.std.proofs.Common.{codes, if◌then◌else◌}
 use Rattle.std.specs.Prelude.{ℤ, pos, negsuc, Result, Ok, nat_le, option_map, option_and_then}
 use Rattle.std.specs.List.{list_all}
 use Rattle.std.specs.Str.{bytes_eq}
@@ -10,7 +11,9 @@ use Rattle.ec_world.specs.declared.node.Kind.TheVariants.{Riscv}
 use Rattle.ec_world.specs.declared.node.NodeSpec.{NodeSpec}
 use Rattle.ec_inputs.specs.declared.nodes.NodeRule.{NodeRule}
 use Rattle.ec_inputs.specs.declared.nodes.NodeRule.TheVariants as rule
-use Rattle.ec_inputs.specs.Nodes.{Text, NodesOf, nodes_of, nodes_by, nodes_in, node_of, number_at, whole, kind_of, string_at, tables_of, tables_in, counted, is_fit_count, key_count, document_of, has_keys, have_names, have_kinds, holds, given, ◌>>=◌, longest, most_blocks, most_text}
+use Rattle.ec_inputs.specs.Nodes.{Text, NodesOf, nodes_of, nodes_by, nodes_in, node_of, number_at, whole, kind_of, string_at}
+use Rattle.ec_inputs.specs.Nodes.{tables_of, tables_in, counted, is_fit_count, key_count, document_of, has_keys, have_names}
+use Rattle.ec_inputs.specs.Nodes.{have_kinds, holds, given, ◌>>=◌, longest, most_blocks, most_text}
 
 -- a RISC-V node whose blocks and text are within the limits
 pub record IsSized (spec : NodeSpec) : Type 0 where
@@ -26,7 +29,8 @@ pub record IsOne (specs : List NodeSpec) : Type 0 where
 
 -- ---- one step of a chain
 
-then_some : {A B : Type 0} (f : A → Option B) (o : Option A) (b : B) → option_and_then f o ≡ Some b → (a : A) × (o ≡ Some a) × (f a ≡ Some b)
+then_some : {A B : Type 0} (f : A → Option B) (o : Option A) (b : B) → option_and_then f o ≡ Some b →
+    (a : A) × (o ≡ Some a) × (f a ≡ Some b)
 then_some f (Some a) b e = (a, refl, e)
 then_some f None b e = let bad : ⊥ = cc in absurd bad
 
@@ -42,7 +46,8 @@ given_ok : {A : Type 0} (r : NodeRule) (o : Option A) (x : A) → given r o ≡ 
 given_ok r (Some a) x e = cc
 given_ok r None x e = let bad : ⊥ = cc in absurd bad
 
-given_then : {A B : Type 0} (r : NodeRule) (o : Option A) (f : A → Result B NodeRule) (x : B) → (given r o >>= f) ≡ Ok x → (a : A) × (o ≡ Some a) × (f a ≡ Ok x)
+given_then : {A B : Type 0} (r : NodeRule) (o : Option A) (f : A → Result B NodeRule) (x : B) → (given r o >>= f) ≡ Ok x →
+    (a : A) × (o ≡ Some a) × (f a ≡ Ok x)
 given_then r (Some a) f x e = (a, refl, e)
 given_then r None f x e = let bad : ⊥ = cc in absurd bad
 
@@ -88,7 +93,8 @@ node_sized t spec e =
 one_in : (t : Members) (specs : List NodeSpec) → nodes_in (t ∷ []) ≡ Some specs → IsOne specs
 one_in t specs e = go (node_of t) refl e
   where
-    go : (o : Option NodeSpec) → node_of t ≡ o → option_and_then (λ node. option_map (λ nodes. node ∷ nodes) (Some [])) o ≡ Some specs → IsOne specs
+    go : (o : Option NodeSpec) → node_of t ≡ o →
+        option_and_then (λ node. option_map (λ nodes. node ∷ nodes) (Some [])) o ≡ Some specs → IsOne specs
     go (Some spec) h k = record { spec = spec; one = cc; sized = node_sized t spec h }
     go None h k = let bad : ⊥ = cc in absurd bad
 
@@ -106,7 +112,10 @@ one_table : (document : Members) (ts : List Members) → tables_of document ≡ 
 unfolding tables_of
 one_table document ts e = go (key_count document == 1) e
   where
-    go : (b : Bool) → (if b then option_and_then counted (option_and_then tables_in (option_and_then as_array (get_member (codes "node") document))) else None) ≡ Some ts → (t : Members) × (ts ≡ t ∷ [])
+    go : (b : Bool) →
+        (if b then option_and_then counted
+        (option_and_then tables_in (option_and_then as_array (get_member (codes "node") document))) else None) ≡ Some ts →
+        (t : Members) × (ts ≡ t ∷ [])
     go true h =
         let found = then_some counted (option_and_then tables_in (option_and_then as_array (get_member (codes "node") document))) ts h in
         one_counted found.0 ts found.2

@@ -1,5 +1,6 @@
 -- What a node file says.
-use Rattle.std.specs.Prelude.{ℕ, ℤ, pos, negsuc, ◌+◌, ◌==◌, ◌&&◌, nat_le, not, Bool, true, false, List, [], ◌∷◌, length, Option, Some, None, is_some, unwrap_or, option_map, option_and_then, Result, Ok, Err, codes, if◌then◌else◌}
+use Rattle.std.specs.Prelude.{ℕ, ℤ, pos, negsuc, ◌+◌, ◌==◌, ◌&&◌, nat_le, not, Bool, true, false, List, [], ◌∷◌, length, Option}
+use Rattle.std.specs.Prelude.{Some, None, is_some, unwrap_or, option_map, option_and_then, Result, Ok, Err, codes, if◌then◌else◌}
 use Rattle.std.specs.List.{list_all, list_any}
 use Rattle.std.specs.Char.{is_ascii_alphanumeric}
 use Rattle.std.specs.Str.{bytes_eq, is_utf8}
@@ -122,7 +123,8 @@ have_kinds ts = list_all (λ t. is_some (kind_of t)) ts
 -- the node of a table
 unfoldable pub node_of : Members → Option NodeSpec
 node_of t =
-    option_and_then (λ kind. option_and_then (λ blocks. option_map (λ text. record { name = name_of t; kind = kind; blocks = blocks; text = text })
+    option_and_then
+    (λ kind. option_and_then (λ blocks. option_map (λ text. record { name = name_of t; kind = kind; blocks = blocks; text = text })
     (number_at (codes "text") most_text t)) (number_at (codes "blocks") most_blocks t)) (kind_of t)
 
 -- the nodes of the tables, unless a table has none

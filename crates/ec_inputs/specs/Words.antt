@@ -3,7 +3,8 @@ use Rattle.std.specs.Prelude.{ℕ, true, List, [], ◌∷◌, Option, Some, None
 use Rattle.std.specs.Prelude.{if◌then◌else◌, ◌≤◌, ◌≡◌}
 use Rattle.std.specs.Str.{bytes_eq}
 use Rattle.std.specs.Str.Parse.{digits_value, without_leading_plus}
-use Rattle.clap.specs.Words.{App, Shape, Row, Rule, Text, Kinds, new_app, new_rule, with_rule, with_subcommand, first_of, one_of, subcommand_of, fault_of}
+use Rattle.clap.specs.Words.{App, Shape, Row, Rule, Text, Kinds, new_app, new_rule, with_rule, with_subcommand, first_of, one_of}
+use Rattle.clap.specs.Words.{subcommand_of, fault_of}
 use Rattle.clap.specs.Lexer.{without_minus}
 use Rattle.clap.specs.Values.{IsSignedIn}
 use Rattle.clap.specs.Simple.{on_top}
@@ -46,7 +47,8 @@ mean = run_named (codes "mean")
 
 -- no help and no version, and one of the subcommands has to be there
 abbrev pub without_help : Shape → Shape
-without_help s = record s { disable_help_flag = true; disable_help_subcommand = true; disable_version_flag = true; subcommand_required = true }
+without_help s = record s
+    { disable_help_flag = true; disable_help_subcommand = true; disable_version_flag = true; subcommand_required = true }
 
 abbrev pub app : App
 app = with_subcommand (with_subcommand (with_subcommand (on_top without_help (new_app (codes "emerald"))) run.top) check.top) mean.top

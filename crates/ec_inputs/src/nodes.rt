@@ -1,5 +1,6 @@
 //! Node files, read by `toml`.
-ghost use Rattle.std.specs.Prelude.{◌≡◌, ◌&&◌, IfOk, IfErr, map, option_map, option_and_then, length, codes, Some, None, is_some, Ok, Err, pos};
+ghost use Rattle.std.specs.Prelude.{◌≡◌, ◌&&◌, IfOk, IfErr, map, option_map, option_and_then, length, codes, Some, None, is_some};
+ghost use Rattle.std.specs.Prelude.{Ok, Err, pos};
 ghost use Rattle.std.specs.List.{list_all};
 ghost use Rattle.std.specs.Char.{is_ascii_alphanumeric};
 ghost use Rattle.toml.specs.Data.{get_member, as_array, Members};

@@ -67,13 +67,29 @@ module _ (c : Common) (who : Who) (plain : ArePlain c.classes) where
 
   pub return_outcome : outcome_of c who (Return true) [] ≡ Some (c, only (Leaves (Some (Ref who.own))))
   return_outcome =
-      ap (λ (inside : Bool). Some (return_done c who (Some (Ref who.own)) inside (section_on who.own (section_in (class_record (sight_of c) who.own))))) outside
+      ap (λ (inside : Bool). Some
+      (return_done c who (Some (Ref who.own)) inside (section_on who.own (section_in (class_record (sight_of c) who.own))))) outside
       ∙ ap (λ (section : Option ℕ). Some (return_done c who (Some (Ref who.own)) false (section_on who.own section))) no_section
 
   abbrev made_if : ℕ → ClassRec → List Value → Bool → Acted
-  made_if i k given b = Some (with_object c who (record { class = Made i; fields = new_fields given k.fields; fixed = false; monitor = if b then Some (made (replicate k.conditions [])) else None }), only (Calls k.initial (suc (length c.objects)) []))
+  made_if i k given b = Some (
+    with_object c who
+        (record {
+          class = Made i;
+          fields = new_fields given k.fields;
+          fixed = false;
+          monitor =
+              if b then Some (made (replicate k.conditions [])) else None;
+        }),
+    only (Calls k.initial (suc (length c.objects)) []),
+  )
 
-  pub new_outcome : (i : ℕ) (k : ClassRec) (given : List Value) → slice_get c.classes i ≡ Some k → outcome_of c who (New (Made i)) given ≡ Some (with_object c who (record { class = Made i; fields = new_fields given k.fields; fixed = false; monitor = None }), only (Calls k.initial (suc (length c.objects)) []))
+  pub new_outcome : (i : ℕ) (k : ClassRec) (given : List Value) → slice_get c.classes i ≡ Some k →
+      outcome_of c who (New (Made i)) given ≡ Some (
+        with_object c who (record { class = Made i; fields = new_fields given k.fields; fixed = false; monitor = None }),
+        only
+            (Calls k.initial (suc (length c.objects)) []),
+      )
   new_outcome i k given e =
       ap (λ (r : Option ClassRec). acted_if c who (new_asks (Made i) given r)) e
       ∙ ap (λ (r : Option ClassRec). Some (made_object c who (Made i) given r)) e

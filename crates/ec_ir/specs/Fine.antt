@@ -1,5 +1,6 @@
 -- What a program of three-address code keeps.
-use Rattle.std.specs.Prelude.{◌≡◌, ℕ, zero, suc, ◌+◌, ◌^◌, ◌<◌, ◌≤◌, ◌⊎◌, Bool, true, false, List, [], ◌∷◌, ◌++◌, length, drop, Option, Some, None, slice_get}
+use Rattle.std.specs.Prelude.{◌≡◌, ℕ, zero, suc, ◌+◌, ◌^◌, ◌<◌, ◌≤◌, ◌⊎◌, Bool, true, false, List, [], ◌∷◌, ◌++◌, length, drop}
+use Rattle.std.specs.Prelude.{Option, Some, None, slice_get}
 use Rattle.ec_world.specs.declared.value.Value.{Value}
 use Rattle.ec_world.specs.declared.value.Value.TheVariants.{Int, Str, Ref, Nil, Bool as Truth}
 use Rattle.ec_world.specs.declared.value.ValueType.{ValueType}
@@ -49,7 +50,8 @@ AreVariables vars (x ∷ xs) = (x < length vars) × AreVariables vars xs
 -- a creation gives no field so far, and its class has none
 abbrev pub FineNew : List ClassRec → List ValueType → ClassNo → List ℕ → Option ℕ → Type 0
 FineNew classes vars (Made k) xs into =
-    (c : ClassRec) × (slice_get classes k ≡ Some c) × (c.fields ≡ []) × (xs ≡ []) × ((t : ℕ) × (into ≡ Some t) × (slice_get vars t ≡ Some Reference))
+    (c : ClassRec) × (slice_get classes k ≡ Some c) × (c.fields ≡ []) × (xs ≡ [])
+    × ((t : ℕ) × (into ≡ Some t) × (slice_get vars t ≡ Some Reference))
 FineNew classes vars Node xs into = ⊥
 FineNew classes vars Program xs into = ⊥
 FineNew classes vars (Vector of) xs into = ⊥
@@ -134,16 +136,19 @@ abbrev pub code_size : List Operation → ℕ
 code_size [] = 0
 code_size (o ∷ os) = length o.code + code_size os
 
-pub record FineOperation (classes : List ClassRec) (globals : List ValueType) (literals : List (List ℕ)) (n : ℕ) (o : Operation) : Type 0 where
+pub record FineOperation (classes : List ClassRec) (globals : List ValueType) (literals : List (List ℕ)) (n : ℕ) (o : Operation) :
+    Type 0 where
   -- it begins with its one entry stop
-  pub entry : (s : StopRec) × (slice_get o.stops 0 ≡ Some s) × (s.stop ≡ Entry) × (s.place ≡ 0) × (s.live ≡ []) × (slice_get o.code 0 ≡ Some (Rest 0))
+  pub entry : (s : StopRec) × (slice_get o.stops 0 ≡ Some s) × (s.stop ≡ Entry) × (s.place ≡ 0) × (s.live ≡ [])
+      × (slice_get o.code 0 ≡ Some (Rest 0))
   pub one_entry : (i : ℕ) (s : StopRec) → slice_get o.stops i ≡ Some s → s.stop ≡ Entry → i ≡ 0
   pub code : (p : ℕ) (i : IrOp) → slice_get o.code p ≡ Some i → FineOp literals o p i
   -- each stop stands at its place, with fitting operands, and its live list covers what is read behind it
   pub placed : (i : ℕ) (s : StopRec) → slice_get o.stops i ≡ Some s → slice_get o.code s.place ≡ Some (Rest i)
   pub stops : (i : ℕ) (s : StopRec) → slice_get o.stops i ≡ Some s → FineStop classes globals n o.variables s.stop s.operands s.into
   pub live : (i : ℕ) (s : StopRec) → slice_get o.stops i ≡ Some s → AreVariables o.variables s.live
-  pub covered : (i : ℕ) (s : StopRec) → slice_get o.stops i ≡ Some s → GoesOn s.stop (Covers o.stops (s.live ++ one_of s.into) (drop (s.place + 1) o.code))
+  pub covered : (i : ℕ) (s : StopRec) → slice_get o.stops i ≡ Some s →
+      GoesOn s.stop (Covers o.stops (s.live ++ one_of s.into) (drop (s.place + 1) o.code))
   -- each variable has a slot
   pub few : length o.variables ≤ 100
 
@@ -156,7 +161,8 @@ pub record FineClass (operations : ℕ) (c : ClassRec) : Type 0 where
   pub process : c.process ≡ None
 
 pub record Fine (program : Parts) : Type 0 where
-  pub operations : (n : ℕ) (o : Operation) → slice_get program.operations n ≡ Some o → FineOperation program.classes program.globals program.literals n o
+  pub operations : (n : ℕ) (o : Operation) → slice_get program.operations n ≡ Some o →
+      FineOperation program.classes program.globals program.literals n o
   pub first : 0 < length program.operations
   pub classes : (k : ℕ) (c : ClassRec) → slice_get program.classes k ≡ Some c → FineClass (length program.operations) c
   -- each literal stands once, the empty text among them

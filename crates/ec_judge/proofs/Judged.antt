@@ -19,7 +19,8 @@ use Rattle.ec_rules.proofs.Noted.{noted_joined}
 
 -- ---- a part begins and ends
 
-module _ (w end : Walk) (x : Expression) (needed : Bool) (e : end ≡ over_layer needed (walk_of w.scope (begun w.faults) w.uses) (layer_of x)) where
+module _ (w end : Walk) (x : Expression) (needed : Bool)
+    (e : end ≡ over_layer needed (walk_of w.scope (begun w.faults) w.uses) (layer_of x)) where
   pub looked_clean : end.faults.is_clean ≡ is_clean (faults_of needed w.scope (layer_of x))
   unfolding walked
   looked_clean = ap (λ (t : Walk). t.faults.is_clean) e

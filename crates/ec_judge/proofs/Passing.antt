@@ -24,7 +24,8 @@ use Rattle.ec_rules.specs.declared.judged.Judged.{Judged}
 
 -- ---- a call
 
-module _ (w v : Walk) (p : Passed) (name : Name) (arguments : List Part) (found : List Judged) (e : v ≡ over_parts w arguments) (f : found ≡ values_in w.scope arguments) where
+module _ (w v : Walk) (p : Passed) (name : Name) (arguments : List Part) (found : List Judged) (e : v ≡ over_parts w arguments)
+    (f : found ≡ values_in w.scope arguments) where
   pub call_value : call_found v.scope p name found ≡ link_found w.scope p (call name arguments)
   unfolding walked
   call_value = ap (λ (t : Walk). call_found t.scope p name found) e ∙ ap (call_found w.scope p name) f
@@ -42,7 +43,8 @@ module _ (w v : Walk) (p : Passed) (name : Name) (arguments : List Part) (found 
 
 -- ---- an index
 
-module _ (w v : Walk) (p : Passed) (number : Part) (at : Span) (found : Judged) (e : v ≡ over_part w number) (f : found ≡ value_in w.scope number) where
+module _ (w v : Walk) (p : Passed) (number : Part) (at : Span) (found : Judged) (e : v ≡ over_part w number)
+    (f : found ≡ value_in w.scope number) where
   pub index_value : index_found v.scope p found ≡ link_found w.scope p (index number at)
   unfolding walked
   index_value = ap (λ (t : Walk). index_found t.scope p found) e ∙ ap (index_found w.scope p) f
@@ -71,7 +73,8 @@ passed_value w end needed p l linked clean f e c =
 
 -- ---- all links
 
-module _ (w next : Walk) (needed now : Bool) (p q : Passed) (xs : List Link) (i : ℕ) (x : Link) (lt : i < length xs) (is : x ≡ get_or xs i x)
+module _ (w next : Walk) (needed now : Bool) (p q : Passed) (xs : List Link) (i : ℕ) (x : Link) (lt : i < length xs)
+    (is : x ≡ get_or xs i x)
     (n : now ≡ (needed || not (is_last (map link_of (drop (i + 1) xs))))) where
   abbrev rest : List LinkPart
   rest = map link_of (drop (i + 1) xs)

@@ -56,7 +56,8 @@ result_declared scope inner entry of ps p i t e =
 
 -- ---- bodies
 
-module _ (scope enter leave : Scope) (heading : Heading) (body : Body) (members : List MemberPart) (names fields : List Entry) (named typed : Object)
+module _ (scope enter leave : Scope) (heading : Heading) (body : Body) (members : List MemberPart) (names fields : List Entry)
+    (named typed : Object)
     (m : members ≡ members_of (holder_of heading body))
     (n : names ≡ map (λ p. constant_entry p.name None) heading.parameters.now ++ each field_names_in members)
     (o : named ≡ object_with scope heading members names) (e : enter ≡ within scope named)

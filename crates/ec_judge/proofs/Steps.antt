@@ -237,7 +237,8 @@ pub name_walk : (needed : Bool) (w : Walk) (name : Name) →
     ≡ over_layer needed w (Expression-F.Expression::Variable name)
 name_walk needed w name = same_walked w _ _ _ _ (simp append-nil refl) refl
 
-module _ (w v : Walk) (x : Expression) (head : Judged) (needed : Bool) (e : v ≡ over_part w (part_of x)) (h : head ≡ value_in w.scope (part_of x)) where
+module _ (w v : Walk) (x : Expression) (head : Judged) (needed : Bool) (e : v ≡ over_part w (part_of x))
+    (h : head ≡ value_in w.scope (part_of x)) where
   abbrev first : Judged
   first = value_in w.scope (part_of x)
 
@@ -357,7 +358,8 @@ module _ (w v : Walk) (p : Part) (of : TypeName) (at : Span) (found : Judged) (e
 
 -- ---- arms
 
-module _ (w v : Walk) (arm : Arm) (found : Judged) (e : v ≡ over_part w (part_of (out-Arm arm).condition)) (f : found ≡ value_in w.scope (part_of (out-Arm arm).condition)) where
+module _ (w v : Walk) (arm : Arm) (found : Judged) (e : v ≡ over_part w (part_of (out-Arm arm).condition))
+    (f : found ≡ value_in w.scope (part_of (out-Arm arm).condition)) where
   pub arm_walked : (end : Walk) (faults : Faults) → faults ≡ noted v.faults (wants wanted.Boolean found) →
       end ≡ over_finished (walk_of v.scope faults v.uses) (block_of (out-Arm arm).block v.scope) →
       end ≡ over_finished w (piece_of_arm (arm_of arm) w.scope)

@@ -7,7 +7,8 @@ use Rattle.ec_judge.specs.Walks.{walked}
 use Rattle.ec_judge.specs.declared.links.Linked.{Linked}
 use Rattle.ec_judge.specs.declared.links.Passed.{Passed as PassedLent}
 use Rattle.ec_judge.specs.declared.walk.Looked.{Looked}
-use Rattle.ec_rules.specs.Calls.{Receiver, Creation, Own, Typed, receiver_seen, callee, faults_of_head, faults_of_link, is_last, link_parts, receiver, receiver_of_form, result_of, type_indexed, type_of_receiver, type_unless}
+use Rattle.ec_rules.specs.Calls.{Receiver, Creation, Own, Typed, receiver_seen, callee, faults_of_head, faults_of_link, is_last}
+use Rattle.ec_rules.specs.Calls.{link_parts, receiver, receiver_of_form, result_of, type_indexed, type_of_receiver, type_unless}
 use Rattle.ec_rules.specs.Forms.{Form}
 use Rattle.ec_rules.specs.Heights.{stacked}
 use Rattle.ec_rules.specs.Judging.{uses_of_head}
@@ -62,7 +63,8 @@ head scope part links = record {
 
 abbrev pub over_head : Walk → Part → List LinkPart → Walk
 over_head walk part links =
-    walked walk (faults_of_head walk.scope (receiver walk.scope part links) part) (uses_of_head walk.scope (receiver walk.scope part links) part)
+    walked walk (faults_of_head walk.scope (receiver walk.scope part links) part)
+    (uses_of_head walk.scope (receiver walk.scope part links) part)
 
 -- ---- a link
 

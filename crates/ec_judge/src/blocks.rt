@@ -188,7 +188,8 @@ pub fn constant_conforms(
     form: Form<'_>,
     value: &Judged,
 ) -> Result<(), AllocError>
-    ensures { OnOk result (faults.new ≡ noted faults.old (blocks.wrong_constant scope.now name.now of.now (form_seen form.entry) value.now)) }
+    ensures { OnOk result
+        (faults.new ≡ noted faults.old (blocks.wrong_constant scope.now name.now of.now (form_seen form.entry) value.now)) }
 {
     match of {
         None => {
@@ -227,7 +228,9 @@ fn declare(
     of: Option<StaticType>,
     is_variable: bool,
 ) -> Result<(), AllocError>
-    ensures { OnOk result (walk.new ≡ spec.in_scope walk.old (declaring (record { name = name.now.text; of = of; is_variable = is_variable } ∷ []) walk.old.scope)) }
+    ensures { OnOk result
+        (walk.new ≡ spec.in_scope walk.old
+        (declaring (record { name = name.now.text; of = of; is_variable = is_variable } ∷ []) walk.old.scope)) }
 {
     let declared = entry(alloc, name, of, is_variable)?;
     walk.scope.declare(declared)?;
@@ -260,8 +263,10 @@ fn judge_variable<'a>(
     name: &Name,
     of: &TypeName,
 ) -> Result<Done, AllocError>
-    ensures done { IfOk result (λ d. d ≡ blocks.counted 1 1 (blocks.done_if (option_map (value_in walk.old.scope) (option_map part_of initial.now)))) }
-    ensures walk { OnOk result (walk.new ≡ blocks.behind_layer walk.old (Statement-F.LocalVariable name.now of.now (option_map part_of initial.now))) }
+    ensures done { IfOk result
+        (λ d. d ≡ blocks.counted 1 1 (blocks.done_if (option_map (value_in walk.old.scope) (option_map part_of initial.now)))) }
+    ensures walk { OnOk result
+        (walk.new ≡ blocks.behind_layer walk.old (Statement-F.LocalVariable name.now of.now (option_map part_of initial.now))) }
 {
     let found = value_if(alloc, walk, initial)?;
     let written = variable_rules(walk, name, of, &found)?;
@@ -279,7 +284,8 @@ fn constant_rules(
     value: &Judged,
 ) -> Result<Option<StaticType>, AllocError>
     ensures value { IfOk result (λ t. t ≡ members.constant_type walk.old.scope of.now (form_seen form.entry)) }
-    ensures walk { OnOk result (walk.new ≡ spec.noting walk.old (blocks.constant_faults walk.old.scope name.now of.now (form_seen form.entry) value.now)) }
+    ensures walk { OnOk result
+        (walk.new ≡ spec.noting walk.old (blocks.constant_faults walk.old.scope name.now of.now (form_seen form.entry) value.now)) }
 {
     known_type_if(&mut walk.faults, &walk.scope.table, of)?;
     new_local(&mut walk.faults, &walk.scope, name)?;
@@ -333,7 +339,10 @@ fn assign(
     from: &Judged,
 ) -> Result<Done, AllocError>
     ensures done { IfOk result (λ d. d ≡ blocks.assigned (form_seen form.entry) to.now from.now) }
-    ensures walk { OnOk result (walk.new ≡ spec.noting walk.old (operands.must_conform_if walk.old.scope.table to.now.of from.now ++ assignments.assigned_form walk.old.scope (form_seen form.entry))) }
+    ensures walk { OnOk result
+        (walk.new ≡ spec.noting walk.old
+        (operands.must_conform_if walk.old.scope.table to.now.of from.now
+        ++ assignments.assigned_form walk.old.scope (form_seen form.entry))) }
 {
     must_conform_if(&mut walk.faults, &walk.scope.table, to.of, from);
     assignable(&mut walk.faults, &walk.scope, form)?;
@@ -353,7 +362,10 @@ fn judge_assignment<'a>(
     e: &'a Expression,
 ) -> Result<Done, AllocError>
     ensures done { IfOk result (λ d. d ≡ blocks.assigned (form_seen form.entry) to.now (value_in walk.old.scope (part_of e.now))) }
-    ensures walk { OnOk result (walk.new ≡ spec.over_operand walk.old (part_of e.now) (operands.must_conform_if walk.old.scope.table to.now.of (value_in walk.old.scope (part_of e.now)) ++ assignments.assigned_form walk.old.scope (form_seen form.entry))) }
+    ensures walk { OnOk result
+        (walk.new ≡ spec.over_operand walk.old (part_of e.now)
+        (operands.must_conform_if walk.old.scope.table to.now.of (value_in walk.old.scope (part_of e.now))
+        ++ assignments.assigned_form walk.old.scope (form_seen form.entry))) }
 {
     let from = value(alloc, walk, e)?;
     assign(walk, form, to, &from)
@@ -378,7 +390,8 @@ fn judge_wanted<'a>(
     wanted: Wanted,
 ) -> Result<Done, AllocError>
     ensures done { IfOk result (λ d. d ≡ blocks.counted 1 0 (statements.done_of (value_in walk.old.scope (part_of e.now)))) }
-    ensures walk { OnOk result (walk.new ≡ spec.over_operand walk.old (part_of e.now) (operands.wants wanted (value_in walk.old.scope (part_of e.now)))) }
+    ensures walk { OnOk result
+        (walk.new ≡ spec.over_operand walk.old (part_of e.now) (operands.wants wanted (value_in walk.old.scope (part_of e.now)))) }
 {
     let found = value(alloc, walk, e)?;
     wants(&mut walk.faults, wanted, &found);
@@ -408,7 +421,9 @@ fn judge_references<'a>(
     y: &'a Expression,
 ) -> Result<Done, AllocError>
     ensures done { IfOk result (λ d. d ≡ blocks.moved a.now (value_in walk.old.scope (part_of y.now))) }
-    ensures walk { OnOk result (walk.new ≡ spec.over_operand walk.old (part_of y.now) (operands.wants_all wanted.Reference (a.now ∷ value_in walk.old.scope (part_of y.now) ∷ []))) }
+    ensures walk { OnOk result
+        (walk.new ≡ spec.over_operand walk.old (part_of y.now)
+        (operands.wants_all wanted.Reference (a.now ∷ value_in walk.old.scope (part_of y.now) ∷ []))) }
 {
     let b = value(alloc, walk, y)?;
     Ok(move_rules(&mut walk.faults, a, &b))
@@ -428,7 +443,8 @@ fn tested(condition: &Judged, block: Done) -> Done
 #[cycle(walk)]
 fn judge_arms<'a>(alloc: Global, walk: &mut Walk<'a>, arms: &'a [Arm]) -> Result<Done, AllocError>
     ensures done { IfOk result (λ d. d ≡ (blocks.all_finished (map statements.piece_of_arm (map arm_of arms.now)) walk.old.scope).done) }
-    ensures walk { OnOk result (walk.new ≡ spec.over_finished walk.old (blocks.all_finished (map statements.piece_of_arm (map arm_of arms.now)) walk.old.scope)) }
+    ensures walk { OnOk result
+        (walk.new ≡ spec.over_finished walk.old (blocks.all_finished (map statements.piece_of_arm (map arm_of arms.now)) walk.old.scope)) }
 {
     let mut done = Done::nothing();
     for arm in arms {
@@ -448,7 +464,8 @@ pub fn judge_block_if<'a>(
     block: &'a Option<Block>,
 ) -> Result<Done, AllocError>
     ensures done { IfOk result (λ d. d ≡ (judging.finished_if walk.old.scope (option_map block_of block.now)).done) }
-    ensures walk { OnOk result (walk.new ≡ spec.over_finished walk.old (judging.finished_if walk.old.scope (option_map block_of block.now))) }
+    ensures walk { OnOk result
+        (walk.new ≡ spec.over_finished walk.old (judging.finished_if walk.old.scope (option_map block_of block.now))) }
 {
     match block {
         None => Ok(Done::nothing()),
@@ -471,7 +488,8 @@ fn judge_loop<'a>(alloc: Global, walk: &mut Walk<'a>, block: &'a Block) -> Resul
 /// The rules of an `exit`, where its condition is known.
 #[tactic(auto, using(crate::proofs::Walks::noted_walk, ec_rules::proofs::Noted::noted_joined))]
 fn exit(walk: &mut Walk<'_>, when: &Option<Judged>, at: Span)
-    ensures { walk.new ≡ spec.noting walk.old (each_of (operands.wants wanted.Boolean) when.now ++ fault_unless (is_in_loop walk.old.scope) ExitOutside at) }
+    ensures { walk.new ≡ spec.noting walk.old
+        (each_of (operands.wants wanted.Boolean) when.now ++ fault_unless (is_in_loop walk.old.scope) ExitOutside at) }
 {
     if let Some(v) = when {
         wants(&mut walk.faults, Wanted::Boolean, v);
@@ -487,8 +505,11 @@ fn judge_exit<'a>(
     when: &'a Option<Expression>,
     at: Span,
 ) -> Result<Done, AllocError>
-    ensures done { IfOk result (λ d. d ≡ blocks.counted 1 0 (blocks.done_if (option_map (value_in walk.old.scope) (option_map part_of when.now)))) }
-    ensures walk { OnOk result (walk.new ≡ spec.over_finished walk.old (judging.statement_finished (Statement-F.Exit (option_map part_of when.now) at) walk.old.scope)) }
+    ensures done { IfOk result
+        (λ d. d ≡ blocks.counted 1 0 (blocks.done_if (option_map (value_in walk.old.scope) (option_map part_of when.now)))) }
+    ensures walk { OnOk result
+        (walk.new ≡ spec.over_finished walk.old
+        (judging.statement_finished (Statement-F.Exit (option_map part_of when.now) at) walk.old.scope)) }
 {
     let found = value_if(alloc, walk, when)?;
     exit(walk, &found, at);

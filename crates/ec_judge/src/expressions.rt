@@ -191,7 +191,9 @@ fn type_found(found: Found) -> Option<StaticType>
 #[tactic(auto, using(crate::proofs::Walks::used_walk), unfolding(crate::specs::Walks::walked))]
 fn look_variable<'a>(walk: &mut Walk<'a>, name: &'a Name) -> Result<Looked, AllocError>
     ensures value { IfOk result (λ l. l ≡ spec.plain name.now.at (judging.type_found (find walk.old.scope name.now.text))) }
-    ensures walk { OnOk result (walk.new ≡ spec.walked walk.old (fault_unless (names.is_found (find walk.old.scope name.now.text)) UnknownName name.now.at) (use_of name.now (find walk.old.scope name.now.text))) }
+    ensures walk { OnOk result
+        (walk.new ≡ spec.walked walk.old (fault_unless (names.is_found (find walk.old.scope name.now.text)) UnknownName name.now.at)
+        (use_of name.now (find walk.old.scope name.now.text))) }
 {
     let found = walk.scope.find(name.text.as_slice())?;
     walk.faults
@@ -235,7 +237,8 @@ fn look_prefix<'a>(
     of: StaticType,
 ) -> Result<Looked, AllocError>
     ensures value { IfOk result (λ l. l ≡ spec.prefixed at (Some of) (value_in walk.old.scope (part_of e.now))) }
-    ensures walk { OnOk result (walk.new ≡ spec.over_operand walk.old (part_of e.now) (operands.wants wanted (value_in walk.old.scope (part_of e.now)))) }
+    ensures walk { OnOk result
+        (walk.new ≡ spec.over_operand walk.old (part_of e.now) (operands.wants wanted (value_in walk.old.scope (part_of e.now)))) }
 {
     let v = value(alloc, walk, e)?;
     wants(&mut walk.faults, wanted, &v);
@@ -255,7 +258,8 @@ fn new_vector(
     size: &Judged,
 ) -> Result<Option<StaticType>, AllocError>
     ensures value { IfOk result (λ t. t ≡ types.known (types.vector_of (written_in walk.old.scope of.now))) }
-    ensures walk { OnOk result (walk.new ≡ spec.noting walk.old (names.unknown_types walk.old.scope.table of.now ++ operands.wants wanted.Integer size.now)) }
+    ensures walk { OnOk result
+        (walk.new ≡ spec.noting walk.old (names.unknown_types walk.old.scope.table of.now ++ operands.wants wanted.Integer size.now)) }
 {
     known_type(&mut walk.faults, &walk.scope.table, of)?;
     wants(&mut walk.faults, Wanted::Integer, size);
@@ -271,8 +275,10 @@ fn look_new_vector<'a>(
     of: &TypeName,
     at: Span,
 ) -> Result<Looked, AllocError>
-    ensures value { (word : Span) → IfOk result (λ l. l ≡ spec.looked true walk.old.scope (Expression-F.NewVector of.now (part_of size.now) at word)) }
-    ensures walk { (word : Span) → OnOk result (walk.new ≡ spec.over_layer true walk.old (Expression-F.NewVector of.now (part_of size.now) at word)) }
+    ensures value { (word : Span) →
+        IfOk result (λ l. l ≡ spec.looked true walk.old.scope (Expression-F.NewVector of.now (part_of size.now) at word)) }
+    ensures walk { (word : Span) →
+        OnOk result (walk.new ≡ spec.over_layer true walk.old (Expression-F.NewVector of.now (part_of size.now) at word)) }
 {
     let v = value(alloc, walk, size)?;
     let made = new_vector(walk, of, &v)?;
@@ -292,7 +298,11 @@ fn view(
     viewed: &Judged,
 ) -> Result<Option<StaticType>, AllocError>
     ensures value { IfOk result (λ t. t ≡ types.known (written_in walk.old.scope of.now)) }
-    ensures walk { OnOk result (walk.new ≡ spec.noting walk.old (names.unknown_types walk.old.scope.table of.now ++ (operands.wants wanted.Reference viewed.now ++ fault_unless (kinds.fits wanted.Reference (types.known (written_in walk.old.scope of.now))) Mismatch (kinds.type_place of.now)))) }
+    ensures walk { OnOk result
+        (walk.new ≡ spec.noting walk.old
+        (names.unknown_types walk.old.scope.table of.now
+        ++ (operands.wants wanted.Reference viewed.now
+        ++ fault_unless (kinds.fits wanted.Reference (types.known (written_in walk.old.scope of.now))) Mismatch (kinds.type_place of.now)))) }
 {
     known_type(&mut walk.faults, &walk.scope.table, of)?;
     wants(&mut walk.faults, Wanted::Reference, viewed);
@@ -370,8 +380,11 @@ fn look_term<'a>(
     head: &Judged,
     factors: &'a [Factor],
 ) -> Result<Looked, AllocError>
-    ensures value { IfOk result (λ l. l ≡ spec.chained (Some kinds.integer) head.now (map (λ f. value_in walk.old.scope f.value) (map factor_of factors.now))) }
-    ensures walk { OnOk result (walk.new ≡ spec.over_operands walk.old (map (λ f. f.value) (map factor_of factors.now)) (operands.wants_all wanted.Integer (head.now ∷ map (λ f. value_in walk.old.scope f.value) (map factor_of factors.now)))) }
+    ensures value { IfOk result
+        (λ l. l ≡ spec.chained (Some kinds.integer) head.now (map (λ f. value_in walk.old.scope f.value) (map factor_of factors.now))) }
+    ensures walk { OnOk result
+        (walk.new ≡ spec.over_operands walk.old (map (λ f. f.value) (map factor_of factors.now))
+        (operands.wants_all wanted.Integer (head.now ∷ map (λ f. value_in walk.old.scope f.value) (map factor_of factors.now)))) }
 {
     let more = factor_values(alloc, walk, factors)?;
     Ok(chained(
@@ -451,8 +464,13 @@ fn look_sum<'a>(
     head: &Judged,
     addends: &'a [Addend],
 ) -> Result<Looked, AllocError>
-    ensures value { IfOk result (λ l. l ≡ spec.chained (judging.type_of_sum head.now.of (map addend_of addends.now)) head.now (map (λ a. value_in walk.old.scope a.value) (map addend_of addends.now))) }
-    ensures walk { OnOk result (walk.new ≡ spec.over_operands walk.old (map (λ a. a.value) (map addend_of addends.now)) (operands.sum_faults head.now.at head.now.is_clean head.now.of (map (operands.added_in walk.old.scope) (map addend_of addends.now)))) }
+    ensures value { IfOk result
+        (λ l. l ≡ spec.chained (judging.type_of_sum head.now.of (map addend_of addends.now)) head.now
+        (map (λ a. value_in walk.old.scope a.value) (map addend_of addends.now))) }
+    ensures walk { OnOk result
+        (walk.new ≡ spec.over_operands walk.old (map (λ a. a.value) (map addend_of addends.now))
+        (operands.sum_faults head.now.at head.now.is_clean head.now.of
+        (map (operands.added_in walk.old.scope) (map addend_of addends.now)))) }
 {
     let added = addend_values(alloc, walk, addends)?;
     summed(alloc, &mut walk.faults, head, added.as_slice())
@@ -467,7 +485,9 @@ fn look_comparison<'a>(
     right: &'a Expression,
 ) -> Result<Looked, AllocError>
     ensures value { IfOk result (λ l. l ≡ spec.compared a.now (value_in walk.old.scope (part_of right.now))) }
-    ensures walk { OnOk result (walk.new ≡ spec.over_operand walk.old (part_of right.now) (operands.comparison_faults op a.now (value_in walk.old.scope (part_of right.now)))) }
+    ensures walk { OnOk result
+        (walk.new ≡ spec.over_operand walk.old (part_of right.now)
+        (operands.comparison_faults op a.now (value_in walk.old.scope (part_of right.now)))) }
 {
     let b = value(alloc, walk, right)?;
     comparison(&mut walk.faults, op, a, &b);
@@ -502,7 +522,9 @@ fn look_truths<'a>(
     more: &'a [Expression],
 ) -> Result<Looked, AllocError>
     ensures value { IfOk result (λ l. l ≡ spec.joined head.now (values_in walk.old.scope (map part_of more.now))) }
-    ensures walk { OnOk result (walk.new ≡ spec.over_operands walk.old (map part_of more.now) (operands.wants_all wanted.Boolean (head.now ∷ values_in walk.old.scope (map part_of more.now)))) }
+    ensures walk { OnOk result
+        (walk.new ≡ spec.over_operands walk.old (map part_of more.now)
+        (operands.wants_all wanted.Boolean (head.now ∷ values_in walk.old.scope (map part_of more.now)))) }
 {
     let rest = values(alloc, walk, more)?;
     Ok(joined(&mut walk.faults, head, rest.as_slice()))

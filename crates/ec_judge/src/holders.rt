@@ -109,7 +109,9 @@ fn take_member<'a>(
     m: &'a Member,
 ) -> Result<(), AllocError>
     ensures taken { OnOk result (taken.new ≡ taken.old ++ (bodies.member_name (member_of m.now)).text ∷ []) }
-    ensures first { OnOk result (holders.members_seen first.new.items ≡ holders.members_seen first.old.items ++ (if has_name taken.old (bodies.member_name (member_of m.now)).text then [] else member_of m.now ∷ [])) }
+    ensures first { OnOk result
+        (holders.members_seen first.new.items ≡ holders.members_seen first.old.items
+        ++ (if has_name taken.old (bodies.member_name (member_of m.now)).text then [] else member_of m.now ∷ [])) }
 {
     let name = member_name(m).text.as_slice();
     if !taken.has(name)? {
@@ -163,7 +165,9 @@ fn field_names(
     parameters: &[Parameter],
     members: &[&Member],
 ) -> Result<Entries, AllocError>
-    ensures { IfOk result (λ fields. fields ≡ map (λ p. bodies.constant_entry p.name None) parameters.now ++ each bodies.field_names_in (holders.members_seen members.now)) }
+    ensures { IfOk result
+        (λ fields. fields ≡ map (λ p. bodies.constant_entry p.name None) parameters.now
+        ++ each bodies.field_names_in (holders.members_seen members.now)) }
 {
     let mut fields = Entries::new(alloc);
     add_parameter_names(alloc, &mut fields, parameters)?;
@@ -194,7 +198,8 @@ fn add_constant(
     of: &Option<TypeName>,
     form: Form<'_>,
 ) -> Result<(), AllocError>
-    ensures { OnOk result (fields.new ≡ fields.old ++ bodies.constant_entry name.now (bodies.constant_type scope.now of.now (form_seen form.entry)) ∷ []) }
+    ensures { OnOk result
+        (fields.new ≡ fields.old ++ bodies.constant_entry name.now (bodies.constant_type scope.now of.now (form_seen form.entry)) ∷ []) }
 {
     let t = constant_type(scope, of, form)?;
     fields.push(entry(alloc, name, t, false)?)
@@ -241,7 +246,9 @@ fn fields_of(
     parameters: &[Parameter],
     members: &[&Member],
 ) -> Result<Entries, AllocError>
-    ensures { IfOk result (λ fields. fields ≡ bodies.parameter_entries scope.now parameters.now ++ each (bodies.fields_in scope.now) (holders.members_seen members.now)) }
+    ensures { IfOk result
+        (λ fields. fields ≡ bodies.parameter_entries scope.now parameters.now
+        ++ each (bodies.fields_in scope.now) (holders.members_seen members.now)) }
 {
     let mut fields = Entries::new(alloc);
     add_parameters(alloc, scope, &mut fields, parameters)?;
@@ -438,7 +445,9 @@ fn constant_field(
     form: Form<'_>,
     value: &Judged,
 ) -> Result<(), AllocError>
-    ensures { OnOk result (walk.new ≡ spec.noting walk.old (holders.constant_faults walk.old.scope is_attached name.now of.now (form_seen form.entry) value.now)) }
+    ensures { OnOk result
+        (walk.new ≡ spec.noting walk.old
+        (holders.constant_faults walk.old.scope is_attached name.now of.now (form_seen form.entry) value.now)) }
 {
     known_type_if(&mut walk.faults, &walk.scope.table, of)?;
     constant_conforms(&mut walk.faults, &walk.scope, name, of, form, value)?;
@@ -465,7 +474,8 @@ fn judge_member<'a>(
     is_monitored: bool,
 ) -> Result<Done, AllocError>
     ensures done { IfOk result (λ d. d ≡ (judging.member_finished walk.old.scope is_monitored (member_of m.now)).done) }
-    ensures walk { OnOk result (walk.new ≡ spec.over_finished walk.old (judging.member_finished walk.old.scope is_monitored (member_of m.now))) }
+    ensures walk { OnOk result
+        (walk.new ≡ spec.over_finished walk.old (judging.member_finished walk.old.scope is_monitored (member_of m.now))) }
 {
     match m {
         Member::Variable(is_attached, name, of, initial) => {
@@ -505,7 +515,9 @@ pub fn declare_heading(
     parameters: &[Parameter],
     returned: &Option<Parameter>,
 ) -> Result<(), AllocError>
-    ensures { OnOk result (scope.new ≡ declaring (bodies.parameter_entries scope.old parameters.now ++ bodies.result_entries scope.old returned.now) scope.old) }
+    ensures { OnOk result
+        (scope.new ≡ declaring (bodies.parameter_entries scope.old parameters.now ++ bodies.result_entries scope.old returned.now)
+        scope.old) }
 {
     declare_parameters(alloc, scope, parameters)?;
     match returned {
@@ -580,7 +592,8 @@ fn judge_operation<'a>(
     o: &'a Operation,
 ) -> Result<Done, AllocError>
     ensures done { IfOk result (λ d. d ≡ statements.nothing_done) }
-    ensures walk { OnOk result (walk.new ≡ spec.over_finished walk.old (judging.member_finished walk.old.scope false (operation (operation_of o.now)))) }
+    ensures walk { OnOk result
+        (walk.new ≡ spec.over_finished walk.old (judging.member_finished walk.old.scope false (operation (operation_of o.now)))) }
 {
     let count = walk.scope.local_count();
     declare_heading(alloc, &mut walk.scope, o.parameters.as_slice(), &o.result)?;
@@ -600,7 +613,8 @@ fn judge_members<'a>(
     is_monitored: bool,
 ) -> Result<Done, AllocError>
     ensures done { IfOk result (λ d. d ≡ (judging.members_finished walk.old.scope is_monitored (map member_of members.now)).done) }
-    ensures walk { OnOk result (walk.new ≡ spec.over_finished walk.old (judging.members_finished walk.old.scope is_monitored (map member_of members.now))) }
+    ensures walk { OnOk result
+        (walk.new ≡ spec.over_finished walk.old (judging.members_finished walk.old.scope is_monitored (map member_of members.now))) }
 {
     let mut done = Done::nothing();
     for m in members {
@@ -652,7 +666,8 @@ fn judge_body<'a>(
 }
 
 fn add_member_names<'a>(names: &mut Vec<&'a Name>, members: &'a [Member]) -> Result<(), AllocError>
-    ensures { OnOk result (map (λ x. x.now) names.new.items ≡ map (λ x. x.now) names.old.items ++ map bodies.member_name (map member_of members.now)) }
+    ensures { OnOk result
+        (map (λ x. x.now) names.new.items ≡ map (λ x. x.now) names.old.items ++ map bodies.member_name (map member_of members.now)) }
 {
     for m in members {
         names.push(member_name(m))?;
@@ -741,7 +756,8 @@ pub fn judge_holder<'a>(
     body: &'a Body,
     heading: Heading<'a>,
 ) -> Result<Names, AllocError>
-    ensures value { IfOk result (λ names. names ≡ captures.captured (judging.uses_within walk.old.scope (holders.holder_of heading.entry body.now))) }
+    ensures value { IfOk result
+        (λ names. names ≡ captures.captured (judging.uses_within walk.old.scope (holders.holder_of heading.entry body.now))) }
     ensures walk { OnOk result (walk.new ≡ holders.over_holder walk.old (holders.holder_of heading.entry body.now)) }
 {
     let outer = std::mem::replace(&mut walk.uses, Uses::new(alloc));

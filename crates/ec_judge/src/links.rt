@@ -186,7 +186,10 @@ fn find_call(
     arguments: &[Judged],
 ) -> Result<Linked, AllocError>
     ensures value { IfOk result (λ l. l ≡ chains.call_found scope.now (chains.passed_seen passed.now) name.now arguments.now) }
-    ensures faults { OnOk result (faults.new ≡ noted faults.old (calls.call_faults scope.now.table needed (calls.callee scope.now (chains.passed_seen passed.now).before name.now) name.now arguments.now)) }
+    ensures faults { OnOk result
+        (faults.new ≡ noted faults.old
+        (calls.call_faults scope.now.table needed (calls.callee scope.now (chains.passed_seen passed.now).before name.now)
+        name.now arguments.now)) }
 {
     let called = callee_of(scope, passed.before, name)?;
     call(faults, &scope.table, needed, called, name, arguments);
@@ -200,7 +203,8 @@ fn find_call(
 /// The rules of an index, where what stands in its brackets is known: what the index is.
 fn find_index(faults: &mut Faults, scope: &Scope, passed: &Passed<'_>, number: &Judged) -> Linked
     ensures value { result ≡ chains.index_found scope.now (chains.passed_seen passed.now) number.now }
-    ensures faults { faults.new ≡ noted faults.old (calls.index_faults passed.now.at (calls.type_of_receiver scope.now (chains.passed_seen passed.now).before) number.now) }
+    ensures faults { faults.new ≡ noted faults.old
+        (calls.index_faults passed.now.at (calls.type_of_receiver scope.now (chains.passed_seen passed.now).before) number.now) }
 {
     let vector = type_of_receiver(scope, passed.before);
     index(faults, passed.at, vector, number);
@@ -250,7 +254,8 @@ fn pass<'a>(
     passed: &Passed<'a>,
     link: &'a Link,
 ) -> Result<Passed<'a>, AllocError>
-    ensures value { IfOk result (λ p. chains.passed_seen p ≡ chains.passed walk.old.scope needed (chains.passed_seen passed.now) (link_of link.now)) }
+    ensures value { IfOk result
+        (λ p. chains.passed_seen p ≡ chains.passed walk.old.scope needed (chains.passed_seen passed.now) (link_of link.now)) }
     ensures walk { OnOk result (walk.new ≡ chains.over_link walk.old needed (chains.passed_seen passed.now) (link_of link.now)) }
 {
     let outer = walk.faults.begin();
@@ -274,7 +279,8 @@ fn pass_all<'a>(
     start: Passed<'a>,
     links: &'a [Link],
 ) -> Result<Passed<'a>, AllocError>
-    ensures value { IfOk result (λ p. chains.passed_seen p ≡ chains.passed_all walk.old.scope needed (chains.passed_seen start.entry) (map link_of links.now)) }
+    ensures value { IfOk result
+        (λ p. chains.passed_seen p ≡ chains.passed_all walk.old.scope needed (chains.passed_seen start.entry) (map link_of links.now)) }
     ensures walk { OnOk result (walk.new ≡ chains.over_links walk.old needed (chains.passed_seen start.entry) (map link_of links.now)) }
 {
     let mut passed = start;
@@ -294,7 +300,9 @@ pub fn look_links<'a>(
     start: Passed<'a>,
     links: &'a [Link],
 ) -> Result<Looked, AllocError>
-    ensures value { IfOk result (λ l. l ≡ chains.looked_at walk.old.scope (chains.passed_all walk.old.scope needed (chains.passed_seen start.entry) (map link_of links.now))) }
+    ensures value { IfOk result
+        (λ l. l ≡ chains.looked_at walk.old.scope
+        (chains.passed_all walk.old.scope needed (chains.passed_seen start.entry) (map link_of links.now))) }
     ensures walk { OnOk result (walk.new ≡ chains.over_links walk.old needed (chains.passed_seen start.entry) (map link_of links.now)) }
 {
     let end = pass_all(alloc, walk, needed, start, links)?;

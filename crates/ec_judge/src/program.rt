@@ -104,7 +104,8 @@ fn value_rules(
     form: Form<'_>,
     value: &Judged,
 ) -> Result<(), AllocError>
-    ensures { OnOk result (faults.new ≡ noted faults.old (programs.value_faults scope.now name.now of.now (form_seen form.entry) value.now)) }
+    ensures { OnOk result
+        (faults.new ≡ noted faults.old (programs.value_faults scope.now name.now of.now (form_seen form.entry) value.now)) }
 {
     known_type_if(faults, &scope.table, of)?;
     constant_conforms(faults, scope, name, of, form, value)
@@ -118,7 +119,9 @@ fn judge_value<'a>(
     of: &Option<TypeName>,
 ) -> Result<Done, AllocError>
     ensures done { IfOk result (λ d. d ≡ done_of (value_in walk.old.scope (part_of e.now))) }
-    ensures walk { OnOk result (walk.new ≡ spec.over_operand walk.old (part_of e.now) (programs.value_faults walk.old.scope name.now of.now (part_of e.now).form (value_in walk.old.scope (part_of e.now)))) }
+    ensures walk { OnOk result
+        (walk.new ≡ spec.over_operand walk.old (part_of e.now)
+        (programs.value_faults walk.old.scope name.now of.now (part_of e.now).form (value_in walk.old.scope (part_of e.now)))) }
 {
     let found = value(alloc, walk, e)?;
     value_rules(&mut walk.faults, &walk.scope, name, of, form_of(e), &found)?;
@@ -190,7 +193,8 @@ fn judge_constant<'a>(
     c: &'a Constant,
 ) -> Result<Done, AllocError>
     ensures done { IfOk result (λ d. d ≡ rules.value_done walk.old.scope (value_part c.now.value)) }
-    ensures faults { OnOk result (walk.new.faults ≡ noted walk.old.faults (rules.faults_in_constant walk.old.scope c.now.name c.now.of (value_part c.now.value))) }
+    ensures faults { OnOk result
+        (walk.new.faults ≡ noted walk.old.faults (rules.faults_in_constant walk.old.scope c.now.name c.now.of (value_part c.now.value))) }
     ensures scope { OnOk result (walk.new.scope ≡ walk.old.scope) }
 {
     match &c.value {
@@ -212,7 +216,8 @@ fn judge_constants<'a>(
     constants: &'a [Constant],
 ) -> Result<Done, AllocError>
     ensures done { IfOk result (λ d. d ≡ rules.constants_done walk.old.scope (map constant_part constants.now)) }
-    ensures faults { OnOk result (walk.new.faults ≡ noted walk.old.faults (each (programs.faults_of walk.old.scope) (map constant_part constants.now))) }
+    ensures faults { OnOk result
+        (walk.new.faults ≡ noted walk.old.faults (each (programs.faults_of walk.old.scope) (map constant_part constants.now))) }
     ensures scope { OnOk result (walk.new.scope ≡ walk.old.scope) }
 {
     let mut done = Done::nothing();
@@ -265,7 +270,8 @@ pub fn judged_program<'a>(
     scope: Scope,
     constants: &'a [Constant],
 ) -> Result<Walk<'a>, AllocError>
-    ensures first { IfOk result (λ walk. walk.faults.first ≡ least_of None (rules.faults_of_constants scope (map constant_part constants.now))) }
+    ensures first { IfOk result
+        (λ walk. walk.faults.first ≡ least_of None (rules.faults_of_constants scope (map constant_part constants.now))) }
     ensures scope { IfOk result (λ walk. walk.scope ≡ scope) }
 {
     let mut walk = Walk {

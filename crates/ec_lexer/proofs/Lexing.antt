@@ -14,12 +14,15 @@ use Rattle.ec_lexer.specs.declared.lexeme.Lexeme.TheVariants.{End, Separator, To
 use Rattle.ec_lexer.specs.declared.token.Symbol.{Symbol}
 use Rattle.ec_lexer.specs.declared.token.TokenKind.{TokenKind}
 use Rattle.ec_lexer.specs.Words.{Bytes, is_blank, begins_word, run, front, reserved, symbol_of, number_of, greatest}
-use Rattle.ec_lexer.specs.Tokens.{IsSeparator, nothing, blank, comment as is_comment, IsToken, reserved_word, name, integer as is_integer, string as is_string, symbol as is_symbol}
+use Rattle.ec_lexer.specs.Tokens.{IsSeparator, nothing, blank, comment as is_comment, IsToken, reserved_word, name}
+use Rattle.ec_lexer.specs.Tokens.{integer as is_integer, string as is_string, symbol as is_symbol}
 use Rattle.ec_lexer.specs.Faults.{IsFault, stray_byte, forbidden_byte, unclosed_string, unclosed_escape, unknown_escape, large_integer}
 use Rattle.ec_lexer.specs.Lexemes.{begins, comment, word, word_form, integer, string, symbol, symbol_up_to, or_else, kind_of}
 use Rattle.ec_lexer.proofs.Agrees.{Agrees}
-use Rattle.ec_lexer.proofs.Strings.{agrees as string_agrees, literal_is, reads_literal, reads_forbidden, reads_unknown, reads_unclosed, reads_unclosed_escape}
-use Rattle.ec_lexer.proofs.Symbols.{StartsSymbol, starts_symbol, no_empty_symbol, short_symbol, NoLonger, none_beyond, none_below, none_at_all, finds, finds_none}
+use Rattle.ec_lexer.proofs.Strings.{agrees as string_agrees, literal_is, reads_literal, reads_forbidden, reads_unknown}
+use Rattle.ec_lexer.proofs.Strings.{reads_unclosed, reads_unclosed_escape}
+use Rattle.ec_lexer.proofs.Symbols.{StartsSymbol, starts_symbol, no_empty_symbol, short_symbol, NoLonger, none_beyond, none_below}
+use Rattle.ec_lexer.proofs.Symbols.{none_at_all, finds, finds_none}
 
 -- ---- bytes
 
@@ -45,7 +48,8 @@ comment_agrees b text e = rw (eqb-true b 37 e) is_comment
 
 word_agrees : (b : ℕ) (text : Bytes) → begins_word b ≡ true → Agrees (b ∷ text) (word (b ∷ text))
 word_agrees b text w =
-    elim (reserved (front class.Word (b ∷ text))) as (λ found. reserved (front class.Word (b ∷ text)) ≡ found → Agrees (b ∷ text) (Token (word_form found) (run class.Word (b ∷ text))))
+    elim (reserved (front class.Word (b ∷ text))) as
+    (λ found. reserved (front class.Word (b ∷ text)) ≡ found → Agrees (b ∷ text) (Token (word_form found) (run class.Word (b ∷ text))))
     [ Some r ↦ λ e. reserved_word w e | None ↦ λ e. name w e ] refl
 
 integer_agrees : (b : ℕ) (text : Bytes) → is_ascii_digit b ≡ true → Agrees (b ∷ text) (integer (b ∷ text))
@@ -53,7 +57,8 @@ integer_agrees b text d =
     cond_both (nat_lt greatest (number_of (front class.Digit (b ∷ text)))) (Fault LargeInteger 0) _ (Agrees (b ∷ text))
     (λ large. large_integer d (ltb-true greatest _ large)) (λ small. is_integer d (ltb-false greatest _ small))
 
-symbol_agrees : (b : ℕ) (text : Bytes) → StartsSymbol b → (k : ℕ) → k ≤ length (b ∷ text) → NoLonger k (b ∷ text) → Agrees (b ∷ text) (symbol_up_to k (b ∷ text))
+symbol_agrees : (b : ℕ) (text : Bytes) → StartsSymbol b → (k : ℕ) → k ≤ length (b ∷ text) → NoLonger k (b ∷ text) →
+    Agrees (b ∷ text) (symbol_up_to k (b ∷ text))
 symbol_agrees b text starts zero l above = stray_byte (record {
   no_blank = starts.no_blank;
   no_comment = starts.no_comment;
@@ -63,7 +68,8 @@ symbol_agrees b text starts zero l above = stray_byte (record {
   no_symbol = none_at_all (b ∷ text) above;
 })
 symbol_agrees b text starts (suc k) l above =
-    elim (symbol_of (take (suc k) (b ∷ text))) as (λ found. symbol_of (take (suc k) (b ∷ text)) ≡ found → Agrees (b ∷ text) (or_else found (suc k) (symbol_up_to k (b ∷ text)))) [
+    elim (symbol_of (take (suc k) (b ∷ text))) as
+    (λ found. symbol_of (take (suc k) (b ∷ text)) ≡ found → Agrees (b ∷ text) (or_else found (suc k) (symbol_up_to k (b ∷ text)))) [
       | Some s ↦ λ e. is_symbol l e above
       | None ↦ λ e. symbol_agrees b text starts k (omega arith) (none_below (b ∷ text) k above e)
     ] refl
@@ -84,7 +90,8 @@ agrees (b ∷ text) =
     (λ no_comment. cond_both (begins_word b) (word (b ∷ text)) _ (Agrees (b ∷ text)) (λ e. word_agrees b text e)
     (λ no_word. cond_both (is_ascii_digit b) (integer (b ∷ text)) _ (Agrees (b ∷ text)) (λ e. integer_agrees b text e)
     (λ no_integer. cond_both (b == 34) (string false 1 text) (symbol (b ∷ text)) (Agrees (b ∷ text)) (λ e. string_read_agrees b text e)
-    (λ no_string. symbol_agrees b text (record { no_blank = no_blank; no_comment = no_comment; no_word = no_word; no_integer = no_integer; no_string = no_string })
+    (λ no_string. symbol_agrees b text
+    (record { no_blank = no_blank; no_comment = no_comment; no_word = no_word; no_integer = no_integer; no_string = no_string })
     (min (length (b ∷ text)) 3) (omega arith) (at_most_three (b ∷ text)))))))
 
 -- ---- what is so is read
@@ -100,7 +107,8 @@ reads_separator is_comment = refl
 
 behind_blanks : (b : ℕ) (text : Bytes) → is_blank b ≡ false → (b == 37) ≡ false → begins_word b ≡ true → begins (b ∷ text) ≡ word (b ∷ text)
 unfolding begins
-behind_blanks b text no_blank no_comment w = cond-false (is_blank b) _ _ no_blank ∙ cond-false (b == 37) _ _ no_comment ∙ cond-true (begins_word b) _ _ w
+behind_blanks b text no_blank no_comment w =
+    cond-false (is_blank b) _ _ no_blank ∙ cond-false (b == 37) _ _ no_comment ∙ cond-true (begins_word b) _ _ w
 
 reads_word : (b : ℕ) (text : Bytes) → begins_word b ≡ true → begins (b ∷ text) ≡ word (b ∷ text)
 reads_word b text w = behind_blanks b text (word_no_blank b w) (word_no_comment b w) w
@@ -108,7 +116,8 @@ reads_word b text w = behind_blanks b text (word_no_blank b w) (word_no_comment 
 reads_integer : (b : ℕ) (text : Bytes) → is_ascii_digit b ≡ true → begins (b ∷ text) ≡ integer (b ∷ text)
 unfolding begins
 reads_integer b text d =
-    cond-false (is_blank b) _ _ (digit_no_blank b d) ∙ cond-false (b == 37) _ _ (digit_no_comment b d) ∙ cond-false (begins_word b) _ _ (digit_no_word b d)
+    cond-false (is_blank b) _ _ (digit_no_blank b d) ∙ cond-false (b == 37) _ _ (digit_no_comment b d)
+    ∙ cond-false (begins_word b) _ _ (digit_no_word b d)
     ∙ cond-true (is_ascii_digit b) _ _ d
 
 reads_string : (text : Bytes) → begins (34 ∷ text) ≡ string false 1 text
@@ -156,16 +165,28 @@ reads_token (is_string {body} rest spells) = record {
 }
 reads_token (is_symbol {text} {n} {s} l e above) = record {
   form = form.Symbol s;
-  is_read = symbol_starts text n s e ∙ finds text n s e above (min (length text) 3) (let short = short_symbol (take n text) s e in let taken = length-take-le n text l in omega arith) (omega arith);
+  is_read = symbol_starts text n s e
+      ∙ finds text n s e above (min (length text) 3)
+      (let short = short_symbol (take n text) s e in let taken = length-take-le n text l in omega arith) (omega arith);
   kind_is = refl;
 }
 
 pub reads_fault : {text : Bytes} {kind : LexFault} {n : ℕ} → IsFault text kind n → begins text ≡ Fault kind n
 reads_fault (stray_byte {b} {text} s) =
-    reads_symbol b text (record { no_blank = s.no_blank; no_comment = s.no_comment; no_word = s.no_word; no_integer = s.no_integer; no_string = s.no_string })
+    reads_symbol b text
+    (record {
+      no_blank = s.no_blank;
+      no_comment = s.no_comment;
+      no_word = s.no_word;
+      no_integer = s.no_integer;
+      no_string =
+          s.no_string;
+    })
     ∙ finds_none (b ∷ text) s.no_symbol (min (length (b ∷ text)) 3)
 reads_fault (forbidden_byte {body} b rest spells f) = reads_string (body ++ b ∷ rest) ∙ reads_forbidden rest spells b f
 reads_fault (unclosed_string {body} rest spells end) = reads_string (body ++ rest) ∙ reads_unclosed rest spells end
 reads_fault (unclosed_escape {body} rest spells end) = reads_string (body ++ 92 ∷ rest) ∙ reads_unclosed_escape rest spells end
-reads_fault (unknown_escape {body} b rest spells no_escape no_line_feed) = reads_string (body ++ 92 ∷ b ∷ rest) ∙ reads_unknown rest spells b no_escape no_line_feed
-reads_fault (large_integer {b} {text} d large) = reads_integer b text d ∙ cond-true (nat_lt greatest (number_of (front class.Digit (b ∷ text)))) _ _ (lt-ltb greatest _ large)
+reads_fault (unknown_escape {body} b rest spells no_escape no_line_feed) =
+    reads_string (body ++ 92 ∷ b ∷ rest) ∙ reads_unknown rest spells b no_escape no_line_feed
+reads_fault (large_integer {b} {text} d large) =
+    reads_integer b text d ∙ cond-true (nat_lt greatest (number_of (front class.Digit (b ∷ text)))) _ _ (lt-ltb greatest _ large)

@@ -1,5 +1,6 @@
 -- What is known of a text that has been read up to a place. A text has its tokens or its fault, in one way only.
-use Rattle.std.proofs.Common.{◌≡◌, ℕ, zero, suc, ◌+◌, ◌<◌, ◌≤◌, true, List, [], ◌∷◌, ◌++◌, length, take, drop, refl, sym, ◌∙◌, ap, subst, arith, append_assoc, append-nil, length-drop}
+use Rattle.std.proofs.Common.{◌≡◌, ℕ, zero, suc, ◌+◌, ◌<◌, ◌≤◌, true, List, [], ◌∷◌, ◌++◌, length, take, drop, refl, sym, ◌∙◌, ap}
+use Rattle.std.proofs.Common.{subst, arith, append_assoc, append-nil, length-drop}
 use Rattle.std.proofs.lemmas.Bool.{cond-true}
 use Rattle.std.proofs.lemmas.Grind.{common_steps}
 use Rattle.ec_lexer.specs.declared.error.LexFault.{LexFault}
@@ -11,7 +12,8 @@ use Rattle.ec_lexer.specs.declared.lexeme.Lexeme.TheVariants.{End, Separator, To
 use Rattle.ec_lexer.specs.declared.token.Token.{Token as AToken}
 use Rattle.ec_lexer.specs.declared.token.TokenKind.{TokenKind}
 use Rattle.ec_lexer.specs.Words.{Bytes, begins_word, is_in, run}
-use Rattle.ec_lexer.specs.Tokens.{IsSeparator, IsToken, reserved_word, name, integer, string, symbol, token, HasTokensFrom, ended, separated, taken, HasTokens, longest_text}
+use Rattle.ec_lexer.specs.Tokens.{IsSeparator, IsToken, reserved_word, name, integer, string, symbol, token, HasTokensFrom, ended}
+use Rattle.ec_lexer.specs.Tokens.{separated, taken, HasTokens, longest_text}
 use Rattle.ec_lexer.specs.Faults.{IsFault, HasFaultFrom, faulty, behind_separator, behind_token, HasFault, too_long, first}
 use Rattle.ec_lexer.specs.Lexemes.{begins, kind_of}
 use Rattle.ec_lexer.proofs.Agrees.{Agrees}
@@ -25,7 +27,8 @@ of_end e ended = refl
 of_end e (separated s r) = let f = reads_separator s in cc
 of_end e (taken t r) = let f = (reads_token t).is_read in cc
 
-of_separator : {at : ℕ} {z : Bytes} {ts : List AToken} → (n : ℕ) → begins z ≡ Separator n → HasTokensFrom at z ts → HasTokensFrom (at + n) (drop n z) ts
+of_separator : {at : ℕ} {z : Bytes} {ts : List AToken} → (n : ℕ) → begins z ≡ Separator n → HasTokensFrom at z ts →
+    HasTokensFrom (at + n) (drop n z) ts
 of_separator n e ended = absurd (let f = reads_end in cc)
 of_separator {at} {z} {ts} n e (separated {n = m} s r) =
     let f = reads_separator s in
@@ -41,8 +44,13 @@ of_token {at} {z} form n e (taken {n = m} {kind = kind} {tokens = us} t r) =
     let f = read.is_read in
     let same : m ≡ n = cc in
     let alike : read.form ≡ form = cc in
-    let is : kind ≡ kind_of form (take n z) = read.kind_is ∙ ap (λ x. kind_of x (take m z)) alike ∙ ap (λ x. kind_of form (take x z)) same in
-    (us, ap (λ x. token x at m ∷ us) is ∙ ap (λ x. token (kind_of form (take n z)) at x ∷ us) same, subst (λ x. HasTokensFrom (at + x) (drop x z) us) same r)
+    let is : kind ≡ kind_of form (take n z) =
+    read.kind_is ∙ ap (λ x. kind_of x (take m z)) alike ∙ ap (λ x. kind_of form (take x z)) same in (
+      us,
+      ap (λ x. token x at m ∷ us) is
+          ∙ ap (λ x. token (kind_of form (take n z)) at x ∷ us) same,
+      subst (λ x. HasTokensFrom (at + x) (drop x z) us) same r,
+    )
 
 of_fault : {at : ℕ} {z : Bytes} {ts : List AToken} → (fault : LexFault) (n : ℕ) → begins z ≡ Fault fault n → HasTokensFrom at z ts → ⊥
 of_fault fault n e ended = let f = reads_end in cc
@@ -56,21 +64,24 @@ fault_of_end e (faulty i) = let f = reads_fault i in cc
 fault_of_end e (behind_separator s r) = let f = reads_separator s in cc
 fault_of_end e (behind_token t r) = let f = (reads_token t).is_read in cc
 
-fault_of_separator : {at p : ℕ} {z : Bytes} {k : LexFault} → (n : ℕ) → begins z ≡ Separator n → HasFaultFrom at z p k → HasFaultFrom (at + n) (drop n z) p k
+fault_of_separator : {at p : ℕ} {z : Bytes} {k : LexFault} → (n : ℕ) → begins z ≡ Separator n → HasFaultFrom at z p k →
+    HasFaultFrom (at + n) (drop n z) p k
 fault_of_separator n e (faulty i) = let f = reads_fault i in cc
 fault_of_separator {at} {p} {z} {k} n e (behind_separator {n = m} s r) =
     let f = reads_separator s in
     let same : m ≡ n = cc in subst (λ x. HasFaultFrom (at + x) (drop x z) p k) same r
 fault_of_separator n e (behind_token t r) = let f = (reads_token t).is_read in cc
 
-fault_of_token : {at p : ℕ} {z : Bytes} {k : LexFault} → (form : Form) (n : ℕ) → begins z ≡ Token form n → HasFaultFrom at z p k → HasFaultFrom (at + n) (drop n z) p k
+fault_of_token : {at p : ℕ} {z : Bytes} {k : LexFault} → (form : Form) (n : ℕ) → begins z ≡ Token form n → HasFaultFrom at z p k →
+    HasFaultFrom (at + n) (drop n z) p k
 fault_of_token form n e (faulty i) = let f = reads_fault i in cc
 fault_of_token form n e (behind_separator s r) = let f = reads_separator s in cc
 fault_of_token {at} {p} {z} {k} form n e (behind_token {n = m} t r) =
     let f = (reads_token t).is_read in
     let same : m ≡ n = cc in subst (λ x. HasFaultFrom (at + x) (drop x z) p k) same r
 
-fault_of_fault : {at p : ℕ} {z : Bytes} {k : LexFault} → (fault : LexFault) (n : ℕ) → begins z ≡ Fault fault n → HasFaultFrom at z p k → (p ≡ at + n) × (k ≡ fault)
+fault_of_fault : {at p : ℕ} {z : Bytes} {k : LexFault} → (fault : LexFault) (n : ℕ) → begins z ≡ Fault fault n →
+    HasFaultFrom at z p k → (p ≡ at + n) × (k ≡ fault)
 fault_of_fault fault n e (faulty i) = let f = reads_fault i in (cc, cc)
 fault_of_fault fault n e (behind_separator s r) = absurd (let f = reads_separator s in cc)
 fault_of_fault fault n e (behind_token t r) = absurd (let f = (reads_token t).is_read in cc)
@@ -122,15 +133,22 @@ module _ (z : Bytes) (at : ℕ) (ts : List AToken) (s : Sofar z at ts) (n : ℕ)
         fault_forth = λ p k d. subst (λ x. HasFaultFrom (at + n) x p k) step (fault_of_separator n e (s.fault_forth p k d));
       }
 
-  pub with_token : (form : Form) (t : AToken) → begins (drop at z) ≡ Token form n → t ≡ token (kind_of form (take n (drop at z))) at n → Sofar z (at + n) (ts ++ t ∷ [])
+  pub with_token : (form : Form) (t : AToken) → begins (drop at z) ≡ Token form n →
+      t ≡ token (kind_of form (take n (drop at z))) at n → Sofar z (at + n) (ts ++ t ∷ [])
   with_token form t e is =
       let found : IsToken (drop at z) (kind_of form (take n (drop at z))) n = subst (λ x. Agrees (drop at z) x) e (agrees (drop at z)) in
       record {
-        back = λ us d. rw (append_assoc ts (t ∷ []) us, is) (s.back (token (kind_of form (take n (drop at z))) at n ∷ us) (taken found (subst (λ x. HasTokensFrom (at + n) x us) (sym step) d)));
+        back = λ us d. rw (append_assoc ts (t ∷ []) us, is)
+            (s.back (token (kind_of form (take n (drop at z))) at n ∷ us)
+            (taken found (subst (λ x. HasTokensFrom (at + n) x us) (sym step) d)));
         forth = λ us d.
             let r = s.forth us d in
-            let i = of_token form n e r.2 in
-            (i.0, r.1 ∙ ap (λ x. ts ++ x) i.1 ∙ ap (λ x. ts ++ x ∷ i.0) (sym is) ∙ sym (append_assoc ts (t ∷ []) i.0), subst (λ x. HasTokensFrom (at + n) x i.0) step i.2);
+            let i = of_token form n e r.2 in (
+              i.0,
+              r.1 ∙ ap (λ x. ts ++ x) i.1 ∙ ap (λ x. ts ++ x ∷ i.0) (sym is)
+                  ∙ sym (append_assoc ts (t ∷ []) i.0),
+              subst (λ x. HasTokensFrom (at + n) x i.0) step i.2,
+            );
         fault_back = λ p k d. s.fault_back p k (behind_token found (subst (λ x. HasFaultFrom (at + n) x p k) (sym step) d));
         fault_forth = λ p k d. subst (λ x. HasFaultFrom (at + n) x p k) step (fault_of_token form n e (s.fault_forth p k d));
       }
@@ -139,7 +157,11 @@ module _ (z : Bytes) (at : ℕ) (ts : List AToken) (s : Sofar z at ts) (short : 
   pub whole : begins (drop at z) ≡ End → HasTokens z ts
   whole e =
       let none : drop at z ≡ [] = subst (λ x. Agrees (drop at z) x) e (agrees (drop at z)) in
-      record { short = short; all = subst (λ x. HasTokensFrom 0 z x) (append-nil ts) (s.back [] (subst (λ x. HasTokensFrom at x []) (sym none) ended)) }
+      record {
+        short = short;
+        all =
+            subst (λ x. HasTokensFrom 0 z x) (append-nil ts) (s.back [] (subst (λ x. HasTokensFrom at x []) (sym none) ended));
+      }
 
   pub no_fault : begins (drop at z) ≡ End → (p : ℕ) (k : LexFault) → HasFault z p k → ⊥
   no_fault e p k (too_long l) = omega arith
@@ -150,7 +172,8 @@ module _ (z : Bytes) (at : ℕ) (ts : List AToken) (s : Sofar z at ts) (short : 
       let is : IsFault (drop at z) k n = subst (λ x. Agrees (drop at z) x) e (agrees (drop at z)) in
       first short (s.fault_back (at + n) k (faulty is))
 
-  pub only_fault : (k : LexFault) (n : ℕ) → begins (drop at z) ≡ Fault k n → (p : ℕ) (other : LexFault) → HasFault z p other → (p ≡ at + n) × (other ≡ k)
+  pub only_fault : (k : LexFault) (n : ℕ) → begins (drop at z) ≡ Fault k n → (p : ℕ) (other : LexFault) → HasFault z p other →
+      (p ≡ at + n) × (other ≡ k)
   only_fault k n e p other (too_long l) = absurd (omega arith)
   only_fault k n e p other (first l f) = fault_of_fault k n e (s.fault_forth p other f)
 

@@ -1,5 +1,6 @@
 -- The longest symbol that a text begins with.
-use Rattle.std.proofs.Common.{◌≡◌, ℕ, zero, suc, ◌<◌, ◌≤◌, Bool, true, false, cond, not, List, [], ◌∷◌, length, take, inl, inr, Option, Some, None, refl, sym, ◌∙◌, ap, subst, arith}
+use Rattle.std.proofs.Common.{◌≡◌, ℕ, zero, suc, ◌<◌, ◌≤◌, Bool, true, false, cond, not, List, [], ◌∷◌, length, take, inl, inr}
+use Rattle.std.proofs.Common.{Option, Some, None, refl, sym, ◌∙◌, ap, subst, arith}
 use Rattle.std.specs.Prelude.{◌==◌, ◌&&◌, nat_le}
 use Rattle.std.specs.Char.{is_ascii_digit}
 use Rattle.std.specs.Cmp.Lexicographic.{same_text}
@@ -19,11 +20,13 @@ abbrev all_rows : (Bytes → Bool) → List (Bytes × Symbol) → Bool
 all_rows p [] = true
 all_rows p (row ∷ rows) = p row.0 && all_rows p rows
 
-passes : (p : Bytes → Bool) (table : List (Bytes × Symbol)) (bytes : Bytes) (s : Symbol) → all_rows p table ≡ true → lookup_symbol table bytes ≡ Some s → p bytes ≡ true
+passes : (p : Bytes → Bool) (table : List (Bytes × Symbol)) (bytes : Bytes) (s : Symbol) → all_rows p table ≡ true →
+    lookup_symbol table bytes ≡ Some s → p bytes ≡ true
 passes p [] bytes s all e = cc
 passes p (row ∷ rows) bytes s all e =
     let both = and_parts (p row.0) (all_rows p rows) all in
-    elim (bytes_eq row.0 bytes) as (λ v. bytes_eq row.0 bytes ≡ v → cond v (Some row.1) (lookup_symbol rows bytes) ≡ Some s → p bytes ≡ true) [
+    elim (bytes_eq row.0 bytes) as
+    (λ v. bytes_eq row.0 bytes ≡ v → cond v (Some row.1) (lookup_symbol rows bytes) ≡ Some s → p bytes ≡ true) [
       | true ↦ λ same k. subst (λ x. p x ≡ true) (same_text row.0 bytes (sym same)) both.0
       | false ↦ λ other k. passes p rows bytes s both.1 k
     ] refl e
@@ -82,7 +85,9 @@ none_below text n above here m h k = elim (cases_lt (suc n) m) as (λ _. symbol_
 
 not_whole : (text : Bytes) → NoLonger 0 text → symbol_of text ≡ None
 not_whole [] above = no_empty_symbol
-not_whole (b ∷ text) above = subst (λ x. symbol_of x ≡ None) (take_all (length (b ∷ text)) (b ∷ text) (omega arith)) (above (length (b ∷ text)) (omega arith) (omega arith))
+not_whole (b ∷ text) above =
+    subst (λ x. symbol_of x ≡ None) (take_all (length (b ∷ text)) (b ∷ text) (omega arith))
+    (above (length (b ∷ text)) (omega arith) (omega arith))
 
 -- where no front is a symbol, none is at any length
 pub none_at_all : (text : Bytes) → NoLonger 0 text → (n : ℕ) → symbol_of (take n text) ≡ None
@@ -99,11 +104,14 @@ finds text n s e above zero h l =
     let none : n ≡ 0 = omega arith in
     let here : symbol_of (take 0 text) ≡ Some s = subst (λ x. symbol_of (take x text) ≡ Some s) none e in
     absurd (let empty = no_empty_symbol in cc)
-finds text n s e above (suc k) h l = elim (cases_lt n (suc k)) as (λ _. or_else (symbol_of (take (suc k) text)) (suc k) (symbol_up_to k text) ≡ Token (form.Symbol s) n) [
-  | inl less ↦ ap (λ x. or_else x (suc k) (symbol_up_to k text)) (above (suc k) less l) ∙ finds text n s e above k (omega arith) (omega arith)
-  | inr no_less ↦ (let same : n ≡ suc k = omega arith in
-      ap (λ x. or_else x (suc k) (symbol_up_to k text)) (subst (λ x. symbol_of (take x text) ≡ Some s) same e) ∙ ap (λ x. Token (form.Symbol s) x) (sym same))
-]
+finds text n s e above (suc k) h l =
+    elim (cases_lt n (suc k)) as (λ _. or_else (symbol_of (take (suc k) text)) (suc k) (symbol_up_to k text) ≡ Token (form.Symbol s) n) [
+      | inl less ↦ ap (λ x. or_else x (suc k) (symbol_up_to k text)) (above (suc k) less l)
+          ∙ finds text n s e above k (omega arith) (omega arith)
+      | inr no_less ↦ (let same : n ≡ suc k = omega arith in
+          ap (λ x. or_else x (suc k) (symbol_up_to k text)) (subst (λ x. symbol_of (take x text) ≡ Some s) same e)
+          ∙ ap (λ x. Token (form.Symbol s) x) (sym same))
+    ]
 
 -- it finds none where there is none
 pub finds_none : (text : Bytes) → ((n : ℕ) → symbol_of (take n text) ≡ None) → (k : ℕ) → symbol_up_to k text ≡ Fault StrayByte 0

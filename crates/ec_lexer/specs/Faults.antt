@@ -7,7 +7,8 @@ use Rattle.ec_lexer.specs.declared.error.LexFault.{LexFault}
 use Rattle.ec_lexer.specs.declared.error.LexFault.TheVariants.{StrayByte, UnclosedString, UnknownEscape, LargeInteger, TextTooLong}
 use Rattle.ec_lexer.specs.declared.lexeme.Class.TheVariants as class
 use Rattle.ec_lexer.specs.declared.token.TokenKind.{TokenKind}
-use Rattle.ec_lexer.specs.Words.{Bytes, percent, quote, backslash, line_feed, is_blank, begins_word, front, symbol_of, number_of, greatest, is_plain, is_escape}
+use Rattle.ec_lexer.specs.Words.{Bytes, percent, quote, backslash, line_feed, is_blank, begins_word, front, symbol_of, number_of}
+use Rattle.ec_lexer.specs.Words.{greatest, is_plain, is_escape}
 use Rattle.ec_lexer.specs.Tokens.{IsSeparator, Spells, IsToken, longest_text}
 
 -- the byte that a text begins with neither separates nor starts a token
@@ -36,11 +37,14 @@ pub data IsFault : Bytes → LexFault → ℕ → Type 0 where
   -- a byte that starts no token: that byte
   stray_byte : {b : ℕ} {text : Bytes} → StartsNothing b text → IsFault (b ∷ text) StrayByte 0
   -- a byte in a string that isn't allowed and isn't a line feed: that byte
-  forbidden_byte : {body bytes : Bytes} (b : ℕ) (rest : Bytes) → Spells body bytes → IsForbidden b → IsFault (quote ∷ (body ++ b ∷ rest)) StrayByte (length body + 1)
+  forbidden_byte : {body bytes : Bytes} (b : ℕ) (rest : Bytes) → Spells body bytes → IsForbidden b →
+      IsFault (quote ∷ (body ++ b ∷ rest)) StrayByte (length body + 1)
   -- a line feed or the end inside a string: the opening quote
-  unclosed_string : {body bytes : Bytes} (rest : Bytes) → Spells body bytes → EndsLine rest → IsFault (quote ∷ (body ++ rest)) UnclosedString 0
+  unclosed_string : {body bytes : Bytes} (rest : Bytes) → Spells body bytes → EndsLine rest →
+      IsFault (quote ∷ (body ++ rest)) UnclosedString 0
   -- the same right behind a backslash: the opening quote
-  unclosed_escape : {body bytes : Bytes} (rest : Bytes) → Spells body bytes → EndsLine rest → IsFault (quote ∷ (body ++ backslash ∷ rest)) UnclosedString 0
+  unclosed_escape : {body bytes : Bytes} (rest : Bytes) → Spells body bytes → EndsLine rest →
+      IsFault (quote ∷ (body ++ backslash ∷ rest)) UnclosedString 0
   -- a backslash with another byte behind it than those of an escape: the backslash
   unknown_escape : {body bytes : Bytes} (b : ℕ) (rest : Bytes) → Spells body bytes → is_escape b ≡ false → (b == line_feed) ≡ false →
       IsFault (quote ∷ (body ++ backslash ∷ b ∷ rest)) UnknownEscape (length body + 1)

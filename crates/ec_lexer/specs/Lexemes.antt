@@ -1,5 +1,6 @@
 -- How a lexer reads: what a text begins with, by its first bytes. It agrees with what separators, tokens and faults are.
-use Rattle.std.specs.Prelude.{◌≤◌, ℕ, zero, suc, ◌+◌, ◌-◌, Bool, true, false, if◌then◌else◌, ◌==◌, nat_lt, min, [], ◌∷◌, length, take, drop, Option, Some, None}
+use Rattle.std.specs.Prelude.{◌≤◌, ℕ, zero, suc, ◌+◌, ◌-◌, Bool, true, false, if◌then◌else◌, ◌==◌, nat_lt, min, [], ◌∷◌, length}
+use Rattle.std.specs.Prelude.{take, drop, Option, Some, None}
 use Rattle.std.specs.Char.{is_ascii_digit}
 use Rattle.ec_lexer.specs.declared.error.LexFault.TheVariants.{StrayByte, UnclosedString, UnknownEscape, LargeInteger}
 use Rattle.ec_lexer.specs.declared.lexeme.Class.TheVariants as class
@@ -11,7 +12,8 @@ use Rattle.ec_lexer.specs.declared.token.Reserved.{Reserved}
 use Rattle.ec_lexer.specs.declared.token.Symbol.{Symbol}
 use Rattle.ec_lexer.specs.declared.token.TokenKind.{TokenKind}
 use Rattle.ec_lexer.specs.declared.token.TokenKind.TheVariants as kind
-use Rattle.ec_lexer.specs.Words.{Bytes, is_blank, begins_word, run, front, reserved, symbol_of, number_of, greatest, is_plain, is_escape, unescaped_byte}
+use Rattle.ec_lexer.specs.Words.{Bytes, is_blank, begins_word, run, front, reserved, symbol_of, number_of, greatest, is_plain}
+use Rattle.ec_lexer.specs.Words.{is_escape, unescaped_byte}
 
 abbrev pub comment : Bytes → Lexeme
 comment text = Separator (run class.Line (drop 1 text) + 1)

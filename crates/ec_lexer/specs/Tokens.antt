@@ -7,7 +7,8 @@ use Rattle.ec_lexer.specs.declared.token.Reserved.{Reserved as AReserved}
 use Rattle.ec_lexer.specs.declared.token.Symbol.{Symbol as ASymbol}
 use Rattle.ec_lexer.specs.declared.token.TokenKind.{TokenKind}
 use Rattle.ec_lexer.specs.declared.token.TokenKind.TheVariants.{Reserved, Name, Integer, Literal, Symbol}
-use Rattle.ec_lexer.specs.Words.{Bytes, percent, quote, backslash, is_blank, begins_word, run, front, reserved, symbol_of, number_of, greatest, is_plain, is_escape, unescaped_byte}
+use Rattle.ec_lexer.specs.Words.{Bytes, percent, quote, backslash, is_blank, begins_word, run, front, reserved, symbol_of}
+use Rattle.ec_lexer.specs.Words.{number_of, greatest, is_plain, is_escape, unescaped_byte}
 
 -- the text begins with this many bytes that separate
 pub data IsSeparator : Bytes → ℕ → Type 0 where
@@ -33,7 +34,8 @@ pub data IsToken : Bytes → TokenKind → ℕ → Type 0 where
   integer : {b : ℕ} {text : Bytes} → is_ascii_digit b ≡ true → number_of (front class.Digit (b ∷ text)) ≤ greatest →
       IsToken (b ∷ text) (Integer (number_of (front class.Digit (b ∷ text)))) (run class.Digit (b ∷ text))
   -- a string stands between `"`
-  string : {body bytes : Bytes} (rest : Bytes) → Spells body bytes → IsToken (quote ∷ (body ++ quote ∷ rest)) (Literal bytes) (length body + 2)
+  string : {body bytes : Bytes} (rest : Bytes) → Spells body bytes →
+      IsToken (quote ∷ (body ++ quote ∷ rest)) (Literal bytes) (length body + 2)
   -- the longest symbol is taken: no longer front of the text is one
   symbol : {text : Bytes} {n : ℕ} {s : ASymbol} → n ≤ length text → symbol_of (take n text) ≡ Some s →
       ((m : ℕ) → n < m → m ≤ length text → symbol_of (take m text) ≡ None) → IsToken text (Symbol s) n

@@ -33,7 +33,9 @@ module _ {A : Type 0} where
   drop_tail (x ∷ xs) (suc i) y ys e = drop_tail xs i y ys e
 
 -- the code that prints literals stands where it is, with its stops
-print_stands : (literals : List (List ℕ)) (code : List IrOp) (stops : List StopRec) (n p : ℕ) (ks : List ℕ) (statements : List Statement) → drop p code ≡ print_code n ks → drop n stops ≡ print_stops p ks → AreTexts literals ks statements → Stands literals code stops false (print_code n ks) (block_items statements (Leave ∷ []))
+print_stands : (literals : List (List ℕ)) (code : List IrOp) (stops : List StopRec) (n p : ℕ) (ks : List ℕ)
+    (statements : List Statement) → drop p code ≡ print_code n ks → drop n stops ≡ print_stops p ks →
+    AreTexts literals ks statements → Stands literals code stops false (print_code n ks) (block_items statements (Leave ∷ []))
 print_stands literals code stops n p [] [] c s t =
     let behind : drop (p + 1) code ≡ [] = rw add-one (drop_tail code p _ _ c) in (
       n,
@@ -59,7 +61,9 @@ print_stands literals code stops n p (k ∷ ks) [] c s t = absurd t
 -- the code of each entry
 abbrev EntryOf : List (List ℕ) → List Operation → Option Constant → ℕ → Type 0
 EntryOf literals operations constant op =
-    Stands literals (code_of (slice_get operations op)) (stops_of (slice_get operations op)) false (code_behind (code_of (slice_get operations op)) (slice_get (stops_of (slice_get operations op)) 0)) (items_of (record { constant = constant }) op)
+    Stands literals (code_of (slice_get operations op)) (stops_of (slice_get operations op)) false
+    (code_behind (code_of (slice_get operations op)) (slice_get (stops_of (slice_get operations op)) 0))
+    (items_of (record { constant = constant }) op)
 
 ending_entries : (literals : List (List ℕ)) (op : ℕ) → EntryOf literals (ending ∷ []) None op
 ending_entries literals zero = (
@@ -72,7 +76,8 @@ ending_entries literals zero = (
 ending_entries literals (suc zero) = refl
 ending_entries literals (suc (suc op)) = refl
 
-constant_entries : (literals : List (List ℕ)) (c : Constant) (ks : List ℕ) (op : ℕ) → AreTexts literals ks c.value.initially → EntryOf literals (defining ∷ printing ks ∷ []) (Some c) op
+constant_entries : (literals : List (List ℕ)) (c : Constant) (ks : List ℕ) (op : ℕ) → AreTexts literals ks c.value.initially →
+    EntryOf literals (defining ∷ printing ks ∷ []) (Some c) op
 constant_entries literals c ks zero t = (
   1,
   stop_of (New (Made 0)) [] (Some 0) 1,
@@ -97,7 +102,8 @@ constant_entries literals c ks (suc zero) t =
     print_stands literals o.code o.stops 1 1 ks c.value.initially refl refl t
 constant_entries literals c ks (suc (suc op)) t = refl
 
-entries_if : (constant : Option Constant) (literals : List (List ℕ)) (operations : List Operation) (op : ℕ) → DoesAll constant literals operations → EntryOf literals operations constant op
+entries_if : (constant : Option Constant) (literals : List (List ℕ)) (operations : List Operation) (op : ℕ) →
+    DoesAll constant literals operations → EntryOf literals operations constant op
 entries_if None literals operations op e = rw e (ending_entries literals op)
 entries_if (Some c) literals operations op h = rw h.operations_are (constant_entries literals c h.places op h.texts)
 

@@ -1,5 +1,6 @@
 -- The code of a source keeps what a program of three-address code keeps.
-use Rattle.std.proofs.Common.{◌≡◌, ℕ, zero, suc, ◌+◌, ◌*◌, ◌<◌, ◌≤◌, ◌^◌, List, [], ◌∷◌, ◌++◌, drop, length, Option, Some, None, true, refl, sym, ap, ◌∙◌, inl, add-one, arith, subst}
+use Rattle.std.proofs.Common.{◌≡◌, ℕ, zero, suc, ◌+◌, ◌*◌, ◌<◌, ◌≤◌, ◌^◌, List, [], ◌∷◌, ◌++◌, drop, length, Option, Some, None}
+use Rattle.std.proofs.Common.{true, refl, sym, ap, ◌∙◌, inl, add-one, arith, subst}
 use Rattle.std.specs.Prelude.{slice_get}
 use Rattle.ec_base.proofs.Lists.{get_within}
 use Rattle.ec_printing.specs.declared.Constant.{Constant}
@@ -18,7 +19,8 @@ use Rattle.ec_ir.specs.declared.code.StopRec.{StopRec}
 use Rattle.ec_ir.specs.declared.code.Operation.{Operation}
 use Rattle.ec_ir.specs.declared.code.Parts.{Parts}
 use Rattle.ec_ir.specs.Fine.{FineStop, GoesOn, FineOp, AreVariables, Covers, one_of, FineOperation, FineClass, Fine}
-use Rattle.ec_lower.specs.Printing.{stop_of, entry_stop, ending, defining, printing, print_code, print_stops, IsTextOf, AreTexts, DoesAll, IsPool, IsLowered}
+use Rattle.ec_lower.specs.Printing.{stop_of, entry_stop, ending, defining, printing, print_code, print_stops, IsTextOf, AreTexts}
+use Rattle.ec_lower.specs.Printing.{DoesAll, IsPool, IsLowered}
 use Rattle.ec_lower.specs.Short.{IsShortIf}
 use Rattle.ec_lower.proofs.Emitted.{drop_head, drop_tail}
 
@@ -28,7 +30,8 @@ abbrev pub AllFrom : {A : Type 0} → (ℕ → A → Type 0) → ℕ → List A 
 AllFrom P i [] = Unit {0}
 AllFrom P i (x ∷ xs) = P i x × AllFrom P (suc i) xs
 
-each_from : {A : Type 0} (P : ℕ → A → Type 0) (i : ℕ) (xs : List A) → AllFrom P i xs → (j q : ℕ) (x : A) → slice_get xs j ≡ Some x → q ≡ i + j → P q x
+each_from : {A : Type 0} (P : ℕ → A → Type 0) (i : ℕ) (xs : List A) → AllFrom P i xs → (j q : ℕ) (x : A) → slice_get xs j ≡ Some x →
+    q ≡ i + j → P q x
 each_from P i [] h j q x e f = cc
 each_from P i (y ∷ ys) h zero q x e f =
     let place : q ≡ i = omega arith in
@@ -49,7 +52,9 @@ pub record FineStopAt (classes : List ClassRec) (globals : List ValueType) (op :
   pub live : AreVariables o.variables s.live
   pub covered : GoesOn s.stop (Covers o.stops (s.live ++ one_of s.into) (drop (s.place + 1) o.code))
 
-fine_by : (classes : List ClassRec) (globals : List ValueType) (literals : List (List ℕ)) (op : ℕ) (o : Operation) → slice_get o.stops 0 ≡ Some entry_stop → slice_get o.code 0 ≡ Some (Rest 0) → AllFrom (FineOp literals o) 0 o.code → AllFrom (FineStopAt classes globals op o) 0 o.stops → length o.variables ≤ 100 → FineOperation classes globals literals op o
+fine_by : (classes : List ClassRec) (globals : List ValueType) (literals : List (List ℕ)) (op : ℕ) (o : Operation) →
+    slice_get o.stops 0 ≡ Some entry_stop → slice_get o.code 0 ≡ Some (Rest 0) → AllFrom (FineOp literals o) 0 o.code →
+    AllFrom (FineStopAt classes globals op o) 0 o.stops → length o.variables ≤ 100 → FineOperation classes globals literals op o
 fine_by classes globals literals op o entry first ops stops few = record {
   entry = (entry_stop, entry, refl, refl, refl, first);
   one_entry = λ i s e f. (each (FineStopAt classes globals op o) o.stops stops i s e).one_entry f;
@@ -81,7 +86,14 @@ fine_defining c literals =
     ) (
       record { one_entry = λ e. refl; placed = refl; fits = (refl, refl); live = tt; covered = (tt, tt) },
       (
-        record { one_entry = λ e. cc; placed = refl; fits = (class_of c.value, refl, refl, refl, (0, refl, refl)); live = tt; covered = ((inl refl, tt), tt) },
+        record {
+          one_entry = λ e. cc;
+          placed = refl;
+          fits = (class_of c.value, refl, refl, refl, (0, refl, refl));
+          live =
+              tt;
+          covered = ((inl refl, tt), tt);
+        },
         (
           record { one_entry = λ e. cc; placed = refl; fits = ((Reference, refl, (refl, tt)), refl); live = tt; covered = (tt, tt) },
           (record { one_entry = λ e. cc; placed = refl; fits = (refl, refl); live = tt; covered = tt }, tt),
@@ -99,8 +111,10 @@ print_there : (code : List IrOp) (n p : ℕ) (ks : List ℕ) → drop p code ≡
 print_there code n p [] c = let h = get_within code p _ (drop_head code p _ _ c) in omega arith
 print_there code n p (k ∷ ks) c = let h = get_within code p _ (drop_head code p _ _ c) in omega arith
 
-module _ (classes : List ClassRec) (globals : List ValueType) (literals : List (List ℕ)) (m : ℕ) (o : Operation) (bytes : slice_get o.variables 0 ≡ Some Bytes) where
-  print_ops : (n p : ℕ) (ks : List ℕ) (statements : List Statement) → drop p o.code ≡ print_code n ks → drop n o.stops ≡ print_stops p ks → AreTexts literals ks statements → AllFrom (FineOp literals o) p (print_code n ks)
+module _ (classes : List ClassRec) (globals : List ValueType) (literals : List (List ℕ)) (m : ℕ) (o : Operation)
+    (bytes : slice_get o.variables 0 ≡ Some Bytes) where
+  print_ops : (n p : ℕ) (ks : List ℕ) (statements : List Statement) → drop p o.code ≡ print_code n ks →
+      drop n o.stops ≡ print_stops p ks → AreTexts literals ks statements → AllFrom (FineOp literals o) p (print_code n ks)
   print_ops n p [] [] c s t = ((stop_of (Return true) [] None p, drop_head o.stops n _ _ s, refl, tt), tt)
   print_ops n p (k ∷ ks) (PrintStatement l ∷ rest) c s t =
       let behind = drop_tail o.code p _ _ c in
@@ -117,7 +131,8 @@ module _ (classes : List ClassRec) (globals : List ValueType) (literals : List (
   print_ops n p [] (x ∷ rest) c s t = absurd t
   print_ops n p (k ∷ ks) [] c s t = absurd t
 
-  print_fine : (n p : ℕ) (ks : List ℕ) → drop p o.code ≡ print_code n ks → drop n o.stops ≡ print_stops p ks → AllFrom (FineStopAt classes globals (suc m) o) n (print_stops p ks)
+  print_fine : (n p : ℕ) (ks : List ℕ) → drop p o.code ≡ print_code n ks → drop n o.stops ≡ print_stops p ks →
+      AllFrom (FineStopAt classes globals (suc m) o) n (print_stops p ks)
   print_fine n p [] c s = (
     record { one_entry = λ e. cc; placed = drop_head o.code p _ _ c; fits = (refl, refl); live = tt; covered = tt },
     tt,
@@ -127,7 +142,14 @@ module _ (classes : List ClassRec) (globals : List ValueType) (literals : List (
       let next = drop_tail o.code (suc p) _ _ behind in
       let stops = drop_tail o.stops n _ _ s in
       let goes : drop (suc p + 1) o.code ≡ print_code (suc n) ks = rw add-one next in (
-        record { one_entry = λ e. cc; placed = drop_head o.code (suc p) _ _ behind; fits = ((bytes, tt), refl); live = tt; covered = rw goes (covers_print o.stops (suc n) (suc (suc p)) ks stops) },
+        record {
+          one_entry = λ e. cc;
+          placed = drop_head o.code (suc p) _ _ behind;
+          fits = ((bytes, tt), refl);
+          live = tt;
+          covered =
+              rw goes (covers_print o.stops (suc n) (suc (suc p)) ks stops);
+        },
         print_fine (suc n) (suc (suc p)) ks next stops,
       )
 
@@ -135,7 +157,8 @@ print_some : (n : ℕ) (ks : List ℕ) → 0 < length (print_code n ks)
 print_some n [] = omega arith
 print_some n (k ∷ ks) = omega arith
 
-fine_printing : (classes : List ClassRec) (globals : List ValueType) (literals : List (List ℕ)) (ks : List ℕ) (statements : List Statement) → AreTexts literals ks statements → FineOperation classes globals literals 1 (printing ks)
+fine_printing : (classes : List ClassRec) (globals : List ValueType) (literals : List (List ℕ)) (ks : List ℕ)
+    (statements : List Statement) → AreTexts literals ks statements → FineOperation classes globals literals 1 (printing ks)
 fine_printing classes globals literals ks statements t =
     let o = printing ks in
     let some = print_some 1 ks in
@@ -152,11 +175,14 @@ print_length : (n : ℕ) (ks : List ℕ) → length (print_code n ks) ≡ 2 * le
 print_length n [] = refl
 print_length n (k ∷ ks) = let e = print_length (suc n) ks in omega arith
 
-ending_operations : (literals : List (List ℕ)) (n : ℕ) (o : Operation) → slice_get (ending ∷ []) n ≡ Some o → FineOperation [] [] literals n o
+ending_operations : (literals : List (List ℕ)) (n : ℕ) (o : Operation) → slice_get (ending ∷ []) n ≡ Some o →
+    FineOperation [] [] literals n o
 ending_operations literals zero o e = let same : o ≡ ending = cc in rw same (fine_ending literals)
 ending_operations literals (suc n) o e = cc
 
-constant_operations : (c : Constant) (literals : List (List ℕ)) (ks : List ℕ) → AreTexts literals ks c.value.initially → (n : ℕ) (o : Operation) → slice_get (defining ∷ printing ks ∷ []) n ≡ Some o → FineOperation (class_of c.value ∷ []) (Reference ∷ []) literals n o
+constant_operations : (c : Constant) (literals : List (List ℕ)) (ks : List ℕ) → AreTexts literals ks c.value.initially →
+    (n : ℕ) (o : Operation) → slice_get (defining ∷ printing ks ∷ []) n ≡ Some o →
+    FineOperation (class_of c.value ∷ []) (Reference ∷ []) literals n o
 constant_operations c literals ks t zero o e = let same : o ≡ defining = cc in rw same (fine_defining c literals)
 constant_operations c literals ks t (suc zero) o e =
     let same : o ≡ printing ks = cc in
@@ -186,7 +212,9 @@ fine_empty literals pool few = record {
   few_classes = omega arith;
 }
 
-fine_constant : (c : Constant) (literals : List (List ℕ)) (ks : List ℕ) → AreTexts literals ks c.value.initially → length c.value.initially ≤ 2 ^ 20 → IsPool literals → length literals ≤ 2 ^ 20 + 1 → Fine (Parted (class_of c.value ∷ []) (Reference ∷ []) (defining ∷ printing ks ∷ []) literals)
+fine_constant : (c : Constant) (literals : List (List ℕ)) (ks : List ℕ) → AreTexts literals ks c.value.initially →
+    length c.value.initially ≤ 2 ^ 20 → IsPool literals → length literals ≤ 2 ^ 20 + 1 →
+    Fine (Parted (class_of c.value ∷ []) (Reference ∷ []) (defining ∷ printing ks ∷ []) literals)
 fine_constant c literals ks t short pool few =
     let counts = all-length (IsTextOf literals) ks c.value.initially t in
     let size = print_length 1 ks in
@@ -203,11 +231,15 @@ fine_constant c literals ks t short pool few =
       few_classes = omega arith;
     }
 
-fine_if : (constant : Option Constant) (literals : List (List ℕ)) (operations : List Operation) → IsShortIf constant → DoesAll constant literals operations → IsPool literals → length literals ≤ 2 ^ 20 + 1 → Fine (Parted (classes_if constant) (globals_if constant) operations literals)
+fine_if : (constant : Option Constant) (literals : List (List ℕ)) (operations : List Operation) → IsShortIf constant →
+    DoesAll constant literals operations → IsPool literals → length literals ≤ 2 ^ 20 + 1 →
+    Fine (Parted (classes_if constant) (globals_if constant) operations literals)
 fine_if None literals operations short h pool few = rw h (fine_empty literals pool few)
 fine_if (Some c) literals operations short h pool few = rw h.operations_are (fine_constant c literals h.places h.texts short pool few)
 
 pub fine : (constant : Option Constant) (ir : Parts) → IsShortIf constant → IsLowered constant ir → Fine ir
 fine constant ir short h =
-    let same : ir ≡ Parted (classes_if constant) (globals_if constant) ir.operations ir.literals = ap (λ cs. Parted cs ir.globals ir.operations ir.literals) h.classes ∙ ap (λ gs. Parted (classes_if constant) gs ir.operations ir.literals) h.globals in
+    let same : ir ≡ Parted (classes_if constant) (globals_if constant) ir.operations ir.literals =
+    ap (λ cs. Parted cs ir.globals ir.operations ir.literals) h.classes
+    ∙ ap (λ gs. Parted (classes_if constant) gs ir.operations ir.literals) h.globals in
     subst Fine (sym same) (fine_if constant ir.literals ir.operations short h.operations h.pool h.few)

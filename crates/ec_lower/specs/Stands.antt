@@ -31,12 +31,15 @@ module _ (literals : List (List ℕ)) (code : List IrOp) (stops : List StopRec) 
   -- a statement's code stands here, and the next items' behind its stop
   abbrev pub StatementAt : Statement → List IrOp → (List IrOp → Type 0) → Type 0
   StatementAt (PrintStatement literal) here next =
-      (k n : ℕ) × (s : StopRec) × (slice_get literals k ≡ Some literal.text) × (here ≡ Literal 0 k ∷ Rest n ∷ drop (s.place + 1) code) × IsStop stops n s PrintStop (0 ∷ []) None × next (drop (s.place + 1) code)
+      (k n : ℕ) × (s : StopRec) × (slice_get literals k ≡ Some literal.text)
+      × (here ≡ Literal 0 k ∷ Rest n ∷ drop (s.place + 1) code) × IsStop stops n s PrintStop (0 ∷ []) None
+      × next (drop (s.place + 1) code)
 
   -- a stop stands here, and the next items' code behind it
   abbrev pub StopAt : Stop → List ℕ → Option ℕ → List IrOp → (List IrOp → Type 0) → Type 0
   StopAt stop operands into here next =
-      (n : ℕ) × (s : StopRec) × (here ≡ Rest n ∷ drop (s.place + 1) code) × IsStop stops n s stop operands into × next (drop (s.place + 1) code)
+      (n : ℕ) × (s : StopRec) × (here ≡ Rest n ∷ drop (s.place + 1) code) × IsStop stops n s stop operands into
+      × next (drop (s.place + 1) code)
 
   -- the items' code stands here; `holds` says that the value held last is in variable 0
   abbrev pub Stands : Bool → List IrOp → List Item → Type 0

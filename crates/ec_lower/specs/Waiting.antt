@@ -18,7 +18,8 @@ use Rattle.ec_world.proofs.Related.{Maybe}
 -- `On` relates activations on top of a process, and `Below` those that wait below another. Related ones rest at the
 -- same stop. A new activation is on top; so is one whose action gets done, also where the process then waits for a monitor;
 -- where its action makes a new activation, it waits below, until what it gets from above does its action. Silent steps keep `On`.
-pub record IsStackSimulation {A B : Type 0} (M : ActivationMeaning A) (N : ActivationMeaning B) (advance : Common → A → Common × A) (advance' : Common → B → Common × B) (On Below : A → B → Type 0) : Type 0 where
+pub record IsStackSimulation {A B : Type 0} (M : ActivationMeaning A) (N : ActivationMeaning B) (advance : Common → A → Common × A)
+    (advance' : Common → B → Common × B) (On Below : A → B → Type 0) : Type 0 where
   pub same_on : (a : A) (b : B) → On a b → SameRest M N a b
   pub same_below : (a : A) (b : B) → Below a b → SameRest M N a b
   pub operands : (a : A) (b : B) → On a b → M.operands a ≡ N.operands b
@@ -28,10 +29,12 @@ pub record IsStackSimulation {A B : Type 0} (M : ActivationMeaning A) (N : Activ
       outcome_of c who (M.stop a) (M.operands a) ≡ Some (d, o) → o.effect ≡ GoesOn given → On (M.finished a given) (N.finished b given)
   pub calls :
       (a : A) (b : B) (c d : Common) (o : Outcome) (who : Who) (op own : ℕ) (args : List Value) → On a b → M.is_pending a ≡ true →
-      outcome_of c who (M.stop a) (M.operands a) ≡ Some (d, o) → o.effect ≡ Calls op own args → Below (M.finished a None) (N.finished b None)
+      outcome_of c who (M.stop a) (M.operands a) ≡ Some (d, o) → o.effect ≡ Calls op own args →
+      Below (M.finished a None) (N.finished b None)
   pub leaves :
       (a : A) (b : B) (c d : Common) (o : Outcome) (who : Who) (given : Option Value) (x : A) (y : B) → On a b → M.is_pending a ≡ true →
-      outcome_of c who (M.stop a) (M.operands a) ≡ Some (d, o) → o.effect ≡ Leaves given → Below x y → On (M.finished x given) (N.finished y given)
+      outcome_of c who (M.stop a) (M.operands a) ≡ Some (d, o) → o.effect ≡ Leaves given → Below x y →
+      On (M.finished x given) (N.finished y given)
   pub blocks :
       (a : A) (b : B) (c d : Common) (o : Outcome) (who : Who) (queue : Queue) (own : ℕ) → On a b → M.is_pending a ≡ true →
       outcome_of c who (M.stop a) (M.operands a) ≡ Some (d, o) → o.effect ≡ Blocks queue own → On (M.finished a None) (N.finished b None)

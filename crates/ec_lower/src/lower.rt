@@ -3,7 +3,8 @@ ghost use Rattle.std.specs.Prelude.{◌≡◌, ◌≢◌, ℕ, ◌+◌, ◌≤�
 ghost use Rattle.ec_printing.specs.Meaning.{class_of, classes_of, globals_of};
 ghost use Rattle.ec_lower.specs.Agreement.{Means};
 ghost use Rattle.ec_lower.specs.Short.{IsShort, IsShortIf, IsShortConstant};
-ghost use Rattle.ec_lower.specs.Printing.{stop_of, entry_stop, ending, defining, printing, print_code, print_stops, IsTextOf, AreTexts, IsPool, KeepsTexts, IsLowered};
+ghost use Rattle.ec_lower.specs.Printing.{stop_of, entry_stop, ending, defining, printing, print_code, print_stops, IsTextOf};
+ghost use Rattle.ec_lower.specs.Printing.{AreTexts, IsPool, KeepsTexts, IsLowered};
 ghost use Rattle.ec_ir.specs.declared.code.IrOp.TheVariants.{Rest};
 
 use ec_base::list::Seq;

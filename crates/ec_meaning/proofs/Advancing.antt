@@ -1,5 +1,6 @@
 -- A process whose activation on top goes on, and one whose doesn't.
-use Rattle.std.proofs.Common.{◌≡◌, ℕ, Bool, true, false, not, List, [], ◌∷◌, ◌++◌, Option, Some, None, ◌<◌, length, refl, sym, ap, ◌∙◌, subst, arith}
+use Rattle.std.proofs.Common.{◌≡◌, ℕ, Bool, true, false, not, List, [], ◌∷◌, ◌++◌, Option, Some, None, ◌<◌, length, refl, sym, ap}
+use Rattle.std.proofs.Common.{◌∙◌, subst, arith}
 use Rattle.std.specs.Prelude.{slice_get, slice_set, IsSome, is_some}
 use mathlib.Core.Bool.{true≢false}
 use Rattle.ec_base.specs.Stack.{top_of, below_of}
@@ -21,7 +22,8 @@ has_top (x ∷ []) h = refl
 has_top (x ∷ y ∷ ys) h = has_top (y ∷ ys) (omega arith)
 
 -- with no activation nothing goes on
-pub idle : (s : Source) (c : Common) (status : ProcStatus) (acts below : List SourceActivation) → None ≡ top_of acts → below ≡ below_of acts →
+pub idle : (s : Source) (c : Common) (status : ProcStatus) (acts below : List SourceActivation) → None ≡ top_of acts →
+    below ≡ below_of acts →
     (c, record { activations = below; status = status }) ≡ advanced_top s c (record { activations = acts; status = status }) (top_of acts)
 idle s c status [] below none b = ap (λ (xs : List SourceActivation). (c, record { activations = xs; status = status })) b
 idle s c status (x ∷ rest) below none b =

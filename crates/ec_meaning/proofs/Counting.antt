@@ -13,4 +13,5 @@ numbers_next from (suc n) =
 pub each_next : {A : Type 0} (f : ℕ → A) (n : ℕ) → map f (numbers_to 0 (n + 1)) ≡ map f (numbers_to 0 n) ++ f n ∷ []
 each_next f n =
     let e : 0 + n ≡ n = omega arith in
-    rw add-one (ap (map f) (numbers_next 0 n) ∙ map-append f (numbers_to 0 n) ((0 + n) ∷ []) ∙ ap (λ m. map f (numbers_to 0 n) ++ f m ∷ []) e)
+    rw add-one
+    (ap (map f) (numbers_next 0 n) ∙ map-append f (numbers_to 0 n) ((0 + n) ∷ []) ∙ ap (λ m. map f (numbers_to 0 n) ++ f m ∷ []) e)

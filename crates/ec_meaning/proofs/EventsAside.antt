@@ -12,7 +12,8 @@ use Rattle.ec_meaning.proofs.EventsOfStops.{rebased, acted_with, action_adds}
 use Rattle.ec_meaning.proofs.EventsOfSteps.{state_with, reached_with, settle_aside}
 use Rattle.ec_world.specs.Outcomes.{Acted}
 use Rattle.ec_world.specs.Meaning.{ActivationMeaning}
-use Rattle.ec_world.specs.World.{Action, GoOn, act_if_pending, act_on, acted, advanced, go_on, go_on_unless, outcome_at, settled as settled_world, given_up, owns_of, stack_at, who_of}
+use Rattle.ec_world.specs.World.{Action, GoOn, act_if_pending, act_on, acted, advanced, go_on, go_on_unless, outcome_at}
+use Rattle.ec_world.specs.World.{settled as settled_world, given_up, owns_of, stack_at, who_of}
 use Rattle.ec_world.specs.declared.common.Common.{Common}
 use Rattle.ec_world.specs.declared.doing.Outcome.{Outcome}
 use Rattle.ec_world.specs.declared.event.Event.{Event}
@@ -26,7 +27,8 @@ module _ {A : Type 0} (M : ActivationMeaning A) where
   abbrev pub AddsAlike : World A → (World A → World A) → Type 0
   AddsAlike w change = (added : List Event) × ((es : List Event) → change (with_events w es) ≡ with_events (change w) (es ++ added))
 
-  adds_nothing : (w : World A) (change : World A → World A) → ((es : List Event) → change (with_events w es) ≡ with_events (change w) es) → AddsAlike w change
+  adds_nothing : (w : World A) (change : World A → World A) →
+      ((es : List Event) → change (with_events w es) ≡ with_events (change w) es) → AddsAlike w change
   adds_nothing w change keeps = ([], λ es. keeps es ∙ ap (with_events (change w)) (sym (append-nil es)))
 
   module _ (p : ℕ) (below : List A) (top : A) where
@@ -71,14 +73,17 @@ module _ (s : Source) where
   abbrev silent_with : List Event → Common × SourceActivation → Common × SourceActivation
   silent_with es x = (rebased x.0 es, x.1)
 
-  resting_aside : (x : Common × Option Reached) (es : List Event) (a : SourceActivation) → resting a (reached_with es x) ≡ silent_with es (resting a x)
+  resting_aside : (x : Common × Option Reached) (es : List Event) (a : SourceActivation) →
+      resting a (reached_with es x) ≡ silent_with es (resting a x)
   resting_aside (c, r) es a = refl
 
-  behind_aside : (b : Bool) (es : List Event) (c : Common) (a : SourceActivation) → state_behind s (rebased c es) a b ≡ state_with es (state_behind s c a b)
+  behind_aside : (b : Bool) (es : List Event) (c : Common) (a : SourceActivation) →
+      state_behind s (rebased c es) a b ≡ state_with es (state_behind s c a b)
   behind_aside true es c a = refl
   behind_aside false es c a = refl
 
-  silent_aside : (es : List Event) (c : Common) (a : SourceActivation) → source_silent s (rebased c es) a ≡ silent_with es (source_silent s c a)
+  silent_aside : (es : List Event) (c : Common) (a : SourceActivation) →
+      source_silent s (rebased c es) a ≡ silent_with es (source_silent s c a)
   silent_aside es c a =
       let items = items_behind s a a.at_entry in
       let st = state_behind s c a a.at_entry in

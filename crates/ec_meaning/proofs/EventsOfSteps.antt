@@ -1,5 +1,6 @@
 -- No silent step reads events, or adds one.
-use Rattle.std.proofs.Common.{◌≡◌, ℕ, zero, suc, ◌-◌, Bool, true, false, if◌then◌else◌, List, [], ◌∷◌, ◌++◌, length, take, drop, Option, Some, None, refl, ap, ◌∙◌}
+use Rattle.std.proofs.Common.{◌≡◌, ℕ, zero, suc, ◌-◌, Bool, true, false, if◌then◌else◌, List, [], ◌∷◌, ◌++◌, length, take, drop}
+use Rattle.std.proofs.Common.{Option, Some, None, refl, ap, ◌∙◌}
 use Rattle.std.specs.Prelude.{slice_get, nat_le}
 use Rattle.ec_ast.specs.declared.Additive.{Additive}
 use Rattle.ec_ast.specs.declared.Additive.TheVariants.{Plus, Minus, Concat}
@@ -23,8 +24,10 @@ use Rattle.ec_core.specs.declared.Statement.{Statement, out-Statement}
 use Rattle.ec_core.specs.declared.Statement.TheOpen.{Statement-F}
 use Rattle.ec_meaning.specs.Meaning.{Reached, behind_loop, settle, settle_by}
 use Rattle.ec_meaning.specs.Programs.{Source, operation_at, line}
-use Rattle.ec_meaning.specs.Steps.{Step, Goes, Rests, Breaks, Returns, NoCase, evaluate, follow, do_statement, choose, block_items, step, value_at, stored, gives, gives_if}
-use Rattle.ec_meaning.specs.Steps.{holding, with_last, last, last_two, by_truth, and_then, or_else, branch, exit_if, require, invert, negate, store, calculate, calculated, divides, is_zero}
+use Rattle.ec_meaning.specs.Steps.{Step, Goes, Rests, Breaks, Returns, NoCase, evaluate, follow, do_statement, choose, block_items}
+use Rattle.ec_meaning.specs.Steps.{step, value_at, stored, gives, gives_if}
+use Rattle.ec_meaning.specs.Steps.{holding, with_last, last, last_two, by_truth, and_then, or_else, branch, exit_if, require}
+use Rattle.ec_meaning.specs.Steps.{invert, negate, store, calculate, calculated, divides, is_zero}
 use Rattle.ec_meaning.specs.Steps.{join, are_same, same_or_not, compare, returned, leave_by, leave}
 use Rattle.ec_meaning.specs.declared.item.Item.{Item}
 use Rattle.ec_meaning.specs.declared.item.Item.TheVariants as i
@@ -99,11 +102,13 @@ module _ (es : List Event) where
   aside_negate (Int z) below = refl
   aside_negate _ below = refl
 
-  aside_same : (o : Option Bool) (under : State) (wanted : Bool) → Aside es (same_or_not (state_with es under) wanted o) (same_or_not under wanted o)
+  aside_same : (o : Option Bool) (under : State) (wanted : Bool) →
+      Aside es (same_or_not (state_with es under) wanted o) (same_or_not under wanted o)
   aside_same None under wanted = refl
   aside_same (Some b) under wanted = refl
 
-  aside_returned : (has_result : Bool) (o : Option Value) (st : State) → Aside es (returned (state_with es st) has_result o) (returned st has_result o)
+  aside_returned : (has_result : Bool) (o : Option Value) (st : State) →
+      Aside es (returned (state_with es st) has_result o) (returned st has_result o)
   aside_returned true None st = refl
   aside_returned true (Some v) st = refl
   aside_returned false o st = refl
@@ -117,12 +122,14 @@ module _ (es : List Event) where
   aside_leave None st = refl
   aside_leave (Some o) st = aside_leave_by o.kind o st
 
-  aside_choose : (arms : List Arm) (other : Option Block) (st : State) → Aside es (choose (state_with es st) arms other) (choose st arms other)
+  aside_choose : (arms : List Arm) (other : Option Block) (st : State) →
+      Aside es (choose (state_with es st) arms other) (choose st arms other)
   aside_choose [] other st = refl
   aside_choose (arm ∷ arms) other st = refl
 
   module _ (st : State) where
-    aside_compare : (op : Comparison) (under : State) (u v : Value) → Aside es (compare op (state_with es st) (state_with es under) u v) (compare op st under u v)
+    aside_compare : (op : Comparison) (under : State) (u v : Value) →
+        Aside es (compare op (state_with es st) (state_with es under) u v) (compare op st under u v)
     aside_compare Same under u v = aside_same (are_same u v) under true
     aside_compare NotSame under u v = aside_same (are_same u v) under false
     aside_compare Equal under u v = aside_same (are_same u v) under true
@@ -138,7 +145,8 @@ module _ (es : List Event) where
     aside_compare _ under _ _ = refl
 
 module _ (es : List Event) (s : Source) where
-  aside_stored : (p : Place) (own : ℕ) (below : State) (v : Value) → stored s own (state_with es below) p v ≡ state_with es (stored s own below p v)
+  aside_stored : (p : Place) (own : ℕ) (below : State) (v : Value) →
+      stored s own (state_with es below) p v ≡ state_with es (stored s own below p v)
   aside_stored (place.Variable n) own below v = refl
   aside_stored (place.Field n) own below v = refl
   aside_stored (place.Captured n) own below v = refl
@@ -196,30 +204,36 @@ module _ (es : List Event) (s : Source) where
     aside_step (i.Add d) = refl
     aside_step (i.AndThen x) =
         aside_last es st (and_then st x) (and_then (state_with es st) x)
-        (λ below v. aside_truth es v (Goes below (i.Evaluate x ∷ [])) (Goes st []) (Goes (state_with es below) (i.Evaluate x ∷ [])) (Goes (state_with es st) []) refl refl)
+        (λ below v. aside_truth es v (Goes below (i.Evaluate x ∷ [])) (Goes st []) (Goes (state_with es below) (i.Evaluate x ∷ []))
+        (Goes (state_with es st) []) refl refl)
     aside_step (i.OrElse x) =
         aside_last es st (or_else st x) (or_else (state_with es st) x)
-        (λ below v. aside_truth es v (Goes st []) (Goes below (i.Evaluate x ∷ [])) (Goes (state_with es st) []) (Goes (state_with es below) (i.Evaluate x ∷ [])) refl refl)
+        (λ below v. aside_truth es v (Goes st []) (Goes below (i.Evaluate x ∷ [])) (Goes (state_with es st) [])
+        (Goes (state_with es below) (i.Evaluate x ∷ [])) refl refl)
     aside_step (i.Choose arms other) = aside_choose es arms other st
     aside_step (i.Again b) = refl
     aside_step (i.Rest action takes) =
         aside_if es (nat_le takes (length st.held))
         (Rests action (drop (length st.held - takes) st.held) (holding st (take (length st.held - takes) st.held)) []) NoCase
-        (Rests action (drop (length st.held - takes) st.held) (holding (state_with es st) (take (length st.held - takes) st.held)) []) NoCase
+        (Rests action (drop (length st.held - takes) st.held) (holding (state_with es st) (take (length st.held - takes) st.held))
+        []) NoCase
         refl refl
     aside_step (i.Calculate op at) = aside_two es st (calculate s op at) (calculate s op at) (aside_calculate op at)
     aside_step (i.Join op at) = aside_two es st (join s op at st) (join s op at (state_with es st)) (aside_join op at st)
     aside_step i.Negate = aside_last es st negate negate (λ below v. aside_negate es v below)
     aside_step i.Invert =
         aside_last es st invert invert
-        (λ below v. aside_truth es v (gives below (Truth false)) (gives below (Truth true)) (gives (state_with es below) (Truth false)) (gives (state_with es below) (Truth true)) refl refl)
+        (λ below v. aside_truth es v (gives below (Truth false)) (gives below (Truth true))
+        (gives (state_with es below) (Truth false)) (gives (state_with es below) (Truth true)) refl refl)
     aside_step (i.Compare op) = aside_two es st (compare op st) (compare op (state_with es st)) (aside_compare es st op)
     aside_step (i.Branch b arms other) =
         aside_last es st (branch b arms other) (branch b arms other)
-        (λ below v. aside_truth es v (Goes below (block_items b)) (Goes below (i.Choose arms other ∷ [])) (Goes (state_with es below) (block_items b)) (Goes (state_with es below) (i.Choose arms other ∷ [])) refl refl)
+        (λ below v. aside_truth es v (Goes below (block_items b)) (Goes below (i.Choose arms other ∷ []))
+        (Goes (state_with es below) (block_items b)) (Goes (state_with es below) (i.Choose arms other ∷ [])) refl refl)
     aside_step i.ExitIf =
         aside_last es st exit_if exit_if
-        (λ below v. aside_truth es v (Breaks below) (Goes below []) (Breaks (state_with es below)) (Goes (state_with es below) []) refl refl)
+        (λ below v. aside_truth es v (Breaks below) (Goes below []) (Breaks (state_with es below)) (Goes (state_with es below) [])
+        refl refl)
     aside_step (i.Store p) =
         aside_last es st (store s a.own p) (store s a.own p) (λ below v. ap (λ (z : State). Goes z []) (aside_stored p a.own below v))
     aside_step i.Discard = refl
@@ -241,7 +255,8 @@ module _ (es : List Event) (s : Source) where
     settle_by_aside (Returns new) next st rest so = so new (i.Leave ∷ [])
     settle_by_aside NoCase next st rest so = refl
 
-    pub settle_aside : (n : ℕ) (st : State) (items : List Item) → settle s a n (state_with es st) items ≡ reached_with es (settle s a n st items)
+    pub settle_aside : (n : ℕ) (st : State) (items : List Item) →
+        settle s a n (state_with es st) items ≡ reached_with es (settle s a n st items)
     settle_aside zero st items = refl
     settle_aside (suc n) st [] = refl
     settle_aside (suc n) st (x ∷ rest) =

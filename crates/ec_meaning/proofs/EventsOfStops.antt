@@ -1,5 +1,6 @@
 -- No stop's action reads events: whatever happened before, it adds the same events, and the rest is the same.
-use Rattle.std.proofs.Common.{◌≡◌, ℕ, zero, suc, ◌∙◌, Bool, true, false, List, [], ◌∷◌, ◌++◌, length, Option, Some, None, refl, sym, ap, append-nil}
+use Rattle.std.proofs.Common.{◌≡◌, ℕ, zero, suc, ◌∙◌, Bool, true, false, List, [], ◌∷◌, ◌++◌, length, Option, Some, None, refl, sym}
+use Rattle.std.proofs.Common.{ap, append-nil}
 use Rattle.ec_monitors.specs.declared.record.MonitorRec.{MonitorRec}
 use Rattle.ec_monitors.specs.declared.record.Granted.{Granted}
 use Rattle.ec_monitors.specs.declared.record.Entry.{Entry as Within}
@@ -9,7 +10,8 @@ use Rattle.ec_world.specs.declared.class.ClassNo.{ClassNo}
 use Rattle.ec_world.specs.declared.class.ClassRec.{ClassRec}
 use Rattle.ec_world.specs.declared.common.Common.{Common}
 use Rattle.ec_world.specs.declared.doing.Doing.{Doing}
-use Rattle.ec_world.specs.declared.doing.Doing.TheVariants.{Passes, Prints, Defines, Stores, Makes, MakesVector, Invokes, Returns, Moves, Unfixes, Enters, Waits, Signals, Finishes, Breaks}
+use Rattle.ec_world.specs.declared.doing.Doing.TheVariants.{Passes, Prints, Defines, Stores, Makes, MakesVector, Invokes, Returns}
+use Rattle.ec_world.specs.declared.doing.Doing.TheVariants.{Moves, Unfixes, Enters, Waits, Signals, Finishes, Breaks}
 use Rattle.ec_world.specs.declared.doing.Section.{Section}
 use Rattle.ec_world.specs.declared.event.Event.{Event}
 use Rattle.ec_world.specs.declared.event.Event.TheVariants.{Created, Moved}
@@ -22,7 +24,8 @@ use Rattle.ec_world.specs.declared.stop.Who.{Who}
 use Rattle.ec_world.specs.Doings.{Asked, doing_of}
 use Rattle.ec_world.specs.Group.{links_of, wanted, mark_all, spread, rounds, none_marked, marked_from, group_of}
 use Rattle.ec_world.specs.Objects.{class_at}
-use Rattle.ec_world.specs.Outcomes.{Acted, Done, acted_if, acting, at_condition, by_holder, done, entering, entry_done, left_behind, made_object, monitor_of, outcome_of, return_done, section_on, signal_done, signal_effect, wait_done}
+use Rattle.ec_world.specs.Outcomes.{Acted, Done, acted_if, acting, at_condition, by_holder, done, entering, entry_done, left_behind}
+use Rattle.ec_world.specs.Outcomes.{made_object, monitor_of, outcome_of, return_done, section_on, signal_done, signal_effect, wait_done}
 use Rattle.ec_world.specs.Sights.{sight_of}
 use Rattle.ec_world.proofs.Seeing.{SameSight, doing_same}
 
@@ -51,7 +54,8 @@ rounds_same (suc n) c es marks =
     ap (λ (l : List ℕ). rounds (rebased c es) n (mark_all l 1 marks)) (wanted_same marks c es 1) ∙ rounds_same n c es (spread c marks)
 
 group_same : (c : Common) (x : ℕ) (es : List Event) → group_of (rebased c es) x ≡ group_of c x
-group_same c x es = ap (λ (l : List Bool). marked_from 1 l) (rounds_same (length c.objects) c es (mark_all (x ∷ []) 1 (none_marked c.objects)))
+group_same c x es = ap (λ (l : List Bool). marked_from 1 l)
+    (rounds_same (length c.objects) c es (mark_all (x ∷ []) 1 (none_marked c.objects)))
 
 -- a world sees the same whatever happened before
 same_sight : (c : Common) (es : List Event) → SameSight (sight_of (rebased c es)) (sight_of c)
@@ -78,7 +82,8 @@ Adds c act = (added : List Event) × ((es : List Event) → act (rebased c es) �
 adds_none : (c : Common) (act : Common → Done) → Keeps c act → Adds c act
 adds_none c act keeps = ([], λ es. keeps es ∙ ap (done_with (act c)) (sym (append-nil es)))
 
-adds_made : (o : Option ClassRec) (c : Common) (who : Who) (class : ClassNo) (given : List Value) → Adds c (λ d. made_object d who class given o)
+adds_made : (o : Option ClassRec) (c : Common) (who : Who) (class : ClassNo) (given : List Value) →
+    Adds c (λ d. made_object d who class given o)
 adds_made None c who class given = adds_none c (λ d. made_object d who class given None) (λ es. refl)
 adds_made (Some k) c who class given = (Created (suc (length c.objects)) who.own ∷ [], λ es. refl)
 
@@ -91,23 +96,28 @@ keeps_entry : (o : Option MonitorRec) (c : Common) (who : Who) → Keeps c (λ d
 keeps_entry None c who = λ es. refl
 keeps_entry (Some m) c who = keeps_entering (entered m who.process) c who.own
 
-keeps_acting : (g : Granting) (c : Common) (own : ℕ) (effect : Option Granted → Effect) (started : Option Section) → Keeps c (λ d. acting d own effect started g)
+keeps_acting : (g : Granting) (c : Common) (own : ℕ) (effect : Option Granted → Effect) (started : Option Section) →
+    Keeps c (λ d. acting d own effect started g)
 keeps_acting (m, granted) c own effect started = λ es. refl
 
 keeps_wait : (o : Option MonitorRec) (c : Common) (who : Who) (condition : ℕ) → Keeps c (λ d. wait_done d who condition o)
 keeps_wait None c who condition = λ es. refl
 keeps_wait (Some m) c who condition =
-    keeps_acting (by_holder who.process m (at_condition m condition (waited m condition))) c who.own (λ granted. Blocks ForCondition who.own) None
+    keeps_acting (by_holder who.process m (at_condition m condition (waited m condition))) c who.own
+    (λ granted. Blocks ForCondition who.own) None
 
 keeps_signal : (o : Option MonitorRec) (c : Common) (who : Who) (condition : ℕ) → Keeps c (λ d. signal_done d who condition o)
 keeps_signal None c who condition = λ es. refl
-keeps_signal (Some m) c who condition = keeps_acting (by_holder who.process m (at_condition m condition (signalled m condition))) c who.own (signal_effect who.own) None
+keeps_signal (Some m) c who condition =
+    keeps_acting (by_holder who.process m (at_condition m condition (signalled m condition))) c who.own (signal_effect who.own) None
 
-keeps_left : (o : Option MonitorRec) (c : Common) (who : Who) (given : Option Value) (started : Option Section) → Keeps c (λ d. left_behind d who given started o)
+keeps_left : (o : Option MonitorRec) (c : Common) (who : Who) (given : Option Value) (started : Option Section) →
+    Keeps c (λ d. left_behind d who given started o)
 keeps_left None c who given started = λ es. refl
 keeps_left (Some m) c who given started = keeps_acting (by_holder who.process m (left m)) c who.own (λ granted. Leaves given) started
 
-keeps_return : (leaves : Bool) (c : Common) (who : Who) (given : Option Value) (started : Option Section) → Keeps c (λ d. return_done d who given leaves started)
+keeps_return : (leaves : Bool) (c : Common) (who : Who) (given : Option Value) (started : Option Section) →
+    Keeps c (λ d. return_done d who given leaves started)
 keeps_return true c who given started = keeps_left (monitor_of c who.own) c who given started
 keeps_return false c who given started = keeps_left None c who given started
 
@@ -128,7 +138,8 @@ done_adds (Moves members to (Some x)) c who = (Moved members to ∷ [], λ es. r
 done_adds (Unfixes x) c who = adds_none c (λ d. done d who (Unfixes x)) (λ es. refl)
 done_adds Enters c who = adds_none c (λ d. done d who Enters) (keeps_entry (monitor_of c who.own) c who)
 done_adds (Waits condition) c who = adds_none c (λ d. done d who (Waits condition)) (keeps_wait (monitor_of c who.own) c who condition)
-done_adds (Signals condition) c who = adds_none c (λ d. done d who (Signals condition)) (keeps_signal (monitor_of c who.own) c who condition)
+done_adds (Signals condition) c who =
+    adds_none c (λ d. done d who (Signals condition)) (keeps_signal (monitor_of c who.own) c who condition)
 done_adds Finishes c who = adds_none c (λ d. done d who Finishes) (λ es. refl)
 done_adds (Breaks why line) c who = adds_none c (λ d. done d who (Breaks why line)) (λ es. refl)
 

@@ -1,5 +1,6 @@
 -- Each silent step makes what is to be done before the next stop lighter.
-use Rattle.std.proofs.Common.{◌≡◌, ℕ, zero, suc, ◌+◌, ◌*◌, ◌≤◌, ◌<◌, Bool, true, false, if◌then◌else◌, List, [], ◌∷◌, ◌++◌, length, map, Option, Some, None, refl, sym, ap, ◌∙◌, subst, arith}
+use Rattle.std.proofs.Common.{◌≡◌, ℕ, zero, suc, ◌+◌, ◌*◌, ◌≤◌, ◌<◌, Bool, true, false, if◌then◌else◌, List, [], ◌∷◌, ◌++◌, length}
+use Rattle.std.proofs.Common.{map, Option, Some, None, refl, sym, ap, ◌∙◌, subst, arith}
 use Rattle.std.specs.Prelude.{slice_get, nat_le, take, drop, ◌-◌}
 use Rattle.ec_ast.specs.declared.Additive.{Additive}
 use Rattle.ec_ast.specs.declared.Additive.TheVariants.{Plus, Minus, Concat}
@@ -22,16 +23,22 @@ use Rattle.ec_core.specs.declared.Place.{Place}
 use Rattle.ec_core.specs.declared.Statement.{Statement, out-Statement}
 use Rattle.ec_core.specs.declared.Statement.TheOpen.{Statement-F}
 use Rattle.ec_meaning.specs.Programs.{Source, operation_at, class_number, name_number, line}
-use Rattle.ec_meaning.specs.Steps.{Step, Goes, Rests, Breaks, Returns, NoCase, with_last, last, last_two, by_truth, gives_if, same_or_not, are_same}
-use Rattle.ec_meaning.specs.Steps.{evaluate, follow, do_statement, choose, block_if, calculate, join, compare, returned, leave_by, leave, step, value_at, negate, stop_of, divides, is_zero, calculated, gives, holding, and_then, or_else, invert, branch, block_items, exit_if, store, require}
+use Rattle.ec_meaning.specs.Steps.{Step, Goes, Rests, Breaks, Returns, NoCase, with_last, last, last_two, by_truth, gives_if}
+use Rattle.ec_meaning.specs.Steps.{same_or_not, are_same}
+use Rattle.ec_meaning.specs.Steps.{evaluate, follow, do_statement, choose, block_if, calculate, join, compare, returned, leave_by}
+use Rattle.ec_meaning.specs.Steps.{leave, step, value_at, negate, stop_of, divides, is_zero, calculated, gives, holding, and_then}
+use Rattle.ec_meaning.specs.Steps.{or_else, invert, branch, block_items, exit_if, store, require}
 use Rattle.ec_meaning.specs.Weights.{total, expression_weight, link_weight, statement_weight}
-use Rattle.ec_meaning.specs.Weights.{weight_of_expression, weight_of_link, weight_of_addend, weight_of_factor, weight_of_arm, weight_of_arms, weight_of_other, weight_of_block}
+use Rattle.ec_meaning.specs.Weights.{weight_of_expression, weight_of_link, weight_of_addend, weight_of_factor, weight_of_arm}
+use Rattle.ec_meaning.specs.Weights.{weight_of_arms, weight_of_other, weight_of_block}
 use Rattle.ec_meaning.specs.Weights.{item_weight, weight}
 use Rattle.ec_meaning.specs.declared.item.Item.{Item}
 use Rattle.ec_meaning.specs.declared.item.Item.TheVariants as i
 use Rattle.ec_meaning.specs.declared.state.State.{State}
 use Rattle.ec_meaning.specs.declared.state.Whose.{Whose}
-use Rattle.ec_meaning.proofs.Weighing.{expression_weighed, expression_is, link_weighed, link_is, addend_is, factor_is, statement_weighed, statement_is, arm_is, arms_are, weight_append, weight_each, weight_evaluated, weight_block}
+use Rattle.ec_meaning.proofs.Weighing.{expression_weighed, expression_is, link_weighed, link_is, addend_is, factor_is}
+use Rattle.ec_meaning.proofs.Weighing.{statement_weighed, statement_is, arm_is, arms_are, weight_append, weight_each}
+use Rattle.ec_meaning.proofs.Weighing.{weight_evaluated, weight_block}
 use Rattle.ec_world.specs.declared.process.Cause.TheVariants as cause
 use Rattle.ec_world.specs.declared.stop.Stop.TheVariants as stop
 use Rattle.ec_world.specs.declared.value.Value.{Value}
@@ -47,7 +54,8 @@ Lighter n NoCase = 0 < n
 
 -- ---- choices
 
-lighter_if : (n : ℕ) (b : Bool) (yes_step no_step : Step) → Lighter n yes_step → Lighter n no_step → Lighter n (if b then yes_step else no_step)
+lighter_if : (n : ℕ) (b : Bool) (yes_step no_step : Step) → Lighter n yes_step → Lighter n no_step →
+    Lighter n (if b then yes_step else no_step)
 lighter_if n true yes_step no_step y o = y
 lighter_if n false yes_step no_step y o = o
 
@@ -66,7 +74,8 @@ lighter_two n st go some each =
     lighter_last n st (λ below v. last below (λ under u. go under u v)) some
     (λ below v. lighter_last n below (λ under u. go under u v) some (λ under u. each under u v))
 
-lighter_truth : (n : ℕ) (v : Value) (yes_step no_step : Step) → 0 < n → Lighter n yes_step → Lighter n no_step → Lighter n (by_truth v yes_step no_step)
+lighter_truth : (n : ℕ) (v : Value) (yes_step no_step : Step) → 0 < n → Lighter n yes_step → Lighter n no_step →
+    Lighter n (by_truth v yes_step no_step)
 lighter_truth n (Truth true) yes_step no_step some y o = y
 lighter_truth n (Truth false) yes_step no_step some y o = o
 lighter_truth n (Int z) yes_step no_step some y o = some
@@ -92,7 +101,8 @@ places_weight (p ∷ places) =
     omega arith
 
 module _ (s : Source) (a : Whose) (st : State) where
-  lighter_evaluate : (y : Expression-F Expression Link Addend Factor) → Lighter (expression_weight (expression_weighed y)) (evaluate s a st y)
+  lighter_evaluate : (y : Expression-F Expression Link Addend Factor) →
+      Lighter (expression_weight (expression_weighed y)) (evaluate s a st y)
   lighter_evaluate (Expression-F.Number n) = omega arith
   lighter_evaluate (Expression-F.Literal text) = omega arith
   lighter_evaluate (Expression-F.Truth b) = omega arith
@@ -160,7 +170,8 @@ module _ (s : Source) (a : Whose) (st : State) where
   lighter_statement (Statement-F.Wait n) = omega arith
   lighter_statement (Statement-F.Signal n) = omega arith
 
-  lighter_choose : (arms : List Arm) (other : Option Block) → Lighter (1 + (weight_of_arms arms + weight_of_other other)) (choose st arms other)
+  lighter_choose : (arms : List Arm) (other : Option Block) →
+      Lighter (1 + (weight_of_arms arms + weight_of_other other)) (choose st arms other)
   lighter_choose [] None = omega arith
   lighter_choose [] (Some b) = let h = weight_block b in omega arith
   lighter_choose (arm ∷ arms) other = let h = arm_is arm in omega arith
@@ -296,10 +307,12 @@ module _ (s : Source) (a : Whose) (st : State) where
   lighter (i.Add d) = let h = addend_is d in omega arith
   lighter (i.AndThen x) =
       lighter_last (1 + weight_of_expression x) st (and_then st x) (omega arith)
-      (λ below v. lighter_truth (1 + weight_of_expression x) v (Goes below (i.Evaluate x ∷ [])) (Goes st []) (omega arith) (omega arith) (omega arith))
+      (λ below v. lighter_truth (1 + weight_of_expression x) v (Goes below (i.Evaluate x ∷ [])) (Goes st []) (omega arith)
+      (omega arith) (omega arith))
   lighter (i.OrElse x) =
       lighter_last (1 + weight_of_expression x) st (or_else st x) (omega arith)
-      (λ below v. lighter_truth (1 + weight_of_expression x) v (Goes st []) (Goes below (i.Evaluate x ∷ [])) (omega arith) (omega arith) (omega arith))
+      (λ below v. lighter_truth (1 + weight_of_expression x) v (Goes st []) (Goes below (i.Evaluate x ∷ [])) (omega arith)
+      (omega arith) (omega arith))
   lighter (i.Choose arms other) = lighter_choose arms other
   lighter (i.Again b) = omega arith
   lighter (i.Rest action takes) =
@@ -317,7 +330,8 @@ module _ (s : Source) (a : Whose) (st : State) where
       let n : ℕ = 2 + (weight_of_block b + (weight_of_arms arms + weight_of_other other)) in
       let h = weight_block b in
       lighter_last n st (branch b arms other) (omega arith)
-      (λ below v. lighter_truth n v (Goes below (block_items b)) (Goes below (i.Choose arms other ∷ [])) (omega arith) (omega arith) (omega arith))
+      (λ below v. lighter_truth n v (Goes below (block_items b)) (Goes below (i.Choose arms other ∷ [])) (omega arith) (omega arith)
+      (omega arith))
   lighter i.ExitIf =
       lighter_last 1 st exit_if (omega arith)
       (λ below v. lighter_truth 1 v (Breaks below) (Goes below []) (omega arith) (omega arith) (omega arith))
@@ -325,5 +339,6 @@ module _ (s : Source) (a : Whose) (st : State) where
   lighter i.Discard = omega arith
   lighter (i.Require at) =
       lighter_last 1 st (require s at) (omega arith)
-      (λ below v. lighter_truth 1 v (Goes below []) (Rests (stop.Fail cause.FalseAssertion (line s at)) [] below []) (omega arith) (omega arith) (omega arith))
+      (λ below v. lighter_truth 1 v (Goes below []) (Rests (stop.Fail cause.FalseAssertion (line s at)) [] below []) (omega arith)
+      (omega arith) (omega arith))
   lighter i.Leave = lighter_leave (operation_at s a.operation)

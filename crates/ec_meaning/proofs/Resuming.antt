@@ -21,12 +21,15 @@ begun_with c variables held = record { common = c; variables = variables; held =
 
 by_entry : (s : Source) (c : Common) (a : SourceActivation) (b : Bool) →
     settled s a (state_behind s c a b) (items_behind s a b)
-    ≡ resting a (settle s (whose a) (weight (items_from s a.operation b a.items)) (begun_with c (variables_from s a.operation b a.variables) a.held) (items_from s a.operation b a.items))
+    ≡ resting a
+    (settle s (whose a) (weight (items_from s a.operation b a.items))
+    (begun_with c (variables_from s a.operation b a.variables) a.held) (items_from s a.operation b a.items))
 by_entry s c a true = refl
 by_entry s c a false = refl
 
 -- the silent steps from behind a stop, by what was taken out of the activation (`vs`, `hs`, `is`) and what was left there
-pub goes_on : (s : Source) (c : Common) (a : SourceActivation) (vs hs variables vs' hs' : List Value) (is items is' : List Item) (x : Common × Option Reached) (r : Common × SourceActivation) →
+pub goes_on : (s : Source) (c : Common) (a : SourceActivation) (vs hs variables vs' hs' : List Value) (is items is' : List Item)
+    (x : Common × Option Reached) (r : Common × SourceActivation) →
     vs ≡ a.variables → hs ≡ a.held → is ≡ a.items →
     variables ≡ variables_from s a.operation a.at_entry vs → items ≡ items_from s a.operation a.at_entry is →
     x ≡ settle s (whose a) (weight items) (begun_with c variables hs) items →
@@ -40,5 +43,6 @@ goes_on s c a vs hs variables vs' hs' is items is' x r ev eh ei v i so e =
     ∙ ap (resting a) so
     ∙ ap (λ (h : List Value). resting a (settle s (whose a) (weight items) (begun_with c variables h) items)) eh
     ∙ ap (λ (w : List Value). resting a (settle s (whose a) (weight items) (begun_with c w a.held) items)) v'
-    ∙ ap (λ (l : List Item). resting a (settle s (whose a) (weight l) (begun_with c (variables_from s a.operation a.at_entry a.variables) a.held) l)) i'
+    ∙ ap (λ (l : List Item). resting a
+    (settle s (whose a) (weight l) (begun_with c (variables_from s a.operation a.at_entry a.variables) a.held) l)) i'
     ∙ sym (by_entry s c a a.at_entry)

@@ -59,7 +59,8 @@ module _ (s : Source) (a : Whose) where
   same_by n m w st rest (Returns new) l p q so = so new (i.Leave ∷ []) (omega arith) (omega arith)
   same_by n m w st rest NoCase l p q so = refl
 
-  same_fuel : (n m : ℕ) (st : State) (items : List Item) → weight items ≤ n → weight items ≤ m → settle s a n st items ≡ settle s a m st items
+  same_fuel : (n m : ℕ) (st : State) (items : List Item) → weight items ≤ n → weight items ≤ m →
+      settle s a n st items ≡ settle s a m st items
   same_fuel zero zero st items p q = refl
   same_fuel zero (suc m) st [] p q = refl
   same_fuel zero (suc m) st (x ∷ rest) p q = let h = some_weight (item_weight x) (step s a st x) (lighter s a st x) in absurd (omega arith)
@@ -110,13 +111,15 @@ module _ (s : Source) (a : Whose) where
   below_by w st rest NoCase l = tt
 
   -- each step makes what is to be done lighter
-  pub step_below : (st new : State) (x : Item) (rest items : List Item) → On new items ≡ after st rest (step s a st x) → weight items < weight (x ∷ rest)
+  pub step_below : (st new : State) (x : Item) (rest items : List Item) → On new items ≡ after st rest (step s a st x) →
+      weight items < weight (x ∷ rest)
   step_below st new x rest items e =
       subst (IsBelow (weight (x ∷ rest))) (sym e) (below_by (item_weight x) st rest (step s a st x) (lighter s a st x))
 
   -- ---- what the code answers of a step
 
-  came_from : (st new : State) (x : Item) (todo rest items : List Item) (o : Outcome) → todo ≡ x ∷ rest → came o new items ≡ after st rest (step s a st x) →
+  came_from : (st new : State) (x : Item) (todo rest items : List Item) (o : Outcome) → todo ≡ x ∷ rest →
+      came o new items ≡ after st rest (step s a st x) →
       from_after (came o new items) ≡ settle s a (weight todo) st todo
   came_from st new x todo rest items o t e =
       ap from_after e ∙ sym (one_step st x rest) ∙ ap (λ l. settle s a (weight l) st l) (sym t)
@@ -136,8 +139,10 @@ module _ (s : Source) (a : Whose) where
       omega arith
 
   -- it rests at a stop
-  pub rests : (st new : State) (x : Item) (todo rest items : List Item) (o : Outcome) (all : Common × Option Reached) (action : Stop) (operands : List Value) →
-      todo ≡ x ∷ rest → came o new items ≡ after st rest (step s a st x) → o ≡ outcome.Rests action operands → settle s a (weight todo) st todo ≡ all →
+  pub rests : (st new : State) (x : Item) (todo rest items : List Item) (o : Outcome) (all : Common × Option Reached)
+      (action : Stop) (operands : List Value) →
+      todo ≡ x ∷ rest → came o new items ≡ after st rest (step s a st x) → o ≡ outcome.Rests action operands →
+      settle s a (weight todo) st todo ≡ all →
       (new.common, Some (reached action operands new items)) ≡ all
   rests st new x todo rest items o all action operands t e g so =
       sym (ap (λ p. from_after (came p new items)) g) ∙ came_from st new x todo rest items o t e ∙ so

@@ -1,5 +1,6 @@
 -- The weights of parts of the core, of those of the parts within them, and of lists.
-use Rattle.std.proofs.Common.{◌≡◌, ℕ, suc, ◌+◌, ◌*◌, ◌≤◌, ◌<◌, List, [], ◌∷◌, ◌++◌, length, map, Option, Some, None, refl, sym, ap, ◌∙◌, arith}
+use Rattle.std.proofs.Common.{◌≡◌, ℕ, suc, ◌+◌, ◌*◌, ◌≤◌, ◌<◌, List, [], ◌∷◌, ◌++◌, length, map, Option, Some, None, refl, sym, ap}
+use Rattle.std.proofs.Common.{◌∙◌, arith}
 use Rattle.ec_core.specs.declared.Addend.{Addend, out-Addend, roll-Addend, roll-out-Addend, fold-roll-Addend}
 use Rattle.ec_core.specs.declared.Arm.{Arm, out-Arm, roll-out-Arm, map-Arm, fold-roll-Arm}
 use Rattle.ec_core.specs.declared.Block.{Block, out-Block, roll-out-Block, map-Block, fold-roll-Block}
@@ -11,8 +12,10 @@ use Rattle.ec_core.specs.declared.Link.{Link, out-Link, roll-out-Link, map-Link,
 use Rattle.ec_core.specs.declared.Place.{Place}
 use Rattle.ec_core.specs.declared.Statement.{Statement, out-Statement, roll-out-Statement, map-Statement, fold-roll-Statement}
 use Rattle.ec_core.specs.declared.Statement.TheOpen.{Statement-F, Arm-F, Block-F}
-use Rattle.ec_meaning.specs.Weights.{total, expression_weight, link_weight, addend_weight, factor_weight, statement_weight, arm_weight, block_weight}
-use Rattle.ec_meaning.specs.Weights.{weight_of_expression, weight_of_link, weight_of_addend, weight_of_factor, weight_of_statement, weight_of_arm, weight_of_block}
+use Rattle.ec_meaning.specs.Weights.{total, expression_weight, link_weight, addend_weight, factor_weight, statement_weight}
+use Rattle.ec_meaning.specs.Weights.{arm_weight, block_weight}
+use Rattle.ec_meaning.specs.Weights.{weight_of_expression, weight_of_link, weight_of_addend, weight_of_factor, weight_of_statement}
+use Rattle.ec_meaning.specs.Weights.{weight_of_arm, weight_of_block}
 use Rattle.ec_meaning.specs.Weights.{weight_of_arms, weight_of_other, weight_if, item_weight, weight}
 use Rattle.ec_meaning.specs.declared.item.Item.{Item}
 use Rattle.ec_meaning.specs.declared.item.Item.TheVariants as i
@@ -20,7 +23,8 @@ use Rattle.ec_meaning.specs.declared.item.Item.TheVariants as i
 -- ---- parts
 
 abbrev pub expression_weighed : Expression-F Expression Link Addend Factor → Expression-F ℕ ℕ ℕ ℕ
-expression_weighed = map-Expression Expression Link Addend Factor ℕ ℕ ℕ ℕ weight_of_expression weight_of_link weight_of_addend weight_of_factor
+expression_weighed = map-Expression Expression Link Addend Factor ℕ ℕ ℕ ℕ weight_of_expression weight_of_link weight_of_addend
+    weight_of_factor
 
 pub expression_is : (x : Expression) → weight_of_expression x ≡ expression_weight (expression_weighed (out-Expression x))
 expression_is x =

@@ -1,7 +1,8 @@
 -- Silent steps: a case on the first thing that is still to do (Jul, Levy, Hutchinson, Black 1988; the Emerald report).
 -- Evaluation goes from left to right; `and` and `or` evaluate their right sides where they are needed. Nothing here knows
 -- registers, addresses, an order of bytes, or places.
-use Rattle.std.specs.Prelude.{ℕ, zero, suc, ◌+◌, ◌-◌, ◌==◌, Bool, true, false, not, if◌then◌else◌, List, [], ◌∷◌, ◌++◌, map, length, take, drop}
+use Rattle.std.specs.Prelude.{ℕ, zero, suc, ◌+◌, ◌-◌, ◌==◌, Bool, true, false, not, if◌then◌else◌, List, [], ◌∷◌, ◌++◌, map, length}
+use Rattle.std.specs.Prelude.{take, drop}
 use Rattle.std.specs.Prelude.{Option, Some, None, slice_get, slice_set, nat_le, ℤ, pos, negsuc, int_lt, int_le, int_rem}
 use Rattle.std.specs.Int.{w32, int_wrapping_add, int_wrapping_sub, int_wrapping_mul, int_wrapping_div, int_wrapping_neg}
 use Rattle.ec_ast.specs.declared.Additive.{Additive}

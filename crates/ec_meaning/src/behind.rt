@@ -78,7 +78,8 @@ fn resting_at(
     held: Values,
     todo: Todo,
 ) -> SourceActivation
-    ensures { result ≡ spec.rested a (Some (record { action = at.stop; operands = at.operands; variables = variables; held = held; items = todo })) }
+    ensures { result ≡ spec.rested a
+        (Some (record { action = at.stop; operands = at.operands; variables = variables; held = held; items = todo })) }
 {
     SourceActivation {
         operation: a.operation,

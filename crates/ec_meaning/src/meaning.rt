@@ -112,7 +112,8 @@ fn advance_top(
     common: Common,
     process: &mut Proc<SourceActivation>,
 ) -> Result<Common, AllocError>
-    ensures { IfOk result (λ c. (c, process.new) ≡ advanced_top (source_of program.now) common process.old (top_of process.old.activations)) }
+    ensures { IfOk result
+        (λ c. (c, process.new) ≡ advanced_top (source_of program.now) common process.old (top_of process.old.activations)) }
 {
     match process.activations.pop() {
         Some(top) => {

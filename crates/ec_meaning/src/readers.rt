@@ -32,7 +32,9 @@ impl Meaning<'_> {
 
     /// The name of an object's class, where the object is there. The error is want of memory.
     pub fn class_name(&self, o: Oid) -> Result<Option<Vec<u8>>, AllocError>
-        ensures { IfOk result (λ found. option_map (λ name. name.items) found ≡ names.name_if (source_of self.now.program) (object_at self.now.world.common.objects o)) }
+        ensures { IfOk result
+            (λ found. option_map (λ name. name.items) found ≡ names.name_if (source_of self.now.program)
+            (object_at self.now.world.common.objects o)) }
     {
         let Some(object) = self.world.common.object(o) else {
             return Ok(None);

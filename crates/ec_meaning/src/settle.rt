@@ -27,7 +27,8 @@ pub(crate) fn settle(
     state: &mut State,
     todo: &mut Todo,
 ) -> Result<Option<AtStop>, AllocError>
-    ensures { IfOk result (λ r. settled_at r state.new todo.new ≡ spec.settle (source_of program.now) whose (weight todo.old) state.old todo.old) }
+    ensures { IfOk result
+        (λ r. settled_at r state.new todo.new ≡ spec.settle (source_of program.now) whose (weight todo.old) state.old todo.old) }
 {
     while let Some(item) = todo.pop() {
         match step(program, whose, item, state, todo)? {

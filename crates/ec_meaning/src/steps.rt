@@ -38,7 +38,8 @@ pub(crate) fn step(
     state: &mut State,
     todo: &mut Todo,
 ) -> Result<Outcome, AllocError>
-    ensures { IfOk result (λ o. came o state.new todo.new ≡ after state.old todo.old (spec.step (source_of program.now) whose state.old item)) }
+    ensures { IfOk result
+        (λ o. came o state.new todo.new ≡ after state.old todo.old (spec.step (source_of program.now) whose state.old item)) }
 {
     match item {
         Item::Do(x) => do_statement(x, program, whose, state, todo),

@@ -30,7 +30,16 @@ impl Model for Todo {
 
     ghost Value = { List Item };
 
-    ghost coded = { Prim.hlevel (codes, addend.the_row.coded, arm.the_row.coded, block.the_row.coded, expression.the_row.coded, factor.the_row.coded, link.the_row.coded, statement.the_row.coded) };
+    ghost coded = { Prim.hlevel (
+      codes,
+      addend.the_row.coded,
+      arm.the_row.coded,
+      block.the_row.coded,
+      expression.the_row.coded,
+      factor.the_row.coded,
+      link.the_row.coded,
+      statement.the_row.coded,
+    ) };
 
     ghost view = { λ t. reverse t.items };
 }

@@ -1,5 +1,6 @@
 -- The words of blocks and globals.
-use Rattle.std.proofs.Common.{◌≡◌, ◌≢◌, ℕ, zero, suc, ◌+◌, ◌*◌, ◌%◌, ◌^◌, ◌<◌, ◌≤◌, List, [], ◌∷◌, length, Some, refl, sym, ap, ◌∙◌, subst, arith}
+use Rattle.std.proofs.Common.{◌≡◌, ◌≢◌, ℕ, zero, suc, ◌+◌, ◌*◌, ◌%◌, ◌^◌, ◌<◌, ◌≤◌, List, [], ◌∷◌, length, Some, refl, sym, ap, ◌∙◌}
+use Rattle.std.proofs.Common.{subst, arith}
 use Rattle.std.specs.Prelude.{slice_get, IsSome, replicate}
 use Rattle.std.specs.Option.{option_map}
 use Rattle.std.proofs.lemmas.Option.{slice_get-get_or}
@@ -65,7 +66,8 @@ zero_bytes m at (suc n) h =
     let rest = zero_bytes m (at + 1) n (λ k lt. let on : at + 1 + k ≡ at + suc k = omega arith in ap m on ∙ h (suc k) (omega arith)) in
     ap (λ o. before_rest o (bytes_from m (at + 1) n)) (ap m here ∙ h 0 (omega arith)) ∙ ap (with_front 0) rest
 
-module _ (number : ℕ → List ℕ → ℕ) (zeros : number 4 (0 ∷ 0 ∷ 0 ∷ 0 ∷ []) ≡ 0) (s : Store) (whole : IsWhole s) (blocks globals : ℕ) (new : IsNew s blocks globals) where
+module _ (number : ℕ → List ℕ → ℕ) (zeros : number 4 (0 ∷ 0 ∷ 0 ∷ 0 ∷ []) ≡ 0) (s : Store) (whole : IsWhole s) (blocks globals : ℕ)
+    (new : IsNew s blocks globals) where
   pub new_global_word : (i : ℕ) → i < globals → i < 2 ^ 20 → word_in number (store_byte s) (global_word_at i) ≡ Some 0
   new_global_word i hi few =
       ap (option_map (number 4)) (zero_bytes (store_byte s) (global_word_at i) 4 (λ k lt.

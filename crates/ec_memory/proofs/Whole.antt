@@ -14,7 +14,8 @@ whole_same s t w h = record {
   blocks_long = h.blocks ∙ w.blocks_long ∙ ap (λ (l : List ℕ). 512 * length l) (sym h.links);
   few_blocks = subst (λ (l : List ℕ). length l ≤ 65536) (sym h.links) w.few_blocks;
   few_globals = subst (λ n. n ≤ 4194304) (sym h.globals) w.few_globals;
-  in_range = subst (λ (l : List ℕ). AllByRecursion (λ b. b < length l) t.free) (sym h.links) (subst (λ (f : List ℕ). AllByRecursion (λ b. b < length s.links) f) (sym h.free) w.in_range);
+  in_range = subst (λ (l : List ℕ). AllByRecursion (λ b. b < length l) t.free) (sym h.links)
+      (subst (λ (f : List ℕ). AllByRecursion (λ b. b < length s.links) f) (sym h.free) w.in_range);
   apart = subst (λ (f : List ℕ). AreApart f) (sym h.free) w.apart;
 }
 
@@ -24,17 +25,20 @@ whole_taken s t first n w h = record {
   few_blocks = subst (λ (l : List ℕ). length l ≤ 65536) (sym h.links) w.few_blocks;
   few_globals = subst (λ (l : List ℕ). length l ≤ 4194304) (sym h.globals) w.few_globals;
   in_range = subst (λ (l : List ℕ). AllByRecursion (λ b. b < length l) t.free) (sym h.links)
-      (all_back (λ b. b < length s.links) (chain s.links first n) t.free (subst (λ (f : List ℕ). AllByRecursion (λ b. b < length s.links) f) h.list w.in_range));
+      (all_back (λ b. b < length s.links) (chain s.links first n) t.free
+      (subst (λ (f : List ℕ). AllByRecursion (λ b. b < length s.links) f) h.list w.in_range));
   apart = apart_back (chain s.links first n) t.free (subst (λ (f : List ℕ). AreApart f) h.list w.apart);
 }
 
-pub whole_given : (s t : Store) (first n : ℕ) → IsWhole s → AllByRecursion (λ b. b < length s.links) (chain s.links first n) → AreApart (chain s.links first n ++ s.free) → Gives s t first n → IsWhole t
+pub whole_given : (s t : Store) (first n : ℕ) → IsWhole s → AllByRecursion (λ b. b < length s.links) (chain s.links first n) →
+    AreApart (chain s.links first n ++ s.free) → Gives s t first n → IsWhole t
 whole_given s t first n w within apart h = record {
   blocks_long = ap (λ (l : List ℕ). length l) h.blocks ∙ w.blocks_long ∙ ap (λ m. 512 * m) (sym h.sized);
   few_blocks = subst (λ m. m ≤ 65536) (sym h.sized) w.few_blocks;
   few_globals = subst (λ (l : List ℕ). length l ≤ 4194304) (sym h.globals) w.few_globals;
   in_range = subst (λ m. AllByRecursion (λ b. b < m) t.free) (sym h.sized)
-      (subst (λ (f : List ℕ). AllByRecursion (λ b. b < length s.links) f) (sym h.free) (all_both (λ b. b < length s.links) (chain s.links first n) s.free within w.in_range));
+      (subst (λ (f : List ℕ). AllByRecursion (λ b. b < length s.links) f) (sym h.free)
+      (all_both (λ b. b < length s.links) (chain s.links first n) s.free within w.in_range));
   apart = subst (λ (f : List ℕ). AreApart f) (sym h.free) apart;
 }
 

@@ -1,5 +1,6 @@
 -- Words of a memory after a write, in a byte order of which only two laws count.
-use Rattle.std.proofs.Common.{◌≡◌, ◌≢◌, ℕ, zero, suc, ◌+◌, ◌-◌, ◌%◌, ◌^◌, ◌<◌, ◌≤◌, ◌⊎◌, ◌++◌, ◌↔◌, List, [], length, Option, Some, None, refl, sym, ap, ◌∙◌, subst, ⊎_elim, arith, cond, true, false, get_or, take, drop, inl, inr}
+use Rattle.std.proofs.Common.{◌≡◌, ◌≢◌, ℕ, zero, suc, ◌+◌, ◌-◌, ◌%◌, ◌^◌, ◌<◌, ◌≤◌, ◌⊎◌, ◌++◌, ◌↔◌, List, [], length, Option, Some}
+use Rattle.std.proofs.Common.{None, refl, sym, ap, ◌∙◌, subst, ⊎_elim, arith, cond, true, false, get_or, take, drop, inl, inr}
 use Rattle.std.specs.Prelude.{slice_get, nat_le, nat_lt, ◌&&◌, IsSome}
 use Rattle.std.specs.Option.{option_map}
 use Rattle.std.proofs.lemmas.Bool.{cases_lt}
@@ -14,7 +15,8 @@ use Rattle.ec_memory.specs.Words.{word_in, HasWord}
 -- a byte that isn't written
 pub byte_other : (m : Bytes) (at : ℕ) (bs : List ℕ) (a : ℕ) → (a < at) ⊎ (at + length bs ≤ a) → with_bytes m at bs a ≡ m a
 byte_other m at bs a h =
-    let test : (nat_le at a && nat_lt a (at + length bs)) ≡ false = ⊎_elim (λ p. grind (arith, nat_tests)) (λ p. grind (arith, nat_tests)) h in
+    let test : (nat_le at a && nat_lt a (at + length bs)) ≡ false =
+    ⊎_elim (λ p. grind (arith, nat_tests)) (λ p. grind (arith, nat_tests)) h in
     ap (λ b. cond b (slice_get bs (a - at)) (m a)) test
 
 -- a byte that is written
@@ -25,7 +27,8 @@ byte_written m at bs k h =
     ap (λ b. cond b (slice_get bs (at + k - at)) (m (at + k))) test ∙ ap (slice_get bs) e ∙ slice_get-get_or bs k 0 h
 
 -- bytes beside the written ones
-pub bytes_other : (m : Bytes) (at : ℕ) (bs : List ℕ) (a n : ℕ) → (a + n ≤ at) ⊎ (at + length bs ≤ a) → bytes_from (with_bytes m at bs) a n ≡ bytes_from m a n
+pub bytes_other : (m : Bytes) (at : ℕ) (bs : List ℕ) (a n : ℕ) → (a + n ≤ at) ⊎ (at + length bs ≤ a) →
+    bytes_from (with_bytes m at bs) a n ≡ bytes_from m a n
 unfolding bytes_from
 bytes_other m at bs a zero h = refl
 bytes_other m at bs a (suc n) h =
@@ -33,7 +36,8 @@ bytes_other m at bs a (suc n) h =
     let rest = bytes_other m at bs (a + 1) n (⊎_elim (λ p. inl (omega arith)) (λ p. inr (omega arith)) h) in
     ap (λ o. before_rest o (bytes_from (with_bytes m at bs) (a + 1) n)) one ∙ ap (before_rest (m a)) rest
 
-bytes_within : (m : Bytes) (at : ℕ) (bs : List ℕ) (n k : ℕ) → k + n ≤ length bs → bytes_from (with_bytes m at bs) (at + k) n ≡ Some (take n (drop k bs))
+bytes_within : (m : Bytes) (at : ℕ) (bs : List ℕ) (n k : ℕ) → k + n ≤ length bs →
+    bytes_from (with_bytes m at bs) (at + k) n ≡ Some (take n (drop k bs))
 unfolding bytes_from
 bytes_within m at bs zero k h = refl
 bytes_within m at bs (suc n) k h =
@@ -47,7 +51,8 @@ bytes_within m at bs (suc n) k h =
 pub bytes_written : (m : Bytes) (at : ℕ) (bs : List ℕ) → bytes_from (with_bytes m at bs) at (length bs) ≡ Some bs
 bytes_written m at bs =
     let here : at ≡ at + 0 = omega arith in
-    ap (λ a. bytes_from (with_bytes m at bs) a (length bs)) here ∙ bytes_within m at bs (length bs) 0 (omega arith) ∙ ap Some (take_all (length bs) bs (omega arith))
+    ap (λ a. bytes_from (with_bytes m at bs) a (length bs)) here ∙ bytes_within m at bs (length bs) 0 (omega arith)
+    ∙ ap Some (take_all (length bs) bs (omega arith))
 
 -- ---- which bytes are there
 
@@ -79,7 +84,8 @@ all_there m at zero h = refl
 all_there m at (suc n) h =
     let here : at + zero ≡ at = omega arith in
     whole_there (m at) (bytes_from m (at + 1) n) (subst (λ a. IsSome (m a)) here (h 0 (omega arith)))
-    (all_there m (at + 1) n (λ k lt. let on : at + suc k ≡ at + 1 + k = omega arith in subst (λ a. IsSome (m a)) on (h (suc k) (omega arith))))
+    (all_there m (at + 1) n
+    (λ k lt. let on : at + suc k ≡ at + 1 + k = omega arith in subst (λ a. IsSome (m a)) on (h (suc k) (omega arith))))
 
 -- ---- words
 
@@ -91,7 +97,9 @@ words_apart a at e f ne =
     (cases_lt a at)
 
 -- the laws of a byte order: a number is read back, and its bytes are as many as were asked for
-module _ (number : ℕ → List ℕ → ℕ) (bytes : ℕ → ℕ → List ℕ) (reads_back : (n x : ℕ) (rest : List ℕ) → x < 256 ^ n → number n (bytes n x ++ rest) ≡ x) (length_bytes : (n x : ℕ) → length (bytes n x) ≡ n) where
+module _ (number : ℕ → List ℕ → ℕ) (bytes : ℕ → ℕ → List ℕ)
+    (reads_back : (n x : ℕ) (rest : List ℕ) → x < 256 ^ n → number n (bytes n x ++ rest) ≡ x)
+    (length_bytes : (n x : ℕ) → length (bytes n x) ≡ n) where
   four : (w : ℕ) → w < 2 ^ 32 → number 4 (bytes 4 w) ≡ w
   four w h = ap (number 4) (sym (append-nil (bytes 4 w))) ∙ reads_back 4 w [] h
 
@@ -103,13 +111,15 @@ module _ (number : ℕ → List ℕ → ℕ) (bytes : ℕ → ℕ → List ℕ) 
       ap (option_map (number 4)) read ∙ ap Some (four w h)
 
   -- a word that shares no byte with the written one
-  pub word_beside : (m : Bytes) (at w a : ℕ) → (a + 4 ≤ at) ⊎ (at + 4 ≤ a) → word_in number (with_bytes m at (bytes 4 w)) a ≡ word_in number m a
+  pub word_beside : (m : Bytes) (at w a : ℕ) → (a + 4 ≤ at) ⊎ (at + 4 ≤ a) →
+      word_in number (with_bytes m at (bytes 4 w)) a ≡ word_in number m a
   word_beside m at w a h =
       let long = length_bytes 4 w in
       ap (option_map (number 4)) (bytes_other m at (bytes 4 w) a 4 (⊎_elim (λ p. inl p) (λ p. inr (omega (arith, long, p))) h))
 
   -- any other aligned word
-  pub word_other : (m : Bytes) (at w a : ℕ) → a % 4 ≡ 0 → at % 4 ≡ 0 → a ≢ at → word_in number (with_bytes m at (bytes 4 w)) a ≡ word_in number m a
+  pub word_other : (m : Bytes) (at w a : ℕ) → a % 4 ≡ 0 → at % 4 ≡ 0 → a ≢ at →
+      word_in number (with_bytes m at (bytes 4 w)) a ≡ word_in number m a
   word_other m at w a e f ne = word_beside m at w a (words_apart a at e f ne)
 
   -- a byte outside the written word

@@ -4,7 +4,8 @@ ghost use Rattle.std.specs.Prelude.{◌≡◌, ◌+◌, ◌++◌, ◌≤◌, ◌
 ghost use Rattle.std.specs.List.{AllByRecursion};
 ghost use Rattle.ec_base.specs.Bytes.{with_bytes};
 ghost use Rattle.ec_memory.specs.Words.{HasWord, word_in};
-ghost use Rattle.ec_memory.specs.Store.{SameLists, same_lists, same_lists_on, store_byte, chain, after, AreApart, Takes, Gives, IsRising, IsNew, IsWhole};
+ghost use Rattle.ec_memory.specs.Store.{SameLists, same_lists, same_lists_on, store_byte, chain, after, AreApart, Takes, Gives};
+ghost use Rattle.ec_memory.specs.Store.{IsRising, IsNew, IsWhole};
 
 use crate::region::{read_from, write_to};
 use byteorder::ByteOrder;
@@ -37,9 +38,11 @@ impl<O: ByteOrder> Model for Blocks<O> {
 
     ghost Value = { Store };
 
-    ghost view = { λ s. record { blocks = s.blocks.items; globals = s.globals.items; links = s.links.items; free = chain s.links.items s.head s.free } };
+    ghost view = { λ s.
+        record { blocks = s.blocks.items; globals = s.globals.items; links = s.links.items; free = chain s.links.items s.head s.free } };
 
-    ghost invariant = { λ s. IsWhole (record { blocks = s.blocks.items; globals = s.globals.items; links = s.links.items; free = chain s.links.items s.head s.free }) };
+    ghost invariant = { λ s. IsWhole
+        (record { blocks = s.blocks.items; globals = s.globals.items; links = s.links.items; free = chain s.links.items s.head s.free }) };
 }
 
 /// Blocks of one owner: the first, and how many.

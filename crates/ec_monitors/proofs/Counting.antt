@@ -5,7 +5,8 @@ use Rattle.std.proofs.lemmas.Bool.Decides.{nat_tests}
 use Rattle.ec_base.specs.Stack.{top_of}
 use Rattle.ec_monitors.specs.declared.record.MonitorRec.{MonitorRec}
 use Rattle.ec_monitors.specs.declared.record.Hold.{Hold}
-use Rattle.ec_monitors.specs.Monitors.{is_hold_of, enter_by, enter_held, leave_by, leave_held, wait_by, signal_by, resumed, released, top_of_urgent, first_of_entry, waiting_for}
+use Rattle.ec_monitors.specs.Monitors.{is_hold_of, enter_by, enter_held, leave_by, leave_held, wait_by, signal_by, resumed}
+use Rattle.ec_monitors.specs.Monitors.{released, top_of_urgent, first_of_entry, waiting_for}
 use Rattle.ec_monitors.specs.Standing.{one_if, times_held, times_entering, times_waiting, times_behind, times_in}
 use Rattle.ec_monitors.specs.Laws.{going_by, NobodyIsLost}
 use Rattle.ec_monitors.proofs.Standing.{entering-push, waiting-push, waiting-top, queues-set}
@@ -14,7 +15,8 @@ use Rattle.ec_monitors.proofs.Standing.{entering-push, waiting-push, waiting-top
 
 first_times : (m : MonitorRec) (es : List ℕ) (q : ℕ) → m.entry ≡ es → times_in (first_of_entry m es).0 q ≡ times_behind m q
 first_times m [] q e = let k : times_entering q m.entry ≡ 0 = ap (times_entering q) e in omega arith
-first_times m (x ∷ xs) q e = let k : times_entering q m.entry ≡ one_if (x == q) + times_entering q xs = ap (times_entering q) e in omega arith
+first_times m (x ∷ xs) q e = let k : times_entering q m.entry ≡ one_if (x == q) + times_entering q xs =
+    ap (times_entering q) e in omega arith
 
 top_times : (m : MonitorRec) (o : Option Hold) (q : ℕ) → top_of m.urgent ≡ o → times_in (top_of_urgent m o).0 q ≡ times_behind m q
 top_times m None q e = first_times m m.entry q refl
@@ -34,7 +36,8 @@ held_times m p q h true e same =
     omega arith
 held_times m p q h false e other = let k = entering-push q m.entry p in omega arith
 
-enter_times : (m : MonitorRec) (p q : ℕ) (o : Option Hold) → m.holder ≡ o → times_in (enter_by m p o).0 q ≡ times_in m q + (if is_hold_of p o then 0 else one_if (p == q))
+enter_times : (m : MonitorRec) (p q : ℕ) (o : Option Hold) → m.holder ≡ o →
+    times_in (enter_by m p o).0 q ≡ times_in m q + (if is_hold_of p o then 0 else one_if (p == q))
 enter_times m p q None e = let k : times_held q m.holder ≡ 0 = ap (times_held q) e in omega arith
 enter_times m p q (Some h) e = held_times m p q h (h.process == p) e refl
 
@@ -54,7 +57,8 @@ leave_times m q (Some h) e = deep_times m q h (nat_lt 1 h.depth) e
 
 -- waiting
 
-wait_times : (m : MonitorRec) (c q : ℕ) (o : Option Hold) → c < length m.conditions → m.holder ≡ o → times_in (wait_by m c o).0 q ≡ times_in m q
+wait_times : (m : MonitorRec) (c q : ℕ) (o : Option Hold) → c < length m.conditions → m.holder ≡ o →
+    times_in (wait_by m c o).0 q ≡ times_in m q
 wait_times m c q None there e = refl
 wait_times m c q (Some h) there e =
     let k : times_held q m.holder ≡ one_if (h.process == q) = ap (times_held q) e in
@@ -75,7 +79,8 @@ resumed_times m c q h (x ∷ xs) there e f =
     let w = waiting-push q m.urgent h in
     omega arith
 
-signal_times : (m : MonitorRec) (c q : ℕ) (o : Option Hold) → c < length m.conditions → m.holder ≡ o → times_in (signal_by m c o).0 q ≡ times_in m q
+signal_times : (m : MonitorRec) (c q : ℕ) (o : Option Hold) → c < length m.conditions → m.holder ≡ o →
+    times_in (signal_by m c o).0 q ≡ times_in m q
 signal_times m c q None there e = refl
 signal_times m c q (Some h) there e = resumed_times m c q h (waiting_for m c) there e refl
 

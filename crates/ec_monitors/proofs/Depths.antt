@@ -1,11 +1,13 @@
 -- Each process that holds a monitor, or waits to go on in it, has entered it at least once.
-use Rattle.std.proofs.Common.{◌≡◌, ℕ, zero, suc, ◌<◌, ◌≤◌, ◌==◌, Bool, true, false, List, [], ◌∷◌, ◌++◌, Option, Some, None, refl, ap, arith}
+use Rattle.std.proofs.Common.{◌≡◌, ℕ, zero, suc, ◌<◌, ◌≤◌, ◌==◌, Bool, true, false, List, [], ◌∷◌, ◌++◌, Option, Some, None, refl}
+use Rattle.std.proofs.Common.{ap, arith}
 use Rattle.std.specs.Prelude.{slice_get, slice_set, replicate, nat_lt}
 use Rattle.std.proofs.lemmas.Bool.Decides.{nat_tests}
 use Rattle.ec_base.specs.Stack.{top_of, below_of}
 use Rattle.ec_monitors.specs.declared.record.MonitorRec.{MonitorRec}
 use Rattle.ec_monitors.specs.declared.record.Hold.{Hold}
-use Rattle.ec_monitors.specs.Monitors.{enter_by, enter_held, leave_by, leave_held, wait_by, signal_by, resumed, released, top_of_urgent, first_of_entry, waiting_for, queue_at}
+use Rattle.ec_monitors.specs.Monitors.{enter_by, enter_held, leave_by, leave_held, wait_by, signal_by, resumed, released}
+use Rattle.ec_monitors.specs.Monitors.{top_of_urgent, first_of_entry, waiting_for, queue_at}
 use Rattle.ec_monitors.specs.Laws.{KeptByEachAct, HasDepths, DeepIf, EachDeep, AllDeep}
 
 deep_push : (xs : List Hold) (y : Hold) → EachDeep xs → 1 ≤ y.depth → EachDeep (xs ++ y ∷ [])
@@ -44,7 +46,8 @@ first_deep : (m : MonitorRec) (es : List ℕ) → EachDeep m.urgent → AllDeep 
 first_deep m [] urgent all = (tt, urgent, all)
 first_deep m (x ∷ xs) urgent all = (omega arith, urgent, all)
 
-top_deep : (m : MonitorRec) (o : Option Hold) → top_of m.urgent ≡ o → EachDeep m.urgent → AllDeep m.conditions → HasDepths (top_of_urgent m o).0
+top_deep : (m : MonitorRec) (o : Option Hold) → top_of m.urgent ≡ o → EachDeep m.urgent → AllDeep m.conditions →
+    HasDepths (top_of_urgent m o).0
 top_deep m None e urgent all = first_deep m m.entry urgent all
 top_deep m (Some h) e urgent all = (deep_top m.urgent h e urgent, deep_below m.urgent urgent, all)
 
@@ -71,9 +74,11 @@ wait_deep : (m : MonitorRec) (c : ℕ) (o : Option Hold) → m.holder ≡ o → 
 wait_deep m c None e deep = deep
 wait_deep m c (Some h) e deep =
     let queue = deep_push (waiting_for m c) h (all_at m.conditions c deep.2) (held_deep m.holder h e deep.0) in
-    released_deep (record m { holder = None; conditions = slice_set m.conditions c (waiting_for m c ++ h ∷ []) }) deep.1 (all_set m.conditions c (waiting_for m c ++ h ∷ []) deep.2 queue)
+    released_deep (record m { holder = None; conditions = slice_set m.conditions c (waiting_for m c ++ h ∷ []) }) deep.1
+    (all_set m.conditions c (waiting_for m c ++ h ∷ []) deep.2 queue)
 
-resumed_deep : (m : MonitorRec) (c : ℕ) (h : Hold) (hs : List Hold) → 1 ≤ h.depth → EachDeep hs → HasDepths m → HasDepths (resumed m c h hs).0
+resumed_deep : (m : MonitorRec) (c : ℕ) (h : Hold) (hs : List Hold) → 1 ≤ h.depth → EachDeep hs → HasDepths m →
+    HasDepths (resumed m c h hs).0
 resumed_deep m c h [] k queue deep = deep
 resumed_deep m c h (x ∷ xs) k queue deep = (queue.0, deep_push m.urgent h deep.1 k, all_set m.conditions c xs deep.2 queue.1)
 

@@ -6,7 +6,8 @@ use Rattle.ec_base.specs.Stack.{top_of}
 use Rattle.ec_base.proofs.Stacks.{top_of_none}
 use Rattle.ec_monitors.specs.declared.record.MonitorRec.{MonitorRec}
 use Rattle.ec_monitors.specs.declared.record.Hold.{Hold}
-use Rattle.ec_monitors.specs.Monitors.{is_held_by, is_hold_of, enter_by, enter_held, leave_by, leave_held, wait_by, signal_by, resumed, released, top_of_urgent, first_of_entry, waiting_for}
+use Rattle.ec_monitors.specs.Monitors.{is_held_by, is_hold_of, enter_by, enter_held, leave_by, leave_held, wait_by, signal_by}
+use Rattle.ec_monitors.specs.Monitors.{resumed, released, top_of_urgent, first_of_entry, waiting_for}
 use Rattle.ec_monitors.specs.Standing.{one_if, times_in, times_behind, times_held, StandsOnce}
 use Rattle.ec_monitors.specs.Laws.{KeptByEachAct, FreeIsEmpty, times_coming}
 use Rattle.ec_monitors.proofs.Standing.{queues-none}
@@ -25,7 +26,8 @@ one_comes m p q true e none once =
     omega arith
 one_comes m p q false e none once = omega arith
 
-coming_by : (m : MonitorRec) (p q : ℕ) (b : Bool) → is_held_by m p ≡ b → times_behind m p ≡ 0 → times_in m q ≤ 1 → times_in m q + cond b 0 (one_if (p == q)) ≤ 1
+coming_by : (m : MonitorRec) (p q : ℕ) (b : Bool) → is_held_by m p ≡ b → times_behind m p ≡ 0 → times_in m q ≤ 1 →
+    times_in m q + cond b 0 (one_if (p == q)) ≤ 1
 coming_by m p q true e apart once = omega arith
 coming_by m p q false e apart once = let k = not_held p m.holder e in one_comes m p q (p == q) refl (omega arith) once
 
@@ -74,7 +76,8 @@ leave_empty m (Some h) empty = deep_empty m h (nat_lt 1 h.depth)
 
 wait_empty : (m : MonitorRec) (c : ℕ) (o : Option Hold) → FreeIsEmpty m → FreeIsEmpty (wait_by m c o).0
 wait_empty m c None empty = empty
-wait_empty m c (Some h) empty = released_empty (record m { holder = None; conditions = slice_set m.conditions c (waiting_for m c ++ h ∷ []) })
+wait_empty m c (Some h) empty =
+    released_empty (record m { holder = None; conditions = slice_set m.conditions c (waiting_for m c ++ h ∷ []) })
 
 resumed_empty : (m : MonitorRec) (c : ℕ) (h : Hold) (hs : List Hold) → FreeIsEmpty m → FreeIsEmpty (resumed m c h hs).0
 resumed_empty m c h [] empty = empty

@@ -1,5 +1,6 @@
 -- One queue of several is changed.
-use Rattle.std.proofs.Common.{◌≡◌, ℕ, zero, suc, ◌+◌, ◌<◌, ◌≤◌, List, [], ◌∷◌, ◌++◌, length, take, add-one, get_or, Option, Some, None, refl, sym, ap, ◌∙◌, arith}
+use Rattle.std.proofs.Common.{◌≡◌, ℕ, zero, suc, ◌+◌, ◌<◌, ◌≤◌, List, [], ◌∷◌, ◌++◌, length, take, add-one, get_or, Option, Some}
+use Rattle.std.proofs.Common.{None, refl, sym, ap, ◌∙◌, arith}
 use Rattle.std.specs.Prelude.{slice_get, slice_set, replicate, IfSome, IfNone}
 use Rattle.std.proofs.lemmas.List.{length-append}
 use Rattle.ec_base.proofs.Lists.{set_there}
@@ -19,7 +20,8 @@ queues_set [] c q = refl
 queues_set (r ∷ qs) zero q = refl
 queues_set (r ∷ qs) (suc c) q = ap (λ (rest : List (List Hold)). r.items ∷ rest) (queues_set qs c q)
 
-pub count_set : (qs : List (Vec Hold)) (c : ℕ) (q q' : Vec Hold) → slice_get qs c ≡ Some q → waiting_count (slice_set qs c q') + length q.items ≡ waiting_count qs + length q'.items
+pub count_set : (qs : List (Vec Hold)) (c : ℕ) (q q' : Vec Hold) → slice_get qs c ≡ Some q →
+    waiting_count (slice_set qs c q') + length q.items ≡ waiting_count qs + length q'.items
 count_set [] c q q' e = absurd cc
 count_set (r ∷ qs) zero q q' e = let s : r ≡ q = cc in rw s (omega arith)
 count_set (r ∷ qs) (suc c) q q' e = let h = count_set qs c q q' e in omega arith
@@ -34,7 +36,8 @@ room_at n [] c q e h = absurd cc
 room_at n (r ∷ qs) zero q e h = let s : r ≡ q = cc in rw (← s) h.0
 room_at n (r ∷ qs) (suc c) q e h = room_at n qs c q e h.1
 
-pub room_set : (n : ℕ) (qs : List (Vec Hold)) (c : ℕ) (q q' : Vec Hold) → slice_get qs c ≡ Some q → vec_capacity q ≤ vec_capacity q' → EachHasRoom n qs → EachHasRoom n (slice_set qs c q')
+pub room_set : (n : ℕ) (qs : List (Vec Hold)) (c : ℕ) (q q' : Vec Hold) → slice_get qs c ≡ Some q →
+    vec_capacity q ≤ vec_capacity q' → EachHasRoom n qs → EachHasRoom n (slice_set qs c q')
 room_set n [] c q q' e le h = absurd cc
 room_set n (r ∷ qs) zero q q' e le h = let s : r ≡ q = cc in let k : n ≤ vec_capacity q = rw (← s) h.0 in (omega arith, h.1)
 room_set n (r ∷ qs) (suc c) q q' e le h = (h.0, room_set n qs c q q' e le h.1)
@@ -51,7 +54,8 @@ queues_get (r ∷ qs) (suc c) q e = queues_get qs c q e
 
 -- one queue of these is changed
 module _ (qs : List (Vec Hold)) (c : ℕ) (q q' : Vec Hold) (at : slice_get qs c ≡ Some q) where
-  pub pushed : (h : Hold) → q'.items ≡ q.items ++ h ∷ [] → queues (slice_set qs c q') ≡ slice_set (queues qs) c (queue_at (slice_get (queues qs) c) ++ h ∷ [])
+  pub pushed : (h : Hold) → q'.items ≡ q.items ++ h ∷ [] →
+      queues (slice_set qs c q') ≡ slice_set (queues qs) c (queue_at (slice_get (queues qs) c) ++ h ∷ [])
   pushed h e = queues_set qs c q' ∙ ap (slice_set (queues qs) c) (e ∙ ap (λ (r : List Hold). r ++ h ∷ []) (sym (queue_there qs c q at)))
 
   pub pushed_count : (h : Hold) → q'.items ≡ q.items ++ h ∷ [] → waiting_count (slice_set qs c q') ≡ waiting_count qs + 1
@@ -60,33 +64,45 @@ module _ (qs : List (Vec Hold)) (c : ℕ) (q q' : Vec Hold) (at : slice_get qs c
       let l : length q'.items ≡ length q.items + 1 = ap length e ∙ length-append q.items (h ∷ []) in
       omega arith
 
-  pub first_is : (r : Option Hold) → IfSome r (λ x. q.items ≡ x ∷ q'.items) → IfSome r (λ x. (rest : List Hold) × (queue_at (slice_get (queues qs) c) ≡ x ∷ rest) × (queues (slice_set qs c q') ≡ slice_set (queues qs) c rest))
+  pub first_is : (r : Option Hold) → IfSome r (λ x. q.items ≡ x ∷ q'.items) →
+      IfSome r (λ x. (rest : List Hold) × (queue_at (slice_get (queues qs) c) ≡ x ∷ rest)
+      × (queues (slice_set qs c q') ≡ slice_set (queues qs) c rest))
   first_is None e = tt
   first_is (Some x) e = (q'.items, queue_there qs c q at ∙ e, queues_set qs c q')
 
-  pub none_is : (r : Option Hold) → IfNone r (q.items ≡ []) → IfNone r (q'.items ≡ []) → IfNone r ((queue_at (slice_get (queues qs) c) ≡ []) × (queues (slice_set qs c q') ≡ queues qs))
-  none_is None e f = (queue_there qs c q at ∙ e, queues_set qs c q' ∙ ap (slice_set (queues qs) c) (f ∙ sym e) ∙ set_there (queues qs) c q.items (queues_get qs c q at))
+  pub none_is : (r : Option Hold) → IfNone r (q.items ≡ []) → IfNone r (q'.items ≡ []) →
+      IfNone r ((queue_at (slice_get (queues qs) c) ≡ []) × (queues (slice_set qs c q') ≡ queues qs))
+  none_is None e f = (
+    queue_there qs c q at ∙ e,
+    queues_set qs c q' ∙ ap (slice_set (queues qs) c) (f ∙ sym e)
+        ∙ set_there (queues qs) c q.items (queues_get qs c q at),
+  )
   none_is (Some x) e f = tt
 
-  pub first_count : (r : Option Hold) → IfSome r (λ x. length q'.items + 1 ≡ length q.items) → IfNone r (q.items ≡ []) → IfNone r (q'.items ≡ []) → waiting_count qs ≡ waiting_count (slice_set qs c q') + held_count r
+  pub first_count : (r : Option Hold) → IfSome r (λ x. length q'.items + 1 ≡ length q.items) → IfNone r (q.items ≡ []) →
+      IfNone r (q'.items ≡ []) → waiting_count qs ≡ waiting_count (slice_set qs c q') + held_count r
   first_count None d e f = let k = count_set qs c q q' at in let l : length q'.items ≡ length q.items = ap length (f ∙ sym e) in omega arith
   first_count (Some x) d e f = let k = count_set qs c q q' at in omega arith
 
-pub signal_fits : (room : ℕ) (holder : Option Hold) (h next : Hold) (entry : List ℕ) (urgent urgent' : List Hold) (qs qs' : List (Vec Hold)) → holder ≡ Some h → urgent' ≡ urgent ++ h ∷ [] → waiting_count qs ≡ waiting_count qs' + 1
+pub signal_fits : (room : ℕ) (holder : Option Hold) (h next : Hold) (entry : List ℕ) (urgent urgent' : List Hold)
+    (qs qs' : List (Vec Hold)) → holder ≡ Some h → urgent' ≡ urgent ++ h ∷ [] → waiting_count qs ≡ waiting_count qs' + 1
     → present holder entry urgent qs ≤ room → present (Some next) entry urgent' qs' ≤ room
 signal_fits room holder h next entry urgent urgent' qs qs' is e k fits =
     let l : length urgent' ≡ length urgent + 1 = ap length e ∙ length-append urgent (h ∷ []) in
     let one : held_count holder ≡ 1 = ap held_count is in
     omega arith
 
-pub none_fits : (room : ℕ) (holder : Option Hold) (entry : List ℕ) (urgent : List Hold) (qs qs' : List (Vec Hold)) → waiting_count qs ≡ waiting_count qs' + 0
+pub none_fits : (room : ℕ) (holder : Option Hold) (entry : List ℕ) (urgent : List Hold) (qs qs' : List (Vec Hold)) →
+    waiting_count qs ≡ waiting_count qs' + 0
     → present holder entry urgent qs ≤ room → present holder entry urgent qs' ≤ room
 none_fits room holder entry urgent qs qs' k fits = omega arith
 
-pub wait_room : (room : ℕ) (holder : Option Hold) (h : Hold) (entry : List ℕ) (urgent : List Hold) (qs : List (Vec Hold)) → holder ≡ Some h → present holder entry urgent qs ≤ room → waiting_count qs < room
+pub wait_room : (room : ℕ) (holder : Option Hold) (h : Hold) (entry : List ℕ) (urgent : List Hold) (qs : List (Vec Hold)) →
+    holder ≡ Some h → present holder entry urgent qs ≤ room → waiting_count qs < room
 wait_room room holder h entry urgent qs is fits = let one : held_count holder ≡ 1 = ap held_count is in omega arith
 
-pub wait_fits : (room : ℕ) (holder : Option Hold) (h : Hold) (entry : List ℕ) (urgent : List Hold) (qs qs' : List (Vec Hold)) → holder ≡ Some h → waiting_count qs' ≡ waiting_count qs + 1
+pub wait_fits : (room : ℕ) (holder : Option Hold) (h : Hold) (entry : List ℕ) (urgent : List Hold) (qs qs' : List (Vec Hold)) →
+    holder ≡ Some h → waiting_count qs' ≡ waiting_count qs + 1
     → present holder entry urgent qs ≤ room → present None entry urgent qs' ≤ room
 wait_fits room holder h entry urgent qs qs' is k fits = let one : held_count holder ≡ 1 = ap held_count is in omega arith
 
@@ -98,7 +114,8 @@ module _ (qs : List (Vec Hold)) (c : ℕ) (q q' : Vec Hold) (at : slice_get qs c
   pub same_count : waiting_count (slice_set qs c q') ≡ waiting_count qs
   same_count = let k = count_set qs c q q' at in let l : length q'.items ≡ length q.items = ap length same in omega arith
 
-pub room_take : (n : ℕ) (qs : List (Vec Hold)) (c : ℕ) (q' : Vec Hold) → n ≤ vec_capacity q' → EachHasRoom n (take c qs) → EachHasRoom n (take (c + 1) (slice_set qs c q'))
+pub room_take : (n : ℕ) (qs : List (Vec Hold)) (c : ℕ) (q' : Vec Hold) → n ≤ vec_capacity q' → EachHasRoom n (take c qs) →
+    EachHasRoom n (take (c + 1) (slice_set qs c q'))
 room_take n [] zero q' le h = tt
 room_take n [] (suc c) q' le h = rw add-one tt
 room_take n (r ∷ qs) zero q' le h = (le, tt)

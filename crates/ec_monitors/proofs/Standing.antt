@@ -16,7 +16,8 @@ waiting-push p [] y = omega arith
 waiting-push p (x ∷ xs) y = let h = waiting-push p xs y in omega arith
 
 -- the top of a stack and what lies below it
-pub waiting-top : (p : ℕ) (xs : List Hold) (x : Hold) → top_of xs ≡ Some x → times_waiting p xs ≡ times_waiting p (below_of xs) + one_if (x.process == p)
+pub waiting-top : (p : ℕ) (xs : List Hold) (x : Hold) → top_of xs ≡ Some x →
+    times_waiting p xs ≡ times_waiting p (below_of xs) + one_if (x.process == p)
 waiting-top p xs x e = ap (times_waiting p) (stack_parts xs x e) ∙ waiting-push p (below_of xs) x
 
 -- one queue of several is another one now

@@ -1,7 +1,8 @@
 -- The acts on a monitor (Hoare 1974, "Monitors: an operating system structuring concept"). Each gives the monitor after
 -- it. Of this project's own: the holder may enter again, which counts its depth, and the signallers that wait stand on a
 -- stack, the last of them on top.
-use Rattle.std.specs.Prelude.{ℕ, ◌+◌, ◌-◌, ◌==◌, Bool, true, false, if◌then◌else◌, List, [], ◌∷◌, ◌++◌, Option, Some, None, slice_get, slice_set, nat_lt}
+use Rattle.std.specs.Prelude.{ℕ, ◌+◌, ◌-◌, ◌==◌, Bool, true, false, if◌then◌else◌, List, [], ◌∷◌, ◌++◌, Option, Some, None}
+use Rattle.std.specs.Prelude.{slice_get, slice_set, nat_lt}
 use Rattle.ec_base.specs.Stack.{top_of, below_of}
 use Rattle.ec_monitors.specs.declared.record.MonitorRec.{MonitorRec}
 use Rattle.ec_monitors.specs.declared.record.Hold.{Hold}
@@ -102,7 +103,11 @@ waited m c = wait_by m c m.holder
 
 abbrev pub resumed : MonitorRec → ℕ → Hold → List Hold → Granting
 resumed m c h [] = (m, None)
-resumed m c h (q ∷ qs) = (record m { holder = Some q; urgent = m.urgent ++ h ∷ []; conditions = slice_set m.conditions c qs }, Some (record { process = q.process }))
+resumed m c h (q ∷ qs) = (
+  record m { holder = Some q; urgent = m.urgent ++ h ∷ []; conditions = slice_set m.conditions c qs },
+  Some
+      (record { process = q.process }),
+)
 
 abbrev pub signal_by : MonitorRec → ℕ → Option Hold → Granting
 signal_by m c None = (m, None)

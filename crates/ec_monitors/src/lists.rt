@@ -1,5 +1,6 @@
 //! Lists with room: what is pushed within it takes no memory.
-ghost use Rattle.std.specs.Prelude.{◌≡◌, ◌+◌, ◌<◌, ◌≤◌, ℕ, List, [], ◌∷◌, ◌++◌, length, Some, None, IfOk, OnOk, IsTrue, ◌↔◌, IfSome, IfNone, replicate, slice_get, slice_set};
+ghost use Rattle.std.specs.Prelude.{◌≡◌, ◌+◌, ◌<◌, ◌≤◌, ℕ, List, [], ◌∷◌, ◌++◌, length, Some, None, IfOk, OnOk, IsTrue, ◌↔◌, IfSome};
+ghost use Rattle.std.specs.Prelude.{IfNone, replicate, slice_get, slice_set};
 ghost use Rattle.std.specs.Vec.{vec_capacity};
 ghost use Rattle.ec_base.specs.Stack.{top_of, below_of};
 ghost use Rattle.ec_monitors.specs.Monitors.{queue_at};
@@ -52,7 +53,8 @@ pub(crate) fn take_last<T>(items: &mut Vec<T>) -> Option<T>
 pub(crate) fn push_at(queues: &mut Vec<Vec<Hold>>, c: usize, held: Hold)
     requires there { c < length queues.old.items }
     requires room { (n : ℕ) × (waiting_count queues.old.items < n) × EachHasRoom n queues.old.items }
-    ensures items { lists queues.new.items ≡ slice_set (lists queues.old.items) c (queue_at (slice_get (lists queues.old.items) c) ++ held ∷ []) }
+    ensures items { lists queues.new.items ≡ slice_set (lists queues.old.items) c
+        (queue_at (slice_get (lists queues.old.items) c) ++ held ∷ []) }
     ensures count { waiting_count queues.new.items ≡ waiting_count queues.old.items + 1 }
     ensures room { (n : ℕ) → EachHasRoom n queues.old.items → EachHasRoom n queues.new.items }
 {
@@ -62,8 +64,11 @@ pub(crate) fn push_at(queues: &mut Vec<Vec<Hold>>, c: usize, held: Hold)
 /// Takes the first process of a queue.
 pub(crate) fn first_at(queues: &mut Vec<Vec<Hold>>, c: usize) -> Option<Hold>
     requires there { c < length queues.old.items }
-    ensures some { IfSome result (λ r. (rest : List HoldRec) × (queue_at (slice_get (lists queues.old.items) c) ≡ r ∷ rest) × (lists queues.new.items ≡ slice_set (lists queues.old.items) c rest)) }
-    ensures none { IfNone result ((queue_at (slice_get (lists queues.old.items) c) ≡ []) × (lists queues.new.items ≡ lists queues.old.items)) }
+    ensures some { IfSome result
+        (λ r. (rest : List HoldRec) × (queue_at (slice_get (lists queues.old.items) c) ≡ r ∷ rest)
+        × (lists queues.new.items ≡ slice_set (lists queues.old.items) c rest)) }
+    ensures none { IfNone result
+        ((queue_at (slice_get (lists queues.old.items) c) ≡ []) × (lists queues.new.items ≡ lists queues.old.items)) }
     ensures count { waiting_count queues.old.items ≡ waiting_count queues.new.items + held_count result }
     ensures room { (n : ℕ) → EachHasRoom n queues.old.items → EachHasRoom n queues.new.items }
 {
@@ -126,7 +131,8 @@ pub(crate) fn make_room(
 ) -> Result<usize, AllocError>
     ensures entry { (entry.new.items ≡ entry.old.items) × (vec_capacity entry.old ≤ vec_capacity entry.new) }
     ensures urgent { (urgent.new.items ≡ urgent.old.items) × (vec_capacity urgent.old ≤ vec_capacity urgent.new) }
-    ensures conditions { (lists conditions.new.items ≡ lists conditions.old.items) × (waiting_count conditions.new.items ≡ waiting_count conditions.old.items) }
+    ensures conditions { (lists conditions.new.items ≡ lists conditions.old.items)
+        × (waiting_count conditions.new.items ≡ waiting_count conditions.old.items) }
     ensures more { (n : ℕ) → EachHasRoom n conditions.old.items → EachHasRoom n conditions.new.items }
     ensures ok { IfOk result (λ n. HasRoomFor n entry.new urgent.new conditions.new.items) }
 {

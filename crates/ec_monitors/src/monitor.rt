@@ -27,13 +27,15 @@ impl Model for Monitor {
 
     ghost Value = { MonitorRec };
 
-    ghost view = { λ m. record { holder = m.holder; entry = m.entry.items; urgent = m.urgent.items; conditions = queues m.conditions.items } };
+    ghost view = { λ m.
+        record { holder = m.holder; entry = m.entry.items; urgent = m.urgent.items; conditions = queues m.conditions.items } };
 
     ghost invariant = { λ m. HasRoom m.room m.holder m.entry m.urgent m.conditions.items };
 }
 
 impl Monitor {
-    ghost use Rattle.ec_monitors.specs.Monitors.{made, released, entered, left, waited, signalled, dropped, is_held_by, depth_of, waiting_for};
+    ghost use Rattle.ec_monitors.specs.Monitors.{made, released, entered, left, waited, signalled, dropped, is_held_by, depth_of};
+    ghost use Rattle.ec_monitors.specs.Monitors.{waiting_for};
     ghost use Rattle.ec_monitors.specs.Standing.{WaitsNowhere};
 
     /// A free monitor with so many conditions.

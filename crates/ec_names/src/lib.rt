@@ -55,7 +55,8 @@ fn enter(
     letters: Vec<u8>,
     number: usize,
 ) -> Result<(), AllocError>
-    ensures entered { OnOk result (Updates by_letters firsts.old firsts.new letters (Some (unwrap_or (get by_letters firsts.old letters) number))) }
+    ensures entered { OnOk result
+        (Updates by_letters firsts.old firsts.new letters (Some (unwrap_or (get by_letters firsts.old letters) number))) }
     ensures kept { OnErr result (IsUnchanged firsts.old firsts.new) }
 {
     let first = firsts.get(letters.as_slice()).copied().unwrap_or(number);

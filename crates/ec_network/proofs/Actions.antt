@@ -22,7 +22,9 @@ use Rattle.ec_network.proofs.ActionsCreating.{creates_after}
 use Rattle.ec_network.proofs.ActionsReturning.{returns_after}
 use Rattle.ec_network.proofs.ActionsFinishing.{finishes_after}
 
-module _ {S : Type 0} (M : MachineMeaning S) (net net' : Cluster) (w : IrWorld) (p : ℕ) (h : Here) (stop : StopRec) (holds : Holds M net w) (ready : status_at w p ≡ Some Ready) (here : IsHere net p h) (stop_is : stop_at net.program h.operation h.at ≡ Some stop) where
+module _ {S : Type 0} (M : MachineMeaning S) (net net' : Cluster) (w : IrWorld) (p : ℕ) (h : Here) (stop : StopRec)
+    (holds : Holds M net w) (ready : status_at w p ≡ Some Ready) (here : IsHere net p h)
+    (stop_is : stop_at net.program h.operation h.at ≡ Some stop) where
   pub acts_after : (acted : Acted) → Acts net net' p h stop acted → AfterAction M net w p net' acted
   acts_after WentOn (Entering e) =
       let t = read_top M net w p h stop holds here stop_is e.node e.becomes.before ready in

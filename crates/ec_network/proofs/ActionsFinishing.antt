@@ -39,7 +39,9 @@ nothing_below : (xs : List IrActivation) → length xs ≡ 0 → xs ≡ []
 nothing_below [] e = refl
 nothing_below (x ∷ xs) e = cc
 
-pub finishes_after : {S : Type 0} (M : MachineMeaning S) (net net' : Cluster) (w : IrWorld) (p : ℕ) (h : Here) (stop : StopRec) (below : List IrActivation) (top : IrActivation) → Holds M net w → (e : Finishes net net' p h stop) → TopAt net w p h stop e.node below top → AfterAction M net w p net' EndedNow
+pub finishes_after : {S : Type 0} (M : MachineMeaning S) (net net' : Cluster) (w : IrWorld) (p : ℕ) (h : Here) (stop : StopRec)
+    (below : List IrActivation) (top : IrActivation) → Holds M net w → (e : Finishes net net' p h stop) →
+    TopAt net w p h stop e.node below top → AfterAction M net w p net' EndedNow
 finishes_after M net net' w p h stop below top holds e t =
     let a = t.acting in
     let w' : IrWorld = with_process w w.common p ended in
@@ -47,14 +49,20 @@ finishes_after M net net' w p h stop below top holds e t =
     let is : ir_action w p ≡ w' = action_comes w p below top End top.operands w.common Ends a.is a.flag stopped refl refl tt in
     let none : length below ≡ 0 = sym t.depth ∙ e.bottom in
     let alone : below ++ top ∷ [] ≡ top ∷ [] = ap (λ (xs : List IrActivation). xs ++ top ∷ []) (nothing_below below none) in
-    let process : slice_get w.processes p ≡ Some (ready_with (top ∷ [])) = a.is ∙ ap (λ (xs : List IrActivation). Some (ready_with xs)) alone in
-    let row : (store_of e.node).row (Frame p 0) ≡ Some t.frame.row = ap (λ (d : ℕ). (store_of e.node).row (Frame p d)) (sym none) ∙ t.frame.there in
+    let process : slice_get w.processes p ≡ Some (ready_with (top ∷ [])) =
+    a.is ∙ ap (λ (xs : List IrActivation). Some (ready_with xs)) alone in
+    let row : (store_of e.node).row (Frame p 0) ≡ Some t.frame.row =
+    ap (λ (d : ℕ). (store_of e.node).row (Frame p d)) (sym none) ∙ t.frame.there in
     let shows : ShowsNodes (live_values net.program) (spot net.program net.images) (stores net') w' (place w) =
-    one_changed (live_values net.program) (spot net.program net.images) (place w) (stores net) (stores net') 0 (store_of e.node) (store_of e.node') w w' (Frame p 0) None
+    one_changed (live_values net.program) (spot net.program net.images) (place w) (stores net) (stores net') 0 (store_of e.node)
+    (store_of e.node') w w' (Frame p 0) None
     holds.shows.nodes
-    (alone_put (stores net) (stores net') (store_of e.node) (store_of e.node') (alone_net net e.node e.becomes.before) (alone_net net' e.node' e.becomes.after))
-    (closed_puts (store_of e.node) (store_of e.node) (store_of e.node') (Frame p 0) t.frame.row h.block (tables_self (store_of e.node)) e.closes row t.frame.blocks e.becomes.laid.tidy)
-    (left (live_values net.program) (spot net.program net.images) (place w) w w.common (record { objects = refl; globals = refl }) p (ready_with (top ∷ [])) ended process top 0 refl t.home) in
+    (alone_put (stores net) (stores net') (store_of e.node) (store_of e.node') (alone_net net e.node e.becomes.before)
+    (alone_net net' e.node' e.becomes.after))
+    (closed_puts (store_of e.node) (store_of e.node) (store_of e.node') (Frame p 0) t.frame.row h.block
+    (tables_self (store_of e.node)) e.closes row t.frame.blocks e.becomes.laid.tidy)
+    (left (live_values net.program) (spot net.program net.images) (place w) w w.common (record { objects = refl; globals = refl }) p
+    (ready_with (top ∷ [])) ended process top 0 refl t.home) in
     let there : p < length w.processes = process_there a in
     let now : status_at w' p ≡ Some Ended = ap (λ (x : Option (Proc IrActivation)). status_of x) (get_set_same w.processes p ended there) in
     let outcome : Outcome net.program w' p EndedNow = (
@@ -62,8 +70,10 @@ finishes_after M net net' w p h stop below top holds e t =
       λ r. cc,
     ) in
     after_action M p holds e.becomes e.closes.rest.text w' refl shows EndedNow is
-    (e.statuses ∙ ap (λ (ss : List ProcStatus). slice_set ss p Ended) holds.shows.statuses ∙ sym (map_set (λ (q : Proc IrActivation). q.status) w.processes p ended))
-    (e.depths ∙ ap (λ (ds : List ℕ). slice_set ds p 0) holds.shows.depths ∙ sym (map_set (λ (q : Proc IrActivation). length q.activations) w.processes p ended))
+    (e.statuses ∙ ap (λ (ss : List ProcStatus). slice_set ss p Ended) holds.shows.statuses
+    ∙ sym (map_set (λ (q : Proc IrActivation). q.status) w.processes p ended))
+    (e.depths ∙ ap (λ (ds : List ℕ). slice_set ds p 0) holds.shows.depths
+    ∙ sym (map_set (λ (q : Proc IrActivation). length q.activations) w.processes p ended))
     (e.output ∙ holds.shows.output)
     (e.places ∙ holds.shows.places_are)
     outcome

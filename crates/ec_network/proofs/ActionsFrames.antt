@@ -1,5 +1,6 @@
 -- The frame of an activation, told of the words of its one block: headings first, and each live variable in its slot.
-use Rattle.std.proofs.Common.{◌≡◌, ◌≢◌, ℕ, zero, suc, ◌+◌, ◌<◌, ◌≤◌, Bool, true, false, List, [], ◌∷◌, ◌++◌, length, Option, Some, None, refl, sym, ap, ◌∙◌, subst, arith, ◌⊎◌, inl, inr, ⊎_elim}
+use Rattle.std.proofs.Common.{◌≡◌, ◌≢◌, ℕ, zero, suc, ◌+◌, ◌<◌, ◌≤◌, Bool, true, false, List, [], ◌∷◌, ◌++◌, length, Option, Some}
+use Rattle.std.proofs.Common.{None, refl, sym, ap, ◌∙◌, subst, arith, ◌⊎◌, inl, inr, ⊎_elim}
 use Rattle.std.specs.Prelude.{slice_get, if◌then◌else◌}
 use Rattle.ec_base.proofs.Lists.{get_within}
 use Rattle.ec_world.specs.declared.value.Value.{Value}
@@ -56,7 +57,8 @@ module _ (program : Parts) (a : IrActivation) (stop : StopRec) (is : stop_at pro
       ∙ append_none stop.live
 
   -- what is live once the action is done was live before it
-  pub done_live : a.pending ≡ true → a.into ≡ stop.into → (x : ℕ) → Has (live_variables program (done a)) x → Has (live_variables program a) x
+  pub done_live : a.pending ≡ true → a.into ≡ stop.into → (x : ℕ) → Has (live_variables program (done a)) x →
+      Has (live_variables program a) x
   done_live e f x h =
       let g : Has stop.live x = subst (λ (xs : List ℕ). Has xs x) (live_done f) h in
       subst (λ (xs : List ℕ). Has xs x) (sym (live_pending e)) (has_back x stop.operands stop.live g)
@@ -72,12 +74,14 @@ module _ (program : Parts) (a : IrActivation) (stop : StopRec) (is : stop_at pro
 abbrev pub with_result : IrActivation → ℕ → Value → IrActivation
 with_result a x v = record a { pending = false; into = None; variables = put a.variables x v }
 
-module _ (program : Parts) (a : IrActivation) (stop : StopRec) (x : ℕ) (v : Value) (is : stop_at program a.operation a.at ≡ Some stop) (into : stop.into ≡ Some x) where
+module _ (program : Parts) (a : IrActivation) (stop : StopRec) (x : ℕ) (v : Value)
+    (is : stop_at program a.operation a.at ≡ Some stop) (into : stop.into ≡ Some x) where
   pub live_result : live_variables program (with_result a x v) ≡ stop.live ++ x ∷ []
   live_result = ap (λ s. live_at s (with_result a x v)) is ∙ ap (λ i. stop.live ++ result_live i None) into
 
   -- what is live with the result: the result itself, or what was live before
-  pub result_or : a.pending ≡ false → a.into ≡ stop.into → (y : ℕ) → Has (live_variables program (with_result a x v)) y → (y ≡ x) ⊎ ((y ≢ x) × Has (live_variables program a) y)
+  pub result_or : a.pending ≡ false → a.into ≡ stop.into → (y : ℕ) → Has (live_variables program (with_result a x v)) y →
+      (y ≡ x) ⊎ ((y ≢ x) × Has (live_variables program a) y)
   result_or e f y h = ⊎_elim
       (λ (same : y ≡ x). inl same)
       (λ (ne : y ≢ x). ⊎_elim
@@ -95,7 +99,8 @@ pub record HasVariables (program : Parts) (a : IrActivation) : Type 0 where
   pub few : length operation.variables ≤ 100
   pub typed : LiveTyped program a
 
-pub live_below : (program : Parts) (a : IrActivation) (v : HasVariables program a) (x : ℕ) → Has (live_variables program a) x → x < length v.operation.variables
+pub live_below : (program : Parts) (a : IrActivation) (v : HasVariables program a) (x : ℕ) → Has (live_variables program a) x →
+    x < length v.operation.variables
 live_below program a v x h =
     let t = v.typed.each x h in
     let at : slice_get v.operation.variables x ≡ Some t.0 = ap (λ (o : Option Operation). slice_get (types_of o) x) (sym v.is) ∙ t.1 in
@@ -121,18 +126,22 @@ pub record FrameStands (program : Parts) (s : Store) (p d b : ℕ) (a : IrActiva
   pub heads : (i n : ℕ) → slice_get (heads_of p d a) i ≡ Some n → s.word b i ≡ Some n
   pub slots : (x : ℕ) → Has (live_variables program a) x → SlotStands s b x (variable a.variables x)
 
-module _ (program : Parts) (images : Images) (slots : HasSlots images.rv.table program) (s : Store) (riscv : s.kind ≡ Riscv) (p d b : ℕ) (a : IrActivation) (v : HasVariables program a) where
+module _ (program : Parts) (images : Images) (slots : HasSlots images.rv.table program) (s : Store) (riscv : s.kind ≡ Riscv)
+    (p d b : ℕ) (a : IrActivation) (v : HasVariables program a) where
   slot_spot : (i x : ℕ) → slice_get (live_variables program a) i ≡ Some x → spot program images a s.kind i ≡ Some (first_slot + x)
   slot_spot i x e =
-      let home : home_in images.rv.table a.operation x ≡ Some (Slot x) = slots.each a.operation x v.operation v.is (live_below program a v x (record { at = i; is = e })) in
+      let home : home_in images.rv.table a.operation x ≡ Some (Slot x) =
+      slots.each a.operation x v.operation v.is (live_below program a v x (record { at = i; is = e })) in
       ap (λ k. spot program images a k i) riscv
       ∙ ap (λ y. home_of (Some images.rv) a.operation y) e
       ∙ ap word_if home
 
-  pub frame_stands : (row : Owned) → s.row (Frame p d) ≡ Some row → row.blocks ≡ b ∷ [] → Shown s (Frame p d) (frame_thing (live_values program) (spot program images) p d a) → FrameStands program s p d b a
+  pub frame_stands : (row : Owned) → s.row (Frame p d) ≡ Some row → row.blocks ≡ b ∷ [] →
+      Shown s (Frame p d) (frame_thing (live_values program) (spot program images) p d a) → FrameStands program s p d b a
   frame_stands row there block shown =
       let same : shown.row ≡ row = cc (shown.there) in
-      let spells : Spells s row (frame_thing (live_values program) (spot program images) p d a) = subst (λ (r : Owned). Spells s r (frame_thing (live_values program) (spot program images) p d a)) same shown.spells in
+      let spells : Spells s row (frame_thing (live_values program) (spot program images) p d a) =
+      subst (λ (r : Owned). Spells s r (frame_thing (live_values program) (spot program images) p d a)) same shown.spells in
       record {
         row = row;
         there = there;
@@ -150,7 +159,8 @@ module _ (program : Parts) (images : Images) (slots : HasSlots images.rv.table p
             let few = v.few in
             record {
               word = z.2.word;
-              there = sym (word_of_one s b (first_slot + x) (omega arith)) ∙ ap (λ bs. word_of s bs (first_slot + x)) (sym block) ∙ ap (λ i. word_of s row.blocks i) (sym at) ∙ z.2.there;
+              there = sym (word_of_one s b (first_slot + x) (omega arith)) ∙ ap (λ bs. word_of s bs (first_slot + x)) (sym block)
+                  ∙ ap (λ i. word_of s row.blocks i) (sym at) ∙ z.2.there;
               stands = z.2.stands;
             };
       }
@@ -187,7 +197,8 @@ module _ (program : Parts) (images : Images) (slots : HasSlots images.rv.table p
 -- ---- a word of a frame is written
 
 -- all headings but that of a pending action are the same
-head_but_pending : (p d op at x y own i n : ℕ) → i ≢ 4 → slice_get (p ∷ d ∷ op ∷ at ∷ x ∷ own ∷ []) i ≡ Some n → slice_get (p ∷ d ∷ op ∷ at ∷ y ∷ own ∷ []) i ≡ Some n
+head_but_pending : (p d op at x y own i n : ℕ) → i ≢ 4 → slice_get (p ∷ d ∷ op ∷ at ∷ x ∷ own ∷ []) i ≡ Some n →
+    slice_get (p ∷ d ∷ op ∷ at ∷ y ∷ own ∷ []) i ≡ Some n
 head_but_pending p d op at x y own zero n h e = e
 head_but_pending p d op at x y own (suc zero) n h e = e
 head_but_pending p d op at x y own (suc (suc zero)) n h e = e
@@ -197,7 +208,8 @@ head_but_pending p d op at x y own (suc (suc (suc (suc (suc i))))) n h e = e
 
 module _ (program : Parts) (s s' : Store) (p d b : ℕ) (a : IrActivation) (old : FrameStands program s p d b a) where
   -- the action is done: the heading says so
-  pub marked_frame : (stop : StopRec) → stop_at program a.operation a.at ≡ Some stop → a.pending ≡ true → a.into ≡ stop.into → HasVariables program a → WritesWord s s' b 4 0 → FrameStands program s' p d b (done a)
+  pub marked_frame : (stop : StopRec) → stop_at program a.operation a.at ≡ Some stop → a.pending ≡ true → a.into ≡ stop.into →
+      HasVariables program a → WritesWord s s' b 4 0 → FrameStands program s' p d b (done a)
   marked_frame stop is flag into v writes = record {
     row = old.row;
     there = writes.tables.rows (Frame p d) ∙ old.there;
@@ -211,7 +223,8 @@ module _ (program : Parts) (s s' : Store) (p d b : ℕ) (a : IrActivation) (old 
         ap (λ j. s'.word b j) same ∙ writes.here ∙ e')
         (λ (ne : i ≢ 4).
         let short : i < 6 = get_within (heads_of p d (done a)) i n e in
-        writes.others b i (omega arith) (inr ne) ∙ old.heads i n (head_but_pending p d a.operation a.at 0 (if a.pending then 1 else 0) a.own i n ne e))
+        writes.others b i (omega arith) (inr ne)
+        ∙ old.heads i n (head_but_pending p d a.operation a.at 0 (if a.pending then 1 else 0) a.own i n ne e))
         (same_or_not i 4);
     slots = λ x h.
         let g : Has (live_variables program a) x = done_live program a stop is flag into x h in
@@ -227,7 +240,9 @@ module _ (program : Parts) (s s' : Store) (p d b : ℕ) (a : IrActivation) (old 
   }
 
   -- the result comes into the slot of its variable
-  pub given_frame : (stop : StopRec) (x word : ℕ) (result : Value) → stop_at program a.operation a.at ≡ Some stop → stop.into ≡ Some x → a.pending ≡ false → a.into ≡ stop.into → HasVariables program a → x < 100 → Stands s result word → WritesWord s s' b (first_slot + x) word → FrameStands program s' p d b (with_result a x result)
+  pub given_frame : (stop : StopRec) (x word : ℕ) (result : Value) → stop_at program a.operation a.at ≡ Some stop →
+      stop.into ≡ Some x → a.pending ≡ false → a.into ≡ stop.into → HasVariables program a → x < 100 → Stands s result word →
+      WritesWord s s' b (first_slot + x) word → FrameStands program s' p d b (with_result a x result)
   given_frame stop x word result is into flag waits v small stands writes = record {
     row = old.row;
     there = writes.tables.rows (Frame p d) ∙ old.there;
@@ -238,15 +253,18 @@ module _ (program : Parts) (s s' : Store) (p d b : ℕ) (a : IrActivation) (old 
     heads = λ i n e.
         let short : i < 6 = get_within (heads_of p d (with_result a x result)) i n e in
         let ne : i ≢ first_slot + x = λ h. omega arith in
-        let e' : slice_get (heads_of p d a) i ≡ Some n = subst (λ (q : Bool). slice_get (p ∷ d ∷ a.operation ∷ a.at ∷ (if q then 1 else 0) ∷ a.own ∷ []) i ≡ Some n) (sym flag) e in
+        let e' : slice_get (heads_of p d a) i ≡ Some n =
+        subst (λ (q : Bool). slice_get (p ∷ d ∷ a.operation ∷ a.at ∷ (if q then 1 else 0) ∷ a.own ∷ []) i ≡ Some n) (sym flag) e in
         writes.others b i (omega arith) (inr ne) ∙ old.heads i n e';
     slots = λ y h. ⊎_elim
         (λ (same : y ≡ x). record {
           word = word;
           there = ap (λ j. s'.word b (first_slot + j)) same ∙ writes.here;
           stands =
-              let value : variable (put a.variables x result) y ≡ result = ap (λ j. variable (put a.variables x result) j) same ∙ put_same a.variables x result in
-              subst (λ (u : Value). Stands s' u word) (sym value) (stands_kept s s' (same_grown s s' writes.tables.rest) result word stands);
+              let value : variable (put a.variables x result) y ≡ result =
+              ap (λ j. variable (put a.variables x result) j) same ∙ put_same a.variables x result in
+              subst (λ (u : Value). Stands s' u word) (sym value)
+              (stands_kept s s' (same_grown s s' writes.tables.rest) result word stands);
         })
         (λ (other : (y ≢ x) × Has (live_variables program a) y).
         let slot = old.slots y other.1 in
@@ -258,7 +276,8 @@ module _ (program : Parts) (s s' : Store) (p d b : ℕ) (a : IrActivation) (old 
           there = writes.others b (first_slot + y) (omega arith) (inr ne) ∙ slot.there;
           stands =
               let value : variable (put a.variables x result) y ≡ variable a.variables y = put_other a.variables x y result other.0 in
-              subst (λ (u : Value). Stands s' u slot.word) (sym value) (stands_kept s s' (same_grown s s' writes.tables.rest) (variable a.variables y) slot.word slot.stands);
+              subst (λ (u : Value). Stands s' u slot.word) (sym value)
+              (stands_kept s s' (same_grown s s' writes.tables.rest) (variable a.variables y) slot.word slot.stands);
         })
         (result_or program a stop x result is into flag waits y h);
   }

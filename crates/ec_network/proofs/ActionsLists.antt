@@ -15,7 +15,8 @@ module _ {A : Type 0} where
   get_left (z ∷ zs) ys (suc i) x e = get_left zs ys i x e
 
   -- an item is the end, or stands before it
-  pub end_or : (xs : List A) (y : A) (i : ℕ) (x : A) → slice_get (xs ++ y ∷ []) i ≡ Some x → (slice_get xs i ≡ Some x) ⊎ ((i ≡ length xs) × (y ≡ x))
+  pub end_or : (xs : List A) (y : A) (i : ℕ) (x : A) → slice_get (xs ++ y ∷ []) i ≡ Some x →
+      (slice_get xs i ≡ Some x) ⊎ ((i ≡ length xs) × (y ≡ x))
   end_or [] y zero x e = inr (refl, cc)
   end_or [] y (suc i) x e = cc
   end_or (z ∷ zs) y zero x e = inl e

@@ -1,5 +1,6 @@
 -- A move by the operator on one node: an event, and each object stays where it is.
-use Rattle.std.proofs.Common.{◌≡◌, ℕ, suc, ◌+◌, ◌<◌, ◌≤◌, Bool, true, false, List, [], ◌∷◌, ◌++◌, length, Option, Some, None, refl, sym, ap, ◌∙◌, subst, arith, inl, ⊎_elim}
+use Rattle.std.proofs.Common.{◌≡◌, ℕ, suc, ◌+◌, ◌<◌, ◌≤◌, Bool, true, false, List, [], ◌∷◌, ◌++◌, length, Option, Some, None, refl}
+use Rattle.std.proofs.Common.{sym, ap, ◌∙◌, subst, arith, inl, ⊎_elim}
 use Rattle.std.proofs.lemmas.Bool.Decides.{nat_tests}
 use Rattle.std.specs.Prelude.{slice_get, ◌||◌, not, nat_lt, IsSome}
 use Rattle.ec_world.specs.declared.value.Value.{Value}
@@ -102,7 +103,8 @@ module _ {S : Type 0} (M : MachineMeaning S) (net : Cluster) (w : IrWorld) (hold
   one = one_node net w holds.steady.node holds.shows holds.steady.one
 
   -- a world with other events, and the same places
-  module _ (events : List Event) (same : places w.common.nodes events ≡ places w.common.nodes w.common.events) (are : AreEvents (suc w.common.nodes) events) where
+  module _ (events : List Event) (same : places w.common.nodes events ≡ places w.common.nodes w.common.events)
+      (are : AreEvents (suc w.common.nodes) events) where
     abbrev eventful : IrWorld
     eventful = record w { common = record w.common { events = events } }
 
@@ -111,7 +113,8 @@ module _ {S : Type 0} (M : MachineMeaning S) (net : Cluster) (w : IrWorld) (hold
         let s = holds.shows in
         let live : IrActivation → List Value = live_values net.program in
         let spots : IrActivation → Kind → ℕ → Option ℕ = spot net.program net.images in
-        let nodes : ShowsNodes live spots (stores net) w (place eventful) = subst (λ (ps : List ℕ). ShowsNodes live spots (stores net) w (place_in ps)) (sym same) s.nodes in
+        let nodes : ShowsNodes live spots (stores net) w (place eventful) =
+        subst (λ (ps : List ℕ). ShowsNodes live spots (stores net) w (place_in ps)) (sym same) s.nodes in
         let things : (key : Key) → things_of live spots eventful key ≡ things_of live spots w key = λ key. things_same live spots key in
         record {
           counted = s.counted;
@@ -131,7 +134,8 @@ module _ {S : Type 0} (M : MachineMeaning S) (net : Cluster) (w : IrWorld) (hold
           places_are = s.places_are ∙ sym same;
         }
       where
-        things_same : (live : IrActivation → List Value) (spots : IrActivation → Kind → ℕ → Option ℕ) (key : Key) → things_of live spots eventful key ≡ things_of live spots w key
+        things_same : (live : IrActivation → List Value) (spots : IrActivation → Kind → ℕ → Option ℕ) (key : Key) →
+            things_of live spots eventful key ≡ things_of live spots w key
         things_same live spots (Object oid) = refl
         things_same live spots (Frame p d) = refl
 
@@ -164,13 +168,18 @@ module _ {S : Type 0} (M : MachineMeaning S) (net : Cluster) (w : IrWorld) (hold
       by_idle false e =
           let events : List Event = w.common.events ++ Moved (group_of w.common o) (suc k) ∷ [] in
           let count : length (places w.common.nodes events) ≡ length (places w.common.nodes w.common.events) =
-          length-places w.common.nodes events ∙ ap (λ n. w.common.nodes + 1 + n) (made_push w.common.events (group_of w.common o) (suc k)) ∙ sym (length-places w.common.nodes w.common.events) in
+          length-places w.common.nodes events
+          ∙ ap (λ n. w.common.nodes + 1 + n) (made_push w.common.events (group_of w.common o) (suc k))
+          ∙ sym (length-places w.common.nodes w.common.events) in
           let same : places w.common.nodes events ≡ places w.common.nodes w.common.events =
-          subst (λ n. length (places n events) ≡ length (places n w.common.events) → places n events ≡ places n w.common.events) (sym one) (λ l. places_same events w.common.events l) count in
-          let objects : length w.common.objects ≡ suc w.common.nodes + made_by w.common.events = omega (arith, holds.fine.facts.placed, length-places w.common.nodes w.common.events) in
+          subst (λ n. length (places n events) ≡ length (places n w.common.events) → places n events ≡ places n w.common.events)
+          (sym one) (λ l. places_same events w.common.events l) count in
+          let objects : length w.common.objects ≡ suc w.common.nodes + made_by w.common.events =
+          omega (arith, holds.fine.facts.placed, length-places w.common.nodes w.common.events) in
           let there = goes_there w.common o k e in
           let are : AreEvents (suc w.common.nodes) events =
-          events_push (suc w.common.nodes) (length w.common.objects) w.common.events (Moved (group_of w.common o) (suc k)) holds.fine.facts.events objects
+          events_push (suc w.common.nodes) (length w.common.objects) w.common.events (Moved (group_of w.common o) (suc k))
+          holds.fine.facts.events objects
           (group_there w.common o there.object, omega arith, omega (arith, objects, there.node), tt) in
           eventful_holds events same are
 
@@ -183,7 +192,13 @@ module _ {S : Type 0} (M : MachineMeaning S) (net : Cluster) (w : IrWorld) (hold
           program = refl;
           images = refl;
           counted = refl;
-          each = λ j x y e f. let same : y ≡ x = cc in record { kind = ap (λ (n : NodeStore). n.kind) same; blocks = ap (λ (n : NodeStore). n.blocks) same; room = ap (λ (n : NodeStore). n.room) same };
+          each = λ j x y e f. let same : y ≡ x =
+              cc in record {
+                kind = ap (λ (n : NodeStore). n.kind) same;
+                blocks = ap (λ (n : NodeStore). n.blocks) same;
+                room =
+                    ap (λ (n : NodeStore). n.room) same;
+              };
         };
         counts = record { each = λ j x y e f. let same : y ≡ x = cc in ap (λ (n : NodeStore). n.count) same };
         shows = after.shows;
@@ -193,7 +208,8 @@ module _ {S : Type 0} (M : MachineMeaning S) (net : Cluster) (w : IrWorld) (hold
                 λ h. inl (subst (λ (x : Store). InPool x text) same h),
                 λ h. subst (λ (x : Store). InPool x text) (sym same) (⊎_elim
                     (λ (g : InPool s text). g)
-                    (λ (g : Strings net.program (OperatorMove w o k) j text). strings_stand net (OperatorMove w o k) after.shows j s text e g)
+                    (λ (g : Strings net.program (OperatorMove w o k) j text). strings_stand net (OperatorMove w o k) after.shows j s
+                    text e g)
                     h),
               );
         };

@@ -59,7 +59,8 @@ module _ (program : Parts) (nodes objects : ℕ) where
   order_of xs f = record { bottom = f.bottom; upper = f.upper; waiting = f.waiting }
 
   -- the top goes
-  pub order_pop : (xs : List IrActivation) (y : IrActivation) → InOrder program nodes objects (xs ++ y ∷ []) → InOrder program nodes objects xs
+  pub order_pop : (xs : List IrActivation) (y : IrActivation) → InOrder program nodes objects (xs ++ y ∷ []) →
+      InOrder program nodes objects xs
   order_pop xs y f = record {
     bottom = λ a e. f.bottom a (get_left xs (y ∷ []) 0 a e);
     upper = λ d a e. f.upper d a (get_left xs (y ∷ []) (suc d) a e);
@@ -67,14 +68,16 @@ module _ (program : Parts) (nodes objects : ℕ) where
   }
 
   -- the one below the top waits
-  pub order_below : (xs : List IrActivation) (y z : IrActivation) → InOrder program nodes objects ((xs ++ y ∷ []) ++ z ∷ []) → IsWaiting program nodes objects y
+  pub order_below : (xs : List IrActivation) (y z : IrActivation) → InOrder program nodes objects ((xs ++ y ∷ []) ++ z ∷ []) →
+      IsWaiting program nodes objects y
   order_below xs y z f =
       f.waiting (length xs) y z
       (get_left (xs ++ y ∷ []) (z ∷ []) (length xs) y (get_end xs y))
       (ap (λ i. slice_get ((xs ++ y ∷ []) ++ z ∷ []) i) (sym (length_end xs y)) ∙ get_end (xs ++ y ∷ []) z)
 
   -- the top has changed
-  pub order_last : (xs : List IrActivation) (y z : IrActivation) → z.operation ≡ y.operation → InOrder program nodes objects (xs ++ y ∷ []) → InOrder program nodes objects (xs ++ z ∷ [])
+  pub order_last : (xs : List IrActivation) (y z : IrActivation) → z.operation ≡ y.operation →
+      InOrder program nodes objects (xs ++ y ∷ []) → InOrder program nodes objects (xs ++ z ∷ [])
   order_last xs y z same f = record { bottom = bottom; upper = upper; waiting = waiting }
     where
       bottom : (a : IrActivation) → slice_get (xs ++ z ∷ []) 0 ≡ Some a → a.operation ≡ 0
@@ -93,7 +96,8 @@ module _ (program : Parts) (nodes objects : ℕ) where
           λ g. before (sym same ∙ ap (λ (q : IrActivation). q.operation) h.1 ∙ g))
           (end_or xs z (suc d) a e)
 
-      waiting : (d : ℕ) (a b : IrActivation) → slice_get (xs ++ z ∷ []) d ≡ Some a → slice_get (xs ++ z ∷ []) (suc d) ≡ Some b → IsWaiting program nodes objects a
+      waiting : (d : ℕ) (a b : IrActivation) → slice_get (xs ++ z ∷ []) d ≡ Some a → slice_get (xs ++ z ∷ []) (suc d) ≡ Some b →
+          IsWaiting program nodes objects a
       waiting d a b e g =
           let within : suc d < length (xs ++ z ∷ []) = get_within (xs ++ z ∷ []) (suc d) b g in
           ⊎_elim
@@ -104,7 +108,8 @@ module _ (program : Parts) (nodes objects : ℕ) where
           (end_or xs z d a e)
 
   -- an activation of another operation lies on one that waits
-  pub order_push : (xs : List IrActivation) (y z : IrActivation) → IsWaiting program nodes objects y → z.operation ≢ 0 → InOrder program nodes objects (xs ++ y ∷ []) → InOrder program nodes objects ((xs ++ y ∷ []) ++ z ∷ [])
+  pub order_push : (xs : List IrActivation) (y z : IrActivation) → IsWaiting program nodes objects y → z.operation ≢ 0 →
+      InOrder program nodes objects (xs ++ y ∷ []) → InOrder program nodes objects ((xs ++ y ∷ []) ++ z ∷ [])
   order_push xs y z waits other f = record { bottom = bottom; upper = upper; waiting = waiting }
     where
       bottom : (a : IrActivation) → slice_get ((xs ++ y ∷ []) ++ z ∷ []) 0 ≡ Some a → a.operation ≡ 0
@@ -119,7 +124,8 @@ module _ (program : Parts) (nodes objects : ℕ) where
           (λ (h : (suc d ≡ length (xs ++ y ∷ [])) × (z ≡ a)). λ g. other (ap (λ (q : IrActivation). q.operation) h.1 ∙ g))
           (end_or (xs ++ y ∷ []) z (suc d) a e)
 
-      waiting : (d : ℕ) (a b : IrActivation) → slice_get ((xs ++ y ∷ []) ++ z ∷ []) d ≡ Some a → slice_get ((xs ++ y ∷ []) ++ z ∷ []) (suc d) ≡ Some b → IsWaiting program nodes objects a
+      waiting : (d : ℕ) (a b : IrActivation) → slice_get ((xs ++ y ∷ []) ++ z ∷ []) d ≡ Some a →
+          slice_get ((xs ++ y ∷ []) ++ z ∷ []) (suc d) ≡ Some b → IsWaiting program nodes objects a
       waiting d a b e g =
           let within : suc d < length ((xs ++ y ∷ []) ++ z ∷ []) = get_within ((xs ++ y ∷ []) ++ z ∷ []) (suc d) b g in
           ⊎_elim
@@ -137,7 +143,8 @@ module _ (program : Parts) (nodes objects : ℕ) where
               (end_or xs y d a h)
 
   -- with a pending activation on top
-  pub fine_stack : (xs : List IrActivation) (y : IrActivation) → IsPending program nodes objects y → InOrder program nodes objects (xs ++ y ∷ []) → FineStack program nodes objects (xs ++ y ∷ [])
+  pub fine_stack : (xs : List IrActivation) (y : IrActivation) → IsPending program nodes objects y →
+      InOrder program nodes objects (xs ++ y ∷ []) → FineStack program nodes objects (xs ++ y ∷ [])
   fine_stack xs y pending f = record {
     bottom = f.bottom;
     upper = f.upper;
@@ -149,7 +156,8 @@ module _ (program : Parts) (nodes objects : ℕ) where
   }
 
   -- with one on top whose action is done
-  pub middle_stack : (xs : List IrActivation) (y : IrActivation) → IsDone program nodes objects y → InOrder program nodes objects (xs ++ y ∷ []) → MiddleStack program nodes objects (xs ++ y ∷ [])
+  pub middle_stack : (xs : List IrActivation) (y : IrActivation) → IsDone program nodes objects y →
+      InOrder program nodes objects (xs ++ y ∷ []) → MiddleStack program nodes objects (xs ++ y ∷ [])
   middle_stack xs y done f = record {
     bottom = f.bottom;
     upper = f.upper;
@@ -159,15 +167,21 @@ module _ (program : Parts) (nodes objects : ℕ) where
     top_done = done;
   }
 
-pub order_more : (program : Parts) (nodes n m : ℕ) → n ≤ m → (xs : List IrActivation) → InOrder program nodes n xs → InOrder program nodes m xs
-order_more program nodes n m more xs f = record { bottom = f.bottom; upper = f.upper; waiting = λ d a b e g. waiting_more program nodes n m more a (f.waiting d a b e g) }
+pub order_more : (program : Parts) (nodes n m : ℕ) → n ≤ m → (xs : List IrActivation) → InOrder program nodes n xs →
+    InOrder program nodes m xs
+order_more program nodes n m more xs f =
+    record { bottom = f.bottom; upper = f.upper; waiting = λ d a b e g. waiting_more program nodes n m more a (f.waiting d a b e g) }
 
 -- ---- worlds in which process p alone has changed
 
-module _ (program : Parts) (w w' : IrWorld) (p : ℕ) (proc : Proc IrActivation) (now : w'.processes ≡ slice_set w.processes p proc) (nodes : w'.common.nodes ≡ w.common.nodes) (objects : length w.common.objects ≤ length w'.common.objects) (fine : FineWorld program w) where
-  others_fine : (q : ℕ) (x : Proc IrActivation) → q ≢ p → slice_get w'.processes q ≡ Some x → FineProcess program w'.common.nodes (length w'.common.objects) x.status x.activations
+module _ (program : Parts) (w w' : IrWorld) (p : ℕ) (proc : Proc IrActivation) (now : w'.processes ≡ slice_set w.processes p proc)
+    (nodes : w'.common.nodes ≡ w.common.nodes) (objects : length w.common.objects ≤ length w'.common.objects)
+    (fine : FineWorld program w) where
+  others_fine : (q : ℕ) (x : Proc IrActivation) → q ≢ p → slice_get w'.processes q ≡ Some x →
+      FineProcess program w'.common.nodes (length w'.common.objects) x.status x.activations
   others_fine q x ne e =
-      let before : slice_get w.processes q ≡ Some x = sym (get_set_other w.processes p q proc ne) ∙ ap (λ (ps : List (Proc IrActivation)). slice_get ps q) (sym now) ∙ e in
+      let before : slice_get w.processes q ≡ Some x =
+      sym (get_set_other w.processes p q proc ne) ∙ ap (λ (ps : List (Proc IrActivation)). slice_get ps q) (sym now) ∙ e in
       let f = fine.each q x before in
       subst (λ n. FineProcess program n (length w'.common.objects) x.status x.activations) (sym nodes)
       (process_more program w.common.nodes (length w.common.objects) (length w'.common.objects) objects x.status x.activations f)
@@ -176,11 +190,15 @@ module _ (program : Parts) (w w' : IrWorld) (p : ℕ) (proc : Proc IrActivation)
   now_is h = ap (λ (ps : List (Proc IrActivation)). slice_get ps p) now ∙ get_set_same w.processes p proc h
 
   -- p goes on
-  pub fine_middle : p < length w.processes → proc.status ≡ Ready → MiddleStack program w'.common.nodes (length w'.common.objects) proc.activations → FineFacts program w' → FineMiddle program w' p
-  fine_middle h ready stack facts = record { process = proc; is = now_is h; ready = ready; stack = stack; others = others_fine; facts = facts }
+  pub fine_middle : p < length w.processes → proc.status ≡ Ready →
+      MiddleStack program w'.common.nodes (length w'.common.objects) proc.activations → FineFacts program w' → FineMiddle program w' p
+  fine_middle h ready stack facts =
+      record { process = proc; is = now_is h; ready = ready; stack = stack; others = others_fine; facts = facts }
 
   -- p is between two turns
-  pub fine_world : p < length w.processes → FineProcess program w'.common.nodes (length w'.common.objects) proc.status proc.activations → FineFacts program w' → FineWorld program w'
+  pub fine_world : p < length w.processes →
+      FineProcess program w'.common.nodes (length w'.common.objects) proc.status proc.activations → FineFacts program w' →
+      FineWorld program w'
   fine_world h f facts = record {
     each = λ q x e. ⊎_elim
         (λ (same : q ≡ p).

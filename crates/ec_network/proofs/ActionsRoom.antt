@@ -1,5 +1,6 @@
 -- Room for an action: a creation holds two blocks more, any other action none more, and no action has new texts.
-use Rattle.std.proofs.Common.{◌≡◌, ◌≢◌, ℕ, zero, ◌+◌, ◌-◌, ◌<◌, ◌≤◌, List, [], ◌∷◌, ◌++◌, length, Option, Some, None, refl, sym, ap, ◌∙◌, subst, arith, inr, ⊎_elim}
+use Rattle.std.proofs.Common.{◌≡◌, ◌≢◌, ℕ, zero, ◌+◌, ◌-◌, ◌<◌, ◌≤◌, List, [], ◌∷◌, ◌++◌, length, Option, Some, None, refl, sym, ap}
+use Rattle.std.proofs.Common.{◌∙◌, subst, arith, inr, ⊎_elim}
 use Rattle.std.specs.Prelude.{slice_get, map, ◌↔◌}
 use Rattle.ec_base.specs.Stack.{top_of, below_of}
 use Rattle.ec_base.proofs.Lists.{get_there, get_within}
@@ -55,7 +56,8 @@ use Rattle.ec_network.proofs.ActionsOrder.{ready_with}
 use Rattle.ec_network.proofs.ActionsTop.{TopAt, read_top}
 use Rattle.ec_network.proofs.ActionsAfter.{strings_stand}
 use Rattle.ec_network.proofs.ActionsMarking.{process_there}
-use Rattle.ec_network.proofs.ActionsCreated.{Creation, new_activation, created_world, created_is, created_facts, place_old, two_more, new_live}
+use Rattle.ec_network.proofs.ActionsCreated.{Creation, new_activation, created_world, created_is, created_facts, place_old}
+use Rattle.ec_network.proofs.ActionsCreated.{two_more, new_live}
 use Rattle.ec_network.proofs.Actions.{acts_after}
 use Rattle.ec_world.proofs.Members.{has_none}
 
@@ -75,8 +77,10 @@ lacks_nothing : (part : Part) (n : Needs) (need free : ℕ) → n.blocks ≤ n.f
 lacks_nothing Blocks n need free fits none h = let l = h.2 in omega arith
 lacks_nothing Text n need free fits none h = let l = h.3 in omega arith
 
-module _ (net net' : Cluster) (w w' : IrWorld) (shows : Shows net w) (after : Shows net' w') (same : SameMachines net net') (pools : (k : ℕ) (s : Store) (text : List ℕ) → stores net k ≡ Some s → Strings net.program w' k text → InPool s text) where
-  fits_at : (k : ℕ) (node node' : NodeStore) → slice_get net.nodes k ≡ Some node → slice_get net'.nodes k ≡ Some node' → held w' k ≤ node.blocks
+module _ (net net' : Cluster) (w w' : IrWorld) (shows : Shows net w) (after : Shows net' w') (same : SameMachines net net')
+    (pools : (k : ℕ) (s : Store) (text : List ℕ) → stores net k ≡ Some s → Strings net.program w' k text → InPool s text) where
+  fits_at : (k : ℕ) (node node' : NodeStore) → slice_get net.nodes k ≡ Some node → slice_get net'.nodes k ≡ Some node' →
+      held w' k ≤ node.blocks
   fits_at k node node' e e' =
       let blocks = (same.each k node node' e e').blocks in
       let free = after.nodes.held k (store_of node') (ap store_if e') in
@@ -108,16 +112,46 @@ record KeepsTexts (net net' : Cluster) : Type 0 where
   pub same : (i : ℕ) → (store_of node').text i ≡ (store_of node).text i
 
 keeps_texts : (net net' : Cluster) (p : ℕ) (h : Here) (stop : StopRec) (acted : Acted) → Acts net net' p h stop acted → KeepsTexts net net'
-keeps_texts net net' p h stop WentOn (Entering e) = record { node = e.node; node' = e.node'; before = e.becomes.before; after = e.becomes.after; same = e.marks.tables.rest.text }
-keeps_texts net net' p h stop WentOn (Printing e) = record { node = e.node; node' = e.node'; before = e.becomes.before; after = e.becomes.after; same = e.marks.tables.rest.text }
-keeps_texts net net' p h stop WentOn (Defining index e) = record { node = e.node; node' = e.node'; before = e.becomes.before; after = e.becomes.after; same = λ i. e.marks.tables.rest.text i ∙ e.sets.text i }
-keeps_texts net net' p h stop Began (Creating k e) = record { node = e.node; node' = e.node'; before = e.becomes.before; after = e.becomes.after; same = λ i. e.begins.rest.text i ∙ e.makes.rest.text i ∙ e.marks.tables.rest.text i }
-keeps_texts net net' p h stop WentOn (Returning e) = record { node = e.node; node' = e.node'; before = e.becomes.before; after = e.becomes.after; same = λ i. e.writes.tables.rest.text i ∙ e.closes.rest.text i ∙ e.refers.texts i }
-keeps_texts net net' p h stop EndedNow (Finishing e) = record { node = e.node; node' = e.node'; before = e.becomes.before; after = e.becomes.after; same = e.closes.rest.text }
+keeps_texts net net' p h stop WentOn (Entering e) =
+    record { node = e.node; node' = e.node'; before = e.becomes.before; after = e.becomes.after; same = e.marks.tables.rest.text }
+keeps_texts net net' p h stop WentOn (Printing e) =
+    record { node = e.node; node' = e.node'; before = e.becomes.before; after = e.becomes.after; same = e.marks.tables.rest.text }
+keeps_texts net net' p h stop WentOn (Defining index e) =
+    record {
+      node = e.node;
+      node' = e.node';
+      before = e.becomes.before;
+      after = e.becomes.after;
+      same =
+          λ i. e.marks.tables.rest.text i ∙ e.sets.text i;
+    }
+keeps_texts net net' p h stop Began (Creating k e) =
+    record {
+      node = e.node;
+      node' = e.node';
+      before = e.becomes.before;
+      after = e.becomes.after;
+      same =
+          λ i. e.begins.rest.text i ∙ e.makes.rest.text i ∙ e.marks.tables.rest.text i;
+    }
+keeps_texts net net' p h stop WentOn (Returning e) =
+    record {
+      node = e.node;
+      node' = e.node';
+      before = e.becomes.before;
+      after = e.becomes.after;
+      same =
+          λ i. e.writes.tables.rest.text i ∙ e.closes.rest.text i ∙ e.refers.texts i;
+    }
+keeps_texts net net' p h stop EndedNow (Finishing e) =
+    record { node = e.node; node' = e.node'; before = e.becomes.before; after = e.becomes.after; same = e.closes.rest.text }
 
-module _ {S : Type 0} (M : MachineMeaning S) (net net' : Cluster) (w : IrWorld) (p : ℕ) (h : Here) (stop : StopRec) (holds : Holds M net w) (ready : status_at w p ≡ Some Ready) (here : IsHere net p h) (stop_is : stop_at net.program h.operation h.at ≡ Some stop) where
+module _ {S : Type 0} (M : MachineMeaning S) (net net' : Cluster) (w : IrWorld) (p : ℕ) (h : Here) (stop : StopRec)
+    (holds : Holds M net w) (ready : status_at w p ≡ Some Ready) (here : IsHere net p h)
+    (stop_is : stop_at net.program h.operation h.at ≡ Some stop) where
   -- what is done had room
-  pub none_full : (acted : Acted) → Acts net net' p h stop acted → NoneFull (rooms net) (held w) (held (ir_action w p)) (Pools net) (Strings net.program (ir_action w p))
+  pub none_full : (acted : Acted) → Acts net net' p h stop acted →
+      NoneFull (rooms net) (held w) (held (ir_action w p)) (Pools net) (Strings net.program (ir_action w p))
   none_full acted acts =
       let a : AfterAction M net w p net' acted = acts_after M net net' w p h stop holds ready here stop_is acted acts in
       let t = keeps_texts net net' p h stop acted acts in
@@ -143,24 +177,39 @@ idle_stack (Some proc) h = by_status proc.status h
 
 -- has no action
 pub idle_action : (w : IrWorld) (p : ℕ) → status_at w p ≢ Some Ready → ir_action w p ≡ w
-idle_action w p h = ap (λ (xs : List IrActivation). act_on ir_meaning w p (below_of xs) (top_of xs)) (idle_stack (slice_get w.processes p) h)
+idle_action w p h = ap (λ (xs : List IrActivation). act_on ir_meaning w p (below_of xs) (top_of xs))
+    (idle_stack (slice_get w.processes p) h)
 
-pub none_full_idle : {S : Type 0} (M : MachineMeaning S) (net : Cluster) (w : IrWorld) (p : ℕ) → Holds M net w → status_at w p ≢ Some Ready → NoneFull (rooms net) (held w) (held (ir_action w p)) (Pools net) (Strings net.program (ir_action w p))
+pub none_full_idle : {S : Type 0} (M : MachineMeaning S) (net : Cluster) (w : IrWorld) (p : ℕ) → Holds M net w →
+    status_at w p ≢ Some Ready → NoneFull (rooms net) (held w) (held (ir_action w p)) (Pools net) (Strings net.program (ir_action w p))
 none_full_idle M net w p holds h =
     subst (λ (v : IrWorld). NoneFull (rooms net) (held w) (held v) (Pools net) (Strings net.program v)) (sym (idle_action w p h))
     (none_lacks net net w w holds.shows holds.shows (record {
       program = refl;
       images = refl;
       counted = refl;
-      each = λ j x y e f. let same : y ≡ x = cc in record { kind = ap (λ (n : NodeStore). n.kind) same; blocks = ap (λ (n : NodeStore). n.blocks) same; room = ap (λ (n : NodeStore). n.room) same };
+      each = λ j x y e f. let same : y ≡ x =
+          cc in record {
+            kind = ap (λ (n : NodeStore). n.kind) same;
+            blocks = ap (λ (n : NodeStore). n.blocks) same;
+            room =
+                ap (λ (n : NodeStore). n.room) same;
+          };
     }) (λ k s text e g. strings_stand net w holds.shows k s text e g))
 
 -- ---- a creation without room
 
-abbrev creation_of : (net : Cluster) (w : IrWorld) (p : ℕ) (h : Here) (stop : StopRec) (below : List IrActivation) (top : IrActivation) (k : ℕ) (node : NodeStore) → TopAt net w p h stop node below top → (class : ClassRec) → slice_get net.program.classes k ≡ Some class → stop.stop ≡ New (Made k) → Fine net.program → FineWorld net.program w → Creation net.program w p stop below top k
-creation_of net w p h stop below top k node t class class_is is_new program fine = record { acting = t.acting; class = class; class_is = class_is; is_new = is_new; fine_program = program; fine = fine; home = t.home }
+abbrev creation_of : (net : Cluster) (w : IrWorld) (p : ℕ) (h : Here) (stop : StopRec) (below : List IrActivation)
+    (top : IrActivation) (k : ℕ) (node : NodeStore) → TopAt net w p h stop node below top → (class : ClassRec) →
+    slice_get net.program.classes k ≡ Some class → stop.stop ≡ New (Made k) → Fine net.program → FineWorld net.program w →
+    Creation net.program w p stop below top k
+creation_of net w p h stop below top k node t class class_is is_new program fine =
+    record { acting = t.acting; class = class; class_is = class_is; is_new = is_new; fine_program = program; fine = fine; home = t.home }
 
-module _ {S : Type 0} (M : MachineMeaning S) (net : Cluster) (w : IrWorld) (p : ℕ) (h : Here) (stop : StopRec) (holds : Holds M net w) (here : IsHere net p h) (below : List IrActivation) (top : IrActivation) (k : ℕ) (t : TopAt net w p h stop here.node below top) (class : ClassRec) (class_is : slice_get net.program.classes k ≡ Some class) (is_new : stop.stop ≡ New (Made k)) where
+module _ {S : Type 0} (M : MachineMeaning S) (net : Cluster) (w : IrWorld) (p : ℕ) (h : Here) (stop : StopRec)
+    (holds : Holds M net w) (here : IsHere net p h) (below : List IrActivation) (top : IrActivation) (k : ℕ)
+    (t : TopAt net w p h stop here.node below top) (class : ClassRec) (class_is : slice_get net.program.classes k ≡ Some class)
+    (is_new : stop.stop ≡ New (Made k)) where
   abbrev live : IrActivation → List Value
   live = live_values net.program
 
@@ -186,15 +235,18 @@ module _ {S : Type 0} (M : MachineMeaning S) (net : Cluster) (w : IrWorld) (p : 
   there_is = (alone_net net here.node here.one).here
 
   -- a text of an activation that was there
-  old_text : (q d : ℕ) (a : IrActivation) (text : List ℕ) → activation_at w.processes q d ≡ Some a → Has (live_values net.program a) (Str text) → InPool (store_of here.node) text
+  old_text : (q d : ℕ) (a : IrActivation) (text : List ℕ) → activation_at w.processes q d ≡ Some a →
+      Has (live_values net.program a) (Str text) → InPool (store_of here.node) text
   old_text q d a text e g =
       shown_text (store_of here.node) (Frame q d) (frame_thing live spots q d a) text
-      (shown_here live spots (stores net) w (place w) (store_of here.node) holds.shows.nodes (alone_net net here.node here.one) (Frame q d) (frame_thing live spots q d a) (ap (frame_if live spots q d) e)) g
+      (shown_here live spots (stores net) w (place w) (store_of here.node) holds.shows.nodes (alone_net net here.node here.one)
+      (Frame q d) (frame_thing live spots q d a) (ap (frame_if live spots q d) e)) g
 
   done_text : (text : List ℕ) → Has (live_values net.program (done top)) (Str text) → InPool (store_of here.node) text
   done_text text g =
       let z = get_map_back (variable top.variables) (live_variables net.program (done top)) g.at (Str text) g.is in
-      let slot = t.frame.slots z.0 (done_live net.program top stop t.acting.stop_is t.acting.flag t.acting.into z.0 (record { at = g.at; is = z.1 })) in
+      let slot = t.frame.slots z.0
+      (done_live net.program top stop t.acting.stop_is t.acting.flag t.acting.into z.0 (record { at = g.at; is = z.1 })) in
       (slot.word, subst (λ (v : Value). Stands (store_of here.node) v slot.word) z.2 slot.stands)
 
   fresh_text : (text : List ℕ) → Has (live_values net.program fresh) (Str text) → ⊥
@@ -202,13 +254,17 @@ module _ {S : Type 0} (M : MachineMeaning S) (net : Cluster) (w : IrWorld) (p : 
       let none : live_values net.program fresh ≡ [] = ap (λ (xs : List ℕ). map (variable []) xs) (new_live creation) in
       has_none (Str text) (subst (λ (vs : List Value). Has vs (Str text)) none g)
 
-  top_text : (d : ℕ) (a : IrActivation) (text : List ℕ) → slice_get ((below ++ done top ∷ []) ++ fresh ∷ []) d ≡ Some a → Has (live_values net.program a) (Str text) → InPool (store_of here.node) text
+  top_text : (d : ℕ) (a : IrActivation) (text : List ℕ) → slice_get ((below ++ done top ∷ []) ++ fresh ∷ []) d ≡ Some a →
+      Has (live_values net.program a) (Str text) → InPool (store_of here.node) text
   top_text d a text e g = ⊎_elim
       (λ (x : slice_get (below ++ done top ∷ []) d ≡ Some a). ⊎_elim
-      (λ (y : slice_get below d ≡ Some a). old_text p d a text (activation_is w.processes p d (ready_with (below ++ top ∷ [])) t.acting.is ∙ get_left below (top ∷ []) d a y) g)
-      (λ (y : (d ≡ length below) × (done top ≡ a)). done_text text (subst (λ (b : IrActivation). Has (live_values net.program b) (Str text)) (sym y.1) g))
+      (λ (y : slice_get below d ≡ Some a). old_text p d a text
+      (activation_is w.processes p d (ready_with (below ++ top ∷ [])) t.acting.is ∙ get_left below (top ∷ []) d a y) g)
+      (λ (y : (d ≡ length below) × (done top ≡ a)). done_text text
+      (subst (λ (b : IrActivation). Has (live_values net.program b) (Str text)) (sym y.1) g))
       (end_or below (done top) d a x))
-      (λ (x : (d ≡ length (below ++ done top ∷ [])) × (fresh ≡ a)). absurd (fresh_text text (subst (λ (b : IrActivation). Has (live_values net.program b) (Str text)) (sym x.1) g)))
+      (λ (x : (d ≡ length (below ++ done top ∷ [])) × (fresh ≡ a)). absurd
+      (fresh_text text (subst (λ (b : IrActivation). Has (live_values net.program b) (Str text)) (sym x.1) g)))
       (end_or (below ++ done top ∷ []) fresh d a e)
 
   created_text : (text : List ℕ) → Strings net.program created 0 text → InPool (store_of here.node) text
@@ -218,16 +274,19 @@ module _ {S : Type 0} (M : MachineMeaning S) (net : Cluster) (w : IrWorld) (p : 
   created_text text (InFrame q d a e at g) = ⊎_elim
       (λ (same : q ≡ p).
       let mine : slice_get ((below ++ done top ∷ []) ++ fresh ∷ []) d ≡ Some a =
-      sym (activation_here w.processes p d (ready_with ((below ++ done top ∷ []) ++ fresh ∷ [])) there) ∙ ap (λ i. activation_at created.processes i d) (sym same) ∙ e in
+      sym (activation_here w.processes p d (ready_with ((below ++ done top ∷ []) ++ fresh ∷ [])) there)
+      ∙ ap (λ i. activation_at created.processes i d) (sym same) ∙ e in
       top_text d a text mine g)
-      (λ (ne : q ≢ p). old_text q d a text (sym (activation_there w.processes p q d (ready_with ((below ++ done top ∷ []) ++ fresh ∷ [])) ne) ∙ e) g)
+      (λ (ne : q ≢ p). old_text q d a text
+      (sym (activation_there w.processes p q d (ready_with ((below ++ done top ∷ []) ++ fresh ∷ [])) ne) ∙ e) g)
       (same_or_not q p)
   created_text text (InConstant g) = strings_stand net w holds.shows 0 (store_of here.node) text there_is (InConstant g)
 
   -- two blocks more are held
   held_more : held created 0 ≡ held w 0 + 2
   held_more =
-      let moved : ShowsNodes live spots (stores net) w (place created) = replaced live spots (stores net) w (place w) (place created) (λ key x f.
+      let moved : ShowsNodes live spots (stores net) w (place created) =
+      replaced live spots (stores net) w (place w) (place created) (λ key x f.
       let z = holds.shows.nodes.things.each key x f in
       place_old creation x.home z.node z.home ∙ sym z.home) holds.shows.nodes in
       let one = moved.held 0 (store_of here.node) there_is in
@@ -238,10 +297,12 @@ module _ {S : Type 0} (M : MachineMeaning S) (net : Cluster) (w : IrWorld) (p : 
   pool_is : (text : List ℕ) → Has here.node.pool text ↔ Pools net 0 text
   pool_is text = (
     λ g. pool_here net 0 (store_of here.node) text there_is (g.at, g.is),
-    λ g. let z : InPool (store_of here.node) text = subst (λ (x : Option Store). pool_if x text) there_is g in record { at = z.0; is = z.1 },
+    λ g. let z : InPool (store_of here.node) text =
+        subst (λ (x : Option Store). pool_if x text) there_is g in record { at = z.0; is = z.1 },
   )
 
-  pub creation_full : (free : ℕ) → (store_of here.node).free ≡ free → free < 2 → FullAt (rooms net) (held w) (held created) (Pools net) (Strings net.program created) 0 Blocks 2 free
+  pub creation_full : (free : ℕ) → (store_of here.node).free ≡ free → free < 2 →
+      FullAt (rooms net) (held w) (held created) (Pools net) (Strings net.program created) 0 Blocks 2 free
   creation_full free is few = record {
     room = record { blocks = here.node.blocks; text = here.node.room };
     there = ap (λ (ns : List NodeStore). room_of (slice_get ns 0)) here.one;
@@ -252,7 +313,8 @@ module _ {S : Type 0} (M : MachineMeaning S) (net : Cluster) (w : IrWorld) (p : 
       bytes = record {
         texts = [];
         once = record { once = λ i j x e f. cc };
-        these = λ text. (λ g. absurd (has_none text g), λ g. absurd (g.1 (pool_here net 0 (store_of here.node) text there_is (created_text text g.0))));
+        these = λ text.
+            (λ g. absurd (has_none text g), λ g. absurd (g.1 (pool_here net 0 (store_of here.node) text there_is (created_text text g.0))));
         bytes = refl;
       };
       used = text_bytes here.node.pool;
@@ -269,14 +331,23 @@ module _ {S : Type 0} (M : MachineMeaning S) (net : Cluster) (w : IrWorld) (p : 
   }
 
 -- a refusal is exact
-pub full_here : {S : Type 0} (M : MachineMeaning S) (net : Cluster) (w : IrWorld) (p : ℕ) (h : Here) (stop : StopRec) (k node need free : ℕ) → Holds M net w → status_at w p ≡ Some Ready → IsHere net p h → stop_at net.program h.operation h.at ≡ Some stop → stop.stop ≡ New (Made k) → FullHere net node need free → FullAt (rooms net) (held w) (held (ir_action w p)) (Pools net) (Strings net.program (ir_action w p)) node Blocks need free
+pub full_here : {S : Type 0} (M : MachineMeaning S) (net : Cluster) (w : IrWorld) (p : ℕ) (h : Here) (stop : StopRec)
+    (k node need free : ℕ) → Holds M net w → status_at w p ≡ Some Ready → IsHere net p h →
+    stop_at net.program h.operation h.at ≡ Some stop → stop.stop ≡ New (Made k) → FullHere net node need free →
+    FullAt (rooms net) (held w) (held (ir_action w p)) (Pools net) (Strings net.program (ir_action w p)) node Blocks need free
 full_here M net w p h stop k node need free holds ready here stop_is is_new full =
     let t = read_top M net w p h stop holds here stop_is here.node here.one ready in
     let a = t.2.acting in
-    let fine : FineStop net.program.classes net.program.globals t.1.operation a.code.operation.variables (New (Made k)) stop.operands stop.into = subst (λ (x : Stop). FineStop net.program.classes net.program.globals t.1.operation a.code.operation.variables x stop.operands stop.into) is_new a.code.fine in
-    let c : Creation net.program w p stop t.0 t.1 k = creation_of net w p h stop t.0 t.1 k here.node t.2 fine.0 fine.1 is_new holds.steady.fine holds.fine in
+    let fine : FineStop net.program.classes net.program.globals t.1.operation a.code.operation.variables (New (Made k))
+    stop.operands stop.into =
+    subst (λ (x : Stop). FineStop net.program.classes net.program.globals t.1.operation a.code.operation.variables x
+    stop.operands stop.into) is_new a.code.fine in
+    let c : Creation net.program w p stop t.0 t.1 k =
+    creation_of net w p h stop t.0 t.1 k here.node t.2 fine.0 fine.1 is_new holds.steady.fine holds.fine in
     let is = created_is c in
     let base = creation_full M net w p h stop holds here t.0 t.1 k t.2 fine.0 fine.1 is_new free (full.2 here.node here.one) full.3 in
     subst (λ (v : IrWorld). FullAt (rooms net) (held w) (held v) (Pools net) (Strings net.program v) node Blocks need free) (sym is)
-    (subst (λ (n : ℕ). FullAt (rooms net) (held w) (held (created_world c)) (Pools net) (Strings net.program (created_world c)) n Blocks need free) (sym full.0)
-    (subst (λ (m : ℕ). FullAt (rooms net) (held w) (held (created_world c)) (Pools net) (Strings net.program (created_world c)) 0 Blocks m free) (sym full.1) base))
+    (subst (λ (n : ℕ). FullAt (rooms net) (held w) (held (created_world c)) (Pools net) (Strings net.program (created_world c)) n
+    Blocks need free) (sym full.0)
+    (subst (λ (m : ℕ). FullAt (rooms net) (held w) (held (created_world c)) (Pools net) (Strings net.program (created_world c)) 0
+    Blocks m free) (sym full.1) base))

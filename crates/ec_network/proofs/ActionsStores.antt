@@ -1,5 +1,6 @@
 -- What one change of a store is to the one owner that it touches, on a node that is alone.
-use Rattle.std.proofs.Common.{◌≡◌, ◌≢◌, ℕ, zero, suc, ◌/◌, ◌%◌, ◌<◌, Bool, List, [], ◌∷◌, length, Option, Some, None, refl, sym, ap, ◌∙◌, subst, arith, inl, ⊎_elim}
+use Rattle.std.proofs.Common.{◌≡◌, ◌≢◌, ℕ, zero, suc, ◌/◌, ◌%◌, ◌<◌, Bool, List, [], ◌∷◌, length, Option, Some, None, refl, sym, ap}
+use Rattle.std.proofs.Common.{◌∙◌, subst, arith, inl, ⊎_elim}
 use Rattle.std.specs.Prelude.{slice_get}
 use Rattle.ec_world.specs.declared.class.ClassNo.{ClassNo}
 use Rattle.ec_monitors.specs.declared.record.MonitorRec.{MonitorRec}
@@ -56,7 +57,9 @@ alone_is nodes s a k x e = ⊎_elim
     (same_or_not k 0)
 
 -- the one node shows each thing
-pub shown_here : (live : IrActivation → List Value) (spot : IrActivation → Kind → ℕ → Option ℕ) (nodes : ℕ → Option Store) (w : World IrActivation) (place : ℕ → Option ℕ) (s : Store) → ShowsNodes live spot nodes w place → IsAlone nodes s → (key : Key) (t : Thing) → things_of live spot w key ≡ Some t → Shown s key t
+pub shown_here : (live : IrActivation → List Value) (spot : IrActivation → Kind → ℕ → Option ℕ) (nodes : ℕ → Option Store)
+    (w : World IrActivation) (place : ℕ → Option ℕ) (s : Store) → ShowsNodes live spot nodes w place → IsAlone nodes s →
+    (key : Key) (t : Thing) → things_of live spot w key ≡ Some t → Shown s key t
 shown_here live spot nodes w place s shows a key t e =
     let z = shows.things.each key t e in
     subst (λ (y : Store). Shown y key t) (alone_is nodes s a z.node z.store z.there).1 z.shown
@@ -80,7 +83,8 @@ same_grown s s' h = record {
   room = h.room;
 }
 
-pub same_tidy : (s s' : Store) → ((key : Key) → s'.row key ≡ s.row key) → ((i : ℕ) → s'.local i ≡ s.local i) → ((i : ℕ) → s'.text i ≡ s.text i) → Tidy s → Tidy s'
+pub same_tidy : (s s' : Store) → ((key : Key) → s'.row key ≡ s.row key) → ((i : ℕ) → s'.local i ≡ s.local i) →
+    ((i : ℕ) → s'.text i ≡ s.text i) → Tidy s → Tidy s'
 same_tidy s s' rows locals texts t = record {
   apart = λ a b r q x e f g h. t.apart a b r q x (sym (rows a) ∙ e) (sym (rows b) ∙ f) g h;
   nil = locals 0 ∙ t.nil;
@@ -90,7 +94,8 @@ same_tidy s s' rows locals texts t = record {
 
 -- ---- one word is written
 
-module _ (s s' : Store) (key : Key) (row : Owned) (b i n : ℕ) (writes : WritesWord s s' b i n) (row_is : s.row key ≡ Some row) (block : row.blocks ≡ b ∷ []) (tidy : Tidy s) where
+module _ (s s' : Store) (key : Key) (row : Owned) (b i n : ℕ) (writes : WritesWord s s' b i n) (row_is : s.row key ≡ Some row)
+    (block : row.blocks ≡ b ∷ []) (tidy : Tidy s) where
   writes_kept : (other : Key) → other ≢ key → KeptRow s s' other
   writes_kept other ne = record {
     row = writes.tables.rows other;
@@ -115,7 +120,9 @@ module _ (s s' : Store) (key : Key) (row : Owned) (b i n : ℕ) (writes : Writes
 
 -- ---- an owner comes
 
-pub placed_puts : (s s' : Store) (key : Key) (class : Option ClassNo) (fixed : Bool) (monitor : Option MonitorRec) (given : List ℕ) (b : ℕ) (t : Thing) → Placed s s' key class fixed monitor given b → s.row key ≡ None → Tidy s' → t.blocks ≡ 1 → Shown s' key t → Puts s s' key (Some t)
+pub placed_puts : (s s' : Store) (key : Key) (class : Option ClassNo) (fixed : Bool) (monitor : Option MonitorRec) (given : List ℕ)
+    (b : ℕ) (t : Thing) → Placed s s' key class fixed monitor given b → s.row key ≡ None → Tidy s' → t.blocks ≡ 1 → Shown s' key t →
+    Puts s s' key (Some t)
 placed_puts s s' key class fixed monitor given b t placed none tidy one shown = record {
   here = shown;
   others = placed.others;
@@ -135,7 +142,8 @@ tables_self s = record {
   count = refl;
 }
 
-pub closed_puts : (s one two : Store) (key : Key) (row : Owned) (b : ℕ) → OnlyTables s one → Closed one two key → s.row key ≡ Some row → row.blocks ≡ b ∷ [] → Tidy two → Puts s two key None
+pub closed_puts : (s one two : Store) (key : Key) (row : Owned) (b : ℕ) → OnlyTables s one → Closed one two key →
+    s.row key ≡ Some row → row.blocks ≡ b ∷ [] → Tidy two → Puts s two key None
 closed_puts s one two key row b only closed row_is block tidy = record {
   here = closed.gone;
   others = λ other ne.

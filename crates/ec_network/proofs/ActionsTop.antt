@@ -1,5 +1,6 @@
 -- What a network that holds keeps of a Ready process: its activations, the stop of the top one, and the frame of that.
-use Rattle.std.proofs.Common.{◌≡◌, ℕ, suc, ◌<◌, ◌≤◌, Bool, true, List, [], ◌∷◌, ◌++◌, length, Option, Some, None, refl, sym, ap, ◌∙◌, subst, arith}
+use Rattle.std.proofs.Common.{◌≡◌, ℕ, suc, ◌<◌, ◌≤◌, Bool, true, List, [], ◌∷◌, ◌++◌, length, Option, Some, None, refl, sym, ap}
+use Rattle.std.proofs.Common.{◌∙◌, subst, arith}
 use Rattle.std.specs.Prelude.{slice_get, map}
 use Rattle.ec_base.specs.Stack.{top_of, below_of}
 use Rattle.ec_base.proofs.Stacks.{top_of-push, below_of-push, stack_parts, top_of_none}
@@ -56,7 +57,8 @@ pub record ReadyTop (program : Parts) (w : IrWorld) (p : ℕ) : Type 0 where
 pub ready_top : (program : Parts) (w : IrWorld) (p : ℕ) → FineWorld program w → status_at w p ≡ Some Ready → ReadyTop program w p
 ready_top program w p fine ready = by_process (slice_get w.processes p) refl ready
   where
-    by_top : (xs : List IrActivation) (t : Option IrActivation) → top_of xs ≡ t → slice_get w.processes p ≡ Some (ready_with xs) → FineStack program w.common.nodes (length w.common.objects) xs → ReadyTop program w p
+    by_top : (xs : List IrActivation) (t : Option IrActivation) → top_of xs ≡ t → slice_get w.processes p ≡ Some (ready_with xs) →
+        FineStack program w.common.nodes (length w.common.objects) xs → ReadyTop program w p
     by_top xs None e is f =
         let none : length xs ≡ 0 = ap (λ (ys : List IrActivation). length ys) (top_of_none xs e) in
         absurd (omega (arith, none, f.some))
@@ -73,8 +75,11 @@ ready_top program w p fine ready = by_process (slice_get w.processes p) refl rea
     by_process None is e = cc
     by_process (Some proc) is e =
         let r : proc.status ≡ Ready = cc in
-        let f : FineStack program w.common.nodes (length w.common.objects) proc.activations = subst (λ (s : ProcStatus). FineProcess program w.common.nodes (length w.common.objects) s proc.activations) r (fine.each p proc is) in
-        let is' : slice_get w.processes p ≡ Some (ready_with proc.activations) = is ∙ ap (λ (s : ProcStatus). Some (record { activations = proc.activations; status = s })) r in
+        let f : FineStack program w.common.nodes (length w.common.objects) proc.activations =
+        subst (λ (s : ProcStatus). FineProcess program w.common.nodes (length w.common.objects) s proc.activations) r
+        (fine.each p proc is) in
+        let is' : slice_get w.processes p ≡ Some (ready_with proc.activations) =
+        is ∙ ap (λ (s : ProcStatus). Some (record { activations = proc.activations; status = s })) r in
         by_top proc.activations (top_of proc.activations) refl is' f
 
 -- ---- its stop
@@ -87,10 +92,12 @@ pub record OperationOf (program : Parts) (op at : ℕ) (stop : StopRec) : Type 0
   pub few : length operation.variables ≤ 100
   pub fine : FineStop program.classes program.globals op operation.variables stop.stop stop.operands stop.into
 
-pub operation_of : (program : Parts) (op at : ℕ) (stop : StopRec) → Fine program → stop_at program op at ≡ Some stop → OperationOf program op at stop
+pub operation_of : (program : Parts) (op at : ℕ) (stop : StopRec) → Fine program → stop_at program op at ≡ Some stop →
+    OperationOf program op at stop
 operation_of program op at stop fine e = by_operation (slice_get program.operations op) refl e
   where
-    by_operation : (x : Option Operation) → slice_get program.operations op ≡ x → slice_get (stops_of x) at ≡ Some stop → OperationOf program op at stop
+    by_operation : (x : Option Operation) → slice_get program.operations op ≡ x → slice_get (stops_of x) at ≡ Some stop →
+        OperationOf program op at stop
     by_operation None is there = cc
     by_operation (Some o) is there =
         let f = fine.operations op o is in
@@ -109,7 +116,10 @@ pub record Acting (program : Parts) (w : IrWorld) (p : ℕ) (stop : StopRec) (be
   pub typed : LiveTyped program top
   pub code : OperationOf program top.operation top.at stop
 
-pub acting : (program : Parts) (w : IrWorld) (p : ℕ) (stop : StopRec) (below : List IrActivation) (top : IrActivation) → Fine program → slice_get w.processes p ≡ Some (ready_with (below ++ top ∷ [])) → FineStack program w.common.nodes (length w.common.objects) (below ++ top ∷ []) → stop_at program top.operation top.at ≡ Some stop → Acting program w p stop below top
+pub acting : (program : Parts) (w : IrWorld) (p : ℕ) (stop : StopRec) (below : List IrActivation) (top : IrActivation) →
+    Fine program → slice_get w.processes p ≡ Some (ready_with (below ++ top ∷ [])) →
+    FineStack program w.common.nodes (length w.common.objects) (below ++ top ∷ []) →
+    stop_at program top.operation top.at ≡ Some stop → Acting program w p stop below top
 acting program w p stop below top fine is stack e =
     let t = stack.top top (top_of-push below top) in
     let same : t.at ≡ stop = cc (t.rests.at_is) in
@@ -127,7 +137,9 @@ acting program w p stop below top fine is stack e =
     }
 
 -- the action is that of the top's stop
-pub action_is : (w : IrWorld) (p : ℕ) (below : List IrActivation) (top : IrActivation) → slice_get w.processes p ≡ Some (ready_with (below ++ top ∷ [])) → top.pending ≡ true → ir_action w p ≡ acted ir_meaning w p below top (outcome_at ir_meaning w p below top)
+pub action_is : (w : IrWorld) (p : ℕ) (below : List IrActivation) (top : IrActivation) →
+    slice_get w.processes p ≡ Some (ready_with (below ++ top ∷ [])) → top.pending ≡ true →
+    ir_action w p ≡ acted ir_meaning w p below top (outcome_at ir_meaning w p below top)
 action_is w p below top is flag =
     ap (λ (x : Option (Proc IrActivation)). act_on ir_meaning w p (below_of (ready_stack x)) (top_of (ready_stack x))) is
     ∙ ap (λ (x : List IrActivation). act_on ir_meaning w p x (top_of (below ++ top ∷ []))) (below_of-push below top)
@@ -135,11 +147,16 @@ action_is w p below top is flag =
     ∙ ap (λ (b : Bool). act_if_pending ir_meaning w p below top b) flag
 
 -- the world after it, by what the table has for the stop and its operands
-pub action_comes : (w : IrWorld) (p : ℕ) (below : List IrActivation) (top : IrActivation) (s : Stop) (vs : List Value) (c : Common) (e : Effect) → slice_get w.processes p ≡ Some (ready_with (below ++ top ∷ [])) → top.pending ≡ true → top.stop ≡ s → top.operands ≡ vs → outcome_of w.common (who_of ir_meaning p below top) (world_stop s) vs ≡ Some (c, only e) → IsNoFailure e → ir_action w p ≡ with_process w c p (changed ir_meaning below top e)
+pub action_comes : (w : IrWorld) (p : ℕ) (below : List IrActivation) (top : IrActivation) (s : Stop) (vs : List Value) (c : Common)
+    (e : Effect) → slice_get w.processes p ≡ Some (ready_with (below ++ top ∷ [])) → top.pending ≡ true → top.stop ≡ s →
+    top.operands ≡ vs → outcome_of w.common (who_of ir_meaning p below top) (world_stop s) vs ≡ Some (c, only e) →
+    IsNoFailure e → ir_action w p ≡ with_process w c p (changed ir_meaning below top e)
 action_comes w p below top s vs c e is flag stopped operands comes goes =
     action_is w p below top is flag
-    ∙ ap (λ (x : Stop). acted ir_meaning w p below top (outcome_of w.common (who_of ir_meaning p below top) (world_stop x) top.operands)) stopped
-    ∙ ap (λ (xs : List Value). acted ir_meaning w p below top (outcome_of w.common (who_of ir_meaning p below top) (world_stop s) xs)) operands
+    ∙ ap (λ (x : Stop). acted ir_meaning w p below top
+    (outcome_of w.common (who_of ir_meaning p below top) (world_stop x) top.operands)) stopped
+    ∙ ap (λ (xs : List Value). acted ir_meaning w p below top
+    (outcome_of w.common (who_of ir_meaning p below top) (world_stop s) xs)) operands
     ∙ ap (λ (o : Option (Common × Outcome)). acted ir_meaning w p below top o) comes
     ∙ acted_only ir_meaning w p below top c e goes
 
@@ -149,27 +166,37 @@ pub one_node : (net : Cluster) (w : IrWorld) (node : NodeStore) → Shows net w 
 one_node net w node shows one = sym shows.counted ∙ ap (λ (ns : List NodeStore). length ns) one
 
 -- each object is there
-pub place_there : (program : Parts) (w : IrWorld) (oid : ℕ) → w.common.nodes ≡ 1 → FineFacts program w → 0 < oid → oid ≤ length w.common.objects → place w oid ≡ Some 0
+pub place_there : (program : Parts) (w : IrWorld) (oid : ℕ) → w.common.nodes ≡ 1 → FineFacts program w → 0 < oid →
+    oid ≤ length w.common.objects → place w oid ≡ Some 0
 place_there program w oid one facts some below =
     subst (λ (n : ℕ). oid ≤ length (places n w.common.events) → place_in (places n w.common.events) oid ≡ Some 0) (sym one)
     (λ l. place_on_one w.common.events oid some l)
     (let l = facts.placed in omega arith)
 
-module _ {S : Type 0} (M : MachineMeaning S) (net : Cluster) (w : IrWorld) (p : ℕ) (holds : Holds M net w) (node : NodeStore) (one : net.nodes ≡ node ∷ []) where
+module _ {S : Type 0} (M : MachineMeaning S) (net : Cluster) (w : IrWorld) (p : ℕ) (holds : Holds M net w) (node : NodeStore)
+    (one : net.nodes ≡ node ∷ []) where
   pub node_riscv : (store_of node).kind ≡ Riscv
   node_riscv = let same : holds.steady.node ≡ node = cc (holds.steady.one) in ap (λ (n : NodeStore). n.kind) (sym same) ∙ holds.steady.riscv
 
   -- the frame of an activation of p
-  pub shown_frame : (xs : List IrActivation) (d : ℕ) (a : IrActivation) → slice_get w.processes p ≡ Some (ready_with xs) → slice_get xs d ≡ Some a → Shown (store_of node) (Frame p d) (frame_thing (live_values net.program) (spot net.program net.images) p d a)
+  pub shown_frame : (xs : List IrActivation) (d : ℕ) (a : IrActivation) → slice_get w.processes p ≡ Some (ready_with xs) →
+      slice_get xs d ≡ Some a →
+      Shown (store_of node) (Frame p d) (frame_thing (live_values net.program) (spot net.program net.images) p d a)
   shown_frame xs d a is at =
-      shown_here (live_values net.program) (spot net.program net.images) (stores net) w (place w) (store_of node) holds.shows.nodes (alone_net net node one) (Frame p d) (frame_thing (live_values net.program) (spot net.program net.images) p d a)
+      shown_here (live_values net.program) (spot net.program net.images) (stores net) w (place w) (store_of node) holds.shows.nodes
+      (alone_net net node one) (Frame p d) (frame_thing (live_values net.program) (spot net.program net.images) p d a)
       (ap (frame_if (live_values net.program) (spot net.program net.images) p d) (activation_is w.processes p d (ready_with xs) is ∙ at))
 
-  pub shown_at : (xs : List IrActivation) (d : ℕ) (a : IrActivation) (b : ℕ) (row : Owned) (v : HasVariables net.program a) → slice_get w.processes p ≡ Some (ready_with xs) → slice_get xs d ≡ Some a → (store_of node).row (Frame p d) ≡ Some row → row.blocks ≡ b ∷ [] → FrameStands net.program (store_of node) p d b a
-  shown_at xs d a b row v is at row_is block = frame_stands net.program net.images holds.steady.slots (store_of node) node_riscv p d b a v row row_is block (shown_frame xs d a is at)
+  pub shown_at : (xs : List IrActivation) (d : ℕ) (a : IrActivation) (b : ℕ) (row : Owned) (v : HasVariables net.program a) →
+      slice_get w.processes p ≡ Some (ready_with xs) → slice_get xs d ≡ Some a → (store_of node).row (Frame p d) ≡ Some row →
+      row.blocks ≡ b ∷ [] → FrameStands net.program (store_of node) p d b a
+  shown_at xs d a b row v is at row_is block =
+      frame_stands net.program net.images holds.steady.slots (store_of node) node_riscv p d b a v row row_is block
+      (shown_frame xs d a is at)
 
 -- what the kernel reads of a Ready process is its top activation and the stop of that
-pub record TopAt (net : Cluster) (w : IrWorld) (p : ℕ) (h : Here) (stop : StopRec) (node : NodeStore) (below : List IrActivation) (top : IrActivation) : Type 0 where
+pub record TopAt (net : Cluster) (w : IrWorld) (p : ℕ) (h : Here) (stop : StopRec) (node : NodeStore) (below : List IrActivation)
+    (top : IrActivation) : Type 0 where
   pub acting : Acting net.program w p stop below top
   pub depth : h.depth ≡ length below
   pub operation : h.operation ≡ top.operation
@@ -179,11 +206,16 @@ pub record TopAt (net : Cluster) (w : IrWorld) (p : ℕ) (h : Here) (stop : Stop
   pub frame : FrameStands net.program (store_of node) p (length below) h.block top
   pub home : place w top.own ≡ Some 0
 
-module _ {S : Type 0} (M : MachineMeaning S) (net : Cluster) (w : IrWorld) (p : ℕ) (h : Here) (stop : StopRec) (holds : Holds M net w) (here : IsHere net p h) (stop_is : stop_at net.program h.operation h.at ≡ Some stop) (node : NodeStore) (one : net.nodes ≡ node ∷ []) where
-  module _ (below : List IrActivation) (top : IrActivation) (is : slice_get w.processes p ≡ Some (ready_with (below ++ top ∷ []))) (stack : FineStack net.program w.common.nodes (length w.common.objects) (below ++ top ∷ [])) where
+module _ {S : Type 0} (M : MachineMeaning S) (net : Cluster) (w : IrWorld) (p : ℕ) (h : Here) (stop : StopRec)
+    (holds : Holds M net w) (here : IsHere net p h) (stop_is : stop_at net.program h.operation h.at ≡ Some stop) (node : NodeStore)
+    (one : net.nodes ≡ node ∷ []) where
+  module _ (below : List IrActivation) (top : IrActivation) (is : slice_get w.processes p ≡ Some (ready_with (below ++ top ∷ [])))
+      (stack : FineStack net.program w.common.nodes (length w.common.objects) (below ++ top ∷ [])) where
     depth_is : h.depth ≡ length below
     depth_is =
-        let deep : slice_get net.depths p ≡ Some (length (below ++ top ∷ [])) = ap (λ (ds : List ℕ). slice_get ds p) holds.shows.depths ∙ get_map (λ (q : Proc IrActivation). length q.activations) w.processes p (ready_with (below ++ top ∷ [])) is in
+        let deep : slice_get net.depths p ≡ Some (length (below ++ top ∷ [])) =
+        ap (λ (ds : List ℕ). slice_get ds p) holds.shows.depths
+        ∙ get_map (λ (q : Proc IrActivation). length q.activations) w.processes p (ready_with (below ++ top ∷ [])) is in
         let count : suc h.depth ≡ length (below ++ top ∷ []) = cc (here.depth) in
         omega (arith, count, length_end below top)
 
@@ -191,7 +223,8 @@ module _ {S : Type 0} (M : MachineMeaning S) (net : Cluster) (w : IrWorld) (p : 
     same_node = cc (here.one, one)
 
     row_is : (store_of node).row (Frame p (length below)) ≡ Some here.row
-    row_is = subst (λ (d : ℕ). (store_of node).row (Frame p d) ≡ Some here.row) depth_is (subst (λ (n : NodeStore). (store_of n).row (Frame p h.depth) ≡ Some here.row) same_node here.row_is)
+    row_is = subst (λ (d : ℕ). (store_of node).row (Frame p d) ≡ Some here.row) depth_is
+        (subst (λ (n : NodeStore). (store_of n).row (Frame p h.depth) ≡ Some here.row) same_node here.row_is)
 
     word_is : (i n : ℕ) → (store_of here.node).word h.block i ≡ Some n → (store_of node).word h.block i ≡ Some n
     word_is i n e = subst (λ (x : NodeStore). (store_of x).word h.block i ≡ Some n) same_node e
@@ -203,7 +236,8 @@ module _ {S : Type 0} (M : MachineMeaning S) (net : Cluster) (w : IrWorld) (p : 
         record { operation = code.operation; is = code.is; few = code.few; typed = t.rests.typed }
 
     frame_is : FrameStands net.program (store_of node) p (length below) h.block top
-    frame_is = shown_at M net w p holds node one (below ++ top ∷ []) (length below) top h.block here.row variables_of is (get_end below top) row_is here.block
+    frame_is = shown_at M net w p holds node one (below ++ top ∷ []) (length below) top h.block here.row variables_of is
+        (get_end below top) row_is here.block
 
     operation_is : h.operation ≡ top.operation
     operation_is = cc (word_is 2 h.operation here.operation, frame_is.heads 2 top.operation refl)
@@ -215,7 +249,8 @@ module _ {S : Type 0} (M : MachineMeaning S) (net : Cluster) (w : IrWorld) (p : 
     own_is = cc (word_is 5 h.own here.own, frame_is.heads 5 top.own refl)
 
     stop_here : stop_at net.program top.operation top.at ≡ Some stop
-    stop_here = ap (λ (o : ℕ). stop_at net.program o top.at) (sym operation_is) ∙ ap (λ (i : ℕ). stop_at net.program h.operation i) (sym at_is) ∙ stop_is
+    stop_here = ap (λ (o : ℕ). stop_at net.program o top.at) (sym operation_is)
+        ∙ ap (λ (i : ℕ). stop_at net.program h.operation i) (sym at_is) ∙ stop_is
 
     home_is : place w top.own ≡ Some 0
     home_is =

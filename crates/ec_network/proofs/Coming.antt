@@ -26,27 +26,29 @@ module _ (net net' : Cluster) (p : ℕ) (h : Here) (stop : StopRec) (node node' 
       WritesWord (store_of node) one h.block pending_head 0 →
       Placed one two (Object oid) (Some (Made k)) false None [] object_block →
       Placed two (store_of node') (Frame p depth) None false None (p ∷ depth ∷ class.initial ∷ 0 ∷ 1 ∷ oid ∷ []) frame_block →
-      net'.statuses ≡ net.statuses → net'.depths ≡ slice_set net.depths p (suc depth) → net'.output ≡ net.output → net'.places ≡ net.places ++ 0 ∷ [] →
+      net'.statuses ≡ net.statuses → net'.depths ≡ slice_set net.depths p (suc depth) → net'.output ≡ net.output →
+      net'.places ≡ net.places ++ 0 ∷ [] →
       Creates net net' p h stop k
-  creates_by k class one two oid depth object_block frame_block is class_is oid_is depth_is marks makes begins statuses depths output places = record {
-    is = is;
-    node = node;
-    node' = node';
-    becomes = becomes;
-    class = class;
-    class_is = class_is;
-    one = one;
-    two = two;
-    marks = marks;
-    object_block = object_block;
-    makes = rw oid_is at makes;
-    frame_block = frame_block;
-    begins = rw (oid_is, depth_is) at begins;
-    statuses = statuses;
-    depths = rw depth_is at depths;
-    output = output;
-    places = places;
-  }
+  creates_by k class one two oid depth object_block frame_block is class_is oid_is depth_is marks makes begins statuses depths
+      output places = record {
+        is = is;
+        node = node;
+        node' = node';
+        becomes = becomes;
+        class = class;
+        class_is = class_is;
+        one = one;
+        two = two;
+        marks = marks;
+        object_block = object_block;
+        makes = rw oid_is at makes;
+        frame_block = frame_block;
+        begins = rw (oid_is, depth_is) at begins;
+        statuses = statuses;
+        depths = rw depth_is at depths;
+        output = output;
+        places = places;
+      }
 
   pub returns_by : (caller : StopRec) (one two : Store) (depth f operation at x local : ℕ) (can : CanReturn net p h stop) →
       node ≡ can.node → depth ≡ can.depth → FirstBlock (store_of node) (Frame p depth) f →
@@ -55,7 +57,8 @@ module _ (net net' : Cluster) (p : ℕ) (h : Here) (stop : StopRec) (node node' 
       Refers (store_of node) one h.own local → Closed one two (Frame p h.depth) → WritesWord two (store_of node') f (first_slot + x) local →
       net'.statuses ≡ net.statuses → net'.depths ≡ slice_set net.depths p h.depth → net'.output ≡ net.output → net'.places ≡ net.places →
       Returns net net' p h stop
-  returns_by caller one two depth f operation at x local can same depth_same first operation_is at_is caller_is into is refers closes writes statuses depths output places =
+  returns_by caller one two depth f operation at x local can same depth_same first operation_is at_is caller_is into is refers
+      closes writes statuses depths output places =
       let row_is : (store_of node).row (Frame p can.depth) ≡ Some can.row = rw same can.row_is in
       let f_is : f ≡ can.f = first_is (store_of node) (Frame p can.depth) can.row can.f f row_is can.block (rw depth_same at first) in
       record {

@@ -1,5 +1,6 @@
 -- The kernel finds what it needs for the action of a Ready process.
-use Rattle.std.proofs.Common.{◌≡◌, ℕ, zero, suc, ◌+◌, ◌-◌, ◌^◌, ◌<◌, ◌≤◌, ◌==◌, Bool, true, false, List, [], ◌∷◌, ◌++◌, length, Option, Some, None, refl, sym, ap, ◌∙◌, subst, arith, ⊎_elim}
+use Rattle.std.proofs.Common.{◌≡◌, ℕ, zero, suc, ◌+◌, ◌-◌, ◌^◌, ◌<◌, ◌≤◌, ◌==◌, Bool, true, false, List, [], ◌∷◌, ◌++◌, length}
+use Rattle.std.proofs.Common.{Option, Some, None, refl, sym, ap, ◌∙◌, subst, arith, ⊎_elim}
 use Rattle.std.specs.Prelude.{slice_get, if◌then◌else◌}
 use Rattle.std.proofs.lemmas.Grind.{common_steps}
 use Rattle.ec_base.specs.Stack.{top_of, below_of}
@@ -66,7 +67,8 @@ text_of (Ref o) h = absurd h
 text_of Nil h = absurd h
 
 -- the variable that takes a stop's result is one of the operation's
-result_of_new : (classes : List ClassRec) (vars : List ValueType) (class : ClassNo) (xs : List ℕ) (into : Option ℕ) (x : ℕ) → FineNew classes vars class xs into → into ≡ Some x → x < length vars
+result_of_new : (classes : List ClassRec) (vars : List ValueType) (class : ClassNo) (xs : List ℕ) (into : Option ℕ) (x : ℕ) →
+    FineNew classes vars class xs into → into ≡ Some x → x < length vars
 result_of_new classes vars Node xs into x h e = absurd h
 result_of_new classes vars Program xs into x h e = absurd h
 result_of_new classes vars (Vector of) xs into x h e = absurd h
@@ -74,7 +76,8 @@ result_of_new classes vars (Made k) xs into x h e =
     let same : h.4.0 ≡ x = cc (h.4.1) in
     subst (λ (y : ℕ). y < length vars) same (get_within vars h.4.0 Reference h.4.2)
 
-result_of : (classes : List ClassRec) (globals : List ValueType) (op : ℕ) (vars : List ValueType) (stop : Stop) (xs : List ℕ) (into : Option ℕ) (x : ℕ) → HasCode stop → FineStop classes globals op vars stop xs into → into ≡ Some x → x < length vars
+result_of : (classes : List ClassRec) (globals : List ValueType) (op : ℕ) (vars : List ValueType) (stop : Stop) (xs : List ℕ)
+    (into : Option ℕ) (x : ℕ) → HasCode stop → FineStop classes globals op vars stop xs into → into ≡ Some x → x < length vars
 result_of classes globals op vars Entry xs into x code h e = cc (h.1)
 result_of classes globals op vars (New class) xs into x code h e = result_of_new classes vars class xs into x h e
 result_of classes globals op vars (Return gives_self) xs into x code h e = absurd code
@@ -91,7 +94,8 @@ module _ {A : Type 0} (f : ℕ → A → ℕ) where
       let first : f (from + 0) x ≡ 1 = h 0 x refl in
       let z : from + 0 ≡ from = omega arith in
       let one : f from x ≡ 1 = rw z at first in
-      let rest : total f (suc from) xs ≡ length xs = ones (suc from) xs (λ i y e. let q : suc from + i ≡ from + suc i = omega arith in rw q (h (suc i) y e)) in
+      let rest : total f (suc from) xs ≡ length xs =
+      ones (suc from) xs (λ i y e. let q : suc from + i ≡ from + suc i = omega arith in rw q (h (suc i) y e)) in
       omega arith
 
   one_of_sum : (from : ℕ) (xs : List A) (i : ℕ) (x : A) → slice_get xs i ≡ Some x → f (from + i) x ≤ total f from xs
@@ -114,7 +118,9 @@ here_weight k (Some j) e =
 
 -- ---- a Ready process
 
-module _ {S : Type 0} (M : MachineMeaning S) (net : Cluster) (w : IrWorld) (p : ℕ) (holds : Holds M net w) (below : List IrActivation) (top : IrActivation) (is : slice_get w.processes p ≡ Some (ready_with (below ++ top ∷ []))) (stack : FineStack net.program w.common.nodes (length w.common.objects) (below ++ top ∷ [])) where
+module _ {S : Type 0} (M : MachineMeaning S) (net : Cluster) (w : IrWorld) (p : ℕ) (holds : Holds M net w)
+    (below : List IrActivation) (top : IrActivation) (is : slice_get w.processes p ≡ Some (ready_with (below ++ top ∷ [])))
+    (stack : FineStack net.program w.common.nodes (length w.common.objects) (below ++ top ∷ [])) where
   abbrev node : NodeStore
   node = holds.steady.node
 
@@ -134,7 +140,8 @@ module _ {S : Type 0} (M : MachineMeaning S) (net : Cluster) (w : IrWorld) (p : 
           let l = get_within below d a h in
           let z = get_there (below ++ top ∷ []) (suc d) (omega (arith, l, length_end below top)) in
           cc (z.1))
-          (λ (h : (d ≡ length below) × (top ≡ a)). let z = stack.top top (top_of-push below top) in ap (λ (y : IrActivation). place w y.own) (sym h.1) ∙ at_home top z.at z.rests)
+          (λ (h : (d ≡ length below) × (top ≡ a)). let z =
+          stack.top top (top_of-push below top) in ap (λ (y : IrActivation). place w y.own) (sym h.1) ∙ at_home top z.at z.rests)
           (end_or below top d a e)
 
   -- which has a block for it, so that there are no more than blocks
@@ -160,7 +167,8 @@ module _ {S : Type 0} (M : MachineMeaning S) (net : Cluster) (w : IrWorld) (p : 
 
 -- ---- the stops
 
-module _ {S : Type 0} (M : MachineMeaning S) (net : Cluster) (w : IrWorld) (p : ℕ) (h : Here) (stop : StopRec) (holds : Holds M net w) (below : List IrActivation) (top : IrActivation) (t : TopAt net w p h stop holds.steady.node below top) where
+module _ {S : Type 0} (M : MachineMeaning S) (net : Cluster) (w : IrWorld) (p : ℕ) (h : Here) (stop : StopRec)
+    (holds : Holds M net w) (below : List IrActivation) (top : IrActivation) (t : TopAt net w p h stop holds.steady.node below top) where
   abbrev one : net.nodes ≡ holds.steady.node ∷ []
   one = holds.steady.one
 
@@ -180,9 +188,11 @@ module _ {S : Type 0} (M : MachineMeaning S) (net : Cluster) (w : IrWorld) (p : 
       let slot = t.frame.slots o.operand live in
       let z = t.acting.typed.each o.operand live in
       let bytes : z.0 ≡ Bytes = cc (z.1, ap (λ (y : Option Operation). slice_get (types_of y) o.operand) t.acting.code.is, o.of) in
-      let typed : HasType Bytes (variable top.variables o.operand) = subst (λ (y : ValueType). HasType y (variable top.variables o.operand)) bytes z.2 in
+      let typed : HasType Bytes (variable top.variables o.operand) =
+      subst (λ (y : ValueType). HasType y (variable top.variables o.operand)) bytes z.2 in
       let s = text_of (variable top.variables o.operand) typed in
-      let there : Stands (store_of holds.steady.node) (Str s.0) slot.word = subst (λ (v : Value). Stands (store_of holds.steady.node) v slot.word) s.1 slot.stands in
+      let there : Stands (store_of holds.steady.node) (Str s.0) slot.word =
+      subst (λ (v : Value). Stands (store_of holds.steady.node) v slot.word) s.1 slot.stands in
       record {
         operand = o.operand;
         operands = o.is;
@@ -196,7 +206,8 @@ module _ {S : Type 0} (M : MachineMeaning S) (net : Cluster) (w : IrWorld) (p : 
         };
       }
 
-  can_define : (index : ℕ) (v : ValueType) → slice_get net.program.globals index ≡ Some v → HaveTypes t.acting.code.operation.variables stop.operands (v ∷ []) → CanDefine net p h stop index
+  can_define : (index : ℕ) (v : ValueType) → slice_get net.program.globals index ≡ Some v →
+      HaveTypes t.acting.code.operation.variables stop.operands (v ∷ []) → CanDefine net p h stop index
   can_define index v e types =
       let o = one_of_type t.acting.code.operation.variables stop.operands v types in
       let l = get_within net.program.globals index v e in
@@ -208,10 +219,12 @@ module _ {S : Type 0} (M : MachineMeaning S) (net : Cluster) (w : IrWorld) (p : 
       }
 
   -- the numbers of the next object and the next frame are nothing's
-  can_create : (k : ℕ) (class : ClassRec) → slice_get net.program.classes k ≡ Some class → length net.places < 2 ^ 32 - 1 → CanCreate net p h stop k
+  can_create : (k : ℕ) (class : ClassRec) → slice_get net.program.classes k ≡ Some class → length net.places < 2 ^ 32 - 1 →
+      CanCreate net p h stop k
   can_create k class e few =
       let a = t.acting in
-      let objects : length net.places ≡ length w.common.objects = ap (λ (xs : List ℕ). length xs) holds.shows.places_are ∙ holds.fine.facts.placed in
+      let objects : length net.places ≡ length w.common.objects =
+      ap (λ (xs : List ℕ). length xs) holds.shows.places_are ∙ holds.fine.facts.placed in
       let depth = t.depth in
       let deep = few_activations M net w p holds below top a.is a.stack in
       record {
@@ -228,7 +241,8 @@ module _ {S : Type 0} (M : MachineMeaning S) (net : Cluster) (w : IrWorld) (p : 
         low = omega (arith, depth, deep);
       }
 
-  can_make : (class : ClassNo) → FineNew net.program.classes t.acting.code.operation.variables class stop.operands stop.into → length net.places < 2 ^ 32 - 1 → CanMake net p h stop class
+  can_make : (class : ClassNo) → FineNew net.program.classes t.acting.code.operation.variables class stop.operands stop.into →
+      length net.places < 2 ^ 32 - 1 → CanMake net p h stop class
   can_make Node fine few = fine
   can_make Program fine few = fine
   can_make (Vector of) fine few = fine
@@ -240,14 +254,17 @@ module _ {S : Type 0} (M : MachineMeaning S) (net : Cluster) (w : IrWorld) (p : 
       let a = t.acting in
       let xs : List IrActivation = below ++ top ∷ [] in
       let order : InOrder net.program w.common.nodes (length w.common.objects) ((under ++ caller ∷ []) ++ top ∷ []) =
-      subst (λ (ys : List IrActivation). InOrder net.program w.common.nodes (length w.common.objects) (ys ++ top ∷ [])) parts (order_of net.program w.common.nodes (length w.common.objects) xs a.stack) in
+      subst (λ (ys : List IrActivation). InOrder net.program w.common.nodes (length w.common.objects) (ys ++ top ∷ [])) parts
+      (order_of net.program w.common.nodes (length w.common.objects) xs a.stack) in
       let waits = order_below net.program w.common.nodes (length w.common.objects) under caller top order in
       let there : slice_get xs (length under) ≡ Some caller =
-      get_left below (top ∷ []) (length under) caller (ap (λ (ys : List IrActivation). slice_get ys (length under)) parts ∙ get_end under caller) in
+      get_left below (top ∷ []) (length under) caller
+      (ap (λ (ys : List IrActivation). slice_get ys (length under)) parts ∙ get_end under caller) in
       let f = frame_found net w p (length under) holds.steady.node xs caller holds.shows one a.is there in
       let code = operation_of net.program caller.operation caller.at waits.at holds.steady.fine waits.rests.at_is in
       let into = waits.result in
-      let slot = result_of net.program.classes net.program.globals caller.operation code.operation.variables waits.at.stop waits.at.operands waits.at.into into.0 waits.code code.fine into.1 in
+      let slot = result_of net.program.classes net.program.globals caller.operation code.operation.variables waits.at.stop
+      waits.at.operands waits.at.into into.0 waits.code code.fine into.1 in
       let few = code.few in
       let count : length below ≡ suc (length under) = ap (λ (ys : List IrActivation). length ys) parts ∙ length_end under caller in
       record {
@@ -280,9 +297,11 @@ module _ {S : Type 0} (M : MachineMeaning S) (net : Cluster) (w : IrWorld) (p : 
     where
       by_length : (n : ℕ) → length below ≡ n → n ≡ 0
       by_length zero f = refl
-      by_length (suc n) f = absurd (t.acting.stack.upper n top (ap (λ (i : ℕ). slice_get (below ++ top ∷ []) i) (sym f) ∙ get_end below top) e)
+      by_length (suc n) f = absurd
+          (t.acting.stack.upper n top (ap (λ (i : ℕ). slice_get (below ++ top ∷ []) i) (sym f) ∙ get_end below top) e)
 
-  can_leave : (gives_self : Bool) (op : ℕ) → top.operation ≡ op → FineReturn op gives_self stop.operands stop.into → CanLeave net p h stop gives_self
+  can_leave : (gives_self : Bool) (op : ℕ) → top.operation ≡ op → FineReturn op gives_self stop.operands stop.into →
+      CanLeave net p h stop gives_self
   can_leave gives_self zero e fine = absurd fine
   can_leave false (suc op) e fine = absurd fine
   can_leave true (suc op) e fine = by_top (top_of below) refl
@@ -295,7 +314,8 @@ module _ {S : Type 0} (M : MachineMeaning S) (net : Cluster) (w : IrWorld) (p : 
   can_end zero e fine = t.depth ∙ first_is e
   can_end (suc op) e fine = absurd fine
 
-  can_do : (x : Stop) → FineStop net.program.classes net.program.globals top.operation t.acting.code.operation.variables x stop.operands stop.into → length net.places < 2 ^ 32 - 1 → CanDo net p h stop x
+  can_do : (x : Stop) → FineStop net.program.classes net.program.globals top.operation t.acting.code.operation.variables x
+      stop.operands stop.into → length net.places < 2 ^ 32 - 1 → CanDo net p h stop x
   can_do Entry fine few = tt
   can_do (New class) fine few = can_make class fine few
   can_do (Return gives_self) fine few = can_leave gives_self top.operation refl fine
@@ -306,7 +326,8 @@ module _ {S : Type 0} (M : MachineMeaning S) (net : Cluster) (w : IrWorld) (p : 
 -- ---- together
 
 -- the stop of the top frame
-stop_found : {S : Type 0} (M : MachineMeaning S) (net : Cluster) (w : IrWorld) (p : ℕ) (h : Here) → Holds M net w → IsHere net p h → ReadyTop net.program w p → (stop : StopRec) × (stop_at net.program h.operation h.at ≡ Some stop)
+stop_found : {S : Type 0} (M : MachineMeaning S) (net : Cluster) (w : IrWorld) (p : ℕ) (h : Here) → Holds M net w → IsHere net p h →
+    ReadyTop net.program w p → (stop : StopRec) × (stop_at net.program h.operation h.at ≡ Some stop)
 stop_found M net w p h holds here r =
     let z = r.stack.top r.top (top_of-push r.below r.top) in
     let g = here_at M net w p r.below r.top holds.steady holds.shows r.is in
@@ -319,7 +340,8 @@ process_within : (net : Cluster) (w : IrWorld) (p : ℕ) → Shows net w → sta
 process_within net w p shows ready = get_within net.statuses p Ready (status_shown net w p shows ∙ ready)
 
 -- one more object can be numbered
-pub can_act : {S : Type 0} (M : MachineMeaning S) (net : Cluster) (w : IrWorld) (p : ℕ) (h : Here) → Holds M net w → status_at w p ≡ Some Ready → IsHere net p h → length net.places < 2 ^ 32 - 1 → CanAct net p h
+pub can_act : {S : Type 0} (M : MachineMeaning S) (net : Cluster) (w : IrWorld) (p : ℕ) (h : Here) → Holds M net w →
+    status_at w p ≡ Some Ready → IsHere net p h → length net.places < 2 ^ 32 - 1 → CanAct net p h
 can_act M net w p h holds ready here few =
     let s = stop_found M net w p h holds here (ready_top net.program w p holds.fine ready) in
     let t = read_top M net w p h s.0 holds here s.1 holds.steady.node holds.steady.one ready in

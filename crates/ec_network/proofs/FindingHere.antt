@@ -35,7 +35,8 @@ use Rattle.ec_network.proofs.ActionsTop.{ready_top}
 pub ready_is : (net : Cluster) (w : IrWorld) (p : ℕ) → Shows net w → slice_get net.statuses p ≡ slice_get (statuses_of w) p
 ready_is net w p shows = ap (λ (xs : List ProcStatus). slice_get xs p) shows.statuses
 
-status_in : (ps : List (Proc IrActivation)) (p : ℕ) → slice_get (map (λ (q : Proc IrActivation). q.status) ps) p ≡ status_of (slice_get ps p)
+status_in : (ps : List (Proc IrActivation)) (p : ℕ) →
+    slice_get (map (λ (q : Proc IrActivation). q.status) ps) p ≡ status_of (slice_get ps p)
 status_in [] p = refl
 status_in (q ∷ qs) zero = refl
 status_in (q ∷ qs) (suc p) = status_in qs p
@@ -66,9 +67,11 @@ pub record FrameFound (node : NodeStore) (p d : ℕ) (a : IrActivation) : Type 0
 pub laid_one : (net : Cluster) (w : IrWorld) (node : NodeStore) → Shows net w → net.nodes ≡ node ∷ [] → Laid node
 laid_one net w node shows one = shows.laid 0 node (ap (λ (ns : List NodeStore). slice_get ns 0) one)
 
-pub frame_found : (net : Cluster) (w : IrWorld) (p d : ℕ) (node : NodeStore) (xs : List IrActivation) (a : IrActivation) → Shows net w → net.nodes ≡ node ∷ [] → slice_get w.processes p ≡ Some (ready_with xs) → slice_get xs d ≡ Some a → FrameFound node p d a
+pub frame_found : (net : Cluster) (w : IrWorld) (p d : ℕ) (node : NodeStore) (xs : List IrActivation) (a : IrActivation) →
+    Shows net w → net.nodes ≡ node ∷ [] → slice_get w.processes p ≡ Some (ready_with xs) → slice_get xs d ≡ Some a → FrameFound node p d a
 frame_found net w p d node xs a shows one is at =
-    let shown = shown_here (live_values net.program) (spot net.program net.images) (stores net) w (place w) (store_of node) shows.nodes (alone_net net node one) (Frame p d) (frame_thing (live_values net.program) (spot net.program net.images) p d a)
+    let shown = shown_here (live_values net.program) (spot net.program net.images) (stores net) w (place w) (store_of node)
+    shows.nodes (alone_net net node one) (Frame p d) (frame_thing (live_values net.program) (spot net.program net.images) p d a)
     (ap (frame_if (live_values net.program) (spot net.program net.images) p d) (activation_is w.processes p d (ready_with xs) is ∙ at)) in
     let b = one_item shown.row.blocks shown.spells.counted in
     let laid = laid_one net w node shows one in
@@ -80,7 +83,8 @@ frame_found net w p d node xs a shows one is at =
       small = laid.rows_in (Frame p d) shown.row b.0 shown.there (record { at = 0; is = ap (λ (bs : List ℕ). slice_get bs 0) b.1 });
       heads = λ i n e.
           let short : i < 6 = get_within (heads_of p d a) i n e in
-          sym (word_of_one (store_of node) b.0 i (omega arith)) ∙ ap (λ bs. word_of (store_of node) bs i) (sym b.1) ∙ shown.spells.heads i n e;
+          sym (word_of_one (store_of node) b.0 i (omega arith)) ∙ ap (λ bs. word_of (store_of node) bs i) (sym b.1)
+          ∙ shown.spells.heads i n e;
     }
 
 -- ---- the top frame
@@ -93,7 +97,8 @@ pub record HereOf (net : Cluster) (p : ℕ) (top : IrActivation) : Type 0 where
   pub at : here.at ≡ top.at
 
 -- where process p has these activations, its top frame is the last one's
-pub here_at : {S : Type 0} (M : MachineMeaning S) (net : Cluster) (w : IrWorld) (p : ℕ) (below : List IrActivation) (top : IrActivation) → Steady M net → Shows net w → slice_get w.processes p ≡ Some (ready_with (below ++ top ∷ [])) → HereOf net p top
+pub here_at : {S : Type 0} (M : MachineMeaning S) (net : Cluster) (w : IrWorld) (p : ℕ) (below : List IrActivation)
+    (top : IrActivation) → Steady M net → Shows net w → slice_get w.processes p ≡ Some (ready_with (below ++ top ∷ [])) → HereOf net p top
 here_at M net w p below top steady shows is =
     let f = frame_found net w p (length below) steady.node (below ++ top ∷ []) top shows steady.one is (get_end below top) in
     record {
@@ -119,19 +124,22 @@ here_at M net w p below top steady shows is =
     }
 
 -- between two turns
-pub here_exists : {S : Type 0} (M : MachineMeaning S) (net : Cluster) (w : IrWorld) (p : ℕ) → Holds M net w → status_at w p ≡ Some Ready → (h : Here) × IsHere net p h
+pub here_exists : {S : Type 0} (M : MachineMeaning S) (net : Cluster) (w : IrWorld) (p : ℕ) → Holds M net w →
+    status_at w p ≡ Some Ready → (h : Here) × IsHere net p h
 here_exists M net w p holds ready =
     let r = ready_top net.program w p holds.fine ready in
     let h = here_at M net w p r.below r.top holds.steady holds.shows r.is in
     (h.here, h.is)
 
 -- in the middle of a turn
-pub here_middle : {S : Type 0} (M : MachineMeaning S) (net : Cluster) (w : IrWorld) (p : ℕ) → Shows net w → FineMiddle net.program w p → Steady M net → (h : Here) × IsHere net p h
+pub here_middle : {S : Type 0} (M : MachineMeaning S) (net : Cluster) (w : IrWorld) (p : ℕ) → Shows net w →
+    FineMiddle net.program w p → Steady M net → (h : Here) × IsHere net p h
 here_middle M net w p shows middle steady =
     let xs : List IrActivation = middle.process.activations in
     let stack = middle.stack in
     let parts : xs ≡ below_of xs ++ stack.top ∷ [] = stack_parts xs stack.top stack.top_is in
-    let is : slice_get w.processes p ≡ Some (ready_with xs) = middle.is ∙ ap (λ (s : ProcStatus). Some (record { activations = xs; status = s })) middle.ready in
+    let is : slice_get w.processes p ≡ Some (ready_with xs) =
+    middle.is ∙ ap (λ (s : ProcStatus). Some (record { activations = xs; status = s })) middle.ready in
     let h = here_at M net w p (below_of xs) stack.top steady shows (is ∙ ap (λ (ys : List IrActivation). Some (ready_with ys)) parts) in
     (h.here, h.is)
 
@@ -149,12 +157,15 @@ same_here net p h g x y =
     let node : x.node ≡ y.node = cc (x.one, y.one) in
     let count : suc h.depth ≡ suc g.depth = cc (x.depth, y.depth) in
     let depth : h.depth ≡ g.depth = omega arith in
-    let there : (store_of y.node).row (Frame p g.depth) ≡ Some x.row = ap (λ (d : ℕ). (store_of y.node).row (Frame p d)) (sym depth) ∙ ap (λ (n : NodeStore). (store_of n).row (Frame p h.depth)) (sym node) ∙ x.row_is in
+    let there : (store_of y.node).row (Frame p g.depth) ≡ Some x.row =
+    ap (λ (d : ℕ). (store_of y.node).row (Frame p d)) (sym depth)
+    ∙ ap (λ (n : NodeStore). (store_of n).row (Frame p h.depth)) (sym node) ∙ x.row_is in
     let row : x.row ≡ y.row = cc (y.row_is) in
     let blocks : h.block ∷ [] ≡ g.block ∷ [] = sym x.block ∙ ap (λ (r : Owned). r.blocks) row ∙ y.block in
     let block : h.block ≡ g.block = cc in
     let word : (i m n : ℕ) → (store_of x.node).word h.block i ≡ Some m → (store_of y.node).word g.block i ≡ Some n → m ≡ n = λ i m n e f.
-    let there : (store_of y.node).word g.block i ≡ Some m = ap (λ (b : ℕ). (store_of y.node).word b i) (sym block) ∙ ap (λ (s : NodeStore). (store_of s).word h.block i) (sym node) ∙ e in
+    let there : (store_of y.node).word g.block i ≡ Some m =
+    ap (λ (b : ℕ). (store_of y.node).word b i) (sym block) ∙ ap (λ (s : NodeStore). (store_of s).word h.block i) (sym node) ∙ e in
     cc in
     record {
       depth = depth;

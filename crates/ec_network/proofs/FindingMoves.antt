@@ -17,7 +17,8 @@ module _ {S : Type 0} (M : MachineMeaning S) (net : Cluster) (w : IrWorld) (hold
   pub move_fits : EntryFits net w (OperatorMove w o k)
   move_fits =
       let after = move_holds M net w holds o k in
-      none_lacks net net w (OperatorMove w o k) holds.shows after.shows (move_after M net w holds o k).machines (λ j s text e g. strings_stand net (OperatorMove w o k) after.shows j s text e g)
+      none_lacks net net w (OperatorMove w o k) holds.shows after.shows (move_after M net w holds o k).machines
+      (λ j s text e g. strings_stand net (OperatorMove w o k) after.shows j s text e g)
 
   -- Idle says that the move is idle, and Moved that it isn't
   pub move_idle : is_idle_move w.common o k ≡ true → MoveAnswer M net w o k (whole_net net) Idle
@@ -43,7 +44,8 @@ module _ {S : Type 0} (M : MachineMeaning S) (net : Cluster) (w : IrWorld) (hold
   }
 
 -- of each world that a whole network shows
-module _ {S : Type 0} (M : MachineMeaning S) (net : Net) (shown : Cluster) (o k : ℕ) (whole : net.whole ≡ true) (loaded : net.loaded ≡ Some shown) (test : Bool) (is : (w : IrWorld) → Holds M shown w → test ≡ is_idle_move w.common o k) where
+module _ {S : Type 0} (M : MachineMeaning S) (net : Net) (shown : Cluster) (o k : ℕ) (whole : net.whole ≡ true)
+    (loaded : net.loaded ≡ Some shown) (test : Bool) (is : (w : IrWorld) → Holds M shown w → test ≡ is_idle_move w.common o k) where
   same_net : (c : Cluster) → net.loaded ≡ Some c → net ≡ whole_net c
   same_net c e = by_parts net.loaded net.whole e whole
     where

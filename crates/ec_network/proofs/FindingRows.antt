@@ -1,5 +1,6 @@
 -- What the one node keeps of an object that a network shows.
-use Rattle.std.proofs.Common.{◌≡◌, ℕ, ◌||◌, Bool, true, false, List, [], ◌∷◌, length, Option, Some, None, refl, sym, ap, ◌∙◌, subst, arith, Bor}
+use Rattle.std.proofs.Common.{◌≡◌, ℕ, ◌||◌, Bool, true, false, List, [], ◌∷◌, length, Option, Some, None, refl, sym, ap, ◌∙◌, subst}
+use Rattle.std.proofs.Common.{arith, Bor}
 use Rattle.std.specs.Prelude.{slice_get, IsSome, IfSome, IfNone, nat_lt, nat_le, not}
 use Rattle.std.proofs.lemmas.Bool.Decides.{nat_tests}
 use Rattle.ec_world.specs.declared.class.ClassRec.{ClassRec}
@@ -29,7 +30,8 @@ use Rattle.ec_network.specs.Readers.{RowOf}
 use Rattle.ec_network.proofs.ActionsStores.{alone_net, shown_here}
 use Rattle.ec_network.proofs.Nodes.{the_node}
 
-module _ {S : Type 0} (M : MachineMeaning S) (net : Cluster) (w : IrWorld) (node : NodeStore) (holds : Holds M net w) (at : slice_get net.nodes 0 ≡ Some node) where
+module _ {S : Type 0} (M : MachineMeaning S) (net : Cluster) (w : IrWorld) (node : NodeStore) (holds : Holds M net w)
+    (at : slice_get net.nodes 0 ≡ Some node) where
   one : net.nodes ≡ node ∷ []
   one = holds.steady.one ∙ ap (λ (n : NodeStore). n ∷ []) (sym (the_node net.nodes holds.steady.node node holds.steady.one at))
 
@@ -42,9 +44,11 @@ module _ {S : Type 0} (M : MachineMeaning S) (net : Cluster) (w : IrWorld) (node
       by_object : (x : Option ObjectRec) → object_at w.common.objects o ≡ x → (t : Thing) → object_if o x ≡ Some t → RowOf w o row
       by_object None e t f = cc
       by_object (Some object) e t f =
-          let shown = shown_here (live_values net.program) (spot net.program net.images) (stores net) w (place w) (store_of node) holds.shows.nodes (alone_net net node one) (Object o) (object_thing o object) (ap (object_if o) e) in
+          let shown = shown_here (live_values net.program) (spot net.program net.images) (stores net) w (place w) (store_of node)
+          holds.shows.nodes (alone_net net node one) (Object o) (object_thing o object) (ap (object_if o) e) in
           let same : shown.row ≡ owned_of row = cc (shown.there) in
-          let spells : Spells (store_of node) (owned_of row) (object_thing o object) = subst (λ (r : Owned). Spells (store_of node) r (object_thing o object)) same shown.spells in
+          let spells : Spells (store_of node) (owned_of row) (object_thing o object) =
+          subst (λ (r : Owned). Spells (store_of node) r (object_thing o object)) same shown.spells in
           record { object = object; is = e; class = spells.class; fixed = spells.fixed }
 
   -- an object without a row isn't there
@@ -54,36 +58,44 @@ module _ {S : Type 0} (M : MachineMeaning S) (net : Cluster) (w : IrWorld) (node
       by_object : (x : Option ObjectRec) → object_at w.common.objects o ≡ x → x ≡ None
       by_object None e = refl
       by_object (Some object) e =
-          let shown = shown_here (live_values net.program) (spot net.program net.images) (stores net) w (place w) (store_of node) holds.shows.nodes (alone_net net node one) (Object o) (object_thing o object) (ap (object_if o) e) in
+          let shown = shown_here (live_values net.program) (spot net.program net.images) (stores net) w (place w) (store_of node)
+          holds.shows.nodes (alone_net net node one) (Object o) (object_thing o object) (ap (object_if o) e) in
           cc (shown.there)
 
 module _ {S : Type 0} (M : MachineMeaning S) (net : Cluster) (node : NodeStore) (at : slice_get net.nodes 0 ≡ Some node) (o : ℕ) where
-  pub row_read : (x : Option (Bor Row)) → IfSome x (λ r. (row_of node.rows (Object o) ≡ Some (owned_of r.now)) × (r.now.key ≡ Object o)) → IfSome x (λ r. (w : IrWorld) → Holds M net w → RowOf w o r.now)
+  pub row_read : (x : Option (Bor Row)) →
+      IfSome x (λ r. (row_of node.rows (Object o) ≡ Some (owned_of r.now)) × (r.now.key ≡ Object o)) →
+      IfSome x (λ r. (w : IrWorld) → Holds M net w → RowOf w o r.now)
   row_read None h = tt
   row_read (Some r) h = λ w holds. row_shown M net w node holds at o r.now h.0
 
-  pub none_read : (x : Option (Bor Row)) → IfNone x (row_of node.rows (Object o) ≡ None) → IfNone x ((w : IrWorld) → Holds M net w → object_at w.common.objects o ≡ None)
+  pub none_read : (x : Option (Bor Row)) → IfNone x (row_of node.rows (Object o) ≡ None) →
+      IfNone x ((w : IrWorld) → Holds M net w → object_at w.common.objects o ≡ None)
   none_read None h = λ w holds. row_none M net w node holds at o h
   none_read (Some r) h = tt
 
 -- ---- moves by the operator
 
 -- no class has fields, so that an object is its whole group
-none_attached : (program : Parts) (w : IrWorld) → Fine program → FineFacts program w → (k : ClassRec) → Has w.common.classes k → HasNoAttached k
+none_attached : (program : Parts) (w : IrWorld) → Fine program → FineFacts program w → (k : ClassRec) → Has w.common.classes k →
+    HasNoAttached k
 none_attached program w fine facts k h =
     let class = fine.classes h.at k (ap (λ (ks : List ClassRec). slice_get ks h.at) (sym facts.classes) ∙ h.is) in
     record { each = λ f g. absurd (has_none f (subst (λ (fs : List FieldRec). Has fs f) class.fields g)) }
 
-pub alone_here : (program : Parts) (w : IrWorld) (o : ℕ) (object : ObjectRec) → Fine program → FineFacts program w → object_at w.common.objects o ≡ Some object → group_of w.common o ≡ o ∷ []
+pub alone_here : (program : Parts) (w : IrWorld) (o : ℕ) (object : ObjectRec) → Fine program → FineFacts program w →
+    object_at w.common.objects o ≡ Some object → group_of w.common o ≡ o ∷ []
 alone_here program w o object fine facts e =
     let some : IsSome (object_at w.common.objects o) = rw e refl in
     let within = object_within w.common.objects o some in
     group_of_alone w.common o (λ y. links_of-none w.common y (none_attached program w fine facts)) within.0 within.1
 
 -- where the object is there, a move is idle if the node isn't there or the object is fixed
-pub idle_is : (program : Parts) (w : IrWorld) (o k : ℕ) (object : ObjectRec) → Fine program → FineFacts program w → object_at w.common.objects o ≡ Some object → is_idle_move w.common o k ≡ (not (nat_lt k w.common.nodes) || (object.fixed || false))
+pub idle_is : (program : Parts) (w : IrWorld) (o k : ℕ) (object : ObjectRec) → Fine program → FineFacts program w →
+    object_at w.common.objects o ≡ Some object → is_idle_move w.common o k ≡ (not (nat_lt k w.common.nodes) || (object.fixed || false))
 idle_is program w o k object fine facts e =
-    ap (λ (g : List ℕ). not (is_there (object_at w.common.objects o)) || (not (nat_lt k w.common.nodes) || any_fixed w.common g)) (alone_here program w o object fine facts e)
+    ap (λ (g : List ℕ). not (is_there (object_at w.common.objects o)) || (not (nat_lt k w.common.nodes) || any_fixed w.common g))
+    (alone_here program w o object fine facts e)
     ∙ ap (λ (x : Option ObjectRec). not (is_there x) || (not (nat_lt k w.common.nodes) || (group_fixed x || false))) e
 
 either_true : (a : Bool) → true ≡ (a || (true || false))
@@ -112,7 +124,8 @@ module _ {S : Type 0} (M : MachineMeaning S) (net : Cluster) (w : IrWorld) (hold
   pub idle_node : Some false ≡ fixed_if (object_at w.common.objects o) → nat_le (length net.nodes) k ≡ is_idle_move w.common o k
   idle_node h = by_object (object_at w.common.objects o) refl h
     where
-      by_object : (x : Option ObjectRec) → object_at w.common.objects o ≡ x → Some false ≡ fixed_if x → nat_le (length net.nodes) k ≡ is_idle_move w.common o k
+      by_object : (x : Option ObjectRec) → object_at w.common.objects o ≡ x → Some false ≡ fixed_if x →
+          nat_le (length net.nodes) k ≡ is_idle_move w.common o k
       by_object None e f = cc
       by_object (Some object) e f =
           let fixed : false ≡ object.fixed = cc in

@@ -16,7 +16,8 @@ first_stands s Boolean empty e = refl
 first_stands s Bytes empty e = e
 first_stands s Reference empty e = refl
 
-first_again : (s s' : Store) (t : ValueType) (word : ℕ) → ((i : ℕ) → s'.text i ≡ s.text i) → Stands s (default_of t) word → Stands s' (default_of t) word
+first_again : (s s' : Store) (t : ValueType) (word : ℕ) → ((i : ℕ) → s'.text i ≡ s.text i) → Stands s (default_of t) word →
+    Stands s' (default_of t) word
 first_again s s' Integer word same h = h
 first_again s s' Boolean word same h = h
 first_again s s' Bytes word same h = same word ∙ h
@@ -36,7 +37,8 @@ module _ (s s' : Store) (i word : ℕ) (writes : WritesGlobal s s' i word) where
     free = writes.free ∙ only.free;
   }
 
-  pub constants_next : (types : List ValueType) (t : ValueType) (empty : ℕ) → slice_get types i ≡ Some t → word ≡ word_at_first t empty → s.text empty ≡ Some [] → HasConstants s types i → HasConstants s' types (i + 1)
+  pub constants_next : (types : List ValueType) (t : ValueType) (empty : ℕ) → slice_get types i ≡ Some t →
+      word ≡ word_at_first t empty → s.text empty ≡ Some [] → HasConstants s types i → HasConstants s' types (i + 1)
   constants_next types t empty at is text has = record { each = each }
     where
       each : (j : ℕ) (u : ValueType) → j < i + 1 → slice_get types j ≡ Some u → GlobalStands s' j (default_of u)
@@ -44,8 +46,14 @@ module _ (s s' : Store) (i word : ℕ) (writes : WritesGlobal s s' i word) where
           (λ (same : j ≡ i).
           let here : slice_get types i ≡ Some u = ap (slice_get types) (sym same) ∙ e in
           let type : u ≡ t = cc in
-          let stands : Stands s' (default_of t) word = subst (λ (n : ℕ). Stands s' (default_of t) n) (sym is) (first_stands s' t empty (writes.text empty ∙ text)) in
-          record { word = word; there = ap (λ k. s'.global k) same ∙ writes.here; stands = subst (λ (v : ValueType). Stands s' (default_of v) word) (sym type) stands })
+          let stands : Stands s' (default_of t) word =
+          subst (λ (n : ℕ). Stands s' (default_of t) n) (sym is) (first_stands s' t empty (writes.text empty ∙ text)) in
+          record {
+            word = word;
+            there = ap (λ k. s'.global k) same ∙ writes.here;
+            stands =
+                subst (λ (v : ValueType). Stands s' (default_of v) word) (sym type) stands;
+          })
           (λ (ne : j ≢ i).
           let old = has.each j u (omega arith) e in
           record { word = old.word; there = writes.others j ne ∙ old.there; stands = first_again s s' u old.word writes.text old.stands })

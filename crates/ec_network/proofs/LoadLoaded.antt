@@ -21,7 +21,8 @@ use Rattle.ec_network.proofs.LoadWorld.{fine_start, texts_are}
 pub spec_is : (specs : List NodeSpec) (one read : NodeSpec) → specs ≡ one ∷ [] → read ≡ get_or specs 0 read → read ≡ one
 spec_is specs one read is at = at ∙ ap (λ (xs : List NodeSpec). get_or xs 0 read) is
 
-module _ {S : Type 0} (M : MachineMeaning S) (c : Cluster) (spec : NodeSpec) (fine : Fine c.program) (built : AreBuilt M c.program c.images) (start : IsStart c.program c.images spec c) where
+module _ {S : Type 0} (M : MachineMeaning S) (c : Cluster) (spec : NodeSpec) (fine : Fine c.program)
+    (built : AreBuilt M c.program c.images) (start : IsStart c.program c.images spec c) where
   holds_first : spec.kind ≡ Riscv → Holds M c (ir_start c.program 1)
   holds_first kind = record {
     shows = shows_first c start.node start.one fine spec start.first start.statuses start.depths start.output start.places;
@@ -39,11 +40,13 @@ module _ {S : Type 0} (M : MachineMeaning S) (c : Cluster) (spec : NodeSpec) (fi
     };
   }
 
-  first_node : (k : ℕ) (s : NodeSpec) (node : NodeStore) → slice_get (spec ∷ []) k ≡ Some s → slice_get (start.node ∷ []) k ≡ Some node → FirstNode M c.program (ir_start c.program 1) k s node
+  first_node : (k : ℕ) (s : NodeSpec) (node : NodeStore) → slice_get (spec ∷ []) k ≡ Some s →
+      slice_get (start.node ∷ []) k ≡ Some node → FirstNode M c.program (ir_start c.program 1) k s node
   first_node zero s node e f =
       let of : spec ≡ s = cc in
       let is : start.node ≡ node = cc in
-      subst (λ (x : NodeSpec). FirstNode M c.program (ir_start c.program 1) 0 x node) of (subst (λ (x : NodeStore). FirstNode M c.program (ir_start c.program 1) 0 spec x) is (record {
+      subst (λ (x : NodeSpec). FirstNode M c.program (ir_start c.program 1) 0 x node) of
+      (subst (λ (x : NodeStore). FirstNode M c.program (ir_start c.program 1) 0 spec x) is (record {
         kind = start.first.kind;
         blocks = start.first.blocks;
         room = start.first.room;
@@ -66,12 +69,14 @@ module _ {S : Type 0} (M : MachineMeaning S) (c : Cluster) (spec : NodeSpec) (fi
   }
 
 -- over the program and the images that were given
-module _ {S : Type 0} (M : MachineMeaning S) (program : Parts) (images : Images) (spec : NodeSpec) (c : Cluster) (fine : Fine program) (built : AreBuilt M program images) (start : IsStart program images spec c) where
+module _ {S : Type 0} (M : MachineMeaning S) (program : Parts) (images : Images) (spec : NodeSpec) (c : Cluster)
+    (fine : Fine program) (built : AreBuilt M program images) (start : IsStart program images spec c) where
   fine_here : Fine c.program
   fine_here = subst Fine (sym start.program_is) fine
 
   built_here : AreBuilt M c.program c.images
-  built_here = subst (λ (p : Parts). AreBuilt M p c.images) (sym start.program_is) (subst (λ (i : Images). AreBuilt M program i) (sym start.images_are) built)
+  built_here = subst (λ (p : Parts). AreBuilt M p c.images) (sym start.program_is)
+      (subst (λ (i : Images). AreBuilt M program i) (sym start.images_are) built)
 
   start_here : IsStart c.program c.images spec c
   start_here = record {
@@ -87,7 +92,8 @@ module _ {S : Type 0} (M : MachineMeaning S) (program : Parts) (images : Images)
   }
 
   pub holds_start : spec.kind ≡ Riscv → Holds M c (ir_start program 1)
-  holds_start kind = subst (λ (p : Parts). Holds M c (ir_start p 1)) start.program_is (holds_first M c spec fine_here built_here start_here kind)
+  holds_start kind = subst (λ (p : Parts). Holds M c (ir_start p 1)) start.program_is
+      (holds_first M c spec fine_here built_here start_here kind)
 
   pub loaded_start : IsLoaded M program (spec ∷ []) c
   loaded_start = subst (λ (p : Parts). IsLoaded M p (spec ∷ []) c) start.program_is (loaded_first M c spec fine_here built_here start_here)

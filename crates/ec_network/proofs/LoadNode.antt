@@ -34,25 +34,32 @@ begun_text : (s s' : Store) → Begins s s' → (i : ℕ) → s'.text i ≡ s.te
 begun_text s s' b i = b.begins.rest.text i ∙ b.makes.rest.text i ∙ b.names.rest.text i
 
 begun_grown : (s s' : Store) → Begins s s' → Grown s s'
-begun_grown s s' b = grown_twice s b.two s' (grown_twice s b.one b.two (same_grown s b.one b.names.rest) (same_grown b.one b.two b.makes.rest)) (same_grown b.two s' b.begins.rest)
+begun_grown s s' b = grown_twice s b.two s'
+    (grown_twice s b.one b.two (same_grown s b.one b.names.rest) (same_grown b.one b.two b.makes.rest)) (same_grown b.two s' b.begins.rest)
 
 -- ---- a fresh node, with the literals, with the empty text, with the constants, with the owners
 
-module _ (program : Parts) (spec : NodeSpec) (globals : ℕ) (globals_are : globals ≡ length program.globals) (fine : Fine program) (fresh texts more constants node : NodeStore) (is_fresh : IsFresh (store_of fresh) spec.kind spec.blocks spec.text globals) (sized : (fresh.blocks ≡ spec.blocks) × (fresh.globals ≡ globals)) (same_texts : SameNode fresh texts) (only_texts : OnlyTables (store_of fresh) (store_of texts)) (pool : texts.pool ≡ program.literals) where
+module _ (program : Parts) (spec : NodeSpec) (globals : ℕ) (globals_are : globals ≡ length program.globals) (fine : Fine program)
+    (fresh texts more constants node : NodeStore) (is_fresh : IsFresh (store_of fresh) spec.kind spec.blocks spec.text globals)
+    (sized : (fresh.blocks ≡ spec.blocks) × (fresh.globals ≡ globals)) (same_texts : SameNode fresh texts)
+    (only_texts : OnlyTables (store_of fresh) (store_of texts)) (pool : texts.pool ≡ program.literals) where
   pub no_owner : (key : Key) → (store_of texts).row key ≡ None
   no_owner key = only_texts.rows key ∙ is_fresh.rows key
 
   empty_there : InPool (store_of texts) []
   empty_there = (fine.empty.0, ap (λ (ts : List (List ℕ)). slice_get ts fine.empty.0) pool ∙ fine.empty.1)
 
-  module _ (text : List ℕ) (text_is : text ≡ []) (place : ℕ) (laid_more : Laid more) (same_more : SameNode texts more) (interns : Interns (store_of texts) (store_of more) text place) where
+  module _ (text : List ℕ) (text_is : text ≡ []) (place : ℕ) (laid_more : Laid more) (same_more : SameNode texts more)
+      (interns : Interns (store_of texts) (store_of more) text place) where
     pool_more : more.pool ≡ program.literals
-    pool_more = kept_pool texts more text place laid_more.tidy interns (subst (λ (t : List ℕ). InPool (store_of texts) t) (sym text_is) empty_there) ∙ pool
+    pool_more = kept_pool texts more text place laid_more.tidy interns
+        (subst (λ (t : List ℕ). InPool (store_of texts) t) (sym text_is) empty_there) ∙ pool
 
     pub place_is : (store_of more).text place ≡ Some []
     place_is = interns.is ∙ ap Some text_is
 
-    module _ (same_constants : SameNode more constants) (only : OnlyConstants (store_of more) (store_of constants)) (has : HasConstants (store_of constants) program.globals (length program.globals)) where
+    module _ (same_constants : SameNode more constants) (only : OnlyConstants (store_of more) (store_of constants))
+        (has : HasConstants (store_of constants) program.globals (length program.globals)) where
       pub no_rows : (key : Key) → (store_of constants).row key ≡ None
       no_rows key = only.rows key ∙ interns.only.rows key ∙ no_owner key
 
@@ -61,10 +68,12 @@ module _ (program : Parts) (spec : NodeSpec) (globals : ℕ) (globals_are : glob
 
       module _ (laid : Laid node) (same : SameNode constants node) (begins : Begins (store_of constants) (store_of node)) where
         all_same : SameNode fresh node
-        all_same = same_twice fresh constants node (same_twice fresh more constants (same_twice fresh texts more same_texts same_more) same_constants) same
+        all_same = same_twice fresh constants node
+            (same_twice fresh more constants (same_twice fresh texts more same_texts same_more) same_constants) same
 
         text_at : (i : ℕ) → (store_of node).text i ≡ slice_get program.literals i
-        text_at i = begun_text (store_of constants) (store_of node) begins i ∙ only.text i ∙ ap (λ (ts : List (List ℕ)). slice_get ts i) pool_more
+        text_at i = begun_text (store_of constants) (store_of node) begins i ∙ only.text i
+            ∙ ap (λ (ts : List (List ℕ)). slice_get ts i) pool_more
 
         pub first_node : IsFirst program spec node
         first_node = record {
@@ -79,7 +88,11 @@ module _ (program : Parts) (spec : NodeSpec) (globals : ℕ) (globals_are : glob
             λ h. record { at = h.0; is = sym (text_at h.0) ∙ h.1 },
             λ h. (h.at, text_at h.at ∙ h.is),
           );
-          constants = record { each = λ i t l e. global_kept (store_of constants) (store_of node) i _ (begun_grown (store_of constants) (store_of node) begins) (has.each i t l e) };
+          constants =
+              record {
+                each = λ i t l e. global_kept (store_of constants) (store_of node) i _
+                    (begun_grown (store_of constants) (store_of node) begins) (has.each i t l e);
+              };
           empty = store_of constants;
           no_rows = no_rows;
           all_free = all_free;

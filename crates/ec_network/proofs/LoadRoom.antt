@@ -24,8 +24,10 @@ text_sum (x ∷ xs) = ap (λ n. length x + n) (text_sum xs)
 
 bytes_once : (Texts : List ℕ → Type 0) (n m : ℕ) → BytesOf Texts n → BytesOf Texts m → n ≡ m
 bytes_once Texts n m a b =
-    let there : summed length a.texts ≤ summed length b.texts = summed_le length length a.texts b.texts a.once (λ x h. inr ((b.these x).1 ((a.these x).0 h), omega arith)) in
-    let back : summed length b.texts ≤ summed length a.texts = summed_le length length b.texts a.texts b.once (λ x h. inr ((a.these x).1 ((b.these x).0 h), omega arith)) in
+    let there : summed length a.texts ≤ summed length b.texts =
+    summed_le length length a.texts b.texts a.once (λ x h. inr ((b.these x).1 ((a.these x).0 h), omega arith)) in
+    let back : summed length b.texts ≤ summed length a.texts =
+    summed_le length length b.texts a.texts b.once (λ x h. inr ((a.these x).1 ((b.these x).0 h), omega arith)) in
     omega (arith, a.bytes, b.bytes, text_sum a.texts, text_sum b.texts)
 
 no_bytes : BytesOf (NoTexts 0) 0
@@ -65,7 +67,8 @@ module _ (program : Parts) (fine : Fine program) (spec : NodeSpec) where
       are = record {
         blocks = (let two : held (ir_start program 1) 0 ≡ 2 = held_first program fine in let n = counted.blocks in omega arith);
         free_blocks = (let n = counted.free_blocks in omega arith);
-        bytes = subst (λ n. BytesOf (λ text. FirstTexts program (ir_start program 1) 0 text × (NoTexts 0 text → ⊥)) n) (sym counted.bytes) first_bytes;
+        bytes = subst (λ n. BytesOf (λ text. FirstTexts program (ir_start program 1) 0 text × (NoTexts 0 text → ⊥)) n)
+            (sym counted.bytes) first_bytes;
         used = 0;
         used_is = no_bytes;
         free_bytes = (let n = counted.free_bytes in omega arith);
@@ -78,12 +81,14 @@ module _ (program : Parts) (fine : Fine program) (spec : NodeSpec) where
     lacks_none Blocks n need free blocks bytes h = let l = h.2 in omega arith
     lacks_none Text n need free blocks bytes h = let l = h.3 in omega arith
 
-    pub load_fits : Fits needs → NoneFull (rooms_of (spec ∷ [])) nothing (held (ir_start program 1)) NoTexts (FirstTexts program (ir_start program 1))
+    pub load_fits : Fits needs →
+        NoneFull (rooms_of (spec ∷ [])) nothing (held (ir_start program 1)) NoTexts (FirstTexts program (ir_start program 1))
     load_fits fits zero part need free full =
         let room : record { blocks = spec.blocks; text = spec.text } ≡ full.room = cc (full.there) in
         let blocks : spec.blocks ≡ full.room.blocks = ap (λ (r : Room). r.blocks) room in
         let text : spec.text ≡ full.room.text = ap (λ (r : Room). r.text) room in
-        let bytes = bytes_once (λ text. FirstTexts program (ir_start program 1) 0 text × (NoTexts 0 text → ⊥)) full.needs.bytes (text_bytes program.literals) full.are.bytes first_bytes in
+        let bytes = bytes_once (λ text. FirstTexts program (ir_start program 1) 0 text × (NoTexts 0 text → ⊥)) full.needs.bytes
+        (text_bytes program.literals) full.are.bytes first_bytes in
         let used = bytes_once (NoTexts 0) full.are.used 0 full.are.used_is no_bytes in
         let two : held (ir_start program 1) 0 ≡ 2 = held_first program fine in
         let b = full.are.blocks in

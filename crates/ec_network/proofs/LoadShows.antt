@@ -1,5 +1,6 @@
 -- The network after the load shows the first world.
-use Rattle.std.proofs.Common.{◌≡◌, ◌≢◌, false, ℕ, zero, suc, ◌+◌, ◌<◌, List, [], ◌∷◌, length, Option, Some, None, refl, sym, ap, ◌∙◌, subst, arith}
+use Rattle.std.proofs.Common.{◌≡◌, ◌≢◌, false, ℕ, zero, suc, ◌+◌, ◌<◌, List, [], ◌∷◌, length, Option, Some, None, refl, sym, ap}
+use Rattle.std.proofs.Common.{◌∙◌, subst, arith}
 use Rattle.std.specs.Prelude.{slice_get}
 use Rattle.ec_base.proofs.Lists.{get_within}
 use Rattle.ec_world.specs.declared.value.Value.{Value}
@@ -30,7 +31,8 @@ use Rattle.ec_network.proofs.LoadWorld.{first_activation, first_live, held_first
 
 -- ---- the three owners
 
-module _ (live : IrActivation → List Value) (spots : IrActivation → Kind → ℕ → Option ℕ) (no_live : live first_activation ≡ []) (s s' : Store) (b : Begins s s') where
+module _ (live : IrActivation → List Value) (spots : IrActivation → Kind → ℕ → Option ℕ) (no_live : live first_activation ≡ [])
+    (s s' : Store) (b : Begins s s') where
   no_value : (i : ℕ) (v : Value) → slice_get {X = Value} [] i ≡ Some v → ⊥
   no_value i v e = cc
 
@@ -67,11 +69,15 @@ module _ (live : IrActivation → List Value) (spots : IrActivation → Kind →
 
   node_shown : Shown s' (Object 1) (object_thing 1 node_object)
   node_shown =
-      let at_two : Shown b.two (Object 1) (object_thing 1 node_object) = shown_kept b.one b.two (Object 1) (object_thing 1 node_object) (same_grown b.one b.two b.makes.rest) (b.makes.others (Object 1) (λ e. cc)) node_at_first in
-      shown_kept b.two s' (Object 1) (object_thing 1 node_object) (same_grown b.two s' b.begins.rest) (b.begins.others (Object 1) (λ e. cc)) at_two
+      let at_two : Shown b.two (Object 1) (object_thing 1 node_object) =
+      shown_kept b.one b.two (Object 1) (object_thing 1 node_object) (same_grown b.one b.two b.makes.rest)
+      (b.makes.others (Object 1) (λ e. cc)) node_at_first in
+      shown_kept b.two s' (Object 1) (object_thing 1 node_object) (same_grown b.two s' b.begins.rest)
+      (b.begins.others (Object 1) (λ e. cc)) at_two
 
   object_shown : Shown s' (Object 2) (object_thing 2 program_object)
-  object_shown = shown_kept b.two s' (Object 2) (object_thing 2 program_object) (same_grown b.two s' b.begins.rest) (b.begins.others (Object 2) (λ e. cc)) object_at_first
+  object_shown = shown_kept b.two s' (Object 2) (object_thing 2 program_object) (same_grown b.two s' b.begins.rest)
+      (b.begins.others (Object 2) (λ e. cc)) object_at_first
 
   abbrev heads : List ℕ
   heads = 0 ∷ 0 ∷ 0 ∷ 0 ∷ 1 ∷ 2 ∷ []
@@ -101,7 +107,8 @@ module _ (live : IrActivation → List Value) (spots : IrActivation → Kind →
 
 -- ---- the network
 
-module _ (c : Cluster) (node : NodeStore) (one : c.nodes ≡ node ∷ []) (fine : Fine c.program) (spec : NodeSpec) (first : IsFirst c.program spec node) where
+module _ (c : Cluster) (node : NodeStore) (one : c.nodes ≡ node ∷ []) (fine : Fine c.program) (spec : NodeSpec)
+    (first : IsFirst c.program spec node) where
   abbrev live : IrActivation → List Value
   live = live_values c.program
 
@@ -111,30 +118,40 @@ module _ (c : Cluster) (node : NodeStore) (one : c.nodes ≡ node ∷ []) (fine 
   alone : IsAlone (stores c) (store_of node)
   alone = alone_net c node one
 
-  shown_at : (key : Key) (t : Thing) → place (ir_start c.program 1) t.home ≡ Some 0 → Shown (store_of node) key t → ShownAt (stores c) (place (ir_start c.program 1)) key t
+  shown_at : (key : Key) (t : Thing) → place (ir_start c.program 1) t.home ≡ Some 0 → Shown (store_of node) key t →
+      ShownAt (stores c) (place (ir_start c.program 1)) key t
   shown_at key t home shown = record { node = 0; store = store_of node; home = home; there = alone.here; shown = shown }
 
-  each : (key : Key) (t : Thing) → things_of live spots (ir_start c.program 1) key ≡ Some t → ShownAt (stores c) (place (ir_start c.program 1)) key t
+  each : (key : Key) (t : Thing) → things_of live spots (ir_start c.program 1) key ≡ Some t →
+      ShownAt (stores c) (place (ir_start c.program 1)) key t
   each (Object zero) t e = cc
   each (Object (suc zero)) t e =
       let is : object_thing 1 node_object ≡ t = cc in
-      subst (λ (x : Thing). ShownAt (stores c) (place (ir_start c.program 1)) (Object 1) x) is (shown_at (Object 1) (object_thing 1 node_object) refl (node_shown live spots (first_live c.program fine) first.empty (store_of node) first.owners))
+      subst (λ (x : Thing). ShownAt (stores c) (place (ir_start c.program 1)) (Object 1) x) is
+      (shown_at (Object 1) (object_thing 1 node_object) refl
+      (node_shown live spots (first_live c.program fine) first.empty (store_of node) first.owners))
   each (Object (suc (suc zero))) t e =
       let is : object_thing 2 program_object ≡ t = cc in
-      subst (λ (x : Thing). ShownAt (stores c) (place (ir_start c.program 1)) (Object 2) x) is (shown_at (Object 2) (object_thing 2 program_object) refl (object_shown live spots (first_live c.program fine) first.empty (store_of node) first.owners))
+      subst (λ (x : Thing). ShownAt (stores c) (place (ir_start c.program 1)) (Object 2) x) is
+      (shown_at (Object 2) (object_thing 2 program_object) refl
+      (object_shown live spots (first_live c.program fine) first.empty (store_of node) first.owners))
   each (Object (suc (suc (suc i)))) t e = cc
   each (Frame zero zero) t e =
       let is : frame_thing live spots 0 0 first_activation ≡ t = cc in
-      subst (λ (x : Thing). ShownAt (stores c) (place (ir_start c.program 1)) (Frame 0 0) x) is (shown_at (Frame 0 0) (frame_thing live spots 0 0 first_activation) refl (frame_shown live spots (first_live c.program fine) first.empty (store_of node) first.owners))
+      subst (λ (x : Thing). ShownAt (stores c) (place (ir_start c.program 1)) (Frame 0 0) x) is
+      (shown_at (Frame 0 0) (frame_thing live spots 0 0 first_activation) refl
+      (frame_shown live spots (first_live c.program fine) first.empty (store_of node) first.owners))
   each (Frame zero (suc d)) t e = cc
   each (Frame (suc p) d) t e = cc
 
   gone : (key : Key) (r : Owned) → key ≢ Object 1 → key ≢ Object 2 → key ≢ Frame 0 0 → (store_of node).row key ≡ Some r → ⊥
   gone key r a b d e =
-      let none : (store_of node).row key ≡ None = absent live spots (first_live c.program fine) first.empty (store_of node) first.owners first.no_rows key a b d in
+      let none : (store_of node).row key ≡ None =
+      absent live spots (first_live c.program fine) first.empty (store_of node) first.owners first.no_rows key a b d in
       cc
 
-  only : (key : Key) (r : Owned) → (store_of node).row key ≡ Some r → (t : Thing) × (things_of live spots (ir_start c.program 1) key ≡ Some t) × (place (ir_start c.program 1) t.home ≡ Some 0)
+  only : (key : Key) (r : Owned) → (store_of node).row key ≡ Some r →
+      (t : Thing) × (things_of live spots (ir_start c.program 1) key ≡ Some t) × (place (ir_start c.program 1) t.home ≡ Some 0)
   only (Object zero) r e = absurd (gone (Object zero) r (λ x. cc) (λ x. cc) (λ x. cc) e)
   only (Object (suc zero)) r e = (object_thing 1 node_object, refl, refl)
   only (Object (suc (suc zero))) r e = (object_thing 2 program_object, refl, refl)
@@ -167,7 +184,8 @@ module _ (c : Cluster) (node : NodeStore) (one : c.nodes ≡ node ∷ []) (fine 
           let o = only key r (ap (λ (x : Store). x.row key) (sym is.1) ∙ row) in
           (o.0, o.1, o.2 ∙ ap Some (sym is.0));
     };
-    globals = λ k s i v at e. subst (λ (x : Store). GlobalStands x i v) (sym (alone_is (stores c) (store_of node) alone k s at).1) (constant i v e);
+    globals = λ k s i v at e. subst (λ (x : Store). GlobalStands x i v) (sym (alone_is (stores c) (store_of node) alone k s at).1)
+        (constant i v e);
     tidy = λ k s at. subst Tidy (sym (alone_is (stores c) (store_of node) alone k s at).1) first.laid.tidy;
     held = λ k s at.
         let is = alone_is (stores c) (store_of node) alone k s at in

@@ -1,5 +1,6 @@
 -- The first world: it is one between two entries, and its texts are literals.
-use Rattle.std.proofs.Common.{◌≡◌, ℕ, zero, suc, ◌<◌, ◌≤◌, List, [], ◌∷◌, length, Some, None, refl, sym, ap, ◌∙◌, subst, arith, inl, inr, ⊎_elim, ◌⊎◌}
+use Rattle.std.proofs.Common.{◌≡◌, ℕ, zero, suc, ◌<◌, ◌≤◌, List, [], ◌∷◌, length, Some, None, refl, sym, ap, ◌∙◌, subst, arith, inl}
+use Rattle.std.proofs.Common.{inr, ⊎_elim, ◌⊎◌}
 use Rattle.std.specs.Prelude.{slice_get, map, ◌↔◌}
 use Rattle.ec_world.specs.declared.value.Value.{Value}
 use Rattle.ec_world.specs.declared.value.Value.TheVariants.{Str}
@@ -74,7 +75,8 @@ module _ (program : Parts) (fine : Fine program) where
     some = omega arith;
   }
 
-  each : (p : ℕ) (proc : Proc IrActivation) → slice_get (ir_start program 1).processes p ≡ Some proc → FineProcess program 1 2 proc.status proc.activations
+  each : (p : ℕ) (proc : Proc IrActivation) → slice_get (ir_start program 1).processes p ≡ Some proc →
+      FineProcess program 1 2 proc.status proc.activations
   each zero proc e =
       let is : record { activations = first_activation ∷ []; status = Ready } ≡ proc = cc in
       subst (λ (q : Proc IrActivation). FineProcess program 1 2 q.status q.activations) is stack
@@ -82,7 +84,8 @@ module _ (program : Parts) (fine : Fine program) where
 
   -- ---- the facts
 
-  objects : (i : ℕ) (o : ObjectRec) → slice_get (node_object ∷ program_object ∷ []) i ≡ Some o → ((i ≡ 0) × (o ≡ node_object)) ⊎ ((i ≡ 1) × (o ≡ program_object))
+  objects : (i : ℕ) (o : ObjectRec) → slice_get (node_object ∷ program_object ∷ []) i ≡ Some o →
+      ((i ≡ 0) × (o ≡ node_object)) ⊎ ((i ≡ 1) × (o ≡ program_object))
   objects zero o e = inl (refl, cc)
   objects (suc zero) o e = inr (refl, cc)
   objects (suc (suc i)) o e = cc
@@ -93,7 +96,8 @@ module _ (program : Parts) (fine : Fine program) where
       (λ (h : (i ≡ 1) × (o ≡ program_object)). (ap (λ (x : ObjectRec). x.fields) h.1, ap (λ (x : ObjectRec). x.monitor) h.1))
       (objects i o e)
 
-  of_nodes : (i : ℕ) (o : ObjectRec) → slice_get (node_object ∷ program_object ∷ []) i ≡ Some o → (o.class ≡ Node → i < 1) × (i < 1 → o.class ≡ Node)
+  of_nodes : (i : ℕ) (o : ObjectRec) → slice_get (node_object ∷ program_object ∷ []) i ≡ Some o →
+      (o.class ≡ Node → i < 1) × (i < 1 → o.class ≡ Node)
   of_nodes i o e = ⊎_elim
       (λ (h : (i ≡ 0) × (o ≡ node_object)). (λ c. (let at = h.0 in omega arith), λ l. ap (λ (x : ObjectRec). x.class) h.1))
       (λ (h : (i ≡ 1) × (o ≡ program_object)).
@@ -101,16 +105,20 @@ module _ (program : Parts) (fine : Fine program) where
       (λ c. absurd (let no : ⊥ = cc in no), λ l. absurd (let at = h.0 in omega arith)))
       (objects i o e)
 
-  fixed : (i : ℕ) (o : ObjectRec) → slice_get (node_object ∷ program_object ∷ []) i ≡ Some o → (i < 1 → o.fixed ≡ node_object.fixed) × (1 ≤ i → o.fixed ≡ program_object.fixed)
+  fixed : (i : ℕ) (o : ObjectRec) → slice_get (node_object ∷ program_object ∷ []) i ≡ Some o →
+      (i < 1 → o.fixed ≡ node_object.fixed) × (1 ≤ i → o.fixed ≡ program_object.fixed)
   fixed i o e = ⊎_elim
       (λ (h : (i ≡ 0) × (o ≡ node_object)). (λ l. ap (λ (x : ObjectRec). x.fixed) h.1, λ l. absurd (let at = h.0 in omega arith)))
       (λ (h : (i ≡ 1) × (o ≡ program_object)). (λ l. absurd (let at = h.0 in omega arith), λ l. ap (λ (x : ObjectRec). x.fixed) h.1))
       (objects i o e)
 
-  none_made : (i k : ℕ) (o : ObjectRec) → slice_get (node_object ∷ program_object ∷ []) i ≡ Some o → o.class ≡ Made k → k < length program.classes
+  none_made : (i k : ℕ) (o : ObjectRec) → slice_get (node_object ∷ program_object ∷ []) i ≡ Some o → o.class ≡ Made k →
+      k < length program.classes
   none_made i k o e m = ⊎_elim
-      (λ (h : (i ≡ 0) × (o ≡ node_object)). absurd (let class : o.class ≡ Node = ap (λ (x : ObjectRec). x.class) h.1 in let no : ⊥ = cc in no))
-      (λ (h : (i ≡ 1) × (o ≡ program_object)). absurd (let class : o.class ≡ Program = ap (λ (x : ObjectRec). x.class) h.1 in let no : ⊥ = cc in no))
+      (λ (h : (i ≡ 0) × (o ≡ node_object)). absurd
+      (let class : o.class ≡ Node = ap (λ (x : ObjectRec). x.class) h.1 in let no : ⊥ = cc in no))
+      (λ (h : (i ≡ 1) × (o ≡ program_object)). absurd
+      (let class : o.class ≡ Program = ap (λ (x : ObjectRec). x.class) h.1 in let no : ⊥ = cc in no))
       (objects i o e)
 
   facts : FineFacts program (ir_start program 1)
@@ -133,7 +141,8 @@ module _ (program : Parts) (fine : Fine program) where
   pub held_first : held (ir_start program 1) 0 ≡ 2
   held_first = refl
 
-  no_text : (p d : ℕ) (a : IrActivation) (text : List ℕ) → activation_at (ir_start program 1).processes p d ≡ Some a → Has (live_values program a) (Str text) → ⊥
+  no_text : (p d : ℕ) (a : IrActivation) (text : List ℕ) → activation_at (ir_start program 1).processes p d ≡ Some a →
+      Has (live_values program a) (Str text) → ⊥
   no_text zero zero a text e h =
       let is : first_activation ≡ a = cc in
       has_none (Str text) (subst (λ (vs : List Value). Has vs (Str text)) (ap (live_values program) (sym is) ∙ first_live) h)
@@ -144,7 +153,8 @@ module _ (program : Parts) (fine : Fine program) where
   empty_literal = record { at = fine.empty.0; is = fine.empty.1 }
 
   of_strings : (k : ℕ) (text : List ℕ) → Strings program (ir_start program 1) k text → Has program.literals text
-  of_strings k text (InField i o e at h) = absurd (has_none (Str text) (subst (λ (vs : List Value). Has vs (Str text)) (no_fields i o e).0 h))
+  of_strings k text (InField i o e at h) =
+      absurd (has_none (Str text) (subst (λ (vs : List Value). Has vs (Str text)) (no_fields i o e).0 h))
   of_strings k text (InFrame p d a e at h) = absurd (no_text p d a text e h)
   of_strings k text (InConstant h) =
       let t = get_map_back default_of program.globals h.at (Str text) h.is in

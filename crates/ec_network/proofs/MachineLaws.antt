@@ -30,7 +30,8 @@ row_there None at address e = cc
 row_there (Some row) at address e = (row, refl)
 
 -- a run of the words of an image
-module _ (image : Image) (words : List ℕ) (same : words ≡ image.code.words) (op : ℕ) (m n : RvMachine) (b d : Bytes) (k : ℕ) (comes : ComesToStop rv_meaning image.code image.table op m b) (runs : Native (rv_goes words) (rv_stops words) m b k n d) where
+module _ (image : Image) (words : List ℕ) (same : words ≡ image.code.words) (op : ℕ) (m n : RvMachine) (b d : Bytes) (k : ℕ)
+    (comes : ComesToStop rv_meaning image.code image.table op m b) (runs : Native (rv_goes words) (rv_stops words) m b k n d) where
   pub native_run : Native (rv_meaning.goes image.code.words) (rv_meaning.stops image.code.words) m b k n d
   native_run = subst (λ code. Native (rv_goes code) (rv_stops code) m b k n d) same runs
 
@@ -57,15 +58,20 @@ module _ (image : Image) (words : List ℕ) (same : words ≡ image.code.words) 
 pub one_is : (nodes : List NodeStore) (n m : NodeStore) → nodes ≡ n ∷ [] → slice_get nodes 0 ≡ Some m → n ≡ m
 one_is nodes n m one get = same_Some n m (ap (λ l. slice_get l 0) (sym one) ∙ get)
 
-pub same_first : (nodes : List NodeStore) (n m : NodeStore) (key : Key) (b : ℕ) → slice_get nodes 0 ≡ Some n → slice_get nodes 0 ≡ Some m → FirstBlock (store_of n) key b → FirstBlock (store_of m) key b
+pub same_first : (nodes : List NodeStore) (n m : NodeStore) (key : Key) (b : ℕ) → slice_get nodes 0 ≡ Some n →
+    slice_get nodes 0 ≡ Some m → FirstBlock (store_of n) key b → FirstBlock (store_of m) key b
 same_first nodes n m key b e f first = subst (λ x. FirstBlock (store_of x) key b) (same_Some n m (sym e ∙ f)) first
 
-pub stop_get : (table : StopTable) (op at : ℕ) (row : List ℕ) (address : ℕ) → slice_get table.stops op ≡ Some row → slice_get row at ≡ Some address → stop_in table op at ≡ Some address
+pub stop_get : (table : StopTable) (op at : ℕ) (row : List ℕ) (address : ℕ) → slice_get table.stops op ≡ Some row →
+    slice_get row at ≡ Some address → stop_in table op at ≡ Some address
 stop_get table op at row address is get = ap (λ o. slice_get (row_or_empty o) at) is ∙ get
 
-module _ (net : Cluster) (h : Here) (can : CanGoOn rv_meaning net h) (node : NodeStore) (node_is : can.node ≡ node) (address : ℕ) (stop_is : stop_in net.images.rv.table h.operation h.at ≡ Some address) (b : ℕ) (s : RvMachine) (first : FirstBlock (store_of node) (Object h.own) b) (stands : StandsBehind rv_meaning s address h.block b) where
+module _ (net : Cluster) (h : Here) (can : CanGoOn rv_meaning net h) (node : NodeStore) (node_is : can.node ≡ node) (address : ℕ)
+    (stop_is : stop_in net.images.rv.table h.operation h.at ≡ Some address) (b : ℕ) (s : RvMachine)
+    (first : FirstBlock (store_of node) (Object h.own) b) (stands : StandsBehind rv_meaning s address h.block b) where
   pub comes_here : ComesToStop rv_meaning net.images.rv.code net.images.rv.table h.operation s (store_byte node.memory)
   comes_here =
       let same : address ≡ can.address = same_Some address can.address (sym stop_is ∙ can.stop_is) in
       subst (λ (n : NodeStore). ComesToStop rv_meaning net.images.rv.code net.images.rv.table h.operation s (store_byte n.memory)) node_is
-      (can.comes b s (subst (λ n. FirstBlock (store_of n) (Object h.own) b) (sym node_is) first) (subst (λ a. StandsBehind rv_meaning s a h.block b) same stands))
+      (can.comes b s (subst (λ n. FirstBlock (store_of n) (Object h.own) b) (sym node_is) first)
+      (subst (λ a. StandsBehind rv_meaning s a h.block b) same stands))

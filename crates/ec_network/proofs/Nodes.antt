@@ -28,7 +28,9 @@ one_node nodes n m e f = e ∙ ap (λ x. x ∷ []) (sym (the_node nodes n m e f)
 pub set_one : (nodes : List NodeStore) (n m : NodeStore) → nodes ≡ n ∷ [] → slice_set nodes 0 m ≡ m ∷ []
 set_one nodes n m e = ap (λ xs. slice_set xs 0 m) e
 
-pub becomes_one : (net net' : Cluster) (n node node' : NodeStore) → net.nodes ≡ n ∷ [] → slice_get net.nodes 0 ≡ Some node → net'.nodes ≡ slice_set net.nodes 0 node' → net'.program ≡ net.program → net'.images ≡ net.images → Laid node' → SameNode node node' → Becomes net net' node node'
+pub becomes_one : (net net' : Cluster) (n node node' : NodeStore) → net.nodes ≡ n ∷ [] → slice_get net.nodes 0 ≡ Some node →
+    net'.nodes ≡ slice_set net.nodes 0 node' → net'.program ≡ net.program → net'.images ≡ net.images → Laid node' →
+    SameNode node node' → Becomes net net' node node'
 becomes_one net net' n node node' one is set program images laid same = record {
   before = one_node net.nodes n node one is;
   after = set ∙ set_one net.nodes n node' one;
@@ -50,5 +52,6 @@ owns_block s key r b there is = (b, record { row = r; there = there; first = ap 
 pub first_is : (s : Store) (key : Key) (r : Owned) (b c : ℕ) → s.row key ≡ Some r → r.blocks ≡ b ∷ [] → FirstBlock s key c → c ≡ b
 first_is s key r b c there is first =
     let same : first.row ≡ r = cc (first.there) in
-    let at : slice_get (b ∷ []) 0 ≡ Some c = ap (λ xs. slice_get xs 0) (sym is) ∙ ap (λ (x : Owned). slice_get x.blocks 0) (sym same) ∙ first.first in
+    let at : slice_get (b ∷ []) 0 ≡ Some c =
+    ap (λ xs. slice_get xs 0) (sym is) ∙ ap (λ (x : Owned). slice_get x.blocks 0) (sym same) ∙ first.first in
     cc

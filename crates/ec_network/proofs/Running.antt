@@ -40,15 +40,20 @@ use Rattle.ec_network.proofs.RunningWords.{EndsAt, next, next_operation, next_va
 use Rattle.ec_network.proofs.RunningShows.{top_here, top_lands, holds_after, went_on, pools_run}
 
 -- a machine that comes to a stop traps nowhere on the way
-pub no_trap : {S : Type 0} (M : MachineMeaning S) (traps : Trapping S) (code : Code) (table : StopTable) (op : ℕ) (s : S) (bytes : Bytes) → HasLaws M code.words traps → ComesToStop M code table op s bytes → (k : ℕ) (to : S) (memory : Bytes) (trap : Trap) → Leads (M.goes code.words) s bytes k to memory → traps to memory trap → ⊥
+pub no_trap : {S : Type 0} (M : MachineMeaning S) (traps : Trapping S) (code : Code) (table : StopTable) (op : ℕ) (s : S)
+    (bytes : Bytes) → HasLaws M code.words traps → ComesToStop M code table op s bytes →
+    (k : ℕ) (to : S) (memory : Bytes) (trap : Trap) → Leads (M.goes code.words) s bytes k to memory → traps to memory trap → ⊥
 no_trap M traps code table op s bytes laws comes k to memory trap leads trapped =
     laws.apart.no_stop to memory trap trapped (comes.ends k to memory leads (λ u d st. laws.apart.trap_stays to memory trap u d trapped st))
 
-module _ {S : Type 0} (M : MachineMeaning S) (traps : Trapping S) (net : Cluster) (laws : HasLaws M net.images.rv.code.words traps) (w : IrWorld) (p : ℕ) (h : Here) (node : NodeStore) (below : List IrActivation) (top : IrActivation) (now : GoingOn M net w p h node below top) where
+module _ {S : Type 0} (M : MachineMeaning S) (traps : Trapping S) (net : Cluster) (laws : HasLaws M net.images.rv.code.words traps)
+    (w : IrWorld) (p : ℕ) (h : Here) (node : NodeStore) (below : List IrActivation) (top : IrActivation)
+    (now : GoingOn M net w p h node below top) where
   first_is : (b : ℕ) → FirstBlock (store_of node) (Object h.own) b → b ≡ now.own.block
   first_is b first = own_block M net w p h node below top now first.row b first.there first.first
 
-  stands_own : (b : ℕ) (s : S) (address : ℕ) → FirstBlock (store_of node) (Object h.own) b → StandsBehind M s address h.block b → StandsBehind M s address h.block now.own.block
+  stands_own : (b : ℕ) (s : S) (address : ℕ) → FirstBlock (store_of node) (Object h.own) b → StandsBehind M s address h.block b →
+      StandsBehind M s address h.block now.own.block
   stands_own b s address first stands = subst (λ c. StandsBehind M s address h.block c) (first_is b first) stands
 
   -- the machine can run
@@ -68,18 +73,25 @@ module _ {S : Type 0} (M : MachineMeaning S) (traps : Trapping S) (net : Cluster
         comes = comes stop.0 stop.1;
       }
     where
-      comes : (address : ℕ) → stop_in net.images.rv.table h.operation h.at ≡ Some address → (b : ℕ) (s : S) → FirstBlock (store_of node) (Object h.own) b → StandsBehind M s address h.block b → ComesToStop M net.images.rv.code net.images.rv.table h.operation s (store_byte node.memory)
+      comes : (address : ℕ) → stop_in net.images.rv.table h.operation h.at ≡ Some address → (b : ℕ) (s : S) →
+          FirstBlock (store_of node) (Object h.own) b → StandsBehind M s address h.block b →
+          ComesToStop M net.images.rv.code net.images.rv.table h.operation s (store_byte node.memory)
       comes address is b s first stands =
           let stands' = stands_own b s address first stands in
           record {
             halts = halts_here M net w p h node below top now laws.number traps laws.one_way laws.apart small s address is stands';
             ends = λ k to memory leads end.
                 let r = arrives_here M net w p h node below top now laws.number s address is stands' in
-                let same = one_end (M.goes net.images.rv.code.words) laws.one_way s (store_byte node.memory) r.steps k r.last r.memory to memory r.native.0 (λ u d st. laws.apart.stop_stays r.last r.memory u d r.native.1 st) leads end in
-                subst (λ (x : S). M.stops net.images.rv.code.words x memory) same.1 (subst (λ (c : Bytes). M.stops net.images.rv.code.words r.last c) same.2 r.native.1);
-            few = λ k to memory native. (run_ends M net w p h node below top now laws.number traps laws.one_way laws.apart s address is stands' k to memory native).few;
+                let same = one_end (M.goes net.images.rv.code.words) laws.one_way s (store_byte node.memory) r.steps k r.last
+                r.memory to memory r.native.0 (λ u d st. laws.apart.stop_stays r.last r.memory u d r.native.1 st) leads end in
+                subst (λ (x : S). M.stops net.images.rv.code.words x memory) same.1
+                (subst (λ (c : Bytes). M.stops net.images.rv.code.words r.last c) same.2 r.native.1);
+            few = λ k to memory native.
+                (run_ends M net w p h node below top now laws.number traps laws.one_way laws.apart s address is stands' k to memory
+                native).few;
             at = λ k to memory native.
-                let e = run_ends M net w p h node below top now laws.number traps laws.one_way laws.apart s address is stands' k to memory native in
+                let e = run_ends M net w p h node below top now laws.number traps laws.one_way laws.apart s address is stands' k to
+                memory native in
                 ((next M net w p h node below top now).at, e.at);
           }
 
@@ -97,16 +109,24 @@ pub record GoneOn {S : Type 0} (M : MachineMeaning S) (net net' : Cluster) (w : 
   pub pools : (first : Cluster) (v : IrWorld) → SamePools first net v → SamePools first net' v
   pub few : (op : ℕ) → before.operation ≡ op → steps ≤ suc (words_of net.images.rv.code op)
 
-module _ {S : Type 0} (M : MachineMeaning S) (traps : Trapping S) (net net' : Cluster) (laws : HasLaws M net.images.rv.code.words traps) (w : IrWorld) (p : ℕ) (h : Here) (steps : ℕ) (g : HasGoneOn M net net' h steps) where
+module _ {S : Type 0} (M : MachineMeaning S) (traps : Trapping S) (net net' : Cluster)
+    (laws : HasLaws M net.images.rv.code.words traps) (w : IrWorld) (p : ℕ) (h : Here) (steps : ℕ) (g : HasGoneOn M net net' h steps) where
   pub has_gone_on : (below : List IrActivation) (top : IrActivation) → GoingOn M net w p h g.node below top → GoneOn M net net' w p steps
   has_gone_on below top now =
-      let stands : StandsBehind M g.from g.address h.block now.own.block = stands_own M traps net laws w p h g.node below top now g.block g.from g.address g.own g.stands in
-      let ends : EndsAt M net w p h g.node below top now steps g.to g.memory = run_ends M net w p h g.node below top now laws.number traps laws.one_way laws.apart g.from g.address g.stop_is stands steps g.to g.memory g.native in
-      let operation : (next M net w p h g.node below top now).operation ≡ h.operation = next_operation M net w p h g.node below top now ∙ sym now.at.operation in
-      let at_is : stop_in net.images.rv.table (next M net w p h g.node below top now).operation (next M net w p h g.node below top now).at ≡ Some (M.place g.to) =
+      let stands : StandsBehind M g.from g.address h.block now.own.block =
+      stands_own M traps net laws w p h g.node below top now g.block g.from g.address g.own g.stands in
+      let ends : EndsAt M net w p h g.node below top now steps g.to g.memory =
+      run_ends M net w p h g.node below top now laws.number traps laws.one_way laws.apart g.from g.address g.stop_is stands
+      steps g.to g.memory g.native in
+      let operation : (next M net w p h g.node below top now).operation ≡ h.operation =
+      next_operation M net w p h g.node below top now ∙ sym now.at.operation in
+      let at_is : stop_in net.images.rv.table (next M net w p h g.node below top now).operation
+      (next M net w p h g.node below top now).at ≡ Some (M.place g.to) =
       ap (λ op. stop_in net.images.rv.table op (next M net w p h g.node below top now).at) operation ∙ ends.at in
-      let has_landed : Landed M net.program net.images.rv.table h.block (next M net w p h g.node below top now) g.to g.memory steps g.node g.node' =
-      landed g.node g.node' g.memory h.block g.at steps g.ran M laws.number net.program net.images.rv.table now.steady.slots (next M net w p h g.node below top now) (next_variables M net w p h g.node below top now)
+      let has_landed : Landed M net.program net.images.rv.table h.block (next M net w p h g.node below top now) g.to g.memory steps
+      g.node g.node' =
+      landed g.node g.node' g.memory h.block g.at steps g.ran M laws.number net.program net.images.rv.table now.steady.slots
+      (next M net w p h g.node below top now) (next_variables M net w p h g.node below top now)
       (stop_reached M net w p h g.node below top now steps g.to g.memory g.at ends g.at_is) g.to at_is in
       record {
         before = top;
@@ -114,22 +134,26 @@ module _ {S : Type 0} (M : MachineMeaning S) (traps : Trapping S) (net net' : Cl
         top = top_here M net w p h g.node below top now;
         done = now.at.done.done;
         lands = top_lands M net w p h g.node below top now net' g.node' g.continues laws.number steps g.to g.memory ends has_landed;
-        goes = went_on M net w p h g.node below top now net' g.node' g.continues laws.number steps g.to g.memory ends has_landed g.from g.address g.stop_is stands g.native;
+        goes = went_on M net w p h g.node below top now net' g.node' g.continues laws.number steps g.to g.memory ends has_landed
+            g.from g.address g.stop_is stands g.native;
         holds = holds_after M net w p h g.node below top now net' g.node' g.continues laws.number steps g.to g.memory ends has_landed;
         pools = pools_run M net w p h g.node below top now net' g.node' g.continues g.ran.pool;
         few = λ op is.
             let few = ends.few in
-            let words : words_of net.images.rv.code h.operation ≡ words_of net.images.rv.code op = ap (words_of net.images.rv.code) (now.at.operation ∙ is) in
+            let words : words_of net.images.rv.code h.operation ≡ words_of net.images.rv.code op =
+            ap (words_of net.images.rv.code) (now.at.operation ∙ is) in
             omega (arith, few, words);
       }
 
 -- ---- a turn whose action is done
 
-module _ {S : Type 0} (M : MachineMeaning S) (traps : Trapping S) (net m : Cluster) (laws : HasLaws M m.images.rv.code.words traps) (w : IrWorld) (p : ℕ) (h : Here) (acted : AfterAction M net w p m WentOn) (here : IsHere m p h) where
+module _ {S : Type 0} (M : MachineMeaning S) (traps : Trapping S) (net m : Cluster) (laws : HasLaws M m.images.rv.code.words traps)
+    (w : IrWorld) (p : ℕ) (h : Here) (acted : AfterAction M net w p m WentOn) (here : IsHere m p h) where
   middle_fine : FineMiddle m.program (ir_action w p) p
   middle_fine = subst (λ (q : Parts). FineMiddle q (ir_action w p) p) (sym acted.middle.machines.program) acted.outcome
 
-  going : (node : NodeStore) → m.nodes ≡ node ∷ [] → (below : List IrActivation) × (top : IrActivation) × GoingOn M m (ir_action w p) p h node below top
+  going : (node : NodeStore) → m.nodes ≡ node ∷ [] →
+      (below : List IrActivation) × (top : IrActivation) × GoingOn M m (ir_action w p) p h node below top
   going node one = going_on M m (ir_action w p) p h node acted.steady acted.middle.shows middle_fine here one
 
   -- the code behind the stop can run
@@ -153,7 +177,8 @@ module _ {S : Type 0} (M : MachineMeaning S) (traps : Trapping S) (net m : Clust
 
     pub turn_runs : TurnOf M net w p net'
     turn_runs = record {
-      steps = Runs m gone.before gone.after acted.middle gone.top gone.done (ap (λ (v : IrWorld). top_of (stack_at v p)) (sym turn_is) ∙ gone.lands) gone.goes turn_holds.shows;
+      steps = Runs m gone.before gone.after acted.middle gone.top gone.done
+          (ap (λ (v : IrWorld). top_of (stack_at v p)) (sym turn_is) ∙ gone.lands) gone.goes turn_holds.shows;
       pools = gone.pools net (ir_action w p) acted.pools;
     }
 

@@ -19,15 +19,21 @@ use Rattle.ec_network.proofs.ActionsFrames.{HasVariables, live_below}
 
 module _ (node node' : NodeStore) (memory : Bytes) (f at steps : ℕ) (r : RanTo node node' memory f at steps) where
   -- every other word is as the machine has left it
-  ran_word : (b i : ℕ) → i < 128 → ((b ≢ f) ⊎ (i ≢ stop_head)) → ((b ≢ f) ⊎ (i ≢ pending_head)) → (store_of node').word b i ≡ word_in little_number memory (block_word_at b i)
-  ran_word b i l first second = r.pending.others b i l second ∙ r.stop.others b i l first ∙ ap (λ (m : Bytes). word_in little_number m (block_word_at b i)) r.bytes
+  ran_word : (b i : ℕ) → i < 128 → ((b ≢ f) ⊎ (i ≢ stop_head)) → ((b ≢ f) ⊎ (i ≢ pending_head)) →
+      (store_of node').word b i ≡ word_in little_number memory (block_word_at b i)
+  ran_word b i l first second =
+      r.pending.others b i l second ∙ r.stop.others b i l first ∙ ap (λ (m : Bytes). word_in little_number m (block_word_at b i)) r.bytes
 
   ran_global : (i : ℕ) → (store_of node').global i ≡ word_in little_number memory (global_word_at i)
-  ran_global i = r.pending.tables.rest.global i ∙ r.stop.tables.rest.global i ∙ ap (λ (m : Bytes). word_in little_number m (global_word_at i)) r.bytes
+  ran_global i = r.pending.tables.rest.global i ∙ r.stop.tables.rest.global i
+      ∙ ap (λ (m : Bytes). word_in little_number m (global_word_at i)) r.bytes
 
-  pub landed : {S : Type 0} (M : MachineMeaning S) → M.number ≡ little_number → (program : Parts) (table : StopTable) → HasSlots table program → (a : IrActivation) → HasVariables program a → at ≡ a.at → (t : S) → stop_in table a.operation a.at ≡ Some (M.place t) → Landed M program table f a t memory steps node node'
+  pub landed : {S : Type 0} (M : MachineMeaning S) → M.number ≡ little_number → (program : Parts) (table : StopTable) →
+      HasSlots table program → (a : IrActivation) → HasVariables program a → at ≡ a.at → (t : S) →
+      stop_in table a.operation a.at ≡ Some (M.place t) → Landed M program table f a t memory steps node node'
   landed M number program table slots a v same t is =
-      let order : (at : ℕ) → word_in little_number memory at ≡ word_in M.number memory at = λ at. ap (λ (g : ℕ → List ℕ → ℕ). word_in g memory at) (sym number) in
+      let order : (at : ℕ) → word_in little_number memory at ≡ word_in M.number memory at =
+      λ at. ap (λ (g : ℕ → List ℕ → ℕ). word_in g memory at) (sym number) in
       record {
         stop = is;
         stop_head = r.pending.others f 3 (omega arith) (inr (λ e. cc)) ∙ r.stop.here ∙ ap Some same;
@@ -35,7 +41,8 @@ module _ (node node' : NodeStore) (memory : Bytes) (f at steps : ℕ) (r : RanTo
         other_heads = λ i l first second. ran_word f i (omega arith) (inr first) (inr second) ∙ order (block_word_at f i);
         slots = λ i above l. ran_word f i l (inr (λ e. omega arith)) (inr (λ e. omega arith)) ∙ order (block_word_at f i);
         saved = λ x k h e.
-            let home : home_in table a.operation x ≡ Some (Slot x) = slots.each a.operation x v.operation v.is (live_below program a v x h) in
+            let home : home_in table a.operation x ≡ Some (Slot x) =
+            slots.each a.operation x v.operation v.is (live_below program a v x h) in
             let no : ⊥ = cc in
             absurd no;
         others = λ b i few l ne. ran_word b i l (inl ne) (inl ne) ∙ order (block_word_at b i);

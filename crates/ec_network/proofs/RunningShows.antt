@@ -1,5 +1,6 @@
 -- A network whose top activation has landed at its next stop shows the world after the code behind the stop.
-use Rattle.std.proofs.Common.{◌≡◌, ◌≢◌, ℕ, zero, suc, ◌<◌, Bool, List, [], ◌∷◌, ◌++◌, length, Option, Some, refl, sym, ap, ◌∙◌, subst, arith, ◌⊎◌, ⊎_elim}
+use Rattle.std.proofs.Common.{◌≡◌, ◌≢◌, ℕ, zero, suc, ◌<◌, Bool, List, [], ◌∷◌, ◌++◌, length, Option, Some, refl, sym, ap, ◌∙◌}
+use Rattle.std.proofs.Common.{subst, arith, ◌⊎◌, ⊎_elim}
 use Rattle.std.specs.Prelude.{slice_get, ◌↔◌}
 use Rattle.byteorder.specs.Endian.{little_number}
 use Rattle.ec_base.specs.Bytes.{Bytes}
@@ -49,7 +50,8 @@ use Rattle.ec_network.proofs.RunningFits.{fits_here}
 use Rattle.ec_network.proofs.RunningWords.{EndsAt, next, next_operation, next_own, next_pending}
 use Rattle.ec_network.proofs.RunningFrame.{run_puts}
 
-module _ {S : Type 0} (M : MachineMeaning S) (net : Cluster) (w : IrWorld) (p : ℕ) (h : Here) (node : NodeStore) (below : List IrActivation) (top : IrActivation) (now : GoingOn M net w p h node below top) where
+module _ {S : Type 0} (M : MachineMeaning S) (net : Cluster) (w : IrWorld) (p : ℕ) (h : Here) (node : NodeStore)
+    (below : List IrActivation) (top : IrActivation) (now : GoingOn M net w p h node below top) where
   abbrev after : IrActivation
   after = next M net w p h node below top now
 
@@ -75,7 +77,8 @@ module _ {S : Type 0} (M : MachineMeaning S) (net : Cluster) (w : IrWorld) (p : 
       ap (λ (x : List IrActivation). go_on ir_meaning (ir_silent net.program) w p x (top_of (stack_at w p))) below_here
       ∙ ap (λ (x : Option IrActivation). go_on ir_meaning (ir_silent net.program) w p below x) top_here
       ∙ ap (λ (b : Bool). go_on_unless ir_meaning (ir_silent net.program) w p below top b) now.at.done.done
-      ∙ ap (λ (s : Option StopRec). with_process w w.common p (ready_with (below ++ settled net.program top s ∷ []))) now.at.done.rests.at_is
+      ∙ ap (λ (s : Option StopRec). with_process w w.common p (ready_with (below ++ settled net.program top s ∷ [])))
+      now.at.done.rests.at_is
 
   there : p < length w.processes
   there = get_within w.processes p (ready_with (below ++ top ∷ [])) now.at.is
@@ -89,7 +92,8 @@ module _ {S : Type 0} (M : MachineMeaning S) (net : Cluster) (w : IrWorld) (p : 
   stack_after : FineStack net.program w.common.nodes (length w.common.objects) (below ++ after ∷ [])
   stack_after =
       fine_stack net.program w.common.nodes (length w.common.objects) below after (next_pending M net w p h node below top now)
-      (order_last net.program w.common.nodes (length w.common.objects) below top after (next_operation M net w p h node below top now) now.at.order)
+      (order_last net.program w.common.nodes (length w.common.objects) below top after
+      (next_operation M net w p h node below top now) now.at.order)
 
   facts_after : FineFacts net.program w'
   facts_after = record {
@@ -108,7 +112,8 @@ module _ {S : Type 0} (M : MachineMeaning S) (net : Cluster) (w : IrWorld) (p : 
     each = λ q x e. ⊎_elim
         (λ (same : q ≡ p).
         let is : ready_with (below ++ after ∷ []) ≡ x = cc (process_after, ap (λ i. slice_get w'.processes i) same) in
-        subst (λ (y : Proc IrActivation). FineProcess net.program w.common.nodes (length w.common.objects) y.status y.activations) is stack_after)
+        subst (λ (y : Proc IrActivation). FineProcess net.program w.common.nodes (length w.common.objects) y.status y.activations)
+        is stack_after)
         (λ (ne : q ≢ p). now.middle.others q x ne (sym (get_set_other w.processes p q (ready_with (below ++ after ∷ [])) ne) ∙ e))
         (same_or_not q p);
     facts = facts_after;
@@ -142,8 +147,10 @@ module _ {S : Type 0} (M : MachineMeaning S) (net : Cluster) (w : IrWorld) (p : 
           let same : s.node ≡ node = cc (s.one, now.one) in
           record {
             fine = subst (λ (q : Parts). Fine q) (sym c.program) s.fine;
-            faithful = subst (λ (q : Parts). FaithfulImages M q net'.images) (sym c.program) (subst (λ (i : Images). FaithfulImages M net.program i) (sym c.images) s.faithful);
-            slots = subst (λ (q : Parts). HasSlots net'.images.rv.table q) (sym c.program) (subst (λ (i : Images). HasSlots i.rv.table net.program) (sym c.images) s.slots);
+            faithful = subst (λ (q : Parts). FaithfulImages M q net'.images) (sym c.program)
+                (subst (λ (i : Images). FaithfulImages M net.program i) (sym c.images) s.faithful);
+            slots = subst (λ (q : Parts). HasSlots net'.images.rv.table q) (sym c.program)
+                (subst (λ (i : Images). HasSlots i.rv.table net.program) (sym c.images) s.slots);
             small = subst (λ (i : Images). SmallCode i.rv.table i.rv.code) (sym c.images) s.small;
             node = node';
             one = c.after;
@@ -153,14 +160,16 @@ module _ {S : Type 0} (M : MachineMeaning S) (net : Cluster) (w : IrWorld) (p : 
                   let e' : slice_get net.program.literals i ≡ Some x = ap (λ (q : Parts). slice_get q.literals i) (sym c.program) ∙ e in
                   same_text i ∙ ap (λ (n : NodeStore). (store_of n).text i) (sym same) ∙ s.literals.at i x e';
             };
-            globals = c.globals ∙ ap (λ (n : NodeStore). n.globals) (sym same) ∙ s.globals ∙ ap (λ (q : Parts). length q.globals) (sym c.program);
+            globals = c.globals ∙ ap (λ (n : NodeStore). n.globals) (sym same) ∙ s.globals
+                ∙ ap (λ (q : Parts). length q.globals) (sym c.program);
           }
 
       -- the pool has what it had, so what is told of the pools since an earlier network stays true
       pub pools_run : (first : Cluster) (v : IrWorld) → SamePools first net v → SamePools first net' v
       pools_run first v pools = record { each = each }
         where
-          each : (k : ℕ) (s s' : Store) (text : List ℕ) → stores first k ≡ Some s → stores net' k ≡ Some s' → InPool s' text ↔ (InPool s text ⊎ Strings first.program v k text)
+          each : (k : ℕ) (s s' : Store) (text : List ℕ) → stores first k ≡ Some s → stores net' k ≡ Some s' →
+              InPool s' text ↔ (InPool s text ⊎ Strings first.program v k text)
           each k s s' text e e' =
               let z = alone_is (stores net') (store_of node') (alone_net net' node' c.after) k s' e' in
               let old : stores net k ≡ Some (store_of node) = ap (stores net) z.0 ∙ (alone_net net node now.one).here in
@@ -169,19 +178,30 @@ module _ {S : Type 0} (M : MachineMeaning S) (net : Cluster) (w : IrWorld) (p : 
                 λ g. let b = both.1 g in (b.0, ap (λ (x : Store). x.text b.0) z.1 ∙ same_text b.0 ∙ b.1),
               )
 
-    module _ (number : M.number ≡ little_number) (k : ℕ) (to : S) (memory : Bytes) (ends : EndsAt M net w p h node below top now k to memory) (landed : Landed M net.program net.images.rv.table h.block after to memory k node node') where
+    module _ (number : M.number ≡ little_number) (k : ℕ) (to : S) (memory : Bytes)
+        (ends : EndsAt M net w p h node below top now k to memory)
+        (landed : Landed M net.program net.images.rv.table h.block after to memory k node node') where
       nodes_after : ShowsNodes (live_values net.program) (spot net.program net.images) (stores net') w' (place w)
       nodes_after =
-          one_changed (live_values net.program) (spot net.program net.images) (place w) (stores net) (stores net') 0 (store_of node) (store_of node') w w' (Frame p (length below)) (Some (frame_thing (live_values net.program) (spot net.program net.images) p (length below) after))
+          one_changed (live_values net.program) (spot net.program net.images) (place w) (stores net) (stores net') 0 (store_of node)
+          (store_of node') w w' (Frame p (length below))
+          (Some (frame_thing (live_values net.program) (spot net.program net.images) p (length below) after))
           now.shows.nodes
-          (alone_put (stores net) (stores net') (store_of node) (store_of node') (alone_net net node now.one) (alone_net net' node' c.after))
+          (alone_put (stores net) (stores net') (store_of node) (store_of node') (alone_net net node now.one)
+          (alone_net net' node' c.after))
           (run_puts M net w p h node below top now number k to memory ends node' landed c.kind c.blocks c.laid)
-          (stepped (live_values net.program) (spot net.program net.images) (place w) w w.common (record { objects = refl; globals = refl }) p (ready_with (below ++ top ∷ [])) (ready_with (below ++ after ∷ [])) now.at.is (length below) top after 0 (get_end below top) (sym (set_end below top after)) (next_own M net w p h node below top now) now.at.home)
+          (stepped (live_values net.program) (spot net.program net.images) (place w) w w.common
+          (record { objects = refl; globals = refl }) p (ready_with (below ++ top ∷ [])) (ready_with (below ++ after ∷ []))
+          now.at.is (length below) top after 0 (get_end below top) (sym (set_end below top after))
+          (next_own M net w p h node below top now) now.at.home)
 
       shows_run : Shows net' w'
       shows_run = record {
-        counted = ap (λ (ns : List NodeStore). length ns) c.after ∙ sym (ap (λ (ns : List NodeStore). length ns) now.one) ∙ now.shows.counted;
-        nodes = subst (λ (q : Parts). ShowsNodes (live_values q) (spot q net'.images) (stores net') w' (place w')) (sym c.program) (subst (λ (i : Images). ShowsNodes (live_values net.program) (spot net.program i) (stores net') w' (place w')) (sym c.images) nodes_after);
+        counted = ap (λ (ns : List NodeStore). length ns) c.after ∙ sym (ap (λ (ns : List NodeStore). length ns) now.one)
+            ∙ now.shows.counted;
+        nodes = subst (λ (q : Parts). ShowsNodes (live_values q) (spot q net'.images) (stores net') w' (place w')) (sym c.program)
+            (subst (λ (i : Images). ShowsNodes (live_values net.program) (spot net.program i) (stores net') w' (place w'))
+            (sym c.images) nodes_after);
         laid = λ j x e. subst (λ (n : NodeStore). Laid n) (node_at net' node' c.after j x e).1 c.laid;
         statuses = c.statuses ∙ statuses_stay net w p below top after now.shows now.at.is w.common;
         depths = c.depths ∙ depths_stay net w p below top after now.shows now.at.is w.common;
@@ -202,7 +222,10 @@ module _ {S : Type 0} (M : MachineMeaning S) (net : Cluster) (w : IrWorld) (p : 
 
       -- ---- how it got there
 
-      module _ (s : S) (address : ℕ) (is : stop_in net.images.rv.table h.operation h.at ≡ Some address) (stands : StandsBehind M s address h.block now.own.block) (native : Native (M.goes net.images.rv.code.words) (M.stops net.images.rv.code.words) s (store_byte node.memory) k to memory) where
+      module _ (s : S) (address : ℕ) (is : stop_in net.images.rv.table h.operation h.at ≡ Some address)
+          (stands : StandsBehind M s address h.block now.own.block)
+          (native : Native (M.goes net.images.rv.code.words) (M.stops net.images.rv.code.words) s (store_byte node.memory) k to
+          memory) where
         frame_row : (r : Owned) × ((store_of node).row (Frame p h.depth) ≡ Some r) × (r.blocks ≡ h.block ∷ [])
         frame_row = (now.at.frame.row, ap (λ d. (store_of node).row (Frame p d)) now.at.depth ∙ now.at.frame.there, now.at.frame.blocks)
 
@@ -218,7 +241,8 @@ module _ {S : Type 0} (M : MachineMeaning S) (net : Cluster) (w : IrWorld) (p : 
           steps = k;
           fits = fits_here M net w p h node below top now number s address is stands;
           native = native;
-          few = (let few = ends.few in let words : words_of net.images.rv.code h.operation ≡ words_of net.images.rv.code top.operation = ap (words_of net.images.rv.code) now.at.operation in omega (arith, few, words));
+          few = (let few = ends.few in let words : words_of net.images.rv.code h.operation ≡ words_of net.images.rv.code
+              top.operation = ap (words_of net.images.rv.code) now.at.operation in omega (arith, few, words));
           landed = landed;
         }
 
@@ -232,8 +256,10 @@ module _ {S : Type 0} (M : MachineMeaning S) (net : Cluster) (w : IrWorld) (p : 
           home = now.at.home;
           before_is = ap (λ (ns : List NodeStore). slice_get ns 0) now.one;
           after_is = ap (λ (ns : List NodeStore). slice_get ns 0) c.after;
-          others = λ j ne. ap (λ (ns : List NodeStore). slice_get ns j) c.after ∙ past j ne ∙ sym (ap (λ (ns : List NodeStore). slice_get ns j) now.one);
-          runs = subst (λ (kind : Kind). RunsOn M kind net.program net.images w p h.depth top after now.own.object node node') (sym (steady_riscv M net node now.steady now.one)) runs_at;
+          others = λ j ne. ap (λ (ns : List NodeStore). slice_get ns j) c.after ∙ past j ne
+              ∙ sym (ap (λ (ns : List NodeStore). slice_get ns j) now.one);
+          runs = subst (λ (kind : Kind). RunsOn M kind net.program net.images w p h.depth top after now.own.object node node')
+              (sym (steady_riscv M net node now.steady now.one)) runs_at;
           machines = machines_run;
           shared = (c.statuses, c.depths, c.output, c.places);
         }

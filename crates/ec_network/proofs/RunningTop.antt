@@ -38,7 +38,8 @@ use Rattle.ec_network.proofs.ActionsMarking.{frame_at}
 -- ---- the top activation
 
 -- process p goes on with `top`, whose action is done, and what the kernel reads is what it has
-pub record TopDone (net : Cluster) (w : IrWorld) (p : ℕ) (h : Here) (node : NodeStore) (below : List IrActivation) (top : IrActivation) : Type 0 where
+pub record TopDone (net : Cluster) (w : IrWorld) (p : ℕ) (h : Here) (node : NodeStore) (below : List IrActivation)
+    (top : IrActivation) : Type 0 where
   pub is : slice_get w.processes p ≡ Some (ready_with (below ++ top ∷ []))
   pub order : InOrder net.program w.common.nodes (length w.common.objects) (below ++ top ∷ [])
   pub done : IsDone net.program w.common.nodes (length w.common.objects) top
@@ -52,14 +53,22 @@ pub record TopDone (net : Cluster) (w : IrWorld) (p : ℕ) (h : Here) (node : No
   pub small : h.block < node.blocks
   pub laid : Laid node
 
-pub steady_riscv : {S : Type 0} (M : MachineMeaning S) (net : Cluster) (node : NodeStore) → Steady M net → net.nodes ≡ node ∷ [] → node.kind ≡ Riscv
-steady_riscv M net node steady one = let same : steady.node ≡ node = cc (steady.one) in ap (λ (n : NodeStore). n.kind) (sym same) ∙ steady.riscv
+pub steady_riscv : {S : Type 0} (M : MachineMeaning S) (net : Cluster) (node : NodeStore) → Steady M net → net.nodes ≡ node ∷ [] →
+    node.kind ≡ Riscv
+steady_riscv M net node steady one = let same : steady.node ≡ node =
+    cc (steady.one) in ap (λ (n : NodeStore). n.kind) (sym same) ∙ steady.riscv
 
-module _ {S : Type 0} (M : MachineMeaning S) (net : Cluster) (w : IrWorld) (p : ℕ) (h : Here) (node : NodeStore) (steady : Steady M net) (shows : Shows net w) (middle : FineMiddle net.program w p) (here : IsHere net p h) (one : net.nodes ≡ node ∷ []) where
-  module _ (below : List IrActivation) (top : IrActivation) (is : slice_get w.processes p ≡ Some (ready_with (below ++ top ∷ []))) (order : InOrder net.program w.common.nodes (length w.common.objects) (below ++ top ∷ [])) (done : IsDone net.program w.common.nodes (length w.common.objects) top) where
+module _ {S : Type 0} (M : MachineMeaning S) (net : Cluster) (w : IrWorld) (p : ℕ) (h : Here) (node : NodeStore)
+    (steady : Steady M net) (shows : Shows net w) (middle : FineMiddle net.program w p) (here : IsHere net p h)
+    (one : net.nodes ≡ node ∷ []) where
+  module _ (below : List IrActivation) (top : IrActivation) (is : slice_get w.processes p ≡ Some (ready_with (below ++ top ∷ [])))
+      (order : InOrder net.program w.common.nodes (length w.common.objects) (below ++ top ∷ []))
+      (done : IsDone net.program w.common.nodes (length w.common.objects) top) where
     depth_is : h.depth ≡ length below
     depth_is =
-        let deep : slice_get net.depths p ≡ Some (length (below ++ top ∷ [])) = ap (λ (ds : List ℕ). slice_get ds p) shows.depths ∙ get_map (λ (q : Proc IrActivation). length q.activations) w.processes p (ready_with (below ++ top ∷ [])) is in
+        let deep : slice_get net.depths p ≡ Some (length (below ++ top ∷ [])) =
+        ap (λ (ds : List ℕ). slice_get ds p) shows.depths
+        ∙ get_map (λ (q : Proc IrActivation). length q.activations) w.processes p (ready_with (below ++ top ∷ [])) is in
         let count : suc h.depth ≡ length (below ++ top ∷ []) = cc (here.depth) in
         omega (arith, count, length_end below top)
 
@@ -67,7 +76,8 @@ module _ {S : Type 0} (M : MachineMeaning S) (net : Cluster) (w : IrWorld) (p : 
     same_node = cc (here.one, one)
 
     row_is : (store_of node).row (Frame p (length below)) ≡ Some here.row
-    row_is = subst (λ (d : ℕ). (store_of node).row (Frame p d) ≡ Some here.row) depth_is (subst (λ (n : NodeStore). (store_of n).row (Frame p h.depth) ≡ Some here.row) same_node here.row_is)
+    row_is = subst (λ (d : ℕ). (store_of node).row (Frame p d) ≡ Some here.row) depth_is
+        (subst (λ (n : NodeStore). (store_of n).row (Frame p h.depth) ≡ Some here.row) same_node here.row_is)
 
     word_is : (i n : ℕ) → (store_of here.node).word h.block i ≡ Some n → (store_of node).word h.block i ≡ Some n
     word_is i n e = subst (λ (x : NodeStore). (store_of x).word h.block i ≡ Some n) same_node e
@@ -80,7 +90,8 @@ module _ {S : Type 0} (M : MachineMeaning S) (net : Cluster) (w : IrWorld) (p : 
     frame_is : FrameStands net.program (store_of node) p (length below) h.block top
     frame_is =
         frame_at net.program net.images (stores net) (store_of node) w (place w) p (length below) h.block (below ++ top ∷ []) top here.row
-        steady.slots (steady_riscv M net node steady one) shows.nodes (alone_net net node one) variables_of is (get_end below top) row_is here.block
+        steady.slots (steady_riscv M net node steady one) shows.nodes (alone_net net node one) variables_of is (get_end below top)
+        row_is here.block
 
     read_done : TopDone net w p h node below top
     read_done = record {
@@ -106,8 +117,10 @@ module _ {S : Type 0} (M : MachineMeaning S) (net : Cluster) (w : IrWorld) (p : 
       let xs : List IrActivation = middle.process.activations in
       let stack = middle.stack in
       let parts : xs ≡ below_of xs ++ stack.top ∷ [] = stack_parts xs stack.top stack.top_is in
-      let is : slice_get w.processes p ≡ Some (ready_with xs) = middle.is ∙ ap (λ (s : ProcStatus). Some (record { activations = xs; status = s })) middle.ready in
-      let order : InOrder net.program w.common.nodes (length w.common.objects) xs = record { bottom = stack.bottom; upper = stack.upper; waiting = stack.waiting } in (
+      let is : slice_get w.processes p ≡ Some (ready_with xs) =
+      middle.is ∙ ap (λ (s : ProcStatus). Some (record { activations = xs; status = s })) middle.ready in
+      let order : InOrder net.program w.common.nodes (length w.common.objects) xs =
+      record { bottom = stack.bottom; upper = stack.upper; waiting = stack.waiting } in (
         below_of xs,
         stack.top,
         read_done (below_of xs) stack.top
@@ -140,15 +153,20 @@ pub record OwnHere (w : IrWorld) (node : NodeStore) (oid : ℕ) : Type 0 where
   pub blocks : row.blocks ≡ block ∷ []
   pub small : block < node.blocks
 
-pub own_here : (net : Cluster) (w : IrWorld) (node : NodeStore) (oid : ℕ) → Shows net w → FineFacts net.program w → net.nodes ≡ node ∷ [] → Laid node → w.common.nodes < oid → oid ≤ length w.common.objects → OwnHere w node oid
+pub own_here : (net : Cluster) (w : IrWorld) (node : NodeStore) (oid : ℕ) → Shows net w → FineFacts net.program w →
+    net.nodes ≡ node ∷ [] → Laid node → w.common.nodes < oid → oid ≤ length w.common.objects → OwnHere w node oid
 own_here net w node zero shows facts one laid above below = absurd (omega arith)
 own_here net w node (suc i) shows facts one laid above below =
     let z = get_there w.common.objects i (omega arith) in
     let o : ObjectRec = z.0 in
-    let shown = shown_here (live_values net.program) (spot net.program net.images) (stores net) w (place w) (store_of node) shows.nodes (alone_net net node one) (Object (suc i)) (object_thing (suc i) z.0) (ap (object_if (suc i)) z.1) in
+    let shown = shown_here (live_values net.program) (spot net.program net.images) (stores net) w (place w) (store_of node)
+    shows.nodes (alone_net net node one) (Object (suc i)) (object_thing (suc i) z.0) (ap (object_if (suc i)) z.1) in
     let none : z.0.fields ≡ [] = (facts.objects i z.0 z.1).0 in
     let other : z.0.class ≢ Node = λ e. let l = (facts.node_objects i z.0 z.1).0 e in absurd (omega arith) in
-    let size : length shown.row.blocks ≡ 1 = shown.spells.counted ∙ ap (λ (vs : List Rattle.ec_world.specs.declared.value.Value.Value). class_blocks z.0.class (length vs)) none ∙ one_block z.0.class other in
+    let size : length shown.row.blocks ≡ 1 =
+    shown.spells.counted ∙ ap
+    (λ (vs : List Rattle.ec_world.specs.declared.value.Value.Value). class_blocks z.0.class (length vs)) none
+    ∙ one_block z.0.class other in
     let b = one_item shown.row.blocks size in
     record {
       object = z.0;
@@ -161,13 +179,17 @@ own_here net w node (suc i) shows facts one laid above below =
       small = laid.rows_in (Object (suc i)) shown.row b.0 shown.there (record { at = 0; is = ap (λ (bs : List ℕ). slice_get bs 0) b.1 });
     }
 
-pub own_of_done : (net : Cluster) (w : IrWorld) (p : ℕ) (h : Here) (node : NodeStore) (below : List IrActivation) (top : IrActivation) → Shows net w → FineFacts net.program w → net.nodes ≡ node ∷ [] → TopDone net w p h node below top → OwnHere w node top.own
-own_of_done net w p h node below top shows facts one t = own_here net w node top.own shows facts one t.laid t.done.rests.own.0 t.done.rests.own.1
+pub own_of_done : (net : Cluster) (w : IrWorld) (p : ℕ) (h : Here) (node : NodeStore) (below : List IrActivation)
+    (top : IrActivation) → Shows net w → FineFacts net.program w → net.nodes ≡ node ∷ [] → TopDone net w p h node below top →
+    OwnHere w node top.own
+own_of_done net w p h node below top shows facts one t =
+    own_here net w node top.own shows facts one t.laid t.done.rests.own.0 t.done.rests.own.1
 
 -- ---- together
 
 -- the network shows w, in which `top` of process p goes on, on its own object
-pub record GoingOn {S : Type 0} (M : MachineMeaning S) (net : Cluster) (w : IrWorld) (p : ℕ) (h : Here) (node : NodeStore) (below : List IrActivation) (top : IrActivation) : Type 0 where
+pub record GoingOn {S : Type 0} (M : MachineMeaning S) (net : Cluster) (w : IrWorld) (p : ℕ) (h : Here) (node : NodeStore)
+    (below : List IrActivation) (top : IrActivation) : Type 0 where
   pub steady : Steady M net
   pub shows : Shows net w
   pub middle : FineMiddle net.program w p
@@ -175,7 +197,9 @@ pub record GoingOn {S : Type 0} (M : MachineMeaning S) (net : Cluster) (w : IrWo
   pub at : TopDone net w p h node below top
   pub own : OwnHere w node top.own
 
-pub going_on : {S : Type 0} (M : MachineMeaning S) (net : Cluster) (w : IrWorld) (p : ℕ) (h : Here) (node : NodeStore) → Steady M net → Shows net w → FineMiddle net.program w p → IsHere net p h → net.nodes ≡ node ∷ [] → (below : List IrActivation) × (top : IrActivation) × GoingOn M net w p h node below top
+pub going_on : {S : Type 0} (M : MachineMeaning S) (net : Cluster) (w : IrWorld) (p : ℕ) (h : Here) (node : NodeStore) →
+    Steady M net → Shows net w → FineMiddle net.program w p → IsHere net p h → net.nodes ≡ node ∷ [] →
+    (below : List IrActivation) × (top : IrActivation) × GoingOn M net w p h node below top
 going_on M net w p h node steady shows middle here one =
     let t = top_is M net w p h node steady shows middle here one in (
       t.0,

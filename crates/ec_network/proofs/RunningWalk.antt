@@ -1,5 +1,6 @@
 -- Code behind a stop whose action is done: it reaches a stop, and each variable that is read there is of its type.
-use Rattle.std.proofs.Common.{◌≡◌, ◌≢◌, ℕ, zero, suc, ◌+◌, ◌<◌, Bool, List, [], ◌∷◌, ◌++◌, length, drop, Option, Some, None, refl, sym, ap, ◌∙◌, subst, ◌⊎◌, inl, inr, ⊎_elim}
+use Rattle.std.proofs.Common.{◌≡◌, ◌≢◌, ℕ, zero, suc, ◌+◌, ◌<◌, Bool, List, [], ◌∷◌, ◌++◌, length, drop, Option, Some, None, refl}
+use Rattle.std.proofs.Common.{sym, ap, ◌∙◌, subst, ◌⊎◌, inl, inr, ⊎_elim}
 use Rattle.std.specs.Prelude.{slice_get}
 use Rattle.ec_base.proofs.Lists.{get_there}
 use Rattle.ec_world.specs.declared.value.Value.{Value}
@@ -14,7 +15,8 @@ use Rattle.ec_ir.specs.declared.code.StopRec.{StopRec}
 use Rattle.ec_ir.specs.declared.code.Operation.{Operation}
 use Rattle.ec_ir.specs.declared.code.Parts.{Parts}
 use Rattle.ec_ir.specs.declared.activation.IrActivation.{IrActivation}
-use Rattle.ec_ir.specs.Meaning.{Reached, walk, put, text_at, variable, stop_at, stops_of, code_of, types_of, settled, resting, resting_at, live_at, live_if, live_variables, result_live}
+use Rattle.ec_ir.specs.Meaning.{Reached, walk, put, text_at, variable, stop_at, stops_of, code_of, types_of, settled, resting}
+use Rattle.ec_ir.specs.Meaning.{resting_at, live_at, live_if, live_variables, result_live}
 use Rattle.ec_ir.specs.Fine.{Fine, FineOp, HasType, HasCode, GoesOn, IsIn, AllIn, Covers, CoversStop, one_of}
 use Rattle.ec_ir.proofs.Put.{put_same, put_other}
 use Rattle.ec_nodes.proofs.Put.{same_or_not}
@@ -65,11 +67,18 @@ WritesText literals types (Literal to index) = (slice_get types to ≡ Some Byte
 WritesText literals types (Rest n) = Unit {0}
 
 module _ (literals : List (List ℕ)) (types : List ValueType) (stops : List StopRec) where
-  put_typed : (vs : List Value) (have : List ℕ) (to index : ℕ) → WritesText literals types (Literal to index) → ((v : ℕ) → IsIn v have → TypedAt types vs v) → (v : ℕ) → IsIn v (to ∷ have) → TypedAt types (put vs to (text_at (slice_get literals index))) v
+  put_typed : (vs : List Value) (have : List ℕ) (to index : ℕ) → WritesText literals types (Literal to index) →
+      ((v : ℕ) → IsIn v have → TypedAt types vs v) → (v : ℕ) → IsIn v (to ∷ have) →
+      TypedAt types (put vs to (text_at (slice_get literals index))) v
   put_typed vs have to index writes typed v h = ⊎_elim
       (λ (same : v ≡ to).
-      let value : variable (put vs to (text_at (slice_get literals index))) v ≡ text_at (slice_get literals index) = ap (variable (put vs to (text_at (slice_get literals index)))) same ∙ put_same vs to (text_at (slice_get literals index)) in
-      (Bytes, ap (slice_get types) same ∙ writes.0, subst (λ (x : Value). HasType Bytes x) (sym value) (text_typed literals index writes.1)))
+      let value : variable (put vs to (text_at (slice_get literals index))) v ≡ text_at (slice_get literals index) =
+      ap (variable (put vs to (text_at (slice_get literals index)))) same ∙ put_same vs to (text_at (slice_get literals index)) in (
+        Bytes,
+        ap (slice_get types) same
+            ∙ writes.0,
+        subst (λ (x : Value). HasType Bytes x) (sym value) (text_typed literals index writes.1),
+      ))
       (λ (ne : v ≢ to).
       let had : IsIn v have = ⊎_elim (λ (e : v ≡ to). absurd (ne e)) (λ (g : IsIn v have). g) h in
       let t = typed v had in
@@ -85,10 +94,13 @@ module _ (literals : List (List ℕ)) (types : List ValueType) (stops : List Sto
     pub operands : (v : ℕ) → Has stop.operands v → TypedAt types last.variables v
     pub live : (v : ℕ) → Has stop.live v → TypedAt types last.variables v
 
-  pub reaches : (code : List IrOp) (vs : List Value) (have : List ℕ) → ((i : ℕ) (op : IrOp) → slice_get code i ≡ Some op → WritesText literals types op) → Covers stops have code → ((v : ℕ) → IsIn v have → TypedAt types vs v) → Reaches code vs
+  pub reaches : (code : List IrOp) (vs : List Value) (have : List ℕ) →
+      ((i : ℕ) (op : IrOp) → slice_get code i ≡ Some op → WritesText literals types op) → Covers stops have code →
+      ((v : ℕ) → IsIn v have → TypedAt types vs v) → Reaches code vs
   reaches [] vs have each covers typed = absurd covers
   reaches (Literal to index ∷ rest) vs have each covers typed =
-      let r = reaches rest (put vs to (text_at (slice_get literals index))) (to ∷ have) (λ i op e. each (suc i) op e) covers (put_typed vs have to index (each 0 (Literal to index) refl) typed) in
+      let r = reaches rest (put vs to (text_at (slice_get literals index))) (to ∷ have) (λ i op e. each (suc i) op e) covers
+      (put_typed vs have to index (each 0 (Literal to index) refl) typed) in
       record { last = r.last; is = r.is; stop = r.stop; there = r.there; operands = r.operands; live = r.live }
   reaches (Rest n ∷ rest) vs have each covers typed = by_stop (slice_get stops n) refl covers
     where
@@ -140,25 +152,32 @@ module _ (program : Parts) (nodes objects : ℕ) (a : IrActivation) (d : IsDone 
   pub settles : Fine program → Settles
   settles fine = by_operation (slice_get program.operations a.operation) refl d.rests.at_is
     where
-      by_operation : (x : Option Operation) → slice_get program.operations a.operation ≡ x → slice_get (stops_of x) a.at ≡ Some d.at → Settles
+      by_operation : (x : Option Operation) → slice_get program.operations a.operation ≡ x →
+          slice_get (stops_of x) a.at ≡ Some d.at → Settles
       by_operation None e there = cc
       by_operation (Some o) e there =
           let f = fine.operations a.operation o e in
-          let covers : Covers o.stops (d.at.live ++ one_of d.at.into) (drop (d.at.place + 1) o.code) = goes_on d.at.stop (Covers o.stops (d.at.live ++ one_of d.at.into) (drop (d.at.place + 1) o.code)) d.code (f.covered a.at d.at there) in
+          let covers : Covers o.stops (d.at.live ++ one_of d.at.into) (drop (d.at.place + 1) o.code) =
+          goes_on d.at.stop (Covers o.stops (d.at.live ++ one_of d.at.into) (drop (d.at.place + 1) o.code)) d.code
+          (f.covered a.at d.at there) in
           let typed : (v : ℕ) → IsIn v (d.at.live ++ one_of d.at.into) → TypedAt o.variables a.variables v = λ v h.
-          let g : Has (live_variables program a) v = subst (λ (xs : List ℕ). Has xs v) (sym live_given) (has_of (d.at.live ++ one_of d.at.into) v h) in
+          let g : Has (live_variables program a) v =
+          subst (λ (xs : List ℕ). Has xs v) (sym live_given) (has_of (d.at.live ++ one_of d.at.into) v h) in
           let t = d.rests.typed.each v g in
           (t.0, ap (λ (q : Option Operation). slice_get (types_of q) v) (sym e) ∙ t.1, t.2) in
-          let each : (i : ℕ) (op : IrOp) → slice_get (drop (d.at.place + 1) o.code) i ≡ Some op → WritesText program.literals o.variables op = λ i op g.
+          let each : (i : ℕ) (op : IrOp) → slice_get (drop (d.at.place + 1) o.code) i ≡ Some op →
+          WritesText program.literals o.variables op = λ i op g.
           let j = had_before (d.at.place + 1) o.code i op g in
           writes_text program.literals o j.0 op (f.code j.0 op j.1) in
-          let r = reaches program.literals o.variables o.stops (drop (d.at.place + 1) o.code) a.variables (d.at.live ++ one_of d.at.into) each covers typed in
+          let r = reaches program.literals o.variables o.stops (drop (d.at.place + 1) o.code) a.variables
+          (d.at.live ++ one_of d.at.into) each covers typed in
           record {
             operation = o;
             is = e;
             reach = r;
             rest =
-                ap (λ (q : Option Operation). resting_at program a (walk program.literals (drop (d.at.place + 1) (code_of q)) a.variables)) e
+                ap (λ (q : Option Operation). resting_at program a
+                (walk program.literals (drop (d.at.place + 1) (code_of q)) a.variables)) e
                 ∙ ap (resting_at program a) r.is
                 ∙ ap (λ (q : Option Operation). resting a r.last.stop r.last.variables (slice_get (stops_of q) r.last.stop)) e
                 ∙ ap (resting a r.last.stop r.last.variables) r.there;
@@ -170,7 +189,8 @@ module _ (program : Parts) (nodes objects : ℕ) (a : IrActivation) (d : IsDone 
       let s = settles fine in
       let to = s.reach.stop in
       let b : IrActivation = resting a s.reach.last.stop s.reach.last.variables (Some s.reach.stop) in
-      let at_is : stop_at program a.operation s.reach.last.stop ≡ Some s.reach.stop = ap (λ (q : Option Operation). slice_get (stops_of q) s.reach.last.stop) s.is ∙ s.reach.there in
+      let at_is : stop_at program a.operation s.reach.last.stop ≡ Some s.reach.stop =
+      ap (λ (q : Option Operation). slice_get (stops_of q) s.reach.last.stop) s.is ∙ s.reach.there in
       let pending : IsPending program nodes objects b = record {
         at = to;
         rests = record {
@@ -180,7 +200,9 @@ module _ (program : Parts) (nodes objects : ℕ) (a : IrActivation) (d : IsDone 
           typed = record {
             each = λ v h.
                 let g : Has (to.operands ++ to.live) v = subst (λ (xs : List ℕ). Has xs v) (live_pending program b to at_is refl) h in
-                let t : TypedAt s.operation.variables s.reach.last.variables v = ⊎_elim (λ (k : Has to.operands v). s.reach.operands v k) (λ (k : Has to.live v). s.reach.live v k) (has_either to.operands to.live g.at v g.is) in
+                let t : TypedAt s.operation.variables s.reach.last.variables v =
+                ⊎_elim (λ (k : Has to.operands v). s.reach.operands v k) (λ (k : Has to.live v). s.reach.live v k)
+                (has_either to.operands to.live g.at v g.is) in
                 (t.0, ap (λ (q : Option Operation). slice_get (types_of q) v) s.is ∙ t.1, t.2);
           };
         };

@@ -1,5 +1,6 @@
 -- Where a native run from behind the top's stop ends, and which words it has left alone.
-use Rattle.std.proofs.Common.{◌≡◌, ◌≢◌, ℕ, zero, suc, ◌+◌, ◌<◌, ◌≤◌, List, length, Some, refl, sym, ap, ◌∙◌, subst, arith, ◌⊎◌, inl, inr, ⊎_elim}
+use Rattle.std.proofs.Common.{◌≡◌, ◌≢◌, ℕ, zero, suc, ◌+◌, ◌<◌, ◌≤◌, List, length, Some, refl, sym, ap, ◌∙◌, subst, arith, ◌⊎◌, inl}
+use Rattle.std.proofs.Common.{inr, ⊎_elim}
 use Rattle.std.specs.Prelude.{slice_get}
 use Rattle.std.specs.Option.{option_map}
 use Rattle.std.proofs.lemmas.Bool.{cases_lt}
@@ -33,7 +34,8 @@ bytes_same m m' at zero h = refl
 bytes_same m m' at (suc n) h =
     let here : at ≡ at + 0 = omega arith in
     let first : m' at ≡ m at = ap m' here ∙ h 0 (omega arith) ∙ ap m (sym here) in
-    let rest = bytes_same m m' (at + 1) n (λ k l. let on : at + 1 + k ≡ at + suc k = omega arith in ap m' on ∙ h (suc k) (omega arith) ∙ ap m (sym on)) in
+    let rest = bytes_same m m' (at + 1) n
+    (λ k l. let on : at + 1 + k ≡ at + suc k = omega arith in ap m' on ∙ h (suc k) (omega arith) ∙ ap m (sym on)) in
     ap (λ o. before_rest o (bytes_from m' (at + 1) n)) first ∙ ap (before_rest (m at)) rest
 
 -- nothing has changed but slots and saved words of the frame at block f
@@ -67,7 +69,8 @@ module _ (number : ℕ → List ℕ → ℕ) (f : ℕ) (m m' : Bytes) (only : On
 
 -- ---- the end of the run
 
-module _ {S : Type 0} (M : MachineMeaning S) (net : Cluster) (w : IrWorld) (p : ℕ) (h : Here) (node : NodeStore) (below : List IrActivation) (top : IrActivation) (now : GoingOn M net w p h node below top) where
+module _ {S : Type 0} (M : MachineMeaning S) (net : Cluster) (w : IrWorld) (p : ℕ) (h : Here) (node : NodeStore)
+    (below : List IrActivation) (top : IrActivation) (now : GoingOn M net w p h node below top) where
   -- the activation at the stop that code leads to
   abbrev pub next : IrActivation
   next = settled net.program top (Some now.at.done.at)
@@ -96,21 +99,29 @@ module _ {S : Type 0} (M : MachineMeaning S) (net : Cluster) (w : IrWorld) (p : 
     pub live : LiveStand M net.program net.images.rv.table (store_of node).local (store_of node).text h.block next to memory
     pub only : OnlyFrame h.block (store_byte node.memory) memory
 
-  module _ (number : M.number ≡ little_number) (traps : Trapping S) (one_way : IsOneWay (M.goes net.images.rv.code.words)) (apart : AreApart (M.goes net.images.rv.code.words) (M.stops net.images.rv.code.words) traps) where
+  module _ (number : M.number ≡ little_number) (traps : Trapping S) (one_way : IsOneWay (M.goes net.images.rv.code.words))
+      (apart : AreApart (M.goes net.images.rv.code.words) (M.stops net.images.rv.code.words) traps) where
     -- each run to a stop from behind the top's stop ends so
-    pub run_ends : (s : S) (address : ℕ) → stop_in net.images.rv.table h.operation h.at ≡ Some address → StandsBehind M s address h.block now.own.block → (k : ℕ) (to : S) (memory : Bytes) → Native (M.goes net.images.rv.code.words) (M.stops net.images.rv.code.words) s (store_byte node.memory) k to memory → EndsAt k to memory
+    pub run_ends : (s : S) (address : ℕ) → stop_in net.images.rv.table h.operation h.at ≡ Some address →
+        StandsBehind M s address h.block now.own.block → (k : ℕ) (to : S) (memory : Bytes) →
+        Native (M.goes net.images.rv.code.words) (M.stops net.images.rv.code.words) s (store_byte node.memory) k to memory →
+        EndsAt k to memory
     run_ends s address is stands k to memory native =
         let r = arrives_here M net w p h node below top now number s address is stands in
-        let same = one_native (M.goes net.images.rv.code.words) (M.stops net.images.rv.code.words) traps one_way apart s (store_byte node.memory) r.steps k r.last r.memory to memory r.native native in
+        let same = one_native (M.goes net.images.rv.code.words) (M.stops net.images.rv.code.words) traps one_way apart s
+        (store_byte node.memory) r.steps k r.last r.memory to memory r.native native in
         let operation : next.operation ≡ h.operation = next_operation ∙ sym now.at.operation in
         let ended : EndsAt r.steps r.last r.memory = record {
-          few = (let few = r.few in let words : words_of net.images.rv.code next.operation ≡ words_of net.images.rv.code h.operation = ap (words_of net.images.rv.code) operation in omega (arith, few, words));
+          few = (let few = r.few in let words : words_of net.images.rv.code next.operation ≡ words_of net.images.rv.code
+              h.operation = ap (words_of net.images.rv.code) operation in omega (arith, few, words));
           at = ap (λ op. stop_in net.images.rv.table op next.at) (sym operation) ∙ r.at;
           live = r.live;
           only = record { others = r.others };
         } in
-        subst (λ (c : Bytes). EndsAt k to c) same.2 (subst (λ (x : S). EndsAt k x r.memory) same.1 (subst (λ (n : ℕ). EndsAt n r.last r.memory) same.0 ended))
+        subst (λ (c : Bytes). EndsAt k to c) same.2
+        (subst (λ (x : S). EndsAt k x r.memory) same.1 (subst (λ (n : ℕ). EndsAt n r.last r.memory) same.0 ended))
 
   -- the stop of this address is the next activation's
-  pub stop_reached : (k : ℕ) (to : S) (memory : Bytes) (at : ℕ) → EndsAt k to memory → stop_in net.images.rv.table h.operation at ≡ Some (M.place to) → at ≡ next.at
+  pub stop_reached : (k : ℕ) (to : S) (memory : Bytes) (at : ℕ) → EndsAt k to memory →
+      stop_in net.images.rv.table h.operation at ≡ Some (M.place to) → at ≡ next.at
   stop_reached k to memory at e is = (now.steady.faithful.rv.apart h.operation at h.operation next.at (M.place to) is e.at).1

@@ -14,7 +14,8 @@ pub same_stop : (p q : Parts) (op at : ℕ) (s t : StopRec) → q ≡ p → stop
 same_stop p q op at s t e f g = let h : stop_at p op at ≡ Some s = ap (λ x. stop_at x op at) (sym e) ∙ f in cc
 
 -- the first of one operand
-pub operand_is : (xs : List ℕ) (x : ℕ) (g : Option (Bor ℕ)) (r : Option ℕ) (v : ℕ) → xs ≡ x ∷ [] → IfSome g (λ y. slice_get xs 0 ≡ Some y.now) → IfNone g (slice_get xs 0 ≡ None) → r ≡ option_copied g → v ≡ unwrap_or r 0 → xs ≡ v ∷ []
+pub operand_is : (xs : List ℕ) (x : ℕ) (g : Option (Bor ℕ)) (r : Option ℕ) (v : ℕ) → xs ≡ x ∷ [] →
+    IfSome g (λ y. slice_get xs 0 ≡ Some y.now) → IfNone g (slice_get xs 0 ≡ None) → r ≡ option_copied g → v ≡ unwrap_or r 0 → xs ≡ v ∷ []
 operand_is xs x (Some y) r v e some none f g =
     let at : slice_get (x ∷ []) 0 ≡ Some y.now = ap (λ l. slice_get l 0) (sym e) ∙ some in
     let is : x ≡ y.now = cc in

@@ -1,5 +1,6 @@
 -- A turn of a process that is Ready: its action, and the code behind the stop where that is done.
-use Rattle.std.proofs.Common.{◌≡◌, ◌≢◌, ℕ, zero, suc, ◌+◌, ◌<◌, ◌^◌, inl, ⊎_elim, Bool, true, List, Option, Some, refl, sym, ap, ◌∙◌, subst, arith}
+use Rattle.std.proofs.Common.{◌≡◌, ◌≢◌, ℕ, zero, suc, ◌+◌, ◌<◌, ◌^◌, inl, ⊎_elim, Bool, true, List, Option, Some, refl, sym, ap}
+use Rattle.std.proofs.Common.{◌∙◌, subst, arith}
 use Rattle.std.specs.Prelude.{◌-◌, length, slice_get, Err}
 use Rattle.std.proofs.lemmas.Option.{same_Some}
 use Rattle.ec_base.specs.Stack.{top_of, below_of}
@@ -46,15 +47,20 @@ use Rattle.ec_network.proofs.MachineLaws.{rv_laws}
 use Rattle.ec_network.proofs.Running.{can_run, turn_holds, turn_runs, turn_counts, turn_few}
 
 -- no code goes on from an action that is pending, nor for a process that isn't Ready
-waits_on : (program : Parts) (v : IrWorld) (p : ℕ) (a : IrActivation) → top_of (stack_at v p) ≡ Some a → a.pending ≡ true → GoOn ir_meaning (ir_silent program) v p ≡ v
+waits_on : (program : Parts) (v : IrWorld) (p : ℕ) (a : IrActivation) → top_of (stack_at v p) ≡ Some a → a.pending ≡ true →
+    GoOn ir_meaning (ir_silent program) v p ≡ v
 waits_on program v p a top pending =
     ap (λ t. go_on ir_meaning (ir_silent program) v p (below_of (stack_at v p)) t) top
     ∙ ap (λ b. go_on_unless ir_meaning (ir_silent program) v p (below_of (stack_at v p)) a b) pending
 
 rests_on : (program : Parts) (v : IrWorld) (p : ℕ) → status_at v p ≢ Some Ready → GoOn ir_meaning (ir_silent program) v p ≡ v
-rests_on program v p h = ap (λ (xs : List IrActivation). go_on ir_meaning (ir_silent program) v p (below_of xs) (top_of xs)) (idle_stack (slice_get v.processes p) h)
+rests_on program v p h =
+    ap (λ (xs : List IrActivation). go_on ir_meaning (ir_silent program) v p (below_of xs) (top_of xs))
+    (idle_stack (slice_get v.processes p) h)
 
-module _ {S : Type 0} (M : MachineMeaning S) (net m : Cluster) (w : IrWorld) (p : ℕ) (h : Here) (stop : StopRec) (holds : Holds M net w) (ready : status_at w p ≡ Some Ready) (here : IsHere net p h) (stop_is : stop_at net.program h.operation h.at ≡ Some stop) where
+module _ {S : Type 0} (M : MachineMeaning S) (net m : Cluster) (w : IrWorld) (p : ℕ) (h : Here) (stop : StopRec)
+    (holds : Holds M net w) (ready : status_at w p ≡ Some Ready) (here : IsHere net p h)
+    (stop_is : stop_at net.program h.operation h.at ≡ Some stop) where
   after : (acted : Acted) → Acts net m p h stop acted → AfterAction M net w p m acted
   after acted acts = acts_after M net m w p h stop holds ready here stop_is acted acts
 
@@ -113,7 +119,8 @@ module _ {S : Type 0} (M : MachineMeaning S) (net m : Cluster) (w : IrWorld) (p 
     pub middle_here : (h' : Here) × IsHere m p h'
     middle_here =
         let a = after WentOn acts in
-        here_middle M m (ir_action w p) p a.middle.shows (subst (λ (q : Parts). FineMiddle q (ir_action w p) p) (sym a.middle.machines.program) a.outcome) a.steady
+        here_middle M m (ir_action w p) p a.middle.shows
+        (subst (λ (q : Parts). FineMiddle q (ir_action w p) p) (sym a.middle.machines.program) a.outcome) a.steady
 
     module _ (traps : Trapping S) (laws : HasLaws M m.images.rv.code.words traps) (h' : Here) (here' : IsHere m p h') where
       pub middle_can : CanGoOn M m h'
@@ -151,7 +158,8 @@ module _ (net : Cluster) (w : IrWorld) (p : ℕ) (holds : Holds rv_meaning net w
     pub can : CanAct net p h
     can = can_act rv_meaning net w p h holds is_ready here few
 
-    module _ (m : Cluster) (acted : Acted) (acts : (stop : StopRec) → stop_at net.program h.operation h.at ≡ Some stop → Acts net m p h stop acted) where
+    module _ (m : Cluster) (acted : Acted)
+        (acts : (stop : StopRec) → stop_at net.program h.operation h.at ≡ Some stop → Acts net m p h stop acted) where
       done : (which : Acted) → acted ≡ which → Acts net m p h can.stop which
       done which e = subst (λ a. Acts net m p h can.stop a) e (acts can.stop can.is)
 
@@ -174,26 +182,35 @@ module _ (net : Cluster) (w : IrWorld) (p : ℕ) (holds : Holds rv_meaning net w
 
         module _ (h' : Here) (here' : IsHere m p h') where
           pub second_can : CanGoOn rv_meaning m h'
-          second_can = middle_can rv_meaning net m w p h can.stop holds is_ready here can.is (done WentOn e) (rv_traps m.images.rv.code.words) (rv_laws m.images.rv.code.words) h' here'
+          second_can = middle_can rv_meaning net m w p h can.stop holds is_ready here can.is (done WentOn e)
+              (rv_traps m.images.rv.code.words) (rv_laws m.images.rv.code.words) h' here'
 
           module _ (net' : Cluster) (steps : ℕ) (gone : HasGoneOn rv_meaning m net' h' steps) where
             pub turn_went : Turned rv_meaning net w p net' steps
-            turn_went = went_turned rv_meaning net m w p h can.stop holds is_ready here can.is (done WentOn e) (rv_traps m.images.rv.code.words) (rv_laws m.images.rv.code.words) h' here' net' steps gone
+            turn_went = went_turned rv_meaning net m w p h can.stop holds is_ready here can.is (done WentOn e)
+                (rv_traps m.images.rv.code.words) (rv_laws m.images.rv.code.words) h' here' net' steps gone
 
             pub turn_short : steps < 2 ^ 32
-            turn_short = went_few rv_meaning net m w p h can.stop holds is_ready here can.is (done WentOn e) (rv_traps m.images.rv.code.words) (rv_laws m.images.rv.code.words) h' here' net' steps gone
+            turn_short = went_few rv_meaning net m w p h can.stop holds is_ready here can.is (done WentOn e)
+                (rv_traps m.images.rv.code.words) (rv_laws m.images.rv.code.words) h' here' net' steps gone
 
 -- a refusal is exact
-pub refused : (T U : Type 0) (net : Cluster) (p : ℕ) (h : Here) (error : ActError) → slice_get net.statuses p ≡ Some Ready → IsHere net p h → length net.places < 2 ^ 32 - 1 → WhenLacks {T = T} (Err error) (FullHere net 0) → WhenLacks {T = T} (Err error) (λ need free. CreatesAt net h) → WhenLacks {T = U} (Err error) (λ need free. (w : IrWorld) → Holds rv_meaning net w → EntryFull net w (ir_action w p) 0 Blocks need free)
+pub refused : (T U : Type 0) (net : Cluster) (p : ℕ) (h : Here) (error : ActError) → slice_get net.statuses p ≡ Some Ready →
+    IsHere net p h → length net.places < 2 ^ 32 - 1 → WhenLacks {T = T} (Err error) (FullHere net 0) →
+    WhenLacks {T = T} (Err error) (λ need free. CreatesAt net h) →
+    WhenLacks {T = U} (Err error)
+    (λ need free. (w : IrWorld) → Holds rv_meaning net w → EntryFull net w (ir_action w p) 0 Blocks need free)
 refused T U net p h Memory status here few full creates = tt
 refused T U net p h (Full need free) status here few full creates = λ w holds.
     let c = can net w p holds status h here few in
-    full_here rv_meaning net w p h c.stop creates.class 0 need free holds (sym (status_shown net w p holds.shows) ∙ status) here c.is (creates.is c.stop c.is) full
+    full_here rv_meaning net w p h c.stop creates.class 0 need free holds (sym (status_shown net w p holds.shows) ∙ status) here
+    c.is (creates.is c.stop c.is) full
 
 -- ---- what a turn answers
 
 -- a process that isn't Ready does nothing
-module _ {S : Type 0} (M : MachineMeaning S) (net : Cluster) (w : IrWorld) (p : ℕ) (holds : Holds M net w) (idle : status_at w p ≢ Some Ready) where
+module _ {S : Type 0} (M : MachineMeaning S) (net : Cluster) (w : IrWorld) (p : ℕ) (holds : Holds M net w)
+    (idle : status_at w p ≢ Some Ready) where
   no_turn : ir_turn net.program w p ≡ w
   no_turn = ap (λ (v : IrWorld). GoOn ir_meaning (ir_silent net.program) v p) (idle_action w p idle) ∙ rests_on net.program w p idle
 
@@ -213,7 +230,11 @@ module _ {S : Type 0} (M : MachineMeaning S) (net : Cluster) (w : IrWorld) (p : 
   idle_turn = record {
     after = net;
     is = refl;
-    turn = record { steps = Idles idle refl holds.shows; pools = subst (λ (v : IrWorld). SamePools net net v) (sym (idle_action w p idle)) same_pools };
+    turn = record {
+      steps = Idles idle refl holds.shows;
+      pools =
+          subst (λ (v : IrWorld). SamePools net net v) (sym (idle_action w p idle)) same_pools;
+    };
     holds = subst (λ (v : IrWorld). Holds M net v) (sym no_turn) holds;
     fits = none_full_idle M net w p holds idle;
     counts = counts;
@@ -235,17 +256,23 @@ module _ (net net' : Net) (shown : Cluster) (p : ℕ) (whole : net.whole ≡ tru
   same_shown : (c : Cluster) → net.loaded ≡ Some c → shown ≡ c
   same_shown c e = same_Some shown c (sym loaded ∙ e)
 
-  pub answer_rests : net' ≡ net → ((slice_get shown.statuses p ≡ Some Ready) → ⊥) → ForShown rv_meaning net (λ c w. TurnAnswer rv_meaning c w p net' Idle)
+  pub answer_rests : net' ≡ net → ((slice_get shown.statuses p ≡ Some Ready) → ⊥) →
+      ForShown rv_meaning net (λ c w. TurnAnswer rv_meaning c w p net' Idle)
   answer_rests same rests = λ c w e holds.
       let is = same_shown c e in
-      let idle : status_at w p ≢ Some Ready = λ s. rests (ap (λ (x : Cluster). slice_get x.statuses p) is ∙ status_shown c w p holds.shows ∙ s) in
+      let idle : status_at w p ≢ Some Ready =
+      λ s. rests (ap (λ (x : Cluster). slice_get x.statuses p) is ∙ status_shown c w p holds.shows ∙ s) in
       subst (λ (n : Net). TurnAnswer rv_meaning c w p n Idle) (sym (same ∙ is_whole net c e whole)) (idle_turn rv_meaning c w p holds idle)
 
-  pub answer_turned : (after : Cluster) (steps : ℕ) → net'.loaded ≡ Some after → net'.whole ≡ true → slice_get shown.statuses p ≡ Some Ready → ((w : IrWorld) → Holds rv_meaning shown w → Turned rv_meaning shown w p after steps) → ForShown rv_meaning net (λ c w. TurnAnswer rv_meaning c w p net' (Done steps))
+  pub answer_turned : (after : Cluster) (steps : ℕ) → net'.loaded ≡ Some after → net'.whole ≡ true →
+      slice_get shown.statuses p ≡ Some Ready →
+      ((w : IrWorld) → Holds rv_meaning shown w → Turned rv_meaning shown w p after steps) →
+      ForShown rv_meaning net (λ c w. TurnAnswer rv_meaning c w p net' (Done steps))
   answer_turned after steps new new_whole status turned = λ c w e holds.
       let is = same_shown c e in
       let t = subst (λ (x : Cluster). Holds rv_meaning x w → Turned rv_meaning x w p after steps) is (turned w) holds in
-      let ready : status_at w p ≡ Some Ready = sym (status_shown c w p holds.shows) ∙ ap (λ (x : Cluster). slice_get x.statuses p) (sym is) ∙ status in
+      let ready : status_at w p ≡ Some Ready =
+      sym (status_shown c w p holds.shows) ∙ ap (λ (x : Cluster). slice_get x.statuses p) (sym is) ∙ status in
       record {
         after = after;
         is = is_whole net' after new new_whole;

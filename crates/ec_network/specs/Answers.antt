@@ -54,7 +54,8 @@ module _ {S : Type 0} (M : MachineMeaning S) where
     pub is : new ≡ whole_net start
     pub loaded : IsLoaded M program specs start
     pub holds : Holds M start (ir_start program (length specs))
-    pub fits : NoneFull (rooms_of specs) nothing (held (ir_start program (length specs))) NoTexts (FirstTexts program (ir_start program (length specs)))
+    pub fits : NoneFull (rooms_of specs) nothing (held (ir_start program (length specs))) NoTexts
+        (FirstTexts program (ir_start program (length specs)))
 
   -- a turn of process p, where the network shows w
   pub record TurnAnswer (c : Cluster) (w : IrWorld) (p : ℕ) (new : Net) (did : Did) : Type 0 where

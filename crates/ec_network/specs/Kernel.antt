@@ -115,7 +115,8 @@ module _ (net net' : Cluster) (p : ℕ) (h : Here) (stop : StopRec) where
     pub object_block : ℕ
     pub makes : Placed one two (Object (suc (length net.places))) (Some (Made k)) false None [] object_block
     pub frame_block : ℕ
-    pub begins : Placed two (store_of node') (Frame p (suc h.depth)) None false None (p ∷ suc h.depth ∷ class.initial ∷ 0 ∷ 1 ∷ suc (length net.places) ∷ []) frame_block
+    pub begins : Placed two (store_of node') (Frame p (suc h.depth)) None false None
+        (p ∷ suc h.depth ∷ class.initial ∷ 0 ∷ 1 ∷ suc (length net.places) ∷ []) frame_block
     pub statuses : net'.statuses ≡ net.statuses
     pub depths : net'.depths ≡ slice_set net.depths p (suc (suc h.depth))
     pub output : net'.output ≡ net.output

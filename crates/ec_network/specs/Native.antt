@@ -17,7 +17,8 @@ pub record RanHere (node node' : NodeStore) (image : Image) (h : Here) (machine 
   pub laid : Laid node'
   pub to : RvMachine
   pub memory : Bytes
-  pub native : Native (rv_meaning.goes image.code.words) (rv_meaning.stops image.code.words) machine (store_byte node.memory) steps to memory
+  pub native : Native (rv_meaning.goes image.code.words) (rv_meaning.stops image.code.words) machine (store_byte node.memory) steps
+      to memory
   pub at : ℕ
   pub at_is : stop_in image.table h.operation at ≡ Some (rv_meaning.place to)
   pub ran : RanTo node node' memory h.block at steps

@@ -102,6 +102,9 @@ EntryFits c w after = NoneFull (rooms c) (held w) (held after) (Pools c) (String
 
 -- a whole run of a program on nodes, from the network at its start to the one at its end: where the load finds no room,
 -- nothing is done; otherwise the loaded network, and turns and moves along the entries
-pub data Ran {S : Type 0} (M : MachineMeaning S) (program : Parts) (specs : List NodeSpec) (net : Net) (entries : List RunEntry) (net' : Net) : Type 0 where
-  Refused : net ≡ empty_net → (k need free : ℕ) (part : Part) → LoadFull program specs k part need free → entries ≡ [] → net' ≡ net → Ran M program specs net entries net'
-  Loaded : net ≡ empty_net → (start end : Cluster) → IsLoaded M program specs start → Along M program start (ir_start program (length specs)) entries end → net'.loaded ≡ Some end → Ran M program specs net entries net'
+pub data Ran {S : Type 0} (M : MachineMeaning S) (program : Parts) (specs : List NodeSpec) (net : Net) (entries : List RunEntry)
+    (net' : Net) : Type 0 where
+  Refused : net ≡ empty_net → (k need free : ℕ) (part : Part) → LoadFull program specs k part need free → entries ≡ [] →
+      net' ≡ net → Ran M program specs net entries net'
+  Loaded : net ≡ empty_net → (start end : Cluster) → IsLoaded M program specs start →
+      Along M program start (ir_start program (length specs)) entries end → net'.loaded ≡ Some end → Ran M program specs net entries net'

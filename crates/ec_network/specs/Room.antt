@@ -19,8 +19,10 @@ held w k = Held (place w) k w
 -- the strings that a world has at node k: in a field of an object there, in a live value of an activation there, or in a
 -- constant, which every node has
 pub data Strings (program : Parts) (w : IrWorld) (k : ℕ) (text : List ℕ) : Type 0 where
-  InField : (i : ℕ) (o : Rattle.ec_world.specs.declared.object.ObjectRec.ObjectRec) → slice_get w.common.objects i ≡ Some o → place w (suc i) ≡ Some k → Has o.fields (Str text) → Strings program w k text
-  InFrame : (p d : ℕ) (a : IrActivation) → activation_at w.processes p d ≡ Some a → place w a.own ≡ Some k → Has (live_values program a) (Str text) → Strings program w k text
+  InField : (i : ℕ) (o : Rattle.ec_world.specs.declared.object.ObjectRec.ObjectRec) → slice_get w.common.objects i ≡ Some o →
+      place w (suc i) ≡ Some k → Has o.fields (Str text) → Strings program w k text
+  InFrame : (p d : ℕ) (a : IrActivation) → activation_at w.processes p d ≡ Some a → place w a.own ≡ Some k →
+      Has (live_values program a) (Str text) → Strings program w k text
   InConstant : Has w.common.globals (Str text) → Strings program w k text
 
 -- so many bytes have these texts, each once
@@ -46,7 +48,8 @@ pub record NeedsOf (room : Room) (before after : ℕ) (Pool Wanted : List ℕ �
   pub free_bytes : n.free_bytes ≡ room.text - used
 
 -- node k is the least that lacks room, blocks before text
-pub record FullAt (rooms : ℕ → Option Room) (before after : ℕ → ℕ) (Pool Wanted : ℕ → List ℕ → Type 0) (k : ℕ) (part : Part) (need free : ℕ) : Type 0 where
+pub record FullAt (rooms : ℕ → Option Room) (before after : ℕ → ℕ) (Pool Wanted : ℕ → List ℕ → Type 0) (k : ℕ) (part : Part)
+    (need free : ℕ) : Type 0 where
   pub room : Room
   pub there : rooms k ≡ Some room
   pub needs : Needs

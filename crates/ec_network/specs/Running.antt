@@ -36,9 +36,12 @@ pub record StandsBehind {S : Type 0} (M : MachineMeaning S) (s : S) (address f b
 -- a run comes to an end in few steps, at a stop of the same operation
 pub record ComesToStop {S : Type 0} (M : MachineMeaning S) (code : Code) (table : StopTable) (op : ℕ) (s : S) (bytes : Bytes) : Type 0 where
   pub halts : Halts (M.goes code.words) s bytes
-  pub ends : (k : ℕ) (to : S) (memory : Bytes) → Leads (M.goes code.words) s bytes k to memory → IsEnd (M.goes code.words) to memory → M.stops code.words to memory
-  pub few : (k : ℕ) (to : S) (memory : Bytes) → Native (M.goes code.words) (M.stops code.words) s bytes k to memory → k ≤ suc (words_of code op)
-  pub at : (k : ℕ) (to : S) (memory : Bytes) → Native (M.goes code.words) (M.stops code.words) s bytes k to memory → (at : ℕ) × (stop_in table op at ≡ Some (M.place to))
+  pub ends : (k : ℕ) (to : S) (memory : Bytes) → Leads (M.goes code.words) s bytes k to memory →
+      IsEnd (M.goes code.words) to memory → M.stops code.words to memory
+  pub few : (k : ℕ) (to : S) (memory : Bytes) → Native (M.goes code.words) (M.stops code.words) s bytes k to memory →
+      k ≤ suc (words_of code op)
+  pub at : (k : ℕ) (to : S) (memory : Bytes) → Native (M.goes code.words) (M.stops code.words) s bytes k to memory →
+      (at : ℕ) × (stop_in table op at ≡ Some (M.place to))
 
 -- ---- before
 
@@ -52,7 +55,8 @@ pub record CanGoOn {S : Type 0} (M : MachineMeaning S) (net : Cluster) (h : Here
   pub rows_few : length (row_or_empty (slice_get net.images.rv.table.stops h.operation)) < 2 ^ 32
   pub words_few : words_of net.images.rv.code h.operation < 2 ^ 26
   pub own : HasBlock (store_of node) (Object h.own)
-  pub comes : (b : ℕ) (s : S) → FirstBlock (store_of node) (Object h.own) b → StandsBehind M s address h.block b → ComesToStop M net.images.rv.code net.images.rv.table h.operation s (store_byte node.memory)
+  pub comes : (b : ℕ) (s : S) → FirstBlock (store_of node) (Object h.own) b → StandsBehind M s address h.block b →
+      ComesToStop M net.images.rv.code net.images.rv.table h.operation s (store_byte node.memory)
 
 -- ---- after
 

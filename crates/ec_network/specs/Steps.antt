@@ -29,7 +29,8 @@ pub record IsDone (program : Parts) (nodes objects : ℕ) (a : IrActivation) : T
 pub record MiddleStack (program : Parts) (nodes objects : ℕ) (activations : List IrActivation) : Type 0 where
   pub bottom : (a : IrActivation) → slice_get activations 0 ≡ Some a → a.operation ≡ 0
   pub upper : (d : ℕ) (a : IrActivation) → slice_get activations (suc d) ≡ Some a → a.operation ≢ 0
-  pub waiting : (d : ℕ) (a b : IrActivation) → slice_get activations d ≡ Some a → slice_get activations (suc d) ≡ Some b → IsWaiting program nodes objects a
+  pub waiting : (d : ℕ) (a b : IrActivation) → slice_get activations d ≡ Some a → slice_get activations (suc d) ≡ Some b →
+      IsWaiting program nodes objects a
   pub top : IrActivation
   pub top_is : top_of activations ≡ Some top
   pub top_done : IsDone program nodes objects top
@@ -40,7 +41,8 @@ pub record FineMiddle (program : Parts) (w : IrWorld) (p : ℕ) : Type 0 where
   pub is : slice_get w.processes p ≡ Some process
   pub ready : process.status ≡ Ready
   pub stack : MiddleStack program w.common.nodes (length w.common.objects) process.activations
-  pub others : (q : ℕ) (proc : Proc IrActivation) → q ≢ p → slice_get w.processes q ≡ Some proc → FineProcess program w.common.nodes (length w.common.objects) proc.status proc.activations
+  pub others : (q : ℕ) (proc : Proc IrActivation) → q ≢ p → slice_get w.processes q ≡ Some proc →
+      FineProcess program w.common.nodes (length w.common.objects) proc.status proc.activations
   pub facts : FineFacts program w
 
 -- what an action came to
@@ -50,7 +52,8 @@ Outcome program w p Began = FineWorld program w × ((a : IrActivation) × (top_o
 Outcome program w p EndedNow = FineWorld program w × (status_at w p ≢ Some Ready)
 
 -- a network after the action of process p
-pub record AfterAction {S : Type 0} (M : MachineMeaning S) (net : Cluster) (w : IrWorld) (p : ℕ) (net' : Cluster) (acted : Acted) : Type 0 where
+pub record AfterAction {S : Type 0} (M : MachineMeaning S) (net : Cluster) (w : IrWorld) (p : ℕ) (net' : Cluster) (acted : Acted) :
+    Type 0 where
   pub middle : Middle M net w p net'
   pub pools : SamePools net net' (ir_action w p)
   pub steady : Steady M net'

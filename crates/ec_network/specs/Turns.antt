@@ -48,14 +48,17 @@ pub record SameMachines (net net' : Cluster) : Type 0 where
   pub program : net'.program ≡ net.program
   pub images : net'.images ≡ net.images
   pub counted : length net'.nodes ≡ length net.nodes
-  pub each : (k : ℕ) (node node' : NodeStore) → slice_get net.nodes k ≡ Some node → slice_get net'.nodes k ≡ Some node' → SameMachine node node'
+  pub each : (k : ℕ) (node node' : NodeStore) → slice_get net.nodes k ≡ Some node → slice_get net'.nodes k ≡ Some node' →
+      SameMachine node node'
 
 pub record SameCounts (net net' : Cluster) : Type 0 where
-  pub each : (k : ℕ) (node node' : NodeStore) → slice_get net.nodes k ≡ Some node → slice_get net'.nodes k ≡ Some node' → node'.count ≡ node.count
+  pub each : (k : ℕ) (node node' : NodeStore) → slice_get net.nodes k ≡ Some node → slice_get net'.nodes k ≡ Some node' →
+      node'.count ≡ node.count
 
 -- each pool has the texts that it had and the strings of a world, and no others
 pub record SamePools (net net' : Cluster) (w : IrWorld) : Type 0 where
-  pub each : (k : ℕ) (s s' : Store) (text : List ℕ) → stores net k ≡ Some s → stores net' k ≡ Some s' → InPool s' text ↔ (InPool s text ⊎ Strings net.program w k text)
+  pub each : (k : ℕ) (s s' : Store) (text : List ℕ) → stores net k ≡ Some s → stores net' k ≡ Some s' →
+      InPool s' text ↔ (InPool s text ⊎ Strings net.program w k text)
 
 -- over the machine M of the one kind so far
 module _ {S : Type 0} (M : MachineMeaning S) where
@@ -64,13 +67,15 @@ module _ {S : Type 0} (M : MachineMeaning S) where
   -- node after a run of so many steps from `node` to state t with this memory: the memory is t's, but for the headings
   -- and saved words of the frame at block f. The headings name the stop that t is at, pending; the saved words hold the
   -- registers of t that are live places there. The count has risen by the steps.
-  pub record Landed (program : Parts) (table : StopTable) (f : ℕ) (a : IrActivation) (t : S) (memory : Bytes) (steps : ℕ) (node node' : NodeStore) : Type 0 where
+  pub record Landed (program : Parts) (table : StopTable) (f : ℕ) (a : IrActivation) (t : S) (memory : Bytes) (steps : ℕ)
+      (node node' : NodeStore) : Type 0 where
     pub stop : stop_in table a.operation a.at ≡ Some (M.place t)
     pub stop_head : (store_of node').word f 3 ≡ Some a.at
     pub pending_head : (store_of node').word f 4 ≡ Some 1
     pub other_heads : (i : ℕ) → i < 8 → i ≢ 3 → i ≢ 4 → (store_of node').word f i ≡ word_in M.number memory (block_word_at f i)
     pub slots : (i : ℕ) → first_slot ≤ i → i < 128 → (store_of node').word f i ≡ word_in M.number memory (block_word_at f i)
-    pub saved : (x k : ℕ) → Has (live_variables program a) x → home_in table a.operation x ≡ Some (Reg k) → (store_of node').word f (first_saved + k) ≡ Some (M.register t (M.first_home + k))
+    pub saved : (x k : ℕ) → Has (live_variables program a) x → home_in table a.operation x ≡ Some (Reg k) →
+        (store_of node').word f (first_saved + k) ≡ Some (M.register t (M.first_home + k))
     pub others : (b i : ℕ) → b < 65536 → i < 128 → b ≢ f → (store_of node').word b i ≡ word_in M.number memory (block_word_at b i)
     pub constants : (i : ℕ) → (store_of node').global i ≡ word_in M.number memory (global_word_at i)
     pub rows : node'.rows ≡ node.rows
@@ -80,7 +85,8 @@ module _ {S : Type 0} (M : MachineMeaning S) where
     pub count : node'.count ≡ node.count + steps
 
   -- the activation on top of process p at depth d goes on at node k, from `node` to `node'`
-  pub record RunsAt (program : Parts) (image : Image) (w : IrWorld) (p d : ℕ) (a a' : IrActivation) (own : ObjectRec) (node node' : NodeStore) : Type 0 where
+  pub record RunsAt (program : Parts) (image : Image) (w : IrWorld) (p d : ℕ) (a a' : IrActivation) (own : ObjectRec)
+      (node node' : NodeStore) : Type 0 where
     pub f : ℕ
     pub frame : (r : Owned) × ((store_of node).row (Frame p d) ≡ Some r) × (r.blocks ≡ f ∷ [])
     pub own_row : Owned
@@ -89,7 +95,8 @@ module _ {S : Type 0} (M : MachineMeaning S) where
     pub to : S
     pub memory : Bytes
     pub steps : ℕ
-    pub fits : Fits M program image.table (store_of node).local (store_of node).text p d f own_row.blocks a own.fields w.common.globals from (store_byte node.memory)
+    pub fits : Fits M program image.table (store_of node).local (store_of node).text p d f own_row.blocks a own.fields
+        w.common.globals from (store_byte node.memory)
     pub native : Native (M.goes image.code.words) (M.stops image.code.words) from (store_byte node.memory) steps to memory
     pub few : steps ≤ suc (words_of image.code a.operation)
     pub landed : Landed program image.table f a' to memory steps node node'
@@ -128,9 +135,13 @@ module _ {S : Type 0} (M : MachineMeaning S) where
     -- the action ends or blocks the process
     Rests : Middle net w p net' → status_at (ir_action w p) p ≢ Some Ready → StepsTo net w p net'
     -- the action made an activation, which rests pending at its entry
-    Waits : (a : IrActivation) → Middle net w p net' → top_of (stack_at (ir_action w p) p) ≡ Some a → a.pending ≡ true → StepsTo net w p net'
+    Waits : (a : IrActivation) → Middle net w p net' → top_of (stack_at (ir_action w p) p) ≡ Some a → a.pending ≡ true →
+        StepsTo net w p net'
     -- the action is done, and code goes on to the next stop
-    Runs : (m : Cluster) (a a' : IrActivation) → Middle net w p m → top_of (stack_at (ir_action w p) p) ≡ Some a → a.pending ≡ false → top_of (stack_at (ir_turn net.program w p) p) ≡ Some a' → GoesOn (ir_action w p) p (length (below_of (stack_at (ir_action w p) p))) a a' m net' → Shows net' (ir_turn net.program w p) → StepsTo net w p net'
+    Runs : (m : Cluster) (a a' : IrActivation) → Middle net w p m → top_of (stack_at (ir_action w p) p) ≡ Some a →
+        a.pending ≡ false → top_of (stack_at (ir_turn net.program w p) p) ≡ Some a' →
+        GoesOn (ir_action w p) p (length (below_of (stack_at (ir_action w p) p))) a a' m net' →
+        Shows net' (ir_turn net.program w p) → StepsTo net w p net'
 
   pub record TurnOf (net : Cluster) (w : IrWorld) (p : ℕ) (net' : Cluster) : Type 0 where
     pub steps : StepsTo net w p net'
@@ -153,7 +164,8 @@ module _ {S : Type 0} (M : MachineMeaning S) where
   -- from a network that shows w, turns and moves lead along the entries
   abbrev pub Along : Parts → Cluster → IrWorld → List RunEntry → Cluster → Type 0
   Along program net w [] net' = net' ≡ net
-  Along program net w (e ∷ es) net' = (m : Cluster) × EntryOf net w e m × Along program m (after_entry ir_meaning (ir_silent program) w e) es net'
+  Along program net w (e ∷ es) net' =
+      (m : Cluster) × EntryOf net w e m × Along program m (after_entry ir_meaning (ir_silent program) w e) es net'
 
   -- each image is faithful to the program
   pub record FaithfulImages (program : Parts) (images : Images) : Type 0 where
@@ -174,7 +186,8 @@ module _ {S : Type 0} (M : MachineMeaning S) where
     pub faithful : FaithfulImages program start.images
     pub counted : length start.nodes ≡ length specs
     pub shows : Shows start (ir_start program (length specs))
-    pub nodes : (k : ℕ) (spec : NodeSpec) (node : NodeStore) → slice_get specs k ≡ Some spec → slice_get start.nodes k ≡ Some node → FirstNode program (ir_start program (length specs)) k spec node
+    pub nodes : (k : ℕ) (spec : NodeSpec) (node : NodeStore) → slice_get specs k ≡ Some spec → slice_get start.nodes k ≡ Some node →
+        FirstNode program (ir_start program (length specs)) k spec node
 
 abbrev pub room_if : Option NodeSpec → Option Room
 room_if None = None

@@ -58,7 +58,8 @@ pub record IsWaiting (program : Parts) (nodes objects : ℕ) (a : IrActivation) 
 pub record FineStack (program : Parts) (nodes objects : ℕ) (activations : List IrActivation) : Type 0 where
   pub bottom : (a : IrActivation) → slice_get activations 0 ≡ Some a → a.operation ≡ 0
   pub upper : (d : ℕ) (a : IrActivation) → slice_get activations (suc d) ≡ Some a → a.operation ≢ 0
-  pub waiting : (d : ℕ) (a b : IrActivation) → slice_get activations d ≡ Some a → slice_get activations (suc d) ≡ Some b → IsWaiting program nodes objects a
+  pub waiting : (d : ℕ) (a b : IrActivation) → slice_get activations d ≡ Some a → slice_get activations (suc d) ≡ Some b →
+      IsWaiting program nodes objects a
   pub top : (a : IrActivation) → top_of activations ≡ Some a → IsPending program nodes objects a
   pub some : 0 < length activations
 
@@ -78,8 +79,10 @@ pub record FineFacts (program : Parts) (w : IrWorld) : Type 0 where
   -- no object has fields so far, nor a monitor
   pub objects : (i : ℕ) (o : ObjectRec) → slice_get w.common.objects i ≡ Some o → (o.fields ≡ []) × (o.monitor ≡ None)
   -- the objects of the nodes come first, and are the only ones of their class; they alone are fixed so far
-  pub node_objects : (i : ℕ) (o : ObjectRec) → slice_get w.common.objects i ≡ Some o → (o.class ≡ Node → i < w.common.nodes) × (i < w.common.nodes → o.class ≡ Node)
-  pub fixed : (i : ℕ) (o : ObjectRec) → slice_get w.common.objects i ≡ Some o → (i < w.common.nodes → o.fixed ≡ true) × (w.common.nodes ≤ i → o.fixed ≡ false)
+  pub node_objects : (i : ℕ) (o : ObjectRec) → slice_get w.common.objects i ≡ Some o →
+      (o.class ≡ Node → i < w.common.nodes) × (i < w.common.nodes → o.class ≡ Node)
+  pub fixed : (i : ℕ) (o : ObjectRec) → slice_get w.common.objects i ≡ Some o →
+      (i < w.common.nodes → o.fixed ≡ true) × (w.common.nodes ≤ i → o.fixed ≡ false)
   -- the class of an object that was made is one of the program's
   pub made : (i k : ℕ) (o : ObjectRec) → slice_get w.common.objects i ≡ Some o → o.class ≡ Made k → k < length program.classes
   pub events : AreEvents (suc w.common.nodes) w.common.events
@@ -87,5 +90,6 @@ pub record FineFacts (program : Parts) (w : IrWorld) : Type 0 where
 
 -- a world between two entries
 pub record FineWorld (program : Parts) (w : IrWorld) : Type 0 where
-  pub each : (p : ℕ) (proc : Proc IrActivation) → slice_get w.processes p ≡ Some proc → FineProcess program w.common.nodes (length w.common.objects) proc.status proc.activations
+  pub each : (p : ℕ) (proc : Proc IrActivation) → slice_get w.processes p ≡ Some proc →
+      FineProcess program w.common.nodes (length w.common.objects) proc.status proc.activations
   pub facts : FineFacts program w

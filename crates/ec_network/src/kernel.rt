@@ -83,7 +83,8 @@ impl Cluster {
     fn print(&mut self, p: Pid, here: Here, operand: u32) -> Result<(), AllocError>
         requires here { IsHere self.old p here }
         requires can { CanReadSlot self.old here operand }
-        ensures { OnOk result ((stop : StopRec) → stop.stop ≡ Stop.Print → stop.operands ≡ operand ∷ [] → Prints self.old self.new p here stop) }
+        ensures { OnOk result
+            ((stop : StopRec) → stop.stop ≡ Stop.Print → stop.operands ≡ operand ∷ [] → Prints self.old self.new p here stop) }
     {
         let node = self.nodes.at_mut(0);
         let word = node.word(here.block, SLOTS + operand);
@@ -95,7 +96,8 @@ impl Cluster {
     fn define(&mut self, p: Pid, here: Here, operand: u32, index: u32)
         requires here { IsHere self.old p here }
         requires can { CanDefineFrom self.old operand index }
-        ensures { (stop : StopRec) → stop.stop ≡ Stop.Global index → stop.operands ≡ operand ∷ [] → Defines self.old self.new p here stop index }
+        ensures { (stop : StopRec) → stop.stop ≡ Stop.Global index → stop.operands ≡ operand ∷ [] →
+            Defines self.old self.new p here stop index }
     {
         let node = self.nodes.at_mut(0);
         let word = node.word(here.block, SLOTS + operand);
@@ -192,7 +194,9 @@ impl Cluster {
     pub(crate) fn act(&mut self, p: Pid, here: Here) -> Result<Acted, ActError>
         requires here { IsHere self.old p here }
         requires can { CanAct self.old p here }
-        ensures acts { IfOk result (λ acted. (stop : StopRec) → stop_at self.old.program here.operation here.at ≡ Some stop → Acts self.old self.new p here stop acted) }
+        ensures acts { IfOk result
+            (λ acted. (stop : StopRec) → stop_at self.old.program here.operation here.at ≡ Some stop →
+            Acts self.old self.new p here stop acted) }
         ensures full { WhenLacks result (FullHere self.old 0) }
         ensures only_new { WhenLacks result (λ need free. CreatesAt self.old here) }
         ensures unchanged { WhenLacks result (λ need free. self.new ≡ self.old) }

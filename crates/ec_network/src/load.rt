@@ -50,7 +50,9 @@ pub(crate) fn load(
     requires nodes { IsOneNode specs.now }
     ensures loaded { IfOk result (λ c. IsLoaded rv_meaning program.now specs.now c) }
     ensures holds { IfOk result (λ c. Holds rv_meaning c (ir_start program.now (length specs.now))) }
-    ensures fits { OnOk result (NoneFull (rooms_of specs.now) nothing (held (ir_start program.now (length specs.now))) NoTexts (FirstTexts program.now (ir_start program.now (length specs.now)))) }
+    ensures fits { OnOk result
+        (NoneFull (rooms_of specs.now) nothing (held (ir_start program.now (length specs.now))) NoTexts
+        (FirstTexts program.now (ir_start program.now (length specs.now)))) }
     ensures full { WhenLoadFull result (LoadFull program.now specs.now 0) }
 {
     let spec = &specs[0];

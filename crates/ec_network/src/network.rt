@@ -142,7 +142,8 @@ impl Network {
         requires numbers { CanNumber self.old }
         ensures turn { IfOk result (λ did. ForShown rv_meaning self.old (λ c w. TurnAnswer rv_meaning c w p self.new did)) }
         ensures few { IfOk result (λ did. steps_of did < 2 ^ 32) }
-        ensures full { WhenFull result (λ node part need free. ForShown rv_meaning self.old (λ c w. EntryFull c w (ir_action w p) node part need free)) }
+        ensures full { WhenFull result
+            (λ node part need free. ForShown rv_meaning self.old (λ c w. EntryFull c w (ir_action w p) node part need free)) }
         ensures unchanged { WhenFull result (λ node part need free. self.new ≡ self.old) }
         ensures not_whole { WhenMemory result (self.new.whole ≡ false) }
     {
@@ -172,7 +173,8 @@ impl Network {
     pub fn operator_move(&mut self, o: Oid, k: NodeNo) -> Result<Did, NetError>
         requires whole { IsTrue self.old.whole }
         ensures moved { IfOk result (λ did. ForShown rv_meaning self.old (λ c w. MoveAnswer rv_meaning c w o k self.new did)) }
-        ensures full { WhenFull result (λ node part need free. ForShown rv_meaning self.old (λ c w. EntryFull c w (OperatorMove w o k) node part need free)) }
+        ensures full { WhenFull result
+            (λ node part need free. ForShown rv_meaning self.old (λ c w. EntryFull c w (OperatorMove w o k) node part need free)) }
         ensures unchanged { WhenFull result (λ node part need free. self.new ≡ self.old) }
         ensures not_whole { WhenMemory result (self.new.whole ≡ false) }
     {
@@ -214,7 +216,8 @@ impl Network {
     /// The name of an object's class, where the object is there.
     pub fn class_name(&self, o: Oid) -> Option<&Text>
         requires whole { IsTrue self.now.whole }
-        ensures some { IfSome result (λ name. ForShown rv_meaning self.now (λ c w. name_if w.common.classes (object_at w.common.objects o) ≡ Some name.now)) }
+        ensures some { IfSome result
+            (λ name. ForShown rv_meaning self.now (λ c w. name_if w.common.classes (object_at w.common.objects o) ≡ Some name.now)) }
         ensures none { IfNone result (ForShown rv_meaning self.now (λ c w. object_at w.common.objects o ≡ None)) }
     {
         self.loaded().class_name(o)

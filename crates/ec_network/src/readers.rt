@@ -41,7 +41,9 @@ impl Cluster {
     /// The name of an object's class, where the object is there.
     pub(crate) fn class_name(&self, o: Oid) -> Option<&Text>
         requires { (w : IrWorld) × Holds rv_meaning self.now w }
-        ensures some { IfSome result (λ name. (w : IrWorld) → Holds rv_meaning self.now w → name_if w.common.classes (object_at w.common.objects o) ≡ Some name.now) }
+        ensures some { IfSome result
+            (λ name. (w : IrWorld) → Holds rv_meaning self.now w →
+            name_if w.common.classes (object_at w.common.objects o) ≡ Some name.now) }
         ensures none { IfNone result ((w : IrWorld) → Holds rv_meaning self.now w → object_at w.common.objects o ≡ None) }
     {
         match self.object_row(o) {

@@ -22,9 +22,11 @@ impl Cluster {
         requires ready { slice_get self.old.statuses p ≡ Some Ready }
         requires objects { length self.old.places < 2 ^ 32 - 1 }
         requires counts { (k : ℕ) → count_of self.old k < 2 ^ 63 }
-        ensures turned { IfOk result (λ steps. (w : IrWorld) → Holds rv_meaning self.old w → Turned rv_meaning self.old w p self.new steps) }
+        ensures turned { IfOk result
+            (λ steps. (w : IrWorld) → Holds rv_meaning self.old w → Turned rv_meaning self.old w p self.new steps) }
         ensures few { IfOk result (λ steps. steps < 2 ^ 32) }
-        ensures full { WhenLacks result (λ need free. (w : IrWorld) → Holds rv_meaning self.old w → EntryFull self.old w (ir_action w p) 0 Blocks need free) }
+        ensures full { WhenLacks result
+            (λ need free. (w : IrWorld) → Holds rv_meaning self.old w → EntryFull self.old w (ir_action w p) 0 Blocks need free) }
         ensures unchanged { WhenLacks result (λ need free. self.new ≡ self.old) }
     {
         let here = self.here(p);

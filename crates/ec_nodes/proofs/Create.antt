@@ -1,5 +1,6 @@
 -- A new object at the place of its maker: first the places grow, then the object is put.
-use Rattle.std.proofs.Common.{◌≡◌, ◌≢◌, ℕ, zero, suc, ◌+◌, ◌<◌, ◌≤◌, List, [], ◌∷◌, ◌++◌, length, Option, Some, None, refl, sym, ap, ◌∙◌, subst, arith, ◌⊎◌, inl, inr, ⊎_elim}
+use Rattle.std.proofs.Common.{◌≡◌, ◌≢◌, ℕ, zero, suc, ◌+◌, ◌<◌, ◌≤◌, List, [], ◌∷◌, ◌++◌, length, Option, Some, None, refl, sym, ap}
+use Rattle.std.proofs.Common.{◌∙◌, subst, arith, ◌⊎◌, inl, inr, ⊎_elim}
 use Rattle.std.specs.Prelude.{slice_get, slice_set}
 use Rattle.ec_world.specs.declared.value.Value.{Value}
 use Rattle.ec_world.specs.declared.object.ObjectRec.{ObjectRec}
@@ -29,37 +30,50 @@ summed_same f g (x ∷ xs) h =
 
 module _ (live : IrActivation → List Value) (spot : IrActivation → Kind → ℕ → Option ℕ) where
   -- places of what isn't there don't matter
-  pub replaced : (nodes : ℕ → Option Store) (w : World IrActivation) (place place' : ℕ → Option ℕ) → ((key : Key) (t : Thing) → things_of live spot w key ≡ Some t → place' t.home ≡ place t.home) → ShowsNodes live spot nodes w place → ShowsNodes live spot nodes w place'
+  pub replaced : (nodes : ℕ → Option Store) (w : World IrActivation) (place place' : ℕ → Option ℕ) →
+      ((key : Key) (t : Thing) → things_of live spot w key ≡ Some t → place' t.home ≡ place t.home) →
+      ShowsNodes live spot nodes w place → ShowsNodes live spot nodes w place'
   replaced nodes w place place' same shows = record {
     things = record {
-      each = λ key t e. let z = shows.things.each key t e in record { node = z.node; store = z.store; home = same key t e ∙ z.home; there = z.there; shown = z.shown };
+      each = λ key t e. let z =
+          shows.things.each key t e
+          in record { node = z.node; store = z.store; home = same key t e ∙ z.home; there = z.there; shown = z.shown };
       only = λ k s key r e f. let z = shows.things.only k s key r e f in (z.0, z.1, same key z.0 z.1 ∙ z.2);
     };
     globals = shows.globals;
     tidy = shows.tidy;
     held = λ k s e.
-        let h : summed (weight place' k) (items live spot w) ≡ summed (weight place k) (items live spot w) = summed_same (weight place' k) (weight place k) (items live spot w) (λ x q. ap (if_at k x.thing.blocks) (same x.key x.thing (item_is live spot w x q))) in
+        let h : summed (weight place' k) (items live spot w) ≡ summed (weight place k) (items live spot w) =
+        summed_same (weight place' k) (weight place k) (items live spot w)
+        (λ x q. ap (if_at k x.thing.blocks) (same x.key x.thing (item_is live spot w x q))) in
         omega (arith, h, held_sum live spot place' k w, held_sum live spot place k w, shows.held k s e);
   }
 
   abbrev pub made_world : World IrActivation → ObjectRec → World IrActivation
   made_world w o = record w { common = record w.common { objects = w.common.objects ++ o ∷ [] } }
 
-  pub made : (place : ℕ → Option ℕ) (w : World IrActivation) (o : ObjectRec) (k : ℕ) → place (suc (length w.common.objects)) ≡ Some k → WorldPut live spot place k w (made_world w o) (Object (suc (length w.common.objects))) (Some (object_thing (suc (length w.common.objects)) o))
+  pub made : (place : ℕ → Option ℕ) (w : World IrActivation) (o : ObjectRec) (k : ℕ) →
+      place (suc (length w.common.objects)) ≡ Some k →
+      WorldPut live spot place k w (made_world w o) (Object (suc (length w.common.objects)))
+      (Some (object_thing (suc (length w.common.objects)) o))
   made place w o k at =
-      let none : things_of live spot w (Object (suc (length w.common.objects))) ≡ None = ap (object_if (suc (length w.common.objects))) (get_past w.common.objects (length w.common.objects) (omega arith)) in
+      let none : things_of live spot w (Object (suc (length w.common.objects))) ≡ None =
+      ap (object_if (suc (length w.common.objects))) (get_past w.common.objects (length w.common.objects) (omega arith)) in
       record {
         thing = record { here = ap (object_if (suc (length w.common.objects))) (get_end w.common.objects o); others = others };
         globals = refl;
         sums = λ j.
-            let t : total (object_weight place j) 0 (w.common.objects ++ o ∷ []) ≡ total (object_weight place j) 0 w.common.objects + object_weight place j (length w.common.objects) o = total_push (object_weight place j) 0 w.common.objects (length w.common.objects) o (omega arith) in
+            let t : total (object_weight place j) 0 (w.common.objects ++ o ∷ []) ≡ total (object_weight place j) 0
+            w.common.objects + object_weight place j (length w.common.objects) o =
+            total_push (object_weight place j) 0 w.common.objects (length w.common.objects) o (omega arith) in
             let u : object_weight place j (length w.common.objects) o ≡ if_at j (blocks_of o) (Some k) = ap (if_at j (blocks_of o)) at in
             rw none (omega (arith, t, u, if_none j k));
         old_at = rw none tt;
         new_at = at;
       }
     where
-      others : (key : Key) → key ≢ Object (suc (length w.common.objects)) → things_of live spot (made_world w o) key ≡ things_of live spot w key
+      others : (key : Key) → key ≢ Object (suc (length w.common.objects)) →
+          things_of live spot (made_world w o) key ≡ things_of live spot w key
       others (Object zero) h = refl
       others (Object (suc j)) h =
           let ne : j ≢ length w.common.objects = λ e. h (ap (λ n. Object (suc n)) e) in

@@ -1,5 +1,6 @@
 -- All things of a world as a list, and what is held as a sum over it.
-use Rattle.std.proofs.Common.{◌≡◌, ◌≢◌, ℕ, zero, suc, ◌+◌, ◌<◌, ◌≤◌, List, [], ◌∷◌, ◌++◌, Option, Some, refl, ap, ◌∙◌, arith, ◌⊎◌, inl, inr, ⊎_elim}
+use Rattle.std.proofs.Common.{◌≡◌, ◌≢◌, ℕ, zero, suc, ◌+◌, ◌<◌, ◌≤◌, List, [], ◌∷◌, ◌++◌, Option, Some, refl, ap, ◌∙◌, arith, ◌⊎◌}
+use Rattle.std.proofs.Common.{inl, inr, ⊎_elim}
 use Rattle.std.specs.Prelude.{slice_get}
 use Rattle.ec_world.specs.declared.value.Value.{Value}
 use Rattle.ec_world.specs.declared.object.ObjectRec.{ObjectRec}
@@ -54,7 +55,8 @@ module _ (live : IrActivation → List Value) (spot : IrActivation → Kind → 
     stack_sum p d [] = refl
     stack_sum p d (a ∷ rest) = ap (λ n. frame_weight place k d a + n) (stack_sum p (suc d) rest)
 
-    process_sum : (p : ℕ) (qs : List (Proc IrActivation)) → summed (weight place k) (process_items p qs) ≡ total (process_weight place k) p qs
+    process_sum : (p : ℕ) (qs : List (Proc IrActivation)) →
+        summed (weight place k) (process_items p qs) ≡ total (process_weight place k) p qs
     process_sum p [] = refl
     process_sum p (q ∷ qs) =
         let a = summed_append (weight place k) (stack_items p 0 q.activations) (process_items (suc p) qs) in
@@ -63,20 +65,31 @@ module _ (live : IrActivation → List Value) (spot : IrActivation → Kind → 
         omega (arith, a, b, c)
 
     pub held_sum : (w : World IrActivation) → summed (weight place k) (items w) ≡ Held place k w
-    held_sum w = omega (arith, summed_append (weight place k) (object_items 0 w.common.objects) (process_items 0 w.processes), object_sum 0 w.common.objects, process_sum 0 w.processes)
+    held_sum w =
+        omega (
+          arith,
+          summed_append (weight place k) (object_items 0 w.common.objects) (process_items 0 w.processes),
+          object_sum 0
+              w.common.objects,
+          process_sum 0 w.processes,
+        )
 
   -- an item is a thing
-  object_is : (i j : ℕ) (os : List ObjectRec) (x : Item) → slice_get (object_items i os) j ≡ Some x → (o : ObjectRec) × (slice_get os j ≡ Some o) × (x ≡ record { key = Object (suc (i + j)); thing = object_thing (suc (i + j)) o })
+  object_is : (i j : ℕ) (os : List ObjectRec) (x : Item) → slice_get (object_items i os) j ≡ Some x →
+      (o : ObjectRec) × (slice_get os j ≡ Some o) × (x ≡ record { key = Object (suc (i + j)); thing = object_thing (suc (i + j)) o })
   object_is i j [] x e = cc
   object_is i zero (o ∷ os) x e = let n : i + 0 ≡ i = omega arith in (o, refl, rw n cc)
   object_is i (suc j) (o ∷ os) x e = let n : i + suc j ≡ suc i + j = omega arith in rw n (object_is (suc i) j os x e)
 
-  stack_is : (p d j : ℕ) (xs : List IrActivation) (x : Item) → slice_get (stack_items p d xs) j ≡ Some x → (a : IrActivation) × (slice_get xs j ≡ Some a) × (x ≡ record { key = Frame p (d + j); thing = frame_thing live spot p (d + j) a })
+  stack_is : (p d j : ℕ) (xs : List IrActivation) (x : Item) → slice_get (stack_items p d xs) j ≡ Some x →
+      (a : IrActivation) × (slice_get xs j ≡ Some a) × (x ≡ record { key = Frame p (d + j); thing = frame_thing live spot p (d + j) a })
   stack_is p d j [] x e = cc
   stack_is p d zero (a ∷ xs) x e = let n : d + 0 ≡ d = omega arith in (a, refl, rw n cc)
   stack_is p d (suc j) (a ∷ xs) x e = let n : d + suc j ≡ suc d + j = omega arith in rw n (stack_is p (suc d) j xs x e)
 
-  process_is : (p i : ℕ) (qs : List (Proc IrActivation)) (x : Item) → slice_get (process_items p qs) i ≡ Some x → (j : ℕ) × (d : ℕ) × (a : IrActivation) × (activation_at qs j d ≡ Some a) × (x ≡ record { key = Frame (p + j) d; thing = frame_thing live spot (p + j) d a })
+  process_is : (p i : ℕ) (qs : List (Proc IrActivation)) (x : Item) → slice_get (process_items p qs) i ≡ Some x →
+      (j : ℕ) × (d : ℕ) × (a : IrActivation) × (activation_at qs j d ≡ Some a)
+      × (x ≡ record { key = Frame (p + j) d; thing = frame_thing live spot (p + j) d a })
   process_is p i [] x e = cc
   process_is p i (q ∷ qs) x e = ⊎_elim
       (λ (h : Has (stack_items p 0 q.activations) x).

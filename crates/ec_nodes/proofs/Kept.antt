@@ -1,5 +1,6 @@
 -- What a store shows, it shows after a change of other owners.
-use Rattle.std.proofs.Common.{◌≡◌, ◌≢◌, ℕ, zero, suc, ◌+◌, ◌*◌, ◌/◌, ◌%◌, ◌<◌, ◌≤◌, Bool, List, [], ◌∷◌, ◌++◌, length, Option, Some, None, refl, sym, ap, ◌∙◌, subst, arith, ◌⊎◌, inl, inr, ⊎_elim}
+use Rattle.std.proofs.Common.{◌≡◌, ◌≢◌, ℕ, zero, suc, ◌+◌, ◌*◌, ◌/◌, ◌%◌, ◌<◌, ◌≤◌, Bool, List, [], ◌∷◌, ◌++◌, length, Option, Some}
+use Rattle.std.proofs.Common.{None, refl, sym, ap, ◌∙◌, subst, arith, ◌⊎◌, inl, inr, ⊎_elim}
 use Rattle.std.specs.Prelude.{slice_get, slice_set}
 use Rattle.ec_world.specs.declared.value.Value.{Value}
 use Rattle.ec_world.specs.declared.value.Value.TheVariants.{Int, Str, Ref, Nil, Bool as Truth}
@@ -20,14 +21,17 @@ stands_kept s s' g Nil word h = h
 pub record SameWords (s s' : Store) (blocks : List ℕ) : Type 0 where
   pub same : (b i : ℕ) → Has blocks b → i < 128 → s'.word b i ≡ s.word b i
 
-word_in_kept : (s s' : Store) (blocks : List ℕ) (j i n : ℕ) (b : Option ℕ) → SameWords s s' blocks → i < 128 → slice_get blocks j ≡ b → word_in s b i ≡ Some n → word_in s' b i ≡ Some n
+word_in_kept : (s s' : Store) (blocks : List ℕ) (j i n : ℕ) (b : Option ℕ) → SameWords s s' blocks → i < 128 →
+    slice_get blocks j ≡ b → word_in s b i ≡ Some n → word_in s' b i ≡ Some n
 word_in_kept s s' blocks j i n None w l e h = cc
 word_in_kept s s' blocks j i n (Some b) w l e h = w.same b i (record { at = j; is = e }) l ∙ h
 
-pub word_kept : (s s' : Store) (blocks : List ℕ) (i n : ℕ) → SameWords s s' blocks → word_of s blocks i ≡ Some n → word_of s' blocks i ≡ Some n
+pub word_kept : (s s' : Store) (blocks : List ℕ) (i n : ℕ) → SameWords s s' blocks → word_of s blocks i ≡ Some n →
+    word_of s' blocks i ≡ Some n
 word_kept s s' blocks i n w h = word_in_kept s s' blocks (i / 128) (i % 128) n (slice_get blocks (i / 128)) w (omega arith) refl h
 
-pub at_kept : (s s' : Store) (blocks : List ℕ) (at : ℕ) (v : Value) → Grown s s' → SameWords s s' blocks → StandsAt s blocks at v → StandsAt s' blocks at v
+pub at_kept : (s s' : Store) (blocks : List ℕ) (at : ℕ) (v : Value) → Grown s s' → SameWords s s' blocks → StandsAt s blocks at v →
+    StandsAt s' blocks at v
 at_kept s s' blocks at v g w h = record {
   word = h.word;
   there = word_kept s s' blocks at h.word w h.there;

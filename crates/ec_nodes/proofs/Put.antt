@@ -1,5 +1,6 @@
 -- One owner at one node has changed.
-use Rattle.std.proofs.Common.{◌≡◌, ◌≢◌, ℕ, zero, suc, ◌+◌, ◌<◌, ◌≤◌, List, [], ◌∷◌, Option, Some, None, refl, sym, ap, ◌∙◌, subst, arith, ◌⊎◌, inl, inr, ⊎_elim}
+use Rattle.std.proofs.Common.{◌≡◌, ◌≢◌, ℕ, zero, suc, ◌+◌, ◌<◌, ◌≤◌, List, [], ◌∷◌, Option, Some, None, refl, sym, ap, ◌∙◌, subst}
+use Rattle.std.proofs.Common.{arith, ◌⊎◌, inl, inr, ⊎_elim}
 use Rattle.ec_nodes.specs.declared.key.Key.{Key}
 use Rattle.ec_nodes.specs.declared.key.Key.TheVariants.{Object, Frame}
 use Rattle.ec_nodes.specs.Store.{Store, Owned, Grown, KeptRow, Tidy}
@@ -47,9 +48,13 @@ module _ (nodes nodes' : ℕ → Option Store) (k : ℕ) (s s' : Store) (n : Nod
       (λ (other : j ≢ k). (x, sym (n.others j other) ∙ e))
       (same_or_not j k)
 
-module _ (nodes nodes' : ℕ → Option Store) (things things' : Key → Option Thing) (place : ℕ → Option ℕ) (k : ℕ) (s s' : Store) (key : Key) (now : Option Thing) (shows : ShowsThings nodes things place) (n : NodePut nodes nodes' k s s') (puts : Puts s s' key now) (t : ThingPut things things' key now) (old_at : IsAt place k (things key)) (new_at : IsAt place k now) where
+module _ (nodes nodes' : ℕ → Option Store) (things things' : Key → Option Thing) (place : ℕ → Option ℕ) (k : ℕ) (s s' : Store)
+    (key : Key) (now : Option Thing) (shows : ShowsThings nodes things place) (n : NodePut nodes nodes' k s s')
+    (puts : Puts s s' key now) (t : ThingPut things things' key now) (old_at : IsAt place k (things key))
+    (new_at : IsAt place k now) where
   -- at another node the owner has no blocks
-  nowhere : (x : Option Thing) → things key ≡ x → IsAt place k x → (j : ℕ) (y : Store) (r : Owned) → j ≢ k → nodes j ≡ Some y → y.row key ≡ Some r → ⊥
+  nowhere : (x : Option Thing) → things key ≡ x → IsAt place k x → (j : ℕ) (y : Store) (r : Owned) → j ≢ k → nodes j ≡ Some y →
+      y.row key ≡ Some r → ⊥
   nowhere None e at j y r ne h f = let z = shows.only j y key r h f in cc
   nowhere (Some u) e at j y r ne h f =
       let z = shows.only j y key r h f in
@@ -57,24 +62,28 @@ module _ (nodes nodes' : ℕ → Option Store) (things things' : Key → Option 
       let here : place z.0.home ≡ Some k = ap (λ (q : Thing). place q.home) is ∙ at in
       ne cc
 
-  shown_now : (x : Option Thing) → now ≡ x → ShowsHere s' key x → IsAt place k x → (u : Thing) → things' key ≡ Some u → ShownAt nodes' place key u
+  shown_now : (x : Option Thing) → now ≡ x → ShowsHere s' key x → IsAt place k x → (u : Thing) → things' key ≡ Some u →
+      ShownAt nodes' place key u
   shown_now None e h at u f = cc (t.here)
   shown_now (Some v) e h at u f =
       let is : v ≡ u = cc (t.here) in
       subst (λ (q : Thing). ShownAt nodes' place key q) is (record { node = k; store = s'; home = at; there = n.after; shown = h })
 
-  only_now : (x : Option Thing) → now ≡ x → ShowsHere s' key x → IsAt place k x → (r : Owned) → s'.row key ≡ Some r → (u : Thing) × (things' key ≡ Some u) × (place u.home ≡ Some k)
+  only_now : (x : Option Thing) → now ≡ x → ShowsHere s' key x → IsAt place k x → (r : Owned) → s'.row key ≡ Some r →
+      (u : Thing) × (things' key ≡ Some u) × (place u.home ≡ Some k)
   only_now None e h at r f = cc
   only_now (Some v) e h at r f = (v, t.here ∙ e, at)
 
-  only_here : (j : ℕ) (y : Store) (other : Key) (r : Owned) → other ≡ key → nodes' j ≡ Some y → y.row other ≡ Some r → (u : Thing) × (things' other ≡ Some u) × (place u.home ≡ Some j)
+  only_here : (j : ℕ) (y : Store) (other : Key) (r : Owned) → other ≡ key → nodes' j ≡ Some y → y.row other ≡ Some r →
+      (u : Thing) × (things' other ≡ Some u) × (place u.home ≡ Some j)
   only_here j y other r e h f = ⊎_elim
       (λ (same : j ≡ k).
       let after : nodes' j ≡ Some s' = ap nodes' same ∙ n.after in
       let is : y ≡ s' = cc in
       let row : s'.row key ≡ Some r = rw (is, e) at f in
       rw (same, e) (only_now now refl puts.here new_at r row))
-      (λ (ne : j ≢ k). let row : y.row key ≡ Some r = rw e at f in absurd (nowhere (things key) refl old_at j y r ne (sym (n.others j ne) ∙ h) row))
+      (λ (ne : j ≢ k). let row : y.row key ≡ Some r =
+      rw e at f in absurd (nowhere (things key) refl old_at j y r ne (sym (n.others j ne) ∙ h) row))
       (same_or_not j k)
 
   pub put_shows : ShowsThings nodes' things' place
@@ -83,7 +92,8 @@ module _ (nodes nodes' : ℕ → Option Store) (things things' : Key → Option 
     decided = λ other. key_or_not other key;
     same = λ other h. t.others other h;
     stay = λ other u h e. refl;
-    forth = λ j x e. forth_by nodes nodes' k s s' n (λ other. other ≡ key) (record { grown = puts.grown; rows = λ other h. puts.others other h }) j x e;
+    forth = λ j x e. forth_by nodes nodes' k s s' n (λ other. other ≡ key)
+        (record { grown = puts.grown; rows = λ other h. puts.others other h }) j x e;
     back = back_by nodes nodes' k s s' n;
     shown = λ other u h e. let e' : things' key ≡ Some u = rw h at e in rw h (shown_now now refl puts.here new_at u e');
     only = λ j y other r h e f. only_here j y other r h e f;

@@ -1,5 +1,6 @@
 -- A native run: the top activation and its own object have changed at their node, and nothing else.
-use Rattle.std.proofs.Common.{◌≡◌, ◌≢◌, ℕ, zero, suc, ◌+◌, ◌*◌, ◌/◌, ◌<◌, ◌≤◌, List, [], ◌∷◌, ◌++◌, Option, Some, refl, sym, ap, ◌∙◌, arith, ◌⊎◌, inl, inr, ⊎_elim}
+use Rattle.std.proofs.Common.{◌≡◌, ◌≢◌, ℕ, zero, suc, ◌+◌, ◌*◌, ◌/◌, ◌<◌, ◌≤◌, List, [], ◌∷◌, ◌++◌, Option, Some, refl, sym, ap}
+use Rattle.std.proofs.Common.{◌∙◌, arith, ◌⊎◌, inl, inr, ⊎_elim}
 use Rattle.std.specs.Prelude.{slice_get, slice_set}
 use Rattle.ec_world.specs.declared.value.Value.{Value}
 use Rattle.ec_world.specs.declared.object.ObjectRec.{ObjectRec}
@@ -16,9 +17,14 @@ use Rattle.ec_nodes.proofs.Procs.{activation_here, activation_there, activation_
 
 -- the world after: object i + 1 and the activation at depth d of process p are others
 abbrev pub ran_world : World IrActivation → ℕ → ObjectRec → ℕ → Proc IrActivation → World IrActivation
-ran_world w i o p proc = record { common = record w.common { objects = slice_set w.common.objects i o }; processes = slice_set w.processes p proc }
+ran_world w i o p proc =
+    record { common = record w.common { objects = slice_set w.common.objects i o }; processes = slice_set w.processes p proc }
 
-module _ (live : IrActivation → List Value) (spot : IrActivation → Kind → ℕ → Option ℕ) (place : ℕ → Option ℕ) (w : World IrActivation) (i p d k : ℕ) (o o' : ObjectRec) (proc proc' : Proc IrActivation) (a a' : IrActivation) (object_is : slice_get w.common.objects i ≡ Some o) (is : slice_get w.processes p ≡ Some proc) (top : slice_get proc.activations d ≡ Some a) (next : proc'.activations ≡ slice_set proc.activations d a') (own : a.own ≡ suc i) (own' : a'.own ≡ suc i) (at : place (suc i) ≡ Some k) (size : blocks_of o' ≡ blocks_of o) where
+module _ (live : IrActivation → List Value) (spot : IrActivation → Kind → ℕ → Option ℕ) (place : ℕ → Option ℕ)
+    (w : World IrActivation) (i p d k : ℕ) (o o' : ObjectRec) (proc proc' : Proc IrActivation) (a a' : IrActivation)
+    (object_is : slice_get w.common.objects i ≡ Some o) (is : slice_get w.processes p ≡ Some proc)
+    (top : slice_get proc.activations d ≡ Some a) (next : proc'.activations ≡ slice_set proc.activations d a')
+    (own : a.own ≡ suc i) (own' : a'.own ≡ suc i) (at : place (suc i) ≡ Some k) (size : blocks_of o' ≡ blocks_of o) where
   abbrev w' : World IrActivation
   w' = ran_world w i o' p proc'
 
@@ -44,7 +50,9 @@ module _ (live : IrActivation → List Value) (spot : IrActivation → Kind → 
   old_frame = ap (frame_if live spot p d) (activation_is w.processes p d proc is ∙ top)
 
   new_frame : things_of live spot w' (Frame p d) ≡ Some (frame_thing live spot p d a')
-  new_frame = ap (frame_if live spot p d) (activation_here w.processes p d proc' (get_within w.processes p proc is) ∙ ap (λ xs. slice_get xs d) next ∙ get_set_same proc.activations d a' (get_within proc.activations d a top))
+  new_frame = ap (frame_if live spot p d)
+      (activation_here w.processes p d proc' (get_within w.processes p proc is) ∙ ap (λ xs. slice_get xs d) next
+      ∙ get_set_same proc.activations d a' (get_within proc.activations d a top))
 
   others : (key : Key) → (Touched key → ⊥) → things_of live spot w' key ≡ things_of live spot w key
   others (Object zero) h = refl
@@ -54,7 +62,9 @@ module _ (live : IrActivation → List Value) (spot : IrActivation → Kind → 
   others (Frame q e) h = ⊎_elim
       (λ (same : q ≡ p).
       let off : e ≢ d = λ x. h (inr cc) in
-      let there : activation_at (slice_set w.processes p proc') p e ≡ activation_at w.processes p e = activation_here w.processes p e proc' (get_within w.processes p proc is) ∙ ap (λ xs. slice_get xs e) next ∙ get_set_other proc.activations d e a' off ∙ sym (activation_is w.processes p e proc is) in
+      let there : activation_at (slice_set w.processes p proc') p e ≡ activation_at w.processes p e =
+      activation_here w.processes p e proc' (get_within w.processes p proc is) ∙ ap (λ xs. slice_get xs e) next
+      ∙ get_set_other proc.activations d e a' off ∙ sym (activation_is w.processes p e proc is) in
       rw same (ap (frame_if live spot p e) there))
       (λ (ne : q ≢ p). ap (frame_if live spot q e) (activation_there w.processes p q e proc' ne))
       (same_or_not q p)

@@ -1,5 +1,6 @@
 -- Sums over lists that have the same items.
-use Rattle.std.proofs.Common.{◌≡◌, ◌≢◌, ℕ, zero, suc, ◌+◌, ◌<◌, ◌≤◌, List, [], ◌∷◌, ◌++◌, length, Option, Some, None, refl, sym, ap, ◌∙◌, subst, arith, ◌⊎◌, inl, inr, ⊎_elim}
+use Rattle.std.proofs.Common.{◌≡◌, ◌≢◌, ℕ, zero, suc, ◌+◌, ◌<◌, ◌≤◌, List, [], ◌∷◌, ◌++◌, length, Option, Some, None, refl, sym, ap}
+use Rattle.std.proofs.Common.{◌∙◌, subst, arith, ◌⊎◌, inl, inr, ⊎_elim}
 use Rattle.std.specs.Prelude.{slice_get}
 use Rattle.ec_nodes.specs.Store.{Store, text_bytes}
 use Rattle.ec_world.specs.Group.{Has}
@@ -29,10 +30,12 @@ module _ {A : Type 0} where
   has_without (x ∷ xs) (suc i) (suc j) y e h = let t = has_without xs i j y e (λ q. h (ap suc q)) in record { at = suc t.at; is = t.is }
 
   -- each item of one list counts nothing or is in the other, where it counts as much
-  pub summed_le : (f g : A → ℕ) (xs ys : List A) → Distinct xs → ((x : A) → Has xs x → (f x ≡ 0) ⊎ (Has ys x × (f x ≤ g x))) → summed f xs ≤ summed g ys
+  pub summed_le : (f g : A → ℕ) (xs ys : List A) → Distinct xs → ((x : A) → Has xs x → (f x ≡ 0) ⊎ (Has ys x × (f x ≤ g x))) →
+      summed f xs ≤ summed g ys
   summed_le f g [] ys once h = omega arith
   summed_le f g (x ∷ xs) ys once h = ⊎_elim
-      (λ (none : f x ≡ 0). let t : summed f xs ≤ summed g ys = summed_le f g xs ys rest (λ y q. h y (record { at = suc q.at; is = q.is })) in omega arith)
+      (λ (none : f x ≡ 0). let t : summed f xs ≤ summed g ys =
+      summed_le f g xs ys rest (λ y q. h y (record { at = suc q.at; is = q.is })) in omega arith)
       (λ (there : Has ys x × (f x ≤ g x)).
       let t : summed f xs ≤ summed g (without ys there.0.at) = summed_le f g xs (without ys there.0.at) rest (λ y q. ⊎_elim
       (λ (z : f y ≡ 0). inl z)
@@ -59,6 +62,8 @@ text_sum (x ∷ xs) = ap (λ n. length x + n) (text_sum xs)
 -- how many bytes are new depends on no order
 pub new_bytes_once : (Wanted : List ℕ → Type 0) (s : Store) (n m : ℕ) → NewBytes Wanted s n → NewBytes Wanted s m → n ≡ m
 new_bytes_once Wanted s n m a b =
-    let there : summed length a.texts ≤ summed length b.texts = summed_le length length a.texts b.texts a.once (λ x h. inr ((b.these x).1 ((a.these x).0 h), omega arith)) in
-    let back : summed length b.texts ≤ summed length a.texts = summed_le length length b.texts a.texts b.once (λ x h. inr ((a.these x).1 ((b.these x).0 h), omega arith)) in
+    let there : summed length a.texts ≤ summed length b.texts =
+    summed_le length length a.texts b.texts a.once (λ x h. inr ((b.these x).1 ((a.these x).0 h), omega arith)) in
+    let back : summed length b.texts ≤ summed length a.texts =
+    summed_le length length b.texts a.texts b.once (λ x h. inr ((a.these x).1 ((b.these x).0 h), omega arith)) in
     omega (arith, a.bytes, b.bytes, text_sum a.texts, text_sum b.texts)

@@ -1,5 +1,6 @@
 -- Some owners have changed, and nothing else.
-use Rattle.std.proofs.Common.{◌≡◌, ◌≢◌, ℕ, zero, suc, ◌+◌, ◌<◌, ◌≤◌, List, [], ◌∷◌, Option, Some, None, refl, sym, ap, ◌∙◌, subst, arith, ◌⊎◌, inl, inr, ⊎_elim}
+use Rattle.std.proofs.Common.{◌≡◌, ◌≢◌, ℕ, zero, suc, ◌+◌, ◌<◌, ◌≤◌, List, [], ◌∷◌, Option, Some, None, refl, sym, ap, ◌∙◌, subst}
+use Rattle.std.proofs.Common.{arith, ◌⊎◌, inl, inr, ⊎_elim}
 use Rattle.ec_nodes.specs.declared.key.Key.{Key}
 use Rattle.ec_nodes.specs.Store.{Store, Owned, Grown, KeptRow}
 use Rattle.ec_world.specs.Group.{Has}
@@ -24,9 +25,11 @@ pub record Touches (nodes nodes' : ℕ → Option Store) (things things' : Key �
   pub forth : (k : ℕ) (s : Store) → nodes k ≡ Some s → NodeAfter Touched nodes' k s
   pub back : (k : ℕ) (s' : Store) → nodes' k ≡ Some s' → (s : Store) × (nodes k ≡ Some s)
   pub shown : (key : Key) (t : Thing) → Touched key → things' key ≡ Some t → ShownAt nodes' place' key t
-  pub only : (k : ℕ) (s : Store) (key : Key) (r : Owned) → Touched key → nodes' k ≡ Some s → s.row key ≡ Some r → (t : Thing) × (things' key ≡ Some t) × (place' t.home ≡ Some k)
+  pub only : (k : ℕ) (s : Store) (key : Key) (r : Owned) → Touched key → nodes' k ≡ Some s → s.row key ≡ Some r →
+      (t : Thing) × (things' key ≡ Some t) × (place' t.home ≡ Some k)
 
-module _ (nodes nodes' : ℕ → Option Store) (things things' : Key → Option Thing) (place place' : ℕ → Option ℕ) (shows : ShowsThings nodes things place) (c : Touches nodes nodes' things things' place place') where
+module _ (nodes nodes' : ℕ → Option Store) (things things' : Key → Option Thing) (place place' : ℕ → Option ℕ)
+    (shows : ShowsThings nodes things place) (c : Touches nodes nodes' things things' place place') where
   each_after : (key : Key) (t : Thing) → things' key ≡ Some t → ShownAt nodes' place' key t
   each_after key t e = ⊎_elim
       (λ (h : c.Touched key). c.shown key t h e)
@@ -43,7 +46,8 @@ module _ (nodes nodes' : ℕ → Option Store) (things things' : Key → Option 
       })
       (c.decided key)
 
-  only_after : (k : ℕ) (s : Store) (key : Key) (r : Owned) → nodes' k ≡ Some s → s.row key ≡ Some r → (t : Thing) × (things' key ≡ Some t) × (place' t.home ≡ Some k)
+  only_after : (k : ℕ) (s : Store) (key : Key) (r : Owned) → nodes' k ≡ Some s → s.row key ≡ Some r →
+      (t : Thing) × (things' key ≡ Some t) × (place' t.home ≡ Some k)
   only_after k s key r e f = ⊎_elim
       (λ (h : c.Touched key). c.only k s key r h e f)
       (λ (h : c.Touched key → ⊥).

@@ -1,6 +1,7 @@
 -- What a node keeps, as functions, whatever the order of its bytes and the layout of its tables; and when a word stands
 -- for a value.
-use Rattle.std.specs.Prelude.{◌≡◌, ℕ, zero, suc, ◌+◌, ◌*◌, ◌/◌, ◌%◌, ◌<◌, Bool, List, [], ◌∷◌, length, Option, Some, None, slice_get, if◌then◌else◌}
+use Rattle.std.specs.Prelude.{◌≡◌, ℕ, zero, suc, ◌+◌, ◌*◌, ◌/◌, ◌%◌, ◌<◌, Bool, List, [], ◌∷◌, length, Option, Some, None}
+use Rattle.std.specs.Prelude.{slice_get, if◌then◌else◌}
 use mir.Val.{of_z}
 use mir.Syntax.{w32}
 use Rattle.ec_world.specs.declared.value.Value.{Value}

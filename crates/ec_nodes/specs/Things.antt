@@ -1,5 +1,6 @@
 -- Objects and activations alike: what lies in blocks at the place of an object.
-use Rattle.std.specs.Prelude.{◌≡◌, ◌≢◌, ◌⊎◌, ℕ, ◌+◌, ◌*◌, ◌/◌, max, Bool, false, List, [], ◌∷◌, length, Option, Some, None, slice_get, if◌then◌else◌}
+use Rattle.std.specs.Prelude.{◌≡◌, ◌≢◌, ◌⊎◌, ℕ, ◌+◌, ◌*◌, ◌/◌, max, Bool, false, List, [], ◌∷◌, length, Option, Some, None}
+use Rattle.std.specs.Prelude.{slice_get, if◌then◌else◌}
 use Rattle.ec_world.specs.declared.value.Value.{Value}
 use Rattle.ec_world.specs.declared.object.ObjectRec.{ObjectRec}
 use Rattle.ec_monitors.specs.declared.record.MonitorRec.{MonitorRec}
@@ -41,7 +42,18 @@ abbrev pub in_order : Kind → ℕ → Option ℕ
 in_order kind i = Some i
 
 abbrev pub object_thing : ℕ → ObjectRec → Thing
-object_thing oid o = record { home = oid; blocks = blocks_of o; class = Some o.class; fixed = o.fixed; monitor = o.monitor; heads = []; values = o.fields; spot = in_order }
+object_thing oid o =
+    record {
+      home = oid;
+      blocks = blocks_of o;
+      class = Some o.class;
+      fixed = o.fixed;
+      monitor = o.monitor;
+      heads = [];
+      values =
+          o.fields;
+      spot = in_order;
+    }
 
 abbrev pub object_if : ℕ → Option ObjectRec → Option Thing
 object_if oid None = None
@@ -98,7 +110,8 @@ pub record ShownAt (nodes : ℕ → Option Store) (place : ℕ → Option ℕ) (
 -- each thing is at its place, and nothing else is anywhere
 pub record ShowsThings (nodes : ℕ → Option Store) (things : Key → Option Thing) (place : ℕ → Option ℕ) : Type 0 where
   pub each : (key : Key) (t : Thing) → things key ≡ Some t → ShownAt nodes place key t
-  pub only : (k : ℕ) (s : Store) (key : Key) (r : Owned) → nodes k ≡ Some s → s.row key ≡ Some r → (t : Thing) × (things key ≡ Some t) × (place t.home ≡ Some k)
+  pub only : (k : ℕ) (s : Store) (key : Key) (r : Owned) → nodes k ≡ Some s → s.row key ≡ Some r →
+      (t : Thing) × (things key ≡ Some t) × (place t.home ≡ Some k)
 
 -- what a store shows of an owner: a thing, or nothing
 abbrev pub ShowsHere : Store → Key → Option Thing → Type 0

@@ -12,6 +12,7 @@ module _ (live : IrActivation → List Value) (spot : IrActivation → Kind → 
   pub record WorldPut (k : ℕ) (w w' : World IrActivation) (key : Key) (now : Option Thing) : Type 0 where
     pub thing : ThingPut (things_of live spot w) (things_of live spot w') key now
     pub globals : w'.common.globals ≡ w.common.globals
-    pub sums : (j : ℕ) → Held place j w' + if_at j (size_of (things_of live spot w key)) (Some k) ≡ Held place j w + if_at j (size_of now) (Some k)
+    pub sums : (j : ℕ) → Held place j w' + if_at j (size_of (things_of live spot w key)) (Some k) ≡ Held place j w + if_at j
+        (size_of now) (Some k)
     pub old_at : IsAt place k (things_of live spot w key)
     pub new_at : IsAt place k now

@@ -13,7 +13,8 @@ kept_at names name i e =
     (i, h.0, (bytes_eq-Decides (get_or names i name) name).0 h.1)
 
 -- a name that isn't kept has the count of all others
-pub count_at-other : (names : List (List ℕ)) (name : List ℕ) (counts : List ℕ) (others : ℕ) (p : Option ℕ) → place_of names name ≡ p → ¬ Contains names name → count_at counts others p ≡ others
+pub count_at-other : (names : List (List ℕ)) (name : List ℕ) (counts : List ℕ) (others : ℕ) (p : Option ℕ) →
+    place_of names name ≡ p → ¬ Contains names name → count_at counts others p ≡ others
 count_at-other names name counts others None e h = refl
 count_at-other names name counts others (Some i) e h = absurd (h (kept_at names name i e))
 

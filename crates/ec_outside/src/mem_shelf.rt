@@ -1,5 +1,6 @@
 //! A shelf in memory that fails the calls it is told to: for tests, and for callers that have their files at hand.
-ghost use Rattle.std.specs.Prelude.{◌≡◌, ℕ, ◌+◌, ◌-◌, ◌<◌, ◌≤◌, ◌↔◌, ◌⊎◌, ⊤, List, min, map, take, drop, length, IfOk, OnOk, OnErr, OnSome, IfSome, IsNone, IsErr, Contains, option_copied};
+ghost use Rattle.std.specs.Prelude.{◌≡◌, ℕ, ◌+◌, ◌-◌, ◌<◌, ◌≤◌, ◌↔◌, ◌⊎◌, ⊤, List, min, map, take, drop, length, IfOk, OnOk, OnErr};
+ghost use Rattle.std.specs.Prelude.{OnSome, IfSome, IsNone, IsErr, Contains, option_copied};
 ghost use Rattle.ec_outside.specs.Fault.{HasRisen, ShareCount, count_of};
 ghost use Rattle.ec_outside.specs.MemShelf.{IsToFail, file_of, names_of, next_call};
 ghost use Rattle.ec_outside.specs.Shelf.{ReadsFile};
@@ -122,7 +123,8 @@ impl<'a> MemShelf<'a> {
 
     /// What the file of a name holds, where there is one and the call under way isn't listed.
     fn answering(&self, name: &str) -> Option<&'a [u8]>
-        ensures some { OnSome result (¬ Contains self.now.failing self.now.calls × (option_copied result ≡ file_of self.now.files name.now)) }
+        ensures some { OnSome result
+            (¬ Contains self.now.failing self.now.calls × (option_copied result ≡ file_of self.now.files name.now)) }
         ensures none { IsNone result → Contains self.now.failing self.now.calls ⊎ IsNone (file_of self.now.files name.now) }
     {
         if self.failing.contains(&self.calls) {

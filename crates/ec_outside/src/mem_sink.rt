@@ -1,5 +1,6 @@
 //! A sink in memory that fails the calls it is told to.
-ghost use Rattle.std.specs.Prelude.{◌≡◌, ◌-◌, ◌<◌, ◌≤◌, ◌↔◌, ◌⊎◌, ⊤, [], ◌++◌, min, take, length, IfOk, OnOk, OnErr, OnSome, IfSome, IsNone, IsErr, Contains};
+ghost use Rattle.std.specs.Prelude.{◌≡◌, ◌-◌, ◌<◌, ◌≤◌, ◌↔◌, ◌⊎◌, ⊤, [], ◌++◌, min, take, length, IfOk, OnOk, OnErr, OnSome, IfSome};
+ghost use Rattle.std.specs.Prelude.{IsNone, IsErr, Contains};
 ghost use Rattle.ec_outside.specs.Fault.{HasRisen};
 ghost use Rattle.ec_outside.specs.MemShelf.{next_call};
 ghost use Rattle.ec_outside.specs.MemSink.{IsToFail};
@@ -97,7 +98,8 @@ impl<'a> MemSink<'a> {
         ensures some { IfSome result (λ n. n ≡ min (min (length piece.now) self.now.piece) (ROOM - length self.now.taken)) }
         ensures allowed { OnSome result (¬ Contains self.now.failing self.now.calls) }
         ensures moves { IfSome result (λ n. 0 < length piece.now → 0 < n) }
-        ensures none { IsNone result → Contains self.now.failing self.now.calls ⊎ ((0 < length piece.now) × (length self.now.taken ≡ ROOM)) }
+        ensures none { IsNone result →
+            Contains self.now.failing self.now.calls ⊎ ((0 < length piece.now) × (length self.now.taken ≡ ROOM)) }
     {
         if self.failing.contains(&self.calls) {
             return None;

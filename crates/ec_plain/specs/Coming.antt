@@ -14,8 +14,10 @@ use Rattle.ec_world.specs.declared.run.Entry.{Entry}
 use Rattle.ec_world.specs.declared.world.World.{World}
 
 -- the run of a source on n nodes comes to a world
-abbrev pub SourceComes : (s : Source) (n : ℕ) (schedule : List Entry) (budget : ℕ) → List ProcStatus → Progress → World SourceActivation → Type 0
-SourceComes s n schedule budget statuses progress v = Comes source_meaning (source_silent s) (source_start s n) schedule budget statuses progress v
+abbrev pub SourceComes : (s : Source) (n : ℕ) (schedule : List Entry) (budget : ℕ) → List ProcStatus → Progress →
+    World SourceActivation → Type 0
+SourceComes s n schedule budget statuses progress v =
+    Comes source_meaning (source_silent s) (source_start s n) schedule budget statuses progress v
 
 -- the run of a meaning's source on its nodes comes to its world
 abbrev pub MeaningComes : Meaning → List Entry → ℕ → List ProcStatus → Progress → Meaning → Type 0

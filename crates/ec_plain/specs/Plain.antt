@@ -20,9 +20,11 @@ source_run s n schedule k = run_after source_meaning (source_silent s) (source_s
 
 -- The run of a source on nodes along a schedule, within a budget of entries, has ended after so many of them; its status, and its
 -- report without lines of nodes.
-pub record IsPlainRun (s : Source) (specs : List NodeSpec) (schedule : List Entry) (budget : ℕ) (status : Status) (text : List ℕ) : Type 0 where
+pub record IsPlainRun (s : Source) (specs : List NodeSpec) (schedule : List Entry) (budget : ℕ) (status : Status) (text : List ℕ) :
+    Type 0 where
   pub entries : ℕ
   pub how : RunEnd
-  pub run : Run source_meaning (source_silent s) (source_start s (length specs)) schedule budget entries (source_run s (length specs) schedule entries) how
+  pub run : Run source_meaning (source_silent s) (source_start s (length specs)) schedule budget entries
+      (source_run s (length specs) schedule entries) how
   pub status_is : status ≡ status_of (statuses_of (source_run s (length specs) schedule entries).world) (Ends how)
   pub text_is : text ≡ report (class_name s) (source_run s (length specs) schedule entries).world specs [] entries (Ends how)

@@ -27,7 +27,8 @@ pub(crate) fn report(
     end: ReportEnd,
 ) -> Result<Vec<u8>, AllocError>
     requires statuses { statuses.now ≡ statuses_of meaning.now.world }
-    ensures { IfOk result (λ text. text.items ≡ report (class_name (source_of meaning.now.program)) meaning.now.world specs.now [] turns end) }
+    ensures { IfOk result
+        (λ text. text.items ≡ report (class_name (source_of meaning.now.program)) meaning.now.world specs.now [] turns end) }
 {
     let mut out = Vec::new(alloc);
     out.extend_from_slice(meaning.output().as_slice())?;
@@ -47,7 +48,8 @@ fn push_objects(
     specs: &[NodeSpec],
     out: &mut Vec<u8>,
 ) -> Result<(), AllocError>
-    ensures { OnOk result (out.new.items ≡ out.old.items ++ lines_of_objects (class_name (source_of meaning.now.program)) meaning.now.world specs.now) }
+    ensures { OnOk result
+        (out.new.items ≡ out.old.items ++ lines_of_objects (class_name (source_of meaning.now.program)) meaning.now.world specs.now) }
 {
     let placement = meaning.placement()?;
     let Some(mut oid) = meaning.world.common.nodes.checked_add(1) else {
@@ -72,7 +74,9 @@ fn push_object(
     out: &mut Vec<u8>,
 ) -> Result<bool, AllocError>
     requires { placement.now ≡ places meaning.now.world.common.nodes meaning.now.world.common.events }
-    ensures { IfOk result (λ there. PushesObject (class_name (source_of meaning.now.program)) meaning.now.world specs.now oid out.old.items out.new.items there) }
+    ensures { IfOk result
+        (λ there. PushesObject (class_name (source_of meaning.now.program)) meaning.now.world specs.now oid out.old.items
+        out.new.items there) }
 {
     let Some(object) = meaning.world.common.object(oid) else {
         return Ok(false);

@@ -45,7 +45,9 @@ fn tell(
     ended: Ended,
 ) -> Result<Answer, AllocError>
     ensures status { IfOk result (λ answer. answer.status ≡ status_of (statuses_of meaning.now.world) ended.end) }
-    ensures text { IfOk result (λ answer. answer.text.items ≡ report (class_name (source_of meaning.now.program)) meaning.now.world specs.now [] ended.done ended.end) }
+    ensures text { IfOk result
+        (λ answer. answer.text.items ≡ report (class_name (source_of meaning.now.program)) meaning.now.world specs.now [] ended.done
+        ended.end) }
 {
     let statuses = statuses_in(alloc, meaning)?;
     let text = report(alloc, meaning, specs, &statuses, ended.done, ended.end)?;

@@ -27,7 +27,18 @@ use Rattle.ec_printing.specs.declared.activation.SourceActivation.{SourceActivat
 
 -- operation 1 is the constructor's operation 0; the constructor has no fields, no monitor and no process section
 abbrev pub class_of : ObjectConstructor → ClassRec
-class_of o = record { name = o.name.text; initial = 1; process = None; monitored = false; conditions = 0; fields = []; operations = []; conforms = [] }
+class_of o =
+    record {
+      name = o.name.text;
+      initial = 1;
+      process = None;
+      monitored = false;
+      conditions = 0;
+      fields = [];
+      operations =
+          [];
+      conforms = [];
+    }
 
 abbrev pub classes_if : Option Constant → List ClassRec
 classes_if None = []

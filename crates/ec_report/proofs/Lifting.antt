@@ -16,12 +16,14 @@ if_ok_two P Q R (Err e) p q f = tt
 said_of : (P : Status → List ℕ → Type 0) (a : Answer) (s : Status) (t : List ℕ) → Says a s t → P s t → P a.status a.text.items
 said_of P a s t e p = rw (e.0, e.1) p
 
-pub said : {E : Type 0} (P : Status → List ℕ → Type 0) (s : Status) (t : List ℕ) (r : Result Answer E) → IfOk r (λ a. Says a s t) → P s t → IfOk r (λ a. P a.status a.text.items)
+pub said : {E : Type 0} (P : Status → List ℕ → Type 0) (s : Status) (t : List ℕ) (r : Result Answer E) → IfOk r (λ a. Says a s t) →
+    P s t → IfOk r (λ a. P a.status a.text.items)
 said P s t (Ok a) e p = said_of P a s t e p
 said P s t (Err x) e p = tt
 
 -- what holds of the status and the text of an answer implies what follows from it
-pub implied : {E : Type 0} (P Q : Status → List ℕ → Type 0) (r : Result Answer E) → IfOk r (λ a. P a.status a.text.items) → ((s : Status) (t : List ℕ) → P s t → Q s t) →
+pub implied : {E : Type 0} (P Q : Status → List ℕ → Type 0) (r : Result Answer E) → IfOk r (λ a. P a.status a.text.items) →
+    ((s : Status) (t : List ℕ) → P s t → Q s t) →
     IfOk r (λ a. Q a.status a.text.items)
 implied P Q (Ok a) p f = f a.status a.text.items p
 implied P Q (Err x) p f = tt

@@ -1,5 +1,6 @@
 -- The lines of objects, one after the other.
-use Rattle.std.proofs.Common.{◌≡◌, ℕ, zero, suc, ◌+◌, ◌≤◌, true, false, List, [], ◌∷◌, ◌++◌, length, drop, Some, None, sym, ap, ◌∙◌, arith, append_assoc, append-nil, add-one}
+use Rattle.std.proofs.Common.{◌≡◌, ℕ, zero, suc, ◌+◌, ◌≤◌, true, false, List, [], ◌∷◌, ◌++◌, length, drop, Some, None, sym, ap, ◌∙◌}
+use Rattle.std.proofs.Common.{arith, append_assoc, append-nil, add-one}
 use Rattle.std.proofs.lemmas.List.{drop_all}
 use Rattle.std.specs.Prelude.{slice_get}
 use Rattle.ec_base.proofs.Lists.{drop_at}
@@ -27,13 +28,15 @@ module _ (name : ClassNo → List ℕ) (specs : List NodeSpec) (at : List ℕ) (
       let k = rw d at h in
       rw (n, append_assoc) k
 
-  line_end : (old new whole : List ℕ) → slice_get objects b ≡ None → old ++ object_lines name specs at (suc b) (drop b objects) ≡ whole → new ≡ old → new ≡ whole
+  line_end : (old new whole : List ℕ) → slice_get objects b ≡ None →
+      old ++ object_lines name specs at (suc b) (drop b objects) ≡ whole → new ≡ old → new ≡ whole
   line_end old new whole e h n =
       let d : drop b objects ≡ [] = drop_all b objects (past objects b e) in
       let k : old ++ [] ≡ whole = rw d at h in
       n ∙ sym (append-nil old) ∙ k
 
-module _ {A : Type 0} (name : ClassNo → List ℕ) (w : World A) (specs : List NodeSpec) (oid : ℕ) (old new whole : List ℕ) (r : RestOfObjects name w specs oid old whole) where
+module _ {A : Type 0} (name : ClassNo → List ℕ) (w : World A) (specs : List NodeSpec) (oid : ℕ) (old new whole : List ℕ)
+    (r : RestOfObjects name w specs oid old whole) where
   pub rest_next : PushesObject name w specs oid old new true → RestOfObjects name w specs (oid + 1) new whole
   rest_next p =
       let e : object_at w.common.objects (suc r.before) ≡ Some p.0 = rw r.oid_is at p.1 in

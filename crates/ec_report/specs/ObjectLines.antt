@@ -16,7 +16,8 @@ PushesObject name w specs oid old new true =
 PushesObject name w specs oid old new false = (object_at w.common.objects oid ≡ None) × (new ≡ old)
 
 -- with the lines of the objects from number oid on, a text that was written so far is the whole one
-pub record RestOfObjects {A : Type 0} (name : ClassNo → List ℕ) (w : World A) (specs : List NodeSpec) (oid : ℕ) (written whole : List ℕ) : Type 0 where
+pub record RestOfObjects {A : Type 0} (name : ClassNo → List ℕ) (w : World A) (specs : List NodeSpec) (oid : ℕ)
+    (written whole : List ℕ) : Type 0 where
   pub before : ℕ
   pub oid_is : oid ≡ suc before
   pub rest : written ++ object_lines name specs (places w.common.nodes w.common.events) oid (drop before w.common.objects) ≡ whole

@@ -8,7 +8,8 @@ use Rattle.ec_world.specs.declared.node.NodeSpec.{NodeSpec}
 use Rattle.ec_world.specs.declared.class.ClassNo.{ClassNo}
 use Rattle.ec_world.specs.declared.object.ObjectRec.{ObjectRec}
 use Rattle.ec_world.specs.declared.process.Cause.{Cause}
-use Rattle.ec_world.specs.declared.process.Cause.TheVariants.{Nil, ZeroDivisor, FalseAssertion, OutOfRange, NotConforming, GroupFixed, VectorSize, NoSuchNode, LongText, NodeFixed}
+use Rattle.ec_world.specs.declared.process.Cause.TheVariants.{Nil, ZeroDivisor, FalseAssertion, OutOfRange, NotConforming}
+use Rattle.ec_world.specs.declared.process.Cause.TheVariants.{GroupFixed, VectorSize, NoSuchNode, LongText, NodeFixed}
 use Rattle.ec_world.specs.declared.process.ProcStatus.{ProcStatus}
 use Rattle.ec_world.specs.declared.process.ProcStatus.TheVariants.{Ready, Entry, Cond, Urgent, Ended, Failed}
 use Rattle.ec_world.specs.declared.run.RunEnd.TheVariants.{Finished, Stuck, Spent}
@@ -80,7 +81,8 @@ object_lines name specs at oid (o ∷ os) =
 
 -- the lines of all objects but those of the nodes, which come first
 abbrev pub lines_of_objects : {A : Type 0} → (ClassNo → List ℕ) → World A → List NodeSpec → List ℕ
-lines_of_objects name w specs = object_lines name specs (places w.common.nodes w.common.events) (suc w.common.nodes) (drop w.common.nodes w.common.objects)
+lines_of_objects name w specs =
+    object_lines name specs (places w.common.nodes w.common.events) (suc w.common.nodes) (drop w.common.nodes w.common.objects)
 
 -- ---- nodes: `node west mips instructions 412`
 
@@ -89,7 +91,8 @@ kind_text Riscv = codes "riscv"
 kind_text Mips = codes "mips"
 
 abbrev pub node_line : NodeSpec → ℕ → List ℕ
-node_line spec count = codes "node " ++ spec.name ++ codes " " ++ kind_text spec.kind ++ codes " instructions " ++ decimal count ++ line_feed
+node_line spec count = codes "node " ++ spec.name ++ codes " " ++ kind_text spec.kind ++ codes " instructions " ++ decimal count
+    ++ line_feed
 
 -- the lines of nodes from number k on
 abbrev pub node_lines : (ℕ → ℕ) → ℕ → List NodeSpec → List ℕ
@@ -107,7 +110,8 @@ end_line specs (Ends Finished) = codes "stop finished" ++ line_feed
 end_line specs (Ends Stuck) = codes "stop stuck" ++ line_feed
 end_line specs (Ends Spent) = codes "stop budget" ++ line_feed
 end_line specs (IsFull node part need free) =
-    codes "stop full " ++ name_if (slice_get specs node) ++ codes " " ++ part_text part ++ codes " need " ++ decimal need ++ codes " free " ++ decimal free ++ line_feed
+    codes "stop full " ++ name_if (slice_get specs node) ++ codes " " ++ part_text part ++ codes " need " ++ decimal need
+    ++ codes " free " ++ decimal free ++ line_feed
 
 -- ---- the report
 

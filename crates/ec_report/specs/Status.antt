@@ -6,7 +6,8 @@ use Rattle.ec_world.specs.declared.run.RunEnd.TheVariants as ends
 use Rattle.ec_report.specs.declared.end.ReportEnd.{ReportEnd}
 use Rattle.ec_report.specs.declared.end.ReportEnd.TheVariants.{Ends, IsFull}
 use Rattle.ec_report.specs.declared.status.Status.{Status}
-use Rattle.ec_report.specs.declared.status.Status.TheVariants.{Finished, SomeFailed, Usage, SourceRefused, InputRefused, Spent, Full, Stuck, ReadFault, WriteFault, NoMemory}
+use Rattle.ec_report.specs.declared.status.Status.TheVariants.{Finished, SomeFailed, Usage, SourceRefused, InputRefused, Spent}
+use Rattle.ec_report.specs.declared.status.Status.TheVariants.{Full, Stuck, ReadFault, WriteFault, NoMemory}
 
 -- ---- the number
 

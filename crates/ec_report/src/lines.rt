@@ -3,7 +3,8 @@ ghost use Rattle.std.specs.Prelude.{◌≡◌, ℕ, List, Option, ◌++◌, slic
 ghost use Rattle.std.specs.Fmt.{decimal};
 ghost use Rattle.ec_world.specs.declared.node.NodeSpec.{NodeSpec as ANodeSpec};
 ghost use Rattle.ec_report.specs.declared.end.ReportEnd.TheVariants.{Ends, IsFull};
-ghost use Rattle.ec_report.specs.Report.{cause_number, status_text, process_line, process_lines, name_if, node_at, fixed_text, object_line, kind_text, node_line, part_text, end_line, turns_line};
+ghost use Rattle.ec_report.specs.Report.{cause_number, status_text, process_line, process_lines, name_if, node_at, fixed_text};
+ghost use Rattle.ec_report.specs.Report.{object_line, kind_text, node_line, part_text, end_line, turns_line};
 
 use crate::end::ReportEnd;
 use ec_nodes::room::Part;
@@ -58,7 +59,8 @@ pub fn cause_number(cause: Cause) -> u8
 }
 
 fn push_failure(alloc: Global, cause: Cause, line: u32, out: &mut Vec<u8>) -> Result<(), AllocError>
-    ensures { OnOk result (out.new.items ≡ out.old.items ++ (codes "failed F" ++ decimal (cause_number cause) ++ codes " at line " ++ decimal line)) }
+    ensures { OnOk result
+        (out.new.items ≡ out.old.items ++ (codes "failed F" ++ decimal (cause_number cause) ++ codes " at line " ++ decimal line)) }
 {
     out.extend_from_slice(b"failed F")?;
     push_number(alloc, cause_number(cause).into(), out)?;

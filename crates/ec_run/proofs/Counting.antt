@@ -31,8 +31,10 @@ same_counts c c' n s j = ⊎_elim
     (slice_get_cases c.nodes j).1
 
 -- from one stop to the next, code takes at most as many instructions as the operation has words, plus one
-run_few : (kind : Kind) (program : Parts) (images : Images) (w : IrWorld) (p d : ℕ) (a a' : IrActivation) (own : ObjectRec) (before after : NodeStore) →
-    ((op : ℕ) → words_of images.rv.code op < 2 ^ 26) → RunsOn rv_meaning kind program images w p d a a' own before after → after.count ≤ before.count + 2 ^ 26
+run_few : (kind : Kind) (program : Parts) (images : Images) (w : IrWorld) (p d : ℕ) (a a' : IrActivation) (own : ObjectRec)
+    (before after : NodeStore) →
+    ((op : ℕ) → words_of images.rv.code op < 2 ^ 26) → RunsOn rv_meaning kind program images w p d a a' own before after →
+    after.count ≤ before.count + 2 ^ 26
 run_few Riscv program images w p d a a' own before after small r =
     let few = r.few in
     let words = small a.operation in
@@ -40,7 +42,8 @@ run_few Riscv program images w p d a a' own before after small r =
     omega arith
 run_few Mips program images w p d a a' own before after small r = absurd r
 
-module _ (m c' : Cluster) (w : IrWorld) (p d : ℕ) (a a' : IrActivation) (small : (op : ℕ) → words_of m.images.rv.code op < 2 ^ 26) (g : GoesOn rv_meaning w p d a a' m c') where
+module _ (m c' : Cluster) (w : IrWorld) (p d : ℕ) (a a' : IrActivation) (small : (op : ℕ) → words_of m.images.rv.code op < 2 ^ 26)
+    (g : GoesOn rv_meaning w p d a a' m c') where
   on_few : count_of c' g.node ≤ count_of m g.node + 2 ^ 26
   on_few =
       let run = run_few g.before.kind m.program m.images w p d a a' g.own g.before g.after small g.runs in
@@ -54,7 +57,8 @@ module _ (m c' : Cluster) (w : IrWorld) (p d : ℕ) (a a' : IrActivation) (small
       (λ (h : j ≢ g.node). let same = ap count_if (g.others j h) in omega arith)
       (same_or_not j g.node)
 
-pub counts_rise : {c : Cluster} {w : IrWorld} {p : ℕ} {c' : Cluster} → Steady rv_meaning c → StepsTo rv_meaning c w p c' → (j : ℕ) → count_of c' j ≤ count_of c j + 2 ^ 26
+pub counts_rise : {c : Cluster} {w : IrWorld} {p : ℕ} {c' : Cluster} → Steady rv_meaning c → StepsTo rv_meaning c w p c' → (j : ℕ) →
+    count_of c' j ≤ count_of c j + 2 ^ 26
 counts_rise {c} {c' = c'} s (Idles n e shows) j = let same = ap (λ (x : Cluster). count_of x j) e in omega arith
 counts_rise {c} {c' = c'} s (Rests m n) j = let same = same_counts c c' m.machines.counted m.counts j in omega arith
 counts_rise {c} {c' = c'} s (Waits a m t e) j = let same = same_counts c c' m.machines.counted m.counts j in omega arith

@@ -1,5 +1,7 @@
 -- A network follows the run: at the load, and from one entry to the next.
-use Rattle.std.proofs.Common.{◌≡◌, ◌⊎◌, inl, inr, ⊎_elim, ℕ, zero, suc, ◌+◌, ◌-◌, ◌*◌, ◌^◌, ◌<◌, ◌≤◌, Bool, true, false, List, [], ◌∷◌, ◌++◌, length, replicate, get_or, below_none, below_more, Option, Some, None, Err, refl, sym, ap, subst, ◌∙◌, arith, length-append, add-one}
+use Rattle.std.proofs.Common.{◌≡◌, ◌⊎◌, inl, inr, ⊎_elim, ℕ, zero, suc, ◌+◌, ◌-◌, ◌*◌, ◌^◌, ◌<◌, ◌≤◌, Bool, true, false, List, []}
+use Rattle.std.proofs.Common.{◌∷◌, ◌++◌, length, replicate, get_or, below_none, below_more, Option, Some, None, Err, refl, sym, ap}
+use Rattle.std.proofs.Common.{subst, ◌∙◌, arith, length-append, add-one}
 use Rattle.std.specs.Prelude.{slice_get, ◌↔◌}
 use Rattle.std.proofs.lemmas.List.{length-map, length-replicate}
 use Rattle.std.proofs.lemmas.Option.{slice_get_past, slice_get_cases}
@@ -34,7 +36,8 @@ use Rattle.ec_network.specs.declared.network.NetError.TheVariants.{Full, Memory}
 use Rattle.ec_network.specs.Shows.{IrWorld, stores, store_if}
 use Rattle.ec_network.specs.Room.{Room, Strings, FirstTexts, FullAt, held}
 use Rattle.ec_network.specs.Holds.{Holds}
-use Rattle.ec_network.specs.Turns.{SameMachines, SamePools, StepsTo, Idles, Rests, Waits, Runs, EntryOf, Along, IsLoaded, rooms_of, room_if as spec_room}
+use Rattle.ec_network.specs.Turns.{SameMachines, SamePools, StepsTo, Idles, Rests, Waits, Runs, EntryOf, Along, IsLoaded, rooms_of}
+use Rattle.ec_network.specs.Turns.{room_if as spec_room}
 use Rattle.ec_network.specs.Full.{room_of, rooms, pool_if, Pools}
 use Rattle.ec_network.specs.Net.{IsOneNode, Net, whole_net, count_of, count_if, counts_if, counts_of, EntryFull, EntryFits}
 use Rattle.ec_network.specs.Answers.{CanNumber, ForShown, LoadAnswer, MoveAnswer, TurnAnswer, WhenFull}
@@ -55,7 +58,13 @@ same_machines c = record {
   program = refl;
   images = refl;
   counted = refl;
-  each = λ k node node' e f. let i : Some node ≡ Some node' = sym e ∙ f in let j : node ≡ node' = cc in record { kind = ap (λ (x : NodeStore). x.kind) (sym j); blocks = ap (λ (x : NodeStore). x.blocks) (sym j); room = ap (λ (x : NodeStore). x.room) (sym j) };
+  each = λ k node node' e f. let i : Some node ≡ Some node' = sym e ∙ f in let j : node ≡ node' =
+      cc in record {
+        kind = ap (λ (x : NodeStore). x.kind) (sym j);
+        blocks = ap (λ (x : NodeStore). x.blocks) (sym j);
+        room =
+            ap (λ (x : NodeStore). x.room) (sym j);
+      };
 }
 
 machines_along : (a b c : Cluster) → SameMachines a b → SameMachines b c → SameMachines a c
@@ -79,8 +88,11 @@ turn_machines {c} {c' = c'} (Runs m a a' b t e f g s) = machines_along c m c' b.
 
 -- ---- rooms
 
-module _ (specs : List NodeSpec) (start now : Cluster) (loaded : IsLoaded rv_meaning start.program specs start) (same : SameMachines start now) where
-  room_is : (j : ℕ) (spec : NodeSpec) (node node' : NodeStore) → slice_get specs j ≡ Some spec → slice_get start.nodes j ≡ Some node → slice_get now.nodes j ≡ Some node' → room_of (slice_get now.nodes j) ≡ spec_room (slice_get specs j)
+module _ (specs : List NodeSpec) (start now : Cluster) (loaded : IsLoaded rv_meaning start.program specs start)
+    (same : SameMachines start now) where
+  room_is : (j : ℕ) (spec : NodeSpec) (node node' : NodeStore) → slice_get specs j ≡ Some spec →
+      slice_get start.nodes j ≡ Some node → slice_get now.nodes j ≡ Some node' →
+      room_of (slice_get now.nodes j) ≡ spec_room (slice_get specs j)
   room_is j spec node node' e f h =
       let first = loaded.nodes j spec node e f in
       let kept = same.each j node node' f h in
@@ -106,9 +118,12 @@ module _ (specs : List NodeSpec) (start now : Cluster) (loaded : IsLoaded rv_mea
 
 -- ---- chains of entries
 
-along_push : (program : Parts) (c : Cluster) (w : IrWorld) (es : List RunEntry) (e : RunEntry) (m m' : Cluster) → Along rv_meaning program c w es m → EntryOf rv_meaning m (after_entries ir_meaning (ir_silent program) w es) e m' → Along rv_meaning program c w (es ++ e ∷ []) m'
+along_push : (program : Parts) (c : Cluster) (w : IrWorld) (es : List RunEntry) (e : RunEntry) (m m' : Cluster) →
+    Along rv_meaning program c w es m → EntryOf rv_meaning m (after_entries ir_meaning (ir_silent program) w es) e m' →
+    Along rv_meaning program c w (es ++ e ∷ []) m'
 along_push program c w [] e m m' a h = (m', subst (λ (x : Cluster). EntryOf rv_meaning x w e m') a h, refl)
-along_push program c w (x ∷ es) e m m' a h = (a.0, a.1, along_push program a.0 (after_entry ir_meaning (ir_silent program) w x) es e m m' a.2 h)
+along_push program c w (x ∷ es) e m m' a h =
+    (a.0, a.1, along_push program a.0 (after_entry ir_meaning (ir_silent program) w x) es e m m' a.2 h)
 
 -- ---- one entry more
 
@@ -117,7 +132,8 @@ pool_one_more : (ir : Parts) (n : ℕ) (schedule : List Entry) (k node : ℕ) (t
 unfolding PoolAfter
 pool_one_more ir n schedule k node text = refl
 
-first_pool : (ir : Parts) (n : ℕ) (schedule : List Entry) (node : ℕ) (text : List ℕ) → PoolAfter ir n schedule 0 node text ≡ FirstTexts ir (ir_start ir n) node text
+first_pool : (ir : Parts) (n : ℕ) (schedule : List Entry) (node : ℕ) (text : List ℕ) →
+    PoolAfter ir n schedule 0 node text ≡ FirstTexts ir (ir_start ir n) node text
 unfolding PoolAfter
 first_pool ir n schedule node text = refl
 
@@ -168,7 +184,8 @@ pub record GoneOn (c : Cluster) (w : IrWorld) (e : RunEntry) (net' : Net) : Type
   pub fits : EntryFits c w (after_action w e)
   pub grown : GrowsByOne w (after_entry ir_meaning (ir_silent c.program) w e)
 
-pub gone_by_turn : (c : Cluster) (w : IrWorld) (p : ℕ) (net' : Net) (did : Did) → Holds rv_meaning c w → TurnAnswer rv_meaning c w p net' did → GoneOn c w (ATurn p) net'
+pub gone_by_turn : (c : Cluster) (w : IrWorld) (p : ℕ) (net' : Net) (did : Did) → Holds rv_meaning c w →
+    TurnAnswer rv_meaning c w p net' did → GoneOn c w (ATurn p) net'
 gone_by_turn c w p net' did h t = record {
   after = t.after;
   is = t.is;
@@ -186,7 +203,8 @@ moved_objects : (c : Common) (o k : ℕ) (b : Bool) → length (moved_unless c o
 moved_objects c o k true = omega arith
 moved_objects c o k false = omega arith
 
-pub gone_by_move : (c : Cluster) (w : IrWorld) (o k : ℕ) (net' : Net) (did : Did) → MoveAnswer rv_meaning c w o k net' did → GoneOn c w (AMove o k) net'
+pub gone_by_move : (c : Cluster) (w : IrWorld) (o k : ℕ) (net' : Net) (did : Did) → MoveAnswer rv_meaning c w o k net' did →
+    GoneOn c w (AMove o k) net'
 gone_by_move c w o k net' did m = record {
   after = m.after;
   is = m.is;
@@ -201,7 +219,8 @@ gone_by_move c w o k net' did m = record {
 
 -- ---- the entry that comes next
 
-module _ (specs : List NodeSpec) (old : Net) (schedule : List Entry) (budget : ℕ) (statuses : List ProcStatus) (progress : Progress) (net : Net)
+module _ (specs : List NodeSpec) (old : Net) (schedule : List Entry) (budget : ℕ) (statuses : List ProcStatus) (progress : Progress)
+    (net : Net)
     (f : Follows specs old schedule budget statuses progress net) where
   -- a network that follows is whole, and shows a world
   pub follows_shown : IsShown net
@@ -261,7 +280,8 @@ module _ (specs : List NodeSpec) (old : Net) (schedule : List Entry) (budget : �
   program_is : f.now.program ≡ ir
   program_is = f.machines.program
 
-  pools_are : (j : ℕ) (r : Room) → rooms f.now j ≡ Some r → (text : List ℕ) → Pools f.now j text ↔ PoolAfter ir n schedule progress.done j text
+  pools_are : (j : ℕ) (r : Room) → rooms f.now j ≡ Some r → (text : List ℕ) →
+      Pools f.now j text ↔ PoolAfter ir n schedule progress.done j text
   pools_are j r e text =
       let h = store_at f.now.nodes j (room_there f.now.nodes j r e) in
       subst (λ (x : Option Store). pool_if x text ↔ PoolAfter ir n schedule progress.done j text) (sym h.1) (f.pools j h.0 text h.1)
@@ -275,38 +295,48 @@ module _ (specs : List NodeSpec) (old : Net) (schedule : List Entry) (budget : �
         ap (action_if s.world) (entry_is ir_meaning (ir_silent ir) (ir_start ir n) schedule budget statuses progress f.world f.comes e step)
         ∙ ap (λ (v : IrWorld). after_action v e) (sym f.comes.world_is)
 
-    strings_are : (j : ℕ) (text : List ℕ) → Strings f.now.program wanted j text ↔ Strings ir (next_action ir n schedule progress.done) j text
+    strings_are : (j : ℕ) (text : List ℕ) →
+        Strings f.now.program wanted j text ↔ Strings ir (next_action ir n schedule progress.done) j text
     strings_are j text = strings_same f.now.program ir wanted (next_action ir n schedule progress.done) program_is (sym action_is) j text
 
     abbrev IsFullBy : IrWorld → IrWorld → ℕ → Part → ℕ → ℕ → Type 0
     IsFullBy v x node part need free =
-        FullAt (rooms_of specs) (held v) (held x) (PoolAfter ir n schedule progress.done) (Strings ir (next_action ir n schedule progress.done)) node part need free
+        FullAt (rooms_of specs) (held v) (held x) (PoolAfter ir n schedule progress.done)
+        (Strings ir (next_action ir n schedule progress.done)) node part need free
 
-    full_next : (node : ℕ) (part : Part) (need free : ℕ) → EntryFull f.now f.world wanted node part need free → NextFull ir specs schedule progress.done node part need free
+    full_next : (node : ℕ) (part : Part) (need free : ℕ) → EntryFull f.now f.world wanted node part need free →
+        NextFull ir specs schedule progress.done node part need free
     full_next node part need free h =
-        let g = full_along (rooms f.now) (rooms_of specs) (held f.world) (held wanted) (Pools f.now) (PoolAfter ir n schedule progress.done) (Strings f.now.program wanted) (Strings ir (next_action ir n schedule progress.done)) (same_rooms specs f.start f.now f.loaded f.machines) pools_are strings_are node part need free h in
+        let g = full_along (rooms f.now) (rooms_of specs) (held f.world) (held wanted) (Pools f.now)
+        (PoolAfter ir n schedule progress.done) (Strings f.now.program wanted)
+        (Strings ir (next_action ir n schedule progress.done)) (same_rooms specs f.start f.now f.loaded f.machines)
+        pools_are strings_are node part need free h in
         subst (λ (v : IrWorld). IsFullBy v (next_action ir n schedule progress.done) node part need free) f.comes.world_is
         (subst (λ (v : IrWorld). IsFullBy f.world v node part need free) (sym action_is) g)
 
-    fits_next : EntryFits f.now f.world wanted → (node need free : ℕ) (part : Part) → NextFull ir specs schedule progress.done node part need free → ⊥
+    fits_next : EntryFits f.now f.world wanted → (node need free : ℕ) (part : Part) →
+        NextFull ir specs schedule progress.done node part need free → ⊥
     fits_next fits node need free part h =
         let g = subst (λ (v : IrWorld). IsFullBy f.world v node part need free) action_is
         (subst (λ (v : IrWorld). IsFullBy v (next_action ir n schedule progress.done) node part need free) (sym f.comes.world_is) h) in
         fits node part need free
-        (full_along (rooms_of specs) (rooms f.now) (held f.world) (held wanted) (PoolAfter ir n schedule progress.done) (Pools f.now) (Strings ir (next_action ir n schedule progress.done)) (Strings f.now.program wanted)
+        (full_along (rooms_of specs) (rooms f.now) (held f.world) (held wanted) (PoolAfter ir n schedule progress.done)
+        (Pools f.now) (Strings ir (next_action ir n schedule progress.done)) (Strings f.now.program wanted)
         (λ j. sym (same_rooms specs f.start f.now f.loaded f.machines j))
         (λ j r e text. let q = pools_are j r (same_rooms specs f.start f.now f.loaded f.machines j ∙ e) text in (q.1, q.0))
         (λ j text. let q = strings_are j text in (q.1, q.0))
         node part need free g)
 
     -- the entry finds a node full, and the network is as before
-    follows_full : (net' : Net) → net' ≡ net → (node : ℕ) (part : Part) (need free : ℕ) → ForShown rv_meaning net (λ c w. EntryFull c w (after_action w e) node part need free) →
+    follows_full : (net' : Net) → net' ≡ net → (node : ℕ) (part : Part) (need free : ℕ) →
+        ForShown rv_meaning net (λ c w. EntryFull c w (after_action w e) node part need free) →
         Follows specs old schedule budget statuses progress net' × FullNext specs old schedule progress.done node part need free
     follows_full net' same node part need free h = (
       rw same f,
       λ start started.
           let is : f.start ≡ start = same_start old f.start start f.started started in
-          subst (λ (c : Cluster). NextFull c.program specs schedule progress.done node part need free) is (full_next node part need free (h f.now f.world loaded_now f.holds)),
+          subst (λ (c : Cluster). NextFull c.program specs schedule progress.done node part need free) is
+          (full_next node part need free (h f.now f.world loaded_now f.holds)),
     )
 
     module _ (net' : Net) (g : GoneOn f.now f.world e net') where
@@ -324,18 +354,22 @@ module _ (specs : List NodeSpec) (old : Net) (schedule : List Entry) (budget : �
 
       along_is : Along rv_meaning ir f.start (ir_start ir n) (ir_run ir n schedule (suc progress.done)).done g.after
       along_is =
-          let world : f.world ≡ after_entries ir_meaning (ir_silent ir) (ir_start ir n) s.done = f.comes.world_is ∙ run_world ir_meaning (ir_silent ir) (ir_start ir n) schedule progress.done in
+          let world : f.world ≡ after_entries ir_meaning (ir_silent ir) (ir_start ir n) s.done =
+          f.comes.world_is ∙ run_world ir_meaning (ir_silent ir) (ir_start ir n) schedule progress.done in
           let here = subst (λ (v : IrWorld). EntryOf rv_meaning f.now v e g.after) world g.entry in
           subst (λ (es : List RunEntry). Along rv_meaning ir f.start (ir_start ir n) es g.after) (sym done_is)
           (along_push ir f.start (ir_start ir n) s.done e f.now g.after f.along here)
 
-      pools_next : (j : ℕ) (x : Store) (text : List ℕ) → stores g.after j ≡ Some x → InPool x text ↔ PoolAfter ir n schedule (suc progress.done) j text
+      pools_next : (j : ℕ) (x : Store) (text : List ℕ) → stores g.after j ≡ Some x →
+          InPool x text ↔ PoolAfter ir n schedule (suc progress.done) j text
       pools_next j x text is =
           let before = store_at f.now.nodes j (let l = store_there g.after.nodes j x is in let c = g.machines.counted in omega arith) in
           let kept = g.pools.each j before.0 x text before.1 is in
           let so_far = f.pools j before.0 text before.1 in
-          let both : InPool x text ↔ (PoolAfter ir n schedule progress.done j text ⊎ Strings f.now.program wanted j text) = both_ways kept so_far in
-          subst (λ (T : Type 0). InPool x text ↔ T) (sym (pool_one_more ir n schedule progress.done j text)) (either_ways both (strings_are j text))
+          let both : InPool x text ↔ (PoolAfter ir n schedule progress.done j text ⊎ Strings f.now.program wanted j text) =
+          both_ways kept so_far in
+          subst (λ (T : Type 0). InPool x text ↔ T) (sym (pool_one_more ir n schedule progress.done j text))
+          (either_ways both (strings_are j text))
 
       counts_next : (j : ℕ) → count_of g.after j ≤ (progress.done + 1) * 2 ^ 26
       counts_next j =
@@ -346,7 +380,8 @@ module _ (specs : List NodeSpec) (old : Net) (schedule : List Entry) (budget : �
       grown_next : GrowsByOne f.world next_world
       grown_next = subst (λ (v : IrWorld). GrowsByOne f.world v) next_world_is g.grown
 
-      follows_next : Follows specs old schedule budget (statuses_of (after_entry ir_meaning (ir_silent f.start.program) f.world e)) (advanced progress e) net'
+      follows_next : Follows specs old schedule budget (statuses_of (after_entry ir_meaning (ir_silent f.start.program) f.world e))
+          (advanced progress e) net'
       follows_next = record {
         nodes = f.nodes;
         limit = f.limit;
@@ -357,10 +392,12 @@ module _ (specs : List NodeSpec) (old : Net) (schedule : List Entry) (budget : �
         is = g.is;
         machines = machines_along f.start f.now g.after f.machines g.machines;
         world = next_world;
-        comes = comes_next ir_meaning (ir_silent ir) (ir_start ir n) schedule budget statuses progress f.world f.comes e step next_world refl;
+        comes = comes_next ir_meaning (ir_silent ir) (ir_start ir n) schedule budget statuses progress f.world f.comes e step
+            next_world refl;
         holds = subst (λ (v : IrWorld). Holds rv_meaning g.after v) next_world_is g.holds;
         along = rw (add-one progress.done) along_is;
-        fits = below_more (λ j. (node need free : ℕ) (part : Part) → NextFull ir specs schedule j node part need free → ⊥) progress.done f.fits (fits_next g.fits);
+        fits = below_more (λ j. (node need free : ℕ) (part : Part) → NextFull ir specs schedule j node part need free → ⊥)
+            progress.done f.fits (fits_next g.fits);
         pools = rw (add-one progress.done) pools_next;
         counts = counts_next;
         within = omega (arith, step.2);
@@ -370,22 +407,27 @@ module _ (specs : List NodeSpec) (old : Net) (schedule : List Entry) (budget : �
 
 -- ---- what the network answers
 
-pub goes_on : (specs : List NodeSpec) (old : Net) (schedule : List Entry) (budget : ℕ) (statuses : List ProcStatus) (progress : Progress) (net net' : Net)
-    (f : Follows specs old schedule budget statuses progress net) (e entry : RunEntry) → entry ≡ e → IsStep statuses budget progress (Does entry) → GoneOn f.now f.world e net' →
+pub goes_on : (specs : List NodeSpec) (old : Net) (schedule : List Entry) (budget : ℕ) (statuses : List ProcStatus)
+    (progress : Progress) (net net' : Net)
+    (f : Follows specs old schedule budget statuses progress net) (e entry : RunEntry) → entry ≡ e →
+    IsStep statuses budget progress (Does entry) → GoneOn f.now f.world e net' →
     (after : List ProcStatus) × Follows specs old schedule budget after (advanced progress entry) net'
 goes_on specs old schedule budget statuses progress net net' f e entry is step g = (
   statuses_of (after_entry ir_meaning (ir_silent f.start.program) f.world entry),
-  follows_next specs old schedule budget statuses progress net f entry step net' (subst (λ (x : RunEntry). GoneOn f.now f.world x net') (sym is) g),
+  follows_next specs old schedule budget statuses progress net f entry step net'
+      (subst (λ (x : RunEntry). GoneOn f.now f.world x net') (sym is) g),
 )
 
 module _ (specs : List NodeSpec) (net net' : Net) (e entry : RunEntry) (is : entry ≡ e) where
   abbrev IsRefusal : RunEntry → Refusal → Type 0
   IsRefusal x r = IsRefused (Follows specs) (FullNext specs) x net net' r
 
-  refused_by : (error : NetError) → WhenFull (Err error) (λ node part need free. ForShown rv_meaning net (λ c w. EntryFull c w (after_action w e) node part need free)) →
+  refused_by : (error : NetError) →
+      WhenFull (Err error) (λ node part need free. ForShown rv_meaning net (λ c w. EntryFull c w (after_action w e) node part need free)) →
       WhenFull (Err error) (λ node part need free. net' ≡ net) → IsRefusal e (refusal_of error)
   refused_by (Full node part need free) full same =
-      λ old schedule budget statuses progress f step. follows_full specs old schedule budget statuses progress net f e step net' same node part need free full
+      λ old schedule budget statuses progress f step. follows_full specs old schedule budget statuses progress net f e step net'
+      same node part need free full
   refused_by Memory full same = tt
 
   pub refused : (error : NetError) (r : Refusal) → r ≡ refusal_of error →
@@ -396,21 +438,24 @@ module _ (specs : List NodeSpec) (net net' : Net) (e entry : RunEntry) (is : ent
 
 -- ---- the load
 
-module _ (program : Parts) (specs : List NodeSpec) (schedule : List Entry) (budget : ℕ) (net : Net) (nodes : IsOneNode specs) (limit : budget ≤ 4000000000) (l : LoadAnswer rv_meaning program specs net) where
+module _ (program : Parts) (specs : List NodeSpec) (schedule : List Entry) (budget : ℕ) (net : Net) (nodes : IsOneNode specs)
+    (limit : budget ≤ 4000000000) (l : LoadAnswer rv_meaning program specs net) where
   abbrev first_world : IrWorld
   first_world = ir_start l.start.program (length specs)
 
   loaded_is : IsLoaded rv_meaning l.start.program specs l.start
   loaded_is = subst (λ (x : Parts). IsLoaded rv_meaning x specs l.start) (sym l.loaded.program_is) l.loaded
 
-  first_pools : (j : ℕ) (s : Store) (text : List ℕ) → stores l.start j ≡ Some s → InPool s text ↔ PoolAfter l.start.program (length specs) schedule 0 j text
+  first_pools : (j : ℕ) (s : Store) (text : List ℕ) → stores l.start j ≡ Some s →
+      InPool s text ↔ PoolAfter l.start.program (length specs) schedule 0 j text
   first_pools j s text e =
       let spec = get_there specs j (let h = store_there l.start.nodes j s e in let c = loaded_is.counted in omega arith) in
       let node = get_there l.start.nodes j (store_there l.start.nodes j s e) in
       let first = (loaded_is.nodes j spec.0 node.0 spec.1 node.1).pool text in
       let i : Some (store_of node.0) ≡ Some s = sym (ap store_if node.1) ∙ e in
       let same : store_of node.0 ≡ s = cc in
-      subst (λ (T : Type 0). InPool s text ↔ T) (sym (first_pool l.start.program (length specs) schedule j text)) (subst (λ (x : Store). InPool x text ↔ FirstTexts l.start.program first_world j text) same first)
+      subst (λ (T : Type 0). InPool s text ↔ T) (sym (first_pool l.start.program (length specs) schedule j text))
+      (subst (λ (x : Store). InPool x text ↔ FirstTexts l.start.program first_world j text) same first)
 
   first_counts : (j : ℕ) → count_of l.start j ≡ 0
   first_counts j = ⊎_elim
@@ -435,12 +480,19 @@ module _ (program : Parts) (specs : List NodeSpec) (schedule : List Entry) (budg
       world = first_world;
       comes = comes_first ir_meaning (ir_silent l.start.program) first_world schedule budget first_world refl;
       holds = subst (λ (x : Parts). Holds rv_meaning l.start (ir_start x (length specs))) (sym l.loaded.program_is) l.holds;
-      along = rw (ap (λ (r : RunState IrActivation). r.done) (run_start_is ir_meaning (ir_silent l.start.program) first_world schedule)) refl;
+      along = rw
+          (ap (λ (r : RunState IrActivation). r.done) (run_start_is ir_meaning (ir_silent l.start.program) first_world schedule)) refl;
       fits = below_none (λ j. (node need free : ℕ) (part : Part) → NextFull l.start.program specs schedule j node part need free → ⊥);
       pools = first_pools;
       counts = λ j. (let e = first_counts j in omega arith);
       within = omega arith;
-      few_objects = omega (arith, length-append (replicate (length specs) node_object) (program_object ∷ []), length-replicate (length specs) node_object);
+      few_objects =
+          omega (
+            arith,
+            length-append (replicate (length specs) node_object) (program_object ∷ []),
+            length-replicate (length specs)
+                node_object,
+          );
       one_process = refl;
     },
   )

@@ -1,5 +1,6 @@
 -- What an entry adds to a world: at most one object, and no process.
-use Rattle.std.proofs.Common.{◌≡◌, ℕ, suc, ◌≤◌, Bool, true, false, List, [], ◌∷◌, ◌++◌, length, Option, Some, None, refl, sym, ap, ◌∙◌, subst, arith, length-append, append-nil}
+use Rattle.std.proofs.Common.{◌≡◌, ℕ, suc, ◌≤◌, Bool, true, false, List, [], ◌∷◌, ◌++◌, length, Option, Some, None, refl, sym, ap}
+use Rattle.std.proofs.Common.{◌∙◌, subst, arith, length-append, append-nil}
 use Rattle.std.specs.Prelude.{slice_get, slice_set, nat_lt, if◌then◌else◌}
 use Rattle.ec_base.specs.Stack.{top_of, below_of}
 use Rattle.ec_base.proofs.Lists.{length_set}
@@ -23,7 +24,8 @@ use Rattle.ec_world.specs.Doings.{new_asks, return_asks, print_asks, global_asks
 use Rattle.ec_world.specs.Outcomes.{Acted, made_object, return_done, acted_if, outcome_of, all_granted}
 use Rattle.ec_world.specs.Objects.{class_at}
 use Rattle.ec_world.proofs.Settling.{IsNoFailure}
-use Rattle.ec_world.specs.World.{stack_at, readied, all_readied, given_up, who_of, owns_of, begun_for, changed, settled, acted, outcome_at, act_if_pending, act_on, go_on_unless, go_on}
+use Rattle.ec_world.specs.World.{stack_at, readied, all_readied, given_up, who_of, owns_of, begun_for, changed, settled, acted}
+use Rattle.ec_world.specs.World.{outcome_at, act_if_pending, act_on, go_on_unless, go_on}
 use Rattle.ec_ir.specs.declared.code.Parts.{Parts}
 use Rattle.ec_ir.specs.declared.activation.IrActivation.{IrActivation}
 use Rattle.ec_ir.specs.Meaning.{ir_meaning, ir_silent}
@@ -38,7 +40,8 @@ abbrev IsFew : ℕ → Acted → Type 0
 IsFew n None = Unit {0}
 IsFew n (Some (c, o)) = (length c.objects ≤ suc n) × (o.started ≡ None) × IsNoFailure o.effect
 
-new_few : (c : Common) (who : Who) (class : ClassNo) (given : List Value) (k : Option ClassRec) → class_at c.classes class ≡ k → IsFew (length c.objects) (acted_if c who (new_asks class given k))
+new_few : (c : Common) (who : Who) (class : ClassNo) (given : List Value) (k : Option ClassRec) → class_at c.classes class ≡ k →
+    IsFew (length c.objects) (acted_if c who (new_asks class given k))
 new_few c who class given None e = tt
 new_few c who class given (Some k) e =
     subst (λ (x : Option ClassRec). IsFew (length c.objects) (Some (made_object c who class given x))) (sym e)
@@ -46,10 +49,13 @@ new_few c who class given (Some k) e =
 
 module _ (c : Common) (who : Who) (plain : ArePlain c.classes) where
   -- a return without a monitor
-  plain_return : (given : Option Value) (inside : Bool) → inside ≡ false → IsFew (length c.objects) (Some (return_done c who given inside None))
-  plain_return given inside e = subst (λ (b : Bool). IsFew (length c.objects) (Some (return_done c who given b None))) (sym e) (omega arith, refl, tt)
+  plain_return : (given : Option Value) (inside : Bool) → inside ≡ false →
+      IsFew (length c.objects) (Some (return_done c who given inside None))
+  plain_return given inside e =
+      subst (λ (b : Bool). IsFew (length c.objects) (Some (return_done c who given b None))) (sym e) (omega arith, refl, tt)
 
-  return_few : (gives_self : Bool) (vs : List Value) → IsFew (length c.objects) (acted_if c who (return_asks (sight_of c) who gives_self vs))
+  return_few : (gives_self : Bool) (vs : List Value) →
+      IsFew (length c.objects) (acted_if c who (return_asks (sight_of c) who gives_self vs))
   return_few true [] = subst (λ (a : Acted). IsFew (length c.objects) a) (sym (return_outcome c who plain)) (omega arith, refl, tt)
   return_few true (v ∷ vs) = tt
   return_few false [] = plain_return None _ (outside c who plain)
@@ -101,7 +107,8 @@ length_all_readied : (qs : List ℕ) (ps : List (Proc IrActivation)) → length 
 length_all_readied [] ps = refl
 length_all_readied (q ∷ qs) ps = length_all_readied qs (readied ps q (slice_get ps q)) ∙ length_readied ps q (slice_get ps q)
 
-nothing_given_up : (p : ℕ) (owns : List ℕ) (e : Effect) (objects : List ObjectRec) → IsNoFailure e → given_up p owns e objects ≡ (objects, [])
+nothing_given_up : (p : ℕ) (owns : List ℕ) (e : Effect) (objects : List ObjectRec) → IsNoFailure e →
+    given_up p owns e objects ≡ (objects, [])
 nothing_given_up p owns (GoesOn given) objects h = refl
 nothing_given_up p owns (Calls op own args) objects h = refl
 nothing_given_up p owns (Leaves given) objects h = refl
@@ -109,12 +116,14 @@ nothing_given_up p owns (Blocks queue own) objects h = refl
 nothing_given_up p owns Ends objects h = refl
 nothing_given_up p owns (Fails cause line) objects h = absurd h
 
-acted_grows : (w : IrWorld) (p : ℕ) (below : List IrActivation) (top : IrActivation) (a : Acted) → IsFew (length w.common.objects) a → GrowsByOne w (acted ir_meaning w p below top a)
+acted_grows : (w : IrWorld) (p : ℕ) (below : List IrActivation) (top : IrActivation) (a : Acted) →
+    IsFew (length w.common.objects) a → GrowsByOne w (acted ir_meaning w p below top a)
 acted_grows w p below top None h = same_grows w
 acted_grows w p below top (Some (c, o)) h =
     let ps : List (Proc IrActivation) = slice_set w.processes p (changed ir_meaning below top o.effect) in
     let qs : List (Proc IrActivation) = all_readied ps (all_granted o.granted []) in
-    subst (λ (g : List ObjectRec × List ℕ). GrowsByOne w (settled ir_meaning w p below top c o g)) (sym (nothing_given_up p (owns_of ir_meaning below top) o.effect c.objects h.2))
+    subst (λ (g : List ObjectRec × List ℕ). GrowsByOne w (settled ir_meaning w p below top c o g))
+    (sym (nothing_given_up p (owns_of ir_meaning below top) o.effect c.objects h.2))
     (record {
       objects = h.0;
       processes =
@@ -124,11 +133,15 @@ acted_grows w p below top (Some (c, o)) h =
           ∙ length_set w.processes p _;
     })
 
-if_pending_grows : (w : IrWorld) (p : ℕ) (below : List IrActivation) (top : IrActivation) (b : Bool) → ArePlain w.common.classes → GrowsByOne w (act_if_pending ir_meaning w p below top b)
-if_pending_grows w p below top true plain = acted_grows w p below top (outcome_at ir_meaning w p below top) (outcome_few w.common (who_of ir_meaning p below top) plain top.stop top.operands)
+if_pending_grows : (w : IrWorld) (p : ℕ) (below : List IrActivation) (top : IrActivation) (b : Bool) → ArePlain w.common.classes →
+    GrowsByOne w (act_if_pending ir_meaning w p below top b)
+if_pending_grows w p below top true plain =
+    acted_grows w p below top (outcome_at ir_meaning w p below top)
+    (outcome_few w.common (who_of ir_meaning p below top) plain top.stop top.operands)
 if_pending_grows w p below top false plain = same_grows w
 
-act_on_grows : (w : IrWorld) (p : ℕ) (below : List IrActivation) (top : Option IrActivation) → ArePlain w.common.classes → GrowsByOne w (act_on ir_meaning w p below top)
+act_on_grows : (w : IrWorld) (p : ℕ) (below : List IrActivation) (top : Option IrActivation) → ArePlain w.common.classes →
+    GrowsByOne w (act_on ir_meaning w p below top)
 act_on_grows w p below None plain = same_grows w
 act_on_grows w p below (Some top) plain = if_pending_grows w p below top top.pending plain
 
@@ -140,11 +153,13 @@ pub record StaysAsMany (w w' : IrWorld) : Type 0 where
   pub objects : length w'.common.objects ≡ length w.common.objects
   pub processes : length w'.processes ≡ length w.processes
 
-unless_stays : (program : Parts) (w : IrWorld) (p : ℕ) (below : List IrActivation) (top : IrActivation) (b : Bool) → StaysAsMany w (go_on_unless ir_meaning (ir_silent program) w p below top b)
+unless_stays : (program : Parts) (w : IrWorld) (p : ℕ) (below : List IrActivation) (top : IrActivation) (b : Bool) →
+    StaysAsMany w (go_on_unless ir_meaning (ir_silent program) w p below top b)
 unless_stays program w p below top true = record { objects = refl; processes = refl }
 unless_stays program w p below top false = record { objects = refl; processes = length_set w.processes p _ }
 
-on_stays : (program : Parts) (w : IrWorld) (p : ℕ) (below : List IrActivation) (top : Option IrActivation) → StaysAsMany w (go_on ir_meaning (ir_silent program) w p below top)
+on_stays : (program : Parts) (w : IrWorld) (p : ℕ) (below : List IrActivation) (top : Option IrActivation) →
+    StaysAsMany w (go_on ir_meaning (ir_silent program) w p below top)
 on_stays program w p below None = record { objects = refl; processes = refl }
 on_stays program w p below (Some top) = unless_stays program w p below top top.pending
 

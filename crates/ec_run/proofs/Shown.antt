@@ -1,5 +1,6 @@
 -- What holds of a network that shows a world.
-use Rattle.std.proofs.Common.{◌≡◌, ℕ, zero, suc, ◌+◌, ◌-◌, ◌^◌, ◌<◌, ◌≤◌, List, [], ◌∷◌, ◌++◌, length, take, Some, None, refl, sym, ◌∙◌, arith}
+use Rattle.std.proofs.Common.{◌≡◌, ℕ, zero, suc, ◌+◌, ◌-◌, ◌^◌, ◌<◌, ◌≤◌, List, [], ◌∷◌, ◌++◌, length, take, Some, None, refl, sym}
+use Rattle.std.proofs.Common.{◌∙◌, arith}
 use Rattle.std.proofs.lemmas.List.{take_all}
 use Rattle.std.specs.Prelude.{slice_get}
 use Rattle.std.proofs.lemmas.Grind.{common_steps}
@@ -18,7 +19,8 @@ module _ (net : Net) (c : Cluster) (w : IrWorld) (loaded : net.loaded ≡ Some c
 
 -- ---- statuses, one after the other
 
-pub status_next : (ss found : List ProcStatus) (p : ℕ) (s : ProcStatus) → slice_get ss p ≡ Some s → found ≡ take p ss → (found ++ s ∷ [] ≡ take (p + 1) ss) × (p + 1 ≤ length ss)
+pub status_next : (ss found : List ProcStatus) (p : ℕ) (s : ProcStatus) → slice_get ss p ≡ Some s → found ≡ take p ss →
+    (found ++ s ∷ [] ≡ take (p + 1) ss) × (p + 1 ≤ length ss)
 status_next ss found p s e h = let k = get_within ss p s e in (rw (take_next ss p s e, h) refl, omega arith)
 
 past : {A : Type 0} (xs : List A) (i : ℕ) → slice_get xs i ≡ None → length xs ≤ i

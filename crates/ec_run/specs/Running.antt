@@ -43,7 +43,8 @@ refusal_of Memory = refusals.Memory
 -- that shows its world, where the processes have these statuses, with this progress: turns and moves have led there, no entry
 -- found a node full, and the run has not ended before. Each entry has raised counts by at most 2^26, since no operation has as
 -- many words of code, and made at most one object.
-pub record Follows (specs : List NodeSpec) (old : Net) (schedule : List Entry) (budget : ℕ) (statuses : List ProcStatus) (progress : Progress) (net : Net) : Type 0 where
+pub record Follows (specs : List NodeSpec) (old : Net) (schedule : List Entry) (budget : ℕ) (statuses : List ProcStatus)
+    (progress : Progress) (net : Net) : Type 0 where
   pub nodes : IsOneNode specs
   pub limit : budget ≤ 4000000000
   pub start : Cluster
@@ -55,9 +56,11 @@ pub record Follows (specs : List NodeSpec) (old : Net) (schedule : List Entry) (
   pub world : IrWorld
   pub comes : Comes ir_meaning (ir_silent start.program) (ir_start start.program (length specs)) schedule budget statuses progress world
   pub holds : Holds rv_meaning now world
-  pub along : Along rv_meaning start.program start (ir_start start.program (length specs)) (ir_run start.program (length specs) schedule progress.done).done now
+  pub along : Along rv_meaning start.program start (ir_start start.program (length specs))
+      (ir_run start.program (length specs) schedule progress.done).done now
   pub fits : NoneFullBefore start.program specs schedule progress.done
-  pub pools : (j : ℕ) (s : Store) (text : List ℕ) → stores now j ≡ Some s → InPool s text ↔ PoolAfter start.program (length specs) schedule progress.done j text
+  pub pools : (j : ℕ) (s : Store) (text : List ℕ) → stores now j ≡ Some s →
+      InPool s text ↔ PoolAfter start.program (length specs) schedule progress.done j text
   pub counts : (j : ℕ) → count_of now j ≤ progress.done * 2 ^ 26
   pub within : progress.done ≤ budget
   pub few_objects : length world.common.objects ≤ length specs + 1 + progress.done
@@ -65,14 +68,16 @@ pub record Follows (specs : List NodeSpec) (old : Net) (schedule : List Entry) (
 
 -- the entry that follows k entries of the run from a network that was just loaded finds a node full
 abbrev pub FullNext : List NodeSpec → Net → List Entry → ℕ → ℕ → Part → ℕ → ℕ → Type 0
-FullNext specs old schedule k node part need free = (start : Cluster) → old ≡ whole_net start → NextFull start.program specs schedule k node part need free
+FullNext specs old schedule k node part need free = (start : Cluster) → old ≡ whole_net start →
+    NextFull start.program specs schedule k node part need free
 
 -- the run has come to its end on the network
 abbrev pub IsEnded : List NodeSpec → Net → List Entry → (budget done : ℕ) → ReportEnd → Net → Type 0
 IsEnded specs old schedule budget done end net = HasEnded (Follows specs) (FullNext specs) old schedule budget done end net
 
 -- the status and the text of a run that has come to its end on the network
-pub record IsReported (specs : List NodeSpec) (schedule : List Entry) (budget : ℕ) (old net : Net) (status : Status) (text : List ℕ) : Type 0 where
+pub record IsReported (specs : List NodeSpec) (schedule : List Entry) (budget : ℕ) (old net : Net) (status : Status)
+    (text : List ℕ) : Type 0 where
   pub done : ℕ
   pub how : ReportEnd
   pub ended : IsEnded specs old schedule budget done how net

@@ -65,17 +65,25 @@ PoolAfter ir n schedule (suc k) node text = PoolAfter ir n schedule k node text 
 abbrev pub NextFull : Parts → List NodeSpec → List Entry → ℕ → ℕ → Part → ℕ → ℕ → Type 0
 NextFull ir specs schedule k =
     let n = length specs in
-    FullAt (rooms_of specs) (held (ir_run ir n schedule k).world) (held (next_action ir n schedule k)) (PoolAfter ir n schedule k) (Strings ir (next_action ir n schedule k))
+    FullAt (rooms_of specs) (held (ir_run ir n schedule k).world) (held (next_action ir n schedule k)) (PoolAfter ir n schedule k)
+    (Strings ir (next_action ir n schedule k))
 
 -- no entry before the k-th found a node full
 abbrev pub NoneFullBefore : Parts → List NodeSpec → List Entry → ℕ → Type 0
-NoneFullBefore ir specs schedule k = (j : ℕ) → j < k → (node need free : ℕ) (part : Part) → NextFull ir specs schedule j node part need free → ⊥
+NoneFullBefore ir specs schedule k = (j : ℕ) → j < k → (node need free : ℕ) (part : Part) →
+    NextFull ir specs schedule j node part need free → ⊥
 
 -- how the run of a source comes to its end: it has ended after k entries, or the next one finds a node full while fewer
 -- are done than the budget and there is more to do
-pub data EndsAfter (program : Program) (ir : Parts) (specs : List NodeSpec) (schedule : List Entry) (budget k : ℕ) : ReportEnd → Type 0 where
-  ByItself : (how : RunEnd) → Run source_meaning (source_silent program) (source_start program (length specs)) schedule budget k (source_run program (length specs) schedule k) how → EndsAfter program ir specs schedule budget k (Ends how)
-  AsFull : (node need free : ℕ) (part : Part) → Reaches source_meaning (source_silent program) (source_start program (length specs)) schedule budget k (source_run program (length specs) schedule k) → end_of budget (source_run program (length specs) schedule k) ≡ None → NextFull ir specs schedule k node part need free → EndsAfter program ir specs schedule budget k (IsFull node part need free)
+pub data EndsAfter (program : Program) (ir : Parts) (specs : List NodeSpec) (schedule : List Entry) (budget k : ℕ) : ReportEnd →
+    Type 0 where
+  ByItself : (how : RunEnd) →
+      Run source_meaning (source_silent program) (source_start program (length specs)) schedule budget k
+      (source_run program (length specs) schedule k) how → EndsAfter program ir specs schedule budget k (Ends how)
+  AsFull : (node need free : ℕ) (part : Part) →
+      Reaches source_meaning (source_silent program) (source_start program (length specs)) schedule budget k
+      (source_run program (length specs) schedule k) → end_of budget (source_run program (length specs) schedule k) ≡ None →
+      NextFull ir specs schedule k node part need free → EndsAfter program ir specs schedule budget k (IsFull node part need free)
 
 -- ---- a run on the network
 
@@ -86,8 +94,17 @@ run_report w specs counts turns how = report (name_of w.common.classes) w specs 
 -- What is said of the run of an accepted source on nodes along a schedule: its status and its text. The text is the report
 -- of the run of the source's meaning, with the counts of the network; and turns of the network's own machine code lead
 -- along the same entries from the empty network to the one at the end.
-pub data RunsTo (program : Program) (specs : List NodeSpec) (schedule : List Entry) (budget : ℕ) (net net' : Net) : Status → List ℕ → Type 0 where
+pub data RunsTo (program : Program) (specs : List NodeSpec) (schedule : List Entry) (budget : ℕ) (net net' : Net) : Status →
+    List ℕ → Type 0 where
   -- the load finds no room
-  LoadIsFull : (ir : Parts) (node need free : ℕ) (part : Part) → Means program ir → LoadFull ir specs node part need free → Ran rv_meaning ir specs net [] net' → RunsTo program specs schedule budget net net' statuses.Full (load_report specs (IsFull node part need free))
+  LoadIsFull : (ir : Parts) (node need free : ℕ) (part : Part) → Means program ir → LoadFull ir specs node part need free →
+      Ran rv_meaning ir specs net [] net' →
+      RunsTo program specs schedule budget net net' statuses.Full (load_report specs (IsFull node part need free))
   -- the load finds room, and so does each entry that is done
-  RanUntil : (ir : Parts) (k : ℕ) (how : ReportEnd) → Means program ir → ((node need free : ℕ) (part : Part) → LoadFull ir specs node part need free → ⊥) → NoneFullBefore ir specs schedule k → EndsAfter program ir specs schedule budget k how → Ran rv_meaning ir specs net (source_run program (length specs) schedule k).done net' → RunsTo program specs schedule budget net net' (status_of (statuses_of (source_run program (length specs) schedule k).world) how) (run_report (source_run program (length specs) schedule k).world specs (counts_of net') k how)
+  RanUntil : (ir : Parts) (k : ℕ) (how : ReportEnd) → Means program ir →
+      ((node need free : ℕ) (part : Part) → LoadFull ir specs node part need free → ⊥) → NoneFullBefore ir specs schedule k →
+      EndsAfter program ir specs schedule budget k how →
+      Ran rv_meaning ir specs net (source_run program (length specs) schedule k).done net' →
+      RunsTo program specs schedule budget net net'
+      (status_of (statuses_of (source_run program (length specs) schedule k).world) how)
+      (run_report (source_run program (length specs) schedule k).world specs (counts_of net') k how)

@@ -42,7 +42,9 @@ fn push_object(
     out: &mut Vec<u8>,
 ) -> Result<bool, AllocError>
     requires { IsTrue net.now.whole }
-    ensures { IfOk result (λ there. ForShown rv_meaning net.now (λ c w. PushesObject (name_of w.common.classes) w specs.now oid out.old.items out.new.items there)) }
+    ensures { IfOk result
+        (λ there. ForShown rv_meaning net.now
+        (λ c w. PushesObject (name_of w.common.classes) w specs.now oid out.old.items out.new.items there)) }
 {
     let Some(class) = net.class_name(oid) else {
         return Ok(false);
@@ -71,7 +73,8 @@ fn push_objects(
     requires numbers { CanNumber net.now }
     requires nodes { ForShown rv_meaning net.now (λ c w. w.common.nodes ≡ length specs.now) }
     requires few { length specs.now < 2 ^ 32 - 1 }
-    ensures { OnOk result (ForShown rv_meaning net.now (λ c w. out.new.items ≡ out.old.items ++ lines_of_objects (name_of w.common.classes) w specs.now)) }
+    ensures { OnOk result
+        (ForShown rv_meaning net.now (λ c w. out.new.items ≡ out.old.items ++ lines_of_objects (name_of w.common.classes) w specs.now)) }
 {
     let mut oid = specs.len() as u32 + 1;
     'objects: while push_object(alloc, net, specs, oid, out)? {

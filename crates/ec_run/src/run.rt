@@ -96,7 +96,8 @@ fn run_loaded(
     budget: u64,
     net: &mut Network,
 ) -> Result<Answer, AllocError>
-    requires loaded { (statuses : List ProcStatus) × Follows specs.now net.old schedule.now budget statuses (at_start schedule.now) net.old }
+    requires loaded { (statuses : List ProcStatus)
+        × Follows specs.now net.old schedule.now budget statuses (at_start schedule.now) net.old }
     ensures { IfOk result (λ answer. IsReported specs.now schedule.now budget net.old net.new answer.status answer.text.items) }
 {
     let ended = drive(alloc, &OnNodes { specs }, net, schedule, budget)?;
@@ -135,7 +136,9 @@ fn answer_end(
     requires nodes { ForShown rv_meaning net.now (λ c w. w.common.nodes ≡ length specs.now) }
     requires few { length specs.now < 2 ^ 32 - 1 }
     ensures status { IfOk result (λ answer. ForShown rv_meaning net.now (λ c w. answer.status ≡ status_of (statuses_of w) ended.end)) }
-    ensures text { IfOk result (λ answer. ForShown rv_meaning net.now (λ c w. answer.text.items ≡ run_report w specs.now (counts_of net.now) ended.done ended.end)) }
+    ensures text { IfOk result
+        (λ answer. ForShown rv_meaning net.now
+        (λ c w. answer.text.items ≡ run_report w specs.now (counts_of net.now) ended.done ended.end)) }
 {
     let statuses = statuses_in(alloc, net)?;
     let text = report(alloc, net, specs, &statuses, ended.done, ended.end)?;

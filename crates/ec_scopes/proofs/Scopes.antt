@@ -3,7 +3,8 @@ use Rattle.std.proofs.Common.{◌≡◌, ℕ, Bool, true, List, [], ◌++◌, le
 use Rattle.std.proofs.lemmas.List.{append-nil}
 use Rattle.std.proofs.Math.Seq.{take-append_seam}
 use Rattle.ec_base.proofs.Stacks.{below_of-push}
-use Rattle.ec_scopes.specs.Scopes.{innermost, locals_of, in_loop_of, is_in_loop, within, outside, with_locals, at_loop, at_process, first_locals, declaring, forgetting, looping, in_a_loop, in_a_process}
+use Rattle.ec_scopes.specs.Scopes.{innermost, locals_of, in_loop_of, is_in_loop, within, outside, with_locals, at_loop, at_process}
+use Rattle.ec_scopes.specs.Scopes.{first_locals, declaring, forgetting, looping, in_a_loop, in_a_process}
 use Rattle.ec_scopes.specs.declared.entries.Entry.{Entry}
 use Rattle.ec_scopes.specs.declared.object.Object.{Object}
 use Rattle.ec_scopes.specs.declared.scope.Scope.{Scope}

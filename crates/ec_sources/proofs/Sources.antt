@@ -1,5 +1,6 @@
 -- A source is judged in one way only: it is one program's, or it is refused for one reason at one place.
-use Rattle.std.proofs.Common.{◌≡◌, ℕ, zero, suc, ◌+◌, ◌^◌, ◌<◌, ◌≤◌, List, [], ◌∷◌, ◌++◌, length, take, drop, ◌⊎◌, inl, inr, Some, None, refl, sym, ◌∙◌, ap, subst, arith, append_assoc, length-append}
+use Rattle.std.proofs.Common.{◌≡◌, ℕ, zero, suc, ◌+◌, ◌^◌, ◌<◌, ◌≤◌, List, [], ◌∷◌, ◌++◌, length, take, drop, ◌⊎◌, inl, inr, Some}
+use Rattle.std.proofs.Common.{None, refl, sym, ◌∙◌, ap, subst, arith, append_assoc, length-append}
 use Rattle.std.specs.Prelude.{slice_get}
 use Rattle.std.proofs.lemmas.Bool.{cases_lt}
 use Rattle.std.proofs.lemmas.List.{take-append-drop, take-take, drop-drop}
@@ -33,7 +34,8 @@ use Rattle.ec_sources.specs.declared.source.Refusal.{Refusal}
 use Rattle.ec_sources.specs.declared.source.Refusal.TheVariants.{Lexical, Syntax, Deep, Static}
 use Rattle.ec_sources.specs.declared.source.SourceError.{SourceError}
 use Rattle.ec_sources.specs.declared.source.SourceError.TheVariants.{Refused, Memory}
-use Rattle.ec_sources.specs.Sources.{IsProgram, IsChecked, IsSource, IsFaulty, IsRefused, IsFault as IsFaultIn, IsCause, lexical, syntax, deep, static_rule, place_of}
+use Rattle.ec_sources.specs.Sources.{IsProgram, IsChecked, IsSource, IsFaulty, IsRefused, IsFault as IsFaultIn, IsCause, lexical}
+use Rattle.ec_sources.specs.Sources.{syntax, deep, static_rule, place_of}
 use Rattle.ec_sources.specs.Sources.IsRefused.{faulty as is_faulty, later}
 
 -- ---- a text has at most one first fault
@@ -103,7 +105,8 @@ begins_later ts j k h n b =
     let split : take k ts ≡ take (j + 1) ts ++ drop (j + 1) (take k ts) =
     sym (take-append-drop (j + 1) (take k ts)) ∙ ap (λ x. x ++ drop (j + 1) (take k ts)) (take-take (j + 1) k ts (omega arith)) in
     n (drop (j + 1) (take k ts) ++ b.more) b.program
-    (subst (λ x. whole.HasTree x b.program) (ap (λ x. x ++ b.more) split ∙ append_assoc (take (j + 1) ts) (drop (j + 1) (take k ts)) b.more) b.has_tree)
+    (subst (λ x. whole.HasTree x b.program)
+    (ap (λ x. x ++ b.more) split ∙ append_assoc (take (j + 1) ts) (drop (j + 1) (take k ts)) b.more) b.has_tree)
 
 neither_less : (j k : ℕ) → (j < k → ⊥) → (k < j → ⊥) → (j < k) ⊎ (k ≤ j) → (k < j) ⊎ (j ≤ k) → j ≡ k
 neither_less j k h l (inl a) b = absurd (h a)
@@ -139,10 +142,12 @@ faulty_on : {text : List ℕ} {r : Refusal} {at : ℕ} → IsFaulty text r at �
 faulty_on (lexical f) ts h = absurd (no_tokens f ts h)
 faulty_on {text} {r} {at} (syntax {tokens} g s) ts h = subst (λ us. IsFaultyOn text us r at) (same_tokens text tokens ts g h) (by_syntax s)
 faulty_on {text} {r} {at} (deep {tokens} g d) ts h = subst (λ us. IsFaultyOn text us r at) (same_tokens text tokens ts g h) (by_depth d)
-faulty_on {text} {r} {at} (static_rule {tokens} g w s f e) ts h = subst (λ us. IsFaultyOn text us r at) (same_tokens text tokens ts g h) (by_rule w s f e)
+faulty_on {text} {r} {at} (static_rule {tokens} g w s f e) ts h =
+    subst (λ us. IsFaultyOn text us r at) (same_tokens text tokens ts g h) (by_rule w s f e)
 
 -- the first fault of tokens is one
-same_first : (ts : List Token) (w v : WholeProgram) (fs gs : List StaticFault) (f g : StaticFault) → whole.HasTree ts w → whole.HasTree ts v →
+same_first : (ts : List Token) (w v : WholeProgram) (fs gs : List StaticFault) (f g : StaticFault) → whole.HasTree ts w →
+    whole.HasTree ts v →
     HasFaults w fs → HasFaults v gs → slice_get fs 0 ≡ Some f → slice_get gs 0 ≡ Some g → f ≡ g
 same_first ts w v fs gs f g t u has have e d =
     let as_v = subst (λ x. HasFaults x fs) (same_whole_tree ts w v t u) has in
@@ -150,7 +155,8 @@ same_first ts w v fs gs f g t u has have e d =
     let first : slice_get fs 0 ≡ slice_get gs 0 = ap (λ x. slice_get x 0) same in
     cc
 
-same_on : {text : List ℕ} {ts : List Token} {r s : Refusal} {at to : ℕ} → IsFaultyOn text ts r at → IsFaultyOn text ts s to → (r ≡ s) × (at ≡ to)
+same_on : {text : List ℕ} {ts : List Token} {r s : Refusal} {at to : ℕ} → IsFaultyOn text ts r at → IsFaultyOn text ts s to →
+    (r ≡ s) × (at ≡ to)
 same_on {text} {ts} (by_syntax {k = j} a) (by_syntax {k} b) = (refl, ap (λ x. place_of text ts x) (same_syntax ts j k a b))
 same_on {text} {ts} (by_syntax {k = j} a) (by_depth {k} b) = absurd (syntax_or_deep ts j k a b (cases_lt k j))
 same_on (by_syntax a) (by_rule {w} h s f e) = absurd (a.no_program w h)
@@ -175,7 +181,8 @@ same_fault (syntax {tokens} g s) d = same_on (by_syntax s) (faulty_on d tokens g
 same_fault (deep {tokens} g s) d = same_on (by_depth s) (faulty_on d tokens g)
 same_fault (static_rule {tokens} g w s h e) d = same_on (by_rule w s h e) (faulty_on d tokens g)
 
-no_fault_on : {text : List ℕ} {ts : List Token} {w : WholeProgram} {r : Refusal} {at : ℕ} → IsProgram text ts w → IsFaultyOn text ts r at → ⊥
+no_fault_on : {text : List ℕ} {ts : List Token} {w : WholeProgram} {r : Refusal} {at : ℕ} → IsProgram text ts w →
+    IsFaultyOn text ts r at → ⊥
 no_fault_on {w = w} p (by_syntax a) = a.no_program w p.has_tree
 no_fault_on {ts = ts} p (by_depth {k} a) = no_deep ts k p.shallow a
 no_fault_on {ts = ts} {w = w} p (by_rule {w = v} {faults = fs} h s a e) =
@@ -189,14 +196,17 @@ pub not_faulty : {text : List ℕ} {r : Refusal} {at : ℕ} → IsChecked text �
 not_faulty c f = no_fault_on c.is_program (faulty_on f c.tokens c.is_program.has_tokens)
 
 -- the tokens of a text are one list, wherever they leave the printing part
-outside_on : {text : List ℕ} {ts us : List Token} {w : WholeProgram} {k : ℕ} → IsProgram text us w → HasTokens text ts → IsOutside us k → IsOutside ts k
+outside_on : {text : List ℕ} {ts us : List Token} {w : WholeProgram} {k : ℕ} → IsProgram text us w → HasTokens text ts →
+    IsOutside us k → IsOutside ts k
 outside_on {text} {ts} {us} {k = k} p h o = subst (λ x. IsOutside x k) (same_tokens text us ts p.has_tokens h) o
 
 -- a text is refused for one reason at one place only
 pub same_refusal : {text : List ℕ} {r s : Refusal} {at to : ℕ} → IsRefused text r at → IsRefused text s to → (r ≡ s) × (at ≡ to)
 same_refusal (is_faulty f) (is_faulty g) = same_fault f g
-same_refusal (is_faulty f) (later {tokens} {program} p o) = absurd (not_faulty (record { tokens = tokens; program = program; is_program = p }) f)
-same_refusal (later {tokens} {program} p o) (is_faulty f) = absurd (not_faulty (record { tokens = tokens; program = program; is_program = p }) f)
+same_refusal (is_faulty f) (later {tokens} {program} p o) =
+    absurd (not_faulty (record { tokens = tokens; program = program; is_program = p }) f)
+same_refusal (later {tokens} {program} p o) (is_faulty f) =
+    absurd (not_faulty (record { tokens = tokens; program = program; is_program = p }) f)
 same_refusal {text} (later {tokens = ts} {k = j} p o) (later {tokens = us} {k} q n) =
     let same : us ≡ ts = same_tokens text us ts q.has_tokens p.has_tokens in
     (refl, ap (λ x. place_of text ts x) (same_place ts j k o (outside_on q p.has_tokens n)) ∙ ap (λ x. place_of text x k) (sym same))
@@ -209,7 +219,9 @@ not_refused {program = program} s (later p o) = (outside_on p s.is_program.has_t
 -- a text is one program's only
 pub same_program : (text : List ℕ) (p q : Program) → IsSource text p → IsSource text q → p ≡ q
 same_program text p q s t =
-    same_tree t.tokens p q (subst (λ ts. printing.HasTree ts p) (same_tokens text s.tokens t.tokens s.is_program.has_tokens t.is_program.has_tokens) s.is_printing) t.is_printing
+    same_tree t.tokens p q
+    (subst (λ ts. printing.HasTree ts p) (same_tokens text s.tokens t.tokens s.is_program.has_tokens t.is_program.has_tokens)
+    s.is_printing) t.is_printing
 
 -- ---- what the steps of judging a text find
 
@@ -221,7 +233,8 @@ cause_of text Memory f = tt
 -- ---- a program is short enough to be lowered
 
 -- a statement has a token
-few_statements : {tokens : List Token} {statements : List Statement} → printing.AreStatements tokens statements → length statements ≤ length tokens
+few_statements : {tokens : List Token} {statements : List Statement} → printing.AreStatements tokens statements →
+    length statements ≤ length tokens
 few_statements printing.none = omega arith
 few_statements (printing.more (printing.print p) others) = let few = few_statements others in omega arith
 

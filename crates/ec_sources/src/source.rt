@@ -6,7 +6,8 @@ ghost use Rattle.ec_lexer.specs.Tokens.{HasTokens};
 ghost use Rattle.ec_parser.specs.HasTree as whole;
 ghost use Rattle.ec_parser.specs.Program.{IsShallow};
 ghost use Rattle.ec_subset.specs.Grammar as printing;
-ghost use Rattle.ec_sources.specs.Sources.{IsProgram, IsSource, IsMeant, IsFault, IsCause, place_of, fault_name, rule_name, refusal_name, refused_line};
+ghost use Rattle.ec_sources.specs.Sources.{IsProgram, IsSource, IsMeant, IsFault, IsCause, place_of, fault_name, rule_name};
+ghost use Rattle.ec_sources.specs.Sources.{refusal_name, refused_line};
 
 use crate::place::push_place;
 use ec_base::list::Seq;

@@ -57,7 +57,8 @@ home_word (Slot n) = first_slot + n
 home_word (Reg k) = first_saved + k
 
 -- under these local references and texts, the word at an address stands for a value
-pub record WordStands (number : ℕ → List ℕ → ℕ) (local : ℕ → Option ℕ) (text : ℕ → Option (List ℕ)) (bytes : Bytes) (at : ℕ) (v : Value) : Type 0 where
+pub record WordStands (number : ℕ → List ℕ → ℕ) (local : ℕ → Option ℕ) (text : ℕ → Option (List ℕ)) (bytes : Bytes) (at : ℕ)
+    (v : Value) : Type 0 where
   pub word : ℕ
   pub there : word_in number bytes at ≡ Some word
   pub stands : StandsFor local text v word
@@ -74,7 +75,8 @@ pub record OneToOne (local : ℕ → Option ℕ) (text : ℕ → Option (List �
 
 -- the live values are of their static types
 pub record LiveTyped (program : Parts) (a : IrActivation) : Type 0 where
-  pub each : (v : ℕ) → Has (live_variables program a) v → (t : ValueType) × (slice_get (types_of (operation_at program a.operation)) v ≡ Some t) × HasType t (variable a.variables v)
+  pub each : (v : ℕ) → Has (live_variables program a) v →
+      (t : ValueType) × (slice_get (types_of (operation_at program a.operation)) v ≡ Some t) × HasType t (variable a.variables v)
 
 module _ {S : Type 0} (M : MachineMeaning S) (program : Parts) (table : StopTable) (local : ℕ → Option ℕ) (text : ℕ → Option (List ℕ)) where
   -- a variable's home holds its value: a slot in the frame at block f, or a register
@@ -103,9 +105,11 @@ module _ {S : Type 0} (M : MachineMeaning S) (program : Parts) (table : StopTabl
     pub own_base : (b : ℕ) → slice_get own 0 ≡ Some b → M.register s M.own_base ≡ block_at b
     pub apart : Has own f → ⊥
     pub frame : (i : ℕ) → i < 128 → (w : ℕ) × (word_in M.number bytes (block_word_at f i) ≡ Some w)
-    pub heads : (i n : ℕ) → slice_get (p ∷ d ∷ a.operation ∷ a.at ∷ 0 ∷ a.own ∷ []) i ≡ Some n → word_in M.number bytes (block_word_at f i) ≡ Some n
+    pub heads : (i n : ℕ) → slice_get (p ∷ d ∷ a.operation ∷ a.at ∷ 0 ∷ a.own ∷ []) i ≡ Some n →
+        word_in M.number bytes (block_word_at f i) ≡ Some n
     pub live : LiveStand f a s bytes
-    pub own_fields : (i : ℕ) (v : Value) → slice_get fields i ≡ Some v → (at : ℕ) × (owner_word_at own i ≡ Some at) × WordStands M.number local text bytes at v
+    pub own_fields : (i : ℕ) (v : Value) → slice_get fields i ≡ Some v →
+        (at : ℕ) × (owner_word_at own i ≡ Some at) × WordStands M.number local text bytes at v
     pub constants : (i : ℕ) (v : Value) → slice_get globals i ≡ Some v → WordStands M.number local text bytes (global_word_at i) v
 
   -- the code leads in few steps from a state to the stop at which the activation next rests; the live values there and
@@ -119,19 +123,24 @@ module _ {S : Type 0} (M : MachineMeaning S) (program : Parts) (table : StopTabl
     pub rests : M.rests last
     pub at : stop_in table a.operation a.at ≡ Some (M.place last)
     pub live : LiveStand f a last memory
-    pub own_fields : (i : ℕ) (v : Value) → slice_get fields i ≡ Some v → (at : ℕ) × (owner_word_at own i ≡ Some at) × WordStands M.number local text memory at v
+    pub own_fields : (i : ℕ) (v : Value) → slice_get fields i ≡ Some v →
+        (at : ℕ) × (owner_word_at own i ≡ Some at) × WordStands M.number local text memory at v
     pub others : (address : ℕ) → (address < block_word_at f first_saved) ⊎ (block_at (suc f) ≤ address) → memory address ≡ bytes address
 
 pub record Faithful {S : Type 0} (M : MachineMeaning S) (code : Code) (table : StopTable) (program : Parts) : Type 0 where
   -- each stop has one address, and stop instructions stand at these addresses alone
-  pub stops : (op at : ℕ) (s : StopRec) → stop_at program op at ≡ Some s → (address : ℕ) × (stop_in table op at ≡ Some address) × (word_at code.words address ≡ Some M.stop_word)
-  pub only : (address : ℕ) → word_at code.words address ≡ Some M.stop_word → (op : ℕ) × (at : ℕ) × (s : StopRec) × (stop_at program op at ≡ Some s) × (stop_in table op at ≡ Some address)
-  pub apart : (op at op' at' address : ℕ) → stop_in table op at ≡ Some address → stop_in table op' at' ≡ Some address → (op ≡ op') × (at ≡ at')
+  pub stops : (op at : ℕ) (s : StopRec) → stop_at program op at ≡ Some s →
+      (address : ℕ) × (stop_in table op at ≡ Some address) × (word_at code.words address ≡ Some M.stop_word)
+  pub only : (address : ℕ) → word_at code.words address ≡ Some M.stop_word →
+      (op : ℕ) × (at : ℕ) × (s : StopRec) × (stop_at program op at ≡ Some s) × (stop_in table op at ≡ Some address)
+  pub apart : (op at op' at' address : ℕ) → stop_in table op at ≡ Some address → stop_in table op' at' ≡ Some address →
+      (op ≡ op') × (at ≡ at')
   -- the table speaks of the program's operations and stops alone
   pub known : (op at address : ℕ) → stop_in table op at ≡ Some address → (s : StopRec) × (stop_at program op at ≡ Some s)
   -- from every state that fits just behind a stop whose action is done, with its result come, the code does what silent
   -- steps do
-  pub runs : (local : ℕ → Option ℕ) (text : ℕ → Option (List ℕ)) (p d f : ℕ) (own : List ℕ) (a : IrActivation) (stop : StopRec) (fields globals : List Value) (s : S) (bytes : Bytes) →
+  pub runs : (local : ℕ → Option ℕ) (text : ℕ → Option (List ℕ)) (p d f : ℕ) (own : List ℕ) (a : IrActivation) (stop : StopRec)
+      (fields globals : List Value) (s : S) (bytes : Bytes) →
       OneToOne local text → HasLiterals program text →
       stop_at program a.operation a.at ≡ Some stop → HasCode stop.stop →
       a.pending ≡ false → a.into ≡ None → LiveTyped program a → Typed program.globals globals →

@@ -88,7 +88,8 @@ module _ (ts : List Terminal) (us : List Token) (n : ℕ) (d : Terminal) where
       let next : drop n ts ≡ get_or ts n d ∷ drop (n + 1) ts = drop_more ts n d h in
       rw (left, next) no_token
 
-  pub another_next : (u : Token) → n < length ts → n < length us → (IsTerminal (get_or ts n d) (get_or us n u).kind → ⊥) → FitInTurn (drop n ts) (drop n us) 0
+  pub another_next : (u : Token) → n < length ts → n < length us → (IsTerminal (get_or ts n d) (get_or us n u).kind → ⊥) →
+      FitInTurn (drop n ts) (drop n us) 0
   another_next u h l o =
       let left : drop n us ≡ get_or us n u ∷ drop (n + 1) us = drop_more us n u l in
       let next : drop n ts ≡ get_or ts n d ∷ drop (n + 1) ts = drop_more ts n d h in

@@ -1,5 +1,6 @@
 -- Where tokens leave the printing part: one place, and which it is.
-use Rattle.std.proofs.Common.{◌≡◌, ℕ, suc, ◌+◌, ◌-◌, ◌<◌, ◌≤◌, List, [], ◌∷◌, ◌++◌, length, take, drop, get_or, ◌⊎◌, inl, inr, Some, refl, sym, ◌∙◌, ap, subst, arith, append_assoc, append-nil, length-take, length-drop, length-append}
+use Rattle.std.proofs.Common.{◌≡◌, ℕ, suc, ◌+◌, ◌-◌, ◌<◌, ◌≤◌, List, [], ◌∷◌, ◌++◌, length, take, drop, get_or, ◌⊎◌, inl, inr, Some}
+use Rattle.std.proofs.Common.{refl, sym, ◌∙◌, ap, subst, arith, append_assoc, append-nil, length-take, length-drop, length-append}
 use Rattle.std.proofs.Math.Seq.{take-add}
 use Rattle.std.proofs.lemmas.Bool.{cases_lt}
 use Rattle.std.proofs.lemmas.List.{take-append-drop, take-take, take_all, get_or_default, get_or-take, get_or-drop, drop-drop}
@@ -27,7 +28,8 @@ none_later ts j k h l n b =
     let split : take k ts ≡ take (j + 1) ts ++ drop (j + 1) (take k ts) =
     sym (take-append-drop (j + 1) (take k ts)) ∙ ap (λ x. x ++ drop (j + 1) (take k ts)) (take-take (j + 1) k ts (omega arith)) in
     n (drop (j + 1) (take k ts) ++ b.more) b.program
-    (subst (λ x. HasTree x b.program) (ap (λ x. x ++ b.more) split ∙ append_assoc (take (j + 1) ts) (drop (j + 1) (take k ts)) b.more) b.has_tree)
+    (subst (λ x. HasTree x b.program)
+    (ap (λ x. x ++ b.more) split ∙ append_assoc (take (j + 1) ts) (drop (j + 1) (take k ts)) b.more) b.has_tree)
 
 same_by : (ts : List Token) (j k : ℕ) → IsOutside ts j → IsOutside ts k → (j < k) ⊎ (k ≤ j) → (k < j) ⊎ (j ≤ k) → j ≡ k
 same_by ts j k a b (inl h) o = let l = b.within in absurd (none_later ts j k h l (a.after (omega arith)) b.before)
@@ -54,8 +56,10 @@ module _ (tokens : List Token) (at n : ℕ) (R : List Token → Type 0) where
         ap (λ k. take k tokens) (omega arith) ∙ take-add at (suc n) tokens in
         after (simp length-drop (omega arith)) more
         (all (take (suc n) (drop at tokens) ++ more) program
-        (subst (λ x. HasTree x program) (ap (λ x. x ++ more) one_more ∙ append_assoc (take at tokens) (take (suc n) (drop at tokens)) more) tree));
-    no_program = λ program tree. now (all (drop at tokens) program (subst (λ x. HasTree x program) (sym (take-append-drop at tokens)) tree));
+        (subst (λ x. HasTree x program)
+        (ap (λ x. x ++ more) one_more ∙ append_assoc (take at tokens) (take (suc n) (drop at tokens)) more) tree));
+    no_program = λ program tree. now
+        (all (drop at tokens) program (subst (λ x. HasTree x program) (sym (take-append-drop at tokens)) tree));
   }
 
 first_constant : (x : List Token) (program : Program) → HasTree x program → (x ≡ []) ⊎ BeginsWith CONSTANT_BEGIN x
@@ -64,15 +68,18 @@ first_constant (t ∷ ts) program h = inr (begins_constant (parts h (λ e. cc)))
 
 -- ---- programs that begin so
 
-begun : (front block : List Token) (ss : List Statement) (end : List Token) → BeginsWith CONSTANT_BEGIN front → length front ≡ 6 → AreStatements block ss →
+begun : (front block : List Token) (ss : List Statement) (end : List Token) → BeginsWith CONSTANT_BEGIN front → length front ≡ 6 →
+    AreStatements block ss →
     BeginsWith CONSTANT_END end → length end ≡ 4 → (program : Program) × HasTree (front ++ (block ++ end)) program
 begun front block ss end p m are q l =
     let d : Token = sample terminal.Name in
     let tree = constant_tree front block ss end (get_or front 1 d) (get_or front 4 d) (get_or end 3 d) p m are q l
-    (get_or_default front 1 d (get_or front 1 d) (omega arith)) (get_or_default front 4 d (get_or front 4 d) (omega arith)) (get_or_default end 3 d (get_or end 3 d) (omega arith)) in
+    (get_or_default front 1 d (get_or front 1 d) (omega arith)) (get_or_default front 4 d (get_or front 4 d) (omega arith))
+    (get_or_default end 3 d (get_or end 3 d) (omega arith)) in
     (_, tree)
 
-add_statement : {us : List Token} {ss : List Statement} → AreStatements us ss → (stmt : List Token) → BeginsWith PRINT stmt → length stmt ≡ 6 →
+add_statement : {us : List Token} {ss : List Statement} → AreStatements us ss → (stmt : List Token) → BeginsWith PRINT stmt →
+    length stmt ≡ 6 →
     (ts : List Statement) × AreStatements (us ++ stmt) ts
 add_statement {us} {ss} are stmt b l =
     let d : Token = sample terminal.Name in
@@ -95,7 +102,8 @@ in_begin (t ∷ ts) k not_empty s =
     (record {
       more = samples (drop s.fitting CONSTANT_BEGIN) ++ samples CONSTANT_END;
       program = made.0;
-      has_tree = subst (λ x. HasTree x made.0) (append_assoc (take s.fitting (t ∷ ts)) (samples (drop s.fitting CONSTANT_BEGIN)) (samples CONSTANT_END)) made.1;
+      has_tree = subst (λ x. HasTree x made.0)
+          (append_assoc (take s.fitting (t ∷ ts)) (samples (drop s.fitting CONSTANT_BEGIN)) (samples CONSTANT_END)) made.1;
     })
     (λ l more r. elim r [ inl e ↦ cc | inr b ↦ none_behind s.fit s.fewer s.fitting (omega arith) l more b ])
     (λ r. elim r [ inl e ↦ cc | inr b ↦ let f = fit_all s.fit b in let g = s.fewer in omega arith ])
@@ -108,7 +116,8 @@ stops_in_begin tokens Memory not_empty s = absurd s
 
 -- ---- behind the begin and some statements
 
-end_first : (us : List Token) (n : ℕ) (more : List Token) → n < length us → BeginsWith CONSTANT_END (take (suc n) us ++ more) → BeginsWith END us
+end_first : (us : List Token) (n : ℕ) (more : List Token) → n < length us → BeginsWith CONSTANT_END (take (suc n) us ++ more) →
+    BeginsWith END us
 end_first [] n more l b = absurd (omega arith)
 end_first (u ∷ us) n more l b = (b.0, tt)
 
@@ -127,7 +136,8 @@ end_and_more : (us : List Token) (n : ℕ) (more : List Token) → BeginsWith EN
 end_and_more [] n more b = absurd b
 end_and_more (u ∷ us) n more b = b
 
-module _ (tokens : List Token) (ss : List Statement) (at : ℕ) (begin : BeginsWith CONSTANT_BEGIN tokens) (from : 6 ≤ at) (within : at ≤ length tokens)
+module _ (tokens : List Token) (ss : List Statement) (at : ℕ) (begin : BeginsWith CONSTANT_BEGIN tokens) (from : 6 ≤ at)
+    (within : at ≤ length tokens)
     (are : AreStatements (take (at - 6) (drop 6 tokens)) ss) where
   parts_of_front : take at tokens ≡ take 6 tokens ++ take (at - 6) (drop 6 tokens)
   parts_of_front = ap (λ k. take k tokens) (omega arith) ∙ take-add 6 (at - 6) tokens
@@ -139,9 +149,11 @@ module _ (tokens : List Token) (ss : List Statement) (at : ℕ) (begin : BeginsW
   split x = ap (λ y. y ++ x) parts_of_front ∙ append_assoc (take 6 tokens) (take (at - 6) (drop 6 tokens)) x
 
   behind : (x : List Token) (program : Program) → HasTree (take at tokens ++ x) program → GoesOn x
-  behind x program h = goes_on (take 6 tokens) (take (at - 6) (drop 6 tokens)) six are x program (subst (λ y. HasTree y program) (split x) h)
+  behind x program h = goes_on (take 6 tokens) (take (at - 6) (drop 6 tokens)) six are x program
+      (subst (λ y. HasTree y program) (split x) h)
 
-  finished : (end : List Token) → BeginsWith CONSTANT_END end → length end ≡ 4 → (program : Program) × HasTree (take at tokens ++ end) program
+  finished : (end : List Token) → BeginsWith CONSTANT_END end → length end ≡ 4 →
+      (program : Program) × HasTree (take at tokens ++ end) program
   finished end q l =
       let made = begun (take 6 tokens) (take (at - 6) (drop 6 tokens)) ss end (begins_front CONSTANT_BEGIN tokens begin) six are q l in
       (made.0, subst (λ y. HasTree y made.0) (sym (split end)) made.1)
@@ -150,7 +162,8 @@ module _ (tokens : List Token) (ss : List Statement) (at : ℕ) (begin : BeginsW
       (program : Program) × HasTree (take at tokens ++ (stmt ++ end)) program
   gone_on stmt end b m q l =
       let grown = add_statement are stmt b m in
-      let made = begun (take 6 tokens) (take (at - 6) (drop 6 tokens) ++ stmt) grown.0 end (begins_front CONSTANT_BEGIN tokens begin) six grown.1 q l in
+      let made = begun (take 6 tokens) (take (at - 6) (drop 6 tokens) ++ stmt) grown.0 end
+      (begins_front CONSTANT_BEGIN tokens begin) six grown.1 q l in
       let same : take 6 tokens ++ ((take (at - 6) (drop 6 tokens) ++ stmt) ++ end) ≡ take at tokens ++ (stmt ++ end) =
       ap (λ y. take 6 tokens ++ y) (append_assoc (take (at - 6) (drop 6 tokens)) stmt end) ∙ sym (split (stmt ++ end)) in
       (made.0, subst (λ y. HasTree y made.0) same made.1)
@@ -166,10 +179,16 @@ module _ (tokens : List Token) (ss : List Statement) (at : ℕ) (begin : BeginsW
         more = samples (drop s.fitting PRINT) ++ samples CONSTANT_END;
         program = made.0;
         has_tree = subst (λ x. HasTree x made.0)
-            (ap (λ y. take at tokens ++ y) (append_assoc (take s.fitting (drop at tokens)) (samples (drop s.fitting PRINT)) (samples CONSTANT_END))
-            ∙ sym (append_assoc (take at tokens) (take s.fitting (drop at tokens)) (samples (drop s.fitting PRINT) ++ samples CONSTANT_END))) made.1;
+            (ap (λ y. take at tokens ++ y)
+            (append_assoc (take s.fitting (drop at tokens)) (samples (drop s.fitting PRINT)) (samples CONSTANT_END))
+            ∙ sym (append_assoc (take at tokens) (take s.fitting (drop at tokens))
+            (samples (drop s.fitting PRINT) ++ samples CONSTANT_END))) made.1;
       })
-      (λ l more r. elim r [ inl b ↦ none_behind s.fit s.fewer s.fitting (omega arith) l more b | inr b ↦ no_end (end_first (drop at tokens) s.fitting more l b.0) ])
+      (λ l more r. elim r [
+        | inl b ↦ none_behind s.fit s.fewer s.fitting (omega arith) l more b
+        | inr b ↦ no_end
+            (end_first (drop at tokens) s.fitting more l b.0)
+      ])
       (λ r. elim r [ inl b ↦ let f = fit_all s.fit b in let g = s.fewer in omega arith | inr b ↦ no_end (begins_end (drop at tokens) b.0) ])
       behind in
       subst (λ x. IsOutside tokens x) (sym s.token_is) place
@@ -188,7 +207,8 @@ module _ (tokens : List Token) (ss : List Statement) (at : ℕ) (begin : BeginsW
       (record {
         more = samples (drop s.fitting CONSTANT_END);
         program = made.0;
-        has_tree = subst (λ x. HasTree x made.0) (sym (append_assoc (take at tokens) (take s.fitting (drop at tokens)) (samples (drop s.fitting CONSTANT_END)))) made.1;
+        has_tree = subst (λ x. HasTree x made.0)
+            (sym (append_assoc (take at tokens) (take s.fitting (drop at tokens)) (samples (drop s.fitting CONSTANT_END)))) made.1;
       })
       (λ l more r. elim r [
         | inl b ↦ end_or_print (take (suc s.fitting) (drop at tokens) ++ more) (end_and_more (drop at tokens) s.fitting more ended) b
@@ -202,15 +222,22 @@ module _ (tokens : List Token) (ss : List Statement) (at : ℕ) (begin : BeginsW
   stops_in_end (Outside k) ended s = in_end k ended s
   stops_in_end Memory ended s = absurd s
 
-  pub behind_end : BeginsWith END (drop at tokens) → BeginsWith CONSTANT_END (drop at tokens) → at + 4 < length tokens → IsOutside tokens (at + 4)
+  pub behind_end : BeginsWith END (drop at tokens) → BeginsWith CONSTANT_END (drop at tokens) → at + 4 < length tokens →
+      IsOutside tokens (at + 4)
   behind_end ended q h =
       let left : length (drop at tokens) ≡ length tokens - at = length-drop at tokens in
       let made = finished (take 4 (drop at tokens)) (begins_front CONSTANT_END (drop at tokens) q) (simp length-take (omega arith)) in
       outside tokens at 4 GoesOn (omega arith)
-      (record { more = []; program = made.0; has_tree = subst (λ x. HasTree x made.0) (sym (append-nil (take at tokens ++ take 4 (drop at tokens)))) made.1 })
+      (record {
+        more = [];
+        program = made.0;
+        has_tree =
+            subst (λ x. HasTree x made.0) (sym (append-nil (take at tokens ++ take 4 (drop at tokens)))) made.1;
+      })
       (λ l more r. elim r [
         | inl b ↦ end_or_print (take 5 (drop at tokens) ++ more) (end_and_more (drop at tokens) 4 more ended) b
-        | inr b ↦ let m = length-append (take 5 (drop at tokens)) more in let n = length-take 5 (drop at tokens) in let o = b.1 in omega arith
+        | inr b ↦ let m = length-append (take 5 (drop at tokens)) more in let n = length-take 5 (drop at tokens) in let o =
+            b.1 in omega arith
       ])
       (λ r. elim r [ inl b ↦ end_or_print (drop at tokens) ended b | inr b ↦ let o = b.1 in omega arith ])
       behind
@@ -222,16 +249,27 @@ module _ (tokens : List Token) (ss : List Statement) (at : ℕ) (begin : BeginsW
       let left : length (drop at tokens) ≡ length tokens - at = length-drop at tokens in
       let l = p.0 in
       let there : drop (at - 6) (drop 6 tokens) ≡ drop at tokens = drop-drop (at - 6) 6 tokens ∙ ap (λ k. drop k tokens) (omega arith) in
-      let grown = add_next (drop 6 tokens) (at - 6) ss (Print (literal_of e)) are (subst (λ x. IsStatement (take 6 x) (Print (literal_of e))) (sym there) p.1) in
+      let grown = add_next (drop 6 tokens) (at - 6) ss (Print (literal_of e)) are
+      (subst (λ x. IsStatement (take 6 x) (Print (literal_of e))) (sym there) p.1) in
       (omega arith, omega arith, subst (λ k. AreStatements (take k (drop 6 tokens)) (ss ++ Print (literal_of e) ∷ [])) (omega arith) grown)
 
   pub whole_constant : BeginsWith CONSTANT_END (drop at tokens) → length tokens ≤ at + 4 → (x y z : Token) →
       x ≡ get_or tokens 1 x → y ≡ get_or tokens 4 y → z ≡ get_or tokens (at + 3) z →
-      HasTree tokens (record { constant = Some (record { name = name_of x; value = record { name = name_of y; initially = ss; end_name = name_of z } }) })
+      HasTree tokens
+      (record {
+        constant = Some
+            (record { name = name_of x; value = record { name = name_of y; initially = ss; end_name = name_of z } });
+      })
   whole_constant q h x y z ex ey ez =
-      let program : Program = record { constant = Some (record { name = name_of x; value = record { name = name_of y; initially = ss; end_name = name_of z } }) } in
+      let program : Program =
+      record {
+        constant = Some
+            (record { name = name_of x; value = record { name = name_of y; initially = ss; end_name = name_of z } });
+      } in
       let left : length (drop at tokens) ≡ length tokens - at = length-drop at tokens in
       let long = begins_long CONSTANT_END (drop at tokens) q in
-      let tree = constant_tree (take 6 tokens) (take (at - 6) (drop 6 tokens)) ss (drop at tokens) x y z (begins_front CONSTANT_BEGIN tokens begin) six are q (omega arith)
-      (ex ∙ sym (get_or-take 6 tokens 1 x (omega arith))) (ey ∙ sym (get_or-take 6 tokens 4 y (omega arith))) (ez ∙ sym (get_or-drop at tokens 3 z)) in
+      let tree = constant_tree (take 6 tokens) (take (at - 6) (drop 6 tokens)) ss (drop at tokens) x y z
+      (begins_front CONSTANT_BEGIN tokens begin) six are q (omega arith)
+      (ex ∙ sym (get_or-take 6 tokens 1 x (omega arith))) (ey ∙ sym (get_or-take 6 tokens 4 y (omega arith)))
+      (ez ∙ sym (get_or-drop at tokens 3 z)) in
       subst (λ y. HasTree y program) (sym (split (drop at tokens)) ∙ take-append-drop at tokens) tree

@@ -18,7 +18,8 @@ some_at true x w e = (refl, same_Some x w e)
 some_at false x w e = absurd (cc)
 
 -- a word stands nowhere else
-pub place_of_word : (code : List ℕ) (pc w : ℕ) → word_at code pc ≡ Some w → (i : ℕ) × (i < length code) × (pc ≡ pc_of i) × (slice_index code i ≡ w)
+pub place_of_word : (code : List ℕ) (pc w : ℕ) → word_at code pc ≡ Some w →
+    (i : ℕ) × (i < length code) × (pc ≡ pc_of i) × (slice_index code i ≡ w)
 place_of_word code pc w e =
     let i = (pc - code_base) / 4 in
     let found = some_at (nat_le code_base pc && (pc % 4 == 0) && nat_lt i (length code)) (slice_index code i) w e in

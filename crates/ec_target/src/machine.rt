@@ -3,7 +3,8 @@
 ghost use Rattle.std.specs.Prelude.{◌≡◌, ◌<◌, ◌∷◌, [], ℕ, List, Option, Some, IfOk, IfErr};
 ghost use Rattle.ec_target.specs.declared.outcome.Trap.{Trap};
 ghost use Rattle.ec_target.specs.Code.{word_at};
-ghost use Rattle.ec_target.specs.Runs.{Answers, AreApart, AreBases, Halts, IsOneWay, Leads, Native, ReadsBack, SetsPlace, SetsRegister, WritesBytes};
+ghost use Rattle.ec_target.specs.Runs.{Answers, AreApart, AreBases, Halts, IsOneWay, Leads, Native, ReadsBack, SetsPlace};
+ghost use Rattle.ec_target.specs.Runs.{SetsRegister, WritesBytes};
 ghost use Rattle.ec_world.specs.declared.node.Kind.{Kind};
 
 use crate::outcome::{Outcome, Trap};
@@ -79,14 +80,18 @@ pub trait Machine {
 
     /// Does the instruction at the machine's place.
     fn step<M: Memory>(&mut self, code: &[u32], memory: &mut M) -> Outcome
-        ensures answer { Answers (goes code.now) (stops code.now) (traps code.now) self.old (M.byte_at memory.old) result self.new (M.byte_at memory.new) }
+        ensures answer { Answers (goes code.now) (stops code.now) (traps code.now) self.old (M.byte_at memory.old) result self.new
+            (M.byte_at memory.new) }
         ensures rest { M.alike memory.old memory.new };
 
     /// Runs to the next stop, and says how many instructions come before it.
     fn run_to_stop<M: Memory>(&mut self, code: &[u32], memory: &mut M) -> Result<u64, Trap>
         requires { Halts (goes code.now) self.old (M.byte_at memory.old) }
-        ensures ok { IfOk result (λ k. Native (goes code.now) (stops code.now) self.old (M.byte_at memory.old) k self.new (M.byte_at memory.new)) }
-        ensures err { IfErr result (λ trap. (k : ℕ) × Leads (goes code.now) self.old (M.byte_at memory.old) k self.new (M.byte_at memory.new) × traps code.now self.new (M.byte_at memory.new) trap) }
+        ensures ok { IfOk result
+            (λ k. Native (goes code.now) (stops code.now) self.old (M.byte_at memory.old) k self.new (M.byte_at memory.new)) }
+        ensures err { IfErr result
+            (λ trap. (k : ℕ) × Leads (goes code.now) self.old (M.byte_at memory.old) k self.new (M.byte_at memory.new)
+            × traps code.now self.new (M.byte_at memory.new) trap) }
         ensures rest { M.alike memory.old memory.new }
     {
         for steps in 0..u64::MAX {

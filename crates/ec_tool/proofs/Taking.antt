@@ -21,7 +21,14 @@ use Rattle.ec_world.specs.declared.run.Entry.{Entry}
 pub one_node_read : (nodes : List ℕ) (specs : List NodeSpec) → NodesOf nodes ≡ Ok specs → IsOneNode specs
 one_node_read nodes specs e =
     let one = one_node nodes specs e in
-    record { spec = one.spec; one = one.one; kind = one.sized.kind; blocks = one.sized.blocks; text = (let t = one.sized.text in omega arith) }
+    record {
+      spec = one.spec;
+      one = one.one;
+      kind = one.sized.kind;
+      blocks = one.sized.blocks;
+      text =
+          (let t = one.sized.text in omega arith);
+    }
 
 -- a source that isn't taken is refused
 pub refuses : (work : Work) (words : RunWords) (source : List ℕ) (refused : ARefusal) → IsNotTaken work source (Refused refused) →
@@ -29,7 +36,8 @@ pub refuses : (work : Work) (words : RunWords) (source : List ℕ) (refused : AR
 refuses Run words source refused n = n
 refuses Mean words source refused n = n
 
-pub takes : (work : Work) (words : RunWords) (source : List ℕ) (taken : Taken) → IsTaken work source taken → Takes (asked_of work words) source
+pub takes : (work : Work) (words : RunWords) (source : List ℕ) (taken : Taken) → IsTaken work source taken →
+    Takes (asked_of work words) source
 takes Run words source (ToRun program) t = (program, t)
 takes Run words source (ToMean checked) t = absurd t
 takes Mean words source (ToRun program) t = absurd t
@@ -41,8 +49,10 @@ short_taken Run source (ToMean checked) t = absurd t
 short_taken Mean source (ToRun program) t = absurd t
 short_taken Mean source (ToMean checked) t = tt
 
-pub comes_to : (work : Work) (words : RunWords) (source : List ℕ) (taken : Taken) (specs : List NodeSpec) (entries : List Entry) (net net' : Net)
-    (status : Status) (text : List ℕ) → IsTaken work source taken → TakenComesTo taken source specs entries words.budget net net' status text →
+pub comes_to : (work : Work) (words : RunWords) (source : List ℕ) (taken : Taken) (specs : List NodeSpec) (entries : List Entry)
+    (net net' : Net)
+    (status : Status) (text : List ℕ) → IsTaken work source taken →
+    TakenComesTo taken source specs entries words.budget net net' status text →
     ComesTo (asked_of work words) source specs entries net net' status text
 comes_to Run words source (ToRun program) specs entries net net' status text t r = (program, t, r)
 comes_to Run words source (ToMean checked) specs entries net net' status text t r = absurd t

@@ -30,13 +30,15 @@ named : (work : Work) (words : RunWords) (file : FileOf) → name_of (asked_of w
 named Run words file = refl
 named Mean words file = refl
 
-each_read : (content : List ℕ → Option (List ℕ)) (words : RunWords) (held : FileOf → List ℕ) → AreAllRead content words held → (file : FileOf) →
+each_read : (content : List ℕ → Option (List ℕ)) (words : RunWords) (held : FileOf → List ℕ) → AreAllRead content words held →
+    (file : FileOf) →
     IsWhole (content (name_in words file)) file_limit (held file)
 each_read content words held r Source = r.source_is
 each_read content words held r Nodes = r.nodes_are
 each_read content words held r Schedule = r.schedule_is
 
-pub all_read : (content : List ℕ → Option (List ℕ)) (work : Work) (words : RunWords) (held : FileOf → List ℕ) → AreAllRead content words held →
+pub all_read : (content : List ℕ → Option (List ℕ)) (work : Work) (words : RunWords) (held : FileOf → List ℕ) →
+    AreAllRead content words held →
     AreRead content (asked_of work words) held
 all_read content work words held r file name e =
     let same : Some (name_in words file) ≡ Some name = sym (named work words file) ∙ e in
@@ -44,7 +46,8 @@ all_read content work words held r file name e =
     subst (λ (n : List ℕ). IsWhole (content n) file_limit (held file)) is (each_read content words held r file)
 
 -- a check reads its source alone
-pub source_read : (content : List ℕ → Option (List ℕ)) (check : CheckWords) (source : List ℕ) → IsWhole (content check.source) file_limit source →
+pub source_read : (content : List ℕ → Option (List ℕ)) (check : CheckWords) (source : List ℕ) →
+    IsWhole (content check.source) file_limit source →
     AreRead content (command.Check check) (only source)
 source_read content check source r Source name e =
     let is : check.source ≡ name = cc in
@@ -56,7 +59,8 @@ source_read content check source r Schedule name e = cc
 
 -- what is there under the name among the words is there under the name that the command has
 module _ (content : List ℕ → Option (List ℕ)) (work : Work) (words : RunWords) where
-  there_by_name : (file : FileOf) → IsSome (content (name_in words file)) → (name : List ℕ) → name_of (asked_of work words) file ≡ Some name →
+  there_by_name : (file : FileOf) → IsSome (content (name_in words file)) → (name : List ℕ) →
+      name_of (asked_of work words) file ≡ Some name →
       IsSome (content name)
   there_by_name file is name e =
       let same : Some (name_in words file) ≡ Some name = sym (named work words file) ∙ e in

@@ -2,7 +2,8 @@
 ghost use Rattle.std.specs.Prelude.{◌≡◌, ◌⊎◌, ℕ, ◌≤◌, List, ◌++◌, None, map, IfOk};
 ghost use Rattle.ec_answers.specs.Asked.{HasRead};
 ghost use Rattle.ec_answers.specs.Lines.{usage_line};
-ghost use Rattle.ec_answers.specs.Promises.{EndsWith, HasReadFault, IsNoSource, IsNoInput, HasEnded, HasAccepted, IsRun, IsAccepted, NoneRisen};
+ghost use Rattle.ec_answers.specs.Promises.{EndsWith, HasReadFault, IsNoSource, IsNoInput, HasEnded, HasAccepted, IsRun, IsAccepted};
+ghost use Rattle.ec_answers.specs.Promises.{NoneRisen};
 ghost use Rattle.ec_answers.specs.Verdict.{Verdict, Came};
 ghost use Rattle.ec_inputs.specs.Words.{WordsOf, run_in, check_in, Check as ACheck};
 ghost use Rattle.ec_network.specs.Net.{Net as ANet, empty_net};
@@ -35,7 +36,15 @@ fn answer_on_nodes<F: Shelf>(
     requires budget { run.budget ≤ 4000000000 }
     requires empty { net.old ≡ empty_net }
     ensures { IfOk result (λ answer. WhereAsked (asked_of work (run_in run.entry)) (λ words.
-        Verdict (F.tells shelf.old) (record { words = words; content = F.content shelf.old; kept = F.kept shelf.old; faults = F.faults shelf.old; faults_after = F.faults shelf.new; net = net.old; net_after = net.new }) answer.status answer.text.items)) }
+        Verdict (F.tells shelf.old) (record {
+          words = words;
+          content = F.content shelf.old;
+          kept = F.kept shelf.old;
+          faults = F.faults shelf.old;
+          faults_after = F.faults shelf.new;
+          net = net.old;
+          net_after = net.new;
+        }) answer.status answer.text.items)) }
 {
     match read_files(alloc, shelf, run) {
         Ok(files) => judge(alloc, work, run, &files, net),
@@ -51,7 +60,15 @@ fn answer_check<F: Shelf>(
     check: CheckCommand,
 ) -> Result<Answer, AllocError>
     ensures { IfOk result (λ answer. (net : ANet) → WhereAsked (ACheck (check_in check.entry)) (λ words.
-        Verdict (F.tells shelf.old) (record { words = words; content = F.content shelf.old; kept = F.kept shelf.old; faults = F.faults shelf.old; faults_after = F.faults shelf.new; net = net; net_after = net }) answer.status answer.text.items)) }
+        Verdict (F.tells shelf.old) (record {
+          words = words;
+          content = F.content shelf.old;
+          kept = F.kept shelf.old;
+          faults = F.faults shelf.old;
+          faults_after = F.faults shelf.new;
+          net = net;
+          net_after = net;
+        }) answer.status answer.text.items)) }
 {
     match read_file(alloc, shelf, check.source, FileOf::Source) {
         Ok(source) => judge_source(alloc, &source),
@@ -69,7 +86,15 @@ fn answer<'a, F: Shelf>(
 ) -> Result<Answer, AllocError>
     requires { net.old ≡ empty_net }
     ensures { IfOk result (λ answer.
-        Verdict (F.tells shelf.old) (record { words = map (λ word. word.now) words.now; content = F.content shelf.old; kept = F.kept shelf.old; faults = F.faults shelf.old; faults_after = F.faults shelf.new; net = net.old; net_after = net.new }) answer.status answer.text.items) }
+        Verdict (F.tells shelf.old) (record {
+          words = map (λ word. word.now) words.now;
+          content = F.content shelf.old;
+          kept = F.kept shelf.old;
+          faults = F.faults shelf.old;
+          faults_after = F.faults shelf.new;
+          net = net.old;
+          net_after = net.new;
+        }) answer.status answer.text.items) }
 {
     match words_of(alloc, words)? {
         Some(Command::Run(run)) => answer_on_nodes(alloc, shelf, Work::Run, run, net),
@@ -89,7 +114,15 @@ fn call<'a, F: Shelf, K: Sink>(
 ) -> Status
     requires { net.old ≡ empty_net }
     ensures { Came (F.tells shelf.old) (K.tells sink.old)
-        (record { words = map (λ word. word.now) words.now; content = F.content shelf.old; kept = F.kept shelf.old; faults = F.faults shelf.old; faults_after = F.faults shelf.new; net = net.old; net_after = net.new })
+        (record {
+          words = map (λ word. word.now) words.now;
+          content = F.content shelf.old;
+          kept = F.kept shelf.old;
+          faults = F.faults shelf.old;
+          faults_after = F.faults shelf.new;
+          net = net.old;
+          net_after = net.new;
+        })
         (K.taken sink.old) (K.taken sink.new) (K.faults sink.old) (K.faults sink.new) result }
 {
     match answer(alloc, words, shelf, net) {
@@ -112,7 +145,15 @@ pub fn emerald<'a, F: Shelf, K: Sink>(
 
     // The status and the text, by the table of answers.
     ensures answer { Came (F.tells shelf.old) (K.tells sink.old)
-        (record { words = map (λ word. word.now) words.now; content = F.content shelf.old; kept = F.kept shelf.old; faults = F.faults shelf.old; faults_after = F.faults shelf.new; net = net.old; net_after = net.new })
+        (record {
+          words = map (λ word. word.now) words.now;
+          content = F.content shelf.old;
+          kept = F.kept shelf.old;
+          faults = F.faults shelf.old;
+          faults_after = F.faults shelf.new;
+          net = net.old;
+          net_after = net.new;
+        })
         (K.taken sink.old) (K.taken sink.new) (K.faults sink.old) (K.faults sink.new) result }
 
     // Each status by itself: its cause, and the text that is written.

@@ -38,7 +38,10 @@ pub(crate) fn read_files<F: Shelf>(
 ) -> Result<Files, Unread>
     ensures read { IfOk result (λ files. F.tells shelf.old → AreAllRead (F.content shelf.old) (run_in run.entry) (held_in files)) }
     ensures ok { OnOk result (F.faults shelf.new ≡ F.faults shelf.old) }
-    ensures failed { IfErr result (λ e. WhenFailed e (λ file. HasRisen (F.faults shelf.old (name_in (run_in run.entry) file)) (F.faults shelf.new (name_in (run_in run.entry) file)))) }
+    ensures failed { IfErr result
+        (λ e. WhenFailed e
+        (λ file. HasRisen (F.faults shelf.old (name_in (run_in run.entry) file))
+        (F.faults shelf.new (name_in (run_in run.entry) file)))) }
     ensures others { IfErr result (λ e. WhenFailed e (λ file.
         OthersStay (F.kept shelf.old) (F.faults shelf.old) (F.faults shelf.new) (name_in (run_in run.entry) file))) }
     ensures earlier { F.tells shelf.old → IfErr result (λ e. WhenFailed e (λ file.
@@ -67,7 +70,8 @@ pub(crate) fn read_file<F: Shelf>(
     ensures content { F.content shelf.new ≡ F.content shelf.old }
     ensures kept { F.kept shelf.new ≡ F.kept shelf.old }
     ensures ok { OnOk result (F.faults shelf.new ≡ F.faults shelf.old) }
-    ensures failed { IfErr result (λ e. WhenFailed e (λ met. (met ≡ file) × HasRisen (F.faults shelf.old name.now) (F.faults shelf.new name.now))) }
+    ensures failed { IfErr result
+        (λ e. WhenFailed e (λ met. (met ≡ file) × HasRisen (F.faults shelf.old name.now) (F.faults shelf.new name.now))) }
     ensures others { OthersStay (F.kept shelf.old) (F.faults shelf.old) (F.faults shelf.new) name.now }
 {
     match read_whole(alloc, shelf, name, FILE_LIMIT) {

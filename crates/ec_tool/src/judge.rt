@@ -27,7 +27,8 @@ pub(crate) fn judge(
 ) -> Result<Answer, AllocError>
     requires budget { run.budget ≤ 4000000000 }
     requires empty { net.old ≡ empty_net }
-    ensures { IfOk result (λ answer. Judged (asked_of work (run_in run.entry)) (held_in files.now) net.old net.new answer.status answer.text.items) }
+    ensures { IfOk result
+        (λ answer. Judged (asked_of work (run_in run.entry)) (held_in files.now) net.old net.new answer.status answer.text.items) }
 {
     let taken = match take(alloc, work, &files.source) {
         Ok(taken) => taken,
@@ -56,7 +57,8 @@ pub(crate) fn judge(
 
 /// Judges the source of a check.
 pub(crate) fn judge_source(alloc: Global, source: &[u8]) -> Result<Answer, AllocError>
-    ensures { IfOk result (λ answer. (check : CheckWords) (net : ANet) → Judged (ACheck check) (only source.now) net net answer.status answer.text.items) }
+    ensures { IfOk result
+        (λ answer. (check : CheckWords) (net : ANet) → Judged (ACheck check) (only source.now) net net answer.status answer.text.items) }
 {
     match check_source(alloc, source) {
         Ok(_) => accepted(alloc),

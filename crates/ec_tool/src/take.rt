@@ -63,7 +63,8 @@ pub(crate) fn come_to_end(
     requires nodes { IsOneNode specs.now }
     requires budget { budget ≤ 4000000000 }
     requires empty { net.old ≡ empty_net }
-    ensures { IfOk result (λ answer. TakenComesTo taken.now source.now specs.now schedule.now budget net.old net.new answer.status answer.text.items) }
+    ensures { IfOk result
+        (λ answer. TakenComesTo taken.now source.now specs.now schedule.now budget net.old net.new answer.status answer.text.items) }
 {
     match taken {
         Taken::ToRun(program) => run(alloc, program, specs, schedule, budget.into(), net),
@@ -81,7 +82,9 @@ fn work_out(
     budget: u32,
 ) -> Result<Answer, AllocError>
     requires nodes { IsOneNode specs.now }
-    ensures { IfOk result (λ answer. IsPlainRun (record { text = source.now; table = checked.now.table; core = checked.now.core }) specs.now schedule.now budget answer.status answer.text.items) }
+    ensures { IfOk result
+        (λ answer. IsPlainRun (record { text = source.now; table = checked.now.table; core = checked.now.core }) specs.now
+        schedule.now budget answer.status answer.text.items) }
 {
     let program = Meant::new(alloc, source, &checked.table, &checked.core)?;
     plain::run(alloc, program, specs, schedule, budget.into())

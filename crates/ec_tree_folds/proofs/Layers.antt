@@ -96,7 +96,8 @@ module _ {k : Kinds} (m : Maps tree k) where
       layer_of m (e.And x more) ≡ Expression-F.And (m.expression x) (map m.expression more)
   and_layer x more = layer_of_expression (e.And x more) (Expression-F.And x more) (e.rolls-And x more)
 
-  pub or_layer : (x : Expression) (more : List Expression) → layer_of m (e.Or x more) ≡ Expression-F.Or (m.expression x) (map m.expression more)
+  pub or_layer : (x : Expression) (more : List Expression) →
+      layer_of m (e.Or x more) ≡ Expression-F.Or (m.expression x) (map m.expression more)
   or_layer x more = layer_of_expression (e.Or x more) (Expression-F.Or x more) (e.rolls-Or x more)
 
   -- ---- statements
@@ -115,7 +116,8 @@ module _ {k : Kinds} (m : Maps tree k) where
   local_constant_layer name of x =
       layer_of_statement (s.LocalConstant name of x) (Statement-F.LocalConstant name of x) (s.rolls-LocalConstant name of x)
 
-  pub assign_layer : (x : Expression) (y : Expression) → statement_layer m (s.Assign x y) ≡ Statement-F.Assign (m.expression x) (m.expression y)
+  pub assign_layer : (x : Expression) (y : Expression) →
+      statement_layer m (s.Assign x y) ≡ Statement-F.Assign (m.expression x) (m.expression y)
   assign_layer x y = layer_of_statement (s.Assign x y) (Statement-F.Assign x y) (s.rolls-Assign x y)
 
   pub invoke_layer : (x : Expression) → statement_layer m (s.Invoke x) ≡ Statement-F.Invoke (m.expression x)

@@ -9,9 +9,11 @@ use Rattle.ec_ast.specs.declared.Arm.{Arm, roll-Arm, out-Arm, roll-out-Arm, fold
 use Rattle.ec_ast.specs.declared.Block.{Block, roll-Block, out-Block, roll-out-Block, fold-roll-Block}
 use Rattle.ec_ast.specs.declared.Body.{Body, roll-Body, out-Body, roll-out-Body, fold-roll-Body}
 use Rattle.ec_ast.specs.declared.Factor.{Factor, roll-Factor, out-Factor, roll-out-Factor, fold-roll-Factor}
-use Rattle.ec_ast.specs.declared.ObjectConstructor.{ObjectConstructor, roll-ObjectConstructor, out-ObjectConstructor, roll-out-ObjectConstructor, fold-roll-ObjectConstructor}
+use Rattle.ec_ast.specs.declared.ObjectConstructor.{ObjectConstructor, roll-ObjectConstructor, out-ObjectConstructor}
+use Rattle.ec_ast.specs.declared.ObjectConstructor.{roll-out-ObjectConstructor, fold-roll-ObjectConstructor}
 use Rattle.ec_ast.specs.declared.Operation.{Operation, roll-Operation, out-Operation, roll-out-Operation, fold-roll-Operation}
-use Rattle.ec_ast.specs.declared.ProcessSection.{ProcessSection, roll-ProcessSection, out-ProcessSection, roll-out-ProcessSection, fold-roll-ProcessSection}
+use Rattle.ec_ast.specs.declared.ProcessSection.{ProcessSection, roll-ProcessSection, out-ProcessSection, roll-out-ProcessSection}
+use Rattle.ec_ast.specs.declared.ProcessSection.{fold-roll-ProcessSection}
 use Rattle.ec_ast.specs.declared.Expression.TheOpen.{Expression-F, Member-F, Statement-F}
 use Rattle.ec_tree_folds.specs.Kinds.{Kinds, tree}
 use Rattle.ec_tree_folds.specs.Kinds.{ExpressionOf, MemberOf, StatementOf, BodyOf}

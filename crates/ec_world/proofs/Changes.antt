@@ -16,17 +16,25 @@ module _ {A : Type 0} (M : ActivationMeaning A) where
   no_top xs v e = rw (top_of_none xs (sym e)) refl
 
   -- the top is done and a new activation lies on it
-  pub called : (xs : List A) (s : ProcStatus) (op own : ℕ) (args : List Value) → s ≡ Ready → IsSome (top_of xs) → Some (record { activations = finish_top M (below_of xs) (top_of xs) None ++ M.begun op own args ∷ []; status = s }) ≡ changed_at M (below_of xs) (top_of xs) (Calls op own args)
+  pub called : (xs : List A) (s : ProcStatus) (op own : ℕ) (args : List Value) → s ≡ Ready → IsSome (top_of xs) →
+      Some (record { activations = finish_top M (below_of xs) (top_of xs) None ++ M.begun op own args ∷ []; status = s })
+      ≡ changed_at M (below_of xs) (top_of xs) (Calls op own args)
   called xs s op own args r h = rw r (part (top_of xs) h)
     where
-      part : (t : Option A) → IsSome t → Some (record { activations = finish_top M (below_of xs) t None ++ M.begun op own args ∷ []; status = Ready }) ≡ changed_at M (below_of xs) t (Calls op own args)
+      part : (t : Option A) → IsSome t →
+          Some (record { activations = finish_top M (below_of xs) t None ++ M.begun op own args ∷ []; status = Ready }) ≡ changed_at
+          M (below_of xs) t (Calls op own args)
       part None k = cc
       part (Some t) k = refl
 
   -- the top is done and its process waits
-  pub blocked : (xs : List A) (queue : Queue) (oid : ℕ) → IsSome (top_of xs) → Some (record { activations = finish_top M (below_of xs) (top_of xs) None; status = waiting queue oid }) ≡ changed_at M (below_of xs) (top_of xs) (Blocks queue oid)
+  pub blocked : (xs : List A) (queue : Queue) (oid : ℕ) → IsSome (top_of xs) →
+      Some (record { activations = finish_top M (below_of xs) (top_of xs) None; status = waiting queue oid }) ≡ changed_at M
+      (below_of xs) (top_of xs) (Blocks queue oid)
   blocked xs queue oid h = part (top_of xs) h
     where
-      part : (t : Option A) → IsSome t → Some (record { activations = finish_top M (below_of xs) t None; status = waiting queue oid }) ≡ changed_at M (below_of xs) t (Blocks queue oid)
+      part : (t : Option A) → IsSome t →
+          Some (record { activations = finish_top M (below_of xs) t None; status = waiting queue oid }) ≡ changed_at M (below_of xs)
+          t (Blocks queue oid)
       part None k = cc
       part (Some t) k = refl

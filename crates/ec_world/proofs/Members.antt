@@ -1,5 +1,6 @@
 -- Members of lists, rising lists, and the numbers of what is marked.
-use Rattle.std.proofs.Common.{◌≡◌, ℕ, zero, suc, ◌+◌, ◌<◌, ◌≤◌, ◌⊎◌, inl, inr, ⊎_elim, Bool, true, false, List, [], ◌∷◌, ◌++◌, length, Option, Some, None, refl, arith}
+use Rattle.std.proofs.Common.{◌≡◌, ℕ, zero, suc, ◌+◌, ◌<◌, ◌≤◌, ◌⊎◌, inl, inr, ⊎_elim, Bool, true, false, List, [], ◌∷◌, ◌++◌}
+use Rattle.std.proofs.Common.{length, Option, Some, None, refl, arith}
 use Rattle.std.specs.Prelude.{slice_get, IsSome}
 use Rattle.ec_base.proofs.Lists.{get_within, get_there}
 use Rattle.ec_world.specs.declared.object.ObjectRec.{ObjectRec}
@@ -68,12 +69,16 @@ rising_same [] [] r s f g = refl
 rising_same [] (y ∷ ys) r s f g = absurd (has_none y (g y (has_first y ys)))
 rising_same (x ∷ xs) [] r s f g = absurd (has_none x (f x (has_first x xs)))
 rising_same (x ∷ xs) (y ∷ ys) r s f g =
-    let down : y ≤ x = ⊎_elim (λ (e : x ≡ y). omega arith) (λ (k : Has ys x). let l = rising_above y ys s x k in omega arith) (has_parts y x ys (f x (has_first x xs))) in
-    let up : x ≤ y = ⊎_elim (λ (e : y ≡ x). omega arith) (λ (k : Has xs y). let l = rising_above x xs r y k in omega arith) (has_parts x y xs (g y (has_first y ys))) in
+    let down : y ≤ x = ⊎_elim (λ (e : x ≡ y). omega arith) (λ (k : Has ys x). let l = rising_above y ys s x k in omega arith)
+    (has_parts y x ys (f x (has_first x xs))) in
+    let up : x ≤ y = ⊎_elim (λ (e : y ≡ x). omega arith) (λ (k : Has xs y). let l = rising_above x xs r y k in omega arith)
+    (has_parts x y xs (g y (has_first y ys))) in
     let e : x ≡ y = omega arith in
     let tails : xs ≡ ys = rising_same xs ys (rising_tail x xs r) (rising_tail y ys s)
-    (λ z k. ⊎_elim (λ (q : z ≡ y). let l = rising_above x xs r z k in absurd (omega arith)) (λ (m : Has ys z). m) (has_parts y z ys (f z (has_later x z xs k))))
-    (λ z k. ⊎_elim (λ (q : z ≡ x). let l = rising_above y ys s z k in absurd (omega arith)) (λ (m : Has xs z). m) (has_parts x z xs (g z (has_later y z ys k)))) in
+    (λ z k. ⊎_elim (λ (q : z ≡ y). let l = rising_above x xs r z k in absurd (omega arith)) (λ (m : Has ys z). m)
+    (has_parts y z ys (f z (has_later x z xs k))))
+    (λ z k. ⊎_elim (λ (q : z ≡ x). let l = rising_above y ys s z k in absurd (omega arith)) (λ (m : Has xs z). m)
+    (has_parts x z xs (g z (has_later y z ys k)))) in
     cc
 
 -- a group is one list

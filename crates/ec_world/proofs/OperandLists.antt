@@ -6,7 +6,8 @@ use Rattle.ec_world.specs.declared.value.Value.{Value}
 use Rattle.ec_world.specs.Doings.{one}
 
 -- the last operand, with none below it
-pub one_alone : (vs below : List Value) (last : Value) → Some last ≡ top_of vs → below ≡ below_of vs → None ≡ top_of below → Some last ≡ one vs
+pub one_alone : (vs below : List Value) (last : Value) → Some last ≡ top_of vs → below ≡ below_of vs → None ≡ top_of below →
+    Some last ≡ one vs
 one_alone vs below last e b n =
     let none : below_of vs ≡ [] = sym b ∙ top_of_none below (sym n) in
     let alone : vs ≡ last ∷ [] = stack_parts vs last (sym e) ∙ ap (λ (xs : List Value). xs ++ last ∷ []) none in

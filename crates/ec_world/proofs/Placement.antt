@@ -102,8 +102,10 @@ zero-moved ps (m ∷ ms) h = zero-moved (slice_set ps (m - 1) 0) ms (zero-set ps
 
 zero-after : (ps : List ℕ) (es : List Event) → AreZero ps → AreZero (places_after ps es)
 zero-after ps [] h = h
-zero-after ps (Created oid maker ∷ es) h = zero-after (ps ++ node_or_first (place_in ps maker) ∷ []) es (rw (zero-place ps maker h) (zero-push ps h))
-zero-after ps (Moved members target ∷ es) h = zero-after (moved ps members (node_or_first (place_in ps target))) es (rw (zero-place ps target h) (zero-moved ps members h))
+zero-after ps (Created oid maker ∷ es) h =
+    zero-after (ps ++ node_or_first (place_in ps maker) ∷ []) es (rw (zero-place ps maker h) (zero-push ps h))
+zero-after ps (Moved members target ∷ es) h =
+    zero-after (moved ps members (node_or_first (place_in ps target))) es (rw (zero-place ps target h) (zero-moved ps members h))
 
 -- every object is on the only node
 pub place_on_one : (events : List Event) (oid : ℕ) → 0 < oid → oid ≤ length (places 1 events) → place_in (places 1 events) oid ≡ Some 0

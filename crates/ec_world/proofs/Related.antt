@@ -12,7 +12,8 @@ module _ {A B : Type 0} where
   Maybe R None (Some b) = ⊥
   Maybe R (Some a) None = ⊥
 
-  pub all-append : (R : A → B → Type 0) (xs xs' : List A) (ys ys' : List B) → AllTwo R xs ys → AllTwo R xs' ys' → AllTwo R (xs ++ xs') (ys ++ ys')
+  pub all-append : (R : A → B → Type 0) (xs xs' : List A) (ys ys' : List B) → AllTwo R xs ys → AllTwo R xs' ys' →
+      AllTwo R (xs ++ xs') (ys ++ ys')
   all-append R [] xs' [] ys' h k = k
   all-append R (x ∷ xs) xs' (y ∷ ys) ys' h k = (h.0, all-append R xs xs' ys ys' h.1 k)
   all-append R [] xs' (y ∷ ys) ys' h k = absurd h
@@ -48,7 +49,8 @@ module _ {A B : Type 0} where
   all-map R S f [] (y ∷ ys) h = absurd h
   all-map R S f (x ∷ xs) [] h = absurd h
 
-  pub all-set : (R : A → B → Type 0) (xs : List A) (ys : List B) (i : ℕ) (a : A) (b : B) → AllTwo R xs ys → R a b → AllTwo R (slice_set xs i a) (slice_set ys i b)
+  pub all-set : (R : A → B → Type 0) (xs : List A) (ys : List B) (i : ℕ) (a : A) (b : B) → AllTwo R xs ys → R a b →
+      AllTwo R (slice_set xs i a) (slice_set ys i b)
   all-set R [] [] i a b h k = tt
   all-set R (x ∷ xs) (y ∷ ys) zero a b h k = (k, h.1)
   all-set R (x ∷ xs) (y ∷ ys) (suc i) a b h k = (h.0, all-set R xs ys i a b h.1 k)

@@ -1,5 +1,6 @@
 -- As many rounds of marking as there are objects reach the whole group.
-use Rattle.std.proofs.Common.{◌≡◌, ℕ, zero, suc, ◌+◌, ◌<◌, ◌≤◌, ◌⊎◌, inl, inr, ⊎_elim, Bool, true, false, ◌||◌, List, [], ◌∷◌, length, Option, Some, None, refl, sym, ap, ◌∙◌, arith}
+use Rattle.std.proofs.Common.{◌≡◌, ℕ, zero, suc, ◌+◌, ◌<◌, ◌≤◌, ◌⊎◌, inl, inr, ⊎_elim, Bool, true, false, ◌||◌, List, [], ◌∷◌}
+use Rattle.std.proofs.Common.{length, Option, Some, None, refl, sym, ap, ◌∙◌, arith}
 use Rattle.std.specs.Prelude.{slice_get, IsSome, ◌==◌}
 use Rattle.std.proofs.lemmas.Grind.{common_steps}
 use Rattle.ec_base.proofs.Lists.{get_within, get_there}
@@ -12,9 +13,11 @@ use Rattle.ec_world.specs.declared.class.ClassRec.{ClassRec}
 use Rattle.ec_world.specs.declared.object.ObjectRec.{ObjectRec}
 use Rattle.ec_world.specs.declared.common.Common.{Common}
 use Rattle.ec_world.specs.Objects.{object_at, class_at}
-use Rattle.ec_world.specs.Group.{Has, InGroup, IsGroup, MarksGroup, link_of, links_in, fields_if, links_if, links_of, mark_at, is_in, wanted, mark_all, spread, rounds, none_marked, group_of}
+use Rattle.ec_world.specs.Group.{Has, InGroup, IsGroup, MarksGroup, link_of, links_in, fields_if, links_if, links_of, mark_at}
+use Rattle.ec_world.specs.Group.{is_in, wanted, mark_all, spread, rounds, none_marked, group_of}
 use Rattle.ec_world.specs.Group.InGroup.{Itself, Linked}
-use Rattle.ec_world.proofs.Members.{has_none, has_first, has_later, has_parts, has_one, has_front, has_back, has_either, group_same, marked_group, object_within, within_object, mark_within}
+use Rattle.ec_world.proofs.Members.{has_none, has_first, has_later, has_parts, has_one, has_front, has_back, has_either, group_same}
+use Rattle.ec_world.proofs.Members.{marked_group, object_within, within_object, mark_within}
 
 -- ---- what is in a list of names
 
@@ -57,7 +60,8 @@ length-mark_all : (names : List ℕ) (oid : ℕ) (ms : List Bool) → length (ma
 length-mark_all names oid [] = refl
 length-mark_all names oid (m ∷ ms) = ap suc (length-mark_all names (suc oid) ms)
 
-mark_all-get : (names : List ℕ) (oid : ℕ) (ms : List Bool) (i : ℕ) (m : Bool) → slice_get ms i ≡ Some m → slice_get (mark_all names oid ms) i ≡ Some (m || is_in (oid + i) names)
+mark_all-get : (names : List ℕ) (oid : ℕ) (ms : List Bool) (i : ℕ) (m : Bool) → slice_get ms i ≡ Some m →
+    slice_get (mark_all names oid ms) i ≡ Some (m || is_in (oid + i) names)
 mark_all-get names oid [] i m e = cc
 mark_all-get names oid (n ∷ ms) zero m e =
     let z : oid + 0 ≡ oid = omega arith in
@@ -82,7 +86,8 @@ marks_named names ms (suc i) h p l =
     mark_all-get names 1 ms i g.0 g.1 ∙ ap Some named
 
 -- a new mark is a name's
-marks_old : (names : List ℕ) (ms : List Bool) (y : ℕ) → mark_at (mark_all names 1 ms) y ≡ Some true → (mark_at ms y ≡ Some true) ⊎ Has names y
+marks_old : (names : List ℕ) (ms : List Bool) (y : ℕ) → mark_at (mark_all names 1 ms) y ≡ Some true →
+    (mark_at ms y ≡ Some true) ⊎ Has names y
 marks_old names ms zero e = cc
 marks_old names ms (suc i) e =
     let l : i < length ms = (let k = get_within (mark_all names 1 ms) i true e in let n = length-mark_all names 1 ms in omega arith) in
@@ -115,7 +120,8 @@ wanted_from c oid (true ∷ ms) z h = ⊎_elim
     (has_either z (links_of c oid) (wanted c (suc oid) ms) h)
 wanted_from c oid (false ∷ ms) z h = wants_later c oid false ms z (wanted_from c (suc oid) ms z h)
 
-wanted_has : (c : Common) (oid : ℕ) (ms : List Bool) (i z : ℕ) → slice_get ms i ≡ Some true → Has (links_of c (oid + i)) z → Has (wanted c oid ms) z
+wanted_has : (c : Common) (oid : ℕ) (ms : List Bool) (i z : ℕ) → slice_get ms i ≡ Some true → Has (links_of c (oid + i)) z →
+    Has (wanted c oid ms) z
 wanted_has c oid [] i z e h = cc
 wanted_has c oid (true ∷ ms) zero z e h =
     let s : oid + 0 ≡ oid = omega arith in
@@ -147,7 +153,8 @@ closed_group c x ms m k = record { one_each = m.one_each; each = λ y. (m.sound 
     whole y (Itself there) = m.start there
     whole _ (Linked y z g h i) = k.links y z (whole y g) h i
 
-spread_new : (c : Common) (x : ℕ) (ms : List Bool) → MarksSome c x ms → (y : ℕ) → y ≤ length ms → 0 < y → Has (wanted c 1 ms) y → InGroup c x y
+spread_new : (c : Common) (x : ℕ) (ms : List Bool) → MarksSome c x ms → (y : ℕ) → y ≤ length ms → 0 < y → Has (wanted c 1 ms) y →
+    InGroup c x y
 spread_new c x ms m y l p h =
     let k = wanted_from c 1 ms y h in
     let e : 1 + k.at ≡ suc k.at = omega arith in
@@ -160,11 +167,13 @@ spread_some c x ms m = record {
   sound = λ y e.
       let w = mark_within (spread c ms) y true e in
       let n = length-mark_all (wanted c 1 ms) 1 ms in
-      ⊎_elim (λ (o : mark_at ms y ≡ Some true). m.sound y o) (λ (h : Has (wanted c 1 ms) y). spread_new c x ms m y (let l = w.1 in omega arith) w.0 h) (marks_old (wanted c 1 ms) ms y e);
+      ⊎_elim (λ (o : mark_at ms y ≡ Some true). m.sound y o)
+      (λ (h : Has (wanted c 1 ms) y). spread_new c x ms m y (let l = w.1 in omega arith) w.0 h) (marks_old (wanted c 1 ms) ms y e);
   start = λ there. marks_kept (wanted c 1 ms) ms x (m.start there);
 }
 
-links_spread : (c : Common) (ms : List Bool) → length ms ≡ length c.objects → (y z : ℕ) → mark_at ms y ≡ Some true → Has (links_of c y) z → IsSome (object_at c.objects z) → mark_at (spread c ms) z ≡ Some true
+links_spread : (c : Common) (ms : List Bool) → length ms ≡ length c.objects → (y z : ℕ) → mark_at ms y ≡ Some true →
+    Has (links_of c y) z → IsSome (object_at c.objects z) → mark_at (spread c ms) z ≡ Some true
 links_spread c ms n zero z e h i = cc
 links_spread c ms n (suc k) z e h i =
     let w = object_within c.objects z i in
@@ -191,12 +200,14 @@ mark_all_less names oid [] = omega arith
 mark_all_less names oid (true ∷ ms) = mark_all_less names (suc oid) ms
 mark_all_less names oid (false ∷ ms) = part (is_in oid names) (mark_all_less names (suc oid) ms)
   where
-    part : (b : Bool) → unmarked (mark_all names (suc oid) ms) ≤ unmarked ms → unmarked (b ∷ mark_all names (suc oid) ms) ≤ unmarked (false ∷ ms)
+    part : (b : Bool) → unmarked (mark_all names (suc oid) ms) ≤ unmarked ms →
+        unmarked (b ∷ mark_all names (suc oid) ms) ≤ unmarked (false ∷ ms)
     part true h = omega arith
     part false h = omega arith
 
 -- a round changes nothing, or fewer objects are unmarked
-mark_all_falls : (names : List ℕ) (oid : ℕ) (ms : List Bool) → (mark_all names oid ms ≡ ms) ⊎ (unmarked (mark_all names oid ms) < unmarked ms)
+mark_all_falls : (names : List ℕ) (oid : ℕ) (ms : List Bool) →
+    (mark_all names oid ms ≡ ms) ⊎ (unmarked (mark_all names oid ms) < unmarked ms)
 unfolding unmarked
 mark_all_falls names oid [] = inl refl
 mark_all_falls names oid (true ∷ ms) = ⊎_elim
@@ -205,7 +216,9 @@ mark_all_falls names oid (true ∷ ms) = ⊎_elim
     (mark_all_falls names (suc oid) ms)
 mark_all_falls names oid (false ∷ ms) = part (is_in oid names) (mark_all_less names (suc oid) ms) (mark_all_falls names (suc oid) ms)
   where
-    part : (b : Bool) → unmarked (mark_all names (suc oid) ms) ≤ unmarked ms → (mark_all names (suc oid) ms ≡ ms) ⊎ (unmarked (mark_all names (suc oid) ms) < unmarked ms) → (b ∷ mark_all names (suc oid) ms ≡ false ∷ ms) ⊎ (unmarked (b ∷ mark_all names (suc oid) ms) < unmarked (false ∷ ms))
+    part : (b : Bool) → unmarked (mark_all names (suc oid) ms) ≤ unmarked ms →
+        (mark_all names (suc oid) ms ≡ ms) ⊎ (unmarked (mark_all names (suc oid) ms) < unmarked ms) →
+        (b ∷ mark_all names (suc oid) ms ≡ false ∷ ms) ⊎ (unmarked (b ∷ mark_all names (suc oid) ms) < unmarked (false ∷ ms))
     part true l h = inr (omega arith)
     part false l h = ⊎_elim
         (λ (e : mark_all names (suc oid) ms ≡ ms). inl (ap (λ r. false ∷ r) e))
@@ -262,10 +275,13 @@ first_marks c x =
           (λ (h : Has (x ∷ []) y).
           let s = has_one x y h in
           let w = mark_within (mark_all (x ∷ []) 1 (none_marked c.objects)) y true e in
-          let there : IsSome (object_at c.objects x) = within_object c.objects x (let p = w.0 in omega arith) (let l = w.1 in omega arith) in
+          let there : IsSome (object_at c.objects x) =
+          within_object c.objects x (let p = w.0 in omega arith) (let l = w.1 in omega arith) in
           rw s (Itself there))
           (marks_old (x ∷ []) (none_marked c.objects) y e);
-      start = λ there. (let w = object_within c.objects x there in marks_named (x ∷ []) (none_marked c.objects) x (has_first x []) w.0 (let l = w.1 in omega arith));
+      start = λ there.
+          (let w = object_within c.objects x there in marks_named (x ∷ []) (none_marked c.objects) x (has_first x []) w.0
+          (let l = w.1 in omega arith));
     }
 
 -- the list that the definition computes is the group
@@ -276,7 +292,8 @@ group_of_is c x =
     let some = rounds_some c x (length c.objects) ms m in
     let few : unmarked ms ≤ length c.objects = (let u = unmarked_within ms in let n = m.one_each in omega arith) in
     marked_group c x (rounds c (length c.objects) ms)
-    (closed_group c x (rounds c (length c.objects) ms) some (fixed_closed c (rounds c (length c.objects) ms) some.one_each (rounds_fixed c (length c.objects) ms few)))
+    (closed_group c x (rounds c (length c.objects) ms) some
+    (fixed_closed c (rounds c (length c.objects) ms) some.one_each (rounds_fixed c (length c.objects) ms few)))
 
 -- any list that is the group is that list
 pub group_of_same : (c : Common) (x : ℕ) (xs : List ℕ) → IsGroup c x xs → xs ≡ group_of c x
@@ -284,7 +301,8 @@ group_of_same c x xs g = group_same c x xs (group_of c x) g (group_of_is c x)
 
 -- a number that names no object has no group
 pub group_of_none : (c : Common) (x : ℕ) → (IsSome (object_at c.objects x) → ⊥) → group_of c x ≡ []
-group_of_none c x missing = sym (group_of_same c x [] (record { rising = tt; each = λ y. (λ h. absurd (has_none y h), λ g. absurd (nothing y g)) }))
+group_of_none c x missing =
+    sym (group_of_same c x [] (record { rising = tt; each = λ y. (λ h. absurd (has_none y h), λ g. absurd (nothing y g)) }))
   where
     nothing : (y : ℕ) → InGroup c x y → ⊥
     nothing y (Itself there) = missing there
@@ -314,9 +332,11 @@ link_of-none f Nil rest e = refl
 links_in-none : (fs : List FieldRec) (vs : List Value) → ((f : FieldRec) → Has fs f → f.attached ≡ false) → links_in fs vs ≡ []
 links_in-none [] vs h = refl
 links_in-none (f ∷ fs) [] h = refl
-links_in-none (f ∷ fs) (v ∷ vs) h = link_of-none f v (links_in fs vs) (h f (has_first f fs)) ∙ links_in-none fs vs (λ g k. h g (has_later f g fs k))
+links_in-none (f ∷ fs) (v ∷ vs) h =
+    link_of-none f v (links_in fs vs) (h f (has_first f fs)) ∙ links_in-none fs vs (λ g k. h g (has_later f g fs k))
 
-fields_if-none : (classes : List ClassRec) (class : ClassNo) → ((k : ClassRec) → Has classes k → HasNoAttached k) → (f : FieldRec) → Has (fields_if (class_at classes class)) f → f.attached ≡ false
+fields_if-none : (classes : List ClassRec) (class : ClassNo) → ((k : ClassRec) → Has classes k → HasNoAttached k) → (f : FieldRec) →
+    Has (fields_if (class_at classes class)) f → f.attached ≡ false
 fields_if-none classes Node h f m = absurd (has_none f m)
 fields_if-none classes Program h f m = absurd (has_none f m)
 fields_if-none classes (Vector of) h f m = absurd (has_none f m)

@@ -1,5 +1,7 @@
 -- A search along attached fields finds the whole group.
-use Rattle.std.proofs.Common.{◌≡◌, ℕ, zero, suc, ◌+◌, ◌-◌, ◌<◌, ◌≤◌, min, ◌⊎◌, inl, inr, ⊎_elim, Bool, true, false, List, [], ◌∷◌, ◌++◌, length, drop, replicate, Option, Some, None, refl, sym, ap, ◌∙◌, arith, append_assoc, length-append, if◌then◌else◌}
+use Rattle.std.proofs.Common.{◌≡◌, ℕ, zero, suc, ◌+◌, ◌-◌, ◌<◌, ◌≤◌, min, ◌⊎◌, inl, inr, ⊎_elim, Bool, true, false, List, [], ◌∷◌}
+use Rattle.std.proofs.Common.{◌++◌, length, drop, replicate, Option, Some, None, refl, sym, ap, ◌∙◌, arith, append_assoc}
+use Rattle.std.proofs.Common.{length-append, if◌then◌else◌}
 use Rattle.std.specs.Prelude.{slice_get, slice_set, IsSome}
 use Rattle.ec_base.specs.Stack.{top_of, below_of}
 use Rattle.ec_base.proofs.Lists.{length_set, get_there, drop_at}
@@ -13,24 +15,30 @@ use Rattle.ec_world.specs.Objects.{object_at}
 use Rattle.ec_world.specs.Group.{Has, InGroup, MarksGroup, link_of, links_in, links_of, mark_at, marked_from}
 use Rattle.ec_world.specs.Group.InGroup.{Itself, Linked}
 use Rattle.ec_world.specs.Search.{found_if, found, all_found}
-use Rattle.ec_world.proofs.Members.{has_none, has_first, has_parts, has_one, has_front, has_back, has_either, object_within, within_object, mark_within}
+use Rattle.ec_world.proofs.Members.{has_none, has_first, has_parts, has_one, has_front, has_back, has_either, object_within}
+use Rattle.ec_world.proofs.Members.{within_object, mark_within}
 use Rattle.ec_world.proofs.Rounds.{MarksSome, closed_group, unmarked}
 
 -- ---- the links in fields, one by one
 
-link_if : (s : Search) (b : Bool) (o : ℕ) (rest : List ℕ) → all_found (all_found s (if b then o ∷ [] else [])) rest ≡ all_found s (if b then o ∷ rest else rest)
+link_if : (s : Search) (b : Bool) (o : ℕ) (rest : List ℕ) →
+    all_found (all_found s (if b then o ∷ [] else [])) rest ≡ all_found s (if b then o ∷ rest else rest)
 link_if s true o rest = refl
 link_if s false o rest = refl
 
-link_first : (s : Search) (f : FieldRec) (v : Value) (rest : List ℕ) → all_found (all_found s (link_of f v [])) rest ≡ all_found s (link_of f v rest)
+link_first : (s : Search) (f : FieldRec) (v : Value) (rest : List ℕ) →
+    all_found (all_found s (link_of f v [])) rest ≡ all_found s (link_of f v rest)
 link_first s f (Ref o) rest = link_if s f.attached o rest
 link_first s f (Int z) rest = refl
 link_first s f (Truth b) rest = refl
 link_first s f (Str t) rest = refl
 link_first s f Nil rest = refl
 
-pub links_next : (s t : Search) (fs : List FieldRec) (vs : List Value) (i : ℕ) (f : FieldRec) (v : Value) → slice_get fs i ≡ Some f → slice_get vs i ≡ Some v → t ≡ all_found s (link_of f v []) → all_found t (links_in (drop (i + 1) fs) (drop (i + 1) vs)) ≡ all_found s (links_in (drop i fs) (drop i vs))
-links_next s t fs vs i f v d e r = rw (r, drop_at fs i f d, drop_at vs i v e) (link_first s f v (links_in (drop (i + 1) fs) (drop (i + 1) vs)))
+pub links_next : (s t : Search) (fs : List FieldRec) (vs : List Value) (i : ℕ) (f : FieldRec) (v : Value) →
+    slice_get fs i ≡ Some f → slice_get vs i ≡ Some v → t ≡ all_found s (link_of f v []) →
+    all_found t (links_in (drop (i + 1) fs) (drop (i + 1) vs)) ≡ all_found s (links_in (drop i fs) (drop i vs))
+links_next s t fs vs i f v d e r =
+    rw (r, drop_at fs i f d, drop_at vs i v e) (link_first s f v (links_in (drop (i + 1) fs) (drop (i + 1) vs)))
 
 links_none : (fs : List FieldRec) → links_in fs [] ≡ []
 links_none [] = refl
@@ -44,17 +52,20 @@ links_past (f ∷ fs) [] (suc i) h = links_none (drop i fs)
 links_past (f ∷ fs) (v ∷ vs) zero h = absurd (omega arith)
 links_past (f ∷ fs) (v ∷ vs) (suc i) h = links_past fs vs i (omega arith)
 
-pub links_over : (s : Search) (fs : List FieldRec) (vs : List Value) (i : ℕ) → min (length fs) (length vs) ≤ i → all_found s (links_in (drop i fs) (drop i vs)) ≡ s
+pub links_over : (s : Search) (fs : List FieldRec) (vs : List Value) (i : ℕ) → min (length fs) (length vs) ≤ i →
+    all_found s (links_in (drop i fs) (drop i vs)) ≡ s
 links_over s fs vs i h = rw (links_past fs vs i h) refl
 
 -- ---- the numbers of marks, one by one
 
-pub marked_next : (xs ys : List ℕ) (ms : List Bool) (i : ℕ) → slice_get ms i ≡ Some true → ys ≡ xs ++ (i + 1) ∷ [] → ys ++ marked_from (i + 1 + 1) (drop (i + 1) ms) ≡ xs ++ marked_from (i + 1) (drop i ms)
+pub marked_next : (xs ys : List ℕ) (ms : List Bool) (i : ℕ) → slice_get ms i ≡ Some true → ys ≡ xs ++ (i + 1) ∷ [] →
+    ys ++ marked_from (i + 1 + 1) (drop (i + 1) ms) ≡ xs ++ marked_from (i + 1) (drop i ms)
 marked_next xs ys ms i e r =
     let s : i + 1 + 1 ≡ suc (i + 1) = omega arith in
     rw (r, drop_at ms i true e, s) (append_assoc xs ((i + 1) ∷ []) (marked_from (suc (i + 1)) (drop (i + 1) ms)))
 
-pub unmarked_next : (xs : List ℕ) (ms : List Bool) (i : ℕ) → slice_get ms i ≡ Some false → xs ++ marked_from (i + 1 + 1) (drop (i + 1) ms) ≡ xs ++ marked_from (i + 1) (drop i ms)
+pub unmarked_next : (xs : List ℕ) (ms : List Bool) (i : ℕ) → slice_get ms i ≡ Some false →
+    xs ++ marked_from (i + 1 + 1) (drop (i + 1) ms) ≡ xs ++ marked_from (i + 1) (drop i ms)
 unmarked_next xs ms i e =
     let s : i + 1 + 1 ≡ suc (i + 1) = omega arith in
     rw (drop_at ms i false e, s) refl
@@ -98,7 +109,8 @@ mark_kept ms z (suc j) e = set_kept ms (z - 1) j e
 
 mark_old : (ms : List Bool) (z w : ℕ) → 0 < z → mark_at (slice_set ms (z - 1) true) w ≡ Some true → (w ≡ z) ⊎ (mark_at ms w ≡ Some true)
 mark_old ms z zero p e = cc
-mark_old ms z (suc j) p e = ⊎_elim (λ (q : j ≡ z - 1). inl (omega arith)) (λ (k : slice_get ms j ≡ Some true). inr k) (set_old ms (z - 1) j e)
+mark_old ms z (suc j) p e =
+    ⊎_elim (λ (q : j ≡ z - 1). inl (omega arith)) (λ (k : slice_get ms j ≡ Some true). inr k) (set_old ms (z - 1) j e)
 
 mark_fewer : (ms : List Bool) (z : ℕ) → mark_at ms z ≡ Some false → suc (unmarked (slice_set ms (z - 1) true)) ≡ unmarked ms
 mark_fewer ms zero e = cc
@@ -129,7 +141,8 @@ record IsFollowing (c : Common) (x y : ℕ) (s : Search) : Type 0 where
 links_kept : (c : Common) (ms : List Bool) (z y : ℕ) → LinksMarked c ms y → LinksMarked c (slice_set ms (z - 1) true) y
 links_kept c ms z y h = record { each = λ w k i. mark_kept ms z w (h.each w k i) }
 
-one_found : (c : Common) (x y z : ℕ) (s : Search) → IsFollowing c x y s → (IsSome (object_at c.objects z) → InGroup c x z) → mark_at s.marks z ≡ Some false → IsFollowing c x y (record { marks = slice_set s.marks (z - 1) true; todo = s.todo ++ z ∷ [] })
+one_found : (c : Common) (x y z : ℕ) (s : Search) → IsFollowing c x y s → (IsSome (object_at c.objects z) → InGroup c x z) →
+    mark_at s.marks z ≡ Some false → IsFollowing c x y (record { marks = slice_set s.marks (z - 1) true; todo = s.todo ++ z ∷ [] })
 one_found c x y z s f g e =
     let w = mark_within s.marks z false e in
     record {
@@ -157,7 +170,8 @@ one_found c x y z s f g e =
           (mark_old s.marks z v w.0 m);
     }
 
-found_following : (c : Common) (x y z : ℕ) (s : Search) → IsFollowing c x y s → (IsSome (object_at c.objects z) → InGroup c x z) → IsFollowing c x y (found s z)
+found_following : (c : Common) (x y z : ℕ) (s : Search) → IsFollowing c x y s → (IsSome (object_at c.objects z) → InGroup c x z) →
+    IsFollowing c x y (found s z)
 found_following c x y z s f g = part (mark_at s.marks z) refl
   where
     part : (m : Option Bool) → mark_at s.marks z ≡ m → IsFollowing c x y (found_if s z m)
@@ -189,9 +203,12 @@ found_length s z = part (mark_at s.marks z)
     part (Some true) = refl
     part (Some false) = length_set s.marks (z - 1) true
 
-all_following : (c : Common) (x y : ℕ) (zs : List ℕ) (s : Search) → IsFollowing c x y s → ((z : ℕ) → Has zs z → IsSome (object_at c.objects z) → InGroup c x z) → IsFollowing c x y (all_found s zs)
+all_following : (c : Common) (x y : ℕ) (zs : List ℕ) (s : Search) → IsFollowing c x y s →
+    ((z : ℕ) → Has zs z → IsSome (object_at c.objects z) → InGroup c x z) → IsFollowing c x y (all_found s zs)
 all_following c x y [] s f g = f
-all_following c x y (z ∷ zs) s f g = all_following c x y zs (found s z) (found_following c x y z s f (g z (has_first z zs))) (λ w h. g w (record { at = suc h.at; is = h.is }))
+all_following c x y (z ∷ zs) s f g =
+    all_following c x y zs (found s z) (found_following c x y z s f (g z (has_first z zs)))
+    (λ w h. g w (record { at = suc h.at; is = h.is }))
 
 all_kept : (zs : List ℕ) (s : Search) (w : ℕ) → mark_at s.marks w ≡ Some true → mark_at (all_found s zs).marks w ≡ Some true
 all_kept [] s w h = h
@@ -205,7 +222,8 @@ all_marks (z ∷ zs) s w h p l = ⊎_elim
     (has_parts z w zs h)
 
 -- the search goes on with what lies on top
-pub next_search : (c : Common) (x y : ℕ) (s : Search) → IsSearch c x s → top_of s.todo ≡ Some y → IsSearch c x (all_found (record { marks = s.marks; todo = below_of s.todo }) (links_of c y))
+pub next_search : (c : Common) (x y : ℕ) (s : Search) → IsSearch c x s → top_of s.todo ≡ Some y →
+    IsSearch c x (all_found (record { marks = s.marks; todo = below_of s.todo }) (links_of c y))
 next_search c x y s h e =
     let rest : Search = record { marks = s.marks; todo = below_of s.todo } in
     let parts = stack_parts s.todo y e in
@@ -222,9 +240,12 @@ next_search c x y s h e =
           (λ (l : LinksMarked c s.marks w). inl (inr l))
           (h.closed w m);
     } in
-    let after : IsFollowing c x y (all_found rest (links_of c y)) = all_following c x y (links_of c y) rest begun (λ z k i. Linked y z member k i) in
+    let after : IsFollowing c x y (all_found rest (links_of c y)) =
+    all_following c x y (links_of c y) rest begun (λ z k i. Linked y z member k i) in
     let own : LinksMarked c (all_found rest (links_of c y)).marks y = record {
-      each = λ z k i. (let w = object_within c.objects z i in all_marks (links_of c y) rest z k w.0 (let l = w.1 in let n = h.some.one_each in omega arith));
+      each = λ z k i.
+          (let w = object_within c.objects z i in all_marks (links_of c y) rest z k w.0
+          (let l = w.1 in let n = h.some.one_each in omega arith));
     } in
     record {
       some = after.some;
@@ -270,7 +291,8 @@ unset-length : (n : ℕ) → length (replicate n false) ≡ n
 unset-length zero = refl
 unset-length (suc n) = ap suc (unset-length n)
 
-first_found : (c : Common) (x : ℕ) → 0 < x → x ≤ length c.objects → IsSearch c x (record { marks = slice_set (replicate (length c.objects) false) (x - 1) true; todo = [] ++ x ∷ [] })
+first_found : (c : Common) (x : ℕ) → 0 < x → x ≤ length c.objects →
+    IsSearch c x (record { marks = slice_set (replicate (length c.objects) false) (x - 1) true; todo = [] ++ x ∷ [] })
 first_found c x p l =
     let n = length c.objects in
     record {
@@ -290,7 +312,8 @@ first_found c x p l =
     }
 
 -- a number that names no object is not found
-none_found : (c : Common) (x : ℕ) → (IsSome (object_at c.objects x) → ⊥) → IsSearch c x (record { marks = replicate (length c.objects) false; todo = [] })
+none_found : (c : Common) (x : ℕ) → (IsSome (object_at c.objects x) → ⊥) →
+    IsSearch c x (record { marks = replicate (length c.objects) false; todo = [] })
 none_found c x missing =
     let n = length c.objects in
     record {
@@ -341,7 +364,8 @@ all_work [] s = refl
 all_work (z ∷ zs) s = all_work zs (found s z) ∙ found_work s z
 
 -- what lay on top is done
-pub less_work : (zs : List ℕ) (s : Search) (y : ℕ) → top_of s.todo ≡ Some y → work_of (all_found (record { marks = s.marks; todo = below_of s.todo }) zs) < work_of s
+pub less_work : (zs : List ℕ) (s : Search) (y : ℕ) → top_of s.todo ≡ Some y →
+    work_of (all_found (record { marks = s.marks; todo = below_of s.todo }) zs) < work_of s
 unfolding work_of
 less_work zs s y e =
     let a = all_work zs (record { marks = s.marks; todo = below_of s.todo }) in
@@ -351,16 +375,20 @@ less_work zs s y e =
 
 -- ---- as the code has them
 
-pub found_first : (c : Common) (x n : ℕ) (s t : Search) → n ≡ length c.objects → s.marks ≡ replicate n false → s.todo ≡ [] → t ≡ found s x → IsSearch c x t
+pub found_first : (c : Common) (x n : ℕ) (s t : Search) → n ≡ length c.objects → s.marks ≡ replicate n false → s.todo ≡ [] →
+    t ≡ found s x → IsSearch c x t
 found_first c x n s t e m d r =
     let q : s ≡ record { marks = replicate (length c.objects) false; todo = [] } = (rw e at (parts s.marks s.todo m d)) in
     rw (r, q) (first_search c x)
   where
-    parts : (ms : List Bool) (todo : List ℕ) → ms ≡ replicate n false → todo ≡ [] → (let k : Search = record { marks = ms; todo = todo } in k) ≡ record { marks = replicate n false; todo = [] }
+    parts : (ms : List Bool) (todo : List ℕ) → ms ≡ replicate n false → todo ≡ [] →
+        (let k : Search = record { marks = ms; todo = todo } in k) ≡ record { marks = replicate n false; todo = [] }
     parts ms todo a b = rw (a, b) refl
 
-pub found_next : (c : Common) (x y : ℕ) (s t : Search) (rest : List ℕ) → IsSearch c x s → Some y ≡ top_of s.todo → rest ≡ below_of s.todo → t ≡ all_found (record { marks = s.marks; todo = rest }) (links_of c y) → IsSearch c x t
+pub found_next : (c : Common) (x y : ℕ) (s t : Search) (rest : List ℕ) → IsSearch c x s → Some y ≡ top_of s.todo →
+    rest ≡ below_of s.todo → t ≡ all_found (record { marks = s.marks; todo = rest }) (links_of c y) → IsSearch c x t
 found_next c x y s t rest h e b r = rw (r, b) (next_search c x y s h (sym e))
 
-pub work_next : (s t : Search) (y : ℕ) (rest zs : List ℕ) → Some y ≡ top_of s.todo → rest ≡ below_of s.todo → t ≡ all_found (record { marks = s.marks; todo = rest }) zs → work_of t < work_of s
+pub work_next : (s t : Search) (y : ℕ) (rest zs : List ℕ) → Some y ≡ top_of s.todo → rest ≡ below_of s.todo →
+    t ≡ all_found (record { marks = s.marks; todo = rest }) zs → work_of t < work_of s
 work_next s t y rest zs e b r = rw (r, b) (less_work zs s y (sym e))

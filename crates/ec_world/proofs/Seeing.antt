@@ -14,7 +14,11 @@ use Rattle.ec_world.specs.declared.stop.Stop.TheVariants as stop
 use Rattle.ec_world.specs.declared.stop.Who.{Who}
 use Rattle.ec_world.specs.Objects.{class_at, operation_in, conforms}
 use Rattle.ec_world.specs.Sights.{Sight, class_if, class_record}
-use Rattle.ec_world.specs.Doings.{Asked, one, two, three, passes, gives, breaks, runs_inside, is_inside, entry_asks, called, invoke_asks, new_asks, section_in, return_asks, conditions_of, condition_asks, global_asks, node_asks, element_at, element_or, of_vector, get_asks, set_at, set_asks, size_or, size_asks, any_fixed, without, is_node, move_to, fix_at, refix_at, move_asks, unfix_asks, fixed_asks, view_of, view_asks, doing_of}
+use Rattle.ec_world.specs.Doings.{Asked, one, two, three, passes, gives, breaks, runs_inside, is_inside, entry_asks, called}
+use Rattle.ec_world.specs.Doings.{invoke_asks, new_asks, section_in, return_asks, conditions_of, condition_asks, global_asks}
+use Rattle.ec_world.specs.Doings.{node_asks, element_at, element_or, of_vector, get_asks, set_at, set_asks, size_or, size_asks}
+use Rattle.ec_world.specs.Doings.{any_fixed, without, is_node, move_to, fix_at, refix_at, move_asks, unfix_asks, fixed_asks}
+use Rattle.ec_world.specs.Doings.{view_of, view_asks, doing_of}
 
 -- sights that are equal at each point
 pub record SameSight (s t : Sight) : Type 0 where
@@ -28,7 +32,8 @@ pub record SameSight (s t : Sight) : Type 0 where
   pub group : (oid : ℕ) → s.group oid ≡ t.group oid
 
 -- an act on two objects that may be another one, where it does the same on both
-acts_same : (line : ℕ) (act act' : ℕ → ℕ → Asked) → ((x to : ℕ) → act x to ≡ act' x to) → (o : Option (Value × Value)) → move_asks line act o ≡ move_asks line act' o
+acts_same : (line : ℕ) (act act' : ℕ → ℕ → Asked) → ((x to : ℕ) → act x to ≡ act' x to) → (o : Option (Value × Value)) →
+    move_asks line act o ≡ move_asks line act' o
 acts_same line act act' h None = refl
 acts_same line act act' h (Some (Int z, Int i)) = refl
 acts_same line act act' h (Some (Int z, Truth d)) = refl
@@ -194,16 +199,20 @@ module _ (s t : Sight) (h : SameSight s t) where
 
   refix_same : (line x to : ℕ) → refix_at s line x to ≡ refix_at t line x to
   refix_same line x to =
-      ap (λ (k : Option ClassNo). if is_node k then breaks cause.NodeFixed line else if any_fixed s (without x (s.group x)) then breaks cause.GroupFixed line else Some (Moves (s.group x) to (Some x))) (h.class x)
-      ∙ ap (λ (ms : List ℕ). if is_node (t.class x) then breaks cause.NodeFixed line else if any_fixed s (without x ms) then breaks cause.GroupFixed line else Some (Moves ms to (Some x))) (h.group x)
-      ∙ ap (λ (b : Bool). if is_node (t.class x) then breaks cause.NodeFixed line else if b then breaks cause.GroupFixed line else Some (Moves (t.group x) to (Some x))) (fixed_all_same (without x (t.group x)))
+      ap (λ (k : Option ClassNo). if is_node k then breaks cause.NodeFixed line else if any_fixed s (without x (s.group x)) then
+      breaks cause.GroupFixed line else Some (Moves (s.group x) to (Some x))) (h.class x)
+      ∙ ap (λ (ms : List ℕ). if is_node (t.class x) then breaks cause.NodeFixed line else if any_fixed s (without x ms) then breaks
+      cause.GroupFixed line else Some (Moves ms to (Some x))) (h.group x)
+      ∙ ap (λ (b : Bool). if is_node (t.class x) then breaks cause.NodeFixed line else if b then breaks cause.GroupFixed line else
+      Some (Moves (t.group x) to (Some x))) (fixed_all_same (without x (t.group x)))
 
   unfix_same : (line : ℕ) (o : Option Value) → unfix_asks s line o ≡ unfix_asks t line o
   unfix_same line None = refl
   unfix_same line (Some (Int z)) = refl
   unfix_same line (Some (Truth b)) = refl
   unfix_same line (Some (Str y)) = refl
-  unfix_same line (Some (Ref x)) = ap (λ (k : Option ClassNo). if is_node k then breaks cause.NodeFixed line else Some (Unfixes x)) (h.class x)
+  unfix_same line (Some (Ref x)) =
+      ap (λ (k : Option ClassNo). if is_node k then breaks cause.NodeFixed line else Some (Unfixes x)) (h.class x)
   unfix_same line (Some Nil) = refl
 
   fixed_same : (line : ℕ) (o : Option Value) → fixed_asks s line o ≡ fixed_asks t line o
@@ -218,7 +227,8 @@ module _ (s t : Sight) (h : SameSight s t) where
 
   view_if : (line : ℕ) (to : ViewedAs) (oid : ℕ) (k : Option ClassNo) → view_of s line to oid k ≡ view_of t line to oid k
   view_if line to oid None = refl
-  view_if line to oid (Some class) = ap (λ (ks : List ClassRec). if conforms ks class to then gives (Ref oid) else breaks cause.NotConforming line) h.classes
+  view_if line to oid (Some class) =
+      ap (λ (ks : List ClassRec). if conforms ks class to then gives (Ref oid) else breaks cause.NotConforming line) h.classes
 
   view_same : (line : ℕ) (to : ViewedAs) (o : Option Value) → view_asks s line to o ≡ view_asks t line to o
   view_same line to None = refl

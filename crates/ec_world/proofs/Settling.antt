@@ -28,7 +28,8 @@ module _ {A : Type 0} (M : ActivationMeaning A) (w : World A) (p : ℕ) (below :
   no_more ps = ap (λ (xs : List (Proc A)). record { common = c; processes = xs }) (append-nil ps)
 
   -- an outcome `only e` is the effect on one process
-  pub settled_only : (e : Effect) → IsNoFailure e → settled M w p below top c (only e) (given_up p (owns_of M below top) e c.objects) ≡ one_changed e
+  pub settled_only : (e : Effect) → IsNoFailure e →
+      settled M w p below top c (only e) (given_up p (owns_of M below top) e c.objects) ≡ one_changed e
   settled_only (GoesOn given) h = no_more (slice_set w.processes p (changed M below top (GoesOn given)))
   settled_only (Calls op own args) h = no_more (slice_set w.processes p (changed M below top (Calls op own args)))
   settled_only (Leaves given) h = no_more (slice_set w.processes p (changed M below top (Leaves given)))

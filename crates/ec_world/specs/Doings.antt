@@ -1,7 +1,8 @@
 -- The action table, first half: what the action of a stop comes to, once its operands and the world are looked at. One case a
 -- stop; none where the table has no case. Strings, indices, ranges and the order of failures stand here, for whoever sees a world.
 -- (Jul, Levy, Hutchinson, Black 1988; the Emerald report.)
-use Rattle.std.specs.Prelude.{ℕ, suc, ◌+◌, ◌==◌, ◌||◌, ◌&&◌, not, Bool, true, false, if◌then◌else◌, List, [], ◌∷◌, ◌++◌, length, nat_lt, nat_le}
+use Rattle.std.specs.Prelude.{ℕ, suc, ◌+◌, ◌==◌, ◌||◌, ◌&&◌, not, Bool, true, false, if◌then◌else◌, List, [], ◌∷◌, ◌++◌, length}
+use Rattle.std.specs.Prelude.{nat_lt, nat_le}
 use Rattle.std.specs.Prelude.{Option, Some, None, ℤ, pos, negsuc}
 use Rattle.std.specs.Fmt.{signed_decimal}
 use Rattle.ec_world.specs.declared.value.Value.{Value}
@@ -11,7 +12,8 @@ use Rattle.ec_world.specs.declared.class.ClassRec.{ClassRec}
 use Rattle.ec_world.specs.declared.class.VectorType.{VectorType}
 use Rattle.ec_world.specs.declared.class.ViewedAs.{ViewedAs}
 use Rattle.ec_world.specs.declared.doing.Doing.{Doing}
-use Rattle.ec_world.specs.declared.doing.Doing.TheVariants.{Passes, Prints, Defines, Stores, Makes, MakesVector, Invokes, Returns, Moves, Unfixes, Enters, Waits, Signals, Finishes, Breaks}
+use Rattle.ec_world.specs.declared.doing.Doing.TheVariants.{Passes, Prints, Defines, Stores, Makes, MakesVector, Invokes, Returns}
+use Rattle.ec_world.specs.declared.doing.Doing.TheVariants.{Moves, Unfixes, Enters, Waits, Signals, Finishes, Breaks}
 use Rattle.ec_world.specs.declared.process.Cause.{Cause}
 use Rattle.ec_world.specs.declared.process.Cause.TheVariants as cause
 use Rattle.ec_world.specs.declared.stop.Order.{Order}

@@ -9,7 +9,8 @@ use Rattle.ec_world.specs.Run.{RunState}
 -- Related activations rest at the same stop with the same operands. New activations are related, and so are related
 -- ones whose action gets done, and related ones after the silent steps behind a stop whose action is done, which make
 -- the same of what a world has beside its processes.
-pub record IsSimulation {A B : Type 0} (M : ActivationMeaning A) (N : ActivationMeaning B) (advance : Common → A → Common × A) (advance' : Common → B → Common × B) (R : A → B → Type 0) : Type 0 where
+pub record IsSimulation {A B : Type 0} (M : ActivationMeaning A) (N : ActivationMeaning B) (advance : Common → A → Common × A)
+    (advance' : Common → B → Common × B) (R : A → B → Type 0) : Type 0 where
   pub same : (a : A) (b : B) → R a b → SameRest M N a b
   pub operands : (a : A) (b : B) → R a b → M.operands a ≡ N.operands b
   pub begun : (op own : ℕ) (args : List Value) → R (M.begun op own args) (N.begun op own args)

@@ -1,5 +1,6 @@
 -- Actions, moves by the operator and turns, over any meaning of activations. No case reads a place.
-use Rattle.std.specs.Prelude.{◌≡◌, ℕ, length, Bool, true, false, List, [], ◌∷◌, ◌++◌, map, reverse, Option, Some, None, slice_get, slice_set}
+use Rattle.std.specs.Prelude.{◌≡◌, ℕ, length, Bool, true, false, List, [], ◌∷◌, ◌++◌, map, reverse, Option, Some, None, slice_get}
+use Rattle.std.specs.Prelude.{slice_set}
 use Rattle.ec_base.specs.Stack.{top_of, below_of}
 use Rattle.ec_world.specs.declared.value.Value.{Value}
 use Rattle.ec_world.specs.declared.process.ProcStatus.{ProcStatus}

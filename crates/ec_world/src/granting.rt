@@ -23,7 +23,8 @@ pub(crate) fn give_up<A: Activation>(
     activations: &Seq<A>,
     objects: &mut Seq<ObjectRec>,
 ) -> Result<Seq<Pid>, AllocError>
-    ensures { IfOk result (λ freed. given_up p (reverse (map A.meaning.own activations.now)) effect.now objects.old ≡ (objects.new, freed)) }
+    ensures { IfOk result
+        (λ freed. given_up p (reverse (map A.meaning.own activations.now)) effect.now objects.old ≡ (objects.new, freed)) }
 {
     match effect {
         Effect::Fails { .. } => {

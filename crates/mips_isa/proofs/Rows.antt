@@ -23,7 +23,9 @@ use Rattle.mips_isa.specs.declared.instr.Load.TheVariants as loads
 use Rattle.mips_isa.specs.declared.instr.Store.{Store}
 use Rattle.mips_isa.specs.declared.instr.Store.TheVariants as stores
 use Rattle.mips_isa.specs.declared.instr.Instr.{Instr}
-use Rattle.mips_isa.specs.declared.instr.Instr.TheVariants.{OnShift, OnVariableShift, OnRegisters, OnHiLo, ReadHiLo, WriteHiLo, Jr, Jalr, Syscall, J, Jal, BranchIf, BranchOnZero, OnImmediate, Lui, LoadFrom, StoreTo}
+use Rattle.mips_isa.specs.declared.instr.Instr.TheVariants.{OnShift, OnVariableShift, OnRegisters, OnHiLo, ReadHiLo, WriteHiLo, Jr}
+use Rattle.mips_isa.specs.declared.instr.Instr.TheVariants.{Jalr, Syscall, J, Jal, BranchIf, BranchOnZero, OnImmediate, Lui}
+use Rattle.mips_isa.specs.declared.instr.Instr.TheVariants.{LoadFrom, StoreTo}
 use Rattle.mips_isa.specs.OneWord.{shift_small, variable_shift_small, operation_small, hilo_small, from_small, to_small}
 use Rattle.mips_isa.specs.Words.{word_of, branch_op, zero_branch_op_rt, immediate_op, load_op, store_op}
 
@@ -89,11 +91,13 @@ no_special w op h0 h1 h2 h3 h4 h5 h6 h7 h8 (WriteHiLo to rs) e = h5 to rs e
 no_special w op h0 h1 h2 h3 h4 h5 h6 h7 h8 (Jr rs) e = h6 rs e
 no_special w op h0 h1 h2 h3 h4 h5 h6 h7 h8 (Jalr link) e = h7 link e
 no_special w op h0 h1 h2 h3 h4 h5 h6 h7 h8 Syscall e = h8 e
-no_special w op h0 h1 h2 h3 h4 h5 h6 h7 h8 (OnImmediate operation rt rs number) e = let no : ⊥ = omega (arith, e, op, immediate_some operation) in no
+no_special w op h0 h1 h2 h3 h4 h5 h6 h7 h8 (OnImmediate operation rt rs number) e = let no : ⊥ =
+    omega (arith, e, op, immediate_some operation) in no
 no_special w op h0 h1 h2 h3 h4 h5 h6 h7 h8 (LoadFrom load rt rs offset) e = let no : ⊥ = omega (arith, e, op, load_some load) in no
 no_special w op h0 h1 h2 h3 h4 h5 h6 h7 h8 (StoreTo store rt rs offset) e = let no : ⊥ = omega (arith, e, op, store_some store) in no
 no_special w op h0 h1 h2 h3 h4 h5 h6 h7 h8 (BranchIf branch rs rt offset) e = let no : ⊥ = omega (arith, e, op, branch_some branch) in no
-no_special w op h0 h1 h2 h3 h4 h5 h6 h7 h8 (BranchOnZero branch rs offset) e = let no : ⊥ = omega (arith, e, op, zero_branch_some branch) in no
+no_special w op h0 h1 h2 h3 h4 h5 h6 h7 h8 (BranchOnZero branch rs offset) e = let no : ⊥ =
+    omega (arith, e, op, zero_branch_some branch) in no
 no_special w op h0 h1 h2 h3 h4 h5 h6 h7 h8 (Lui rt number) e = let no : ⊥ = omega (arith, e, op) in no
 no_special w op h0 h1 h2 h3 h4 h5 h6 h7 h8 (J target) e = let no : ⊥ = omega (arith, e, op) in no
 no_special w op h0 h1 h2 h3 h4 h5 h6 h7 h8 (Jal target) e = let no : ⊥ = omega (arith, e, op) in no
@@ -117,9 +121,11 @@ no_other w op h0 h1 h2 h3 h4 h5 h6 h7 (BranchOnZero branch rs offset) e = h4 bra
 no_other w op h0 h1 h2 h3 h4 h5 h6 h7 (Lui rt number) e = h5 rt number e
 no_other w op h0 h1 h2 h3 h4 h5 h6 h7 (J target) e = h6 target e
 no_other w op h0 h1 h2 h3 h4 h5 h6 h7 (Jal target) e = h7 target e
-no_other w op h0 h1 h2 h3 h4 h5 h6 h7 (OnRegisters operation rd rs rt) e = let no : ⊥ = omega (arith, e, op, operation_small operation) in no
+no_other w op h0 h1 h2 h3 h4 h5 h6 h7 (OnRegisters operation rd rs rt) e = let no : ⊥ =
+    omega (arith, e, op, operation_small operation) in no
 no_other w op h0 h1 h2 h3 h4 h5 h6 h7 (OnShift shift rd rt amount) e = let no : ⊥ = omega (arith, e, op, shift_small shift) in no
-no_other w op h0 h1 h2 h3 h4 h5 h6 h7 (OnVariableShift shift rd rt rs) e = let no : ⊥ = omega (arith, e, op, variable_shift_small shift) in no
+no_other w op h0 h1 h2 h3 h4 h5 h6 h7 (OnVariableShift shift rd rt rs) e = let no : ⊥ =
+    omega (arith, e, op, variable_shift_small shift) in no
 no_other w op h0 h1 h2 h3 h4 h5 h6 h7 (OnHiLo operation rs rt) e = let no : ⊥ = omega (arith, e, op, hilo_small operation) in no
 no_other w op h0 h1 h2 h3 h4 h5 h6 h7 (ReadHiLo from rd) e = let no : ⊥ = omega (arith, e, op, from_small from) in no
 no_other w op h0 h1 h2 h3 h4 h5 h6 h7 (WriteHiLo to rs) e = let no : ⊥ = omega (arith, e, op, to_small to) in no

@@ -31,8 +31,11 @@ use Rattle.mips_isa.specs.declared.instr.Load.TheVariants as loads
 use Rattle.mips_isa.specs.declared.instr.Store.{Store}
 use Rattle.mips_isa.specs.declared.instr.Store.TheVariants as stores
 use Rattle.mips_isa.specs.declared.instr.Instr.{Instr}
-use Rattle.mips_isa.specs.declared.instr.Instr.TheVariants.{OnShift, OnVariableShift, OnRegisters, OnHiLo, ReadHiLo, WriteHiLo, Jr, Jalr, Syscall, J, Jal, BranchIf, BranchOnZero, OnImmediate, Lui, LoadFrom, StoreTo}
-use Rattle.mips_isa.specs.Words.{word_of, shift_funct, variable_shift_funct, operation_funct, hilo_funct, from_funct, to_funct, branch_op, zero_branch_op_rt, immediate_op, load_op, store_op}
+use Rattle.mips_isa.specs.declared.instr.Instr.TheVariants.{OnShift, OnVariableShift, OnRegisters, OnHiLo, ReadHiLo, WriteHiLo, Jr}
+use Rattle.mips_isa.specs.declared.instr.Instr.TheVariants.{Jalr, Syscall, J, Jal, BranchIf, BranchOnZero, OnImmediate, Lui}
+use Rattle.mips_isa.specs.declared.instr.Instr.TheVariants.{LoadFrom, StoreTo}
+use Rattle.mips_isa.specs.Words.{word_of, shift_funct, variable_shift_funct, operation_funct, hilo_funct, from_funct, to_funct}
+use Rattle.mips_isa.specs.Words.{branch_op, zero_branch_op_rt, immediate_op, load_op, store_op}
 
 -- ---- a field is its number
 
@@ -128,7 +131,8 @@ pub zero_branch_small : (row : ZeroBranch) → ((zero_branch_op_rt row).0 < 64) 
 zero_branch_small zero_branches.Bltz = (omega arith, omega arith)
 zero_branch_small _ = (omega arith, omega arith)
 
-same_zero_branch : (a b : ZeroBranch) → (zero_branch_op_rt a).0 ≡ (zero_branch_op_rt b).0 → (zero_branch_op_rt a).1 ≡ (zero_branch_op_rt b).1 → a ≡ b
+same_zero_branch : (a b : ZeroBranch) → (zero_branch_op_rt a).0 ≡ (zero_branch_op_rt b).0 →
+    (zero_branch_op_rt a).1 ≡ (zero_branch_op_rt b).1 → a ≡ b
 same_zero_branch a b e g = grind arith
 
 pub immediate_small : (row : Immediate) → immediate_op row < 64
@@ -398,7 +402,8 @@ one_word (BranchIf branch rs rt offset) (BranchIf branch1 rs1 rt1 offset1) e =
     let offsets = same_sixteen offset offset1 (omega (arith, e, branch_small branch, branch_small branch1)) in
     cc
 one_word (BranchOnZero branch rs offset) (BranchOnZero branch1 rs1 offset1) e =
-    let branchs = same_zero_branch branch branch1 (omega (arith, e, zero_branch_small branch, zero_branch_small branch1)) (omega (arith, e, zero_branch_small branch, zero_branch_small branch1)) in
+    let branchs = same_zero_branch branch branch1 (omega (arith, e, zero_branch_small branch, zero_branch_small branch1))
+    (omega (arith, e, zero_branch_small branch, zero_branch_small branch1)) in
     let rss = same_register rs rs1 (omega (arith, e, zero_branch_small branch, zero_branch_small branch1)) in
     let offsets = same_sixteen offset offset1 (omega (arith, e, zero_branch_small branch, zero_branch_small branch1)) in
     cc

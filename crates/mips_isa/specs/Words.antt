@@ -24,7 +24,9 @@ use Rattle.mips_isa.specs.declared.instr.Load.TheVariants.{Lb, Lh, Lw, Lbu, Lhu}
 use Rattle.mips_isa.specs.declared.instr.Store.{Store}
 use Rattle.mips_isa.specs.declared.instr.Store.TheVariants.{Sb, Sh, Sw}
 use Rattle.mips_isa.specs.declared.instr.Instr.{Instr}
-use Rattle.mips_isa.specs.declared.instr.Instr.TheVariants.{OnShift, OnVariableShift, OnRegisters, OnHiLo, ReadHiLo, WriteHiLo, Jr, Jalr, Syscall, J, Jal, BranchIf, BranchOnZero, OnImmediate, Lui, LoadFrom, StoreTo}
+use Rattle.mips_isa.specs.declared.instr.Instr.TheVariants.{OnShift, OnVariableShift, OnRegisters, OnHiLo, ReadHiLo, WriteHiLo, Jr}
+use Rattle.mips_isa.specs.declared.instr.Instr.TheVariants.{Jalr, Syscall, J, Jal, BranchIf, BranchOnZero, OnImmediate, Lui}
+use Rattle.mips_isa.specs.declared.instr.Instr.TheVariants.{LoadFrom, StoreTo}
 
 -- ---- the formats
 

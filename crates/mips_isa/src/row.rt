@@ -1,7 +1,8 @@
 //! The numbers by which rows differ: funct where op is 0, else op, or op and the number at rt.
 
 ghost use Rattle.std.specs.Prelude.{◌≡◌, ◌≢◌, ◌<◌, ◌^◌, IfSome, IfNone};
-ghost use Rattle.mips_isa.specs.Words.{shift_funct, variable_shift_funct, operation_funct, hilo_funct, from_funct, to_funct, branch_op, zero_branch_op_rt, immediate_op, load_op, store_op};
+ghost use Rattle.mips_isa.specs.Words.{shift_funct, variable_shift_funct, operation_funct, hilo_funct, from_funct, to_funct};
+ghost use Rattle.mips_isa.specs.Words.{branch_op, zero_branch_op_rt, immediate_op, load_op, store_op};
 ghost use Rattle.mips_isa.specs.declared.instr.Shift.{Shift};
 ghost use Rattle.mips_isa.specs.declared.instr.VariableShift.{VariableShift};
 ghost use Rattle.mips_isa.specs.declared.instr.Operation.{Operation};

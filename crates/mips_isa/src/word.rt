@@ -8,7 +8,9 @@ ghost use Rattle.mips_isa.specs.declared.field.Register.{Register};
 ghost use Rattle.mips_isa.specs.declared.field.Sixteen.{Sixteen};
 ghost use Rattle.mips_isa.specs.declared.field.Target.{Target};
 ghost use Rattle.mips_isa.specs.declared.instr.Instr.{Instr};
-ghost use Rattle.mips_isa.specs.declared.instr.Instr.TheVariants.{OnShift, OnVariableShift, OnRegisters, OnHiLo, ReadHiLo, WriteHiLo, Jr, Jalr, Syscall, J, Jal, BranchIf, BranchOnZero, OnImmediate, Lui, LoadFrom, StoreTo};
+ghost use Rattle.mips_isa.specs.declared.instr.Instr.TheVariants.{OnShift, OnVariableShift, OnRegisters, OnHiLo, ReadHiLo};
+ghost use Rattle.mips_isa.specs.declared.instr.Instr.TheVariants.{WriteHiLo, Jr, Jalr, Syscall, J, Jal, BranchIf, BranchOnZero};
+ghost use Rattle.mips_isa.specs.declared.instr.Instr.TheVariants.{OnImmediate, Lui, LoadFrom, StoreTo};
 ghost use Rattle.mips_isa.specs.declared.instr.Shift.{Shift};
 ghost use Rattle.mips_isa.specs.declared.instr.VariableShift.{VariableShift};
 ghost use Rattle.mips_isa.specs.declared.instr.Operation.{Operation};
@@ -329,7 +331,8 @@ fn syscall_row(word: u32) -> Option<Instr>
 
 fn immediate_row(word: u32) -> Option<Instr>
     ensures some { IfSome result (λ i. word_of i ≡ word) }
-    ensures none { IfNone result ((operation : Immediate) (rt rs : Register) (number : Sixteen) → word_of (OnImmediate operation rt rs number) ≢ word) }
+    ensures none { IfNone result
+        ((operation : Immediate) (rt rs : Register) (number : Sixteen) → word_of (OnImmediate operation rt rs number) ≢ word) }
 {
     let operation = Immediate::of_op(field(word, 26, 6))?;
     Some(Instr::OnImmediate {
@@ -381,7 +384,8 @@ fn branch_row(word: u32) -> Option<Instr>
 
 fn zero_branch_row(word: u32) -> Option<Instr>
     ensures some { IfSome result (λ i. word_of i ≡ word) }
-    ensures none { IfNone result ((branch : ZeroBranch) (rs : Register) (offset : Sixteen) → word_of (BranchOnZero branch rs offset) ≢ word) }
+    ensures none { IfNone result
+        ((branch : ZeroBranch) (rs : Register) (offset : Sixteen) → word_of (BranchOnZero branch rs offset) ≢ word) }
 {
     let branch = ZeroBranch::of_op_rt((field(word, 26, 6), rt_of(word).number))?;
     Some(Instr::BranchOnZero {

@@ -13,7 +13,9 @@ use Rattle.mips_machine.specs.MachineLaws.{same_state}
 use Rattle.mips_machine.specs.Step.{Next, Goes, Stops, Traps, MipsStep}
 
 -- the answer fits what the step comes to
-pub mips_answers : (code : List ℕ) (m : MipsMachine) (b : Bytes) (next : Next) (o : Outcome) (n : MipsMachine) (c : Bytes) → MipsStep code (state_of m b) next → IsAnswer next (state_of m b) o (state_of n c) → Answers (mips_goes code) (mips_stops code) (mips_traps code) m b o n c
+pub mips_answers : (code : List ℕ) (m : MipsMachine) (b : Bytes) (next : Next) (o : Outcome) (n : MipsMachine) (c : Bytes) →
+    MipsStep code (state_of m b) next → IsAnswer next (state_of m b) o (state_of n c) →
+    Answers (mips_goes code) (mips_stops code) (mips_traps code) m b o n c
 mips_answers code m b (Goes s) outcomes.Went n c st a = subst (λ t. MipsStep code (state_of m b) (Goes t)) (sym a.1) st
 mips_answers code m b (Goes s) outcomes.Stop n c st a = absurd (cc)
 mips_answers code m b (Goes s) (outcomes.Trap trap) n c st a = absurd (cc)

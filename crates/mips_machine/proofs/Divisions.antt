@@ -16,7 +16,8 @@ use Rattle.mips_machine.specs.Values.{signed, unsigned, quotient, remainder}
 signed_fits : (a : ℕ) → a < 2 ^ 32 → FitsSigned w32 (signed a)
 signed_fits a h = ⊎_elim
     (λ lt. let f : FitsSigned w32 (pos a) = record { sfits = lt } in subst (λ z. FitsSigned w32 z) (sym (low_signed a lt)) f)
-    (λ le. let f : FitsSigned w32 (negsuc (2 ^ 32 - suc a)) = record { sfits = omega arith } in subst (λ z. FitsSigned w32 z) (sym (high_signed a le h)) f)
+    (λ le. let f : FitsSigned w32 (negsuc (2 ^ 32 - suc a)) =
+    record { sfits = omega arith } in subst (λ z. FitsSigned w32 z) (sym (high_signed a le h)) f)
     (cases_lt a (2 ^ 31))
 
 negated_fits : (n : ℕ) → n ≤ 2 ^ 31 → FitsSigned w32 (neg_ℤ (pos n))
@@ -59,19 +60,25 @@ remainder_not_positive (negsuc a) y h = omega (arith, ints)
 
 -- ---- the division
 
-signed_quotient : (a b : ℕ) → a < 2 ^ 32 → b < 2 ^ 32 → b ≢ 0 → (a ≡ 2 ^ 31 → b ≢ 2 ^ 32 - 1) → signed (quotient a b) ≡ int_div (signed a) (signed b)
+signed_quotient : (a b : ℕ) → a < 2 ^ 32 → b < 2 ^ 32 → b ≢ 0 → (a ≡ 2 ^ 31 → b ≢ 2 ^ 32 - 1) →
+    signed (quotient a b) ≡ int_div (signed a) (signed b)
 signed_quotient a b h k ne far =
-    let fits = quotient_fits (signed a) (signed b) (signed_fits a h) (not_zero b k ne) (λ e f. far (sym (of_z-to_z w32 a h) ∙ ap unsigned e) (sym (of_z-to_z w32 b k) ∙ ap unsigned f)) in
+    let fits = quotient_fits (signed a) (signed b) (signed_fits a h) (not_zero b k ne)
+    (λ e f. far (sym (of_z-to_z w32 a h) ∙ ap unsigned e) (sym (of_z-to_z w32 b k) ∙ ap unsigned f)) in
     to_z-of_z w32 (int_div (signed a) (signed b)) fits
 
 signed_remainder : (a b : ℕ) → a < 2 ^ 32 → b ≢ 0 → signed (remainder a b) ≡ int_rem (signed a) (signed b)
 signed_remainder a b h ne =
     to_z-of_z w32 (int_rem (signed a) (signed b)) (remainder_fits (signed a) (signed b) (signed_fits a h))
 
-pub division_is : (a b : ℕ) → a < 2 ^ 32 → b < 2 ^ 32 → b ≢ 0 → (a ≡ 2 ^ 31 → b ≢ 2 ^ 32 - 1) → IsDivision a b (quotient a b) (remainder a b)
+pub division_is : (a b : ℕ) → a < 2 ^ 32 → b < 2 ^ 32 → b ≢ 0 → (a ≡ 2 ^ 31 → b ≢ 2 ^ 32 - 1) →
+    IsDivision a b (quotient a b) (remainder a b)
 division_is a b h k ne far = record {
-  exact = sym (ap (λ z. z *ℤ signed b +ℤ signed (remainder a b)) (signed_quotient a b h k ne far) ∙ ap (λ z. int_div (signed a) (signed b) *ℤ signed b +ℤ z) (signed_remainder a b h ne) ∙ quot-rem (signed a) (signed b));
-  small = subst (λ z. unsigned_abs z < unsigned_abs (signed b)) (sym (signed_remainder a b h ne)) (rem_below (signed a) (signed b) (not_zero b k ne));
+  exact = sym
+      (ap (λ z. z *ℤ signed b +ℤ signed (remainder a b)) (signed_quotient a b h k ne far)
+      ∙ ap (λ z. int_div (signed a) (signed b) *ℤ signed b +ℤ z) (signed_remainder a b h ne) ∙ quot-rem (signed a) (signed b));
+  small = subst (λ z. unsigned_abs z < unsigned_abs (signed b)) (sym (signed_remainder a b h ne))
+      (rem_below (signed a) (signed b) (not_zero b k ne));
   not_negative = λ s. subst (λ z. pos 0 ≤ℤ z) (sym (signed_remainder a b h ne)) (remainder_not_negative (signed a) (signed b) s);
   not_positive = λ s. subst (λ z. z ≤ℤ pos 0) (sym (signed_remainder a b h ne)) (remainder_not_positive (signed a) (signed b) s);
 }

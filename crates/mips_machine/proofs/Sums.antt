@@ -18,5 +18,6 @@ fits (negsuc n) e = record { sfits = grind (arith, ints, nat_tests) }
 pub sum_exact : (a b : ℕ) → a < 2 ^ 32 → b < 2 ^ 32 → is_beyond (signed a +ℤ signed b) ≡ false → signed (plus a b) ≡ signed a +ℤ signed b
 sum_exact a b h k e = wrapping_add-bits w32 a b h k ∙ int_wrap_fits w32 (signed a +ℤ signed b) (fits (signed a +ℤ signed b) e)
 
-pub difference_exact : (a b : ℕ) → a < 2 ^ 32 → b < 2 ^ 32 → is_beyond (signed a -ℤ signed b) ≡ false → signed (minus a b) ≡ signed a -ℤ signed b
+pub difference_exact : (a b : ℕ) → a < 2 ^ 32 → b < 2 ^ 32 → is_beyond (signed a -ℤ signed b) ≡ false →
+    signed (minus a b) ≡ signed a -ℤ signed b
 difference_exact a b h k e = wrapping_sub-bits w32 a b h k ∙ int_wrap_fits w32 (signed a -ℤ signed b) (fits (signed a -ℤ signed b) e)

@@ -16,7 +16,8 @@ use Rattle.mips_machine.specs.declared.flow.Flow.{Flow}
 use Rattle.mips_machine.specs.declared.machine.MipsMachine.{MipsMachine}
 use Rattle.mips_machine.specs.Hazards.{is_jump, is_stop, sets_hilo, touches}
 use Rattle.mips_machine.specs.Machine.{state_of, mips_goes, mips_place, mips_stops, mips_traps}
-use Rattle.mips_machine.specs.Step.{State, Next, Goes, Stops, Traps, Effect, Done, Fails, MipsStep, nowhere, unlisted, listed, comes_to, does, effect, is_recent, performs}
+use Rattle.mips_machine.specs.Step.{State, Next, Goes, Stops, Traps, Effect, Done, Fails, MipsStep, nowhere, unlisted, listed}
+use Rattle.mips_machine.specs.Step.{comes_to, does, effect, is_recent, performs}
 
 -- ---- a step comes to one thing
 
@@ -29,7 +30,8 @@ one_next code s m n (unlisted w h none e) (unlisted v k other f) = e ∙ sym f
 one_next code s m n (unlisted w h none e) (listed i k f) = absurd (none i (same_Some (word_of i) w (sym k ∙ h)))
 one_next code s m n (listed i h e) (nowhere k f) = absurd (cc)
 one_next code s m n (listed i h e) (unlisted w k none f) = absurd (none i (same_Some (word_of i) w (sym h ∙ k)))
-one_next code s m n (listed i h e) (listed j k f) = e ∙ ap (λ x. performs x s) (one_word i j (same_Some (word_of i) (word_of j) (sym h ∙ k))) ∙ sym f
+one_next code s m n (listed i h e) (listed j k f) =
+    e ∙ ap (λ x. performs x s) (one_word i j (same_Some (word_of i) (word_of j) (sym h ∙ k))) ∙ sym f
 
 same_goes : (s t : State) → Goes s ≡ Goes t → s ≡ t
 same_goes s t e = cc
@@ -44,12 +46,16 @@ same_machine m n e f g h =
     ∙ ap (λ flow. machine m.registers n.hi n.lo flow m.many) h ∙ ap (machine m.registers n.hi n.lo n.flow) (le_prop m.many k)) n.many
 
 pub same_state : (m n : MipsMachine) (b c : Bytes) → state_of m b ≡ state_of n c → (m ≡ n) × (b ≡ c)
-same_state m n b c e =
-    (same_machine m n (ap (λ s. s.held.registers) e) (ap (λ s. s.held.hi) e) (ap (λ s. s.held.lo) e) (ap (λ s. s.flow) e), ap (λ s. s.held.bytes) e)
+same_state m n b c e = (
+  same_machine m n (ap (λ s. s.held.registers) e) (ap (λ s. s.held.hi) e) (ap (λ s. s.held.lo) e) (ap (λ s. s.flow) e),
+  ap
+      (λ s. s.held.bytes) e,
+)
 
 pub mips_one_way : (code : List ℕ) → IsOneWay (mips_goes code)
 mips_one_way code m b n c u d p q =
-    same_state n u c d (same_goes (state_of n c) (state_of u d) (one_next code (state_of m b) (Goes (state_of n c)) (Goes (state_of u d)) p q))
+    same_state n u c d
+    (same_goes (state_of n c) (state_of u d) (one_next code (state_of m b) (Goes (state_of n c)) (Goes (state_of u d)) p q))
 
 stop_not_goes : (s : State) → Stops ≡ Goes s → ⊥
 stop_not_goes s e = cc
@@ -63,7 +69,8 @@ trap_not_stop cause e = cc
 pub mips_apart : (code : List ℕ) → AreApart (mips_goes code) (mips_stops code) (mips_traps code)
 mips_apart code = record {
   stop_stays = λ m b n c p q. stop_not_goes (state_of n c) (one_next code (state_of m b) Stops (Goes (state_of n c)) p q);
-  trap_stays = λ m b trap n c p q. trap_not_goes trap.cause (state_of n c) (one_next code (state_of m b) (Traps trap.cause) (Goes (state_of n c)) p.0 q);
+  trap_stays = λ m b trap n c p q. trap_not_goes trap.cause (state_of n c)
+      (one_next code (state_of m b) (Traps trap.cause) (Goes (state_of n c)) p.0 q);
   no_stop = λ m b trap p q. trap_not_stop trap.cause (one_next code (state_of m b) (Traps trap.cause) Stops p.0 q);
 }
 

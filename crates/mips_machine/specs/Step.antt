@@ -1,6 +1,7 @@
 -- What one instruction of a MIPS machine does (Kane, MIPS RISC Architecture, appendix A). What it does to registers and memory and
 -- where it leads stand apart.
-use Rattle.std.specs.Prelude.{◌≡◌, ◌≢◌, ℕ, ◌+◌, ◌*◌, ◌/◌, ◌%◌, ◌^◌, Bool, true, false, not, ◌==◌, ◌&&◌, if◌then◌else◌, List, slice_index, slice_set, Option, Some, None, is_some}
+use Rattle.std.specs.Prelude.{◌≡◌, ◌≢◌, ℕ, ◌+◌, ◌*◌, ◌/◌, ◌%◌, ◌^◌, Bool, true, false, not, ◌==◌, ◌&&◌, if◌then◌else◌, List}
+use Rattle.std.specs.Prelude.{slice_index, slice_set, Option, Some, None, is_some}
 use Rattle.std.specs.Option.{option_map}
 use Rattle.byteorder.specs.Endian.{big_number, big_bytes}
 use Rattle.ec_base.specs.Bytes.{Bytes, bytes_from, with_bytes}
@@ -16,12 +17,16 @@ use Rattle.mips_isa.specs.declared.instr.MoveTo.{MoveTo}
 use Rattle.mips_isa.specs.declared.instr.MoveTo.TheVariants.{Mthi, Mtlo}
 use Rattle.mips_isa.specs.declared.instr.Load.{Load}
 use Rattle.mips_isa.specs.declared.instr.Instr.{Instr}
-use Rattle.mips_isa.specs.declared.instr.Instr.TheVariants.{OnShift, OnVariableShift, OnRegisters, OnHiLo, ReadHiLo, WriteHiLo, Jr, Jalr, Syscall, J, Jal, BranchIf, BranchOnZero, OnImmediate, Lui, LoadFrom, StoreTo}
+use Rattle.mips_isa.specs.declared.instr.Instr.TheVariants.{OnShift, OnVariableShift, OnRegisters, OnHiLo, ReadHiLo, WriteHiLo, Jr}
+use Rattle.mips_isa.specs.declared.instr.Instr.TheVariants.{Jalr, Syscall, J, Jal, BranchIf, BranchOnZero, OnImmediate, Lui}
+use Rattle.mips_isa.specs.declared.instr.Instr.TheVariants.{LoadFrom, StoreTo}
 use Rattle.mips_machine.specs.declared.flow.Flow.{Flow}
 use Rattle.mips_machine.specs.declared.flow.Since.{Since}
 use Rattle.mips_machine.specs.declared.flow.Since.TheVariants.{JustNow, OneAgo, LongAgo}
 use Rattle.mips_machine.specs.Hazards.{touches, is_jump, sets_hilo, reads_hilo, loads, is_stop}
-use Rattle.mips_machine.specs.Values.{plus, extended, shift_value, variable_shift_value, operation_value, operation_overflows, immediate_number, immediate_value, immediate_overflows, hi_value, lo_value, is_undefined, is_taken, is_zero_taken, load_size, load_value, store_size}
+use Rattle.mips_machine.specs.Values.{plus, extended, shift_value, variable_shift_value, operation_value, operation_overflows}
+use Rattle.mips_machine.specs.Values.{immediate_number, immediate_value, immediate_overflows, hi_value, lo_value, is_undefined}
+use Rattle.mips_machine.specs.Values.{is_taken, is_zero_taken, load_size, load_value, store_size}
 
 -- the registers, HI and LO, and the bytes of the memory
 pub record Data : Type 0 where
@@ -201,5 +206,6 @@ performs i s =
 
 pub data MipsStep (code : List ℕ) (s : State) (next : Next) : Type 0 where
   nowhere : word_at code s.flow.pc ≡ None → next ≡ Traps Fetch → MipsStep code s next
-  unlisted : (word : ℕ) → word_at code s.flow.pc ≡ Some word → ((i : Instr) → word_of i ≢ word) → next ≡ Traps Unlisted → MipsStep code s next
+  unlisted : (word : ℕ) → word_at code s.flow.pc ≡ Some word → ((i : Instr) → word_of i ≢ word) → next ≡ Traps Unlisted →
+      MipsStep code s next
   listed : (i : Instr) → word_at code s.flow.pc ≡ Some (word_of i) → next ≡ performs i s → MipsStep code s next

@@ -1,6 +1,7 @@
 -- What the operations of MIPS I compute, on words as numbers from 0 to 2^32 - 1 (Kane, MIPS RISC Architecture, chapter 3 and
 -- appendix A).
-use Rattle.std.specs.Prelude.{ℕ, ◌+◌, ◌-◌, ◌*◌, ◌/◌, ◌%◌, ◌^◌, Bool, false, not, ◌==◌, ◌&&◌, ◌||◌, nat_lt, if◌then◌else◌, bit_and, bit_or, bit_xor, ℤ, pos, negsuc, ◌+ℤ◌, ◌-ℤ◌, int_lt, int_le, int_div, int_rem}
+use Rattle.std.specs.Prelude.{ℕ, ◌+◌, ◌-◌, ◌*◌, ◌/◌, ◌%◌, ◌^◌, Bool, false, not, ◌==◌, ◌&&◌, ◌||◌, nat_lt, if◌then◌else◌, bit_and}
+use Rattle.std.specs.Prelude.{bit_or, bit_xor, ℤ, pos, negsuc, ◌+ℤ◌, ◌-ℤ◌, int_lt, int_le, int_div, int_rem}
 use Rattle.std.specs.Int.{w32, cast_signed, cast_unsigned, from_bool, int_shr}
 use Rattle.mips_isa.specs.declared.instr.Shift.{Shift}
 use Rattle.mips_isa.specs.declared.instr.Shift.TheVariants.{Sll, Srl, Sra}

@@ -3,7 +3,10 @@
 ghost use Rattle.std.specs.Prelude.{◌≡◌, ◌≢◌, ◌-◌, ◌*◌, ◌/◌, ◌%◌, ◌<◌, ◌^◌, ◌+ℤ◌, ◌-ℤ◌, false};
 ghost use Rattle.std.specs.Bool.{OnFalse};
 ghost use Rattle.mips_machine.specs.Laws.{number_in, IsProduct, IsUnsignedProduct, IsDivision, IsUnsignedDivision};
-ghost use Rattle.mips_machine.specs.Values.{plus, minus, extended, signed, is_beyond, shift_value, variable_shift_value, operation_value, operation_overflows, immediate_number, immediate_value, immediate_overflows, hi_value, lo_value, is_undefined, is_taken, is_zero_taken, wide, upper, quotient, remainder};
+ghost use Rattle.mips_machine.specs.Values.{plus, minus, extended, signed, is_beyond, shift_value, variable_shift_value};
+ghost use Rattle.mips_machine.specs.Values.{operation_value, operation_overflows, immediate_number, immediate_value};
+ghost use Rattle.mips_machine.specs.Values.{immediate_overflows, hi_value, lo_value, is_undefined, is_taken, is_zero_taken, wide};
+ghost use Rattle.mips_machine.specs.Values.{upper, quotient, remainder};
 
 use mips_isa::instr::{
     Branch, HiLoOperation, Immediate, Operation, Shift, VariableShift, ZeroBranch,

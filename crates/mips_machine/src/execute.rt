@@ -5,7 +5,8 @@ ghost use Rattle.byteorder.specs.Endian.{big_bytes};
 ghost use Rattle.ec_base.specs.Bytes.{Bytes, bytes_from};
 ghost use Rattle.mips_machine.specs.Hazards.{is_stop};
 ghost use Rattle.mips_machine.specs.Machine.{data_of, state_of, HasEffect, IsAnswer};
-ghost use Rattle.mips_machine.specs.Step.{address, after, aligned, branch_target, does, effect, hilo_of, linked, loaded, loaded_to, performs, register_of, stored, with_hilo, with_register};
+ghost use Rattle.mips_machine.specs.Step.{address, after, aligned, branch_target, does, effect, hilo_of, linked, loaded, loaded_to};
+ghost use Rattle.mips_machine.specs.Step.{performs, register_of, stored, with_hilo, with_register};
 ghost use Rattle.mips_machine.specs.Values.{load_size, plus, store_size};
 
 use crate::access::{load_from, size_of_load, size_of_store, store_to};
@@ -25,7 +26,8 @@ const LINK: u32 = 31;
 impl MipsMachine {
     // Does one instruction, unless those before forbid it.
     pub(crate) fn perform<M: Memory>(&mut self, memory: &mut M, instr: Instr) -> Outcome
-        ensures answer { IsAnswer (performs instr (state_of self.old (M.byte_at memory.old))) (state_of self.old (M.byte_at memory.old)) result (state_of self.new (M.byte_at memory.new)) }
+        ensures answer { IsAnswer (performs instr (state_of self.old (M.byte_at memory.old)))
+            (state_of self.old (M.byte_at memory.old)) result (state_of self.new (M.byte_at memory.new)) }
         ensures rest { M.alike memory.old memory.new }
     {
         if is_jump(instr) && self.flow.delayed {
@@ -42,7 +44,8 @@ impl MipsMachine {
 
     // Does one instruction.
     fn execute<M: Memory>(&mut self, memory: &mut M, instr: Instr) -> Outcome
-        ensures answer { IsAnswer (does instr (state_of self.old (M.byte_at memory.old))) (state_of self.old (M.byte_at memory.old)) result (state_of self.new (M.byte_at memory.new)) }
+        ensures answer { IsAnswer (does instr (state_of self.old (M.byte_at memory.old))) (state_of self.old (M.byte_at memory.old))
+            result (state_of self.new (M.byte_at memory.new)) }
         ensures rest { M.alike memory.old memory.new }
     {
         if is_stop(instr) {
@@ -112,7 +115,8 @@ impl MipsMachine {
     // ---- what an instruction does to registers and memory
 
     fn effect<M: Memory>(&mut self, memory: &mut M, instr: Instr) -> Result<(), Cause>
-        ensures data { HasEffect (effect instr (data_of self.old (M.byte_at memory.old))) (data_of self.old (M.byte_at memory.old)) result (data_of self.new (M.byte_at memory.new)) }
+        ensures data { HasEffect (effect instr (data_of self.old (M.byte_at memory.old))) (data_of self.old (M.byte_at memory.old))
+            result (data_of self.new (M.byte_at memory.new)) }
         ensures flow { self.new.flow ≡ self.old.flow }
         ensures rest { M.alike memory.old memory.new }
     {
@@ -188,7 +192,10 @@ impl MipsMachine {
         rt: Register,
         at: u32,
     ) -> Result<(), Cause>
-        ensures data { HasEffect (aligned (load_size load) at (loaded_to (data_of self.old (M.byte_at memory.now)) rt (loaded load (M.byte_at memory.now) at))) (data_of self.old (M.byte_at memory.now)) result (data_of self.new (M.byte_at memory.now)) }
+        ensures data { HasEffect
+            (aligned (load_size load) at
+            (loaded_to (data_of self.old (M.byte_at memory.now)) rt (loaded load (M.byte_at memory.now) at)))
+            (data_of self.old (M.byte_at memory.now)) result (data_of self.new (M.byte_at memory.now)) }
         ensures flow { self.new.flow ≡ self.old.flow }
     {
         if at % size_of_load(load) != 0 {
@@ -208,7 +215,11 @@ impl MipsMachine {
         at: u32,
         value: u32,
     ) -> Result<(), Cause>
-        ensures data { HasEffect (aligned (store_size store) at (stored (data_of self.now (M.byte_at memory.old)) at (big_bytes (store_size store) value) (is_some (bytes_from (M.byte_at memory.old) at (store_size store))))) (data_of self.now (M.byte_at memory.old)) result (data_of self.now (M.byte_at memory.new)) }
+        ensures data { HasEffect
+            (aligned (store_size store) at
+            (stored (data_of self.now (M.byte_at memory.old)) at (big_bytes (store_size store) value)
+            (is_some (bytes_from (M.byte_at memory.old) at (store_size store))))) (data_of self.now (M.byte_at memory.old))
+            result (data_of self.now (M.byte_at memory.new)) }
         ensures rest { M.alike memory.old memory.new }
     {
         if at % size_of_store(store) != 0 {

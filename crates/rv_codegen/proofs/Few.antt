@@ -45,7 +45,8 @@ is_in (Rest m ∷ code) zero n e = inl (cc)
 is_in (Literal to index ∷ code) (suc p) n e = is_in code p n e
 is_in (Rest m ∷ code) (suc p) n e = inr (is_in code p n e)
 
-pub few_stops : (classes : List ClassRec) (globals : List ValueType) (literals : List (List ℕ)) (n : ℕ) (o : Operation) → FineOperation classes globals literals n o → length o.stops ≤ length o.code
+pub few_stops : (classes : List ClassRec) (globals : List ValueType) (literals : List (List ℕ)) (n : ℕ) (o : Operation) →
+    FineOperation classes globals literals n o → length o.stops ≤ length o.code
 few_stops classes globals literals n o good =
     let all = at_least (length o.stops) (stops_in o.code) (λ i lt.
     let s = get_there o.stops i lt in

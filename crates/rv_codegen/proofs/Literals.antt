@@ -25,8 +25,10 @@ use Rattle.rv_codegen.specs.Code.{literal_words}
 pub written : (b : Bytes) (at w : ℕ) → w < 2 ^ 32 → word_in little_number (with_bytes b at (little_bytes 4 w)) at ≡ Some w
 written b at w h = word_written little_number little_bytes little_number-reads_back (λ n x. length-bytes_low_first 0 n x) b at w h
 
-pub other_word : (b : Bytes) (at w a : ℕ) → a % 4 ≡ 0 → at % 4 ≡ 0 → a ≢ at → word_in little_number (with_bytes b at (little_bytes 4 w)) a ≡ word_in little_number b a
-other_word b at w a e f ne = word_other little_number little_bytes little_number-reads_back (λ n x. length-bytes_low_first 0 n x) b at w a e f ne
+pub other_word : (b : Bytes) (at w a : ℕ) → a % 4 ≡ 0 → at % 4 ≡ 0 → a ≢ at →
+    word_in little_number (with_bytes b at (little_bytes 4 w)) a ≡ word_in little_number b a
+other_word b at w a e f ne =
+    word_other little_number little_bytes little_number-reads_back (λ n x. length-bytes_low_first 0 n x) b at w a e f ne
 
 pub other_byte : (b : Bytes) (at w a : ℕ) → (a < at) ⊎ (at + 4 ≤ a) → with_bytes b at (little_bytes 4 w) a ≡ b a
 other_byte b at w a h = byte_beside little_number little_bytes little_number-reads_back (λ n x. length-bytes_low_first 0 n x) b at w a h
@@ -57,7 +59,10 @@ pub record Puts (code : List ℕ) (f n index : ℕ) (m : RvMachine) (b : Bytes) 
   pub place : last.pc ≡ pc_of (i + 3)
   pub base : rv_register last 8 ≡ rv_register m 8
 
-pub literal_puts : (code : List ℕ) (f n index : ℕ) (m : RvMachine) (b : Bytes) (i old : ℕ) → ((k w : ℕ) → slice_get (literal_words n index) k ≡ Some w → word_at code (pc_of (i + k)) ≡ Some w) → m.pc ≡ pc_of i → i < 2 ^ 26 → rv_register m 8 ≡ block_at f → f < 65536 → n < 100 → index < 2 ^ 32 → word_in little_number b (slot_at f n) ≡ Some old → Puts code f n index m b i
+pub literal_puts : (code : List ℕ) (f n index : ℕ) (m : RvMachine) (b : Bytes) (i old : ℕ) →
+    ((k w : ℕ) → slice_get (literal_words n index) k ≡ Some w → word_at code (pc_of (i + k)) ≡ Some w) → m.pc ≡ pc_of i →
+    i < 2 ^ 26 → rv_register m 8 ≡ block_at f → f < 65536 → n < 100 → index < 2 ^ 32 →
+    word_in little_number b (slot_at f n) ≡ Some old → Puts code f n index m b i
 literal_puts code f n index m b i old has at low base small few word there =
     let high : Twenty = record { bits = high_of index; in_range = omega arith } in
     let lower : Twelve = record { bits = low_of index; in_range = omega arith } in
@@ -71,7 +76,8 @@ literal_puts code f n index m b i old has at low base small few word there =
       last = put m 5 index;
       leads = number_goes code m b x5 x8 high lower offset index (slot_at f n)
           (ap (word_at code) first ∙ has 0 _ refl) (ap (word_at code) second ∙ has 1 _ refl) (ap (word_at code) third ∙ has 2 _ refl)
-          refl refl word (omega (arith, at, low)) (lit< tt) not_85 address (omega arith) (there_is (bytes_from b (slot_at f n) 4) old there);
+          refl refl word (omega (arith, at, low)) (lit< tt) not_85 address (omega arith)
+          (there_is (bytes_from b (slot_at f n) 4) old there);
       place = place-put m 5 index ∙ omega (arith, at);
       base = register-put_other m 5 index 8 not_85;
     }

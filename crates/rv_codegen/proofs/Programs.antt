@@ -1,5 +1,6 @@
 -- What the loop over the operations of a program keeps, and what it comes to.
-use Rattle.std.proofs.Common.{◌≡◌, ℕ, suc, ◌+◌, ◌*◌, ◌^◌, ◌<◌, ◌≤◌, List, [], ◌∷◌, ◌++◌, length, take, Some, refl, sym, ap, ◌∙◌, subst, arith}
+use Rattle.std.proofs.Common.{◌≡◌, ℕ, suc, ◌+◌, ◌*◌, ◌^◌, ◌<◌, ◌≤◌, List, [], ◌∷◌, ◌++◌, length, take, Some, refl, sym, ap, ◌∙◌}
+use Rattle.std.proofs.Common.{subst, arith}
 use Rattle.std.specs.Prelude.{slice_get}
 use Rattle.std.specs.List.{concat}
 use Rattle.std.proofs.lemmas.List.{take_all}
@@ -15,7 +16,8 @@ use Rattle.ec_stops.specs.declared.table.Place.{Place}
 use Rattle.ec_stops.specs.declared.table.OperationCode.{OperationCode}
 use Rattle.ec_stops.specs.declared.table.Code.{Code}
 use Rattle.ec_stops.specs.Faithful.{Faithful, row_or_empty}
-use Rattle.rv_codegen.specs.Code.{before, operation_words, homes_of, program_pieces, operation_code, operation_codes, table_of, HasSlots, HasStops, SmallCode}
+use Rattle.rv_codegen.specs.Code.{before, operation_words, homes_of, program_pieces, operation_code, operation_codes, table_of}
+use Rattle.rv_codegen.specs.Code.{HasSlots, HasStops, SmallCode}
 use Rattle.rv_codegen.specs.Emit.{CanPut, CanPutAll, StopsWithin}
 use Rattle.rv_codegen.specs.Meaning.{rv_meaning}
 use Rattle.rv_codegen.proofs.Pieces.{concat_next, concat_all}
@@ -30,7 +32,8 @@ length_codes : (homes : List (List Place)) (n start : ℕ) (os : List Operation)
 length_codes homes n start [] = refl
 length_codes homes n start (o ∷ os) = ap suc (length_codes homes (n + 1) (start + length (operation_words (homes_of homes n) o)) os)
 
-module _ (given program : Parts) (same : program ≡ given) (homes : List (List Place)) (given_fine : Fine given) (given_slots : HasSlots (table_of homes []) given) where
+module _ (given program : Parts) (same : program ≡ given) (homes : List (List Place)) (given_fine : Fine given)
+    (given_slots : HasSlots (table_of homes []) given) where
   fine : Fine program
   fine = subst Fine (sym same) given_fine
 
@@ -60,13 +63,16 @@ module _ (given program : Parts) (same : program ≡ given) (homes : List (List 
         let all = fine.short in
         omega (arith, ap length so_far, size, all)
 
-    pub words_on : (old new : List ℕ) → old ≡ concat (take n (program_pieces homes 0 program.operations)) → new ≡ old ++ operation_words row o → new ≡ concat (take (n + 1) (program_pieces homes 0 program.operations))
+    pub words_on : (old new : List ℕ) → old ≡ concat (take n (program_pieces homes 0 program.operations)) →
+        new ≡ old ++ operation_words row o → new ≡ concat (take (n + 1) (program_pieces homes 0 program.operations))
     words_on old new so_far now =
         let ps = program_pieces homes 0 program.operations in
         now ∙ ap (λ l. l ++ operation_words row o) so_far ∙ ap (λ r. concat (take n ps) ++ operation_words r o) (sym row_is)
         ∙ sym (concat_next ps n (operation_words (homes_of homes n) o) (first_pieces homes program.operations n o there))
 
-    pub codes_on : (ws : List ℕ) (old new : List OperationCode) (c : OperationCode) → ws ≡ concat (take n (program_pieces homes 0 program.operations)) → old ≡ take n (codes program homes) → new ≡ old ++ c ∷ [] → c ≡ operation_code (length ws) row o → new ≡ take (n + 1) (codes program homes)
+    pub codes_on : (ws : List ℕ) (old new : List OperationCode) (c : OperationCode) →
+        ws ≡ concat (take n (program_pieces homes 0 program.operations)) → old ≡ take n (codes program homes) →
+        new ≡ old ++ c ∷ [] → c ≡ operation_code (length ws) row o → new ≡ take (n + 1) (codes program homes)
     codes_on ws old new c long so_far now is_code =
         let all = codes program homes in
         let start = before (program_pieces homes 0 program.operations) n in
@@ -76,9 +82,12 @@ module _ (given program : Parts) (same : program ≡ given) (homes : List (List 
         ∙ sym (take_next all n (operation_code start (homes_of homes n) o) (first_codes homes program.operations n o there))
 
   -- behind the last operation
-  module _ (n : ℕ) (ws : List ℕ) (cs : List OperationCode) (past : length program.operations ≤ n) (words_are : ws ≡ concat (take n (program_pieces homes 0 program.operations))) (codes_are : cs ≡ take n (codes program homes)) where
+  module _ (n : ℕ) (ws : List ℕ) (cs : List OperationCode) (past : length program.operations ≤ n)
+      (words_are : ws ≡ concat (take n (program_pieces homes 0 program.operations))) (codes_are : cs ≡ take n (codes program homes)) where
     all_words : words program homes ≡ ws
-    all_words = sym (words_are ∙ concat_all (program_pieces homes 0 program.operations) n (omega (arith, past, length_pieces homes 0 program.operations)))
+    all_words =
+        sym (words_are ∙ concat_all (program_pieces homes 0 program.operations) n
+        (omega (arith, past, length_pieces homes 0 program.operations)))
 
     all_codes : codes program homes ≡ cs
     all_codes = sym (codes_are ∙ take_all n (codes program homes) (omega (arith, past, length_codes homes 0 0 program.operations)))
@@ -90,7 +99,8 @@ module _ (given program : Parts) (same : program ≡ given) (homes : List (List 
     end_faithful =
         subst (Faithful rv_meaning (code ws cs) (table_of homes cs)) same
         (subst (λ x. Faithful rv_meaning (code x cs) (table_of homes cs) program) all_words
-        (subst (λ y. Faithful rv_meaning (code (words program homes) y) (table_of homes y) program) all_codes (faithful program homes fine slots)))
+        (subst (λ y. Faithful rv_meaning (code (words program homes) y) (table_of homes y) program) all_codes
+        (faithful program homes fine slots)))
 
     pub end_small : SmallCode (table_of homes cs) (code ws cs)
     end_small =
@@ -98,4 +108,5 @@ module _ (given program : Parts) (same : program ≡ given) (homes : List (List 
         (subst (λ y. SmallCode (table_of homes y) (code (words program homes) y)) all_codes (small program homes fine slots))
 
     pub end_stops : HasStops (table_of homes cs) given
-    end_stops = subst (HasStops (table_of homes cs)) same (subst (λ y. HasStops (table_of homes y) program) all_codes (stops_kept program homes fine slots))
+    end_stops = subst (HasStops (table_of homes cs)) same
+        (subst (λ y. HasStops (table_of homes y) program) all_codes (stops_kept program homes fine slots))

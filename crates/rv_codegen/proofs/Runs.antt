@@ -1,5 +1,6 @@
 -- The code of an operation does what its three-address code does, up to the next stop.
-use Rattle.std.proofs.Common.{◌≡◌, ◌≢◌, ℕ, zero, suc, ◌+◌, ◌^◌, ◌<◌, ◌≤◌, ◌⊎◌, List, [], ◌∷◌, length, drop, Option, Some, refl, sym, ap, ◌∙◌, subst, arith, inl, inr, ⊎_elim, length-append}
+use Rattle.std.proofs.Common.{◌≡◌, ◌≢◌, ℕ, zero, suc, ◌+◌, ◌^◌, ◌<◌, ◌≤◌, ◌⊎◌, List, [], ◌∷◌, length, drop, Option, Some, refl, sym}
+use Rattle.std.proofs.Common.{ap, ◌∙◌, subst, arith, inl, inr, ⊎_elim, length-append}
 use Rattle.std.specs.Prelude.{slice_get}
 use Rattle.std.specs.List.{concat}
 use Rattle.byteorder.specs.Endian.{little_number, little_bytes}
@@ -39,7 +40,8 @@ same_or_not (suc x) (suc y) = ⊎_elim
     (λ (ne : x ≢ y). inr (λ (e : suc x ≡ suc y). ne (omega (arith, e))))
     (same_or_not x y)
 
-drop_get : {A : Type 0} (xs : List A) (p : ℕ) (x : A) (rest : List A) → drop p xs ≡ x ∷ rest → (slice_get xs p ≡ Some x) × (drop (p + 1) xs ≡ rest)
+drop_get : {A : Type 0} (xs : List A) (p : ℕ) (x : A) (rest : List A) → drop p xs ≡ x ∷ rest →
+    (slice_get xs p ≡ Some x) × (drop (p + 1) xs ≡ rest)
 drop_get [] zero x rest e = cc
 drop_get [] (suc p) x rest e = cc
 drop_get {A} (y ∷ ys) zero x rest e = ((cc), (cc))
@@ -55,7 +57,8 @@ in_all (y ∷ ys) have x all h = ⊎_elim
     (λ (r : IsIn x ys). in_all ys have x all.1 r)
     h
 
-module _ (code : List ℕ) (literals : List (List ℕ)) (homes : List Place) (o : Operation) (start f : ℕ) (local : ℕ → Option ℕ) (text : ℕ → Option (List ℕ)) where
+module _ (code : List ℕ) (literals : List (List ℕ)) (homes : List Place) (o : Operation) (start f : ℕ) (local : ℕ → Option ℕ)
+    (text : ℕ → Option (List ℕ)) where
   -- a variable's slot holds its value
   pub record Held (b : Bytes) (x : ℕ) (v : Value) : Type 0 where
     pub within : x < length o.variables
@@ -88,24 +91,34 @@ module _ (code : List ℕ) (literals : List (List ℕ)) (homes : List Place) (o 
       (slots : (x : ℕ) → x < length o.variables → slice_get homes x ≡ Some (Slot x))
       (few : length o.variables ≤ 100) (few_literals : length literals ≤ 2 ^ 21)
       (low : start + length (operation_words homes o) < 2 ^ 26) (small : f < 65536)
-      (stand : (p k w : ℕ) (i : IrOp) → slice_get o.code p ≡ Some i → slice_get (op_words homes i) k ≡ Some w → word_at code (pc_of (start + before (pieces homes o.code) p + k)) ≡ Some w)
+      (stand : (p k w : ℕ) (i : IrOp) → slice_get o.code p ≡ Some i → slice_get (op_words homes i) k ≡ Some w →
+      word_at code (pc_of (start + before (pieces homes o.code) p + k)) ≡ Some w)
       (pool : (i : ℕ) (s : List ℕ) → slice_get literals i ≡ Some s → text i ≡ Some s) where
     -- ---- one literal
 
     apart : (i j : ℕ) → i ≢ j → block_word_at f i ≢ block_word_at f j
     apart i j ne e = ne (omega (arith, e))
 
-    frame_kept : (b : Bytes) (n w : ℕ) → ((i : ℕ) → i < 128 → (u : ℕ) × (word_in little_number b (block_word_at f i) ≡ Some u)) → w < 2 ^ 32 → (i : ℕ) → i < 128 → (u : ℕ) × (word_in little_number (with_bytes b (slot_at f n) (little_bytes 4 w)) (block_word_at f i) ≡ Some u)
+    frame_kept : (b : Bytes) (n w : ℕ) → ((i : ℕ) → i < 128 → (u : ℕ) × (word_in little_number b (block_word_at f i) ≡ Some u)) →
+        w < 2 ^ 32 → (i : ℕ) → i < 128 →
+        (u : ℕ) × (word_in little_number (with_bytes b (slot_at f n) (little_bytes 4 w)) (block_word_at f i) ≡ Some u)
     frame_kept b n w frame word i lt = ⊎_elim
-        (λ (e : i ≡ 28 + n). (w, ap (λ k. word_in little_number (with_bytes b (slot_at f n) (little_bytes 4 w)) (block_word_at f k)) e ∙ written b (slot_at f n) w word))
+        (λ (e : i ≡ 28 + n). (
+          w,
+          ap (λ k. word_in little_number (with_bytes b (slot_at f n) (little_bytes 4 w)) (block_word_at f k)) e
+              ∙ written b (slot_at f n) w word,
+        ))
         (λ (ne : i ≢ 28 + n).
         let old = frame i lt in
         (old.0, other_word b (slot_at f n) w (block_word_at f i) (omega arith) (omega arith) (apart i (28 + n) ne) ∙ old.1))
         (same_or_not i (28 + n))
 
-    held_same : (b : Bytes) (vs : List Value) (to index : ℕ) (t : List ℕ) → slice_get literals index ≡ Some t → to < length o.variables → index < 2 ^ 32 → Held (with_bytes b (slot_at f to) (little_bytes 4 index)) to (variable (put vs to (text_at (slice_get literals index))) to)
+    held_same : (b : Bytes) (vs : List Value) (to index : ℕ) (t : List ℕ) → slice_get literals index ≡ Some t →
+        to < length o.variables → index < 2 ^ 32 →
+        Held (with_bytes b (slot_at f to) (little_bytes 4 index)) to (variable (put vs to (text_at (slice_get literals index))) to)
     held_same b vs to index t is within word =
-        let e : Str t ≡ variable (put vs to (text_at (slice_get literals index))) to = sym (put_same vs to (text_at (slice_get literals index)) ∙ ap text_at is) in
+        let e : Str t ≡ variable (put vs to (text_at (slice_get literals index))) to =
+        sym (put_same vs to (text_at (slice_get literals index)) ∙ ap text_at is) in
         record {
           within = within;
           word = record {
@@ -115,26 +128,31 @@ module _ (code : List ℕ) (literals : List (List ℕ)) (homes : List Place) (o 
           };
         }
 
-    held_other : (b : Bytes) (vs : List Value) (to index x : ℕ) (v : Value) → x ≢ to → Held b x (variable vs x) → Held (with_bytes b (slot_at f to) (little_bytes 4 index)) x (variable (put vs to v) x)
+    held_other : (b : Bytes) (vs : List Value) (to index x : ℕ) (v : Value) → x ≢ to → Held b x (variable vs x) →
+        Held (with_bytes b (slot_at f to) (little_bytes 4 index)) x (variable (put vs to v) x)
     held_other b vs to index x v ne h =
         let no : 28 + x ≢ 28 + to = λ e. ne (omega (arith, e)) in
         record {
           within = h.within;
           word = record {
             word = h.word.word;
-            there = other_word b (slot_at f to) index (slot_at f x) (omega arith) (omega arith) (apart (28 + x) (28 + to) no) ∙ h.word.there;
+            there = other_word b (slot_at f to) index (slot_at f x) (omega arith) (omega arith) (apart (28 + x) (28 + to) no)
+                ∙ h.word.there;
             stands = subst (λ u. StandsFor local text u h.word.word) (sym (put_other vs to x v ne)) h.word.stands;
           };
         }
 
-    stands_on : (m n : RvMachine) (b : Bytes) (have : List ℕ) (vs : List Value) (to index : ℕ) (t : List ℕ) → Standing m b have vs → rv_register n 8 ≡ rv_register m 8 → slice_get literals index ≡ Some t → to < length o.variables → index < 2 ^ 32 → Standing n (with_bytes b (slot_at f to) (little_bytes 4 index)) (to ∷ have) (put vs to (text_at (slice_get literals index)))
+    stands_on : (m n : RvMachine) (b : Bytes) (have : List ℕ) (vs : List Value) (to index : ℕ) (t : List ℕ) → Standing m b have vs →
+        rv_register n 8 ≡ rv_register m 8 → slice_get literals index ≡ Some t → to < length o.variables → index < 2 ^ 32 →
+        Standing n (with_bytes b (slot_at f to) (little_bytes 4 index)) (to ∷ have) (put vs to (text_at (slice_get literals index)))
     stands_on m n b have vs to index t st same is within word =
         let v = text_at (slice_get literals index) in
         record {
           base = same ∙ st.base;
           frame = frame_kept b to index st.frame word;
           held = λ x h. ⊎_elim
-              (λ (e : x ≡ to). subst (λ y. Held (with_bytes b (slot_at f to) (little_bytes 4 index)) y (variable (put vs to v) y)) (sym e) (held_same b vs to index t is within word))
+              (λ (e : x ≡ to). subst (λ y. Held (with_bytes b (slot_at f to) (little_bytes 4 index)) y (variable (put vs to v) y))
+              (sym e) (held_same b vs to index t is within word))
               (λ (ne : x ≢ to). held_other b vs to index x v ne
               (⊎_elim (λ (e : x ≡ to). absurd (ne e)) (λ (r : IsIn x have). st.held x r) h))
               (same_or_not x to);
@@ -150,7 +168,9 @@ module _ (code : List ℕ) (literals : List (List ℕ)) (homes : List Place) (o 
     in_code p = let all = before-all (pieces homes o.code) p in omega (arith, all, low)
 
     -- at a stop
-    rests : (n p : ℕ) (rest : List IrOp) (have : List ℕ) (vs : List Value) (m : RvMachine) (b : Bytes) (s : StopRec) → slice_get o.code p ≡ Some (Rest n) → slice_get o.stops n ≡ Some s → s.place ≡ p → CoversStop have (slice_get o.stops n) → Standing m b have vs → m.pc ≡ pc_of (start + before (pieces homes o.code) p) → Gets m b (Rest n ∷ rest) vs
+    rests : (n p : ℕ) (rest : List IrOp) (have : List ℕ) (vs : List Value) (m : RvMachine) (b : Bytes) (s : StopRec) →
+        slice_get o.code p ≡ Some (Rest n) → slice_get o.stops n ≡ Some s → s.place ≡ p → CoversStop have (slice_get o.stops n) →
+        Standing m b have vs → m.pc ≡ pc_of (start + before (pieces homes o.code) p) → Gets m b (Rest n ∷ rest) vs
     rests n p rest have vs m b s get is place covers st at =
         let all : CoversStop have (Some s) = subst (CoversStop have) is covers in
         let none : start + before (pieces homes o.code) p ≡ start + before (pieces homes o.code) p + 0 = omega arith in
@@ -172,7 +192,10 @@ module _ (code : List ℕ) (literals : List (List ℕ)) (homes : List Place) (o 
         }
 
     -- behind a literal
-    goes_on : (to index p : ℕ) (rest : List IrOp) (vs : List Value) (m : RvMachine) (b : Bytes) → to < length o.variables → (l : Puts code f to index m b (start + before (pieces homes o.code) p)) → Gets l.last (with_bytes b (slot_at f to) (little_bytes 4 index)) rest (put vs to (text_at (slice_get literals index))) → Gets m b (Literal to index ∷ rest) vs
+    goes_on : (to index p : ℕ) (rest : List IrOp) (vs : List Value) (m : RvMachine) (b : Bytes) → to < length o.variables →
+        (l : Puts code f to index m b (start + before (pieces homes o.code) p)) →
+        Gets l.last (with_bytes b (slot_at f to) (little_bytes 4 index)) rest (put vs to (text_at (slice_get literals index))) →
+        Gets m b (Literal to index ∷ rest) vs
     goes_on to index p rest vs m b within l g =
         let c = with_bytes b (slot_at f to) (little_bytes 4 index) in
         let long = length-append (op_words homes (Literal to index)) (concat (pieces homes rest)) in
@@ -195,7 +218,8 @@ module _ (code : List ℕ) (literals : List (List ℕ)) (homes : List Place) (o 
               (⊎_elim (λ (p : address < block_word_at f 28). inl (omega arith)) (λ (q : block_at (suc f) ≤ address). inr (omega arith)) h);
         }
 
-    pub gets : (rest : List IrOp) (p : ℕ) (have : List ℕ) (vs : List Value) (m : RvMachine) (b : Bytes) → drop p o.code ≡ rest → Covers o.stops have rest → Standing m b have vs → m.pc ≡ pc_of (start + before (pieces homes o.code) p) → Gets m b rest vs
+    pub gets : (rest : List IrOp) (p : ℕ) (have : List ℕ) (vs : List Value) (m : RvMachine) (b : Bytes) → drop p o.code ≡ rest →
+        Covers o.stops have rest → Standing m b have vs → m.pc ≡ pc_of (start + before (pieces homes o.code) p) → Gets m b rest vs
     gets [] p have vs m b e covers st at = absurd covers
     gets (Literal to index ∷ rest) p have vs m b e covers st at =
         let d = drop_get o.code p (Literal to index) rest e in
@@ -208,11 +232,14 @@ module _ (code : List ℕ) (literals : List (List ℕ)) (homes : List Place) (o 
         let l = literal_puts code f to index m b i old.0
         (λ k w h. stand p k w (Literal to index) d.0 (ap (λ ws. slice_get ws k) (literal_is to index within) ∙ h))
         at (in_code p) st.base small (omega (arith, within, few)) word old.1 in
-        let next = before-next (pieces homes o.code) p (op_words homes (Literal to index)) (get_map (op_words homes) o.code p (Literal to index) d.0) in
+        let next = before-next (pieces homes o.code) p (op_words homes (Literal to index))
+        (get_map (op_words homes) o.code p (Literal to index) d.0) in
         let three = ap length (literal_is to index within) in
-        let onward : l.last.pc ≡ pc_of (start + before (pieces homes o.code) (p + 1)) = (let q = l.place in omega (arith, q, next, three)) in
+        let onward : l.last.pc ≡ pc_of (start + before (pieces homes o.code) (p + 1)) =
+        (let q = l.place in omega (arith, q, next, three)) in
         goes_on to index p rest vs m b within l
-        (gets rest (p + 1) (to ∷ have) (put vs to (text_at (slice_get literals index))) l.last (with_bytes b (slot_at f to) (little_bytes 4 index)) d.1 covers
+        (gets rest (p + 1) (to ∷ have) (put vs to (text_at (slice_get literals index))) l.last
+        (with_bytes b (slot_at f to) (little_bytes 4 index)) d.1 covers
         (stands_on m l.last b have vs to index there.0 st l.base there.1 within word) onward)
     gets (Rest n ∷ rest) p have vs m b e covers st at =
         let d = drop_get o.code p (Rest n) rest e in

@@ -1,5 +1,6 @@
 -- The code of a program is faithful to it.
-use Rattle.std.proofs.Common.{◌≡◌, ◌≢◌, ℕ, zero, suc, ◌+◌, ◌/◌, ◌%◌, ◌^◌, ◌<◌, ◌≤◌, ◌⊎◌, Bool, true, false, List, [], ◌∷◌, ◌++◌, length, drop, Option, Some, None, refl, sym, ap, ◌∙◌, subst, arith, inl, inr, ⊎_elim, length-append}
+use Rattle.std.proofs.Common.{◌≡◌, ◌≢◌, ℕ, zero, suc, ◌+◌, ◌/◌, ◌%◌, ◌^◌, ◌<◌, ◌≤◌, ◌⊎◌, Bool, true, false, List, [], ◌∷◌, ◌++◌}
+use Rattle.std.proofs.Common.{length, drop, Option, Some, None, refl, sym, ap, ◌∙◌, subst, arith, inl, inr, ⊎_elim, length-append}
 use Rattle.std.specs.Prelude.{slice_get}
 use Rattle.std.specs.List.{concat}
 use Rattle.std.specs.Option.{option_map}
@@ -24,24 +25,29 @@ use Rattle.ec_ir.specs.declared.code.StopRec.{StopRec}
 use Rattle.ec_ir.specs.declared.code.Operation.{Operation}
 use Rattle.ec_ir.specs.declared.code.Parts.{Parts}
 use Rattle.ec_ir.specs.declared.activation.IrActivation.{IrActivation}
-use Rattle.ec_ir.specs.Meaning.{variable, walk, stops_of, code_of, resting, resting_at, settled, stop_at, operation_at, result_live, live_if, live_at, live_variables}
-use Rattle.ec_ir.specs.Fine.{Fine, FineOperation, FineNew, FineReturn, FineEnd, FineStop, GoesOn, HasCode, AreVariables, IsIn, Covers, one_of}
+use Rattle.ec_ir.specs.Meaning.{variable, walk, stops_of, code_of, resting, resting_at, settled, stop_at, operation_at, result_live}
+use Rattle.ec_ir.specs.Meaning.{live_if, live_at, live_variables}
+use Rattle.ec_ir.specs.Fine.{Fine, FineOperation, FineNew, FineReturn, FineEnd, FineStop, GoesOn, HasCode, AreVariables, IsIn}
+use Rattle.ec_ir.specs.Fine.{Covers, one_of}
 use Rattle.ec_memory.specs.Words.{word_in, block_word_at}
 use Rattle.ec_stops.specs.declared.table.Place.{Place}
 use Rattle.ec_stops.specs.declared.table.Place.TheVariants.{Slot}
 use Rattle.ec_stops.specs.declared.table.Code.{Code}
 use Rattle.ec_stops.specs.declared.table.StopTable.{StopTable}
 use Rattle.ec_stops.specs.Machine.{block_at, in_block, owner_word_at}
-use Rattle.ec_stops.specs.Faithful.{Faithful, Fits, Arrives, LiveStand, HomeOf, HomeStands, WordStands, HasLiterals, words_if, words_of, first_saved, row_or_empty}
+use Rattle.ec_stops.specs.Faithful.{Faithful, Fits, Arrives, LiveStand, HomeOf, HomeStands, WordStands, HasLiterals, words_if}
+use Rattle.ec_stops.specs.Faithful.{words_of, first_saved, row_or_empty}
 use Rattle.ec_target.specs.Code.{pc_of}
 use Rattle.rv_machine.specs.declared.machine.RvMachine.{RvMachine}
 use Rattle.rv_machine.proofs.Effects.{ecall_stops}
-use Rattle.rv_codegen.specs.Code.{op_words, pieces, before, operation_words, homes_of, program_pieces, table_of, HasSlots, HasStops, SmallCode}
+use Rattle.rv_codegen.specs.Code.{op_words, pieces, before, operation_words, homes_of, program_pieces, table_of, HasSlots, HasStops}
+use Rattle.rv_codegen.specs.Code.{SmallCode}
 use Rattle.rv_codegen.specs.Meaning.{rv_meaning}
 use Rattle.rv_codegen.proofs.Pieces.{get_append, before-next, before-all, get_map}
 use Rattle.rv_codegen.proofs.Literals.{slot_at}
 use Rattle.rv_codegen.proofs.Runs.{Held, Gets, gets}
-use Rattle.rv_codegen.proofs.Places.{stops_get, words, start, codes, first_codes, first_pieces, row_at, stop_is, stop_known, stands_at, stop_stands, stop_within, only_stops, stops_apart, code_short, before_size, no_code, no_row}
+use Rattle.rv_codegen.proofs.Places.{stops_get, words, start, codes, first_codes, first_pieces, row_at, stop_is, stop_known}
+use Rattle.rv_codegen.proofs.Places.{stands_at, stop_stands, stop_within, only_stops, stops_apart, code_short, before_size, no_code, no_row}
 use Rattle.rv_codegen.proofs.Few.{few_stops}
 
 -- ---- members of lists
@@ -81,7 +87,8 @@ one_is (Some y) x h = ⊎_elim (λ (e : x ≡ y). ap Some (sym e)) (λ n. absurd
 -- ---- stops
 
 -- what waits for a result is a variable
-new_within : (classes : List ClassRec) (vars : List ValueType) (class : ClassNo) (xs : List ℕ) (into : Option ℕ) (x : ℕ) → FineNew classes vars class xs into → into ≡ Some x → x < length vars
+new_within : (classes : List ClassRec) (vars : List ValueType) (class : ClassNo) (xs : List ℕ) (into : Option ℕ) (x : ℕ) →
+    FineNew classes vars class xs into → into ≡ Some x → x < length vars
 new_within classes vars (Made k) xs into x h e =
     let t = h.4 in
     let same : t.0 ≡ x = same_Some t.0 x (sym t.1 ∙ e) in
@@ -102,7 +109,8 @@ end_none (suc op) xs into h = absurd h
 not_none : (o : Option ℕ) (x : ℕ) → o ≡ None → o ≡ Some x → ⊥
 not_none o x e f = cc
 
-into_within : (classes : List ClassRec) (globals : List ValueType) (op : ℕ) (vars : List ValueType) (stop : Stop) (xs : List ℕ) (into : Option ℕ) (x : ℕ) → FineStop classes globals op vars stop xs into → into ≡ Some x → x < length vars
+into_within : (classes : List ClassRec) (globals : List ValueType) (op : ℕ) (vars : List ValueType) (stop : Stop) (xs : List ℕ)
+    (into : Option ℕ) (x : ℕ) → FineStop classes globals op vars stop xs into → into ≡ Some x → x < length vars
 into_within classes globals op vars Entry xs into x h e = absurd (not_none into x h.1 e)
 into_within classes globals op vars (New class) xs into x h e = new_within classes vars class xs into x h e
 into_within classes globals op vars (Return b) xs into x h e = absurd (not_none into x (return_none op b xs into h) e)
@@ -123,9 +131,11 @@ result_is : (o : Option ℕ) → result_live o None ≡ one_of o
 result_is None = refl
 result_is (Some x) = refl
 
-live_done : (program : Parts) (a : IrActivation) (s : StopRec) → stop_at program a.operation a.at ≡ Some s → a.pending ≡ false → a.into ≡ None → live_variables program a ≡ s.live ++ one_of s.into
+live_done : (program : Parts) (a : IrActivation) (s : StopRec) → stop_at program a.operation a.at ≡ Some s → a.pending ≡ false →
+    a.into ≡ None → live_variables program a ≡ s.live ++ one_of s.into
 live_done program a s e done come =
-    ap (λ o. live_at o a) e ∙ ap (λ p. live_if p s a.into) done ∙ ap (λ w. s.live ++ result_live s.into w) come ∙ ap (λ l. s.live ++ l) (result_is s.into)
+    ap (λ o. live_at o a) e ∙ ap (λ p. live_if p s a.into) done ∙ ap (λ w. s.live ++ result_live s.into w) come
+    ∙ ap (λ l. s.live ++ l) (result_is s.into)
 
 -- ---- bytes that are as they were
 
@@ -159,7 +169,8 @@ outside f b i at k ne lt e small = ⊎_elim
 
 -- ---- the words left behind a stop are words of the operation
 
-left_short : (homes : List Place) (code : List IrOp) (p : ℕ) → length (concat (pieces homes (drop p code))) ≤ length (concat (pieces homes code))
+left_short : (homes : List Place) (code : List IrOp) (p : ℕ) →
+    length (concat (pieces homes (drop p code))) ≤ length (concat (pieces homes code))
 left_short homes code zero = omega arith
 left_short homes [] (suc p) = omega arith
 left_short homes (i ∷ code) (suc p) =
@@ -180,15 +191,20 @@ module _ (program : Parts) (homes : List (List Place)) (fine : Fine program) (sl
   words_few = let short = code_short homes 0 program.operations in let size = fine.short in omega (arith, short, size)
 
   -- an operation lies in the code
-  in_words : (op : ℕ) (o : Operation) → operation_at program op ≡ Some o → start program homes op + length (operation_words (homes_of homes op) o) < 2 ^ 26
+  in_words : (op : ℕ) (o : Operation) → operation_at program op ≡ Some o →
+      start program homes op + length (operation_words (homes_of homes op) o) < 2 ^ 26
   in_words op o e =
-      let next = before-next (program_pieces homes 0 program.operations) op (operation_words (homes_of homes op) o) (first_pieces homes program.operations op o e) in
+      let next = before-next (program_pieces homes 0 program.operations) op (operation_words (homes_of homes op) o)
+      (first_pieces homes program.operations op o e) in
       let all = before-all (program_pieces homes 0 program.operations) (op + 1) in
       omega (arith, next, all, words_few)
 
-  module _ (local : ℕ → Option ℕ) (text : ℕ → Option (List ℕ)) (p d f : ℕ) (own : List ℕ) (a : IrActivation) (stop : StopRec) (fields globals : List Value) (s : RvMachine) (bytes : Bytes)
-      (pool : HasLiterals program text) (o : Operation) (there : operation_at program a.operation ≡ Some o) (is : slice_get o.stops a.at ≡ Some stop) (at : stop_at program a.operation a.at ≡ Some stop)
-      (code : HasCode stop.stop) (done : a.pending ≡ false) (come : a.into ≡ None) (fits : Fits rv_meaning program table local text p d f own a fields globals s bytes) where
+  module _ (local : ℕ → Option ℕ) (text : ℕ → Option (List ℕ)) (p d f : ℕ) (own : List ℕ) (a : IrActivation) (stop : StopRec)
+      (fields globals : List Value) (s : RvMachine) (bytes : Bytes)
+      (pool : HasLiterals program text) (o : Operation) (there : operation_at program a.operation ≡ Some o)
+      (is : slice_get o.stops a.at ≡ Some stop) (at : stop_at program a.operation a.at ≡ Some stop)
+      (code : HasCode stop.stop) (done : a.pending ≡ false) (come : a.into ≡ None)
+      (fits : Fits rv_meaning program table local text p d f own a fields globals s bytes) where
     abbrev row : List Place
     row = homes_of homes a.operation
 
@@ -199,30 +215,39 @@ module _ (program : Parts) (homes : List (List Place)) (fine : Fine program) (sl
     had_within : (x : ℕ) → IsIn x (stop.live ++ one_of stop.into) → x < length o.variables
     had_within x h = ⊎_elim
         (λ (l : IsIn x stop.live). are_within o.variables stop.live x (good.live a.at stop is) l)
-        (λ (r : IsIn x (one_of stop.into)). into_within program.classes program.globals a.operation o.variables stop.stop stop.operands stop.into x (good.stops a.at stop is) (one_is stop.into x r))
+        (λ (r : IsIn x (one_of stop.into)). into_within program.classes program.globals a.operation o.variables stop.stop
+        stop.operands stop.into x (good.stops a.at stop is) (one_is stop.into x r))
         (in_append stop.live (one_of stop.into) x h)
 
-    slot_held : (home : Place) (x : ℕ) (v : Value) → home ≡ Slot x → HomeStands rv_meaning program table local text f s bytes home v → WordStands little_number local text bytes (slot_at f x) v
+    slot_held : (home : Place) (x : ℕ) (v : Value) → home ≡ Slot x →
+        HomeStands rv_meaning program table local text f s bytes home v → WordStands little_number local text bytes (slot_at f x) v
     slot_held home x v e h = (subst (λ place. HomeStands rv_meaning program table local text f s bytes place v) e h).1
 
-    held : (x : ℕ) → IsIn x (stop.live ++ one_of stop.into) → Held (words program homes) program.literals row o (start program homes a.operation) f local text bytes x (variable a.variables x)
+    held : (x : ℕ) → IsIn x (stop.live ++ one_of stop.into) →
+        Held (words program homes) program.literals row o (start program homes a.operation) f local text bytes x (variable a.variables x)
     held x h =
         let within = had_within x h in
-        let home = fits.live.each x (subst (λ l. Has l x) (sym (live_done program a stop at done come)) (in_has (stop.live ++ one_of stop.into) x h)) in
+        let home = fits.live.each x
+        (subst (λ l. Has l x) (sym (live_done program a stop at done come)) (in_has (stop.live ++ one_of stop.into) x h)) in
         record {
           within = within;
-          word = slot_held home.home x (variable a.variables x) (same_Some home.home (Slot x) (sym home.is ∙ slots.each a.operation x o there within)) home.holds;
+          word = slot_held home.home x (variable a.variables x)
+              (same_Some home.home (Slot x) (sym home.is ∙ slots.each a.operation x o there within)) home.holds;
         }
 
     -- where the code leads
-    gone : Gets (words program homes) program.literals row o (start program homes a.operation) f local text s bytes (drop (stop.place + 1) o.code) a.variables
+    gone : Gets (words program homes) program.literals row o (start program homes a.operation) f local text s bytes
+        (drop (stop.place + 1) o.code) a.variables
     gone =
         let b = start program homes a.operation in
         let ps = pieces row o.code in
         let place = stop_is program homes a.operation a.at o stop there is in
-        let from : fits.stop ≡ pc_of (b + before ps stop.place) = same_Some fits.stop (pc_of (b + before ps stop.place)) (sym fits.stop_is ∙ place) in
-        let next = before-next ps stop.place (op_words row (Rest a.at)) (get_map (op_words row) o.code stop.place (Rest a.at) (good.placed a.at stop is)) in
-        gets (words program homes) program.literals row o b f local text good.code (λ x h. slots.each a.operation x o there h) good.few fine.few_literals
+        let from : fits.stop ≡ pc_of (b + before ps stop.place) =
+        same_Some fits.stop (pc_of (b + before ps stop.place)) (sym fits.stop_is ∙ place) in
+        let next = before-next ps stop.place (op_words row (Rest a.at))
+        (get_map (op_words row) o.code stop.place (Rest a.at) (good.placed a.at stop is)) in
+        gets (words program homes) program.literals row o b f local text good.code (λ x h. slots.each a.operation x o there h)
+        good.few fine.few_literals
         (in_words a.operation o there) fits.frame_small (λ p k w i e g. stands_at program homes a.operation p k w o i there e g) pool.at
         (drop (stop.place + 1) o.code) (stop.place + 1) (stop.live ++ one_of stop.into) a.variables s bytes refl
         (goes_on stop.stop (Covers o.stops (stop.live ++ one_of stop.into) (drop (stop.place + 1) o.code)) code (good.covered a.at stop is))
@@ -242,7 +267,9 @@ module _ (program : Parts) (homes : List (List Place)) (fine : Fine program) (sl
         ∙ ap (resting_at program a) gone.walks
         ∙ ap (resting a gone.reached.stop gone.reached.variables) stop_there
 
-    home_of : (x : ℕ) (v : Value) → Held (words program homes) program.literals row o (start program homes a.operation) f local text gone.memory x v → HomeOf rv_meaning program table local text f gone.last gone.memory a.operation x v
+    home_of : (x : ℕ) (v : Value) →
+        Held (words program homes) program.literals row o (start program homes a.operation) f local text gone.memory x v →
+        HomeOf rv_meaning program table local text f gone.last gone.memory a.operation x v
     home_of x v h =
         record {
           home = Slot x;
@@ -259,13 +286,15 @@ module _ (program : Parts) (homes : List (List Place)) (fine : Fine program) (sl
     }
 
     -- a word of the own object is as it was
-    own_same : (i address : ℕ) → owner_word_at own i ≡ Some address → word_in little_number gone.memory address ≡ word_in little_number bytes address
+    own_same : (i address : ℕ) → owner_word_at own i ≡ Some address →
+        word_in little_number gone.memory address ≡ word_in little_number bytes address
     own_same i address e =
         let b = in_block_get (slice_get own (i / 128)) (i % 128) address e in
         let ne : b.0 ≢ f = λ same. fits.apart (record { at = i / 128; is = b.1 ∙ ap Some same }) in
         word_same gone.memory bytes address (λ k lt. gone.others (address + k) (outside f b.0 (i % 128) address k ne (omega arith) b.2 lt))
 
-    own_stand : (i : ℕ) (v : Value) → slice_get fields i ≡ Some v → (address : ℕ) × (owner_word_at own i ≡ Some address) × WordStands little_number local text gone.memory address v
+    own_stand : (i : ℕ) (v : Value) → slice_get fields i ≡ Some v →
+        (address : ℕ) × (owner_word_at own i ≡ Some address) × WordStands little_number local text gone.memory address v
     own_stand i v e =
         let w = fits.own_fields i v e in
         (w.0, w.1, record { word = w.2.word; there = own_same i w.0 w.1 ∙ w.2.there; stands = w.2.stands })
@@ -294,8 +323,12 @@ module _ (program : Parts) (homes : List (List Place)) (fine : Fine program) (sl
   pub faithful : Faithful rv_meaning made table program
   faithful = record {
     stops = λ op at s e.
-        let o = stops_get (operation_at program op) at s e in
-        (pc_of (start program homes op + before (pieces (homes_of homes op) o.0.code) s.place), stop_is program homes op at o.0 s o.1 o.2, stop_stands program homes fine op at o.0 s o.1 o.2);
+        let o = stops_get (operation_at program op) at s e in (
+          pc_of (start program homes op + before (pieces (homes_of homes op) o.0.code) s.place),
+          stop_is program homes op at o.0 s
+              o.1 o.2,
+          stop_stands program homes fine op at o.0 s o.1 o.2,
+        );
     only = only_stops program homes fine;
     apart = stops_apart program homes fine;
     known = λ op at address e.
@@ -312,7 +345,8 @@ module _ (program : Parts) (homes : List (List Place)) (fine : Fine program) (sl
   stops_kept = record { many = λ op o e. ap (λ row. length (row_or_empty row)) (row_at program homes op o e) ∙ length-map o.stops _ }
 
   -- no operation is long, and none has many stops
-  row_few : (op : ℕ) (found : Option Operation) → operation_at program op ≡ found → length (row_or_empty (slice_get table.stops op)) < 2 ^ 32
+  row_few : (op : ℕ) (found : Option Operation) → operation_at program op ≡ found →
+      length (row_or_empty (slice_get table.stops op)) < 2 ^ 32
   row_few op (Some o) e =
       let many = stops_kept.many op o e in
       let few = few_stops program.classes program.globals program.literals op o (fine.operations op o e) in

@@ -60,7 +60,9 @@ fn put_code(
     requires room { length words.old + 3 * length code.now < 2 ^ 26 }
     ensures words { OnOk result (words.new ≡ words.old ++ concat (pieces homes.now code.now)) }
     ensures many { IfOk result (λ places. length places ≡ length code.now) }
-    ensures places { IfOk result (λ places. (p : ℕ) → p < length code.now → slice_get places p ≡ Some (pc_of (length words.old + before (pieces homes.now code.now) p))) }
+    ensures places { IfOk result
+        (λ places. (p : ℕ) → p < length code.now →
+        slice_get places p ≡ Some (pc_of (length words.old + before (pieces homes.now code.now) p))) }
 {
     let mut places = Seq::new(alloc);
     for p in 0..code.len() {

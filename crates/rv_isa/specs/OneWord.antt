@@ -20,7 +20,8 @@ use Rattle.rv_isa.specs.declared.instr.Shift.TheVariants as shifts
 use Rattle.rv_isa.specs.declared.instr.Operation.{Operation}
 use Rattle.rv_isa.specs.declared.instr.Operation.TheVariants as operations
 use Rattle.rv_isa.specs.declared.instr.Instr.{Instr}
-use Rattle.rv_isa.specs.declared.instr.Instr.TheVariants.{Lui, Auipc, Jal, Jalr, BranchIf, LoadFrom, StoreTo, OnImmediate, OnShift, OnRegisters, Ecall}
+use Rattle.rv_isa.specs.declared.instr.Instr.TheVariants.{Lui, Auipc, Jal, Jalr, BranchIf, LoadFrom, StoreTo, OnImmediate, OnShift}
+use Rattle.rv_isa.specs.declared.instr.Instr.TheVariants.{OnRegisters, Ecall}
 use Rattle.rv_isa.specs.Words.{word_of, branch_funct3, load_funct3, store_funct3, immediate_funct3, shift_functs, operation_functs}
 
 -- ---- a field is its number
@@ -59,7 +60,8 @@ branch_offset n h e = record { bits = n; in_range = h; even = e }
 same_branch_offset : (a b : BranchOffset) → a.bits ≡ b.bits → a ≡ b
 same_branch_offset a b e =
     subst (λ n. (k : n < 2 ^ 13) (l : n % 2 ≡ 0) → a ≡ branch_offset n k l) e
-    (λ k l. ap (λ p. branch_offset a.bits p a.even) (le_prop a.in_range k) ∙ ap (branch_offset a.bits k) (Coded-set coded_ℕ (a.bits % 2) 0 a.even l)) b.in_range b.even
+    (λ k l. ap (λ p. branch_offset a.bits p a.even) (le_prop a.in_range k)
+    ∙ ap (branch_offset a.bits k) (Coded-set coded_ℕ (a.bits % 2) 0 a.even l)) b.in_range b.even
 
 abbrev jump_offset : (n : ℕ) → n < 2 ^ 21 → n % 2 ≡ 0 → JumpOffset
 jump_offset n h e = record { bits = n; in_range = h; even = e }
@@ -67,7 +69,8 @@ jump_offset n h e = record { bits = n; in_range = h; even = e }
 same_jump_offset : (a b : JumpOffset) → a.bits ≡ b.bits → a ≡ b
 same_jump_offset a b e =
     subst (λ n. (k : n < 2 ^ 21) (l : n % 2 ≡ 0) → a ≡ jump_offset n k l) e
-    (λ k l. ap (λ p. jump_offset a.bits p a.even) (le_prop a.in_range k) ∙ ap (jump_offset a.bits k) (Coded-set coded_ℕ (a.bits % 2) 0 a.even l)) b.in_range b.even
+    (λ k l. ap (λ p. jump_offset a.bits p a.even) (le_prop a.in_range k)
+    ∙ ap (jump_offset a.bits k) (Coded-set coded_ℕ (a.bits % 2) 0 a.even l)) b.in_range b.even
 
 -- ---- the numbers of rows of one opcode
 
@@ -110,7 +113,8 @@ operation_small : (row : Operation) → ((operation_functs row).0 < 128) × ((op
 operation_small operations.Add = (omega arith, omega arith)
 operation_small _ = (omega arith, omega arith)
 
-same_operation : (a b : Operation) → (operation_functs a).0 ≡ (operation_functs b).0 → (operation_functs a).1 ≡ (operation_functs b).1 → a ≡ b
+same_operation : (a b : Operation) → (operation_functs a).0 ≡ (operation_functs b).0 →
+    (operation_functs a).1 ≡ (operation_functs b).1 → a ≡ b
 same_operation a b e f = grind arith
 
 -- no number of an operation with an immediate is one of a shift's
@@ -162,13 +166,15 @@ one_word (OnImmediate operation rd rs number) (OnImmediate operation1 rd1 rs1 nu
     let numbers = same_twelve number number1 (omega (arith, e, immediate_small operation, immediate_small operation1)) in
     cc
 one_word (OnShift shift rd rs amount) (OnShift shift1 rd1 rs1 amount1) e =
-    let shifts = same_shift shift shift1 (omega (arith, e, shift_small shift, shift_small shift1)) (omega (arith, e, shift_small shift, shift_small shift1)) in
+    let shifts = same_shift shift shift1 (omega (arith, e, shift_small shift, shift_small shift1))
+    (omega (arith, e, shift_small shift, shift_small shift1)) in
     let rds = same_register rd rd1 (omega (arith, e, shift_small shift, shift_small shift1)) in
     let rss = same_register rs rs1 (omega (arith, e, shift_small shift, shift_small shift1)) in
     let amounts = same_amount amount amount1 (omega (arith, e, shift_small shift, shift_small shift1)) in
     cc
 one_word (OnRegisters operation rd rs rt) (OnRegisters operation1 rd1 rs1 rt1) e =
-    let operations = same_operation operation operation1 (omega (arith, e, operation_small operation, operation_small operation1)) (omega (arith, e, operation_small operation, operation_small operation1)) in
+    let operations = same_operation operation operation1 (omega (arith, e, operation_small operation, operation_small operation1))
+    (omega (arith, e, operation_small operation, operation_small operation1)) in
     let rds = same_register rd rd1 (omega (arith, e, operation_small operation, operation_small operation1)) in
     let rss = same_register rs rs1 (omega (arith, e, operation_small operation, operation_small operation1)) in
     let rts = same_register rt rt1 (omega (arith, e, operation_small operation, operation_small operation1)) in

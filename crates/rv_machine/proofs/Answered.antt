@@ -13,7 +13,9 @@ use Rattle.rv_machine.specs.MachineLaws.{same_state}
 use Rattle.rv_machine.specs.Step.{Next, Goes, Stops, Traps, RvStep}
 
 -- the answer fits what the step comes to
-pub rv_answers : (code : List ℕ) (m : RvMachine) (b : Bytes) (next : Next) (o : Outcome) (n : RvMachine) (c : Bytes) → RvStep code (state_of m b) next → IsAnswer next (state_of m b) o (state_of n c) → Answers (rv_goes code) (rv_stops code) (rv_traps code) m b o n c
+pub rv_answers : (code : List ℕ) (m : RvMachine) (b : Bytes) (next : Next) (o : Outcome) (n : RvMachine) (c : Bytes) →
+    RvStep code (state_of m b) next → IsAnswer next (state_of m b) o (state_of n c) →
+    Answers (rv_goes code) (rv_stops code) (rv_traps code) m b o n c
 rv_answers code m b (Goes s) outcomes.Went n c st a = subst (λ t. RvStep code (state_of m b) (Goes t)) (sym a.1) st
 rv_answers code m b (Goes s) outcomes.Stop n c st a = absurd (cc)
 rv_answers code m b (Goes s) (outcomes.Trap trap) n c st a = absurd (cc)

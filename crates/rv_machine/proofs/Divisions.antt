@@ -16,7 +16,8 @@ use Rattle.rv_machine.specs.Values.{signed, unsigned, quotient, remainder}
 signed_fits : (a : ℕ) → a < 2 ^ 32 → FitsSigned w32 (signed a)
 signed_fits a h = ⊎_elim
     (λ lt. let f : FitsSigned w32 (pos a) = record { sfits = lt } in subst (λ z. FitsSigned w32 z) (sym (low_signed a lt)) f)
-    (λ le. let f : FitsSigned w32 (negsuc (2 ^ 32 - suc a)) = record { sfits = omega arith } in subst (λ z. FitsSigned w32 z) (sym (high_signed a le h)) f)
+    (λ le. let f : FitsSigned w32 (negsuc (2 ^ 32 - suc a)) =
+    record { sfits = omega arith } in subst (λ z. FitsSigned w32 z) (sym (high_signed a le h)) f)
     (cases_lt a (2 ^ 31))
 
 negated_fits : (n : ℕ) → n ≤ 2 ^ 31 → FitsSigned w32 (neg_ℤ (pos n))
@@ -68,9 +69,11 @@ remainder_is : (a b : ℕ) → b ≢ 0 → remainder a b ≡ unsigned (int_rem (
 remainder_is a b ne =
     let t : (b == 0) ≡ false = grind (arith, nat_tests) in ap (λ c. cond c a (unsigned (int_rem (signed a) (signed b)))) t
 
-signed_quotient : (a b : ℕ) → a < 2 ^ 32 → b < 2 ^ 32 → b ≢ 0 → (a ≡ 2 ^ 31 → b ≢ 2 ^ 32 - 1) → signed (quotient a b) ≡ int_div (signed a) (signed b)
+signed_quotient : (a b : ℕ) → a < 2 ^ 32 → b < 2 ^ 32 → b ≢ 0 → (a ≡ 2 ^ 31 → b ≢ 2 ^ 32 - 1) →
+    signed (quotient a b) ≡ int_div (signed a) (signed b)
 signed_quotient a b h k ne far =
-    let fits = quotient_fits (signed a) (signed b) (signed_fits a h) (not_zero b k ne) (λ e f. far (sym (of_z-to_z w32 a h) ∙ ap unsigned e) (sym (of_z-to_z w32 b k) ∙ ap unsigned f)) in
+    let fits = quotient_fits (signed a) (signed b) (signed_fits a h) (not_zero b k ne)
+    (λ e f. far (sym (of_z-to_z w32 a h) ∙ ap unsigned e) (sym (of_z-to_z w32 b k) ∙ ap unsigned f)) in
     ap signed (quotient_is a b ne) ∙ to_z-of_z w32 (int_div (signed a) (signed b)) fits
 
 signed_remainder : (a b : ℕ) → a < 2 ^ 32 → b ≢ 0 → signed (remainder a b) ≡ int_rem (signed a) (signed b)
@@ -86,8 +89,11 @@ overflow a b e f =
 
 pub division_is : (a b : ℕ) → a < 2 ^ 32 → b < 2 ^ 32 → IsDivision a b (quotient a b) (remainder a b)
 division_is a b h k = record {
-  exact = λ ne far. sym (ap (λ z. z *ℤ signed b +ℤ signed (remainder a b)) (signed_quotient a b h k ne far) ∙ ap (λ z. int_div (signed a) (signed b) *ℤ signed b +ℤ z) (signed_remainder a b h ne) ∙ quot-rem (signed a) (signed b));
-  small = λ ne. subst (λ z. unsigned_abs z < unsigned_abs (signed b)) (sym (signed_remainder a b h ne)) (rem_below (signed a) (signed b) (not_zero b k ne));
+  exact = λ ne far. sym
+      (ap (λ z. z *ℤ signed b +ℤ signed (remainder a b)) (signed_quotient a b h k ne far)
+      ∙ ap (λ z. int_div (signed a) (signed b) *ℤ signed b +ℤ z) (signed_remainder a b h ne) ∙ quot-rem (signed a) (signed b));
+  small = λ ne. subst (λ z. unsigned_abs z < unsigned_abs (signed b)) (sym (signed_remainder a b h ne))
+      (rem_below (signed a) (signed b) (not_zero b k ne));
   not_negative = λ ne s. subst (λ z. pos 0 ≤ℤ z) (sym (signed_remainder a b h ne)) (remainder_not_negative (signed a) (signed b) s);
   not_positive = λ ne s. subst (λ z. z ≤ℤ pos 0) (sym (signed_remainder a b h ne)) (remainder_not_positive (signed a) (signed b) s);
   by_zero = by_zero a b;

@@ -13,10 +13,12 @@ use Rattle.rv_isa.specs.OneWord.{one_word}
 use Rattle.rv_isa.specs.Words.{word_of}
 use Rattle.rv_isa.specs.declared.field.Register.{Register}
 use Rattle.rv_isa.specs.declared.instr.Instr.{Instr}
-use Rattle.rv_isa.specs.declared.instr.Instr.TheVariants.{Lui, Auipc, Jal, Jalr, BranchIf, LoadFrom, StoreTo, OnImmediate, OnShift, OnRegisters, Ecall}
+use Rattle.rv_isa.specs.declared.instr.Instr.TheVariants.{Lui, Auipc, Jal, Jalr, BranchIf, LoadFrom, StoreTo, OnImmediate, OnShift}
+use Rattle.rv_isa.specs.declared.instr.Instr.TheVariants.{OnRegisters, Ecall}
 use Rattle.rv_machine.specs.declared.machine.RvMachine.{RvMachine}
 use Rattle.rv_machine.specs.Machine.{state_of, rv_goes, rv_stops, rv_traps}
-use Rattle.rv_machine.specs.Step.{State, Next, Goes, Stops, Traps, RvStep, nowhere, unlisted, listed, does, address, read, behind, jumps, linked, loaded, loads, stores, aligned}
+use Rattle.rv_machine.specs.Step.{State, Next, Goes, Stops, Traps, RvStep, nowhere, unlisted, listed, does, address, read, behind}
+use Rattle.rv_machine.specs.Step.{jumps, linked, loaded, loads, stores, aligned}
 use Rattle.rv_machine.specs.Values.{plus, extended, is_taken, load_size, store_size}
 
 -- ---- a step comes to one thing
@@ -30,7 +32,8 @@ one_next code s m n (unlisted w h none e) (unlisted v k other f) = e ∙ sym f
 one_next code s m n (unlisted w h none e) (listed i k f) = absurd (none i (same_Some (word_of i) w (sym k ∙ h)))
 one_next code s m n (listed i h e) (nowhere k f) = absurd (cc)
 one_next code s m n (listed i h e) (unlisted w k none f) = absurd (none i (same_Some (word_of i) w (sym h ∙ k)))
-one_next code s m n (listed i h e) (listed j k f) = e ∙ ap (λ x. does x s) (one_word i j (same_Some (word_of i) (word_of j) (sym h ∙ k))) ∙ sym f
+one_next code s m n (listed i h e) (listed j k f) =
+    e ∙ ap (λ x. does x s) (one_word i j (same_Some (word_of i) (word_of j) (sym h ∙ k))) ∙ sym f
 
 same_goes : (s t : State) → Goes s ≡ Goes t → s ≡ t
 same_goes s t e = cc
@@ -48,7 +51,8 @@ same_state m n b c e = (same_machine m n (ap (λ s. s.registers) e) (ap (λ s. s
 
 pub rv_one_way : (code : List ℕ) → IsOneWay (rv_goes code)
 rv_one_way code m b n c u d p q =
-    same_state n u c d (same_goes (state_of n c) (state_of u d) (one_next code (state_of m b) (Goes (state_of n c)) (Goes (state_of u d)) p q))
+    same_state n u c d
+    (same_goes (state_of n c) (state_of u d) (one_next code (state_of m b) (Goes (state_of n c)) (Goes (state_of u d)) p q))
 
 stop_not_goes : (s : State) → Stops ≡ Goes s → ⊥
 stop_not_goes s e = cc
@@ -62,7 +66,8 @@ trap_not_stop cause e = cc
 pub rv_apart : (code : List ℕ) → AreApart (rv_goes code) (rv_stops code) (rv_traps code)
 rv_apart code = record {
   stop_stays = λ m b n c p q. stop_not_goes (state_of n c) (one_next code (state_of m b) Stops (Goes (state_of n c)) p q);
-  trap_stays = λ m b trap n c p q. trap_not_goes trap.cause (state_of n c) (one_next code (state_of m b) (Traps trap.cause) (Goes (state_of n c)) p.0 q);
+  trap_stays = λ m b trap n c p q. trap_not_goes trap.cause (state_of n c)
+      (one_next code (state_of m b) (Traps trap.cause) (Goes (state_of n c)) p.0 q);
   no_stop = λ m b trap p q. trap_not_stop trap.cause (one_next code (state_of m b) (Traps trap.cause) Stops p.0 q);
 }
 
@@ -103,7 +108,8 @@ stop_is (Jal rd offset) s e = absurd (jumps_on (linked s rd) (plus s.pc (extende
 stop_is (Jalr rd rs1 offset) s e = absurd (jumps_on (linked s rd) (address s rs1 offset / 2 * 2) e)
 stop_is (BranchIf branch rs1 rs2 offset) s e =
     let target = plus s.pc (extended 13 offset.bits) in
-    absurd (either_on (is_taken branch (read s rs1) (read s rs2)) (jumps s target) (Goes (behind s)) (jumps_on s target) (goes_on (behind s)) e)
+    absurd (either_on (is_taken branch (read s rs1) (read s rs2)) (jumps s target) (Goes (behind s)) (jumps_on s target)
+    (goes_on (behind s)) e)
 stop_is (LoadFrom load rd rs1 offset) s e =
     let at = address s rs1 offset in
     let found = loaded load s.bytes at in

@@ -1,5 +1,6 @@
 -- What one instruction of a RISC-V machine does (RISC-V unprivileged manual, chapter "RV32I Base Integer Instruction Set").
-use Rattle.std.specs.Prelude.{◌≡◌, ◌≢◌, ℕ, ◌*◌, ◌/◌, ◌%◌, ◌^◌, Bool, true, false, ◌==◌, if◌then◌else◌, List, slice_index, slice_set, Option, Some, None, is_some}
+use Rattle.std.specs.Prelude.{◌≡◌, ◌≢◌, ℕ, ◌*◌, ◌/◌, ◌%◌, ◌^◌, Bool, true, false, ◌==◌, if◌then◌else◌, List, slice_index, slice_set}
+use Rattle.std.specs.Prelude.{Option, Some, None, is_some}
 use Rattle.std.specs.Option.{option_map}
 use Rattle.byteorder.specs.Endian.{little_number, little_bytes}
 use Rattle.ec_base.specs.Bytes.{Bytes, bytes_from, with_bytes}
@@ -11,8 +12,10 @@ use Rattle.rv_isa.specs.declared.field.Register.{Register}
 use Rattle.rv_isa.specs.declared.field.Twelve.{Twelve}
 use Rattle.rv_isa.specs.declared.instr.Load.{Load}
 use Rattle.rv_isa.specs.declared.instr.Instr.{Instr}
-use Rattle.rv_isa.specs.declared.instr.Instr.TheVariants.{Lui, Auipc, Jal, Jalr, BranchIf, LoadFrom, StoreTo, OnImmediate, OnShift, OnRegisters, Ecall}
-use Rattle.rv_machine.specs.Values.{plus, extended, immediate_value, shift_value, operation_value, is_taken, load_size, load_value, store_size}
+use Rattle.rv_isa.specs.declared.instr.Instr.TheVariants.{Lui, Auipc, Jal, Jalr, BranchIf, LoadFrom, StoreTo, OnImmediate, OnShift}
+use Rattle.rv_isa.specs.declared.instr.Instr.TheVariants.{OnRegisters, Ecall}
+use Rattle.rv_machine.specs.Values.{plus, extended, immediate_value, shift_value, operation_value, is_taken, load_size, load_value}
+use Rattle.rv_machine.specs.Values.{store_size}
 
 -- the registers, the place of the next instruction, and the bytes of the memory
 pub record State : Type 0 where

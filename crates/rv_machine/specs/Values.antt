@@ -1,6 +1,7 @@
 -- What the operations of RV32IM compute, on words as numbers from 0 to 2^32 - 1 (RISC-V unprivileged manual: chapter "RV32I Base
 -- Integer Instruction Set", and chapter '"M" Standard Extension for Integer Multiplication and Division').
-use Rattle.std.specs.Prelude.{ℕ, ◌+◌, ◌-◌, ◌*◌, ◌/◌, ◌%◌, ◌^◌, Bool, not, ◌==◌, nat_lt, if◌then◌else◌, bit_and, bit_or, bit_xor, ℤ, int_lt, int_div, int_rem}
+use Rattle.std.specs.Prelude.{ℕ, ◌+◌, ◌-◌, ◌*◌, ◌/◌, ◌%◌, ◌^◌, Bool, not, ◌==◌, nat_lt, if◌then◌else◌, bit_and, bit_or, bit_xor, ℤ}
+use Rattle.std.specs.Prelude.{int_lt, int_div, int_rem}
 use Rattle.std.specs.Int.{w32, cast_signed, cast_unsigned, from_bool, int_shr}
 use Rattle.rv_isa.specs.declared.instr.Branch.{Branch}
 use Rattle.rv_isa.specs.declared.instr.Branch.TheVariants.{Beq, Bne, Blt, Bge, Bltu, Bgeu}
@@ -13,7 +14,8 @@ use Rattle.rv_isa.specs.declared.instr.Immediate.TheVariants.{Addi, Slti, Sltiu,
 use Rattle.rv_isa.specs.declared.instr.Shift.{Shift}
 use Rattle.rv_isa.specs.declared.instr.Shift.TheVariants.{Slli, Srli, Srai}
 use Rattle.rv_isa.specs.declared.instr.Operation.{Operation}
-use Rattle.rv_isa.specs.declared.instr.Operation.TheVariants.{Add, Sub, Sll, Slt, Sltu, Xor, Srl, Sra, Or, And, Mul, Mulh, Mulhsu, Mulhu, Div, Divu, Rem, Remu}
+use Rattle.rv_isa.specs.declared.instr.Operation.TheVariants.{Add, Sub, Sll, Slt, Sltu, Xor, Srl, Sra, Or, And, Mul, Mulh, Mulhsu}
+use Rattle.rv_isa.specs.declared.instr.Operation.TheVariants.{Mulhu, Div, Divu, Rem, Remu}
 
 -- ---- words as numbers
 

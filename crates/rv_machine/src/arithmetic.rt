@@ -2,7 +2,8 @@
 
 ghost use Rattle.std.specs.Prelude.{◌≡◌, ◌*◌, ◌%◌, ◌<◌, ◌^◌, pos};
 ghost use Rattle.rv_machine.specs.Laws.{number_in, IsProduct, IsUnsignedProduct, IsDivision, IsUnsignedDivision};
-ghost use Rattle.rv_machine.specs.Values.{extended, signed, immediate_value, shift_value, operation_value, is_taken, wide, upper, quotient, remainder, quotient_unsigned, remainder_unsigned};
+ghost use Rattle.rv_machine.specs.Values.{extended, signed, immediate_value, shift_value, operation_value, is_taken, wide, upper};
+ghost use Rattle.rv_machine.specs.Values.{quotient, remainder, quotient_unsigned, remainder_unsigned};
 
 use rv_isa::instr::{Branch, Immediate, Operation, Shift};
 

@@ -18,7 +18,8 @@ use rv_isa::instr::{Instr, Load, Store};
 impl RvMachine {
     // Does one instruction.
     pub(crate) fn execute<M: Memory>(&mut self, memory: &mut M, instr: Instr) -> Outcome
-        ensures answer { IsAnswer (does instr (state_of self.old (M.byte_at memory.old))) (state_of self.old (M.byte_at memory.old)) result (state_of self.new (M.byte_at memory.new)) }
+        ensures answer { IsAnswer (does instr (state_of self.old (M.byte_at memory.old))) (state_of self.old (M.byte_at memory.old))
+            result (state_of self.new (M.byte_at memory.new)) }
         ensures rest { M.alike memory.old memory.new }
     {
         match instr {
@@ -76,7 +77,10 @@ impl RvMachine {
 
     // Reads from an address into a register.
     fn load<M: Memory>(&mut self, memory: &M, load: Load, rd: Register, at: u32) -> Outcome
-        ensures { IsAnswer (aligned (load_size load) at (loads (state_of self.old (M.byte_at memory.now)) rd (loaded load (M.byte_at memory.now) at))) (state_of self.old (M.byte_at memory.now)) result (state_of self.new (M.byte_at memory.now)) }
+        ensures { IsAnswer
+            (aligned (load_size load) at
+            (loads (state_of self.old (M.byte_at memory.now)) rd (loaded load (M.byte_at memory.now) at)))
+            (state_of self.old (M.byte_at memory.now)) result (state_of self.new (M.byte_at memory.now)) }
     {
         if at % size_of_load(load) != 0 {
             return self.trap(Cause::Unaligned);
@@ -89,7 +93,11 @@ impl RvMachine {
 
     // Writes the lowest bytes of a word at an address.
     fn store<M: Memory>(&mut self, memory: &mut M, store: Store, at: u32, value: u32) -> Outcome
-        ensures answer { IsAnswer (aligned (store_size store) at (stores (state_of self.old (M.byte_at memory.old)) at (little_bytes (store_size store) value) (is_some (bytes_from (M.byte_at memory.old) at (store_size store))))) (state_of self.old (M.byte_at memory.old)) result (state_of self.new (M.byte_at memory.new)) }
+        ensures answer { IsAnswer
+            (aligned (store_size store) at
+            (stores (state_of self.old (M.byte_at memory.old)) at (little_bytes (store_size store) value)
+            (is_some (bytes_from (M.byte_at memory.old) at (store_size store))))) (state_of self.old (M.byte_at memory.old))
+            result (state_of self.new (M.byte_at memory.new)) }
         ensures rest { M.alike memory.old memory.new }
     {
         if at % size_of_store(store) != 0 {
@@ -104,7 +112,8 @@ impl RvMachine {
 
     // Goes on at a target where the branch is taken, else behind the instruction.
     fn branch(&mut self, taken: bool, target: u32) -> Outcome
-        ensures { (b : Bytes) → IsAnswer (if taken then jumps (state_of self.old b) target else Goes (behind (state_of self.old b))) (state_of self.old b) result (state_of self.new b) }
+        ensures { (b : Bytes) → IsAnswer (if taken then jumps (state_of self.old b) target else Goes (behind (state_of self.old b)))
+            (state_of self.old b) result (state_of self.new b) }
     {
         if !taken {
             self.pc = self.pc.wrapping_add(4);
@@ -119,7 +128,8 @@ impl RvMachine {
 
     // Goes on at a target, and writes the place behind the instruction into a register.
     fn jump(&mut self, rd: Register, target: u32) -> Outcome
-        ensures { (b : Bytes) → IsAnswer (jumps (linked (state_of self.old b) rd) target) (state_of self.old b) result (state_of self.new b) }
+        ensures { (b : Bytes) → IsAnswer (jumps (linked (state_of self.old b) rd) target) (state_of self.old b) result
+            (state_of self.new b) }
     {
         if target % 4 != 0 {
             return self.trap(Cause::Unaligned);

@@ -31,7 +31,8 @@ invariant-expressions::resolve_all-loop-e l =
     record {
       made : AlongMade l.initial.r l.r (all_made l.initial.r.walk.scope (map part_of (drop l.e-index l.es)))
           (all_made l.initial.r.walk.scope (map part_of l.es));
-      core : l.found ++ cores_of (env_of l.initial.r) (map part_of (drop l.e-index l.es)) ≡ cores_of (env_of l.initial.r) (map part_of l.es);
+      core : l.found ++ cores_of (env_of l.initial.r) (map part_of (drop l.e-index l.es)) ≡ cores_of (env_of l.initial.r)
+          (map part_of l.es);
     }
 
 abbrev pub invariant-expressions::resolve_factors-loop-f : goal.invariant-expressions::resolve_factors-loop-f
@@ -58,7 +59,8 @@ invariant-statements::resolve_arms-loop-arm l =
       gone : AlongGone l.initial.r l.r
           (further (length (locals_of_arms l.initial.r.walk.scope (map arm_of (drop l.arm-index l.arms)))) (env_of l.r))
           (further (length (locals_of_arms l.initial.r.walk.scope (map arm_of l.arms))) (env_of l.initial.r))
-          (locals_of_arms l.initial.r.walk.scope (map arm_of (drop l.arm-index l.arms))) (locals_of_arms l.initial.r.walk.scope (map arm_of l.arms))
+          (locals_of_arms l.initial.r.walk.scope (map arm_of (drop l.arm-index l.arms)))
+          (locals_of_arms l.initial.r.walk.scope (map arm_of l.arms))
           (arms_made l.initial.r.walk.scope (map arm_of (drop l.arm-index l.arms))) (arms_made l.initial.r.walk.scope (map arm_of l.arms));
       core : l.found ++ arms_core (env_of l.r) (map arm_of (drop l.arm-index l.arms)) ≡ arms_core (env_of l.initial.r) (map arm_of l.arms);
       scope : l.r.walk.scope ≡ l.initial.r.walk.scope;

@@ -18,7 +18,8 @@ pub(crate) fn compare(
     state: &mut State,
     todo: &mut Todo,
 ) -> Result<Outcome, AllocError>
-    ensures { IfOk result (λ o. came o state.new todo.new ≡ after state.old todo.old (spec.last_two state.old (spec.compare op state.old))) }
+    ensures { IfOk result
+        (λ o. came o state.new todo.new ≡ after state.old todo.old (spec.last_two state.old (spec.compare op state.old))) }
 {
     match op {
         Comparison::Same | Comparison::Equal => same_or_not(true, state, todo),
@@ -32,7 +33,9 @@ pub(crate) fn compare(
 
 /// Whether the two values held last are the same, or whether they aren't. The error is want of memory.
 fn same_or_not(wanted: bool, state: &mut State, todo: &Todo) -> Result<Outcome, AllocError>
-    ensures { IfOk result (λ o. came o state.new todo.now ≡ after state.old todo.now (spec.last_two state.old (λ under u v. spec.same_or_not under wanted (spec.are_same u v)))) }
+    ensures { IfOk result
+        (λ o. came o state.new todo.now ≡ after state.old todo.now
+        (spec.last_two state.old (λ under u v. spec.same_or_not under wanted (spec.are_same u v)))) }
 {
     let Some((u, v)) = state.pop_two() else {
         return Ok(Outcome::NoCase);
@@ -92,7 +95,9 @@ fn in_order(order: Order, a: i32, b: i32) -> bool
 /// error is want of memory.
 #[tactic(auto, using(crate::proofs::Held::two_again))]
 fn order(order: Order, state: &mut State, todo: &mut Todo) -> Result<Outcome, AllocError>
-    ensures { IfOk result (λ o. came o state.new todo.new ≡ after state.old todo.old (spec.last_two state.old (spec.compare (comparison_of order) state.old))) }
+    ensures { IfOk result
+        (λ o. came o state.new todo.new ≡ after state.old todo.old
+        (spec.last_two state.old (spec.compare (comparison_of order) state.old))) }
 {
     let Some((u, v)) = state.pop_two() else {
         return Ok(Outcome::NoCase);

@@ -37,7 +37,9 @@ pub(crate) fn evaluate(
     state: &mut State,
     todo: &mut Todo,
 ) -> Result<Outcome, AllocError>
-    ensures { IfOk result (λ o. came o state.new todo.new ≡ after state.old todo.old (spec.evaluate (source_of program.now) whose state.old (out-Expression x))) }
+    ensures { IfOk result
+        (λ o. came o state.new todo.new ≡ after state.old todo.old
+        (spec.evaluate (source_of program.now) whose state.old (out-Expression x))) }
 {
     match x {
         Expression::Number(n) => number(n, state),
@@ -100,7 +102,8 @@ fn node_at(
     todo: &mut Todo,
 ) -> Result<Outcome, AllocError>
     ensures goes { IfOk result (λ o. o ≡ Outcome.Goes) }
-    ensures next { OnOk result (todo.new ≡ Item.Evaluate x ∷ Item.Rest (Stop.NodeAt (source.line (source_of program.now) at)) 1 ∷ todo.old) }
+    ensures next { OnOk result
+        (todo.new ≡ Item.Evaluate x ∷ Item.Rest (Stop.NodeAt (source.line (source_of program.now) at)) 1 ∷ todo.old) }
 {
     let line = program.line(at);
     let stop = Stop::NodeAt { line };
@@ -116,7 +119,9 @@ fn new_vector(
     todo: &mut Todo,
 ) -> Result<Outcome, AllocError>
     ensures goes { IfOk result (λ o. o ≡ Outcome.Goes) }
-    ensures next { OnOk result (todo.new ≡ Item.Evaluate x ∷ Item.Rest (Stop.NewVector (types.vector_type of) (source.line (source_of program.now) at)) 1 ∷ todo.old) }
+    ensures next { OnOk result
+        (todo.new ≡ Item.Evaluate x ∷ Item.Rest (Stop.NewVector (types.vector_type of) (source.line (source_of program.now) at))
+        1 ∷ todo.old) }
 {
     let of = vector_type(of)?;
     let line = program.line(at);
@@ -132,7 +137,9 @@ fn construct(
     todo: &mut Todo,
 ) -> Result<Outcome, AllocError>
     ensures goes { IfOk result (λ o. o ≡ Outcome.Goes) }
-    ensures next { OnOk result (todo.new ≡ map (λ p. Item.Evaluate (e.Read p)) places ++ Item.Rest (Stop.New (source.class_number (source_of program.now) class)) (length places) ∷ todo.old) }
+    ensures next { OnOk result
+        (todo.new ≡ map (λ p. Item.Evaluate (e.Read p)) places
+        ++ Item.Rest (Stop.New (source.class_number (source_of program.now) class)) (length places) ∷ todo.old) }
 {
     let class = program.class_number(class)?;
     let takes = count_of(places.len())?;
@@ -150,7 +157,8 @@ fn create(
     todo: &mut Todo,
 ) -> Result<Outcome, AllocError>
     ensures goes { IfOk result (λ o. o ≡ Outcome.Goes) }
-    ensures next { OnOk result (todo.new ≡ spec.evaluated xs ++ Item.Rest (Stop.New (source.class_number (source_of program.now) class)) (length xs) ∷ todo.old) }
+    ensures next { OnOk result
+        (todo.new ≡ spec.evaluated xs ++ Item.Rest (Stop.New (source.class_number (source_of program.now) class)) (length xs) ∷ todo.old) }
 {
     let class = program.class_number(class)?;
     let takes = count_of(xs.len())?;
@@ -182,7 +190,9 @@ fn view(
     todo: &mut Todo,
 ) -> Result<Outcome, AllocError>
     ensures goes { IfOk result (λ o. o ≡ Outcome.Goes) }
-    ensures next { OnOk result (todo.new ≡ Item.Evaluate x ∷ Item.Rest (Stop.View (types.viewed_as (source_of program.now).table of) (source.line (source_of program.now) at)) 1 ∷ todo.old) }
+    ensures next { OnOk result
+        (todo.new ≡ Item.Evaluate x ∷ Item.Rest
+        (Stop.View (types.viewed_as (source_of program.now).table of) (source.line (source_of program.now) at)) 1 ∷ todo.old) }
 {
     let to = viewed_as(program.table(), of)?;
     let line = program.line(at);
@@ -198,7 +208,8 @@ fn is_fixed(
     todo: &mut Todo,
 ) -> Result<Outcome, AllocError>
     ensures goes { IfOk result (λ o. o ≡ Outcome.Goes) }
-    ensures next { OnOk result (todo.new ≡ Item.Evaluate x ∷ Item.Rest (Stop.IsFixed (source.line (source_of program.now) at)) 1 ∷ todo.old) }
+    ensures next { OnOk result
+        (todo.new ≡ Item.Evaluate x ∷ Item.Rest (Stop.IsFixed (source.line (source_of program.now) at)) 1 ∷ todo.old) }
 {
     let line = program.line(at);
     let stop = Stop::IsFixed { line };
@@ -277,7 +288,10 @@ pub(crate) fn multiply(
     state: &State,
     todo: &mut Todo,
 ) -> Result<Outcome, AllocError>
-    ensures { IfOk result (λ o. came o state.now todo.new ≡ after state.now todo.old (spec.Goes state.now (Item.Evaluate (out-Factor factor).value ∷ Item.Calculate (out-Factor factor).operator (out-Factor factor).at ∷ []))) }
+    ensures { IfOk result
+        (λ o. came o state.now todo.new ≡ after state.now todo.old
+        (spec.Goes state.now
+        (Item.Evaluate (out-Factor factor).value ∷ Item.Calculate (out-Factor factor).operator (out-Factor factor).at ∷ []))) }
 {
     let next = Item::Calculate(factor.operator, factor.at);
     todo.then_two(Item::Evaluate(factor.value), next)
@@ -285,7 +299,10 @@ pub(crate) fn multiply(
 
 /// What an operator of a sum takes to its right, and then the operator. The error is want of memory.
 pub(crate) fn add(addend: Addend, state: &State, todo: &mut Todo) -> Result<Outcome, AllocError>
-    ensures { IfOk result (λ o. came o state.now todo.new ≡ after state.now todo.old (spec.Goes state.now (Item.Evaluate (out-Addend addend).value ∷ Item.Join (out-Addend addend).operator (out-Addend addend).at ∷ []))) }
+    ensures { IfOk result
+        (λ o. came o state.now todo.new ≡ after state.now todo.old
+        (spec.Goes state.now
+        (Item.Evaluate (out-Addend addend).value ∷ Item.Join (out-Addend addend).operator (out-Addend addend).at ∷ []))) }
 {
     let next = Item::Join(addend.operator, addend.at);
     todo.then_two(Item::Evaluate(addend.value), next)

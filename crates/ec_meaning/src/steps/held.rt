@@ -110,7 +110,8 @@ pub(crate) fn require(
     state: &mut State,
     todo: &Todo,
 ) -> Result<Outcome, AllocError>
-    ensures { IfOk result (λ o. came o state.new todo.now ≡ after state.old todo.now (spec.last state.old (spec.require (source_of program.now) at))) }
+    ensures { IfOk result
+        (λ o. came o state.new todo.now ≡ after state.old todo.now (spec.last state.old (spec.require (source_of program.now) at))) }
 {
     match state.pop_truth() {
         Some(true) => Ok(Outcome::Goes),

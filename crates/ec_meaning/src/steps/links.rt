@@ -25,7 +25,8 @@ pub(crate) fn follow(
     state: &State,
     todo: &mut Todo,
 ) -> Result<Outcome, AllocError>
-    ensures { IfOk result (λ o. came o state.now todo.new ≡ after state.now todo.old (spec.follow (source_of program.now) state.now (out-Link link))) }
+    ensures { IfOk result
+        (λ o. came o state.now todo.new ≡ after state.now todo.old (spec.follow (source_of program.now) state.now (out-Link link))) }
 {
     match link {
         Link::Invoke(name, xs, _, at) => invoke(name, xs, at, program, todo),
@@ -54,7 +55,10 @@ fn invoke(
     todo: &mut Todo,
 ) -> Result<Outcome, AllocError>
     ensures goes { IfOk result (λ o. o ≡ Outcome.Goes) }
-    ensures next { OnOk result (todo.new ≡ spec.evaluated xs ++ Item.Rest (Stop.Invoke (source.name_number (source_of program.now) name) (source.line (source_of program.now) at)) (1 + length xs) ∷ todo.old) }
+    ensures next { OnOk result
+        (todo.new ≡ spec.evaluated xs
+        ++ Item.Rest
+        (Stop.Invoke (source.name_number (source_of program.now) name) (source.line (source_of program.now) at)) (1 + length xs) ∷ todo.old) }
 {
     let name = program.name_number(name.as_slice())?;
     let line = program.line(at);
@@ -82,7 +86,9 @@ fn call(
     todo: &mut Todo,
 ) -> Result<Outcome, AllocError>
     ensures goes { IfOk result (λ o. o ≡ Outcome.Goes) }
-    ensures next { OnOk result (todo.new ≡ spec.evaluated xs ++ Item.Rest (spec.stop_of builtin (source.line (source_of program.now) at)) (1 + length xs) ∷ todo.old) }
+    ensures next { OnOk result
+        (todo.new ≡ spec.evaluated xs
+        ++ Item.Rest (spec.stop_of builtin (source.line (source_of program.now) at)) (1 + length xs) ∷ todo.old) }
 {
     let line = program.line(at);
     arguments(xs, stop_of(builtin, line), todo)

@@ -46,7 +46,9 @@ pub(crate) fn calculate(
     state: &mut State,
     todo: &Todo,
 ) -> Result<Outcome, AllocError>
-    ensures { IfOk result (λ o. came o state.new todo.now ≡ after state.old todo.now (spec.last_two state.old (spec.calculate (source_of program.now) op at))) }
+    ensures { IfOk result
+        (λ o. came o state.new todo.now ≡ after state.old todo.now
+        (spec.last_two state.old (spec.calculate (source_of program.now) op at))) }
 {
     let Some((a, b)) = state.pop_numbers() else {
         return Ok(Outcome::NoCase);
@@ -65,7 +67,9 @@ pub(crate) fn join(
     state: &mut State,
     todo: &mut Todo,
 ) -> Result<Outcome, AllocError>
-    ensures { IfOk result (λ o. came o state.new todo.new ≡ after state.old todo.old (spec.last_two state.old (spec.join (source_of program.now) op at state.old))) }
+    ensures { IfOk result
+        (λ o. came o state.new todo.new ≡ after state.old todo.old
+        (spec.last_two state.old (spec.join (source_of program.now) op at state.old))) }
 {
     match op {
         Additive::Concat => concat(at, program, state, todo),
@@ -82,7 +86,9 @@ fn concat(
     state: &mut State,
     todo: &mut Todo,
 ) -> Result<Outcome, AllocError>
-    ensures { IfOk result (λ o. came o state.new todo.new ≡ after state.old todo.old (spec.last_two state.old (spec.join (source_of program.now) Additive.Concat at state.old))) }
+    ensures { IfOk result
+        (λ o. came o state.new todo.new ≡ after state.old todo.old
+        (spec.last_two state.old (spec.join (source_of program.now) Additive.Concat at state.old))) }
 {
     let Some((under, last)) = state.pop_two() else {
         return Ok(Outcome::NoCase);
@@ -101,7 +107,9 @@ fn plus(
     state: &mut State,
     todo: &Todo,
 ) -> Result<Outcome, AllocError>
-    ensures { IfOk result (λ o. came o state.new todo.now ≡ after state.old todo.now (spec.last_two state.old (spec.join (source_of program.now) Additive.Plus at state.old))) }
+    ensures { IfOk result
+        (λ o. came o state.new todo.now ≡ after state.old todo.now
+        (spec.last_two state.old (spec.join (source_of program.now) Additive.Plus at state.old))) }
 {
     match state.pop_numbers() {
         Some((a, b)) => state.gives(Value::Int(a.wrapping_add(b))),
@@ -116,7 +124,9 @@ fn minus(
     state: &mut State,
     todo: &Todo,
 ) -> Result<Outcome, AllocError>
-    ensures { IfOk result (λ o. came o state.new todo.now ≡ after state.old todo.now (spec.last_two state.old (spec.join (source_of program.now) Additive.Minus at state.old))) }
+    ensures { IfOk result
+        (λ o. came o state.new todo.now ≡ after state.old todo.now
+        (spec.last_two state.old (spec.join (source_of program.now) Additive.Minus at state.old))) }
 {
     match state.pop_numbers() {
         Some((a, b)) => state.gives(Value::Int(a.wrapping_sub(b))),

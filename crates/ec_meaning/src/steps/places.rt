@@ -98,7 +98,9 @@ pub(crate) fn read(
     state: &mut State,
     todo: &Todo,
 ) -> Result<Outcome, AllocError>
-    ensures { IfOk result (λ o. came o state.new todo.now ≡ after state.old todo.now (spec.gives_if state.old (spec.value_at (source_of program.now) own state.old place))) }
+    ensures { IfOk result
+        (λ o. came o state.new todo.now ≡ after state.old todo.now
+        (spec.gives_if state.old (spec.value_at (source_of program.now) own state.old place))) }
 {
     match value_at(place, program, own, state)? {
         Some(value) => state.gives(value),
@@ -155,7 +157,9 @@ pub(crate) fn store(
     state: &mut State,
     todo: &Todo,
 ) -> Result<Outcome, AllocError>
-    ensures { IfOk result (λ o. came o state.new todo.now ≡ after state.old todo.now (spec.last state.old (spec.store (source_of program.now) whose.own place))) }
+    ensures { IfOk result
+        (λ o. came o state.new todo.now ≡ after state.old todo.now
+        (spec.last state.old (spec.store (source_of program.now) whose.own place))) }
 {
     match state.held.pop() {
         Some(value) => {
@@ -187,7 +191,11 @@ pub(crate) fn declare(
     state: &mut State,
     todo: &Todo,
 ) -> Result<Outcome, AllocError>
-    ensures { IfOk result (λ o. came o state.new todo.now ≡ after state.old todo.now (spec.Goes (spec.stored (source_of program.now) whose.own state.old (Place.Variable n) (spec.default_at (source_of program.now) whose.operation n)) [])) }
+    ensures { IfOk result
+        (λ o. came o state.new todo.now ≡ after state.old todo.now
+        (spec.Goes
+        (spec.stored (source_of program.now) whose.own state.old (Place.Variable n)
+        (spec.default_at (source_of program.now) whose.operation n)) [])) }
 {
     let value = default_at(program, whose.operation, n, state);
     set_variable(state, n, value);

@@ -28,7 +28,9 @@ pub(crate) fn do_statement(
     state: &mut State,
     todo: &mut Todo,
 ) -> Result<Outcome, AllocError>
-    ensures { IfOk result (λ o. came o state.new todo.new ≡ after state.old todo.old (spec.do_statement (source_of program.now) whose state.old (out-Statement x))) }
+    ensures { IfOk result
+        (λ o. came o state.new todo.new ≡ after state.old todo.old
+        (spec.do_statement (source_of program.now) whose state.old (out-Statement x))) }
 {
     match x {
         Statement::Declare(n, None) => declare(n, program, whose, state, todo),
@@ -109,7 +111,8 @@ fn set_element(
     todo: &mut Todo,
 ) -> Result<Outcome, AllocError>
     ensures goes { IfOk result (λ o. o ≡ Outcome.Goes) }
-    ensures next { OnOk result (todo.new ≡ Item.Evaluate vector ∷ Item.Evaluate number ∷ Item.Evaluate x ∷ Item.Rest (Stop.Set line) 3 ∷ todo.old) }
+    ensures next { OnOk result
+        (todo.new ≡ Item.Evaluate vector ∷ Item.Evaluate number ∷ Item.Evaluate x ∷ Item.Rest (Stop.Set line) 3 ∷ todo.old) }
 {
     let stop = Stop::Set { line };
     todo.push(Item::Rest { stop, takes: 3 })?;
@@ -203,7 +206,9 @@ fn do_other(other: Option<Block>, todo: &mut Todo) -> Result<Outcome, AllocError
 
 /// The loop rests before its next turn. The error is want of memory.
 pub(crate) fn again(block: Block, state: &State, todo: &mut Todo) -> Result<Outcome, AllocError>
-    ensures { IfOk result (λ o. came o state.now todo.new ≡ after state.now todo.old (spec.Rests Stop.LoopTop [] state.now (spec.block_items block ++ Item.Again block ∷ []))) }
+    ensures { IfOk result
+        (λ o. came o state.now todo.new ≡ after state.now todo.old
+        (spec.Rests Stop.LoopTop [] state.now (spec.block_items block ++ Item.Again block ∷ []))) }
 {
     let turn = copy_block(state.held.allocator(), &block)?;
     todo.push(Item::Again(block))?;

@@ -72,7 +72,9 @@ pub(crate) fn leave(
     state: &mut State,
     todo: &Todo,
 ) -> Result<Outcome, AllocError>
-    ensures { IfOk result (λ o. came o state.new todo.now ≡ after state.old todo.now (spec.leave (source.operation_at (source_of program.now) whose.operation) state.old)) }
+    ensures { IfOk result
+        (λ o. came o state.new todo.now ≡ after state.old todo.now
+        (spec.leave (source.operation_at (source_of program.now) whose.operation) state.old)) }
 {
     let Some(operation) = program.operation(whose.operation) else {
         return Ok(state.rests(Stop::End));

@@ -24,8 +24,10 @@ pub returns-in_err-expect-clause-outside : goal.returns-in_err-expect-clause-out
 returns-in_err-expect-clause-outside c =
     let p = err_from_is_err_and c.from_residual.result c.from_residual.ensures.1 in
     rw (p.1, p.2)
-    (stops_in_statement c.args.tokens.now c.reading.statements c.reading.at c.requires c.reading.invariant.0 c.reading.invariant.1 c.reading.invariant.2 c.in_err-expect.field-0.0
-    (λ b. iff_false c.begins_with.ensures c.if-begins_with.false (rw (take_rest c.args.tokens.now c.reading.at) b)) c.in_err-expect.ensures.err)
+    (stops_in_statement c.args.tokens.now c.reading.statements c.reading.at c.requires c.reading.invariant.0 c.reading.invariant.1
+    c.reading.invariant.2 c.in_err-expect.field-0.0
+    (λ b. iff_false c.begins_with.ensures c.if-begins_with.false (rw (take_rest c.args.tokens.now c.reading.at) b))
+    c.in_err-expect.ensures.err)
 
 pub bounds-tokens-at : goal.bounds-tokens-at
 bounds-tokens-at c =
@@ -36,5 +38,6 @@ bounds-tokens-at c =
 pub reading-preserved : goal.reading-preserved
 reading-preserved c =
     rw (c.in_ok-push.ensures.ok, c.in_ok-literal.ensures)
-    (next_statement c.args.tokens.now c.reading.statements c.reading.at c.requires c.reading.invariant.0 c.reading.invariant.1 c.reading.invariant.2
+    (next_statement c.args.tokens.now c.reading.statements c.reading.at c.requires c.reading.invariant.0 c.reading.invariant.1
+    c.reading.invariant.2
     c.index-tokens-at.result c.in_ok-expect.ensures.ok c.index-tokens-at.is)

@@ -10,8 +10,10 @@ returns-clause-scope c =
 
 pub returns-clause-class : goal.returns-clause-class
 returns-clause-class c =
-    class_entered c.args.r.now.walk.scope c.args.captures.now c.args.heading c.args.body.now c.enter_body.new.scope c.number_at-number.result
+    class_entered c.args.r.now.walk.scope c.args.captures.now c.args.heading c.args.body.now c.enter_body.new.scope
+    c.number_at-number.result
     c.in_ok-from_slice.field-0 c.in_ok-captured.captured c.new-fields.result c.add_parameters.new.fields c.add_fields.new.fields
     c.as_slice.result.now c.as_slice-3.result.now c.count_conditions.result
-    c.in_ok-enter_body.ensures c.number_at-number.ensures (c.in_ok-from_slice.ensures ∙ c.as_slice-2.ensures) c.in_ok-captured.ensures c.new-fields.ensures
+    c.in_ok-enter_body.ensures c.number_at-number.ensures (c.in_ok-from_slice.ensures ∙ c.as_slice-2.ensures)
+    c.in_ok-captured.ensures c.new-fields.ensures
     c.in_ok-add_parameters.ensures c.as_slice.ensures c.in_ok-add_fields.ensures c.as_slice-3.ensures c.count_conditions.ensures

@@ -20,10 +20,17 @@ returns-in_ok-resolve-in-Expression-clause-core c =
     let of = c.type_or-of.ensures
     ∙ ap type_or
     (c.in_ok-constant_type-in-Expression.ensures
-    ∙ ap (constant_type r.walk.scope c.args.c.now.of) (c.form_of.ensures ∙ sym (ap (λ (p : judged.Part). p.form) (same_part c.in-Expression.e)))) in
+    ∙ ap (constant_type r.walk.scope c.args.c.now.of)
+    (c.form_of.ensures ∙ sym (ap (λ (p : judged.Part). p.form) (same_part c.in-Expression.e)))) in
     subst (λ x. OnOk c.push.result (c.push.new.self ≡ c.args.found.now ++ x))
     (ap (λ t. record { number = c.args.number; of = t; value = h.field-0 } ∷ []) of
-    ∙ ap (λ v. record { number = c.args.number; of = type_or (constant_type r.walk.scope c.args.c.now.of (part_of c.in-Expression.e).part.form); value = v } ∷ [])
+    ∙ ap (λ v.
+    record {
+      number = c.args.number;
+      of =
+          type_or (constant_type r.walk.scope c.args.c.now.of (part_of c.in-Expression.e).part.form);
+      value = v;
+    } ∷ [])
     h.ensures.core
     ∙ ap (constant_core (env_of r) c.args.number c.args.c.now) (sym c.in-Expression.is))
     c.push.ensures.ok

@@ -9,4 +9,5 @@ returns-then-of_first-count-clause-left c = rest_at (Turn 0 0) c.args.of_first c
 pub returns-else-of_first-count-clause-left : goal.returns-else-of_first-count-clause-left
 returns-else-of_first-count-clause-left c =
     c.without_empty.ensures.same
-    ∙ behind_at _ c.args.of_first c.args.lines.now c.entry_count-count.result c.in-len1-up.len_at_least c.requires c.entry_count-count.ensures c.if-of_first-count.false
+    ∙ behind_at _ c.args.of_first c.args.lines.now c.entry_count-count.result c.in-len1-up.len_at_least c.requires
+    c.entry_count-count.ensures c.if-of_first-count.false

@@ -4,7 +4,8 @@ use Rattle.ec_driver.proofs.drive.drive.Given as goal
 
 -- the run has come so far
 abbrev pub invariant-entries : goal.invariant-entries
-invariant-entries g l = (statuses : List ProcStatus) × g.D.Driver.Stands l.driver l.initial.state l.schedule l.budget statuses l.course l.state
+invariant-entries g l = (statuses : List ProcStatus)
+    × g.D.Driver.Stands l.driver l.initial.state l.schedule l.budget statuses l.course l.state
 
 abbrev pub decreases-entries : goal.decreases-entries
 decreases-entries g l = l.budget - l.course.done

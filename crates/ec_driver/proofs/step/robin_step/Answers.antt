@@ -9,15 +9,18 @@ returns-then-are_over c = step_finished c.args.statuses.now c.args.budget c.args
 
 pub returns-in_default : goal.returns-in_default
 returns-in_default c =
-    let next = ap (λ (ready : List Bool). next_ready_of ready c.args.last) (sym c.requires.marks) ∙ (sym c.next_ready.ensures ∙ c.in_default.is) in
+    let next = ap (λ (ready : List Bool). next_ready_of ready c.args.last) (sym c.requires.marks)
+    ∙ (sym c.next_ready.ensures ∙ c.in_default.is) in
     step_stuck c.args.statuses.now c.args.budget c.args.done c.args.last (sym c.if-are_over.ensures) next
 
 pub returns-then-done-budget : goal.returns-then-done-budget
 returns-then-done-budget c =
-    let next = ap (λ (ready : List Bool). next_ready_of ready c.args.last) (sym c.requires.marks) ∙ (sym c.next_ready.ensures ∙ c.in-Some.is) in
+    let next = ap (λ (ready : List Bool). next_ready_of ready c.args.last) (sym c.requires.marks)
+    ∙ (sym c.next_ready.ensures ∙ c.in-Some.is) in
     step_spent c.args.statuses.now c.args.budget c.args.done c.args.last (sym c.if-are_over.ensures) c.in-Some.p next (omega arith)
 
 pub returns : goal.returns
 returns c =
-    let next = ap (λ (ready : List Bool). next_ready_of ready c.args.last) (sym c.requires.marks) ∙ (sym c.next_ready.ensures ∙ c.in-Some.is) in
+    let next = ap (λ (ready : List Bool). next_ready_of ready c.args.last) (sym c.requires.marks)
+    ∙ (sym c.next_ready.ensures ∙ c.in-Some.is) in
     step_turn c.args.statuses.now c.args.budget c.args.done c.args.last (sym c.if-are_over.ensures) c.in-Some.p next (omega arith)

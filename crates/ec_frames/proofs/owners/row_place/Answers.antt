@@ -9,4 +9,5 @@ returns-then-eq-clause-some c =
     stands c.args.rows.now c.at.result.now c.loop-i.i c.args.key c.at.ensures same c.loop-i.invariant
 
 pub returns-clause-none : goal.returns-clause-none
-returns-clause-none c = row_none c.args.rows.now c.args.key (λ k q e. c.loop-i.invariant k q (let l = get_within c.args.rows.now k q e in omega arith) e)
+returns-clause-none c = row_none c.args.rows.now c.args.key
+    (λ k q e. c.loop-i.invariant k q (let l = get_within c.args.rows.now k q e in omega arith) e)

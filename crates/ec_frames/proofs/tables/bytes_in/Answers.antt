@@ -5,7 +5,8 @@ use Rattle.ec_nodes.specs.Store.{text_bytes}
 use Rattle.ec_frames.proofs.tables.bytes_in.Goals as goal
 
 -- the next text and those behind it
-next : (pool : List (List ℕ)) (i : ℕ) (text : List ℕ) → slice_get pool i ≡ Some text → text_bytes (drop i pool) ≡ length text + text_bytes (drop (i + 1) pool)
+next : (pool : List (List ℕ)) (i : ℕ) (text : List ℕ) → slice_get pool i ≡ Some text →
+    text_bytes (drop i pool) ≡ length text + text_bytes (drop (i + 1) pool)
 next pool i text e = ap text_bytes (drop_at pool i text e)
 
 pub overflow_cast-bytes : goal.overflow_cast-bytes

@@ -14,7 +14,8 @@ set_word-requires c =
     let lists = c.loop-i.invariant.lists in
     let within : c.args.block < length c.loop-i.memory.links = subst (λ l. c.args.block < length l) (sym lists.links) c.requires.block_in in
     subst (HasWord (store_byte c.loop-i.memory)) (sym c.block_word.ensures)
-    (block_word_there c.loop-i.memory (whole_same c.args.memory.now c.loop-i.memory c.requires.whole lists) c.args.block c.loop-i.i within (omega arith))
+    (block_word_there c.loop-i.memory (whole_same c.args.memory.now c.loop-i.memory c.requires.whole lists) c.args.block c.loop-i.i
+    within (omega arith))
 
 pub loop-i-preserved : goal.loop-i-preserved
 loop-i-preserved c =

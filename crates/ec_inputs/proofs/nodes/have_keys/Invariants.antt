@@ -5,4 +5,6 @@ use Rattle.ec_inputs.specs.Nodes as spec
 use Rattle.ec_inputs.proofs.nodes.have_keys.Given as goal
 
 abbrev pub invariant-loop-table : goal.invariant-loop-table
-invariant-loop-table l = list_all spec.has_keys (map (λ t. table_view t.now) (drop l.table-index l.tables)) ≡ list_all spec.has_keys (map (λ t. table_view t.now) l.tables)
+invariant-loop-table l =
+    list_all spec.has_keys (map (λ t. table_view t.now) (drop l.table-index l.tables)) ≡ list_all spec.has_keys
+    (map (λ t. table_view t.now) l.tables)

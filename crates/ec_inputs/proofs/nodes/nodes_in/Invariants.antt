@@ -5,4 +5,5 @@ use Rattle.ec_inputs.proofs.nodes.nodes_in.Given as goal
 
 abbrev pub invariant-loop-table : goal.invariant-loop-table
 invariant-loop-table l =
-    option_map (λ rest. l.nodes.items ++ rest) (spec.nodes_in (map (λ t. table_view t.now) (drop l.table-index l.tables))) ≡ spec.nodes_in (map (λ t. table_view t.now) l.tables)
+    option_map (λ rest. l.nodes.items ++ rest)
+    (spec.nodes_in (map (λ t. table_view t.now) (drop l.table-index l.tables))) ≡ spec.nodes_in (map (λ t. table_view t.now) l.tables)

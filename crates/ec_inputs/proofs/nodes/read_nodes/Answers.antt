@@ -14,15 +14,18 @@ pub returns-in-Ok-clause-nodes : goal.returns-in-Ok-clause-nodes
 returns-in-Ok-clause-nodes c =
     let read = document_read c.args.bytes.now (table_view c.in-Ok.document) c.in-Ok.ensures.ok.0 c.in-Ok.ensures.ok.1 in
     let same = of_document c.args.bytes.now _ c.if-bytes-gt-LONGEST.false read in
-    subst (λ (r : Result (List NodeSpec) NodeRule). IfOk c.nodes_of.result (λ nodes. r ≡ Ok nodes.items)) (sym same) c.nodes_of.ensures.nodes
+    subst (λ (r : Result (List NodeSpec) NodeRule). IfOk c.nodes_of.result (λ nodes. r ≡ Ok nodes.items)) (sym same)
+    c.nodes_of.ensures.nodes
 
 pub returns-in-Ok-clause-refused : goal.returns-in-Ok-clause-refused
 returns-in-Ok-clause-refused c =
     let read = document_read c.args.bytes.now (table_view c.in-Ok.document) c.in-Ok.ensures.ok.0 c.in-Ok.ensures.ok.1 in
     let same = of_document c.args.bytes.now _ c.if-bytes-gt-LONGEST.false read in
-    subst (λ (r : Result (List NodeSpec) NodeRule). IfErr c.nodes_of.result (λ error. IfRefused error (λ q. r ≡ Err q))) (sym same) c.nodes_of.ensures.refused
+    subst (λ (r : Result (List NodeSpec) NodeRule). IfErr c.nodes_of.result (λ error. IfRefused error (λ q. r ≡ Err q))) (sym same)
+    c.nodes_of.ensures.refused
 
 pub returns-else-is_memory-clause-refused : goal.returns-else-is_memory-clause-refused
 returns-else-is_memory-clause-refused c =
     let known = c.if-is_memory.ensures in
-    no_document c.args.bytes.now c.if-bytes-gt-LONGEST.false (document_refused c.args.bytes.now (c.in-Err.ensures.refused (λ m. true≢false (sym (known.1 m)))))
+    no_document c.args.bytes.now c.if-bytes-gt-LONGEST.false
+    (document_refused c.args.bytes.now (c.in-Err.ensures.refused (λ m. true≢false (sym (known.1 m)))))

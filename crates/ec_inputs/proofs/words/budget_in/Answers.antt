@@ -4,7 +4,8 @@ use Rattle.ec_inputs.proofs.Reading.{budget_read}
 use Rattle.ec_inputs.proofs.words.budget_in.Goals as goal
 
 pub unwrap-requires : goal.unwrap-requires
-unwrap-requires c = let read = budget_read (found_of c.args.found.now) c.get_one.result c.get_one.ensures.value c.requires in rw read.some refl
+unwrap-requires c = let read =
+    budget_read (found_of c.args.found.now) c.get_one.result c.get_one.ensures.value c.requires in rw read.some refl
 
 pub returns-clause-number : goal.returns-clause-number
 returns-clause-number c =

@@ -9,7 +9,8 @@ use Rattle.ec_inputs.proofs.words.words_of.Goals as goal
 pub returns-in-Err-clause-words : goal.returns-in-Err-clause-words
 returns-in-Err-clause-words c = sym (refused _ _ _ c.in_ok-command.ensures c.in-Err.ensures.kinds
     (λ e. let f : false ≡ sameb kind_type c.kind.result kinds.OutOfMemory = c.if-eq.ensures in
-    let g : sameb kind_type c.kind.result kinds.OutOfMemory ≡ true = ap (λ x. sameb kind_type x kinds.OutOfMemory) (c.kind.ensures ∙ e) in cc))
+    let g : sameb kind_type c.kind.result kinds.OutOfMemory ≡ true =
+    ap (λ x. sameb kind_type x kinds.OutOfMemory) (c.kind.ensures ∙ e) in cc))
 
 pub command_of-requires-clause-run : goal.command_of-requires-clause-run
 command_of-requires-clause-run c is_run =
@@ -33,4 +34,5 @@ returns-in-Some-clause-words c =
     let found : subcommand_rows_of m ≡ Some (c.in-Some.name.now, rows_of (found_of c.in-Some.found.now)) =
     pairs (subcommand_rows_of m) _ _ (names m ∙ sym c.in-Some.ensures.name) (sym c.in-Some.ensures.rows) in
     c.command_of.ensures.words
-    ∙ sym (answered _ _ _ c.in_ok-command.ensures c.in-Ok.ensures.kinds (sym found ∙ (c.in-Ok.ensures.matches (ap is_simple c.in_ok-command.ensures ∙ simple_too)).1))
+    ∙ sym (answered _ _ _ c.in_ok-command.ensures c.in-Ok.ensures.kinds
+    (sym found ∙ (c.in-Ok.ensures.matches (ap is_simple c.in_ok-command.ensures ∙ simple_too)).1))

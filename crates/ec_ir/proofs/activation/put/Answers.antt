@@ -5,7 +5,8 @@ use Rattle.ec_ir.proofs.activation.put.Goals as goal
 
 pub returns-then-len-at : goal.returns-then-len-at
 returns-then-len-at c =
-    let e = sym (put_end c.pad.new.variables c.args.value c.args.at (omega (arith, c.len.ensures, c.if-len-at.true))) ∙ c.in_ok-pad.ensures.same c.args.value in
+    let e = sym (put_end c.pad.new.variables c.args.value c.args.at (omega (arith, c.len.ensures, c.if-len-at.true)))
+    ∙ c.in_ok-pad.ensures.same c.args.value in
     grind (arith, common_steps, e)
 
 pub returns : goal.returns

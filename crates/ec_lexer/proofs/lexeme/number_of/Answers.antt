@@ -10,12 +10,15 @@ grows : (digits : List ℕ) (n : ℕ) → n ≤ fold by_digit n digits
 grows [] n = omega arith
 grows (d ∷ digits) n = omega (arith, grows digits (by_digit n d))
 
-large : (digits : List ℕ) (i n more : ℕ) → i < length digits → fold by_digit n (drop i digits) ≡ number_of digits → more ≡ by_digit n (get_or digits i 0) →
+large : (digits : List ℕ) (i n more : ℕ) → i < length digits → fold by_digit n (drop i digits) ≡ number_of digits →
+    more ≡ by_digit n (get_or digits i 0) →
     greatest < more → greatest < number_of digits
 large digits i n more h e m g =
-    let s : fold by_digit n (drop i digits) ≡ fold by_digit (by_digit n (get_or digits i 0)) (drop (i + 1) digits) = at_drop_more (fold by_digit n) digits i 0 h in
+    let s : fold by_digit n (drop i digits) ≡ fold by_digit (by_digit n (get_or digits i 0)) (drop (i + 1) digits) =
+    at_drop_more (fold by_digit n) digits i 0 h in
     omega (arith, grows (drop (i + 1) digits) (by_digit n (get_or digits i 0)))
 
 pub returns-then-more-gt-GREATEST-clause-large : goal.returns-then-more-gt-GREATEST-clause-large
 returns-then-more-gt-GREATEST-clause-large c e =
-    large c.args.digits.now c.loop-digit.digit-index c.loop-digit.number (c.from.result * 10 + c.from-in-loop-digit.result) (omega arith) c.loop-digit.invariant.1 (omega arith) (omega arith)
+    large c.args.digits.now c.loop-digit.digit-index c.loop-digit.number (c.from.result * 10 + c.from-in-loop-digit.result)
+    (omega arith) c.loop-digit.invariant.1 (omega arith) (omega arith)

@@ -10,5 +10,8 @@ less text (suc n) h e =
     ap (λ k. symbol_up_to k text) one ∙ sym (ap (λ found. or_else found (suc n) (symbol_up_to n text)) e)
 
 pub loop-end-preserved : goal.loop-end-preserved
-loop-end-preserved c =
-    (less c.args.text.now c.loop-end.end (omega arith) (sym c.symbol_of.ensures ∙ c.in_default.is) ∙ c.loop-end.invariant.0, omega (arith, c.loop-end.invariant.1))
+loop-end-preserved c = (
+  less c.args.text.now c.loop-end.end (omega arith) (sym c.symbol_of.ensures ∙ c.in_default.is)
+      ∙ c.loop-end.invariant.0,
+  omega (arith, c.loop-end.invariant.1),
+)

@@ -9,4 +9,5 @@ new-requires c = fine c.args.program.now.constant c.in_ok-parts.parts c.requires
 pub returns-clause-means : goal.returns-clause-means
 returns-clause-means c =
     let h = c.in_ok-parts.ensures in
-    rw c.new.ensures (means c.args.program.now c.in_ok-parts.parts (has_entries c.args.program.now c.in_ok-parts.parts h.operations) h.classes h.globals)
+    rw c.new.ensures
+    (means c.args.program.now c.in_ok-parts.parts (has_entries c.args.program.now c.in_ok-parts.parts h.operations) h.classes h.globals)

@@ -5,5 +5,6 @@ use Rattle.ec_lower.proofs.lower.parts_of_constant.Goals as goal
 
 pub print_literals-requires : goal.print_literals-requires
 print_literals-requires c =
-    let e : length c.in_ok-places.places ≡ length c.args.constant.now.value.initially = all-length (IsTextOf _) _ _ c.in_ok-places.ensures.texts in
+    let e : length c.in_ok-places.places ≡ length c.args.constant.now.value.initially =
+    all-length (IsTextOf _) _ _ c.in_ok-places.ensures.texts in
     omega arith

@@ -12,4 +12,5 @@ pub returns : goal.returns
 returns c =
     let past : length c.args.places.now ≤ c.loop-i.i = omega arith in
     let place : 2 * c.len.result + 1 ≡ 2 * c.loop-i.i + 1 = omega arith in
-    stops_end _ _ _ c.args.places.now c.loop-i.i (2 * c.len.result + 1) _ past c.loop-i.invariant place (search rules) c.in_ok-push-3.ensures.ok
+    stops_end _ _ _ c.args.places.now c.loop-i.i (2 * c.len.result + 1) _ past c.loop-i.invariant place (search rules)
+    c.in_ok-push-3.ensures.ok

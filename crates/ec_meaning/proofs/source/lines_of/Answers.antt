@@ -11,7 +11,8 @@ loop-b-preserved c =
     elim c.if-b-eq10.branch [
       | then-b-eq10 w ↦
           lines_next text at c.loop-b.lines.items c.loop-b.line c.if-b-eq10.line c.push-in-loop-b.new.self.items known
-          (w.line-is ∙ ap (λ n. n + 1) known.last ∙ sym (line_behind text at c.loop-b-test.true w.if-b-eq10.true)) (omega (arith, known.low, w.line-is))
+          (w.line-is ∙ ap (λ n. n + 1) known.last ∙ sym (line_behind text at c.loop-b-test.true w.if-b-eq10.true))
+          (omega (arith, known.low, w.line-is))
           c.in_ok-push-2.ensures.items
       | else-b-eq10 w ↦
           lines_next text at c.loop-b.lines.items c.loop-b.line c.if-b-eq10.line c.push-in-loop-b.new.self.items known

@@ -21,5 +21,7 @@ loop-i-preserved c =
       laid = c.in_ok-_place.ensures.laid;
       same = same_twice _ _ _ c.loop-i.invariant.same c.in_ok-_place.ensures.same;
       only = only_twice _ _ _ c.loop-i.invariant.only c.in_ok-_place.ensures.interns.only;
-      pool = next_pool c.loop-i.node c.intern.new.self c.in_ok-text.text c.in_ok-_place._place c.in_ok-_place.ensures.laid.tidy c.in_ok-_place.ensures.interns c.args.texts.now c.loop-i.i c.requires.once at c.loop-i.invariant.pool c.in_ok-_place.ensures.at_end;
+      pool = next_pool c.loop-i.node c.intern.new.self c.in_ok-text.text c.in_ok-_place._place c.in_ok-_place.ensures.laid.tidy
+          c.in_ok-_place.ensures.interns c.args.texts.now c.loop-i.i c.requires.once at c.loop-i.invariant.pool
+          c.in_ok-_place.ensures.at_end;
     }

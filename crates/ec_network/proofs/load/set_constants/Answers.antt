@@ -18,7 +18,8 @@ loop-i-preserved c = record {
   laid = c.set_global.ensures.laid;
   same = same_twice _ _ _ c.loop-i.invariant.same c.set_global.ensures.same;
   only = constants_more _ _ _ _ c.set_global.ensures.writes _ c.loop-i.invariant.only;
-  constants = constants_next _ _ _ _ c.set_global.ensures.writes c.args.types.now c.at.result.now c.args.empty c.at.ensures c.first_word.ensures (c.loop-i.invariant.only.text c.args.empty ∙ c.requires.text) c.loop-i.invariant.constants;
+  constants = constants_next _ _ _ _ c.set_global.ensures.writes c.args.types.now c.at.result.now c.args.empty c.at.ensures
+      c.first_word.ensures (c.loop-i.invariant.only.text c.args.empty ∙ c.requires.text) c.loop-i.invariant.constants;
 }
 
 pub returns-clause-constants : goal.returns-clause-constants

@@ -18,7 +18,8 @@ objects-preserved c =
     let whole = c.args.out.now.items ++ lines_of_objects name w c.args.specs.now in
     let pushed = rw c.if-branch.true at c.in_ok-push_object.ensures in
     let next : c.in-Some-checked_add.next ≡ c.objects.oid + 1 = omega (arith, c.in-Some-checked_add.ensures) in
-    rw next (rest_next name w c.args.specs.now c.objects.oid c.objects.out.items c.push_object.new.out.items whole c.objects.invariant pushed)
+    rw next (rest_next name w c.args.specs.now c.objects.oid c.objects.out.items c.push_object.new.out.items whole
+    c.objects.invariant pushed)
 
 pub returns : goal.returns
 returns c =

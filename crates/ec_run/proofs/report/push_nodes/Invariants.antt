@@ -4,4 +4,5 @@ use Rattle.ec_report.specs.Report.{node_lines}
 use Rattle.ec_run.proofs.report.push_nodes.Given as goal
 
 abbrev pub invariant-loop-k : goal.invariant-loop-k
-invariant-loop-k l = l.out.items ++ node_lines (counts_of l.net) l.k (drop l.k l.specs) ≡ l.initial.out.items ++ node_lines (counts_of l.net) 0 l.specs
+invariant-loop-k l = l.out.items ++ node_lines (counts_of l.net) l.k (drop l.k l.specs) ≡ l.initial.out.items
+    ++ node_lines (counts_of l.net) 0 l.specs

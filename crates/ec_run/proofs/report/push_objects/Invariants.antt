@@ -7,7 +7,9 @@ use Rattle.ec_report.specs.ObjectLines.{RestOfObjects}
 use Rattle.ec_run.proofs.report.push_objects.Given as goal
 
 abbrev pub invariant-objects : goal.invariant-objects
-invariant-objects l = ForShown rv_meaning l.net (λ c w. RestOfObjects (name_of w.common.classes) w l.specs l.oid l.out.items (l.initial.out.items ++ lines_of_objects (name_of w.common.classes) w l.specs))
+invariant-objects l = ForShown rv_meaning l.net
+    (λ c w. RestOfObjects (name_of w.common.classes) w l.specs l.oid l.out.items
+    (l.initial.out.items ++ lines_of_objects (name_of w.common.classes) w l.specs))
 
 abbrev pub decreases-objects : goal.decreases-objects
 decreases-objects l = 2 ^ 32 - l.oid

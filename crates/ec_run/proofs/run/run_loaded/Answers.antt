@@ -29,6 +29,9 @@ returns c =
     let done = c.in_ok-ended.ended.done in
     let end = c.in_ok-ended.ended.end in
     let loaded = ap (λ (n : Net). n.loaded) f.is in
-    if_ok_two (λ (a : Answer). ForShown rv_meaning net (λ k v. a.status ≡ status_of (statuses_of v) end)) (λ (a : Answer). ForShown rv_meaning net (λ k v. a.text.items ≡ run_report v c.args.specs.now (counts_of net) done end)) (λ (a : Answer). IsReported c.args.specs.now c.args.schedule.now c.args.budget c.args.net.now net a.status a.text.items)
+    if_ok_two (λ (a : Answer). ForShown rv_meaning net (λ k v. a.status ≡ status_of (statuses_of v) end))
+    (λ (a : Answer). ForShown rv_meaning net (λ k v. a.text.items ≡ run_report v c.args.specs.now (counts_of net) done end))
+    (λ (a : Answer). IsReported c.args.specs.now c.args.schedule.now c.args.budget c.args.net.now net a.status a.text.items)
     c.answer_end.result c.answer_end.ensures.status c.answer_end.ensures.text
-    (λ a s t. record { done = done; how = end; ended = e; status_is = s f.now f.world loaded f.holds; text_is = t f.now f.world loaded f.holds })
+    (λ a s t.
+    record { done = done; how = end; ended = e; status_is = s f.now f.world loaded f.holds; text_is = t f.now f.world loaded f.holds })

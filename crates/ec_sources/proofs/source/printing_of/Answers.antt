@@ -9,4 +9,5 @@ place_of-requires c = let short = c.requires.1.has_tokens.short in omega arith
 pub returns-in-Err-Outside-clause-refused : goal.returns-in-Err-Outside-clause-refused
 returns-in-Err-Outside-clause-refused c =
     rw (c.refuse.ensures, c.place_of.ensures)
-    (later c.requires.1 (subst (λ error. IsLeavingCause c.args.tokens.now error) c.in-Err-Outside.field-0-is c.in-Err-Outside.ensures.outside))
+    (later c.requires.1
+    (subst (λ error. IsLeavingCause c.args.tokens.now error) c.in-Err-Outside.field-0-is c.in-Err-Outside.ensures.outside))

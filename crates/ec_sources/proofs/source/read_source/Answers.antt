@@ -21,4 +21,11 @@ returns-clause-program c =
     let accepted = c.in_ok-accepted.accepted in
     if_ok_one (λ (p : Program). printing.HasTree accepted.tokens p) (λ (p : Program). IsSource c.args.text.now p)
     c.printing_of.result (rw c.as_slice.ensures at c.printing_of.ensures.tree)
-    (λ p tree. record { tokens = accepted.tokens; whole_program = accepted.checked.program; is_program = c.in_ok-accepted.ensures.program; is_printing = tree })
+    (λ p tree.
+    record {
+      tokens = accepted.tokens;
+      whole_program = accepted.checked.program;
+      is_program =
+          c.in_ok-accepted.ensures.program;
+      is_printing = tree;
+    })

@@ -14,7 +14,8 @@ returns-then-n-tokens c =
 pub returns-then-not-is_terminal : goal.returns-then-not-is_terminal
 returns-then-not-is_terminal c =
     subst (λ x. FitInTurn c.args.terminals.now c.args.tokens.now x) (omega arith)
-    (c.loop-n.invariant.1 0 (another_next c.args.terminals.now c.args.tokens.now c.loop-n.n (Word And) c.index-tokens-n.result c.loop-n-test.true (omega arith)
+    (c.loop-n.invariant.1 0
+    (another_next c.args.terminals.now c.args.tokens.now c.loop-n.n (Word And) c.index-tokens-n.result c.loop-n-test.true (omega arith)
     (iff_false c.is_terminal.ensures c.if-not-is_terminal.true)))
 
 pub loop-n-preserved : goal.loop-n-preserved
@@ -22,7 +23,9 @@ loop-n-preserved c = (
   omega arith,
   λ m f.
       subst (λ x. FitInTurn c.args.terminals.now c.args.tokens.now x) (omega arith)
-      (c.loop-n.invariant.1 (suc m) (one_more_next c.args.terminals.now c.args.tokens.now c.loop-n.n (Word And) c.index-tokens-n.result m c.loop-n-test.true (omega arith)
+      (c.loop-n.invariant.1 (suc m)
+      (one_more_next c.args.terminals.now c.args.tokens.now c.loop-n.n (Word And) c.index-tokens-n.result m c.loop-n-test.true
+      (omega arith)
       (c.is_terminal.ensures.0 c.if-not-is_terminal.false) f)),
 )
 

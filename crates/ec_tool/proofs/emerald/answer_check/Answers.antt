@@ -23,9 +23,28 @@ returns-in-Ok g c =
     let faults' = g.F.Shelf.faults c.read_file.new.shelf in
     let source = c.in-Ok.source.items in
     implied (λ (s : Status) (t : List ℕ). (any : CheckWords) (net : Net) → Judged (command.Check any) (only source) net net s t)
-    (λ (s : Status) (t : List ℕ). (net : Net) → WhereAsked asked (λ ws. Verdict (g.F.Shelf.tells c.args.shelf.now) (record { words = ws; content = content; kept = kept; faults = faults; faults_after = faults'; net = net; net_after = net }) s t))
+    (λ (s : Status) (t : List ℕ). (net : Net) →
+    WhereAsked asked
+    (λ ws. Verdict (g.F.Shelf.tells c.args.shelf.now)
+    (record {
+      words = ws;
+      content = content;
+      kept = kept;
+      faults = faults;
+      faults_after = faults';
+      net =
+          net;
+      net_after = net;
+    }) s t))
     c.judge_source.result (rw c.deref.ensures.value at c.judge_source.ensures)
-    (λ s t j net ws w. IsJudged (record { asked = asked; held = only source; words_are = w; are_read = λ told. source_read content check source (c.in-Ok.ensures.read told) }) s t c.in-Ok.ensures.ok (j check net))
+    (λ s t j net ws w. IsJudged
+    (record {
+      asked = asked;
+      held = only source;
+      words_are = w;
+      are_read =
+          λ told. source_read content check source (c.in-Ok.ensures.read told);
+    }) s t c.in-Ok.ensures.ok (j check net))
 
 pub returns-in-Err-Failed : goal.returns-in-Err-Failed
 returns-in-Err-Failed g c =
@@ -36,7 +55,19 @@ returns-in-Err-Failed g c =
     let faults = g.F.Shelf.faults c.args.shelf.now in
     let faults' = g.F.Shelf.faults c.read_file.new.shelf in
     let failed = rw c.in-Err-Failed.field-0-is at c.in-Err-Failed.ensures.failed in
-    said (λ (s : Status) (t : List ℕ). (net : Net) → WhereAsked asked (λ ws. Verdict (g.F.Shelf.tells c.args.shelf.now) (record { words = ws; content = content; kept = kept; faults = faults; faults_after = faults'; net = net; net_after = net }) s t))
+    said (λ (s : Status) (t : List ℕ). (net : Net) →
+    WhereAsked asked
+    (λ ws. Verdict (g.F.Shelf.tells c.args.shelf.now)
+    (record {
+      words = ws;
+      content = content;
+      kept = kept;
+      faults = faults;
+      faults_after = faults';
+      net =
+          net;
+      net_after = net;
+    }) s t))
     statuses.ReadFault (fault_line Source)
     c.read_fault.result (rw failed.0 at c.read_fault.ensures)
     (λ net ws w. ReadFailed asked Source w

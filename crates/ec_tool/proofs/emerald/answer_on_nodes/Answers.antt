@@ -23,9 +23,27 @@ returns-in-Ok g c =
     let net' = c.judge.new.net in
     let held = held_in c.in-Ok.files in
     implied (λ (s : Status) (t : List ℕ). Judged asked held net net' s t)
-    (λ (s : Status) (t : List ℕ). WhereAsked asked (λ ws. Verdict (g.F.Shelf.tells c.args.shelf.now) (record { words = ws; content = content; kept = kept; faults = faults; faults_after = faults'; net = net; net_after = net' }) s t))
+    (λ (s : Status) (t : List ℕ). WhereAsked asked
+    (λ ws. Verdict (g.F.Shelf.tells c.args.shelf.now)
+    (record {
+      words = ws;
+      content = content;
+      kept = kept;
+      faults = faults;
+      faults_after = faults';
+      net = net;
+      net_after =
+          net';
+    }) s t))
     c.judge.result c.judge.ensures
-    (λ s t j ws w. IsJudged (record { asked = asked; held = held; words_are = w; are_read = λ told. all_read content c.args.work words held (c.in-Ok.ensures.read told) }) s t c.in-Ok.ensures.ok j)
+    (λ s t j ws w. IsJudged
+    (record {
+      asked = asked;
+      held = held;
+      words_are = w;
+      are_read =
+          λ told. all_read content c.args.work words held (c.in-Ok.ensures.read told);
+    }) s t c.in-Ok.ensures.ok j)
 
 pub returns-in-Err-Failed : goal.returns-in-Err-Failed
 returns-in-Err-Failed g c =
@@ -37,7 +55,18 @@ returns-in-Err-Failed g c =
     let faults' = g.F.Shelf.faults c.read_files.new.shelf in
     let net = c.args.net.now in
     let file = c.in-Err-Failed.file in
-    said (λ (s : Status) (t : List ℕ). WhereAsked asked (λ ws. Verdict (g.F.Shelf.tells c.args.shelf.now) (record { words = ws; content = content; kept = kept; faults = faults; faults_after = faults'; net = net; net_after = net }) s t))
+    said (λ (s : Status) (t : List ℕ). WhereAsked asked
+    (λ ws. Verdict (g.F.Shelf.tells c.args.shelf.now)
+    (record {
+      words = ws;
+      content = content;
+      kept = kept;
+      faults = faults;
+      faults_after = faults';
+      net = net;
+      net_after =
+          net;
+    }) s t))
     statuses.ReadFault (fault_line file)
     c.read_fault.result (rw c.in-Err-Failed.file-is at c.read_fault.ensures)
     (λ ws w. ReadFailed asked file w (stops c.args.work words file

@@ -20,7 +20,8 @@ returns-in-Err-Refused c =
     let source = f.source.items in
     let refused = c.in-Err-Refused.refused in
     let why = rw c.deref.ensures.value at (rw c.in-Err-Refused.field-0-is at c.in-Err-Refused.ensures.refused) in
-    said (λ (s : Status) (t : List ℕ). Judged (asked_of c.args.work words) (held_in f) net net s t) statuses.SourceRefused (refused_line source refused.refusal refused.at)
+    said (λ (s : Status) (t : List ℕ). Judged (asked_of c.args.work words) (held_in f) net net s t) statuses.SourceRefused
+    (refused_line source refused.refusal refused.at)
     c.source_refused.result (rw c.deref-in-Err-Refused.ensures.value at c.source_refused.ensures)
     (SourceRefused refused.refusal refused.at (refuses c.args.work words source refused why) refl)
 
@@ -47,8 +48,10 @@ returns-in-Err-Refused-read_schedule c =
     let line = c.in-Err-Refused-read_schedule.line in
     let taken = rw c.deref.ensures.value at c.in-Ok.ensures.taken in
     let nodes_are = rw c.deref-2.ensures.value at c.in-Ok-read_nodes.ensures.nodes in
-    let broken = rw c.deref-3.ensures.value at (rw c.in-Err-Refused-read_schedule.field-0-is at c.in-Err-Refused-read_schedule.ensures.refused) in
-    said (λ (s : Status) (t : List ℕ). Judged (asked_of c.args.work words) (held_in f) net net s t) statuses.InputRefused (schedule_line rule line)
+    let broken = rw c.deref-3.ensures.value at
+    (rw c.in-Err-Refused-read_schedule.field-0-is at c.in-Err-Refused-read_schedule.ensures.refused) in
+    said (λ (s : Status) (t : List ℕ). Judged (asked_of c.args.work words) (held_in f) net net s t) statuses.InputRefused
+    (schedule_line rule line)
     c.schedule_refused.result c.schedule_refused.ensures
     (ScheduleRefused c.in-Ok-read_nodes.specs.items rule line (takes c.args.work words source c.in-Ok.taken taken) nodes_are broken refl)
 
@@ -75,6 +78,11 @@ returns-in-Ok-read_schedule c =
     let entries_are = rw c.deref-3.ensures.value at c.in-Ok-read_schedule.ensures.entries in
     implied (λ (s : Status) (t : List ℕ). TakenComesTo c.in-Ok.taken source specs entries c.args.run.budget net net' s t)
     (λ (s : Status) (t : List ℕ). Judged (asked_of c.args.work words) (held_in f) net net' s t)
-    c.come_to_end.result (rw (c.deref-in-Ok-read_schedule.ensures.value, c.deref-in-Ok-read_schedule-2.ensures.value, c.deref-in-Ok-read_schedule-3.ensures.value) at c.come_to_end.ensures)
+    c.come_to_end.result
+    (rw (
+      c.deref-in-Ok-read_schedule.ensures.value,
+      c.deref-in-Ok-read_schedule-2.ensures.value,
+      c.deref-in-Ok-read_schedule-3.ensures.value,
+    ) at c.come_to_end.ensures)
     (λ s t h. IsEnded specs entries s t nodes_are entries_are
     (comes_to c.args.work words source c.in-Ok.taken specs entries net net' s t taken h))

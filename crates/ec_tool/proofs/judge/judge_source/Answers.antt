@@ -21,7 +21,8 @@ returns c =
           let found = w.in-Ok.field-0 in
           rw w.result-is
           (said P statuses.Finished accepted_line w.accepted.result w.accepted.ensures
-          (λ check net. Accepts (record { tokens = found.tokens; program = found.checked.program; is_program = w.in-Ok.ensures.program }) refl))
+          (λ check net. Accepts
+          (record { tokens = found.tokens; program = found.checked.program; is_program = w.in-Ok.ensures.program }) refl))
       | in-Err-Refused w ↦
           let refused = w.in-Err-Refused.refused in
           rw w.result-is

@@ -9,7 +9,8 @@ pub loop-i-preserved : goal.loop-i-preserved
 loop-i-preserved c = elim c.if-at.branch [
   | then-at+in_ok-number_of+in_ok-push w ↦
       let at : slice_get c.args.marks.now c.loop-i.i ≡ Some true = cc (c.at.ensures, w.if-at.true) in
-      let items : c.if-at.oids.items ≡ c.loop-i.oids.items ++ (c.loop-i.i + 1) ∷ [] = cc (w.oids-is, w.in_ok-push.ensures.items, w.in_ok-number_of.ensures) in
+      let items : c.if-at.oids.items ≡ c.loop-i.oids.items ++ (c.loop-i.i + 1) ∷ [] =
+      cc (w.oids-is, w.in_ok-push.ensures.items, w.in_ok-number_of.ensures) in
       marked_next c.loop-i.oids.items c.if-at.oids.items c.args.marks.now c.loop-i.i at items ∙ c.loop-i.invariant
   | else-at w ↦
       let at : slice_get c.args.marks.now c.loop-i.i ≡ Some false = cc (c.at.ensures, w.if-at.false) in

@@ -5,7 +5,8 @@ use Rattle.ec_world.proofs.making.push_defaults.Goals as goal
 
 pub loop-i-preserved : goal.loop-i-preserved
 loop-i-preserved c =
-    let new : c.push.new.self ≡ c.loop-i.values ++ default_of c.at.result.now.of ∷ [] = cc (c.in_ok-push.ensures.ok, c.default_value.ensures) in
+    let new : c.push.new.self ≡ c.loop-i.values ++ default_of c.at.result.now.of ∷ [] =
+    cc (c.in_ok-push.ensures.ok, c.default_value.ensures) in
     default_step c.loop-i.values c.push.new.self c.args.fields.now c.loop-i.i c.at.result.now c.at.ensures new
     ∙ c.loop-i.invariant
 

@@ -12,5 +12,6 @@ returns-clause-exact c =
     let b = c.args.b in
     let small : FitsSigned w64 c.difference.result = record { sfits = c.difference.type_inv } in
     on_false c.is_beyond.result (signed (minus a b) ≡ signed a -ℤ signed b) (λ e.
-    let no : is_beyond (signed a -ℤ signed b) ≡ false = sym (ap is_beyond (to_z-of_z w64 c.difference.result small ∙ c.difference.ensures)) ∙ sym c.is_beyond.ensures ∙ e in
+    let no : is_beyond (signed a -ℤ signed b) ≡ false =
+    sym (ap is_beyond (to_z-of_z w64 c.difference.result small ∙ c.difference.ensures)) ∙ sym c.is_beyond.ensures ∙ e in
     difference_exact a b (omega arith) (omega arith) no)

@@ -10,4 +10,5 @@ returns-clause-division c =
     let b = c.args.b in
     let e : c.quotient.result ≡ quotient a b = cc in
     let f : c.remainder.result ≡ remainder a b = cc in
-    subst (λ q. IsDivision a b q c.remainder.result) (sym e) (subst (λ r. IsDivision a b (quotient a b) r) (sym f) (division_is a b (omega arith) (omega arith) c.requires.some c.requires.fits))
+    subst (λ q. IsDivision a b q c.remainder.result) (sym e)
+    (subst (λ r. IsDivision a b (quotient a b) r) (sym f) (division_is a b (omega arith) (omega arith) c.requires.some c.requires.fits))

@@ -6,4 +6,5 @@ use Rattle.rv_codegen.proofs.generate.build.Goals as goal
 pub returns-clause-faithful : goal.returns-clause-faithful
 returns-clause-faithful c =
     let homes = c.in_ok-homes.field-0.homes in
-    subst (λ stops. Faithful rv_meaning c.in_ok-code.code (record { homes = homes; stops = stops }) c.args.program.now) (sym c.in_ok-stops.ensures) c.in_ok-code.ensures.faithful
+    subst (λ stops. Faithful rv_meaning c.in_ok-code.code (record { homes = homes; stops = stops }) c.args.program.now)
+    (sym c.in_ok-stops.ensures) c.in_ok-code.ensures.faithful

@@ -7,7 +7,8 @@ use Rattle.ec_frames.proofs.Writing.{has_global_word, writes_global}
 use Rattle.ec_frames.proofs.node.NodeStore.set_global.Goals as goal
 
 pub set_word-requires : goal.set_word-requires
-set_word-requires c = has_global_word c.args.self.now c.args.i c.global_word.result c.requires.laid c.requires.global_in c.global_word.ensures
+set_word-requires c = has_global_word c.args.self.now c.args.i c.global_word.result c.requires.laid c.requires.global_in
+    c.global_word.ensures
 
 pub returns-clause-laid : goal.returns-clause-laid
 returns-clause-laid c = laid_memory c.args.self.now c.set_word.new.self c.requires.laid c.set_word.ensures.lists
@@ -16,4 +17,5 @@ pub returns-clause-writes : goal.returns-clause-writes
 returns-clause-writes c =
     let few = c.ranges.w in
     writes_global c.args.self.now c.set_word.new.self c.args.w c.requires.laid c.set_word.ensures.lists (omega arith) c.args.i
-    (c.set_word.ensures.bytes ∙ ap (λ at. with_bytes (store_byte c.args.self.now.memory) at (little_bytes 4 c.args.w)) c.global_word.ensures)
+    (c.set_word.ensures.bytes
+    ∙ ap (λ at. with_bytes (store_byte c.args.self.now.memory) at (little_bytes 4 c.args.w)) c.global_word.ensures)

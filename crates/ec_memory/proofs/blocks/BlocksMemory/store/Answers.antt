@@ -14,10 +14,19 @@ returns-then-at-ge-GLOBALS_BASE-clause-written g c =
     let fits = c.write_to.ensures.inside.0 e in
     let fits' : place + length c.args.from.now ≤ length s.globals = omega (arith, fits, ap length old) in
     let new = from_true c.write_to.result _ e c.write_to.ensures.written ∙ ap (λ xs. overwritten xs place c.args.from.now) old in
-    let long : length c.write_to.new.region ≡ vec_len c.self.inside.globals = ap length new ∙ length-overwritten s.globals place c.args.from.now fits' ∙ sym (ap length old) ∙ c.deref_mut.ensures.len in
+    let long : length c.write_to.new.region ≡ vec_len c.self.inside.globals =
+    ap length new ∙ length-overwritten s.globals place c.args.from.now fits' ∙ sym (ap length old) ∙ c.deref_mut.ensures.len in
     let i = c.self.inside in
-    let t : Store = record { blocks = i.blocks.items; globals = (with_items i.globals c.write_to.new.region).items; links = i.links.items; free = chain i.links.items i.head i.free } in
-    globals_written s t c.args.at c.args.from.now (ap (λ x. x.blocks) c.self.view_is) (with_items_is c.self.inside.globals c.write_to.new.region long ∙ new) c.if-at-ge-GLOBALS_BASE.true fits')
+    let t : Store =
+    record {
+      blocks = i.blocks.items;
+      globals = (with_items i.globals c.write_to.new.region).items;
+      links =
+          i.links.items;
+      free = chain i.links.items i.head i.free;
+    } in
+    globals_written s t c.args.at c.args.from.now (ap (λ x. x.blocks) c.self.view_is)
+    (with_items_is c.self.inside.globals c.write_to.new.region long ∙ new) c.if-at-ge-GLOBALS_BASE.true fits')
 
 pub returns-then-at-ge-BLOCKS_BASE-clause-written : goal.returns-then-at-ge-BLOCKS_BASE-clause-written
 returns-then-at-ge-BLOCKS_BASE-clause-written g c =
@@ -30,7 +39,16 @@ returns-then-at-ge-BLOCKS_BASE-clause-written g c =
     let fits = w.ensures.inside.0 e in
     let fits' : place + length c.args.from.now ≤ length s.blocks = omega (arith, fits, ap length old) in
     let new = from_true w.result _ e w.ensures.written ∙ ap (λ xs. overwritten xs place c.args.from.now) old in
-    let long : length w.new.region ≡ vec_len c.self.inside.blocks = ap length new ∙ length-overwritten s.blocks place c.args.from.now fits' ∙ sym (ap length old) ∙ d.ensures.len in
+    let long : length w.new.region ≡ vec_len c.self.inside.blocks =
+    ap length new ∙ length-overwritten s.blocks place c.args.from.now fits' ∙ sym (ap length old) ∙ d.ensures.len in
     let i = c.self.inside in
-    let t : Store = record { blocks = (with_items i.blocks w.new.region).items; globals = i.globals.items; links = i.links.items; free = chain i.links.items i.head i.free } in
-    blocks_written s t c.args.at c.args.from.now (subst IsWhole c.self.view_is c.self.invariant) (ap (λ x. x.globals) c.self.view_is) (with_items_is c.self.inside.blocks w.new.region long ∙ new) c.if-at-ge-BLOCKS_BASE.true fits')
+    let t : Store =
+    record {
+      blocks = (with_items i.blocks w.new.region).items;
+      globals = i.globals.items;
+      links = i.links.items;
+      free =
+          chain i.links.items i.head i.free;
+    } in
+    blocks_written s t c.args.at c.args.from.now (subst IsWhole c.self.view_is c.self.invariant)
+    (ap (λ x. x.globals) c.self.view_is) (with_items_is c.self.inside.blocks w.new.region long ∙ new) c.if-at-ge-BLOCKS_BASE.true fits')

@@ -6,7 +6,9 @@ pub invariant_of-self : goal.invariant_of-self
 invariant_of-self c =
     let i = c.self.invariant in
     record {
-      fits = signal_fits c.self.inside.room c.self.inside.holder c.in-Some.held c.in-Some-first_at.next c.self.inside.entry.items c.self.inside.urgent.items c.push_within.new.items.items c.self.inside.conditions.items c.first_at.new.queues.items c.in-Some.is c.push_within.ensures.items c.in-Some-first_at.ensures.count i.fits;
+      fits = signal_fits c.self.inside.room c.self.inside.holder c.in-Some.held c.in-Some-first_at.next c.self.inside.entry.items
+          c.self.inside.urgent.items c.push_within.new.items.items c.self.inside.conditions.items c.first_at.new.queues.items
+          c.in-Some.is c.push_within.ensures.items c.in-Some-first_at.ensures.count i.fits;
       of_entry = i.of_entry;
       of_urgent = omega (arith, i.of_urgent, c.push_within.ensures.room);
       of_conditions = c.in-Some-first_at.ensures.room _ i.of_conditions;
@@ -15,4 +17,11 @@ invariant_of-self c =
 pub invariant_of-self-in_default-first_at : goal.invariant_of-self-in_default-first_at
 invariant_of-self-in_default-first_at c =
     let i = c.self.invariant in
-    record { fits = none_fits c.self.inside.room c.self.inside.holder c.self.inside.entry.items c.self.inside.urgent.items c.self.inside.conditions.items c.first_at.new.queues.items c.in_default-first_at.ensures.count i.fits; of_entry = i.of_entry; of_urgent = i.of_urgent; of_conditions = c.in_default-first_at.ensures.room _ i.of_conditions }
+    record {
+      fits = none_fits c.self.inside.room c.self.inside.holder c.self.inside.entry.items c.self.inside.urgent.items
+          c.self.inside.conditions.items c.first_at.new.queues.items c.in_default-first_at.ensures.count i.fits;
+      of_entry =
+          i.of_entry;
+      of_urgent = i.of_urgent;
+      of_conditions = c.in_default-first_at.ensures.room _ i.of_conditions;
+    }

@@ -8,7 +8,9 @@ returns c = λ stop is operands. record {
   is = is;
   node = c.at_mut-node.result.now;
   node' = c.set_word.new.self;
-  becomes = becomes_one c.args.self.now _ c.requires.here.node c.at_mut-node.result.now c.set_word.new.self c.requires.here.one c.at_mut-node.ensures.value refl refl refl c.set_word.ensures.laid (same_twice _ _ _ c.set_global.ensures.same c.set_word.ensures.same);
+  becomes = becomes_one c.args.self.now _ c.requires.here.node c.at_mut-node.result.now c.set_word.new.self c.requires.here.one
+      c.at_mut-node.ensures.value refl refl refl c.set_word.ensures.laid
+      (same_twice _ _ _ c.set_global.ensures.same c.set_word.ensures.same);
   operand = c.args.operand;
   operands = operands;
   word = c.word-word.result;

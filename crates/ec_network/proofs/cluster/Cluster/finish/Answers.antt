@@ -7,7 +7,8 @@ returns c = λ stop is. record {
   is = is;
   node = c.at_mut-node.result.now;
   node' = c.close.new.self;
-  becomes = becomes_one c.args.self.now _ c.requires.here.node c.at_mut-node.result.now c.close.new.self c.requires.here.one c.at_mut-node.ensures.value refl refl refl c.close.ensures.laid c.close.ensures.same;
+  becomes = becomes_one c.args.self.now _ c.requires.here.node c.at_mut-node.result.now c.close.new.self c.requires.here.one
+      c.at_mut-node.ensures.value refl refl refl c.close.ensures.laid c.close.ensures.same;
   bottom = c.requires.bottom;
   closes = c.close.ensures.closed;
   statuses = c.set.ensures;

@@ -9,5 +9,6 @@ returns-in_ok-turn-in-TurnOf-clause-done c = λ start schedule budget statuses p
 
 pub returns-in_ok-operator_move-in-MoveOf-clause-done : goal.returns-in_ok-operator_move-in-MoveOf-clause-done
 returns-in_ok-operator_move-in-MoveOf-clause-done c = λ start schedule budget statuses progress stands next.
-    driven_on start c.args.m.now c.operator_move.new.self schedule budget statuses progress c.args.entry (MoveOf c.in-MoveOf.o c.in-MoveOf.k) c.in-MoveOf.is
+    driven_on start c.args.m.now c.operator_move.new.self schedule budget statuses progress c.args.entry
+    (MoveOf c.in-MoveOf.o c.in-MoveOf.k) c.in-MoveOf.is
     c.operator_move.ensures.program c.in_ok-operator_move-in-MoveOf.ensures.world stands next

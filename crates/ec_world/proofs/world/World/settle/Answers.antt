@@ -15,5 +15,7 @@ returns g c =
     ∙ sym (c.ready_granted.ensures c.in_ok-freed.freed) in
     let (top, e) = some_top M w c.args.p c.requires in
     on_ok_weaker c.begin.result
-    (λ b. settled_read M w c.args.p top c.args.outcome c.at.result.now c.take_effect.new.self c.give_up.new.objects c.in_ok-freed.freed e c.at.ensures c.ready_each.new.processes c.begin.new.processes c.in_ok-freed.ensures (rw same c.in_ok-take_effect.ensures) readied b)
+    (λ b. settled_read M w c.args.p top c.args.outcome c.at.result.now c.take_effect.new.self c.give_up.new.objects
+    c.in_ok-freed.freed e c.at.ensures c.ready_each.new.processes c.begin.new.processes c.in_ok-freed.ensures
+    (rw same c.in_ok-take_effect.ensures) readied b)
     c.begin.ensures

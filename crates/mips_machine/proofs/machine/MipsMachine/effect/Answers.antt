@@ -15,7 +15,8 @@ returns-in-LoadFrom-clause-data g c =
     let load = c.in-LoadFrom.load in
     let rt = c.in-LoadFrom.rt in
     subst (λ i. HasEffect (effect i d) d c.load.result new) (sym c.in-LoadFrom.is)
-    (subst (λ at. HasEffect (aligned (load_size load) at (loaded_to d rt (loaded load b at))) d c.load.result new) (c.address.ensures b) c.load.ensures.data)
+    (subst (λ at. HasEffect (aligned (load_size load) at (loaded_to d rt (loaded load b at))) d c.load.result new)
+    (c.address.ensures b) c.load.ensures.data)
 
 pub returns-in-StoreTo-clause-data : goal.returns-in-StoreTo-clause-data
 returns-in-StoreTo-clause-data g c =
@@ -25,5 +26,10 @@ returns-in-StoreTo-clause-data g c =
     let size = store_size c.in-StoreTo.store in
     let v = c.read-in-StoreTo.result in
     subst (λ i. HasEffect (effect i d) d c.store.result new) (sym c.in-StoreTo.is)
-    (subst (λ v. HasEffect (aligned size (address d c.in-StoreTo.rs c.in-StoreTo.offset) (stored d (address d c.in-StoreTo.rs c.in-StoreTo.offset) (big_bytes size v) (is_some (bytes_from b (address d c.in-StoreTo.rs c.in-StoreTo.offset) size)))) d c.store.result new) c.read-in-StoreTo.ensures
-    (subst (λ at. HasEffect (aligned size at (stored d at (big_bytes size v) (is_some (bytes_from b at size)))) d c.store.result new) (c.address-in-StoreTo.ensures b) c.store.ensures.data))
+    (subst (λ v. HasEffect
+    (aligned size (address d c.in-StoreTo.rs c.in-StoreTo.offset)
+    (stored d (address d c.in-StoreTo.rs c.in-StoreTo.offset) (big_bytes size v)
+    (is_some (bytes_from b (address d c.in-StoreTo.rs c.in-StoreTo.offset) size)))) d c.store.result new)
+    c.read-in-StoreTo.ensures
+    (subst (λ at. HasEffect (aligned size at (stored d at (big_bytes size v) (is_some (bytes_from b at size)))) d c.store.result
+    new) (c.address-in-StoreTo.ensures b) c.store.ensures.data))

@@ -11,7 +11,8 @@ returns-in-None-clause-answer g c =
     let m = c.args.self.now in
     let b = g.M.Memory.byte_at c.args.memory.now in
     let at : word_at c.args.code.now m.flow.pc ≡ Some c.in-Some.word = cc in
-    mips_answers c.args.code.now m b (Traps Unlisted) c.trap-in-None.result m b (unlisted c.in-Some.word at (none_of c.in-Some.word c.in-None.ensures) refl) (c.trap-in-None.ensures, refl)
+    mips_answers c.args.code.now m b (Traps Unlisted) c.trap-in-None.result m b
+    (unlisted c.in-Some.word at (none_of c.in-Some.word c.in-None.ensures) refl) (c.trap-in-None.ensures, refl)
 
 pub returns-in-Some-decode-clause-answer : goal.returns-in-Some-decode-clause-answer
 returns-in-Some-decode-clause-answer g c =
@@ -19,5 +20,6 @@ returns-in-Some-decode-clause-answer g c =
     let b = g.M.Memory.byte_at c.args.memory.now in
     let i = c.in-Some-decode.instr in
     let at : word_at c.args.code.now m.flow.pc ≡ Some c.in-Some.word = cc in
-    mips_answers c.args.code.now m b (performs i (state_of m b)) c.perform.result c.perform.new.self (g.M.Memory.byte_at c.perform.new.memory)
+    mips_answers c.args.code.now m b (performs i (state_of m b)) c.perform.result c.perform.new.self
+    (g.M.Memory.byte_at c.perform.new.memory)
     (listed i (at ∙ ap Some (sym ((c.in-Some-decode.ensures i).0 refl))) refl) c.perform.ensures.answer

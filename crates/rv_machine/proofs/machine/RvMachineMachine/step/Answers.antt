@@ -11,7 +11,8 @@ returns-in-None-clause-answer g c =
     let m = c.args.self.now in
     let b = g.M.Memory.byte_at c.args.memory.now in
     let at : word_at c.args.code.now m.pc ≡ Some c.in-Some.word = cc in
-    rv_answers c.args.code.now m b (Traps Unlisted) c.trap-in-None.result m b (unlisted c.in-Some.word at (none_of c.in-Some.word c.in-None.ensures) refl) (c.trap-in-None.ensures, refl)
+    rv_answers c.args.code.now m b (Traps Unlisted) c.trap-in-None.result m b
+    (unlisted c.in-Some.word at (none_of c.in-Some.word c.in-None.ensures) refl) (c.trap-in-None.ensures, refl)
 
 pub returns-in-Some-decode-clause-answer : goal.returns-in-Some-decode-clause-answer
 returns-in-Some-decode-clause-answer g c =
