@@ -1,25 +1,23 @@
 -- How much an object constructor or a class makes, by what it declares.
-use Rattle.std.proofs.Common.{◌≡◌, List, [], ◌++◌, map, option_map, sym, subst}
+use Rattle.std.proofs.Common.{◌≡◌, [], ◌++◌, map, sym, subst}
 use Rattle.ec_check.proofs.Every.{none_left, none_right}
 use Rattle.ec_check.proofs.NumberedHolders.{faults_of_body, no_faults_in_body}
-use Rattle.ec_check.specs.Parts.{Holder, both_made, holder_judged, member_judged, process_judged}
+use Rattle.ec_check.specs.Parts.{Holder, both_made, holder_judged}
 use Rattle.ec_check.specs.Resolving.{class_core, env_of_body, holder_made, initial_operation, initially_made, members_made}
 use Rattle.ec_check.specs.Resolving.{number_of_holder}
 use Rattle.ec_check.specs.Resolving.{process_made}
 use Rattle.ec_conform.specs.Declarations as conform
 use Rattle.ec_conform.specs.Declarations.{both, object_of, object_with, within_members}
-use Rattle.ec_conform.specs.declared.declared.Declarations.{Declarations}
 use Rattle.ec_core_laws.proofs.CountedKinds.{CountedBody, members_counted}
 use Rattle.ec_core_laws.proofs.CountedParts.{Counted, OperationFits, both_counted, object_counted}
 use Rattle.ec_rules.specs.Captures.{captured}
 use Rattle.ec_rules.specs.Doubled.{doubled_type}
-use Rattle.ec_rules.specs.Judging.{body_finished, faults_in_holder, finished_if, first_finished, heading_faults, members_finished}
+use Rattle.ec_rules.specs.Judging.{body_finished, faults_in_holder, first_finished, heading_faults}
 use Rattle.ec_rules.specs.Judging.{process_finished, type_faults}
 use Rattle.ec_rules.specs.Limits.{many_fields, many_operations, many_types, measured, too_large}
 use Rattle.ec_rules.specs.Members.{scope_of}
 use Rattle.ec_rules.specs.Names.{unknown_in_parameters}
 use Rattle.ec_rules.specs.Parts as judged
-use Rattle.ec_rules.specs.declared.StaticFault.{StaticFault}
 use Rattle.ec_scopes.specs.declared.scope.Scope.{Scope}
 
 -- ---- its body

@@ -1,14 +1,13 @@
 -- What is shown of each kind of part of a tree, and of lists of parts: how much is made within it, by what it declares.
-use Rattle.std.proofs.Common.{◌≡◌, ℕ, ◌&&◌, Bool, true, List, [], ◌∷◌, ◌++◌, map, Option, Some, None, option_map, is_some, refl}
-use Rattle.std.proofs.Common.{sym, ap, ◌∙◌}
-use Rattle.std.proofs.Common.{append_assoc, subst}
+use Rattle.std.proofs.Common.{◌≡◌, ℕ, ◌&&◌, Bool, true, List, [], ◌∷◌, ◌++◌, map, Option, Some, None, option_map, is_some, sym, ◌∙◌}
+use Rattle.std.proofs.Common.{subst}
 use Rattle.ec_ast.specs.declared.Name.{Name}
 use Rattle.ec_check.proofs.DeclaringParts.{NothingInName, EveryPair}
 use Rattle.ec_check.proofs.Every.{none_left, none_right, either}
 use Rattle.ec_check.proofs.NumberedKinds.{faults_in_all, all_made_both, faults_both}
 use Rattle.ec_check.proofs.NumberedParts.{none_both}
 use Rattle.ec_check.proofs.RangedChains.{chain_faultless}
-use Rattle.ec_check.specs.Parts.{Made, both_made, Part, Piece, StatementPart, LinkPart, FactorPart, AddendPart, ArmPart, ProcessPart}
+use Rattle.ec_check.specs.Parts.{both_made, Part, Piece, StatementPart, LinkPart, FactorPart, AddendPart, ArmPart, ProcessPart}
 use Rattle.ec_check.specs.Parts.{OperationPart, MemberPart, operation, BodyPart, ObjectPart, link_judged, factor_judged, addend_judged}
 use Rattle.ec_check.specs.Parts.{arm_judged, process_judged, member_judged, holder_judged}
 use Rattle.ec_check.specs.Places.{Env}
@@ -18,8 +17,6 @@ use Rattle.ec_conform.specs.Declarations as conform
 use Rattle.ec_conform.specs.Declarations.{both, joined, nothing, within_members}
 use Rattle.ec_conform.specs.declared.declared.Declarations.{Declarations}
 use Rattle.ec_conform.specs.declared.static_type.StaticType.{StaticType}
-use Rattle.ec_core.specs.declared.Class.{Class}
-use Rattle.ec_core.specs.declared.Operation.{Operation}
 use Rattle.ec_core_laws.proofs.CountedParts.{Counted, nothing_counted, counted_within, both_counted}
 use Rattle.ec_rules.specs.Calls.{Receiver, class_created, receiver_if, is_creation, faults_of_head, chain_faults}
 use Rattle.ec_rules.specs.Forms.{Form, Literal, Negated, Constructor, Vector, Created, Itself, NameAlone, Other}

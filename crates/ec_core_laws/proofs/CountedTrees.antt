@@ -1,6 +1,5 @@
 -- How much is made within a part of a tree, by what it declares: one induction over all kinds of parts.
-use Rattle.std.proofs.Common.{◌≡◌, Bool, true, false, List, [], ◌∷◌, ◌++◌, codes, map, Option, Some, None, refl, sym, ap, ◌∙◌}
-use Rattle.std.proofs.Common.{subst, append_assoc}
+use Rattle.std.proofs.Common.{◌≡◌, Bool, true, false, List, [], ◌∷◌, ◌++◌, map, Option, Some, None, refl, sym, ◌∙◌, subst}
 use Rattle.ec_ast.specs.declared.Expression.{Expression, roll-Expression}
 use Rattle.ec_ast.specs.declared.Link.{roll-Link}
 use Rattle.ec_ast.specs.declared.Member.{roll-Member}
@@ -15,7 +14,7 @@ use Rattle.ec_ast.specs.declared.Operation.{roll-Operation}
 use Rattle.ec_ast.specs.declared.ProcessSection.{roll-ProcessSection}
 use Rattle.ec_ast.specs.declared.Expression.TheOpen.{Expression-F, Link-F, Member-F, Statement-F}
 use Rattle.ec_check.proofs.DeclaringParts.{EveryPair}
-use Rattle.ec_check.proofs.Every.{none_left, none_right, either}
+use Rattle.ec_check.proofs.Every.{none_left, none_right}
 use Rattle.ec_check.proofs.GoodExpressions.{each_pair}
 use Rattle.ec_check.proofs.GoodTrees.{good_part}
 use Rattle.ec_check.proofs.NumberedParts.{none_both}
@@ -25,7 +24,7 @@ use Rattle.ec_check.proofs.Rolled.{body_mapped, factor_mapped, object_mapped, op
 use Rattle.ec_check.proofs.Rolled.{part_rolled, link_rolled, member_rolled, statement_rolled, addend_rolled, arm_rolled, block_rolled}
 use Rattle.ec_check.proofs.Rolled.{body_rolled, factor_rolled, object_rolled, operation_rolled, process_rolled}
 use Rattle.ec_check.specs.Layers.{expression_judged, statement_judged}
-use Rattle.ec_check.specs.Parts.{ArmPart, OperationPart, ProcessPart, StatementPart, both_made, arm_judged, link_judged, operation_judged}
+use Rattle.ec_check.specs.Parts.{ArmPart, OperationPart, ProcessPart, StatementPart, both_made, arm_judged, operation_judged}
 use Rattle.ec_check.specs.Resolving.{expression_made, statement_made, statements_made, arms_made, operation_core, process_operation}
 use Rattle.ec_check.specs.Tree.{expression_step, link_step, member_step, statement_step, addend_step, arm_step, block_step, body_step}
 use Rattle.ec_check.specs.Tree.{factor_step, object_step, operation_step, process_step}
@@ -40,7 +39,7 @@ use Rattle.ec_core_laws.proofs.CountedHeld.{IsCountedOperation, IsCountedProcess
 use Rattle.ec_core_laws.proofs.CountedHolders.{holder_counted}
 use Rattle.ec_core_laws.proofs.CountedKinds.{CountedPart, CountedLink, CountedMember, CountedStatement, CountedAddend, CountedArm}
 use Rattle.ec_core_laws.proofs.CountedKinds.{CountedPiece, CountedBody, CountedFactor, CountedObject, CountedOperation, CountedProcess}
-use Rattle.ec_core_laws.proofs.CountedKinds.{NothingInName, parts_counted, factors_counted, addends_counted, postfix_counted}
+use Rattle.ec_core_laws.proofs.CountedKinds.{parts_counted, factors_counted, addends_counted, postfix_counted}
 use Rattle.ec_core_laws.proofs.CountedParts.{Counted, OperationFits, nothing_counted, counted_within, one_counted, both_counted}
 use Rattle.ec_core_laws.proofs.CountedParts.{operation_counted}
 use Rattle.ec_places.proofs.DeclaredRolled.{expression_declared, link_declared, member_declared, statement_declared, addend_declared}
