@@ -1,4 +1,5 @@
-//! Moves between two nodes by a plain meaning, and the network that a run leaves behind.
+//! Moves between two nodes by a plain meaning, and the network that a run leaves behind. What is large is never dropped here:
+//! how a tree, a world or a network is dropped is proved in the crates that do so, and would be proved once more.
 use ec_check::check::{Checked, check};
 use ec_inputs::schedule::read_schedule;
 use ec_lexer::lex;
@@ -14,6 +15,7 @@ use ec_world::group::group;
 use ec_world::process::ProcStatus;
 use ec_world::run::Entry;
 use std::alloc::{AllocError, Global};
+use std::mem::ManuallyDrop;
 use std::process::Abort;
 use std::test::Fail;
 
@@ -60,9 +62,9 @@ fn follow(alloc: Global, meaning: &mut Meaning<'_>, schedule: &[u8]) -> Result<(
 #[test]
 fn a_group_moves_whole(rt: HostRuntime) -> Result<(), Fail> {
     let alloc = rt.alloc();
-    let checked = accepted(alloc, TIED)?;
+    let checked = ManuallyDrop::new(accepted(alloc, TIED)?);
     let program = Program::new(alloc, TIED, &checked.table, &checked.core)?;
-    let mut meaning = Meaning::start(alloc, program, 2)?;
+    let mut meaning = ManuallyDrop::new(Meaning::start(alloc, program, 2)?);
     follow(alloc, &mut meaning, b"turn 0 times 22 % to the end")?;
     assert_eq!(rt; meaning.process(0), Some(ProcStatus::Ended));
     assert_eq!(rt; group(&meaning.world, 4)?.as_slice(), [4, 5].as_slice());
@@ -101,7 +103,7 @@ fn a_run_leaves_its_network(rt: HostRuntime) -> Result<(), Fail> {
     let alloc = rt.alloc();
     let mut shelf = MemShelf::new(alloc, &FILES, 100, &[])?;
     let mut sink = MemSink::new(alloc, 100, &[])?;
-    let mut net = Network::empty(alloc);
+    let mut net = ManuallyDrop::new(Network::empty(alloc));
     assert!(rt; !net.is_whole());
     let words = ["emerald", "run", "p", "n", "s"];
     let status = emerald(alloc, &words, &mut shelf, &mut sink, &mut net);
