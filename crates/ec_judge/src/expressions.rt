@@ -302,7 +302,8 @@ fn view(
         (walk.new ≡ spec.noting walk.old
         (names.unknown_types walk.old.scope.table of.now
         ++ (operands.wants wanted.Reference viewed.now
-        ++ fault_unless (kinds.fits wanted.Reference (types.known (written_in walk.old.scope of.now))) Mismatch (kinds.type_place of.now)))) }
+        ++ fault_unless (kinds.fits wanted.Reference (types.known (written_in walk.old.scope of.now))) Mismatch
+        (kinds.type_place of.now)))) }
 {
     known_type(&mut walk.faults, &walk.scope.table, of)?;
     wants(&mut walk.faults, Wanted::Reference, viewed);

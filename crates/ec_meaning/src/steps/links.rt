@@ -58,7 +58,8 @@ fn invoke(
     ensures next { OnOk result
         (todo.new ≡ spec.evaluated xs
         ++ Item.Rest
-        (Stop.Invoke (source.name_number (source_of program.now) name) (source.line (source_of program.now) at)) (1 + length xs) ∷ todo.old) }
+        (Stop.Invoke (source.name_number (source_of program.now) name) (source.line (source_of program.now) at))
+        (1 + length xs) ∷ todo.old) }
 {
     let name = program.name_number(name.as_slice())?;
     let line = program.line(at);
