@@ -69,7 +69,10 @@ impl TypeTable {
     }
 
     /// The table of declarations. The error is want of memory.
-    pub fn of_declarations(alloc: Global, declared: &Declarations) -> Result<TypeTable, AllocError>
+    pub(crate) fn of_declarations(
+        alloc: Global,
+        declared: &Declarations,
+    ) -> Result<TypeTable, AllocError>
         ensures { IfOk result (λ table. IsTable declared.now table) }
     {
         let written = declared.types.as_slice();

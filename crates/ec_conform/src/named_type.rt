@@ -138,7 +138,7 @@ fn type_with(alloc: Global, names: &Names, declared: &DeclaredType) -> Result<Na
 }
 
 /// The types of declarations, by their names. The error is want of memory.
-pub fn types_with(
+pub(crate) fn types_with(
     alloc: Global,
     names: &Names,
     declared: &[DeclaredType],

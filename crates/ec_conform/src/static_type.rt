@@ -54,7 +54,7 @@ pub fn is_same_type(a: StaticType, b: StaticType) -> bool
 }
 
 /// Whether objects are of this type, and not Integers, Booleans or Strings.
-pub fn is_reference(of: Plain) -> bool
+pub(crate) fn is_reference(of: Plain) -> bool
     ensures { result ≡ spec.is_reference of }
 {
     match of {

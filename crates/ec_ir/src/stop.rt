@@ -24,7 +24,7 @@ pub enum Stop {
 
 impl Stop {
     /// The stop as a world has it.
-    pub fn in_world(self) -> stop::Stop
+    pub(crate) fn in_world(self) -> stop::Stop
         ensures { result ≡ world_stop self }
     {
         match self {

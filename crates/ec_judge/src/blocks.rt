@@ -36,7 +36,7 @@ use std::alloc::{AllocError, Global};
 
 /// What a block is found to be. What it declares goes with its end. The error is want of memory.
 #[cycle(walk)]
-pub fn judge_block<'a>(
+pub(crate) fn judge_block<'a>(
     alloc: Global,
     walk: &mut Walk<'a>,
     block: &'a Block,
@@ -146,7 +146,7 @@ fn with_local(done: Done) -> Done
 
 /// What the value of a variable is found to be, where it has one. The error is want of memory.
 #[cycle(walk)]
-pub fn value_if<'a>(
+pub(crate) fn value_if<'a>(
     alloc: Global,
     walk: &mut Walk<'a>,
     e: &'a Option<Expression>,
@@ -161,7 +161,7 @@ pub fn value_if<'a>(
 }
 
 /// What stands in a declaration, where it has a value.
-pub fn done_if(value: &Option<Judged>) -> Done
+pub(crate) fn done_if(value: &Option<Judged>) -> Done
     ensures { result ≡ blocks.done_if value.now }
 {
     match value {
@@ -180,7 +180,7 @@ pub fn conforms_if(faults: &mut Faults, scope: &Scope, of: StaticType, value: &O
 }
 
 /// A const's value conforms to its type, or names one by its form. The error is want of memory.
-pub fn constant_conforms(
+pub(crate) fn constant_conforms(
     faults: &mut Faults,
     scope: &Scope,
     name: &Name,
@@ -458,7 +458,7 @@ fn judge_arms<'a>(alloc: Global, walk: &mut Walk<'a>, arms: &'a [Arm]) -> Result
 
 /// What a block that may be left out is found to be. The error is want of memory.
 #[cycle(walk)]
-pub fn judge_block_if<'a>(
+pub(crate) fn judge_block_if<'a>(
     alloc: Global,
     walk: &mut Walk<'a>,
     block: &'a Option<Block>,

@@ -770,7 +770,7 @@ pub fn judge_holder<'a>(
 
 /// An object constructor.
 #[cycle(walk)]
-pub fn judge_object<'a>(
+pub(crate) fn judge_object<'a>(
     alloc: Global,
     walk: &mut Walk<'a>,
     object: &'a ObjectConstructor,

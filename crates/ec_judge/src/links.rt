@@ -146,7 +146,7 @@ fn valued<'a>(form: Form<'_>, v: &Judged) -> Passed<'a>
 
 /// What stands before the links. The class of a creation isn't a value.
 #[cycle(walk)]
-pub fn look_head<'a>(
+pub(crate) fn look_head<'a>(
     alloc: Global,
     walk: &mut Walk<'a>,
     head: &'a Expression,
@@ -293,7 +293,7 @@ fn pass_all<'a>(
 
 /// The links behind what was found before them.
 #[cycle(walk)]
-pub fn look_links<'a>(
+pub(crate) fn look_links<'a>(
     alloc: Global,
     walk: &mut Walk<'a>,
     needed: bool,

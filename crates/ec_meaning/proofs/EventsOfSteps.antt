@@ -127,22 +127,17 @@ module _ (es : List Event) where
   aside_choose [] other st = refl
   aside_choose (arm ∷ arms) other st = refl
 
-  module _ (st : State) where
-    aside_compare : (op : Comparison) (under : State) (u v : Value) →
-        Aside es (compare op (state_with es st) (state_with es under) u v) (compare op st under u v)
-    aside_compare Same under u v = aside_same (are_same u v) under true
-    aside_compare NotSame under u v = aside_same (are_same u v) under false
-    aside_compare Equal under u v = aside_same (are_same u v) under true
-    aside_compare NotEqual under u v = aside_same (are_same u v) under false
-    aside_compare Less under (Int a) (Int b) = refl
-    aside_compare LessEqual under (Int a) (Int b) = refl
-    aside_compare More under (Int a) (Int b) = refl
-    aside_compare MoreEqual under (Int a) (Int b) = refl
-    aside_compare Less under (Str a) (Str b) = refl
-    aside_compare LessEqual under (Str a) (Str b) = refl
-    aside_compare More under (Str a) (Str b) = refl
-    aside_compare MoreEqual under (Str a) (Str b) = refl
-    aside_compare _ under _ _ = refl
+  aside_compare : (op : Comparison) (under : State) (u v : Value) →
+      Aside es (compare op (state_with es under) u v) (compare op under u v)
+  aside_compare Same under u v = aside_same (are_same u v) under true
+  aside_compare NotSame under u v = aside_same (are_same u v) under false
+  aside_compare Equal under u v = aside_same (are_same u v) under true
+  aside_compare NotEqual under u v = aside_same (are_same u v) under false
+  aside_compare Less under (Int a) (Int b) = refl
+  aside_compare LessEqual under (Int a) (Int b) = refl
+  aside_compare More under (Int a) (Int b) = refl
+  aside_compare MoreEqual under (Int a) (Int b) = refl
+  aside_compare _ under _ _ = refl
 
 module _ (es : List Event) (s : Source) where
   aside_stored : (p : Place) (own : ℕ) (below : State) (v : Value) →
@@ -225,7 +220,7 @@ module _ (es : List Event) (s : Source) where
         aside_last es st invert invert
         (λ below v. aside_truth es v (gives below (Truth false)) (gives below (Truth true))
         (gives (state_with es below) (Truth false)) (gives (state_with es below) (Truth true)) refl refl)
-    aside_step (i.Compare op) = aside_two es st (compare op st) (compare op (state_with es st)) (aside_compare es st op)
+    aside_step (i.Compare op) = aside_two es st (compare op) (compare op) (aside_compare es op)
     aside_step (i.Branch b arms other) =
         aside_last es st (branch b arms other) (branch b arms other)
         (λ below v. aside_truth es v (Goes below (block_items b)) (Goes below (i.Choose arms other ∷ []))

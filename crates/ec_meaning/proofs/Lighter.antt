@@ -11,6 +11,8 @@ use Rattle.ec_base.specs.Stack.{top_of, below_of}
 use Rattle.ec_core.specs.declared.Addend.{Addend, out-Addend}
 use Rattle.ec_core.specs.declared.Arm.{Arm, out-Arm}
 use Rattle.ec_core.specs.declared.Block.{Block}
+use Rattle.ec_core.specs.declared.Compared.{Compared}
+use Rattle.ec_core.specs.declared.Compared.TheVariants as compared
 use Rattle.ec_core.specs.declared.Expression.{Expression, out-Expression}
 use Rattle.ec_core.specs.declared.Expression.TheOpen.{Expression-F, Link-F}
 use Rattle.ec_core.specs.declared.Expression.TheVariants as e
@@ -24,7 +26,7 @@ use Rattle.ec_core.specs.declared.Statement.{Statement, out-Statement}
 use Rattle.ec_core.specs.declared.Statement.TheOpen.{Statement-F}
 use Rattle.ec_meaning.specs.Programs.{Source, operation_at, class_number, name_number, line}
 use Rattle.ec_meaning.specs.Steps.{Step, Goes, Rests, Breaks, Returns, NoCase, with_last, last, last_two, by_truth, gives_if}
-use Rattle.ec_meaning.specs.Steps.{same_or_not, are_same}
+use Rattle.ec_meaning.specs.Steps.{same_or_not, are_same, comparing}
 use Rattle.ec_meaning.specs.Steps.{evaluate, follow, do_statement, choose, block_if, calculate, join, compare, returned, leave_by}
 use Rattle.ec_meaning.specs.Steps.{leave, step, value_at, negate, stop_of, divides, is_zero, calculated, gives, holding, and_then}
 use Rattle.ec_meaning.specs.Steps.{or_else, invert, branch, block_items, exit_if, store, require}
@@ -100,6 +102,13 @@ places_weight (p ∷ places) =
     let t = places_weight places in
     omega arith
 
+comparing_weight : (op : Comparison) (what : Compared) → item_weight (comparing op what) ≡ 1
+comparing_weight Less compared.Texts = refl
+comparing_weight LessEqual compared.Texts = refl
+comparing_weight More compared.Texts = refl
+comparing_weight MoreEqual compared.Texts = refl
+comparing_weight _ _ = refl
+
 module _ (s : Source) (a : Whose) (st : State) where
   lighter_evaluate : (y : Expression-F Expression Link Addend Factor) →
       Lighter (expression_weight (expression_weighed y)) (evaluate s a st y)
@@ -130,7 +139,7 @@ module _ (s : Source) (a : Whose) (st : State) where
       let h = weight_each i.Multiply weight_of_factor (λ f. omega arith) factors in omega arith
   lighter_evaluate (Expression-F.Sum first addends) =
       let h = weight_each i.Add weight_of_addend (λ d. omega arith) addends in omega arith
-  lighter_evaluate (Expression-F.Compare left op what right) = omega arith
+  lighter_evaluate (Expression-F.Compare left op what right) = let w = comparing_weight op what in omega arith
   lighter_evaluate (Expression-F.And first more) =
       let h = weight_each i.AndThen weight_of_expression (λ x. omega arith) more in omega arith
   lighter_evaluate (Expression-F.Or first more) =
@@ -212,67 +221,20 @@ module _ (s : Source) (a : Whose) (st : State) where
   lighter_join Minus at under (Ref o) v = omega arith
   lighter_join Minus at under Nil v = omega arith
 
-  lighter_same : (wanted : Bool) (under : State) (o : Option Bool) → Lighter 2 (same_or_not under wanted o)
+  lighter_same : (wanted : Bool) (under : State) (o : Option Bool) → Lighter 1 (same_or_not under wanted o)
   lighter_same wanted under None = omega arith
   lighter_same wanted under (Some b) = omega arith
 
-  lighter_compare : (op : Comparison) (under : State) (u v : Value) → Lighter 2 (compare op st under u v)
+  lighter_compare : (op : Comparison) (under : State) (u v : Value) → Lighter 1 (compare op under u v)
   lighter_compare Same under u v = lighter_same true under (are_same u v)
   lighter_compare NotSame under u v = lighter_same false under (are_same u v)
   lighter_compare Equal under u v = lighter_same true under (are_same u v)
   lighter_compare NotEqual under u v = lighter_same false under (are_same u v)
   lighter_compare Less under (Int x) (Int y) = omega arith
-  lighter_compare Less under (Int x) (Truth b) = omega arith
-  lighter_compare Less under (Int x) (Str t) = omega arith
-  lighter_compare Less under (Int x) (Ref o) = omega arith
-  lighter_compare Less under (Int x) Nil = omega arith
-  lighter_compare Less under (Str s) (Int y) = omega arith
-  lighter_compare Less under (Str s) (Truth b) = omega arith
-  lighter_compare Less under (Str s) (Str t) = omega arith
-  lighter_compare Less under (Str s) (Ref o) = omega arith
-  lighter_compare Less under (Str s) Nil = omega arith
-  lighter_compare Less under (Truth b) v = omega arith
-  lighter_compare Less under (Ref o) v = omega arith
-  lighter_compare Less under Nil v = omega arith
   lighter_compare LessEqual under (Int x) (Int y) = omega arith
-  lighter_compare LessEqual under (Int x) (Truth b) = omega arith
-  lighter_compare LessEqual under (Int x) (Str t) = omega arith
-  lighter_compare LessEqual under (Int x) (Ref o) = omega arith
-  lighter_compare LessEqual under (Int x) Nil = omega arith
-  lighter_compare LessEqual under (Str s) (Int y) = omega arith
-  lighter_compare LessEqual under (Str s) (Truth b) = omega arith
-  lighter_compare LessEqual under (Str s) (Str t) = omega arith
-  lighter_compare LessEqual under (Str s) (Ref o) = omega arith
-  lighter_compare LessEqual under (Str s) Nil = omega arith
-  lighter_compare LessEqual under (Truth b) v = omega arith
-  lighter_compare LessEqual under (Ref o) v = omega arith
-  lighter_compare LessEqual under Nil v = omega arith
   lighter_compare More under (Int x) (Int y) = omega arith
-  lighter_compare More under (Int x) (Truth b) = omega arith
-  lighter_compare More under (Int x) (Str t) = omega arith
-  lighter_compare More under (Int x) (Ref o) = omega arith
-  lighter_compare More under (Int x) Nil = omega arith
-  lighter_compare More under (Str s) (Int y) = omega arith
-  lighter_compare More under (Str s) (Truth b) = omega arith
-  lighter_compare More under (Str s) (Str t) = omega arith
-  lighter_compare More under (Str s) (Ref o) = omega arith
-  lighter_compare More under (Str s) Nil = omega arith
-  lighter_compare More under (Truth b) v = omega arith
-  lighter_compare More under (Ref o) v = omega arith
-  lighter_compare More under Nil v = omega arith
   lighter_compare MoreEqual under (Int x) (Int y) = omega arith
-  lighter_compare MoreEqual under (Int x) (Truth b) = omega arith
-  lighter_compare MoreEqual under (Int x) (Str t) = omega arith
-  lighter_compare MoreEqual under (Int x) (Ref o) = omega arith
-  lighter_compare MoreEqual under (Int x) Nil = omega arith
-  lighter_compare MoreEqual under (Str s) (Int y) = omega arith
-  lighter_compare MoreEqual under (Str s) (Truth b) = omega arith
-  lighter_compare MoreEqual under (Str s) (Str t) = omega arith
-  lighter_compare MoreEqual under (Str s) (Ref o) = omega arith
-  lighter_compare MoreEqual under (Str s) Nil = omega arith
-  lighter_compare MoreEqual under (Truth b) v = omega arith
-  lighter_compare MoreEqual under (Ref o) v = omega arith
-  lighter_compare MoreEqual under Nil v = omega arith
+  lighter_compare _ under _ _ = omega arith
 
   lighter_negate : (below : State) (v : Value) → Lighter 1 (negate below v)
   lighter_negate below (Int z) = omega arith
@@ -325,7 +287,7 @@ module _ (s : Source) (a : Whose) (st : State) where
   lighter i.Invert =
       lighter_last 1 st invert (omega arith)
       (λ below v. lighter_truth 1 v (gives below (Truth false)) (gives below (Truth true)) (omega arith) (omega arith) (omega arith))
-  lighter (i.Compare op) = lighter_two 2 st (compare op st) (omega arith) (lighter_compare op)
+  lighter (i.Compare op) = lighter_two 1 st (compare op) (omega arith) (lighter_compare op)
   lighter (i.Branch b arms other) =
       let n : ℕ = 2 + (weight_of_block b + (weight_of_arms arms + weight_of_other other)) in
       let h = weight_block b in

@@ -17,6 +17,8 @@ use Rattle.ec_core.specs.declared.Block.{Block, out-Block}
 use Rattle.ec_core.specs.declared.Builtin.{Builtin}
 use Rattle.ec_core.specs.declared.Builtin.TheVariants as builtin
 use Rattle.ec_core.specs.declared.Class.{Class}
+use Rattle.ec_core.specs.declared.Compared.{Compared}
+use Rattle.ec_core.specs.declared.Compared.TheVariants as compared
 use Rattle.ec_core.specs.declared.Core.{Core}
 use Rattle.ec_core.specs.declared.Expression.{Expression, out-Expression}
 use Rattle.ec_core.specs.declared.Expression.TheOpen.{Expression-F, Link-F}
@@ -139,6 +141,14 @@ holding st held = record st { held = held }
 abbrev pub evaluated : List Expression → List Item
 evaluated xs = map i.Evaluate xs
 
+-- The order of texts is a stop's; every other comparison is one of values.
+abbrev pub comparing : Comparison → Compared → Item
+comparing Less compared.Texts = i.Rest (stop.Compare order.Less) 2
+comparing LessEqual compared.Texts = i.Rest (stop.Compare order.LessEqual) 2
+comparing More compared.Texts = i.Rest (stop.Compare order.More) 2
+comparing MoreEqual compared.Texts = i.Rest (stop.Compare order.MoreEqual) 2
+comparing op what = i.Compare op
+
 abbrev pub evaluate : Source → Whose → State → Expression-F Expression Link Addend Factor → Step
 evaluate s a st (Expression-F.Number n) = gives st (Int (pos n))
 evaluate s a st (Expression-F.Literal text) = gives st (Str text)
@@ -162,7 +172,7 @@ evaluate s a st (Expression-F.View x of at) =
 evaluate s a st (Expression-F.IsFixed x at) = Goes st (i.Evaluate x ∷ i.Rest (stop.IsFixed (line s at)) 1 ∷ [])
 evaluate s a st (Expression-F.Term first factors) = Goes st (i.Evaluate first ∷ map i.Multiply factors)
 evaluate s a st (Expression-F.Sum first addends) = Goes st (i.Evaluate first ∷ map i.Add addends)
-evaluate s a st (Expression-F.Compare left op what right) = Goes st (i.Evaluate left ∷ i.Evaluate right ∷ i.Compare op ∷ [])
+evaluate s a st (Expression-F.Compare left op what right) = Goes st (i.Evaluate left ∷ i.Evaluate right ∷ comparing op what ∷ [])
 evaluate s a st (Expression-F.And first more) = Goes st (i.Evaluate first ∷ map i.AndThen more)
 evaluate s a st (Expression-F.Or first more) = Goes st (i.Evaluate first ∷ map i.OrElse more)
 
@@ -324,21 +334,17 @@ abbrev pub same_or_not : State → Bool → Option Bool → Step
 same_or_not under wanted None = NoCase
 same_or_not under wanted (Some b) = gives under (Truth (is_same_truth wanted b))
 
-abbrev pub compare : Comparison → State → State → Value → Value → Step
-compare Same st under u v = same_or_not under true (are_same u v)
-compare NotSame st under u v = same_or_not under false (are_same u v)
-compare Equal st under u v = same_or_not under true (are_same u v)
-compare NotEqual st under u v = same_or_not under false (are_same u v)
-compare Less st under (Int a) (Int b) = gives under (Truth (int_lt a b))
-compare LessEqual st under (Int a) (Int b) = gives under (Truth (int_le a b))
-compare More st under (Int a) (Int b) = gives under (Truth (int_lt b a))
-compare MoreEqual st under (Int a) (Int b) = gives under (Truth (int_le b a))
--- The order of texts is a stop's.
-compare Less st under (Str a) (Str b) = Goes st (i.Rest (stop.Compare order.Less) 2 ∷ [])
-compare LessEqual st under (Str a) (Str b) = Goes st (i.Rest (stop.Compare order.LessEqual) 2 ∷ [])
-compare More st under (Str a) (Str b) = Goes st (i.Rest (stop.Compare order.More) 2 ∷ [])
-compare MoreEqual st under (Str a) (Str b) = Goes st (i.Rest (stop.Compare order.MoreEqual) 2 ∷ [])
-compare _ st under _ _ = NoCase
+-- Of texts whether they are the same; an order is one of numbers.
+abbrev pub compare : Comparison → State → Value → Value → Step
+compare Same under u v = same_or_not under true (are_same u v)
+compare NotSame under u v = same_or_not under false (are_same u v)
+compare Equal under u v = same_or_not under true (are_same u v)
+compare NotEqual under u v = same_or_not under false (are_same u v)
+compare Less under (Int a) (Int b) = gives under (Truth (int_lt a b))
+compare LessEqual under (Int a) (Int b) = gives under (Truth (int_le a b))
+compare More under (Int a) (Int b) = gives under (Truth (int_lt b a))
+compare MoreEqual under (Int a) (Int b) = gives under (Truth (int_le b a))
+compare _ under _ _ = NoCase
 
 -- ---- stops
 
@@ -384,7 +390,7 @@ step s a st (i.Calculate op at) = last_two st (calculate s op at)
 step s a st (i.Join op at) = last_two st (join s op at st)
 step s a st i.Negate = last st negate
 step s a st i.Invert = last st invert
-step s a st (i.Compare op) = last_two st (compare op st)
+step s a st (i.Compare op) = last_two st (compare op)
 step s a st (i.Branch b arms other) = last st (branch b arms other)
 step s a st i.ExitIf = last st exit_if
 step s a st (i.Store p) = last st (store s a.own p)

@@ -33,7 +33,7 @@ pub enum Item {
     Join(Additive, At),
     Negate,
     Invert,
-    /// A comparison of the two values held last.
+    /// A comparison of the two values held last: whether they are the same, or the order of two numbers.
     Compare(Comparison),
     /// The block where the truth held last is true, else the other arms.
     Branch(Block, Items<Arm>, Option<Block>),

@@ -68,7 +68,7 @@ impl<'a> Counts<'a> {
     }
 
     /// One fault more of a name; a count that stands at 2^64 - 1 stays there.
-    pub fn raise(&mut self, name: &str)
+    pub(crate) fn raise(&mut self, name: &str)
         ensures names { self.new.names ≡ self.old.names }
         ensures risen { HasRisen (count_of self.old name.now) (count_of self.new name.now) }
         ensures by_one { count_of self.new name.now ≡ min (count_of self.old name.now + 1) (2 ^ 64 - 1) }

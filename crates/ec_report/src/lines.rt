@@ -83,7 +83,7 @@ fn push_status(alloc: Global, status: ProcStatus, out: &mut Vec<u8>) -> Result<(
 }
 
 /// `process 1 ended`
-pub fn push_process(
+pub(crate) fn push_process(
     alloc: Global,
     number: u64,
     status: ProcStatus,

@@ -46,7 +46,7 @@ impl Faults {
     }
 
     /// A rule is broken at a place.
-    pub fn note(&mut self, rule: Rule, at: Span)
+    pub(crate) fn note(&mut self, rule: Rule, at: Span)
         ensures { self.new ≡ spec.noted self.old (spec.fault rule at) }
     {
         self.first = lesser(self.first, StaticFault { rule, at });

@@ -155,7 +155,7 @@ fn begins_at(first: Option<usize>, at: Span) -> bool
 }
 
 /// At most 1,000 typeobjects, classes and object constructors: that with its name at a place isn't one too many.
-pub fn few_types(faults: &mut Faults, table: &TypeTable, at: Span)
+pub(crate) fn few_types(faults: &mut Faults, table: &TypeTable, at: Span)
     ensures { faults.new ≡ noted faults.old (limits.many_types table.now at) }
 {
     faults.note_if(begins_at(table.place(1000), at), Rule::ManyTypes, at);

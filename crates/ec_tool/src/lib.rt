@@ -2,8 +2,5 @@
 #![tactic(auto)]
 
 pub mod emerald;
-mod files;
-mod judge;
-mod take;
 
 pub use ec_report::status;

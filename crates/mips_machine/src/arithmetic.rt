@@ -49,7 +49,7 @@ pub fn on_shift(shift: Shift, b: u32, amount: u32) -> u32
 }
 
 /// A shift of the word of rt by the low five bits of the word of rs.
-pub fn on_variable_shift(shift: VariableShift, b: u32, a: u32) -> u32
+pub(crate) fn on_variable_shift(shift: VariableShift, b: u32, a: u32) -> u32
     ensures { result ≡ variable_shift_value shift b a }
 {
     match shift {
@@ -76,7 +76,7 @@ pub fn on_registers(operation: Operation, a: u32, b: u32) -> u32
 }
 
 /// Whether an operation on the words of rs and rt overflows.
-pub fn operation_overflows(operation: Operation, a: u32, b: u32) -> bool
+pub(crate) fn operation_overflows(operation: Operation, a: u32, b: u32) -> bool
     ensures { result ≡ operation_overflows operation a b }
 {
     match operation {
@@ -87,7 +87,7 @@ pub fn operation_overflows(operation: Operation, a: u32, b: u32) -> bool
 }
 
 /// The number of an immediate, at 32 bits.
-pub fn immediate_number(operation: Immediate, number: u32) -> u32
+pub(crate) fn immediate_number(operation: Immediate, number: u32) -> u32
     requires { number < 2 ^ 16 }
     ensures { result ≡ immediate_number operation number }
 {
@@ -114,7 +114,7 @@ pub fn on_immediate(operation: Immediate, a: u32, number: u32) -> u32
 }
 
 /// Whether an operation on the word of rs and the number of an immediate overflows.
-pub fn immediate_overflows(operation: Immediate, a: u32, number: u32) -> bool
+pub(crate) fn immediate_overflows(operation: Immediate, a: u32, number: u32) -> bool
     ensures { result ≡ immediate_overflows operation a number }
 {
     match operation {
@@ -124,7 +124,7 @@ pub fn immediate_overflows(operation: Immediate, a: u32, number: u32) -> bool
 }
 
 /// What an operation on the words of rs and rt leaves in HI and LO.
-pub fn on_hilo(operation: HiLoOperation, a: u32, b: u32) -> HiLo
+pub(crate) fn on_hilo(operation: HiLoOperation, a: u32, b: u32) -> HiLo
     requires { is_undefined operation a b ≡ false }
     ensures hi { result.hi ≡ hi_value operation a b }
     ensures lo { result.lo ≡ lo_value operation a b }
@@ -138,7 +138,7 @@ pub fn on_hilo(operation: HiLoOperation, a: u32, b: u32) -> HiLo
 }
 
 /// Whether the manual leaves the result undefined.
-pub fn is_undefined(operation: HiLoOperation, a: u32, b: u32) -> bool
+pub(crate) fn is_undefined(operation: HiLoOperation, a: u32, b: u32) -> bool
     ensures { result ≡ is_undefined operation a b }
 {
     match operation {
@@ -159,7 +159,7 @@ pub fn is_taken(branch: Branch, a: u32, b: u32) -> bool
 }
 
 /// Whether a branch is taken, where rs holds this word.
-pub fn is_zero_taken(branch: ZeroBranch, a: u32) -> bool
+pub(crate) fn is_zero_taken(branch: ZeroBranch, a: u32) -> bool
     ensures { result ≡ is_zero_taken branch a }
 {
     match branch {
@@ -171,7 +171,7 @@ pub fn is_zero_taken(branch: ZeroBranch, a: u32) -> bool
 }
 
 /// Whether the sum of two signed words overflows.
-pub fn sum_overflows(a: u32, b: u32) -> bool
+pub(crate) fn sum_overflows(a: u32, b: u32) -> bool
     ensures value { result ≡ is_beyond (signed a +ℤ signed b) }
     ensures exact { OnFalse result (signed (plus a b) ≡ signed a +ℤ signed b) }
 {
@@ -179,7 +179,7 @@ pub fn sum_overflows(a: u32, b: u32) -> bool
 }
 
 /// Whether the difference of two signed words overflows.
-pub fn difference_overflows(a: u32, b: u32) -> bool
+pub(crate) fn difference_overflows(a: u32, b: u32) -> bool
     ensures value { result ≡ is_beyond (signed a -ℤ signed b) }
     ensures exact { OnFalse result (signed (minus a b) ≡ signed a -ℤ signed b) }
 {

@@ -42,7 +42,7 @@ impl Since {
     }
 
     /// HI or LO was read by one of the two instructions before the next one.
-    pub fn is_recent(self) -> bool
+    pub(crate) fn is_recent(self) -> bool
         ensures { result ≡ is_recent self }
     {
         match self {
@@ -157,7 +157,7 @@ pub fn writes(instr: Instr) -> u32
 }
 
 /// A jump, a branch or a stop: it may not stand in a delay slot.
-pub fn is_jump(instr: Instr) -> bool
+pub(crate) fn is_jump(instr: Instr) -> bool
     ensures { result ≡ is_jump instr }
 {
     matches!(
@@ -173,14 +173,14 @@ pub fn is_jump(instr: Instr) -> bool
 }
 
 /// It sets HI or LO.
-pub fn sets_hilo(instr: Instr) -> bool
+pub(crate) fn sets_hilo(instr: Instr) -> bool
     ensures { result ≡ sets_hilo instr }
 {
     matches!(instr, Instr::OnHiLo { .. } | Instr::WriteHiLo { .. })
 }
 
 /// It reads HI or LO.
-pub fn reads_hilo(instr: Instr) -> bool
+pub(crate) fn reads_hilo(instr: Instr) -> bool
     ensures { result ≡ reads_hilo instr }
 {
     matches!(instr, Instr::ReadHiLo { .. })

@@ -3,23 +3,22 @@ ghost use Rattle.std.specs.Prelude.{◌≡◌, Bool, true, false, IfOk};
 ghost use Rattle.ec_meaning.specs.Running.{after, came, comparison_of, in_number_order};
 ghost use Rattle.ec_meaning.specs.Steps as spec;
 
-use crate::item::Item;
 use crate::state::{Outcome, State};
 use crate::todo::Todo;
 use ec_ast::Comparison;
-use ec_world::stop::{Order, Stop};
+use ec_world::stop::Order;
 use ec_world::value::{Text, Value};
 use std::alloc::AllocError;
 
-/// A comparison of the two values held last: of numbers at once, of texts by a stop, where it is more than whether they are
-/// the same. The error is want of memory.
+/// A comparison of the two values held last: whether they are the same, or how two numbers stand to each other. The error is
+/// want of memory.
 pub(crate) fn compare(
     op: Comparison,
     state: &mut State,
-    todo: &mut Todo,
+    todo: &Todo,
 ) -> Result<Outcome, AllocError>
     ensures { IfOk result
-        (λ o. came o state.new todo.new ≡ after state.old todo.old (spec.last_two state.old (spec.compare op state.old))) }
+        (λ o. came o state.new todo.now ≡ after state.old todo.now (spec.last_two state.old (spec.compare op))) }
 {
     match op {
         Comparison::Same | Comparison::Equal => same_or_not(true, state, todo),
@@ -91,24 +90,14 @@ fn in_order(order: Order, a: i32, b: i32) -> bool
     }
 }
 
-/// Whether the two numbers held last stand to each other in an order; two texts stay held, and their stop is next. The
-/// error is want of memory.
-#[tactic(auto, using(crate::proofs::Held::two_again))]
-fn order(order: Order, state: &mut State, todo: &mut Todo) -> Result<Outcome, AllocError>
+/// Whether the two numbers held last stand to each other in an order. The error is want of memory.
+fn order(order: Order, state: &mut State, todo: &Todo) -> Result<Outcome, AllocError>
     ensures { IfOk result
-        (λ o. came o state.new todo.new ≡ after state.old todo.old
-        (spec.last_two state.old (spec.compare (comparison_of order) state.old))) }
+        (λ o. came o state.new todo.now ≡ after state.old todo.now
+        (spec.last_two state.old (spec.compare (comparison_of order)))) }
 {
-    let Some((u, v)) = state.pop_two() else {
-        return Ok(Outcome::NoCase);
-    };
-    match (u, v) {
-        (Value::Int(a), Value::Int(b)) => state.gives(Value::Bool(in_order(order, a, b))),
-        (Value::Str(s), Value::Str(t)) => {
-            state.hold_two(Value::Str(s), Value::Str(t))?;
-            let stop = Stop::Compare { order };
-            todo.then(Item::Rest { stop, takes: 2 })
-        }
-        _ => Ok(Outcome::NoCase),
+    match state.pop_numbers() {
+        Some((a, b)) => state.gives(Value::Bool(in_order(order, a, b))),
+        None => Ok(Outcome::NoCase),
     }
 }

@@ -22,8 +22,8 @@ use crate::types::{vector_type, viewed_as};
 use ec_ast::{Comparison, Text};
 use ec_base::list::Seq;
 use ec_conform::static_type::StaticType;
-use ec_core::{Addend, At, Expression, Factor, Link, Place};
-use ec_world::stop::Stop;
+use ec_core::{Addend, At, Compared, Expression, Factor, Link, Place};
+use ec_world::stop::{Order, Stop};
 use ec_world::value::Value;
 use sqlite_items::{Boxed, Items};
 use std::alloc::AllocError;
@@ -60,7 +60,7 @@ pub(crate) fn evaluate(
         Expression::IsFixed(x, at) => is_fixed(x, at, program, todo),
         Expression::Term(first, factors) => term(first, factors, todo),
         Expression::Sum(first, addends) => sum(first, addends, todo),
-        Expression::Compare(left, op, _, right) => both_sides(left, op, right, todo),
+        Expression::Compare(left, op, what, right) => both_sides(left, op, what, right, todo),
         Expression::And(first, more) => and(first, more, todo),
         Expression::Or(first, more) => or(first, more, todo),
     }
@@ -242,17 +242,39 @@ fn sum(
     todo.then(Item::Evaluate(first.into_inner()))
 }
 
+/// The stop at which two texts are compared, by their order.
+fn order_of_texts(order: Order) -> Item
+    ensures { result ≡ Item.Rest (Stop.Compare order) 2 }
+{
+    let stop = Stop::Compare { order };
+    Item::Rest { stop, takes: 2 }
+}
+
+/// What is done with the two sides of a comparison: the order of texts is a stop's; every other comparison is one of values.
+fn comparing(op: Comparison, what: Compared) -> Item
+    ensures { result ≡ spec.comparing op what }
+{
+    match (op, what) {
+        (Comparison::Less, Compared::Texts) => order_of_texts(Order::Less),
+        (Comparison::LessEqual, Compared::Texts) => order_of_texts(Order::LessEqual),
+        (Comparison::More, Compared::Texts) => order_of_texts(Order::More),
+        (Comparison::MoreEqual, Compared::Texts) => order_of_texts(Order::MoreEqual),
+        _ => Item::Compare(op),
+    }
+}
+
 /// The error is want of memory.
 fn both_sides(
     left: Boxed<Expression>,
     op: Comparison,
+    what: Compared,
     right: Boxed<Expression>,
     todo: &mut Todo,
 ) -> Result<Outcome, AllocError>
     ensures goes { IfOk result (λ o. o ≡ Outcome.Goes) }
-    ensures next { OnOk result (todo.new ≡ Item.Evaluate left ∷ Item.Evaluate right ∷ Item.Compare op ∷ todo.old) }
+    ensures next { OnOk result (todo.new ≡ Item.Evaluate left ∷ Item.Evaluate right ∷ spec.comparing op what ∷ todo.old) }
 {
-    todo.push(Item::Compare(op))?;
+    todo.push(comparing(op, what))?;
     then_item(left, Item::Evaluate(right.into_inner()), todo)
 }
 

@@ -1,0 +1,15 @@
+use Rattle.std.proofs.Common.{◌∙◌, ◌<◌, length, arith, sym}
+use Rattle.std.proofs.lemmas.Grind.{common_steps}
+use Rattle.ec_code.proofs.Put.{put_end, put_in}
+use Rattle.ec_code.proofs.activation.put.Goals as goal
+
+pub returns-then-len-at : goal.returns-then-len-at
+returns-then-len-at c =
+    let e = sym (put_end c.pad.new.temporaries c.args.value c.args.at (omega (arith, c.len.ensures, c.if-len-at.true)))
+    ∙ c.in_ok-pad.ensures.same c.args.value in
+    grind (arith, common_steps, e)
+
+pub returns : goal.returns
+returns c =
+    let lt : c.args.at < length c.pad.new.temporaries = omega (arith, c.in_ok-pad.ensures.long, c.len.ensures, c.if-len-at.false) in
+    c.set.ensures ∙ sym (put_in c.pad.new.temporaries c.args.at c.args.value lt) ∙ c.in_ok-pad.ensures.same c.args.value

@@ -1,0 +1,4 @@
+pub mod Steps
+pub mod Activations
+pub mod Typing
+pub mod Fine

@@ -1,0 +1,5 @@
+pub mod Composes
+pub mod Itself
+mod Operations
+mod TwoSteps
+mod Union

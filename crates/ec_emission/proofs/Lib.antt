@@ -1,0 +1,12 @@
+pub mod Bodies
+pub mod Chains
+pub mod Comparing
+pub mod Defaults
+pub mod Expressions
+pub mod Forms
+pub mod Literals
+pub mod Operands
+pub mod Operations
+pub mod Operators
+pub mod Statements
+pub mod Turns

@@ -1,0 +1,18 @@
+mod Typed
+mod Carried
+mod Reading
+mod Steps
+mod Silent
+mod Monitors
+mod Done
+mod Plain
+mod Vectors
+mod Views
+mod Calls
+mod Returns
+mod Table
+mod Finished
+mod Stacks
+pub mod Worlds
+pub mod Facts
+mod Dividing
