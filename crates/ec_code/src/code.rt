@@ -65,17 +65,34 @@ pub struct StopRow {
 #[derive(Drop)]
 pub enum Op {
     /// A variable gets what is read.
-    Copy { to: Variable, from: Operand },
+    Copy {
+        to: Variable,
+        from: Operand,
+    },
     /// A variable gets a literal of the program, by its place among them.
-    Literal { to: Variable, index: u32 },
+    Literal {
+        to: Variable,
+        index: u32,
+    },
     /// A variable gets the own object.
-    Itself { to: Variable },
+    Itself {
+        to: Variable,
+    },
     /// A variable gets a field of the own object, by its number there: captured names and parameters first.
-    Field { to: Variable, field: u32 },
+    Field {
+        to: Variable,
+        field: u32,
+    },
     /// A field of the own object gets what is read.
-    SetField { field: u32, from: Operand },
+    SetField {
+        field: u32,
+        from: Operand,
+    },
     /// A variable gets a constant of the program, by its place among those with a value.
-    Constant { to: Variable, index: u32 },
+    Constant {
+        to: Variable,
+        index: u32,
+    },
     /// A variable gets the result of arithmetic.
     Compute {
         how: Arithmetic,
@@ -90,11 +107,19 @@ pub enum Op {
         wanted: bool,
     },
     /// So many steps are passed over where a test comes out as wanted.
-    Branch { test: Test, wanted: bool, over: u32 },
+    Branch {
+        test: Test,
+        wanted: bool,
+        over: u32,
+    },
     /// So many steps are passed over.
-    Jump { over: u32 },
+    Jump {
+        over: u32,
+    },
     /// The next turn of a loop: its loop top stands so many steps before.
-    Again { back: u32 },
+    Again {
+        back: u32,
+    },
     /// The activation rests at a stop.
     Rest(StopRow),
 }

@@ -16,5 +16,5 @@ pub mod start;
 pub mod state;
 mod steps;
 pub mod todo;
-pub(crate) mod types;
+pub mod types;
 mod worlds;

@@ -57,21 +57,21 @@ impl<'a> Program<'a> {
     }
 
     /// The table of the types.
-    pub(crate) fn table(&self) -> &'a TypeTable
+    pub fn table(&self) -> &'a TypeTable
         ensures { result.now ≡ (source_of self.now).table }
     {
         self.table
     }
 
     /// The core.
-    pub(crate) fn core(&self) -> &'a Core
+    pub fn core(&self) -> &'a Core
         ensures { result.now ≡ (source_of self.now).core }
     {
         self.core
     }
 
     /// The line of a place in the text, from 1. That of a place beyond the text is that of its end.
-    pub(crate) fn line(&self, at: At) -> u32
+    pub fn line(&self, at: At) -> u32
         ensures { result ≡ spec.line (source_of self.now) at }
     {
         match self.lines.get(at as usize) {
@@ -81,7 +81,7 @@ impl<'a> Program<'a> {
     }
 
     /// The number of a name of operations. The error is want of memory, or a number of more than 32 bits.
-    pub(crate) fn name_number(&self, name: &[u8]) -> Result<NameNo, AllocError>
+    pub fn name_number(&self, name: &[u8]) -> Result<NameNo, AllocError>
         ensures { IfOk result (λ number. number ≡ spec.name_number (source_of self.now) name.now) }
     {
         match self.names.first(name)? {
@@ -91,7 +91,7 @@ impl<'a> Program<'a> {
     }
 
     /// The class whose type has a number, by its place among the classes. The error is a place of more than 32 bits.
-    pub(crate) fn class_number(&self, number: usize) -> Result<ClassNo, AllocError>
+    pub fn class_number(&self, number: usize) -> Result<ClassNo, AllocError>
         ensures { IfOk result (λ class. class ≡ spec.class_number (source_of self.now) number) }
     {
         let place = class_place(self.core.classes.as_slice(), number);
@@ -99,7 +99,7 @@ impl<'a> Program<'a> {
     }
 
     /// The place of a constant, by its number, among those that have values.
-    pub(crate) fn constant_number(&self, number: usize) -> usize
+    pub fn constant_number(&self, number: usize) -> usize
         ensures { result ≡ spec.constant_number (source_of self.now) number }
     {
         constant_place(self.core.constants.as_slice(), number)

@@ -9,7 +9,7 @@ use ec_world::value::ValueType;
 use std::alloc::AllocError;
 
 /// What a variable, a field or a constant of a type holds.
-pub(crate) fn kind_of(of: StaticType) -> ValueType
+pub fn kind_of(of: StaticType) -> ValueType
     ensures { result ≡ spec.kind_of of }
 {
     match of {
@@ -31,7 +31,7 @@ fn plain_kind(of: Plain) -> ValueType
 
 /// The type of a vector: no other stands where one is wanted. Want of memory where the number of its named type, or of
 /// the vectors around it, has more than 32 bits.
-pub(crate) fn vector_type(of: StaticType) -> Result<VectorType, AllocError>
+pub fn vector_type(of: StaticType) -> Result<VectorType, AllocError>
     ensures { IfOk result (λ v. v ≡ spec.vector_type of) }
 {
     match of {
@@ -65,7 +65,7 @@ fn plain_type(of: Plain) -> Result<PlainType, AllocError>
 }
 
 /// The type as which an object is viewed. Want of memory as for the type of a vector.
-pub(crate) fn viewed_as(table: &TypeTable, of: StaticType) -> Result<ViewedAs, AllocError>
+pub fn viewed_as(table: &TypeTable, of: StaticType) -> Result<ViewedAs, AllocError>
     ensures { IfOk result (λ v. v ≡ spec.viewed_as table.now of) }
 {
     match of {
@@ -98,7 +98,7 @@ fn viewed_named(table: &TypeTable, number: usize) -> Result<ViewedAs, AllocError
 }
 
 /// A number of 32 bits. Want of memory where it has more.
-pub(crate) fn number_of(number: usize) -> Result<u32, AllocError>
+pub fn number_of(number: usize) -> Result<u32, AllocError>
     ensures { IfOk result (λ n. n ≡ number) }
 {
     match u32::try_from(number) {

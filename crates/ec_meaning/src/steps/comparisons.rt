@@ -12,11 +12,7 @@ use std::alloc::AllocError;
 
 /// A comparison of the two values held last: whether they are the same, or how two numbers stand to each other. The error is
 /// want of memory.
-pub(crate) fn compare(
-    op: Comparison,
-    state: &mut State,
-    todo: &Todo,
-) -> Result<Outcome, AllocError>
+pub(crate) fn compare(op: Comparison, state: &mut State, todo: &Todo) -> Result<Outcome, AllocError>
     ensures { IfOk result
         (λ o. came o state.new todo.now ≡ after state.old todo.now (spec.last_two state.old (spec.compare op))) }
 {
