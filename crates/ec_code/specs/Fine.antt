@@ -27,7 +27,7 @@ use Rattle.ec_conform.specs.declared.static_type.StaticType.{StaticType}
 use Rattle.ec_conform.specs.declared.static_type.StaticType.TheVariants as type
 use Rattle.ec_conformity.specs.Fits.{Fits}
 use Rattle.ec_conformity.specs.Known.{IsOfProgram, NoneUnknown}
-use Rattle.ec_names.specs.Names.{Text, is_same}
+use Rattle.ec_names.specs.Names.{Text, first_named}
 use Rattle.ec_world.specs.Agree.{AllTwo}
 use Rattle.ec_world.specs.Doings.{conditions_of, runs_inside}
 use Rattle.ec_world.specs.Objects.{operation_named, true_at}
@@ -159,8 +159,13 @@ module _ (d : Declared) (p : Parts) where
   abbrev pub TakesAndGives : List StaticType → List StaticType → Option StaticType → Option StaticType → Type 0
   TakesAndGives given_types wanted gives given = FitAll given_types wanted × (given ≡ gives)
 
+  -- A name's number is the place of the first of the names that is the same; how many there are, where none is.
+  abbrev pub number_if : Option ℕ → ℕ
+  number_if None = length d.names
+  number_if (Some n) = n
+
   abbrev pub IsNameOf : ℕ → Text → Type 0
-  IsNameOf n text = (own : Text) × (slice_get d.names n ≡ Some own) × (is_same own text ≡ true)
+  IsNameOf n text = n ≡ number_if (first_named d.names text)
 
   -- an operation that the receiver's type has
   abbrev pub FineInvoke : ℕ → List StaticType → Option StaticType → Type 0

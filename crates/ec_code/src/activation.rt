@@ -87,7 +87,7 @@ impl Activation for CodeActivation {
 }
 
 /// Sets a named variable, where it is there.
-fn set_named(variables: &mut Values, at: usize, value: Value) -> Result<(), AllocError>
+pub fn set_named(variables: &mut Values, at: usize, value: Value) -> Result<(), AllocError>
     ensures { OnOk result (variables.new ≡ slice_set variables.old at value) }
 {
     if at < variables.len() {
@@ -97,7 +97,7 @@ fn set_named(variables: &mut Values, at: usize, value: Value) -> Result<(), Allo
 }
 
 /// Sets a temporary.
-fn put(temporaries: &mut Values, at: usize, value: Value) -> Result<(), AllocError>
+pub fn put(temporaries: &mut Values, at: usize, value: Value) -> Result<(), AllocError>
     ensures { OnOk result (temporaries.new ≡ put temporaries.old at value) }
 {
     pad(temporaries, at)?;

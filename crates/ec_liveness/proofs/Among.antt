@@ -54,22 +54,22 @@ module _ {A : Type 0} where
 
 -- ---- variables
 
-same_is : (x y : Variable) → is_same x y ≡ true → x ≡ y
+pub same_is : (x y : Variable) → is_same x y ≡ true → x ≡ y
 same_is (Named m) (Named n) h = ap Named (eqb-true m n h)
 same_is (Named m) (Temporary e) h = absurd (let f : false ≡ true = h in cc)
 same_is (Temporary d) (Named n) h = absurd (let f : false ≡ true = h in cc)
 same_is (Temporary d) (Temporary e) h = ap Temporary (eqb-true d e h)
 
-is_same_self : (x : Variable) → is_same x x ≡ true
+pub is_same_self : (x : Variable) → is_same x x ≡ true
 is_same_self (Named m) = eq-eqb m m refl
 is_same_self (Temporary d) = eq-eqb d d refl
 
-among_in : (x : Variable) (ys : List Variable) → is_among x ys ≡ true → IsIn x ys
+pub among_in : (x : Variable) (ys : List Variable) → is_among x ys ≡ true → IsIn x ys
 among_in x [] h = absurd (let f : false ≡ true = h in cc)
 among_in x (y ∷ ys) h =
     ⊎_elim (λ e. inl (same_is x y e)) (λ e. inr (among_in x ys e)) (or_cases (is_same x y) (is_among x ys) h)
 
-in_among : (x : Variable) (ys : List Variable) → IsIn x ys → is_among x ys ≡ true
+pub in_among : (x : Variable) (ys : List Variable) → IsIn x ys → is_among x ys ≡ true
 in_among x [] h = absurd h
 in_among x (y ∷ ys) (inl e) =
     or_left (is_same x y) (is_among x ys) (subst (λ z. is_same x z ≡ true) e (is_same_self x))

@@ -5,4 +5,4 @@ mod extent;
 pub mod live;
 mod marks;
 mod rows;
-mod steps;
+pub mod steps;

@@ -73,7 +73,7 @@ fn is_among(x: Variable, variables: &Seq<Variable>) -> bool
 }
 
 /// Whether two variables are one.
-fn is_same(x: Variable, y: Variable) -> bool
+pub fn is_same(x: Variable, y: Variable) -> bool
     ensures { result ≡ table.is_same x y }
 {
     match (x, y) {
@@ -84,9 +84,9 @@ fn is_same(x: Variable, y: Variable) -> bool
     }
 }
 
-/// Whether a step writes a variable.
-fn writes(op: &Op, x: Variable) -> bool
-    ensures { result ≡ table.is_written (spec.writes op.now) x }
+/// The variable that a step writes; of a stop the one that takes what it gives.
+pub fn written(op: &Op) -> Option<Variable>
+    ensures { result ≡ spec.writes op.now }
 {
     match op {
         Op::Copy { to, .. }
@@ -95,12 +95,19 @@ fn writes(op: &Op, x: Variable) -> bool
         | Op::Field { to, .. }
         | Op::Constant { to, .. }
         | Op::Compute { to, .. }
-        | Op::Decide { to, .. } => is_same(x, *to),
-        Op::Rest(row) => match row.into {
-            Some(into) => is_same(x, into),
-            None => false,
-        },
-        Op::SetField { .. } | Op::Branch { .. } | Op::Jump { .. } | Op::Again { .. } => false,
+        | Op::Decide { to, .. } => Some(*to),
+        Op::Rest(row) => row.into,
+        Op::SetField { .. } | Op::Branch { .. } | Op::Jump { .. } | Op::Again { .. } => None,
+    }
+}
+
+/// Whether a step writes a variable.
+fn writes(op: &Op, x: Variable) -> bool
+    ensures { result ≡ table.is_written (spec.writes op.now) x }
+{
+    match written(op) {
+        Some(y) => is_same(x, y),
+        None => false,
     }
 }
 

@@ -1,15 +1,15 @@
 -- What the actions of invocations and creations make: a call of an operation that is there, with arguments of its parameters' types.
-use Rattle.std.proofs.Common.{◌≡◌, ℕ, zero, suc, ◌≤◌, Bool, true, false, ◌&&◌, ◌||◌, inl, inr, List, [], ◌∷◌, ◌++◌, length, drop, Option}
+use Rattle.std.proofs.Common.{◌≡◌, ℕ, zero, suc, ◌+◌, ◌≤◌, Bool, true, false, ◌&&◌, ◌||◌, inl, inr, List, [], ◌∷◌, ◌++◌, length, drop, Option}
 use Rattle.std.proofs.Common.{Some, None}
-use Rattle.std.proofs.Common.{refl, sym, ◌∙◌, ap, subst, arith}
+use Rattle.std.proofs.Common.{refl, sym, ◌∙◌, ap, ap₂, subst, arith}
 use Rattle.std.proofs.lemmas.List.Elements.{recursion_from_All}
 use Rattle.std.specs.Cmp.Lexicographic.{bytes_decides}
 use Rattle.std.specs.List.{All, AllByRecursion as Each}
-use Rattle.std.specs.Prelude.{slice_get, IfSome, IsSome}
-use Rattle.std.specs.Str.{str_to_ascii_lowercase}
+use Rattle.std.specs.Prelude.{slice_get, IfSome, IsSome, if◌then◌else◌}
+use Rattle.std.specs.Str.{bytes_eq, str_to_ascii_lowercase}
 use Rattle.ec_code.specs.declared.code.Operation.{Operation}
 use Rattle.ec_code.specs.declared.code.Parts.{Parts}
-use Rattle.ec_code.specs.Fine.{Fine, FineInvoke, FineNew, FitAll, IsFieldOf, IsIn, IsNameOf, OwnCall}
+use Rattle.ec_code.specs.Fine.{Fine, FineInvoke, FineNew, FitAll, IsFieldOf, IsIn, IsNameOf, OwnCall, number_if}
 use Rattle.ec_code.specs.Typing.{Declared, DeclaredClass, class_type, fields_if as class_fields, type_if}
 use Rattle.ec_conform.specs.Conforms.{Conforms, IsClosed, Relation, conforms_in, has_operation, has_operations, is_none, most_types}
 use Rattle.ec_conform.specs.Conforms.{operations_at}
@@ -22,7 +22,7 @@ use Rattle.ec_conform.specs.declared.static_type.Plain.TheVariants as static
 use Rattle.ec_conform.specs.declared.static_type.StaticType.{StaticType}
 use Rattle.ec_conform.specs.declared.static_type.StaticType.TheVariants as type
 use Rattle.ec_conformity.specs.Known.{IsOfProgram, IsOperationOfProgram, NoneUnknown}
-use Rattle.ec_names.specs.Names.{Text, is_same as is_same_name}
+use Rattle.ec_names.specs.Names.{Text, first_from, is_same as is_same_name}
 use Rattle.ec_world.specs.Agree.{AllTwo}
 use Rattle.ec_world.specs.Doings.{Asked, called, invoke_asks, new_asks}
 use Rattle.ec_world.specs.Objects.{class_at, operation_in}
@@ -70,8 +70,13 @@ operations_of_program types known n =
 letters : (a b : Text) → is_same_name a b ≡ true → str_to_ascii_lowercase a ≡ str_to_ascii_lowercase b
 letters a b same = (bytes_decides _ _).0 same
 
-name_joined : (own q w : Text) → is_same_name own w ≡ true → is_same_name q w ≡ true → is_same_name own q ≡ true
-name_joined own q w a b = (bytes_decides _ _).1 (letters own w a ∙ sym (letters q w b))
+-- Names that are the same have one number.
+first_joined : (n : ℕ) (names : List Text) (q w : Text) → is_same_name q w ≡ true → first_from n names w ≡ first_from n names q
+first_joined n [] q w same = refl
+first_joined n (own ∷ names) q w same =
+    let here : is_same_name own w ≡ is_same_name own q =
+        ap (λ small. bytes_eq (str_to_ascii_lowercase own) small) (sym (letters q w same)) in
+    ap₂ (λ b other. if b then Some n else other) here (first_joined (n + 1) names q w same)
 
 module _ (types : List NamedType) (r : Relation) where
   -- the operation that stands for a wanted one
@@ -157,7 +162,8 @@ module _ (d : Declared) (p : Parts) (fine : Fine d p) (c : Common) (sound : Soun
       let result = results_fit d.types r q.result w.result in
       let same = both_left (is_same_name q.name w.name) (fits && result) s.stands in
       let rest = both_right (is_same_name q.name w.name) (fits && result) s.stands in
-      let i = f.2.operations q name s.there (is.0, is.1, name_joined is.0 q.name w.name is.2 same) in
+      let i =
+          f.2.operations q name s.there (is ∙ ap (number_if d p) (first_joined 0 d.names q.name w.name same)) in
       let kw = of_program d p fine m w there in
       let kq = of_program d p fine t.number q s.there in
       let here : operation_in (class_at c.classes (Made k)) name ≡ Some i.number =

@@ -1,8 +1,8 @@
 mod Typed
-mod Carried
+pub mod Carried
 mod Reading
 mod Steps
-mod Silent
+pub mod Silent
 mod Monitors
 mod Done
 mod Plain
@@ -10,7 +10,7 @@ mod Vectors
 mod Views
 mod Calls
 mod Returns
-mod Table
+pub mod Table
 mod Finished
 mod Stacks
 pub mod Worlds
