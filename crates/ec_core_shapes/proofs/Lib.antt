@@ -1,0 +1,16 @@
+pub mod FormedExpressions
+pub mod FormedPrograms
+pub mod FormedStatements
+pub mod Scopes
+pub mod ShapedBodies
+pub mod ShapedExpressions
+pub mod ShapedParts
+pub mod ShapedPrograms
+pub mod ShapedStatements
+pub mod ShapedTrees
+pub mod Shapes
+pub mod Signatures
+pub mod SignedTrees
+pub mod Sites
+pub mod Tables
+pub mod Types
