@@ -1,0 +1,3 @@
+pub mod Types
+pub mod Lowered
+pub mod Laws
