@@ -1,0 +1,4 @@
+pub mod Forms
+pub mod Jumping
+pub mod Programs
+pub mod Turning
