@@ -75,7 +75,7 @@ first_joined : (n : ℕ) (names : List Text) (q w : Text) → is_same_name q w �
 first_joined n [] q w same = refl
 first_joined n (own ∷ names) q w same =
     let here : is_same_name own w ≡ is_same_name own q =
-        ap (λ small. bytes_eq (str_to_ascii_lowercase own) small) (sym (letters q w same)) in
+    ap (λ small. bytes_eq (str_to_ascii_lowercase own) small) (sym (letters q w same)) in
     ap₂ (λ b other. if b then Some n else other) here (first_joined (n + 1) names q w same)
 
 module _ (types : List NamedType) (r : Relation) where
@@ -163,7 +163,7 @@ module _ (d : Declared) (p : Parts) (fine : Fine d p) (c : Common) (sound : Soun
       let same = both_left (is_same_name q.name w.name) (fits && result) s.stands in
       let rest = both_right (is_same_name q.name w.name) (fits && result) s.stands in
       let i =
-          f.2.operations q name s.there (is ∙ ap (number_if d p) (first_joined 0 d.names q.name w.name same)) in
+      f.2.operations q name s.there (is ∙ ap (number_if d p) (first_joined 0 d.names q.name w.name same)) in
       let kw = of_program d p fine m w there in
       let kq = of_program d p fine t.number q s.there in
       let here : operation_in (class_at c.classes (Made k)) name ≡ Some i.number =
