@@ -1,5 +1,6 @@
 -- The place of a text among others when one more comes behind them, and the map that holds the places.
-use Rattle.std.proofs.Common.{◌≡◌, ℕ, suc, ◌+◌, Bool, true, false, true≢false, ◌&&◌, cond, if◌then◌else◌, List, [], ◌∷◌, ◌++◌, length}
+use Rattle.std.proofs.Common.{◌≡◌, ℕ, suc, ◌+◌, Bool, true, false, true≢false, ◌&&◌, cond, if◌then◌else◌, List, [], ◌∷◌}
+use Rattle.std.proofs.Common.{◌++◌, length}
 use Rattle.std.proofs.Common.{Some, None, Option, Vec, BTreeMap, refl, sym, ap, ◌∙◌, arith}
 use Rattle.std.specs.Prelude.{is_some}
 use Rattle.std.specs.BTreeMap.{Updates, get, is_at}
@@ -53,7 +54,8 @@ place_is n (t ∷ ts) text = by (place_is (suc n) ts text) (is_text t text) refl
     count : n + suc (length ts) ≡ suc n + length ts
     count = omega arith
 
-    by : unwrap_or (place_from (suc n) ts text) (suc n + length ts) ≡ literal_from (suc n) ts text → (b : Bool) → is_text t text ≡ b
+    by : unwrap_or (place_from (suc n) ts text) (suc n + length ts) ≡ literal_from (suc n) ts text
+        → (b : Bool) → is_text t text ≡ b
         → unwrap_or (place_from n (t ∷ ts) text) (n + length (t ∷ ts)) ≡ literal_from n (t ∷ ts) text
     by behind true same = rw same refl
     by behind false apart = rw apart (ap (unwrap_or (place_from (suc n) ts text)) count ∙ behind)
@@ -65,27 +67,30 @@ place_at ts text =
 
 -- ---- one text more
 
-not_first : (first : Bool) {rest : Bool} → (if first then true else rest) ≡ false → first ≡ false
-not_first true e = e
-not_first false e = refl
+not_first : (first rest : Bool) → (if first then true else rest) ≡ false → first ≡ false
+not_first true rest e = e
+not_first false rest e = refl
 
-not_behind : (first : Bool) {rest : Bool} → (if first then true else rest) ≡ false → rest ≡ false
-not_behind true e = cc
-not_behind false e = e
+not_behind : (first rest : Bool) → (if first then true else rest) ≡ false → rest ≡ false
+not_behind true rest e = cc
+not_behind false rest e = e
 
 place_pushed : (n : ℕ) (ts : Texts) (own text : List ℕ) → has_text ts own ≡ false
     → place_from n (ts ++ own ∷ []) text ≡ cond (is_text own text) (Some (n + length ts)) (place_from n ts text)
 place_pushed n [] own text h =
     let count : n ≡ n + 0 = omega arith in ap (λ i. cond (is_text own text) (Some i) None) count
 place_pushed n (t ∷ ts) own text h =
-    by (place_pushed (suc n) ts own text (not_behind (is_text t own) h)) (not_first (is_text t own) h) (is_text t text) refl
+    by (place_pushed (suc n) ts own text (not_behind (is_text t own) (has_text ts own) h))
+    (not_first (is_text t own) (has_text ts own) h) (is_text t text) refl
   where
     count : suc n + length ts ≡ n + suc (length ts)
     count = omega arith
 
-    by : place_from (suc n) (ts ++ own ∷ []) text ≡ cond (is_text own text) (Some (suc n + length ts)) (place_from (suc n) ts text)
+    by : place_from (suc n) (ts ++ own ∷ []) text
+        ≡ cond (is_text own text) (Some (suc n + length ts)) (place_from (suc n) ts text)
         → is_text t own ≡ false → (b : Bool) → is_text t text ≡ b
-        → place_from n ((t ∷ ts) ++ own ∷ []) text ≡ cond (is_text own text) (Some (n + length (t ∷ ts))) (place_from n (t ∷ ts) text)
+        → place_from n ((t ∷ ts) ++ own ∷ []) text
+        ≡ cond (is_text own text) (Some (n + length (t ∷ ts))) (place_from n (t ∷ ts) text)
     by behind other true same =
         let apart : is_text own text ≡ false = differs t own text other same in
         rw (same, apart) refl

@@ -1,5 +1,5 @@
 //! The literals of a program, and the place of each among them.
-ghost use Rattle.std.specs.Prelude.{◌≡◌, ◌++◌, [], ◌∷◌, Some, false, IfOk, OnOk, OnErr};
+ghost use Rattle.std.specs.Prelude.{◌≡◌, ◌++◌, [], ◌∷◌, Some, false, IfOk, OnOk, OnErr, length};
 ghost use Rattle.std.specs.BTreeMap.{IsUnchanged, Updates};
 ghost use Rattle.ec_emission.specs.Expressions.{has_text, literal_from};
 ghost use Rattle.ec_emission.specs.Literals as spec;
@@ -65,7 +65,7 @@ impl Literals {
     pub fn place(&self, text: &[u8]) -> Result<usize, AllocError>
         ensures { IfOk result (λ n. n ≡ literal_from 0 self.now text.now) }
     {
-        Ok(self.find(text)?.unwrap_or(self.texts.len()))
+        Ok(self.find(text)?.unwrap_or(self.len()))
     }
 
     /// No texts.
@@ -77,6 +77,13 @@ impl Literals {
             texts: Vec::new(alloc),
             places: BTreeMap::new(alloc),
         }
+    }
+
+    /// How many texts there are.
+    fn len(&self) -> usize
+        ensures { result ≡ length self.now }
+    {
+        self.texts.len()
     }
 
     /// The place of a text, if it is there. The error is want of memory.

@@ -5,7 +5,8 @@ use Rattle.ec_literals.proofs.texts.+expressions.Given as goal
 
 abbrev pub invariant-add_addends-loop-a : goal.invariant-add_addends-loop-a
 invariant-add_addends-loop-a l =
-    l.found ++ all_of (map texts_of_addend (drop l.a-index l.addends)) ≡ l.initial.found ++ all_of (map texts_of_addend l.addends)
+    l.found ++ all_of (map texts_of_addend (drop l.a-index l.addends))
+    ≡ l.initial.found ++ all_of (map texts_of_addend l.addends)
 
 abbrev pub invariant-add_all-loop-x : goal.invariant-add_all-loop-x
 invariant-add_all-loop-x l =
@@ -13,8 +14,10 @@ invariant-add_all-loop-x l =
 
 abbrev pub invariant-add_factors-loop-f : goal.invariant-add_factors-loop-f
 invariant-add_factors-loop-f l =
-    l.found ++ all_of (map texts_of_factor (drop l.f-index l.factors)) ≡ l.initial.found ++ all_of (map texts_of_factor l.factors)
+    l.found ++ all_of (map texts_of_factor (drop l.f-index l.factors))
+    ≡ l.initial.found ++ all_of (map texts_of_factor l.factors)
 
 abbrev pub invariant-add_links-loop-link : goal.invariant-add_links-loop-link
 invariant-add_links-loop-link l =
-    l.found ++ all_of (map texts_of_link (drop l.link-index l.links)) ≡ l.initial.found ++ all_of (map texts_of_link l.links)
+    l.found ++ all_of (map texts_of_link (drop l.link-index l.links))
+    ≡ l.initial.found ++ all_of (map texts_of_link l.links)

@@ -4,4 +4,5 @@ use Rattle.ec_literals.proofs.texts.add_operations.Given as goal
 
 abbrev pub invariant-loop-operation : goal.invariant-loop-operation
 invariant-loop-operation l =
-    l.found ++ texts_of_operations (drop l.operation-index l.operations) ≡ l.initial.found ++ texts_of_operations l.operations
+    l.found ++ texts_of_operations (drop l.operation-index l.operations)
+    ≡ l.initial.found ++ texts_of_operations l.operations
