@@ -16,7 +16,7 @@ use std::alloc::{AllocError, Global};
 
 /// The classes and object constructors, in the order of the source. The error is want of memory, or a number of more
 /// than 32 bits.
-pub(crate) fn classes_of(alloc: Global, program: &Program) -> Result<Classes, AllocError>
+pub fn classes_of(alloc: Global, program: &Program) -> Result<Classes, AllocError>
     ensures { IfOk result (λ classes. classes ≡ spec.classes_of (source_of program.now)) }
 {
     let mut found = Seq::new(alloc);

@@ -4,7 +4,7 @@
 pub mod activation;
 mod behind;
 mod class_names;
-pub(crate) mod classes;
+pub mod classes;
 pub(crate) mod copies;
 pub mod item;
 pub mod laws;

@@ -27,6 +27,7 @@ pub struct Program<'a> {
 
 impl<'a> Program<'a> {
     ghost use Rattle.ec_meaning.specs.Sources.{source_of, source_with};
+    ghost use Rattle.ec_meaning.specs.Steps.{captured_by};
 
     /// A program of these parts. The error is want of memory, or a text of more than 4294967294 bytes, whose lines may
     /// have more than 32 bits.
@@ -96,6 +97,19 @@ impl<'a> Program<'a> {
     {
         let place = class_place(self.core.classes.as_slice(), number);
         Ok(ClassNo::Made(number_of(place)?))
+    }
+
+    /// How many names the objects of a class capture.
+    pub fn captured_by(&self, class: ClassNo) -> usize
+        ensures { result ≡ captured_by (source_of self.now) class }
+    {
+        match class {
+            ClassNo::Made(k) => match self.core.classes.get(k as usize) {
+                Some(class) => class.captured.len(),
+                None => 0,
+            },
+            ClassNo::Node | ClassNo::Program | ClassNo::Vector(_) => 0,
+        }
     }
 
     /// The place of a constant, by its number, among those that have values.

@@ -10,30 +10,16 @@ use crate::state::{Outcome, State, Whose};
 use crate::todo::Todo;
 use crate::types::kind_of;
 use ec_core::Place;
-use ec_world::class::ClassNo;
 use ec_world::common::Common;
 use ec_world::value::{Oid, OpNo, Value};
 use std::alloc::AllocError;
-
-/// How many names the objects of a class capture.
-fn captured_by(program: &Program<'_>, class: ClassNo) -> usize
-    ensures { result ≡ spec.captured_by (source_of program.now) class }
-{
-    match class {
-        ClassNo::Made(k) => match program.core().classes.get(k as usize) {
-            Some(class) => class.captured.len(),
-            None => 0,
-        },
-        ClassNo::Node | ClassNo::Program | ClassNo::Vector(_) => 0,
-    }
-}
 
 /// How many names an object captures.
 fn captured_of(program: &Program<'_>, common: &Common, own: Oid) -> usize
     ensures { result ≡ spec.captured_of (source_of program.now) (object_at common.now.objects own) }
 {
     match common.object(own) {
-        Some(object) => captured_by(program, object.class),
+        Some(object) => program.captured_by(object.class),
         None => 0,
     }
 }
