@@ -1,0 +1,4 @@
+mod Declared
+mod Making
+mod NextLine
+mod Put
