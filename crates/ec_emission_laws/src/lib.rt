@@ -1,0 +1,4 @@
+//! That each well-typed core is one that emission takes.
+#![tactic(auto)]
+
+pub mod laws;
