@@ -1,0 +1,4 @@
+pub mod Beginnings
+pub mod Classes
+pub mod Finding
+pub mod Naming

@@ -1,0 +1,15 @@
+pub mod Blocks
+pub mod Bodies
+pub mod Conditions
+pub mod Constants
+pub mod Endings
+pub mod Forms
+pub mod Leaving
+pub mod Loops
+pub mod Operations
+pub mod Reaching
+pub mod Stages
+pub mod Unread
+pub mod Values
+pub mod Whole
+pub mod Writing
