@@ -1,0 +1,47 @@
+-- What holds of each accepted program, and of the three-address code that it is lowered to.
+use Rattle.std.specs.Prelude.{ℕ, List, map}
+use Rattle.ec_agreement.specs.Laws.{source_after}
+use Rattle.ec_ast.specs.declared.Program.{Program}
+use Rattle.ec_check.specs.Accepted.{HasCore}
+use Rattle.ec_code.specs.Activations.{code_meaning, code_silent}
+use Rattle.ec_code.specs.declared.code.Parts.{Parts}
+use Rattle.ec_code.specs.Fine.{Fine}
+use Rattle.ec_code.specs.Typing.{kind_of}
+use Rattle.ec_conform.specs.Declarations.{declarations_of}
+use Rattle.ec_conform.specs.Types.{places_of}
+use Rattle.ec_fine_programs.specs.Sound.{IsSound}
+use Rattle.ec_lowered.specs.Lowered.{IsLowered, declared_of}
+use Rattle.ec_meaning.specs.Activations.{source_meaning}
+use Rattle.ec_meaning.specs.Meaning.{source_silent, source_start}
+use Rattle.ec_meaning.specs.Programs.{Source}
+use Rattle.ec_places.specs.Rising.{IsRising}
+use Rattle.ec_sound.specs.Laws.{world_after}
+use Rattle.ec_world.specs.Agree.{Agree, SameRest}
+use Rattle.ec_world.specs.Run.{first_world, run_after}
+use Rattle.ec_world.specs.Simulation.{AgreeRun}
+use Rattle.ec_world.specs.declared.run.Entry.{Entry}
+use Rattle.ec_world.specs.declared.run.RunEntry.{RunEntry}
+
+-- The source is one of a program that breaks no static rule, and the names of the program's types stand one behind the other, as
+-- those of each text do (the law `names_rise` of ec_places).
+pub record IsAccepted (s : Source) (program : Program) : Type 0 where
+  pub core : HasCore program s.table s.core
+  pub rising : IsRising (places_of (declarations_of program).types)
+
+abbrev pub AcceptedIsSound : Type 0
+AcceptedIsSound = (s : Source) (program : Program) → IsAccepted s program → IsSound s
+
+abbrev pub LoweredIsFine : Type 0
+LoweredIsFine = (s : Source) (program : Program) (p : Parts) → IsAccepted s program → IsLowered s p → Fine (declared_of s) p
+
+abbrev pub LoweredWorldsAgree : Type 0
+LoweredWorldsAgree =
+    (s : Source) (program : Program) (p : Parts) → IsAccepted s program → IsLowered s p → (n : ℕ) (entries : List RunEntry) →
+    Agree source_meaning code_meaning (source_after s n entries) (world_after p n entries)
+
+abbrev pub LoweredRunsAgree : Type 0
+LoweredRunsAgree =
+    (s : Source) (program : Program) (p : Parts) → IsAccepted s program → IsLowered s p →
+    (n : ℕ) (schedule : List Entry) (k : ℕ) →
+    AgreeRun (SameRest source_meaning code_meaning) (run_after source_meaning (source_silent s) (source_start s n) schedule k)
+    (run_after code_meaning (code_silent p) (first_world code_meaning n p.classes (map kind_of p.constants)) schedule k)
