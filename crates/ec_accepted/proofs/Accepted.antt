@@ -2,6 +2,7 @@
 use Rattle.std.proofs.Common.{ℕ, List, length, map, sym, subst, All}
 use Rattle.ec_ast.specs.declared.Program.{Program}
 use Rattle.ec_accepted.specs.Laws.{IsAccepted}
+use Rattle.ec_agreement.specs.Agreement.{IsCodeOf}
 use Rattle.ec_agreement.specs.Laws.{source_after}
 use Rattle.ec_check.proofs.NumberedPrograms.{classes_rise}
 use Rattle.ec_check.specs.Program.{core_of}
@@ -24,6 +25,7 @@ use Rattle.ec_fine_programs.specs.Sound.{IsSound}
 use Rattle.ec_lowered.specs.Lowered.{IsLowered, declared_of}
 use Rattle.ec_lowered_code.proofs.Accepting.{is_lowerable}
 use Rattle.ec_lowered_code.proofs.Lowering as lowering
+use Rattle.ec_lowered_code.specs.Lowerable.{lowered_loops}
 use Rattle.ec_meaning.specs.Activations.{source_meaning}
 use Rattle.ec_meaning.specs.Meaning.{source_silent, source_start}
 use Rattle.ec_meaning.specs.Programs.{Source}
@@ -66,6 +68,9 @@ module _ (s : Source) (program : Program) (a : IsAccepted s program) where
   module _ (p : Parts) (lowered : IsLowered s p) where
     pub is_fine : Fine (declared_of s) p
     is_fine = fine s p is_sound lowered
+
+    pub is_code : IsCodeOf lowered_loops s (declared_of s) p
+    is_code = lowering.lowered_is_code s p (is_lowerable s program a.core) lowered is_fine
 
     pub worlds_agree : (n : ℕ) (entries : List RunEntry) →
         Agree source_meaning code_meaning (source_after s n entries) (world_after p n entries)

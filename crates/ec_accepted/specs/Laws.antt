@@ -1,7 +1,8 @@
 -- What holds of each accepted program, and of the three-address code that it is lowered to.
-use Rattle.std.specs.Prelude.{ℕ, List, map}
+use Rattle.std.specs.Prelude.{◌≡◌, ℕ, true, false, List, map, Some, IsSome, slice_get}
 use Rattle.ec_agreement.specs.Laws.{source_after}
 use Rattle.ec_ast.specs.declared.Program.{Program}
+use Rattle.ec_base.specs.Stack.{top_of, below_of}
 use Rattle.ec_check.specs.Accepted.{HasCore}
 use Rattle.ec_code.specs.Activations.{code_meaning, code_silent}
 use Rattle.ec_code.specs.declared.code.Parts.{Parts}
@@ -14,11 +15,15 @@ use Rattle.ec_lowered.specs.Lowered.{IsLowered, declared_of}
 use Rattle.ec_meaning.specs.Activations.{source_meaning}
 use Rattle.ec_meaning.specs.Meaning.{source_silent, source_start}
 use Rattle.ec_meaning.specs.Programs.{Source}
+use Rattle.ec_meaning.specs.declared.activation.SourceActivation.{SourceActivation}
 use Rattle.ec_places.specs.Rising.{IsRising}
 use Rattle.ec_sound.specs.Laws.{world_after}
 use Rattle.ec_world.specs.Agree.{Agree, SameRest}
 use Rattle.ec_world.specs.Run.{first_world, run_after}
 use Rattle.ec_world.specs.Simulation.{AgreeRun}
+use Rattle.ec_world.specs.World.{outcome_at, stack_at}
+use Rattle.ec_world.specs.declared.process.Proc.{Proc}
+use Rattle.ec_world.specs.declared.process.ProcStatus.TheVariants.{Ready}
 use Rattle.ec_world.specs.declared.run.Entry.{Entry}
 use Rattle.ec_world.specs.declared.run.RunEntry.{RunEntry}
 
@@ -45,3 +50,26 @@ LoweredRunsAgree =
     (n : ℕ) (schedule : List Entry) (k : ℕ) →
     AgreeRun (SameRest source_meaning code_meaning) (run_after source_meaning (source_silent s) (source_start s n) schedule k)
     (run_after code_meaning (code_silent p) (first_world code_meaning n p.classes (map kind_of p.constants)) schedule k)
+
+-- ---- the source goes on
+
+-- In each of the source's worlds the table of actions has a case for each stop whose action is to be done.
+abbrev pub NoStopLacksACase : Type 0
+NoStopLacksACase =
+    (s : Source) (program : Program) (p : Parts) → IsAccepted s program → IsLowered s p → (n : ℕ) (entries : List RunEntry) (i : ℕ)
+    (top : SourceActivation) → top_of (stack_at (source_after s n entries) i) ≡ Some top → top.pending ≡ true →
+    IsSome (outcome_at source_meaning (source_after s n entries) i (below_of (stack_at (source_after s n entries) i)) top)
+
+-- Behind each stop of the source whose action is done silent steps reach a stop.
+abbrev pub NoStepLacksACase : Type 0
+NoStepLacksACase =
+    (s : Source) (program : Program) (p : Parts) → IsAccepted s program → IsLowered s p → (n : ℕ) (entries : List RunEntry) (i : ℕ)
+    (top : SourceActivation) → top_of (stack_at (source_after s n entries) i) ≡ Some top → top.pending ≡ false →
+    (source_silent s (source_after s n entries).common top).1.pending ≡ true
+
+-- In each of the source's worlds a process that is Ready has an activation on top.
+abbrev pub ReadyProcessesGoOn : Type 0
+ReadyProcessesGoOn =
+    (s : Source) (program : Program) (p : Parts) → IsAccepted s program → IsLowered s p → (n : ℕ) (entries : List RunEntry) (i : ℕ)
+    (proc : Proc SourceActivation) →
+    slice_get (source_after s n entries).processes i ≡ Some proc → proc.status ≡ Ready → IsSome (top_of proc.activations)

@@ -1,5 +1,6 @@
 //! What holds of each accepted program and of what it is lowered to.
 ghost use Rattle.ec_accepted.specs.Laws.{AcceptedIsSound, LoweredIsFine, LoweredRunsAgree, LoweredWorldsAgree};
+ghost use Rattle.ec_accepted.specs.Laws.{NoStepLacksACase, NoStopLacksACase, ReadyProcessesGoOn};
 
 /// The typing of its code has what it rests on.
 pub fn accepted_is_sound()
@@ -19,4 +20,19 @@ pub fn lowered_worlds_agree()
 /// So do they along each schedule, after so many entries.
 pub fn lowered_runs_agree()
     ensures { LoweredRunsAgree }
+{}
+
+/// Where there is such a program, no pending stop of the source lacks a case.
+pub fn no_stop_lacks_a_case()
+    ensures { NoStopLacksACase }
+{}
+
+/// Nor does a silent step.
+pub fn no_step_lacks_a_case()
+    ensures { NoStepLacksACase }
+{}
+
+/// Each Ready process goes on.
+pub fn ready_processes_go_on()
+    ensures { ReadyProcessesGoOn }
 {}

@@ -1,0 +1,10 @@
+-- No pending stop of the source lacks a case.
+use Rattle.ec_accepted.proofs.Accepted.{is_code}
+use Rattle.ec_agreement.proofs.Agreeing as agreeing
+use Rattle.ec_lowered.specs.Lowered.{declared_of}
+use Rattle.ec_lowered_code.specs.Lowerable.{lowered_loops}
+use Rattle.ec_accepted.proofs.laws.no_stop_lacks_a_case.Goals as goal
+
+pub returns : goal.returns
+returns start s program p a lowered =
+    agreeing.source_stop_has_case lowered_loops s (declared_of s) p (is_code s program a p lowered)
