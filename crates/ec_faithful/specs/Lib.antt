@@ -1,0 +1,5 @@
+pub mod Machine
+pub mod Frames
+pub mod Stops
+pub mod Standing
+pub mod Faithful

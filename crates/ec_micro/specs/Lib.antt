@@ -1,0 +1,4 @@
+pub mod Micro
+pub mod Speaks
+pub mod Lowering
+pub mod Layout
