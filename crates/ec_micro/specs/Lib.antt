@@ -2,3 +2,4 @@ pub mod Micro
 pub mod Speaks
 pub mod Lowering
 pub mod Layout
+pub mod Fitting
