@@ -1,0 +1,143 @@
+//! The steps on words for a step of three-address code.
+ghost use Rattle.std.specs.Prelude.{◌≡◌};
+ghost use Rattle.ec_generate.specs.Sites.{home_there, listed};
+ghost use Rattle.ec_micro.specs.Lowering as spec;
+
+use crate::site::Site;
+use ec_code::code::{Op, Operand, Test};
+use ec_homes::homes::Home;
+use ec_micro::step::{Ending, Question, Relation, Source, Step};
+
+/// A word that is 0.
+const NOTHING: Source = Source::Word(0);
+
+impl<'a> Site<'a> {
+    /// Where an operand is found.
+    fn source_of(&self, operand: Operand) -> Source
+        ensures { result ≡ spec.source_of (home_there self.now) operand }
+    {
+        match operand {
+            Operand::Of(x) => Source::Home(self.home(x)),
+            Operand::Number(z) => Source::Word(z.cast_unsigned()),
+            Operand::Truth(b) => Source::Word(b as u32),
+            Operand::Nil => NOTHING,
+        }
+    }
+
+    /// What is asked of words for a test that is to come out as wanted.
+    fn question_of(&self, test: Test, wanted: bool) -> Question
+        ensures { result ≡ spec.question_of (home_there self.now) test wanted }
+    {
+        match test {
+            Test::Holds(x) => question(Relation::Same, self.source_of(x), NOTHING, !wanted),
+            Test::Same(x, y) => question(Relation::Same, self.source_of(x), self.source_of(y), wanted),
+            Test::Less(x, y) => question(Relation::Less, self.source_of(x), self.source_of(y), wanted),
+            Test::LessEqual(x, y) => {
+                question(Relation::Less, self.source_of(y), self.source_of(x), !wanted)
+            }
+            Test::Divides(_, y) => question(Relation::Same, self.source_of(y), NOTHING, !wanted),
+        }
+    }
+
+    /// The step on words, where there is one.
+    pub(crate) fn step_of(&self, op: &Op) -> Option<Step>
+        ensures { listed result ≡ spec.steps_of (home_there self.now) op.now }
+    {
+        match op {
+            Op::Copy { to, from } => moved(self.home(*to), self.source_of(*from)),
+            Op::Literal { to, index } => Some(Step::Move {
+                into: self.home(*to),
+                from: Source::Word(*index),
+            }),
+            Op::Itself { to } => Some(Step::Itself {
+                into: self.home(*to),
+            }),
+            Op::Field { to, field } => Some(Step::Field {
+                into: self.home(*to),
+                field: *field,
+            }),
+            Op::SetField { field, from } => Some(Step::SetField {
+                field: *field,
+                from: self.source_of(*from),
+            }),
+            Op::Constant { to, index } => Some(Step::Constant {
+                into: self.home(*to),
+                index: *index,
+            }),
+            Op::Compute {
+                how,
+                to,
+                left,
+                right,
+            } => Some(Step::Work {
+                how: *how,
+                into: self.home(*to),
+                left: self.source_of(*left),
+                right: self.source_of(*right),
+            }),
+            Op::Decide { to, test, wanted } => Some(Step::Decide {
+                into: self.home(*to),
+                question: self.question_of(*test, *wanted),
+            }),
+            Op::Branch { .. } | Op::Jump { .. } | Op::Again { .. } | Op::Rest(_) => None,
+        }
+    }
+
+    /// How the code goes on behind a step, where this isn't the next one.
+    pub(crate) fn ending_of(&self, op: &Op) -> Option<Ending>
+        ensures { result ≡ spec.ending_of (home_there self.now) op.now }
+    {
+        match op {
+            Op::Branch { test, wanted, over } => Some(Ending::Branch {
+                question: self.question_of(*test, *wanted),
+                over: *over,
+            }),
+            Op::Jump { over } => Some(Ending::Jump { over: *over }),
+            Op::Again { back } => Some(Ending::Again { back: *back }),
+            Op::Rest(_) => Some(Ending::Stop),
+            Op::Copy { .. }
+            | Op::Literal { .. }
+            | Op::Itself { .. }
+            | Op::Field { .. }
+            | Op::SetField { .. }
+            | Op::Constant { .. }
+            | Op::Compute { .. }
+            | Op::Decide { .. } => None,
+        }
+    }
+}
+
+/// A relation between two words, and how it is to come out.
+fn question(relation: Relation, left: Source, right: Source, wanted: bool) -> Question
+    ensures { result ≡ spec.question relation left right wanted }
+{
+    Question {
+        relation,
+        left,
+        right,
+        wanted,
+    }
+}
+
+/// Two homes are one.
+fn is_same_home(a: Home, b: Home) -> bool
+    ensures { result ≡ spec.is_same_home a b }
+{
+    match (a, b) {
+        (Home::Register(k), Home::Register(j)) => k == j,
+        (Home::Slot(n), Home::Slot(m)) => n == m,
+        (Home::Register(_), Home::Slot(_)) | (Home::Slot(_), Home::Register(_)) => false,
+    }
+}
+
+/// The step by which a home gets a word; none where it has it already.
+fn moved(into: Home, from: Source) -> Option<Step>
+    ensures { listed result ≡ spec.moved into from }
+{
+    if let Source::Home(home) = from {
+        if is_same_home(into, home) {
+            return None;
+        }
+    }
+    Some(Step::Move { into, from })
+}

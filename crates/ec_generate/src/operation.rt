@@ -1,0 +1,195 @@
+//! The words of an operation.
+ghost use Rattle.std.specs.Prelude.{◌≡◌, ℕ, ◌≤◌, ◌<◌, ◌+◌, ◌++◌, IfOk, OnOk, Some, length, map, slice_get};
+ghost use Rattle.ec_faithful.specs.Stops.{stop_places};
+ghost use Rattle.ec_generate.specs.Puts.{pick};
+ghost use Rattle.ec_generate.specs.Sites.{ArePlaces, CanPutAll, IsMakeable, code_there, home_there, ops_there, place_there, size_there};
+ghost use Rattle.ec_micro.specs.Layout as layout;
+ghost use Rattle.ec_micro.specs.Lowering as lowering;
+ghost use Rattle.ec_micro.specs.Speaks.{words_end};
+ghost use Rattle.ec_target.specs.Code.{pc_of};
+
+use crate::kind::{Kind, Span};
+use crate::site::Site;
+use crate::sizes::places;
+use ec_base::list::Seq;
+use ec_code::code::Op;
+use ec_faithful::code::OperationCode;
+use ec_micro::step::Ending;
+use std::alloc::{AllocError, Global};
+
+/// Where code starts, in bytes.
+const CODE_BASE: u32 = 0x0040_0000;
+
+/// Writes the steps on words for a step of three-address code. The error is want of memory.
+fn put_steps<K: Kind>(
+    kind: &K,
+    span: Span,
+    site: &Site<'_>,
+    op: &Op,
+    words: &mut Seq<u32>,
+) -> Result<(), AllocError>
+    requires { CanPutAll K.homes (lowering.steps_of (home_there site.now) op.now) }
+    ensures { OnOk result (words.new ≡ words.old
+        ++ layout.words_of_steps (pick K.vocabularies span) (home_there site.now) (lowering.steps_of (home_there site.now) op.now)) }
+{
+    match site.step_of(op) {
+        Some(step) => kind.put_step(span, step, words),
+        None => Ok(()),
+    }
+}
+
+/// The word at which step q of the code begins, which begins at word `start`.
+fn word_at<K: Kind>(
+    kind: &K,
+    span: Span,
+    site: &Site<'_>,
+    places: &Seq<u32>,
+    start: u32,
+    q: usize,
+) -> u32
+    requires within { q ≤ length (ops_there site.now) }
+    requires placed { ArePlaces (pick K.vocabularies span) site.now places.now }
+    requires room { start + size_there (pick K.vocabularies span) site.now ≤ words_end }
+    ensures is { result ≡ place_there (pick K.vocabularies span) site.now start q }
+    ensures room { result ≤ start + size_there (pick K.vocabularies span) site.now }
+{
+    start + *places.at(q)
+}
+
+/// Writes how the code goes on behind step q. The error is want of memory.
+fn put_ending<K: Kind>(
+    kind: &K,
+    span: Span,
+    site: &Site<'_>,
+    places: &Seq<u32>,
+    start: u32,
+    q: usize,
+    op: &Op,
+    words: &mut Seq<u32>,
+) -> Result<(), AllocError>
+    requires there { slice_get (ops_there site.now) q ≡ Some op.now }
+    requires makeable { IsMakeable K.homes site.now }
+    requires placed { ArePlaces (pick K.vocabularies span) site.now places.now }
+    requires near { size_there (pick K.vocabularies span) site.now ≤ (pick K.vocabularies span).reach }
+    requires room { start + size_there (pick K.vocabularies span) site.now ≤ words_end }
+    requires here { length words.old ≡ place_there (pick K.vocabularies span) site.now start q
+        + layout.plain_size (pick K.vocabularies span) (home_there site.now) op.now }
+    ensures { OnOk result (words.new ≡ words.old ++ layout.ending_words (pick K.vocabularies span) (home_there site.now)
+        (ops_there site.now) start q (length words.old) (lowering.ending_of (home_there site.now) op.now)) }
+{
+    let Some(ending) = site.ending_of(op) else {
+        return Ok(());
+    };
+    let from = words.len() as u32;
+    match ending {
+        Ending::Branch { question, over } => {
+            let to = word_at(kind, span, site, places, start, q + over as usize + 1);
+            kind.put_ask(span, question, from, to, words)
+        }
+        Ending::Jump { over } => {
+            let to = word_at(kind, span, site, places, start, q + over as usize + 1);
+            kind.put_jump(span, from, to, words)
+        }
+        Ending::Again { back } => {
+            let to = word_at(kind, span, site, places, start, q - back as usize);
+            kind.put_jump(span, from, to, words)
+        }
+        Ending::Stop => kind.put_stop(span, words),
+    }
+}
+
+/// Writes the words of step q of the code. The error is want of memory.
+fn put_op<K: Kind>(
+    kind: &K,
+    span: Span,
+    site: &Site<'_>,
+    places: &Seq<u32>,
+    start: u32,
+    q: usize,
+    op: &Op,
+    words: &mut Seq<u32>,
+) -> Result<(), AllocError>
+    requires there { slice_get (ops_there site.now) q ≡ Some op.now }
+    requires makeable { IsMakeable K.homes site.now }
+    requires placed { ArePlaces (pick K.vocabularies span) site.now places.now }
+    requires near { size_there (pick K.vocabularies span) site.now ≤ (pick K.vocabularies span).reach }
+    requires room { start + size_there (pick K.vocabularies span) site.now ≤ words_end }
+    requires here { length words.old ≡ place_there (pick K.vocabularies span) site.now start q }
+    ensures { OnOk result (words.new ≡ words.old
+        ++ layout.op_words (pick K.vocabularies span) (home_there site.now) (ops_there site.now) start q op.now) }
+{
+    put_steps(kind, span, site, op, words)?;
+    put_ending(kind, span, site, places, start, q, op, words)
+}
+
+/// Writes the words of an operation's code, which begins at word `start`. The error is want of memory.
+fn put_code<K: Kind>(
+    kind: &K,
+    span: Span,
+    site: &Site<'_>,
+    places: &Seq<u32>,
+    start: u32,
+    words: &mut Seq<u32>,
+) -> Result<(), AllocError>
+    requires makeable { IsMakeable K.homes site.now }
+    requires placed { ArePlaces (pick K.vocabularies span) site.now places.now }
+    requires near { size_there (pick K.vocabularies span) site.now ≤ (pick K.vocabularies span).reach }
+    requires room { start + size_there (pick K.vocabularies span) site.now ≤ words_end }
+    requires here { length words.old ≡ start }
+    ensures { OnOk result (words.new ≡ words.old
+        ++ layout.operation_words (pick K.vocabularies span) (home_there site.now) (ops_there site.now) start) }
+{
+    for q in 0..site.code.len() {
+        put_op(kind, span, site, places, start, q, &site.code.at(q).op, words)?;
+    }
+    Ok(())
+}
+
+/// The addresses of the stops of an operation, whose code begins at word `start`. The error is want of memory.
+fn stops_of<K: Kind>(
+    alloc: Global,
+    kind: &K,
+    span: Span,
+    site: &Site<'_>,
+    places: &Seq<u32>,
+    start: u32,
+) -> Result<Seq<u32>, AllocError>
+    requires placed { ArePlaces (pick K.vocabularies span) site.now places.now }
+    requires room { start + size_there (pick K.vocabularies span) site.now ≤ words_end }
+    ensures { IfOk result (λ stops.
+        stops ≡ map (λ q. pc_of (place_there (pick K.vocabularies span) site.now start q)) (stop_places site.now.code.now)) }
+{
+    let mut stops = Seq::new(alloc);
+    for q in 0..site.code.len() {
+        if let Op::Rest(_) = &site.code.at(q).op {
+            let word = word_at(kind, span, site, places, start, q);
+            stops.push(CODE_BASE + 4 * word)?;
+        }
+    }
+    Ok(stops)
+}
+
+/// Writes the words of an operation behind those that there are, and says where its stops are. The error is want of memory.
+pub(crate) fn put_operation<K: Kind>(
+    alloc: Global,
+    kind: &K,
+    span: Span,
+    site: &Site<'_>,
+    words: &mut Seq<u32>,
+) -> Result<OperationCode, AllocError>
+    requires makeable { IsMakeable K.homes site.now }
+    requires near { size_there (pick K.vocabularies span) site.now ≤ (pick K.vocabularies span).reach }
+    requires room { length words.old + size_there (pick K.vocabularies span) site.now ≤ words_end }
+    ensures words { OnOk result (words.new ≡ words.old
+        ++ layout.operation_words (pick K.vocabularies span) (home_there site.now) (ops_there site.now) (length words.old)) }
+    ensures code { IfOk result (λ code. code ≡ code_there (pick K.vocabularies span) site.now (length words.old)) }
+{
+    let start = words.len() as u32;
+    let places = places(alloc, kind, span, site)?;
+    put_code(kind, span, site, &places, start, words)?;
+    let stops = stops_of(alloc, kind, span, site, &places, start)?;
+    Ok(OperationCode {
+        words: *places.at(site.code.len()),
+        stops,
+    })
+}

@@ -1,0 +1,48 @@
+//! The machine code of a program.
+ghost use Rattle.std.specs.Prelude.{◌≡◌, ℕ, ◌≤◌, Some, IfOk, length, slice_get};
+ghost use Rattle.ec_code.specs.declared.code.Operation.{Operation as One};
+ghost use Rattle.ec_code.specs.Fine.{Fine};
+ghost use Rattle.ec_code.specs.Typing.{Declared};
+ghost use Rattle.ec_code_limits.specs.Limits.{HasLimits};
+ghost use Rattle.ec_micro.specs.Fitting.{HomesFit};
+ghost use Rattle.ec_micro.specs.Layout.{HasRoom, code_of};
+
+use crate::kind::Kind;
+use crate::operation::put_operation;
+use crate::site::Site;
+use crate::sizes::span_of;
+use ec_base::list::Seq;
+use ec_code::code::Parts;
+use ec_faithful::code::Code;
+use ec_homes::homes::Home;
+use std::alloc::{AllocError, Global};
+
+/// The machine code of a well typed program for a kind of machine, by the homes of the variables of each operation. The error is
+/// want of memory.
+pub fn generate<K: Kind>(
+    alloc: Global,
+    kind: &K,
+    parts: &Parts,
+    homes: &Seq<Seq<Home>>,
+) -> Result<Code, AllocError>
+    requires fine { (d : Declared) × Fine d parts.now }
+    requires limits { HasLimits parts.now }
+    requires rows { length homes.now ≡ length parts.now.operations }
+    requires fit { (n : ℕ) (o : One) → slice_get parts.now.operations n ≡ Some o → HomesFit K.homes homes.now n o }
+    ensures code { IfOk result (λ code. code ≡ code_of K.vocabularies homes.now parts.now.operations) }
+    ensures room { IfOk result (λ code. HasRoom K.vocabularies homes.now parts.now) }
+{
+    let mut words = Seq::new(alloc);
+    let mut operations = Seq::new(alloc);
+    for n in 0..parts.operations.len() {
+        let operation = parts.operations.at(n);
+        let site = Site {
+            code: &operation.code,
+            named: operation.variables.len(),
+            homes: homes.at(n),
+        };
+        let span = span_of(kind, &site);
+        operations.push(put_operation(alloc, kind, span, &site, &mut words)?)?;
+    }
+    Ok(Code { words, operations })
+}
