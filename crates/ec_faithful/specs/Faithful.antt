@@ -11,7 +11,7 @@ use Rattle.ec_code.specs.declared.code.StopRow.{StopRow}
 use Rattle.ec_code.specs.declared.code.Variable.{Variable}
 use Rattle.ec_conform.specs.declared.static_type.StaticType.{StaticType}
 use Rattle.ec_faithful.specs.Machine.{MachineMeaning}
-use Rattle.ec_faithful.specs.Standing.{AreTables, FieldsStand, Fits, IsBeside, Lives}
+use Rattle.ec_faithful.specs.Standing.{AreTables, FieldsStand, Fits, HasWhatIsSet, IsBeside, Lives}
 use Rattle.ec_faithful.specs.Stops.{IsStopAt, address_of, home_in, live_list, stop_at, stop_places, words_before, words_in_all, words_of}
 use Rattle.ec_faithful.specs.declared.code.Code.{Code}
 use Rattle.ec_homes.specs.declared.homes.Home.{Home}
@@ -58,6 +58,7 @@ module _ {S : Type 0} (M : MachineMeaning S) (p : Parts) (code : Code) (homes : 
       IsStopAt p code a.operation a.at address →
       walk p.literals a.own (suc a.at) (drop (suc a.at) o.code) 0 (machine_behind p c a) ≡ (d, Some r) →
       M.place s ≡ address + 4 →
+      HasWhatIsSet o a.own (machine_behind p c a) →
       Fits M local text (homes_of homes a.operation o) (live_at o.code (suc a.at)) f own a.own (machine_behind p c a) s bytes →
       Arrives local text a.operation o f own a.own (machine_behind p c a) d r s bytes
 

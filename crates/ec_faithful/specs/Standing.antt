@@ -1,12 +1,15 @@
 -- When the state of a machine stands for what an activation of three-address code has: its variables in their homes, the fields of
 -- its own object and the program's constants in their words.
-use Rattle.std.specs.Prelude.{◌≡◌, ◌≢◌, ℕ, ◌+◌, ◌<◌, ◌≤◌, ◌^◌, ◌⊎◌, List, length, Option, Some, None, slice_get}
-use mir.Syntax.{w32}
-use mir.Val.{SFits}
+use Rattle.std.specs.Int.{w32}
+use Rattle.std.specs.Prelude.{◌≡◌, ◌≢◌, ℕ, ◌+◌, ◌<◌, ◌≤◌, ◌^◌, ◌⊎◌, List, length, Option, Some, None, slice_get, FitsSigned}
 use Rattle.ec_base.specs.Bytes.{Bytes}
 use Rattle.ec_code.specs.Fine.{Has}
 use Rattle.ec_code.specs.Steps.{Machine, own_field, variable_at}
+use Rattle.ec_code.specs.declared.code.Line.{Line}
 use Rattle.ec_code.specs.declared.code.Live.{Live}
+use Rattle.ec_code.specs.declared.code.Op.TheVariants.{SetField}
+use Rattle.ec_code.specs.declared.code.Operand.{Operand}
+use Rattle.ec_code.specs.declared.code.Operation.{Operation}
 use Rattle.ec_code.specs.declared.code.Parts.{Parts}
 use Rattle.ec_code.specs.declared.code.Variable.{Variable}
 use Rattle.ec_conform.specs.declared.static_type.StaticType.{StaticType}
@@ -21,7 +24,7 @@ use Rattle.ec_world.specs.declared.value.Value.TheVariants.{Int, Str, Ref, Nil, 
 
 -- a number is one of 32 bits, signed
 abbrev pub FitsWord : Value → Type 0
-FitsWord (Int z) = SFits w32 z
+FitsWord (Int z) = FitsSigned w32 z
 FitsWord (Truth b) = Unit {0}
 FitsWord (Str s) = Unit {0}
 FitsWord (Ref o) = Unit {0}
@@ -36,6 +39,13 @@ pub record AreTables (p : Parts) (local : ℕ → Option ℕ) (text : ℕ → Op
   pub small_locals : (i oid : ℕ) → local i ≡ Some oid → i < 2 ^ 32
   pub small_texts : (i : ℕ) (t : List ℕ) → text i ≡ Some t → i < 2 ^ 32
   pub literals : (i : ℕ) (t : List ℕ) → slice_get p.literals i ≡ Some t → text i ≡ Some t
+
+-- What an operation's silent steps set is there: its named variables, and each field of the own object to which its code stores.
+pub record HasWhatIsSet (o : Operation) (self : ℕ) (m : Machine) : Type 0 where
+  pub variables : length o.variables ≤ length m.variables
+  pub fields :
+      (q n : ℕ) (line : Line) (from : Operand) → slice_get o.code q ≡ Some line → line.op ≡ SetField n from →
+      (v : Value) × (own_field m.common self n ≡ Some v)
 
 module _ {S : Type 0} (M : MachineMeaning S) (local : ℕ → Option ℕ) (text : ℕ → Option (List ℕ)) where
   -- the word at an address stands for a value
@@ -70,7 +80,7 @@ module _ {S : Type 0} (M : MachineMeaning S) (local : ℕ → Option ℕ) (text 
 
   -- A state fits what an activation has, with its frame at block f and its own object at another one: the base registers hold
   -- their addresses, and these variables stand at their homes. Whatever else the state holds is free.
-  pub record Fits (homes : Variable → Option Home) (live : List Live) (f own self : ℕ) (m : Machine) (s : S) (bytes : Bytes) :
+  pub record Fits (homes : Variable → Option Home) (alive : List Live) (f own self : ℕ) (m : Machine) (s : S) (bytes : Bytes) :
       Type 0 where
     pub rests : M.rests s
     pub frame_base : M.register s M.frame_base ≡ block_at f
@@ -80,11 +90,11 @@ module _ {S : Type 0} (M : MachineMeaning S) (local : ℕ → Option ℕ) (text 
     pub apart : f ≢ own
     pub frame : (i : ℕ) → i < block_words → HasWord bytes (block_word_at f i)
     pub itself : (w : ℕ) × (word_in M.number bytes (block_word_at f own_reference) ≡ Some w) × (local w ≡ Some self)
-    pub live : (x : Variable) (t : StaticType) → Has live x t → Lives homes f s bytes m x
+    pub live : (x : Variable) (t : StaticType) → Has alive x t → Lives homes f s bytes m x
     pub fields : FieldsStand own self m bytes
     pub constants : ConstantsStand m bytes
 
   -- an address that is in no slot of the frame, and in no field of the own object
   pub record IsBeside (f own self : ℕ) (m : Machine) (address : ℕ) : Type 0 where
-    pub slots : (n : ℕ) → n < slots → (address < slot_at f n) ⊎ (slot_at f n + 4 ≤ address)
-    pub fields : (i : ℕ) (v : Value) → own_field m.common self i ≡ Some v → (address < field_at own i) ⊎ (field_at own i + 4 ≤ address)
+    pub slot : (n : ℕ) → n < slots → (address < slot_at f n) ⊎ (slot_at f n + 4 ≤ address)
+    pub field : (i : ℕ) (v : Value) → own_field m.common self i ≡ Some v → (address < field_at own i) ⊎ (field_at own i + 4 ≤ address)

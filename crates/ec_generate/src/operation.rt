@@ -30,7 +30,7 @@ fn put_steps<K: Kind>(
 ) -> Result<(), AllocError>
     requires { CanPutAll K.homes (lowering.steps_of (home_there site.now) op.now) }
     ensures { OnOk result (words.new ≡ words.old
-        ++ layout.words_of_steps (pick K.vocabularies span) (home_there site.now) (lowering.steps_of (home_there site.now) op.now)) }
+        ++ layout.words_of_steps (pick K.vocabularies span) (lowering.steps_of (home_there site.now) op.now)) }
 {
     match site.step_of(op) {
         Some(step) => kind.put_step(span, step, words),

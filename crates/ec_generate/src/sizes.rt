@@ -14,7 +14,7 @@ use std::alloc::{AllocError, Global};
 
 /// How many words a way of going on has.
 fn ending_size<K: Kind>(kind: &K, span: Span, site: &Site<'_>, ending: Option<Ending>) -> u32
-    ensures is { result ≡ layout.ending_size (pick K.vocabularies span) (home_there site.now) ending }
+    ensures is { result ≡ layout.ending_size (pick K.vocabularies span) ending }
     ensures few { result ≤ most_words }
 {
     let Some(ending) = ending else {

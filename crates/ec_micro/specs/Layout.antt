@@ -1,5 +1,5 @@
 -- How the words of a program are laid out: operation behind operation, and in each the words of its steps in their order.
-use Rattle.std.specs.Prelude.{◌≡◌, ℕ, zero, suc, ◌+◌, ◌-◌, ◌*◌, ◌<◌, ◌≤◌, ◌^◌, nat_le, if◌then◌else◌, List, [], ◌∷◌, ◌++◌, length, map}
+use Rattle.std.specs.Prelude.{◌≡◌, ℕ, zero, suc, ◌+◌, ◌-◌, ◌*◌, ◌<◌, ◌≤◌, ◌^◌, nat_le, Bool, if◌then◌else◌, List, [], ◌∷◌, ◌++◌, length, map}
 use Rattle.std.specs.Prelude.{Option, Some, None, slice_get}
 use Rattle.ec_code.specs.declared.code.Line.{Line}
 use Rattle.ec_code.specs.declared.code.Op.{Op}
@@ -23,7 +23,7 @@ ops_of code = map (λ l. l.op) code
 
 -- ---- the words of one operation
 
-module _ (V : Vocabulary) (home : Variable → Home) where
+module _ (V : Vocabulary) where
   abbrev pub words_of_steps : List Step → List ℕ
   words_of_steps [] = []
   words_of_steps (m ∷ ms) = V.step_words m ++ words_of_steps ms
@@ -35,58 +35,64 @@ module _ (V : Vocabulary) (home : Variable → Home) where
   ending_size (Some (Again back)) = V.jump_size
   ending_size (Some Stop) = 1
 
-  -- how many words the steps of one step of three-address code have, and all of it
-  abbrev pub plain_size : Op → ℕ
-  plain_size o = length (words_of_steps (steps_of home o))
+  module _ (home : Variable → Home) where
+    -- how many words the steps of one step of three-address code have, and all of it
+    abbrev pub plain_size : Op → ℕ
+    plain_size o = length (words_of_steps (steps_of home o))
 
-  abbrev pub op_size : Op → ℕ
-  op_size o = plain_size o + ending_size (ending_of home o)
+    abbrev pub op_size : Op → ℕ
+    op_size o = plain_size o + ending_size (ending_of home o)
 
-  -- how many words stand before step p of the code, and in all
-  abbrev pub before : List Op → ℕ → ℕ
-  before [] p = 0
-  before (o ∷ os) zero = 0
-  before (o ∷ os) (suc p) = op_size o + before os p
+    -- how many words stand before step p of the code, and in all
+    abbrev pub before : List Op → ℕ → ℕ
+    before [] p = 0
+    before (o ∷ os) zero = 0
+    before (o ∷ os) (suc p) = op_size o + before os p
 
-  abbrev pub size_of : List Op → ℕ
-  size_of [] = 0
-  size_of (o ∷ os) = op_size o + size_of os
+    abbrev pub size_of : List Op → ℕ
+    size_of [] = 0
+    size_of (o ∷ os) = op_size o + size_of os
 
-  -- of an operation with this code, which begins at word `start`
-  module _ (ops : List Op) (start : ℕ) where
-    -- the word at which step p begins
-    abbrev pub place : ℕ → ℕ
-    place p = start + before ops p
+    -- of an operation with this code, which begins at word `start`
+    module _ (ops : List Op) (start : ℕ) where
+      -- the word at which step p begins
+      abbrev pub place : ℕ → ℕ
+      place p = start + before ops p
 
-    -- the words behind the steps of step p, the first of which is word `from`
-    abbrev pub ending_words : ℕ → ℕ → Option Ending → List ℕ
-    ending_words p from None = []
-    ending_words p from (Some (Branch q over)) = V.ask_words q from (place (suc (p + over)))
-    ending_words p from (Some (Jump over)) = V.jump_words from (place (suc (p + over)))
-    ending_words p from (Some (Again back)) = V.jump_words from (place (p - back))
-    ending_words p from (Some Stop) = V.stop_word ∷ []
+      -- the words behind the steps of step p, the first of which is word `from`
+      abbrev pub ending_words : ℕ → ℕ → Option Ending → List ℕ
+      ending_words p from None = []
+      ending_words p from (Some (Branch q over)) = V.ask_words q from (place (suc (p + over)))
+      ending_words p from (Some (Jump over)) = V.jump_words from (place (suc (p + over)))
+      ending_words p from (Some (Again back)) = V.jump_words from (place (p - back))
+      ending_words p from (Some Stop) = V.stop_word ∷ []
 
-    abbrev pub op_words : ℕ → Op → List ℕ
-    op_words p o = words_of_steps (steps_of home o) ++ ending_words p (place p + plain_size o) (ending_of home o)
+      abbrev pub op_words : ℕ → Op → List ℕ
+      op_words p o = words_of_steps (steps_of home o) ++ ending_words p (place p + plain_size o) (ending_of home o)
 
-    -- the words of these steps, the first of which is step p
-    abbrev pub words_from : ℕ → List Op → List ℕ
-    words_from p [] = []
-    words_from p (o ∷ os) = op_words p o ++ words_from (suc p) os
+      -- the words of these steps, the first of which is step p
+      abbrev pub words_from : ℕ → List Op → List ℕ
+      words_from p [] = []
+      words_from p (o ∷ os) = op_words p o ++ words_from (suc p) os
 
-    abbrev pub operation_words : List ℕ
-    operation_words = words_from 0 ops
+      abbrev pub operation_words : List ℕ
+      operation_words = words_from 0 ops
 
 -- ---- near and far words
 
--- A kind of machine has two vocabularies, one whose questions reach less far and have fewer words.
+-- A kind of machine has three vocabularies: the less far questions and jumps reach, the fewer words they have.
 pub record Vocabularies : Type 0 where
   pub near : Vocabulary
+  pub middle : Vocabulary
   pub far : Vocabulary
 
--- An operation takes the near words where all of its code is within their reach.
+-- the words are within the reach of their questions and jumps
+abbrev pub is_within : Vocabulary → (Variable → Home) → List Op → Bool
+is_within V home ops = nat_le (size_of V home ops) V.reach
+
+-- An operation takes the first of them within whose reach all of its code is.
 abbrev pub chosen : Vocabularies → (Variable → Home) → List Op → Vocabulary
-chosen vs home ops = if nat_le (size_of vs.near home ops) vs.near.reach then vs.near else vs.far
+chosen vs home ops = if is_within vs.near home ops then vs.near else (if is_within vs.middle home ops then vs.middle else vs.far)
 
 -- ---- the words of a program
 

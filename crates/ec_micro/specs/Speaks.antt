@@ -30,11 +30,11 @@ HasAt code i ws = (k w : ℕ) → slice_get ws k ≡ Some w → word_at code (pc
 
 module _ {S : Type 0} (M : MachineMeaning S) (f own : ℕ) where
   -- a state shows what homes hold, with the addresses of frame and own object in the base registers
-  pub record Sees (s : S) (home : ℕ → ℕ) : Type 0 where
+  pub record Sees (s : S) (held : ℕ → ℕ) : Type 0 where
     pub rests : M.rests s
     pub frame : M.register s M.frame_base ≡ block_at f
     pub owns : M.register s M.own_base ≡ block_at own
-    pub home : (k : ℕ) → k < M.homes → M.register s (M.first_home + k) ≡ home k
+    pub home : (k : ℕ) → k < M.homes → M.register s (M.first_home + k) ≡ held k
 
   -- from a state, in at most so many steps, to one at a word that shows another sight
   pub record Ends (code : List ℕ) (s : S) (v : Sight) (size to : ℕ) (after : Sight) : Type 0 where
