@@ -24,6 +24,10 @@ pub trait Kind {
     /// How many registers are homes.
     ghost homes: { ℕ };
 
+    /// How many registers are homes.
+    fn home_registers(&self) -> u32
+        ensures { result ≡ homes };
+
     /// How many words far questions and jumps reach.
     fn reach(&self, span: Span) -> u32
         ensures { result ≡ (pick vocabularies span).reach };

@@ -81,11 +81,7 @@ fn copied(alloc: Global, stops: &Seq<u32>) -> Result<Seq<u32>, AllocError>
 }
 
 /// Notes the stops of an operation at their addresses, no two of which are alike. The error is want of memory.
-fn note(
-    at: &mut BTreeMap<u32, StopId>,
-    operation: u32,
-    stops: &Seq<u32>,
-) -> Result<(), AllocError>
+fn note(at: &mut BTreeMap<u32, StopId>, operation: u32, stops: &Seq<u32>) -> Result<(), AllocError>
     requires few { length stops.now ≤ 2 ^ 32 }
     requires apart { (n m a : ℕ) → slice_get stops.now n ≡ Some a → slice_get stops.now m ≡ Some a → n ≡ m }
     ensures { OnOk result (Notes at.old at.new operation stops.now) }
