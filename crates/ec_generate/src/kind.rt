@@ -64,7 +64,13 @@ pub trait Kind {
         ensures { OnOk result (words.new ≡ words.old ++ (pick vocabularies span).ask_words question from to) };
 
     /// Writes a jump at a word to another one.
-    fn put_jump(&self, span: Span, from: u32, to: u32, words: &mut Seq<u32>) -> Result<(), AllocError>
+    fn put_jump(
+        &self,
+        span: Span,
+        from: u32,
+        to: u32,
+        words: &mut Seq<u32>,
+    ) -> Result<(), AllocError>
         requires from { from + (pick vocabularies span).jump_size ≤ words_end }
         requires to { to ≤ words_end }
         requires forward { to ≤ from + (pick vocabularies span).reach }

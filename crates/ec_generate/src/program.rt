@@ -12,10 +12,23 @@ use crate::operation::put_operation;
 use crate::site::Site;
 use crate::sizes::span_of;
 use ec_base::list::Seq;
-use ec_code::code::Parts;
+use ec_code::code::{Operation, Parts};
 use ec_faithful::code::Code;
 use ec_homes::homes::Home;
 use std::alloc::{AllocError, Global};
+
+/// An operation with the homes of its variables.
+fn site_of<'a>(operation: &'a Operation, row: &'a Seq<Home>) -> Site<'a>
+    ensures code { result.code.now ≡ operation.now.code }
+    ensures named { result.named ≡ length operation.now.variables }
+    ensures homes { result.homes.now ≡ row.now }
+{
+    Site {
+        code: &operation.code,
+        named: operation.variables.len(),
+        homes: row,
+    }
+}
 
 /// The machine code of a well typed program for a kind of machine, by the homes of the variables of each operation. The error is
 /// want of memory.
@@ -35,12 +48,7 @@ pub fn generate<K: Kind>(
     let mut words = Seq::new(alloc);
     let mut operations = Seq::new(alloc);
     for n in 0..parts.operations.len() {
-        let operation = parts.operations.at(n);
-        let site = Site {
-            code: &operation.code,
-            named: operation.variables.len(),
-            homes: homes.at(n),
-        };
+        let site = site_of(parts.operations.at(n), homes.at(n));
         let span = span_of(kind, &site);
         operations.push(put_operation(alloc, kind, span, &site, &mut words)?)?;
     }
