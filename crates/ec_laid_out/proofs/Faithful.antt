@@ -35,7 +35,8 @@ use Rattle.ec_laid_out.proofs.Sizes.{before_next}
 use Rattle.ec_laid_out.proofs.Standing.{Held, Holds, Setting, Standing}
 use Rattle.ec_laid_out.proofs.Stops.{number_of, numbered, rest_is}
 use Rattle.ec_laid_out.proofs.Walks.{Gets, GetsTo, gets, size}
-use Rattle.ec_laid_out.proofs.Whole.{address_is, apart, at_place, code, known, laid_at, only, op_at, speaks, start, stop_line, stop_word_at, stops}
+use Rattle.ec_laid_out.proofs.Whole.{address_is, apart, at_place, code, known, laid_at, only, op_at, speaks, start, stop_line}
+use Rattle.ec_laid_out.proofs.Whole.{stop_word_at, stops}
 use Rattle.ec_laid_out.proofs.Whole.{whole, within, words_are}
 
 size_drop :
@@ -162,7 +163,9 @@ module _ {S : Type 0} (M : MachineMeaning S) (vs : Vocabularies) (homes : List (
           (begins ∙ ap (λ k. pc_of (at_place M vs homes d p can a.operation o k)) first)
           (subst (λ k. Standing M g home (length o.variables) (live_at o.code k) seen m) first stands))
 
-      back : (h : Home) (u : Value) → Holds M g gone.sight.home gone.sight.bytes h u → HomeStands M local text f gone.ends.last gone.sight.bytes h u
+      back :
+          (h : Home) (u : Value) → Holds M g gone.sight.home gone.sight.bytes h u →
+          HomeStands M local text f gone.ends.last gone.sight.bytes h u
       back (Slot n) u w = w
       back (Register k) u w = (w.0, subst (λ x. StandsFor local text u x) (sym (gone.ends.sees.home k w.0)) w.1)
 

@@ -39,7 +39,8 @@ module _ {S : Type 0} (M : MachineMeaning S) (V : Vocabulary) (K : Speaks M V) w
   none_in_steps [] i e = absurd cc
   none_in_steps (m ∷ ms) i e = ⊎_elim
       (λ (h : slice_get (V.step_words m) i ≡ Some M.stop_word). K.no_step m i h)
-      (λ (h : (k : ℕ) × (i ≡ length (V.step_words m) + k) × (slice_get (words_of_steps V ms) k ≡ Some M.stop_word)). none_in_steps ms h.0 h.2)
+      (λ (h : (k : ℕ) × (i ≡ length (V.step_words m) + k) × (slice_get (words_of_steps V ms) k ≡ Some M.stop_word)).
+      none_in_steps ms h.0 h.2)
       (get_append (V.step_words m) (words_of_steps V ms) i M.stop_word e)
 
   module _ (home : Variable → Home) (ops : List Op) (start : ℕ) where

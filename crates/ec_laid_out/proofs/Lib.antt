@@ -13,3 +13,4 @@ pub mod Laying
 pub mod Programs
 pub mod Whole
 pub mod Faithful
+pub mod Fitted

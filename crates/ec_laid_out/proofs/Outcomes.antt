@@ -61,7 +61,8 @@ without_less into (l ∷ ls) x t h = by (is_written into l.variable) refl (witho
         (λ (e : ◌≡◌ {A = Live} (record { variable = x; of = t }) l). (
           inl e,
           λ (i : into ≡ Some x).
-              absurd (false_true (sym w ∙ ap (λ (k : Live). is_written into k.variable) (sym e) ∙ ap (λ k. is_written k x) i ∙ is_itself x)),
+              absurd
+              (false_true (sym w ∙ ap (λ (k : Live). is_written into k.variable) (sym e) ∙ ap (λ k. is_written k x) i ∙ is_itself x)),
         ))
         (λ (k : Has (without into ls) x t). let r = rest k in (inr r.0, r.1))
         h
@@ -188,7 +189,8 @@ module _ {S : Type 0} (M : MachineMeaning S) (V : Vocabulary) (g : Setting M) (z
         let word = ap (word_of M V g z) first in
         let after = does_all M g.f g.own z.code (steps_of z.home o) v in
         let e = runs_all M g.f g.own z.code V z.speaks g.frame_small g.own_small (steps_of z.home o) (word_of M V g z q)
-        (word_of M V g z q + plain_size V z.home o) s v (plain_there M V g z q o here at) refl there (omega (arith, next, low, size)) sees d.can in
+        (word_of M V g z q + plain_size V z.home o) s v (plain_there M V g z q o here at) refl there (omega (arith, next, low, size))
+        sees d.can in
         record {
           after = after;
           ends = ends_at s v after (op_size V z.home o) (word_of M V g z q + plain_size V z.home o) (word_of M V g z (suc (q + 0)))
@@ -261,7 +263,8 @@ module _ {S : Type 0} (M : MachineMeaning S) (V : Vocabulary) (g : Setting M) (z
     went_to over flows e = record {
       after = v;
       ends = e;
-      stand = passes_on M g z.home (named M V g z) here (live_at z.of.code (suc (q + over))) v m (passes_next M V g z q over here flows) stand;
+      stand = passes_on M g z.home (named M V g z) here (live_at z.of.code (suc (q + over))) v m
+          (passes_next M V g z q over here flows) stand;
       same = λ address out. refl;
     }
 

@@ -127,7 +127,8 @@ module _ {S : Type 0} (M : MachineMeaning S) (vs : Vocabularies) (near : Speaks 
   start_rises n start j zero at (p ∷ os) o sum lt e = absurd (omega (arith, lt))
   start_rises n start zero (suc k) at (p ∷ os) o sum lt e =
       let first : n ≡ at = omega (arith, sum) in
-      let same : words_in vs homes n p ≡ words_in vs homes at o = ap (words_in vs homes n) (same_Some p o e) ∙ ap (λ i. words_in vs homes i o) first in
+      let same : words_in vs homes n p ≡ words_in vs homes at o =
+      ap (words_in vs homes n) (same_Some p o e) ∙ ap (λ i. words_in vs homes i o) first in
       let rest = start_from (suc n) (start + words_in vs homes n p) k os in
       omega (arith, same, rest)
   start_rises n start (suc j) (suc k) at (p ∷ os) o sum lt e =
@@ -139,7 +140,8 @@ module _ {S : Type 0} (M : MachineMeaning S) (vs : Vocabularies) (near : Speaks 
   start_within n start k at [] o sum e = absurd cc
   start_within n start zero at (p ∷ os) o sum e =
       let first : n ≡ at = omega (arith, sum) in
-      let same : words_in vs homes n p ≡ words_in vs homes at o = ap (words_in vs homes n) (same_Some p o e) ∙ ap (λ i. words_in vs homes i o) first in
+      let same : words_in vs homes n p ≡ words_in vs homes at o =
+      ap (words_in vs homes n) (same_Some p o e) ∙ ap (λ i. words_in vs homes i o) first in
       omega (arith, same)
   start_within n start (suc k) at (p ∷ os) o sum e =
       let rest = start_within (suc n) (start + words_in vs homes n p) k at os o (omega (arith, sum)) e in

@@ -13,7 +13,9 @@ module _ (V : Vocabulary) (home : Variable → Home) where
   before_none [] = refl
   before_none (o ∷ os) = refl
 
-  pub before_next : (os : List Op) (p : ℕ) (o : Op) → slice_get os p ≡ Some o → before V home os (suc p) ≡ before V home os p + op_size V home o
+  pub before_next :
+      (os : List Op) (p : ℕ) (o : Op) → slice_get os p ≡ Some o →
+      before V home os (suc p) ≡ before V home os p + op_size V home o
   before_next [] p o e = cc
   before_next (q ∷ os) zero o e =
       let none : before V home os 0 ≡ 0 = before_none os in

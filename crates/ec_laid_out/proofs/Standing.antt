@@ -356,7 +356,12 @@ module _ {S : Type 0} (M : MachineMeaning S) (g : Setting M) where
         record {
           held = λ x t l.
               let h = old.held x t (flows x t l) in
-              record { value = h.value; is = kept_variable m x h.value h.is; fits = h.fits; holds = holds_stored (home x) v h.value lt h.holds };
+              record {
+                value = h.value;
+                is = kept_variable m x h.value h.is;
+                fits = h.fits;
+                holds = holds_stored (home x) v h.value lt h.holds;
+              };
           ground = ground_stored m.common v.bytes old_value is old.ground;
           many = old.many;
         }

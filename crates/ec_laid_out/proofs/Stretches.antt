@@ -23,7 +23,7 @@ get_append {A} (x ∷ xs) ys (suc i) v e = ⊎_elim
     (λ (h : (k : ℕ) × (i ≡ length xs + k) × (slice_get ys k ≡ Some v)). inr (h.0, omega (arith, h.1), h.2))
     (get_append xs ys i v e)
 
-get_front : {A : Type 0} (xs ys : List A) (i : ℕ) (v : A) → slice_get xs i ≡ Some v → slice_get (xs ++ ys) i ≡ Some v
+pub get_front : {A : Type 0} (xs ys : List A) (i : ℕ) (v : A) → slice_get xs i ≡ Some v → slice_get (xs ++ ys) i ≡ Some v
 get_front [] ys i v e = cc
 get_front (x ∷ xs) ys zero v e = e
 get_front (x ∷ xs) ys (suc i) v e = get_front xs ys i v e
@@ -103,8 +103,10 @@ module _ {S : Type 0} (M : MachineMeaning S) (f own : ℕ) (code : List ℕ) whe
         let ws = V.step_words m in
         let rest = words_of_steps V ms in
         let long = length-append ws rest in
-        let one = K.step f own code m i s v f_small own_small (has_front code i ws rest has) at (omega (arith, sum, low, long)) sees can.0 in
-        let far = runs_all ms (i + length ws) to one.last (does M f own m v) (has_back code i ws rest has) (omega (arith, sum, long)) one.at low
+        let one = K.step f own code m i s v f_small own_small (has_front code i ws rest has) at (omega (arith, sum, low, long)) sees
+        can.0 in
+        let far = runs_all ms (i + length ws) to one.last (does M f own m v) (has_back code i ws rest has) (omega (arith, sum, long))
+        one.at low
         one.sees can.1 in
         joins s v (does M f own m v) (does_all (m ∷ ms) v) (length ws) (length rest) (length (ws ++ rest)) (i + length ws) to one far
         (omega (arith, long))

@@ -2,7 +2,8 @@
 use Rattle.std.proofs.Common.{◌≡◌, ◌≢◌, ℕ, zero, suc, ◌^◌, ◌<◌, ◌≤◌, List, [], ◌∷◌, Option, Some, None, refl, sym, ap, ◌∙◌}
 use Rattle.std.proofs.Common.{subst, arith, Bool, true, false, not, if◌then◌else◌, ◌==◌, ℤ, pos, negsuc, int_lt, int_le, int_rem, int_div}
 use Rattle.std.proofs.Common.{FitsSigned, neg_ℤ, ◌/◌, div-le_self}
-use Rattle.std.specs.Int.{w32, cast_signed, cast_unsigned, from_bool, int_wrapping_add, int_wrapping_sub, int_wrapping_mul, int_wrapping_div}
+use Rattle.std.specs.Int.{w32, cast_signed, cast_unsigned, from_bool, int_wrapping_add, int_wrapping_sub, int_wrapping_mul}
+use Rattle.std.specs.Int.{int_wrapping_div}
 use lib.Signed.{mag_rem}
 use Rattle.std.proofs.Math.Facts.{sfits_to_z}
 use Rattle.std.proofs.lemmas.Bool.Decides.{nat_tests}
@@ -214,7 +215,9 @@ module _ (p : Parts) (local : ℕ → Option ℕ) (text : ℕ → Option (List �
   divides_is (Int x) _ b r g h is = absurd (none_some r is)
   divides_is _ t b r g h is = absurd (none_some r is)
 
-  pub holds_is : (u : Option Value) (v : Value) (a : ℕ) (r : Bool) → u ≡ Some v → StandsFor local text v a → truth_in u ≡ Some r → not (related Same a 0) ≡ r
+  pub holds_is :
+      (u : Option Value) (v : Value) (a : ℕ) (r : Bool) → u ≡ Some v → StandsFor local text v a → truth_in u ≡ Some r →
+      not (related Same a 0) ≡ r
   holds_is None v a r s e is = absurd (none_some r is)
   holds_is (Some u) v a r s e is = on_value v e (sym (ap truth_in s) ∙ is)
     where
@@ -263,7 +266,9 @@ module _ (p : Parts) (local : ℕ → Option ℕ) (text : ℕ → Option (List �
 
 -- ---- what is wanted
 
-pub wanted_some : (wanted b : Bool) (c : Option Bool) → as_wanted wanted c ≡ Some b → (r : Bool) × (c ≡ Some r) × (is_same_truth wanted r ≡ b)
+pub wanted_some :
+    (wanted b : Bool) (c : Option Bool) → as_wanted wanted c ≡ Some b →
+    (r : Bool) × (c ≡ Some r) × (is_same_truth wanted r ≡ b)
 wanted_some wanted b None e = absurd (none_some b e)
 wanted_some wanted b (Some r) e = (r, refl, same_Some (is_same_truth wanted r) b e)
 
