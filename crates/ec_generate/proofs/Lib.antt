@@ -4,3 +4,4 @@ pub mod Room
 pub mod Makeable
 pub mod Endings
 pub mod Placed
+pub mod Fit

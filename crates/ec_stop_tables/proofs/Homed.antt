@@ -42,7 +42,7 @@ among x [] h = absurd h
 among x (y ∷ ys) (inl e) = ap (λ b. b || is_among x ys) (ap (is_same x) (sym e) ∙ same_self x)
 among x (y ∷ ys) (inr h) = ap (λ b. is_same x y || b) (among x ys h) ∙ or_true (is_same x y)
 
-has_in : (live : List Live) (x : Variable) (t : StaticType) → Has live x t → IsIn x (map (λ l. l.variable) live)
+pub has_in : (live : List Live) (x : Variable) (t : StaticType) → Has live x t → IsIn x (map (λ l. l.variable) live)
 has_in [] x t h = absurd h
 has_in (l ∷ ls) x t (inl e) = inl (ap (λ (k : Live). k.variable) e)
 has_in (l ∷ ls) x t (inr h) = inr (has_in ls x t h)

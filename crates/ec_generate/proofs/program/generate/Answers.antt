@@ -1,5 +1,6 @@
 use Rattle.std.proofs.Common.{◌≡◌, ◌∙◌, ◌+◌, ◌≤◌, ◌++◌, ℕ, List, [], ap, sym, length, arith, refl}
 use Rattle.ec_code.specs.declared.code.Operation.{Operation}
+use Rattle.ec_generate.proofs.Fit.{row_at, tables_fit}
 use Rattle.ec_generate.proofs.Makeable.{makeable}
 use Rattle.ec_generate.proofs.Placed.{IsPlaced, code_is, near, same_home, same_size, words_are}
 use Rattle.ec_generate.proofs.Programs.{codes_more, longer, size_more, words_at, words_more}
@@ -7,6 +8,7 @@ use Rattle.ec_generate.proofs.Room.{chosen_sized, fits_room, is_at_most}
 use Rattle.ec_generate.proofs.program.generate.Goals as goal
 use Rattle.ec_micro.specs.Layout.{home_of, operation_codes, ops_of, program_words, size_of_all, words_in}
 use Rattle.ec_micro.specs.Speaks.{words_end}
+use Rattle.ec_stop_tables.specs.Tables.{all_homes}
 
 pub put_operation-requires-clause-makeable : goal.put_operation-requires-clause-makeable
 put_operation-requires-clause-makeable g c =
@@ -14,28 +16,28 @@ put_operation-requires-clause-makeable g c =
     let n = c.loop-n.n in
     let o = c.at.result.now in
     let site = c.site_of-site.result in
-    let is : IsPlaced vs c.args.homes.now n o site c.span_of-span.result = record {
-      row = c.at-in-loop-n.result.now;
-      has_row = c.at-in-loop-n.ensures;
+    let is : IsPlaced vs (all_homes c.args.table.now.operations) n o site c.span_of-span.result = record {
+      row = c.at-in-loop-n.result.now.homes;
+      has_row = row_at c.args.table.now.operations c.loop-n.n c.at-in-loop-n.result.now c.at-in-loop-n.ensures;
       homes_are = c.site_of-site.ensures.homes;
       named = c.site_of-site.ensures.named;
       code = c.site_of-site.ensures.code;
       span_is = c.span_of-span.ensures;
     } in
-    makeable c.requires.fine.0 c.args.parts.now c.requires.fine.1 c.requires.limits g.K.Kind.homes c.args.homes.now n o c.at.ensures
-    (c.requires.fit n o c.at.ensures) site (same_home vs c.args.homes.now n o site c.span_of-span.result is) c.site_of-site.ensures.code
+    makeable c.requires.fine.0 c.args.parts.now c.requires.fine.1 c.requires.limits g.K.Kind.homes (all_homes c.args.table.now.operations) n o c.at.ensures
+    (tables_fit g.K.Kind.homes c.args.parts.now c.args.table.now.operations c.requires.limits c.requires.tables n o c.at.ensures) site (same_home vs (all_homes c.args.table.now.operations) n o site c.span_of-span.result is) c.site_of-site.ensures.code
 
 pub put_operation-requires-clause-near : goal.put_operation-requires-clause-near
 put_operation-requires-clause-near g c =
     let vs = g.K.Kind.vocabularies in
     let sized = g.met.K.Kind.sized in
-    let homes = c.args.homes.now in
+    let homes = (all_homes c.args.table.now.operations) in
     let n = c.loop-n.n in
     let o = c.at.result.now in
     let site = c.site_of-site.result in
     let is : IsPlaced vs homes n o site c.span_of-span.result = record {
-      row = c.at-in-loop-n.result.now;
-      has_row = c.at-in-loop-n.ensures;
+      row = c.at-in-loop-n.result.now.homes;
+      has_row = row_at c.args.table.now.operations c.loop-n.n c.at-in-loop-n.result.now c.at-in-loop-n.ensures;
       homes_are = c.site_of-site.ensures.homes;
       named = c.site_of-site.ensures.named;
       code = c.site_of-site.ensures.code;
@@ -51,14 +53,14 @@ pub put_operation-requires-clause-room : goal.put_operation-requires-clause-room
 put_operation-requires-clause-room g c =
     let vs = g.K.Kind.vocabularies in
     let sized = g.met.K.Kind.sized in
-    let homes = c.args.homes.now in
+    let homes = (all_homes c.args.table.now.operations) in
     let n = c.loop-n.n in
     let o = c.at.result.now in
     let site = c.site_of-site.result in
     let os = c.args.parts.now.operations in
     let is : IsPlaced vs homes n o site c.span_of-span.result = record {
-      row = c.at-in-loop-n.result.now;
-      has_row = c.at-in-loop-n.ensures;
+      row = c.at-in-loop-n.result.now.homes;
+      has_row = row_at c.args.table.now.operations c.loop-n.n c.at-in-loop-n.result.now c.at-in-loop-n.ensures;
       homes_are = c.site_of-site.ensures.homes;
       named = c.site_of-site.ensures.named;
       code = c.site_of-site.ensures.code;
@@ -76,7 +78,7 @@ pub loop-n-preserved : goal.loop-n-preserved
 loop-n-preserved g c =
     let vs = g.K.Kind.vocabularies in
     let sized = g.met.K.Kind.sized in
-    let homes = c.args.homes.now in
+    let homes = (all_homes c.args.table.now.operations) in
     let n = c.loop-n.n in
     let o = c.at.result.now in
     let site = c.site_of-site.result in
@@ -85,8 +87,8 @@ loop-n-preserved g c =
     let old = c.loop-n.words in
     let new = c.put_operation.new.words in
     let is : IsPlaced vs homes n o site span = record {
-      row = c.at-in-loop-n.result.now;
-      has_row = c.at-in-loop-n.ensures;
+      row = c.at-in-loop-n.result.now.homes;
+      has_row = row_at c.args.table.now.operations c.loop-n.n c.at-in-loop-n.result.now c.at-in-loop-n.ensures;
       homes_are = c.site_of-site.ensures.homes;
       named = c.site_of-site.ensures.named;
       code = c.site_of-site.ensures.code;
@@ -104,4 +106,8 @@ loop-n-preserved g c =
     }
 
 pub returns-clause-room : goal.returns-clause-room
-returns-clause-room g c = fits_room g.K.Kind.vocabularies g.met.K.Kind.sized c.args.homes.now c.args.parts.now c.requires.limits
+returns-clause-room g c = fits_room g.K.Kind.vocabularies g.met.K.Kind.sized (all_homes c.args.table.now.operations) c.args.parts.now c.requires.limits
+
+pub returns-clause-fit : goal.returns-clause-fit
+returns-clause-fit g c = λ n o e.
+    tables_fit g.K.Kind.homes c.args.parts.now c.args.table.now.operations c.requires.limits c.requires.tables n o e
