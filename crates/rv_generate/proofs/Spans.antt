@@ -1,5 +1,5 @@
 -- What is the same however far words reach.
-use Rattle.std.proofs.Common.{◌≡◌, ℕ, List, length, refl, ap, ◌∙◌}
+use Rattle.std.proofs.Common.{◌≡◌, length, refl, ap, ◌∙◌}
 use Rattle.ec_generate.specs.Puts.{pick}
 use Rattle.ec_generate.specs.declared.kind.Span.{Span}
 use Rattle.ec_generate.specs.declared.kind.Span.TheVariants.{Near, Middle, Far}

@@ -1,10 +1,10 @@
 -- The words are as many as their sizes say, and few.
-use Rattle.std.proofs.Common.{◌≡◌, ℕ, ◌+◌, ◌-◌, ◌*◌, ◌≤◌, List, [], ◌∷◌, ◌++◌, length, length-append, Option, Some, None, refl, sym, ap}
-use Rattle.std.proofs.Common.{◌∙◌, arith, true, false}
+use Rattle.std.proofs.Common.{◌≡◌, ℕ, ◌+◌, ◌-◌, ◌*◌, ◌≤◌, List, [], ◌∷◌, ◌++◌, length, length-append, Option, Some, None, refl}
+use Rattle.std.proofs.Common.{arith, true, false}
 use Rattle.std.specs.Prelude.{◌==◌, Bool, if◌then◌else◌, not}
 use Rattle.ec_code.specs.declared.code.Arithmetic.{Arithmetic}
 use Rattle.ec_code.specs.declared.code.Arithmetic.TheVariants.{Sum, Difference, Product, Quotient, Remainder}
-use Rattle.ec_generate.specs.Puts.{IsSized, Sized, most_words}
+use Rattle.ec_generate.specs.Puts.{Sized, most_words}
 use Rattle.ec_homes.specs.declared.homes.Home.{Home as Homes}
 use Rattle.ec_homes.specs.declared.homes.Home.TheVariants.{Register, Slot}
 use Rattle.ec_micro.specs.declared.step.Question.{Question}
@@ -14,7 +14,7 @@ use Rattle.ec_micro.specs.declared.step.Source.{Source}
 use Rattle.ec_micro.specs.declared.step.Source.TheVariants.{Home, Word}
 use Rattle.ec_micro.specs.declared.step.Step.{Step}
 use Rattle.ec_micro.specs.declared.step.Step.TheVariants.{Constant, Decide, Field, Itself, Move, SetField, Work}
-use Rattle.rv_generate.specs.Sizes.{answer_size, apart_size, both_size, copied_size, move_size, number_size, one_size, same_size}
+use Rattle.rv_generate.specs.Sizes.{answer_size, apart_size, both_size, copied_size, move_size, number_size, one_size}
 use Rattle.rv_generate.specs.Sizes.{source_size, step_size, sum_size, target_size, two_size, with_number_size, work_size}
 use Rattle.rv_isa.specs.Parts.{high_of, low_of}
 use Rattle.rv_isa.specs.declared.instr.Immediate.{Immediate}
@@ -27,7 +27,7 @@ use Rattle.rv_words.specs.Words.{difference_by, difference_words, far_jump_words
 use Rattle.rv_words.specs.Words.{less_by}
 use Rattle.rv_words.specs.Words.{less_words, lui, lw, middle_words, move_words, near_words, number_words, on_number, on_registers}
 use Rattle.rv_words.specs.Words.{one_words}
-use Rattle.rv_words.specs.Words.{rv_far, rv_middle, rv_near, rv_vocabularies, same_words, small, small_negative, source_register}
+use Rattle.rv_words.specs.Words.{rv_vocabularies, small, small_negative, source_register}
 use Rattle.rv_words.specs.Words.{source_words}
 use Rattle.rv_words.specs.Words.{step_words, stored_words, sum_by, sw, target_register, target_words, two_words, work_words, zero_word}
 

@@ -4,7 +4,6 @@ use Rattle.ec_code.specs.declared.code.Arithmetic.{Arithmetic}
 use Rattle.ec_code.specs.declared.code.Arithmetic.TheVariants.{Sum, Difference, Product, Quotient, Remainder}
 use Rattle.ec_homes.specs.declared.homes.Home.{Home}
 use Rattle.ec_homes.specs.declared.homes.Home.TheVariants.{Register, Slot}
-use Rattle.ec_micro.specs.declared.step.Question.{Question}
 use Rattle.ec_micro.specs.declared.step.Relation.{Relation}
 use Rattle.ec_micro.specs.declared.step.Relation.TheVariants.{Less, Same}
 use Rattle.ec_micro.specs.declared.step.Source.{Source}
