@@ -11,8 +11,9 @@ use Rattle.ec_code_limits.specs.Limits.{HasLimits, IsSmallOperation}
 use Rattle.ec_faithful.specs.Stops.{places_from, stop_of, stop_places, with_place}
 use Rattle.ec_faithful.specs.declared.code.OperationCode.{OperationCode}
 use Rattle.ec_homes.specs.declared.homes.Home.{Home}
-use Rattle.ec_micro.specs.Layout.{Vocabularies, code_of, operation_codes, words_in}
+use Rattle.ec_micro.specs.Layout.{Vocabularies, code_of, home_of, operation_codes, ops_of, place, stop_addresses, vocabulary_of, words_in}
 use Rattle.ec_stop_tables.specs.Addresses.{HasFew}
+use Rattle.ec_target.specs.Code.{pc_of}
 use Rattle.ec_stop_tables.proofs.Listing.{all_at}
 
 place_few : (q : ℕ) (o : Option StopRow) (places : List ℕ) → length (with_place q o places) ≤ suc (length places)
@@ -33,8 +34,10 @@ module _ (vs : Vocabularies) (homes : List (List Home)) where
       (o : Operation) × (slice_get os k ≡ Some o) × (length c.stops ≤ length o.code)
   stops_few n start k [] c e = absurd cc
   stops_few n start zero (o ∷ os) c e =
-      let same = ap (λ (x : OperationCode). length x.stops) (same_Some _ c e) in
-      (o, refl, omega (arith, same, length-map (stop_places o.code) _, places_few 0 o.code))
+      let code : OperationCode = record { words = words_in vs homes n o; stops = stop_addresses vs homes n start o } in
+      let same : length code.stops ≡ length c.stops = ap (λ (x : OperationCode). length x.stops) (same_Some code c e) in
+      let address : ℕ → ℕ = λ q. pc_of (place (vocabulary_of vs homes n o) (home_of homes n o) (ops_of o.code) start q) in
+      (o, refl, omega (arith, same, length-map (stop_places o.code) address, places_few 0 o.code))
   stops_few n start (suc k) (o ∷ os) c e = stops_few (suc n) (start + words_in vs homes n o) k os c e
 
   pub has_few : (p : Parts) → HasLimits p → HasFew (code_of vs homes p.operations)
