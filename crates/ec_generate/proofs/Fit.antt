@@ -97,7 +97,7 @@ module _ (registers : ℕ) (p : Parts) (ts : List OperationTable) (limits : HasL
         let k = table.2 in
         let same = k.named in
         let at : (y : Variable) (h : Home) → slice_get table.0.homes (column named y) ≡ Some h →
-            slice_get table.0.homes (column table.0.named y) ≡ Some h = λ y h f. ap (λ j. slice_get table.0.homes (column j y)) same ∙ f in
+        slice_get table.0.homes (column table.0.named y) ≡ Some h = λ y h f. ap (λ j. slice_get table.0.homes (column j y)) same ∙ f in
         let apart = homes_apart table.0.named registers o.code table.0.homes k.homes q line to x t hx.0 ht.0 e w live ne
         (subst (λ j. IsVariable j x) (sym same) cx.is_variable) (subst (λ j. IsVariable j to) (sym same) ct.is_variable)
         (at x hx.0 hx.1) (at to ht.0 ht.1) in

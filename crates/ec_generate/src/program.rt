@@ -45,8 +45,8 @@ pub fn generate<K: Kind>(
     requires tables { AreTablesOf K.homes slots parts.now table.now.operations }
     ensures code { IfOk result (λ code. code ≡ code_of K.vocabularies (all_homes table.now.operations) parts.now.operations) }
     ensures room { IfOk result (λ code. HasRoom K.vocabularies (all_homes table.now.operations) parts.now) }
-    ensures fit { (n : ℕ) (o : One) → slice_get parts.now.operations n ≡ Some o →
-        HomesFit K.homes (all_homes table.now.operations) n o }
+    ensures fit { IfOk result (λ code. (n : ℕ) (o : One) → slice_get parts.now.operations n ≡ Some o →
+        HomesFit K.homes (all_homes table.now.operations) n o) }
 {
     let mut words = Seq::new(alloc);
     let mut operations = Seq::new(alloc);

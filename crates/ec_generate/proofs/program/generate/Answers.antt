@@ -1,6 +1,7 @@
 use Rattle.std.proofs.Common.{◌≡◌, ◌∙◌, ◌+◌, ◌≤◌, ◌++◌, ℕ, List, [], ap, sym, length, arith, refl}
 use Rattle.ec_code.specs.declared.code.Operation.{Operation}
 use Rattle.ec_generate.proofs.Fit.{row_at, tables_fit}
+use Rattle.ec_generate.proofs.Loops.{ops_long}
 use Rattle.ec_generate.proofs.Makeable.{makeable}
 use Rattle.ec_generate.proofs.Placed.{IsPlaced, code_is, near, same_home, same_size, words_are}
 use Rattle.ec_generate.proofs.Programs.{codes_more, longer, size_more, words_at, words_more}
@@ -8,7 +9,24 @@ use Rattle.ec_generate.proofs.Room.{chosen_sized, fits_room, is_at_most}
 use Rattle.ec_generate.proofs.program.generate.Goals as goal
 use Rattle.ec_micro.specs.Layout.{home_of, operation_codes, ops_of, program_words, size_of_all, words_in}
 use Rattle.ec_micro.specs.Speaks.{words_end}
-use Rattle.ec_stop_tables.specs.Tables.{all_homes}
+use Rattle.ec_base.proofs.Lists.{get_within}
+use Rattle.ec_code_limits.specs.Limits.{IsSmallOperation}
+use Rattle.ec_faithful.specs.Frames.{slots}
+use Rattle.ec_stop_tables.proofs.Listing.{all_at}
+use Rattle.ec_stop_tables.specs.Tables.{IsTableOf, all_homes}
+use Rattle.ec_world.proofs.Related.{all-length}
+
+pub at-requires-in-loop-n : goal.at-requires-in-loop-n
+at-requires-in-loop-n g c =
+    let same = all-length (IsTableOf g.K.Kind.homes slots) c.args.parts.now.operations c.args.table.now.operations c.requires.tables in
+    let there = get_within c.args.parts.now.operations c.loop-n.n c.at.result.now c.at.ensures in
+    omega (arith, same, there)
+
+pub span_of-span-requires : goal.span_of-span-requires
+span_of-span-requires g c =
+    let small = all_at IsSmallOperation c.args.parts.now.operations c.loop-n.n c.at.result.now c.requires.limits.operations c.at.ensures in
+    let code : length c.site_of-site.result.code.now ≡ length c.at.result.now.code = ap length c.site_of-site.ensures.code in
+    omega (arith, small.steps, code, ops_long c.site_of-site.result.code.now)
 
 pub put_operation-requires-clause-makeable : goal.put_operation-requires-clause-makeable
 put_operation-requires-clause-makeable g c =
