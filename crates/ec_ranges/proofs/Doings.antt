@@ -3,10 +3,14 @@ use Rattle.std.proofs.Common.{◌≡◌, ℕ, suc, ◌+◌, ◌≤◌, arith, Bo
 use Rattle.std.proofs.Common.{Option, Some, None, refl, ℤ, pos, negsuc}
 use Rattle.std.proofs.lemmas.Bool.{leb-true}
 use Rattle.std.specs.Prelude.{nat_lt, nat_le}
-use Rattle.ec_world.specs.Doings.{Asked, any_fixed, breaks, called, compare_asks, concat_asks, condition_asks, conditions_of, doing_of, element_at}
-use Rattle.ec_world.specs.Doings.{element_or, entry_asks, fix_at, fixed_asks, get_asks, gives, global_asks, invoke_asks, is_inside, is_node, largest}
-use Rattle.ec_world.specs.Doings.{length_asks, move_asks, move_to, new_asks, node_asks, of_vector, one, passes, print_asks, refix_at, return_asks}
-use Rattle.ec_world.specs.Doings.{set_asks, set_at, size_asks, size_or, slice_asks, slice_or, text_asks, three, two, unfix_asks, vector_asks}
+use Rattle.ec_world.specs.Doings.{Asked, any_fixed, breaks, called, compare_asks, concat_asks, condition_asks, conditions_of, doing_of}
+use Rattle.ec_world.specs.Doings.{element_at}
+use Rattle.ec_world.specs.Doings.{element_or, entry_asks, fix_at, fixed_asks, get_asks, gives, global_asks, invoke_asks, is_inside, is_node}
+use Rattle.ec_world.specs.Doings.{largest}
+use Rattle.ec_world.specs.Doings.{length_asks, move_asks, move_to, new_asks, node_asks, of_vector, one, passes, print_asks, refix_at}
+use Rattle.ec_world.specs.Doings.{return_asks}
+use Rattle.ec_world.specs.Doings.{set_asks, set_at, size_asks, size_or, slice_asks, slice_or, text_asks, three, two, unfix_asks}
+use Rattle.ec_world.specs.Doings.{vector_asks}
 use Rattle.ec_world.specs.Doings.{view_asks, view_of, without}
 use Rattle.ec_world.specs.Objects.{conforms, operation_in}
 use Rattle.ec_world.specs.Sights.{Sight, class_if, class_record}

@@ -12,7 +12,8 @@ use Rattle.ec_sound.proofs.Carried.{each_append, each_replicate, each_set}
 use Rattle.ec_world.specs.Doings.{doing_of, largest}
 use Rattle.ec_world.specs.Objects.{changed_object, class_at, element_kind}
 use Rattle.ec_world.specs.Outcomes.{acted_if, acting, at_condition, by_holder, done, entering, entry_done, entry_effect, flagged}
-use Rattle.ec_world.specs.Outcomes.{gone, left_behind, made_object, made_vector, monitor_for, monitor_of, outcome_of, return_done, section_on}
+use Rattle.ec_world.specs.Outcomes.{gone, left_behind, made_object, made_vector, monitor_for, monitor_of, outcome_of, return_done}
+use Rattle.ec_world.specs.Outcomes.{section_on}
 use Rattle.ec_world.specs.Outcomes.{signal_done, signal_effect, wait_done, with_element, with_monitor, with_object}
 use Rattle.ec_world.specs.Sights.{sight_of}
 use Rattle.ec_world.specs.Values.{default_of, new_fields}
@@ -49,7 +50,8 @@ with_objects c h objects os = record { nodes = h.nodes; objects = os; constants 
 
 -- one object changed, which keeps its class and its fields
 kept : (c : Common) → RangedCommon c → (oid : ℕ) (change : ObjectRec → ObjectRec)
-    → ((o : ObjectRec) → RangedObject o → RangedObject (change o)) → RangedCommon (record c { objects = changed_object c.objects oid change })
+    → ((o : ObjectRec) → RangedObject o → RangedObject (change o))
+    → RangedCommon (record c { objects = changed_object c.objects oid change })
 kept c h oid change f =
     with_objects c h (changed_object c.objects oid change) (changed_ranged c.objects oid change h.objects f)
 

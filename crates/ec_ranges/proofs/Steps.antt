@@ -5,8 +5,10 @@ use Rattle.std.specs.List.{AllByRecursion as Each}
 use Rattle.std.specs.Prelude.{slice_get}
 use Rattle.ec_code.specs.Activations.{Arrived, code_if, code_silent, machine_behind, opened, operation_at, resting, variables_behind}
 use Rattle.ec_code.specs.Activations.{variables_if, walk, walk_by}
-use Rattle.ec_code.specs.Steps.{Done as Step, Goes, Rests, Loops, NoCase, Machine, act, and_others, as_wanted, decides, field_in, gives, operand_at}
-use Rattle.ec_code.specs.Steps.{own_field, passes, put, rests, stores, tested, variable_at, variables_at, with_field, with_itself, with_others}
+use Rattle.ec_code.specs.Steps.{Done as Step, Goes, Rests, Loops, NoCase, Machine, act, and_others, as_wanted, decides, field_in, gives}
+use Rattle.ec_code.specs.Steps.{operand_at}
+use Rattle.ec_code.specs.Steps.{own_field, passes, put, rests, stores, tested, variable_at, variables_at, with_field, with_itself}
+use Rattle.ec_code.specs.Steps.{with_others}
 use Rattle.ec_code.specs.Steps.{with_variable}
 use Rattle.ec_code.specs.declared.activation.CodeActivation.{CodeActivation}
 use Rattle.ec_code.specs.declared.code.Line.{Line}

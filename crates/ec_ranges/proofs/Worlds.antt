@@ -17,7 +17,8 @@ use Rattle.ec_world.specs.Moves.{OperatorMove, is_idle_move, moved_unless}
 use Rattle.ec_world.specs.Objects.{object_at}
 use Rattle.ec_world.specs.Outcomes.{Acted, all_granted, by_holder, dropped_at, dropped_each, dropped_if, monitor_if}
 use Rattle.ec_world.specs.Run.{after_entries, after_entry, first_world, node_object, program_object}
-use Rattle.ec_world.specs.World.{Action, GoOn, act_if_pending, act_on, acted, advanced, all_readied, begun_for, changed, finish_top, given_up}
+use Rattle.ec_world.specs.World.{Action, GoOn, act_if_pending, act_on, acted, advanced, all_readied, begun_for, changed, finish_top}
+use Rattle.ec_world.specs.World.{given_up}
 use Rattle.ec_world.specs.World.{go_on, go_on_unless, outcome_at, owns_of, readied, ready_stack, settled, stack_at, stack_if_ready, who_of}
 use Rattle.ec_world.specs.declared.common.Common.{Common}
 use Rattle.ec_world.specs.declared.doing.Outcome.{Outcome}
