@@ -11,11 +11,14 @@ use Rattle.ec_code.specs.Typing.{kind_of}
 use Rattle.ec_conform.specs.Declarations.{declarations_of}
 use Rattle.ec_conform.specs.Types.{places_of}
 use Rattle.ec_fine_programs.specs.Sound.{IsSound}
+use Rattle.ec_lexer.specs.Tokens.{HasTokens}
+use Rattle.ec_lexer.specs.declared.token.Token.{Token}
 use Rattle.ec_lowered.specs.Lowered.{IsLowered, declared_of}
 use Rattle.ec_meaning.specs.Activations.{source_meaning}
 use Rattle.ec_meaning.specs.Meaning.{source_silent, source_start}
 use Rattle.ec_meaning.specs.Programs.{Source}
 use Rattle.ec_meaning.specs.declared.activation.SourceActivation.{SourceActivation}
+use Rattle.ec_parser.specs.HasTree.{HasTree}
 use Rattle.ec_places.specs.Rising.{IsRising}
 use Rattle.ec_sound.specs.Laws.{world_after}
 use Rattle.ec_world.specs.Agree.{Agree, SameRest}
@@ -32,6 +35,12 @@ use Rattle.ec_world.specs.declared.run.RunEntry.{RunEntry}
 pub record IsAccepted (s : Source) (program : Program) : Type 0 where
   pub core : HasCore program s.table s.core
   pub rising : IsRising (places_of (declarations_of program).types)
+
+-- So is the source of each text that has tokens, a tree, and a core that breaks no static rule.
+abbrev pub TextsAreAccepted : Type 0
+TextsAreAccepted =
+    (s : Source) (tokens : List Token) (program : Program) → HasTokens s.text tokens → HasTree tokens program →
+    HasCore program s.table s.core → IsAccepted s program
 
 abbrev pub AcceptedIsSound : Type 0
 AcceptedIsSound = (s : Source) (program : Program) → IsAccepted s program → IsSound s
@@ -56,20 +65,20 @@ LoweredRunsAgree =
 -- In each of the source's worlds the table of actions has a case for each stop whose action is to be done.
 abbrev pub NoStopLacksACase : Type 0
 NoStopLacksACase =
-    (s : Source) (program : Program) (p : Parts) → IsAccepted s program → IsLowered s p → (n : ℕ) (entries : List RunEntry) (i : ℕ)
+    (s : Source) (program : Program) → IsAccepted s program → (n : ℕ) (entries : List RunEntry) (i : ℕ)
     (top : SourceActivation) → top_of (stack_at (source_after s n entries) i) ≡ Some top → top.pending ≡ true →
     IsSome (outcome_at source_meaning (source_after s n entries) i (below_of (stack_at (source_after s n entries) i)) top)
 
 -- Behind each stop of the source whose action is done silent steps reach a stop.
 abbrev pub NoStepLacksACase : Type 0
 NoStepLacksACase =
-    (s : Source) (program : Program) (p : Parts) → IsAccepted s program → IsLowered s p → (n : ℕ) (entries : List RunEntry) (i : ℕ)
+    (s : Source) (program : Program) → IsAccepted s program → (n : ℕ) (entries : List RunEntry) (i : ℕ)
     (top : SourceActivation) → top_of (stack_at (source_after s n entries) i) ≡ Some top → top.pending ≡ false →
     (source_silent s (source_after s n entries).common top).1.pending ≡ true
 
 -- In each of the source's worlds a process that is Ready has an activation on top.
 abbrev pub ReadyProcessesGoOn : Type 0
 ReadyProcessesGoOn =
-    (s : Source) (program : Program) (p : Parts) → IsAccepted s program → IsLowered s p → (n : ℕ) (entries : List RunEntry) (i : ℕ)
+    (s : Source) (program : Program) → IsAccepted s program → (n : ℕ) (entries : List RunEntry) (i : ℕ)
     (proc : Proc SourceActivation) →
     slice_get (source_after s n entries).processes i ≡ Some proc → proc.status ≡ Ready → IsSome (top_of proc.activations)

@@ -1,6 +1,11 @@
 //! What holds of each accepted program and of what it is lowered to.
 ghost use Rattle.ec_accepted.specs.Laws.{AcceptedIsSound, LoweredIsFine, LoweredRunsAgree, LoweredWorldsAgree};
-ghost use Rattle.ec_accepted.specs.Laws.{NoStepLacksACase, NoStopLacksACase, ReadyProcessesGoOn};
+ghost use Rattle.ec_accepted.specs.Laws.{NoStepLacksACase, NoStopLacksACase, ReadyProcessesGoOn, TextsAreAccepted};
+
+/// A text that has tokens, a tree and a core is an accepted program's.
+pub fn texts_are_accepted()
+    ensures { TextsAreAccepted }
+{}
 
 /// The typing of its code has what it rests on.
 pub fn accepted_is_sound()
@@ -22,7 +27,7 @@ pub fn lowered_runs_agree()
     ensures { LoweredRunsAgree }
 {}
 
-/// Where there is such a program, no pending stop of the source lacks a case.
+/// No pending stop of the source lacks a case.
 pub fn no_stop_lacks_a_case()
     ensures { NoStopLacksACase }
 {}

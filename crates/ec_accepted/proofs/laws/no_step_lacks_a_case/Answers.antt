@@ -1,10 +1,12 @@
 -- No silent step of the source lacks a case.
 use Rattle.ec_accepted.proofs.Accepted.{is_code}
 use Rattle.ec_agreement.proofs.Agreeing as agreeing
+use Rattle.ec_each_lowered.proofs.Programs.{lowered}
 use Rattle.ec_lowered.specs.Lowered.{declared_of}
 use Rattle.ec_lowered_code.specs.Lowerable.{lowered_loops}
 use Rattle.ec_accepted.proofs.laws.no_step_lacks_a_case.Goals as goal
 
 pub returns : goal.returns
-returns start s program p a lowered =
-    agreeing.source_step_has_case lowered_loops s (declared_of s) p (is_code s program a p lowered)
+returns start s program a =
+    let made = lowered s in
+    agreeing.source_step_has_case lowered_loops s (declared_of s) made.0 (is_code s program a made.0 made.1)

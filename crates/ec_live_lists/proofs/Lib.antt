@@ -1,0 +1,3 @@
+pub mod Marking
+pub mod Runs
+pub mod Lists
