@@ -5,7 +5,9 @@ ghost use Rattle.ec_micro.specs.Fitting.{LaidOutIsFaithful};
 
 /// A kind of machine, by what it means to code.
 pub trait Target {
-    ghost meaning: { MachineMeaning Self };
+    ghost State: { Type 0 };
+
+    ghost meaning: { MachineMeaning State };
 }
 
 /// Code that is laid out in the words of a kind which speaks two vocabularies is faithful to its program, where the program is well
