@@ -25,7 +25,8 @@ use Rattle.ec_core_laws.specs.Measures.{factor_height, addend_height, height_of,
 use Rattle.ec_core_sizes.specs.Captures.{expression_captures, link_captures, factor_captures, addend_captures, captures_of}
 use Rattle.ec_core_sizes.specs.Captures.{captures_of_link, captures_of_factor, captures_of_addend}
 use Rattle.ec_emission.specs.Expressions.{Applied, Emitted, Following, addend_code, all_code, all_fit, applied_code}
-use Rattle.ec_emission.specs.Expressions.{builtin_type, chain, chain_code, emitted, expression_code, factor_code, fetch_all, fits_here, kept}
+use Rattle.ec_emission.specs.Expressions.{builtin_type, chain, chain_code, emitted, expression_code, factor_code, fetch_all, fits_here}
+use Rattle.ec_emission.specs.Expressions.{kept}
 use Rattle.ec_emission.specs.Expressions.{link_code, links_code, literal_number, needed_code, own_call, own_code, by_code}
 use Rattle.ec_emission.specs.Expressions.{stop_order, stops_at}
 use Rattle.ec_emission.specs.Literals.{Texts}
@@ -413,7 +414,8 @@ module _ (s : Source) (captured count : ℕ) (literals : Texts) where
       (omega arith) (omega arith)
       (λ h top l. addends_within k.holds xs (every_right (IsCounted count) (in_expression first.0) _ c) h top (omega arith) (omega arith))
   layer (Expression-F.Compare x how what y) c =
-      comparison_sized (x.1 (every_left (IsCounted count) (in_expression x.0) _ c)) (y.1 (every_right (IsCounted count) (in_expression x.0) _ c))
+      comparison_sized (x.1 (every_left (IsCounted count) (in_expression x.0) _ c))
+      (y.1 (every_right (IsCounted count) (in_expression x.0) _ c))
       _ (omega arith) how (stop_order how what)
   layer (Expression-F.And first xs) c = needed_sized false first xs c
   layer (Expression-F.Or first xs) c = needed_sized true first xs c
@@ -460,13 +462,26 @@ module _ (s : Source) (captured count : ℕ) (literals : Texts) where
 
   -- ---- the induction
 
+  -- two steps for each node, and one for each captured value
+  abbrev budget : Expression → ℕ
+  budget x = 2 * size_of x + captures_of x
+
+  abbrev link_budget : Link → ℕ
+  link_budget x = 2 * size_of_link x + captures_of_link x
+
+  abbrev addend_budget : Addend → ℕ
+  addend_budget x = 2 * size_of_addend x + captures_of_addend x
+
+  abbrev factor_budget : Factor → ℕ
+  factor_budget x = 2 * size_of_factor x + captures_of_factor x
+
   expression_from : (x : Expression-F Expression Link Addend Factor) (y : Layer) → bare y ≡ x → IsSized (roll-Expression x)
   expression_from x y is =
       subst (λ (z : Expression-F Expression Link Addend Factor). IsSized (roll-Expression z)) is
       (λ c.
-      subst (λ (k : Emitted). Sized count (height_of (roll-Expression (bare y))) (2 * size_of (roll-Expression (bare y)) + captures_of (roll-Expression (bare y))) k)
+      subst (λ (k : Emitted). Sized count (height_of (roll-Expression (bare y))) (budget (roll-Expression (bare y))) k)
       (sym (fold-roll-Expression Emitted Following Applied Applied of_layer of_link_layer of_addend_layer of_factor_layer (bare y)))
-      (subst (λ (n : ℕ). Sized count n (2 * size_of (roll-Expression (bare y)) + captures_of (roll-Expression (bare y))) (of_layer (coded (bare y))))
+      (subst (λ (n : ℕ). Sized count n (budget (roll-Expression (bare y))) (of_layer (coded (bare y))))
       (sym (fold-roll-Expression ℕ ℕ ℕ ℕ expression_height link_height addend_height factor_height (bare y)))
       (subst (λ (n : ℕ). Sized count (height_in y) (2 * n + captures_of (roll-Expression (bare y))) (of_layer (coded (bare y))))
       (sym (fold-roll-Expression ℕ ℕ ℕ ℕ expression_size link_size addend_size factor_size (bare y)))
@@ -480,11 +495,13 @@ module _ (s : Source) (captured count : ℕ) (literals : Texts) where
   link_from x y is =
       subst (λ (z : Link-F Expression Link Addend Factor). LinkSized (roll-Link z)) is
       (λ c.
-      subst (λ (k : Following). Follows count (height_of_link (roll-Link (bare_link y))) (2 * size_of_link (roll-Link (bare_link y)) + captures_of_link (roll-Link (bare_link y))) k)
+      subst (λ (k : Following). Follows count (height_of_link (roll-Link (bare_link y))) (link_budget (roll-Link (bare_link y))) k)
       (sym (fold-roll-Link Emitted Following Applied Applied of_layer of_link_layer of_addend_layer of_factor_layer (bare_link y)))
-      (subst (λ (n : ℕ). Follows count n (2 * size_of_link (roll-Link (bare_link y)) + captures_of_link (roll-Link (bare_link y))) (of_link_layer (coded_link (bare_link y))))
+      (subst (λ (n : ℕ). Follows count n (link_budget (roll-Link (bare_link y))) (of_link_layer (coded_link (bare_link y))))
       (sym (fold-roll-Link ℕ ℕ ℕ ℕ expression_height link_height addend_height factor_height (bare_link y)))
-      (subst (λ (n : ℕ). Follows count (link_height_in y) (2 * n + captures_of_link (roll-Link (bare_link y))) (of_link_layer (coded_link (bare_link y))))
+      (subst
+      (λ (n : ℕ).
+      Follows count (link_height_in y) (2 * n + captures_of_link (roll-Link (bare_link y))) (of_link_layer (coded_link (bare_link y))))
       (sym (fold-roll-Link ℕ ℕ ℕ ℕ expression_size link_size addend_size factor_size (bare_link y)))
       (subst (λ (n : ℕ). Follows count (link_height_in y) (2 * link_size_in y + n) (of_link_layer (coded_link (bare_link y))))
       (sym (fold-roll-Link ℕ ℕ ℕ ℕ expression_captures link_captures addend_captures factor_captures (bare_link y)))
@@ -496,11 +513,13 @@ module _ (s : Source) (captured count : ℕ) (literals : Texts) where
   addend_from x y is =
       subst (λ (z : Addend-F Expression Link Addend Factor). AddendSized (roll-Addend z)) is
       (λ c.
-      subst (λ (k : Applied). Applies count (height_of_addend (roll-Addend (bare_addend y))) (2 * size_of_addend (roll-Addend (bare_addend y)) + captures_of_addend (roll-Addend (bare_addend y))) k)
+      subst
+      (λ (k : Applied). Applies count (height_of_addend (roll-Addend (bare_addend y))) (addend_budget (roll-Addend (bare_addend y))) k)
       (sym (fold-roll-Addend Emitted Following Applied Applied of_layer of_link_layer of_addend_layer of_factor_layer (bare_addend y)))
-      (subst (λ (n : ℕ). Applies count n (2 * size_of_addend (roll-Addend (bare_addend y)) + captures_of_addend (roll-Addend (bare_addend y))) (coded_addend y))
+      (subst (λ (n : ℕ). Applies count n (addend_budget (roll-Addend (bare_addend y))) (coded_addend y))
       (sym (fold-roll-Addend ℕ ℕ ℕ ℕ expression_height link_height addend_height factor_height (bare_addend y)))
-      (subst (λ (n : ℕ). Applies count (1 + height_of y.value.0) (2 * n + captures_of_addend (roll-Addend (bare_addend y))) (coded_addend y))
+      (subst
+      (λ (n : ℕ). Applies count (1 + height_of y.value.0) (2 * n + captures_of_addend (roll-Addend (bare_addend y))) (coded_addend y))
       (sym (fold-roll-Addend ℕ ℕ ℕ ℕ expression_size link_size addend_size factor_size (bare_addend y)))
       (subst (λ (n : ℕ). Applies count (1 + height_of y.value.0) (2 * (1 + size_of y.value.0) + n) (coded_addend y))
       (sym (fold-roll-Addend ℕ ℕ ℕ ℕ expression_captures link_captures addend_captures factor_captures (bare_addend y)))
@@ -514,11 +533,13 @@ module _ (s : Source) (captured count : ℕ) (literals : Texts) where
   factor_from x y is =
       subst (λ (z : Factor-F Expression Link Addend Factor). FactorSized (roll-Factor z)) is
       (λ c.
-      subst (λ (k : Applied). Applies count (height_of_factor (roll-Factor (bare_factor y))) (2 * size_of_factor (roll-Factor (bare_factor y)) + captures_of_factor (roll-Factor (bare_factor y))) k)
+      subst
+      (λ (k : Applied). Applies count (height_of_factor (roll-Factor (bare_factor y))) (factor_budget (roll-Factor (bare_factor y))) k)
       (sym (fold-roll-Factor Emitted Following Applied Applied of_layer of_link_layer of_addend_layer of_factor_layer (bare_factor y)))
-      (subst (λ (n : ℕ). Applies count n (2 * size_of_factor (roll-Factor (bare_factor y)) + captures_of_factor (roll-Factor (bare_factor y))) (coded_factor y))
+      (subst (λ (n : ℕ). Applies count n (factor_budget (roll-Factor (bare_factor y))) (coded_factor y))
       (sym (fold-roll-Factor ℕ ℕ ℕ ℕ expression_height link_height addend_height factor_height (bare_factor y)))
-      (subst (λ (n : ℕ). Applies count (1 + height_of y.value.0) (2 * n + captures_of_factor (roll-Factor (bare_factor y))) (coded_factor y))
+      (subst
+      (λ (n : ℕ). Applies count (1 + height_of y.value.0) (2 * n + captures_of_factor (roll-Factor (bare_factor y))) (coded_factor y))
       (sym (fold-roll-Factor ℕ ℕ ℕ ℕ expression_size link_size addend_size factor_size (bare_factor y)))
       (subst (λ (n : ℕ). Applies count (1 + height_of y.value.0) (2 * (1 + size_of y.value.0) + n) (coded_factor y))
       (sym (fold-roll-Factor ℕ ℕ ℕ ℕ expression_captures link_captures addend_captures factor_captures (bare_factor y)))

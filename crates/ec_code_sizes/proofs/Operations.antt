@@ -86,7 +86,8 @@ constants_within s literals top n (c ∷ cs) h l =
     let b : ℕ = (2 * size_of_constants cs + captures_of_constants cs) + 1 in
     more (k.most + (1 + b)) _ _ (omega arith)
     (join k.most (1 + b) ((emitted s 0 0 literals c.value).code 0) _ (k.holds.code 0 top (omega arith))
-    (step b (op.Rest (rest_row (stop.Global n) 0 1 None)) (constant_ops s literals (suc n) cs) (temporaries_reach 0 top 0 1 (omega arith), tt)
+    (step b (op.Rest (rest_row (stop.Global n) 0 1 None)) (constant_ops s literals (suc n) cs)
+    (temporaries_reach 0 top 0 1 (omega arith), tt)
     (constants_within s literals top (suc n) cs h.1 (omega arith))))
 
 -- At most two steps for each node, one for each value that an object constructor captures, and two more.

@@ -115,7 +115,8 @@ module _ (s : Source) (captured : ℕ) (types : List StaticType) (literals : Tex
   Numbers = List Number
 
   abbrev numbers_in : Layer → Numbers
-  numbers_in y = statement_numbers (map-Statement Statement Arm Block Numbers Numbers Numbers in_statement in_arm in_block (bare_statement y))
+  numbers_in y =
+      statement_numbers (map-Statement Statement Arm Block Numbers Numbers Numbers in_statement in_arm in_block (bare_statement y))
 
   abbrev size_in : Layer → ℕ
   size_in y = statement_size (map-Statement Statement Arm Block ℕ ℕ ℕ size_of_statement size_of_arm size_of_block (bare_statement y))
@@ -181,7 +182,8 @@ module _ (s : Source) (captured : ℕ) (types : List StaticType) (literals : Tex
       more (b + budget_of_statements xs) _ _ (omega arith)
       (join b (budget_of_statements xs) ((of_statement x.0).code (length rest + left)) rest
       (k.code (length rest + left) top (omega arith))
-      (statements_within xs (every_right (IsCounted (length types)) (in_statement x.0) (numbers_of_statements xs) c) left top (omega arith)))
+      (statements_within xs (every_right (IsCounted (length types)) (in_statement x.0) (numbers_of_statements xs) c) left top
+      (omega arith)))
 
   abbrev numbers_of_arms : List ArmHeld → Numbers
   numbers_of_arms xs = joined (map in_arm (map bare_a xs))
@@ -232,7 +234,8 @@ module _ (s : Source) (captured : ℕ) (types : List StaticType) (literals : Tex
       record {
         code = λ left top l.
             more ((k.most + (j.most + i.most)) + 1) _ _ (omega arith)
-            (three_rest (stop.Set (line s at)) top k.most j.most i.most (code_of x) (code_of y) (code_of z) (k.holds.code 0 top (omega arith))
+            (three_rest (stop.Set (line s at)) top k.most j.most i.most (code_of x) (code_of y) (code_of z)
+            (k.holds.code 0 top (omega arith))
             (j.holds.code 1 top (omega arith)) (i.holds.code 2 top (omega arith)) (omega arith));
       }
   layer (Statement-F.Drop x) c =
@@ -317,7 +320,8 @@ module _ (s : Source) (captured : ℕ) (types : List StaticType) (literals : Tex
       subst (λ z. ArmShort (roll-Arm z)) is
       (λ c.
       let n : Counts (in_expression y.condition ++ in_block y.block.0) =
-      subst (λ (ns : Numbers). Counts ns) (fold-roll-Arm Numbers Numbers Numbers statement_numbers arm_numbers block_numbers (bare_arm y)) c in
+      subst (λ (ns : Numbers). Counts ns)
+      (fold-roll-Arm Numbers Numbers Numbers statement_numbers arm_numbers block_numbers (bare_arm y)) c in
       let k = value y.condition (every_left (IsCounted (length types)) (in_expression y.condition) (in_block y.block.0) n) in
       let j = y.block.1 (every_right (IsCounted (length types)) (in_expression y.condition) (in_block y.block.0) n) in
       let u : k.most < 2 * size_of y.condition + captures_of y.condition = k.under in
@@ -346,7 +350,8 @@ module _ (s : Source) (captured : ℕ) (types : List StaticType) (literals : Tex
       subst (λ z. BlockShort (roll-Block z)) is
       (λ c.
       let n : Counts (numbers_of_statements y.statements) =
-      subst (λ (ns : Numbers). Counts ns) (fold-roll-Block Numbers Numbers Numbers statement_numbers arm_numbers block_numbers (bare_block y)) c in
+      subst (λ (ns : Numbers). Counts ns)
+      (fold-roll-Block Numbers Numbers Numbers statement_numbers arm_numbers block_numbers (bare_block y)) c in
       let size : size_of_block (roll-Block (bare_block y)) ≡ all_of (map size_of_statement (map bare_s y.statements)) =
       fold-roll-Block ℕ ℕ ℕ statement_size arm_size block_size (bare_block y) in
       let captures : captures_of_block (roll-Block (bare_block y)) ≡ all_of (map captures_of_statement (map bare_s y.statements)) =

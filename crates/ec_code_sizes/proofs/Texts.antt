@@ -137,7 +137,8 @@ layer (Expression-F.NewVector of x at) = one_more (texts_of x.0) (size_of x.0) x
 layer (Expression-F.Construct class places) = omega arith
 layer (Expression-F.Create class xs) = one_more _ _ (all_few texts_of size_of xs)
 layer (Expression-F.Chain head xs) =
-    both_few (texts_of head.0) (joined (map texts_of_link (map bare_l xs))) (size_of head.0) _ head.1 (all_few texts_of_link size_of_link xs)
+    both_few (texts_of head.0) (joined (map texts_of_link (map bare_l xs))) (size_of head.0) _ head.1
+    (all_few texts_of_link size_of_link xs)
 layer (Expression-F.Negative x) = one_more (texts_of x.0) (size_of x.0) x.1
 layer (Expression-F.Not x) = one_more (texts_of x.0) (size_of x.0) x.1
 layer (Expression-F.View x of at) = one_more (texts_of x.0) (size_of x.0) x.1
@@ -172,7 +173,8 @@ expression_from : (x : Expression-F Expression Link Addend Factor) (y : Expressi
     bare_expression y ≡ x → IsFew (roll-Expression x)
 expression_from x y is =
     subst (λ z. IsFew (roll-Expression z)) is
-    (same_few _ _ _ _ (fold-roll-Expression Texts Texts Texts Texts expression_texts link_texts addend_texts factor_texts (bare_expression y))
+    (same_few _ _ _ _
+    (fold-roll-Expression Texts Texts Texts Texts expression_texts link_texts addend_texts factor_texts (bare_expression y))
     (fold-roll-Expression ℕ ℕ ℕ ℕ expression_size link_size addend_size factor_size (bare_expression y)) (layer y))
 
 link_from : (x : Link-F Expression Link Addend Factor) (y : Link-F ExpressionHeld LinkHeld AddendHeld FactorHeld) → bare_link y ≡ x →

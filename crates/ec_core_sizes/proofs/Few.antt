@@ -1,6 +1,6 @@
 -- Each class of an accepted program has few fields, and each operation few parameters.
-use Rattle.std.proofs.Common.{◌≡◌, ℕ, zero, suc, ◌+◌, ◌≤◌, nat_lt, Bool, true, false, List, [], ◌∷◌, ◌++◌, length, map, slice_get, Option}
-use Rattle.std.proofs.Common.{Some, None, refl, All, ltb-false, arith}
+use Rattle.std.proofs.Common.{◌≡◌, ℕ, zero, suc, ◌+◌, ◌≤◌, nat_lt, Bool, true, false, List, [], ◌∷◌, ◌++◌, length, map, slice_get}
+use Rattle.std.proofs.Common.{refl, All, ltb-false, arith}
 use Rattle.std.proofs.lemmas.List.{length-append, length-map}
 use Rattle.ec_ast.specs.declared.Parameter.{Parameter}
 use Rattle.ec_ast.specs.declared.Program.{Program}
@@ -19,10 +19,11 @@ use Rattle.ec_core_sizes.specs.Limits.{HasFewFields, HasFewParameters}
 use Rattle.ec_rules.specs.Doubled.{doubled_in_operation}
 use Rattle.ec_rules.specs.EndNames.{end_of_operation}
 use Rattle.ec_rules.specs.Faults.{StaticFaults}
-use Rattle.ec_rules.specs.Judging.{member_faults, operation_faults}
-use Rattle.ec_rules.specs.Limits.{field_count, many_parameters}
+use Rattle.ec_rules.specs.Captures.{captured}
+use Rattle.ec_rules.specs.Judging.{body_finished, faults_in_holder, heading_faults, member_faults, operation_faults, uses_within}
+use Rattle.ec_rules.specs.Limits.{field_count, many_fields, many_parameters}
 use Rattle.ec_rules.specs.Lists.{each, each_of, plus, total}
-use Rattle.ec_rules.specs.Members.{scope_of_operation}
+use Rattle.ec_rules.specs.Members.{scope_of, scope_of_operation}
 use Rattle.ec_rules.specs.Parts as judged
 use Rattle.ec_rules.specs.Rules.{fault, fault_if}
 use Rattle.ec_rules.specs.declared.Rule.{Rule}
@@ -81,14 +82,21 @@ members_counted scope (m ∷ ms) l =
     members_counted scope ms (omega arith) in
     omega arith
 
+within_limit : (scope : Scope) (h : judged.Holder) → faults_in_holder scope h ≡ [] →
+    plus (plus (length (captured (uses_within scope h))) (length h.parameters)) (total field_count h.body.members) ≤ 100
+within_limit scope h e =
+    ltb-false 100 (plus (plus (length (captured (uses_within scope h))) (length h.parameters)) (total field_count h.body.members))
+    (none_breaks
+    (nat_lt 100 (plus (plus (length (captured (uses_within scope h))) (length h.parameters)) (total field_count h.body.members)))
+    ManyFields h.name.at
+    (none_right (heading_faults scope h) (many_fields (captured (uses_within scope h)) h)
+    (none_right (body_finished (scope_of scope h) h).faults (heading_faults scope h ++ many_fields (captured (uses_within scope h)) h) e)))
+
 class_has_few : {classes : List Class} (scope : Scope) (h : Holder) → Known classes scope h → HasFewFields (class_core scope h)
 class_has_few scope h k =
-    let most : plus (plus (length (captures_of scope h)) (length h.parameters)) (total field_count (map member_judged h.body.members)) ≤ 100 =
-    ltb-false 100
-    (plus (plus (length (captures_of scope h)) (length h.parameters)) (total field_count (map member_judged h.body.members)))
-    (none_breaks
-    (nat_lt 100 (plus (plus (length (captures_of scope h)) (length h.parameters)) (total field_count (map member_judged h.body.members))))
-    ManyFields h.name.at (none_right _ _ (none_right _ _ k.faultless))) in
+    let most : plus (plus (length (captures_of scope h)) (length h.parameters)) (total field_count (map member_judged h.body.members))
+    ≤ 100 =
+    within_limit scope (holder_judged h) k.faultless in
     let fields : length (each (field_of (scope_in scope h)) h.body.members) + conditions_in h.body.members
     ≤ total field_count (map member_judged h.body.members) = members_counted (scope_in scope h) h.body.members (omega arith) in
     let captured : length (class_core scope h).captured ≡ length (captures_of scope h) = length-map (captures_of scope h) _ in

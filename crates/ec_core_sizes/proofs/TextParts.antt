@@ -1,5 +1,6 @@
 -- How many of the tokens of a list stand in a part, and how many nodes a part of a tree has by those of its parts.
-use Rattle.std.proofs.Common.{◌≡◌, ℕ, ◌+◌, ◌≤◌, Bool, List, [], ◌∷◌, length, map, Option, Some, None, option_map, refl, subst, sym, ap, ◌∙◌, arith}
+use Rattle.std.proofs.Common.{◌≡◌, ℕ, ◌+◌, ◌≤◌, Bool, List, [], ◌∷◌, length, map, Option, Some, None}
+use Rattle.std.proofs.Common.{option_map, refl, subst, sym, ap, ◌∙◌, arith}
 use Rattle.ec_ast.specs.declared.Addend.{Addend, roll-Addend}
 use Rattle.ec_ast.specs.declared.Arm.{Arm, roll-Arm}
 use Rattle.ec_ast.specs.declared.Block.{Block, roll-Block}

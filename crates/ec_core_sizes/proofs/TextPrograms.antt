@@ -1,6 +1,5 @@
 -- The tree of a text has no more nodes than the text has tokens, and these are no more than its bytes.
-use Rattle.std.proofs.Common.{◌≡◌, ℕ, suc, ◌+◌, ◌≤◌, ◌<◌, List, [], ◌∷◌, ◌++◌, length, drop, arith}
-use Rattle.std.proofs.lemmas.List.{length-append, length-drop}
+use Rattle.std.proofs.Common.{◌+◌, ◌≤◌, List, [], length, arith}
 use Rattle.ec_ast.specs.declared.Class.{Class}
 use Rattle.ec_ast.specs.declared.Constant.{Constant}
 use Rattle.ec_ast.specs.declared.Program.{Program}
@@ -8,11 +7,7 @@ use Rattle.ec_ast.specs.declared.Typeobject.{Typeobject}
 use Rattle.ec_core_sizes.proofs.TextParts.{Taken, arrived, passed, and_then, behind, past, skipped, nodes}
 use Rattle.ec_core_sizes.proofs.TextTrees.{body, expr}
 use Rattle.ec_core_sizes.specs.TreeNodes.{nodes_in_constants, nodes_in_program}
-use Rattle.ec_lexer.specs.Tokens.{HasTokens, HasTokensFrom, IsToken, ended, separated, taken}
-use Rattle.ec_lexer.specs.Tokens as tokens
-use Rattle.ec_lexer.specs.Words.{Bytes}
 use Rattle.ec_lexer.specs.declared.token.Token.{Token}
-use Rattle.ec_lexer.specs.declared.token.TokenKind.{TokenKind}
 use Rattle.ec_parser.specs.HasTree.{IsClass, IsTypeobj, AreConstants, HasTree, program}
 use Rattle.ec_places.proofs.Skipped.{flag, type_option, params_option, signatures}
 

@@ -8,7 +8,6 @@ use Rattle.ec_ast.specs.declared.Expression.{Expression}
 use Rattle.ec_ast.specs.declared.Expression.TheVariants as form
 use Rattle.ec_ast.specs.declared.Factor.{Factor}
 use Rattle.ec_ast.specs.declared.Link.{Link}
-use Rattle.ec_ast.specs.declared.Link.TheVariants as link
 use Rattle.ec_ast.specs.declared.Member.{Member}
 use Rattle.ec_ast.specs.declared.Member.TheVariants as m
 use Rattle.ec_ast.specs.declared.ObjectConstructor.{ObjectConstructor}
@@ -16,7 +15,7 @@ use Rattle.ec_ast.specs.declared.ProcessSection.{ProcessSection}
 use Rattle.ec_ast.specs.declared.Statement.{Statement}
 use Rattle.ec_ast.specs.declared.Statement.TheVariants as s
 use Rattle.ec_core_sizes.proofs.TextParts.{Taken, arrived, passed, counted, and_then, past, skipped, nodes}
-use Rattle.ec_core_sizes.proofs.TextParts.{of_expression, of_link, of_member, of_statement, of_addend, of_arm, of_block, of_factor}
+use Rattle.ec_core_sizes.proofs.TextParts.{of_expression, of_member, of_statement, of_addend, of_arm, of_block, of_factor}
 use Rattle.ec_core_sizes.proofs.TextParts.{of_local_variable, of_if, of_variable, of_members}
 use Rattle.ec_core_sizes.proofs.TextParts.{of_object, of_operation, of_process, or_chain, and_chain, sum_chain, term_chain}
 use Rattle.ec_core_sizes.proofs.TextParts.{Spared, behind, call_spared, field_spared, index_spared, invocation_taken, none_spared}

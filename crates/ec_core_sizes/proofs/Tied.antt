@@ -1,13 +1,14 @@
 -- The core of an accepted program has no more nodes than its tree, and captures no more values than its classes capture names: one
 -- induction over what ties the core to the tree.
-use Rattle.std.proofs.Common.{◌≡◌, ℕ, suc, ◌+◌, ◌≤◌, List, [], ◌∷◌, ◌++◌, length, map, Option, Some, None, option_map, refl, sym, ap, ◌∙◌, arith}
+use Rattle.std.proofs.Common.{◌≡◌, ℕ, suc, ◌+◌, ◌≤◌, List, [], ◌∷◌, ◌++◌, length, map, Option, Some}
+use Rattle.std.proofs.Common.{None, option_map, refl, sym, ap, ◌∙◌, arith}
 use Rattle.ec_ast.specs.declared.Addend.{Addend, roll-Addend}
 use Rattle.ec_ast.specs.declared.Arm.{Arm, roll-Arm}
 use Rattle.ec_ast.specs.declared.Block.{Block, roll-Block}
 use Rattle.ec_ast.specs.declared.Body.{Body}
 use Rattle.ec_ast.specs.declared.Constant.{Constant}
 use Rattle.ec_ast.specs.declared.Expression.{Expression}
-use Rattle.ec_ast.specs.declared.Expression.TheOpen.{Expression-F, Link-F, Member-F, Statement-F}
+use Rattle.ec_ast.specs.declared.Expression.TheOpen.{Expression-F, Member-F, Statement-F}
 use Rattle.ec_ast.specs.declared.Expression.TheVariants as tree
 use Rattle.ec_ast.specs.declared.Factor.{Factor, roll-Factor}
 use Rattle.ec_ast.specs.declared.Link.{Link}
@@ -17,7 +18,7 @@ use Rattle.ec_ast.specs.declared.Member.TheVariants as member
 use Rattle.ec_ast.specs.declared.Name.{Name}
 use Rattle.ec_ast.specs.declared.ObjectConstructor.{ObjectConstructor}
 use Rattle.ec_ast.specs.declared.Operation.{roll-Operation}
-use Rattle.ec_ast.specs.declared.ProcessSection.{ProcessSection, roll-ProcessSection}
+use Rattle.ec_ast.specs.declared.ProcessSection.{ProcessSection}
 use Rattle.ec_ast.specs.declared.Statement.{Statement}
 use Rattle.ec_ast.specs.declared.Statement.TheVariants as tree_statement
 use Rattle.ec_base.specs.Stack.{below_of, top_of}
@@ -100,7 +101,8 @@ created name word xs links class ys ks h k =
     let call : nodes.link (tree_link.Call word xs) ≡ 1 + all_of (map nodes.expression xs) = call_nodes word xs in
     chained (Expression-F.Postfix (tree.Variable name) (tree_link.Call word xs ∷ links)) (e.Create class ys) ks
     (tree.rolls-Postfix (tree.Variable name) (tree_link.Call word xs ∷ links))
-    (lighter (size_of (e.Create class ys) + all_of (map size_of_link ks)) (captures_of (e.Create class ys) + all_of (map captures_of_link ks))
+    (lighter (size_of (e.Create class ys) + all_of (map size_of_link ks))
+    (captures_of (e.Create class ys) + all_of (map captures_of_link ks))
     (nodes.expression (tree.Variable name) + (nodes.link (tree_link.Call word xs) + all_of (map nodes.link links)))
     (omega arith) (omega arith) (omega arith) (both (grown h) k))
 
@@ -114,7 +116,8 @@ assigned {a = a} {b = b} x z at w h k =
     (lighter (1 + size_of w) (captures_of w) (nodes.expression x + (1 + nodes.expression z)) (omega arith) (omega arith) (omega arith)
     (both h (grown k)))
 
-element_set : {m n : Made} (x z : Expression) (y : CoreExpression) (ks : List CoreLink) (of : StaticType) (number w : CoreExpression) (at : ℕ) →
+element_set : {m n : Made} (x z : Expression) (y : CoreExpression) (ks : List CoreLink) (of : StaticType)
+    (number w : CoreExpression) (at : ℕ) →
     Weighed (size_of (e.Chain y ks)) (captures_of (e.Chain y ks)) m (nodes.expression x) →
     top_of ks ≡ Some (l.Element number of at) →
     Weighed (size_of w) (captures_of w) n (nodes.expression z) →
@@ -190,8 +193,8 @@ operation_weighed {a = a} {b = b} {t = t} {u = u} o x is h k =
     lighter a b (nodes.member x + u) (omega arith) (omega arith) (omega arith) (both (as_operation o h) k)
 
 -- a class: what its members store, and then its `initially` block
-holder_weighed : {m n k : Made} (scope : Scope) (h : Holder) (types : List StaticType) (fields : List Field) (stores ys : List CoreStatement)
-    (ts : List StaticType) (conditions p q r : ℕ) (b : Body) → length types ≡ length (names_of scope h) →
+holder_weighed : {m n k : Made} (scope : Scope) (h : Holder) (types : List StaticType) (fields : List Field)
+    (stores ys : List CoreStatement) (ts : List StaticType) (conditions p q r : ℕ) (b : Body) → length types ≡ length (names_of scope h) →
     nodes.body b ≡ p + (q + r) →
     Weighed (all_of (map size_of_statement stores)) (all_of (map captures_of_statement stores)) m p →
     Weighed (all_of (map size_of_statement ys)) (all_of (map captures_of_statement ys)) n q → Weighed 0 0 k r →

@@ -1,11 +1,11 @@
 -- How large a part of the core and all that is made within it are, by the nodes of the part of the tree.
-use Rattle.std.proofs.Common.{◌≡◌, ℕ, suc, ◌+◌, ◌≤◌, List, [], ◌∷◌, ◌++◌, length, map, Option, Some, None, option_map, refl, sym, ap, ◌∙◌, subst, arith}
-use Rattle.ec_ast.specs.declared.Addend.{Addend}
+use Rattle.std.proofs.Common.{◌≡◌, ℕ, ◌+◌, ◌≤◌, List, [], ◌∷◌, ◌++◌, length, map, Option, Some, None}
+use Rattle.std.proofs.Common.{option_map, refl, sym, ap, ◌∙◌, arith}
 use Rattle.ec_ast.specs.declared.Block.{Block}
 use Rattle.ec_ast.specs.declared.Body.{roll-Body}
 use Rattle.ec_ast.specs.declared.Expression.{Expression, roll-Expression}
-use Rattle.ec_ast.specs.declared.Link.{Link, roll-Link}
-use Rattle.ec_ast.specs.declared.Member.{Member, roll-Member}
+use Rattle.ec_ast.specs.declared.Link.{Link}
+use Rattle.ec_ast.specs.declared.Member.{Member}
 use Rattle.ec_ast.specs.declared.ObjectConstructor.{ObjectConstructor, out-ObjectConstructor, roll-out-ObjectConstructor}
 use Rattle.ec_ast.specs.declared.ProcessSection.{ProcessSection}
 use Rattle.ec_ast.specs.declared.Statement.{Statement, roll-Statement}
@@ -20,7 +20,6 @@ use Rattle.ec_core.specs.declared.Expression.TheOpen.{Expression-F as Core-F, Li
 use Rattle.ec_core.specs.declared.Expression.TheVariants as e
 use Rattle.ec_core.specs.declared.Factor.{Factor as CoreFactor}
 use Rattle.ec_core.specs.declared.Link.{Link as CoreLink, roll-Link as core_roll_link, map-Link}
-use Rattle.ec_core.specs.declared.Link.TheVariants as l
 use Rattle.ec_core.specs.declared.Operation.{Operation as CoreOperation}
 use Rattle.ec_core.specs.declared.Statement.{Statement as CoreStatement, roll-Statement as core_roll_statement, map-Statement}
 use Rattle.ec_core.specs.declared.Statement.TheOpen.{Statement-F as CoreStatement-F}
@@ -237,14 +236,16 @@ pub target_parts : (y : CoreExpression) (ks : List CoreLink) (link : CoreLink) (
     ((size_of (with_links y (below_of ks)) + size_of number) + 1 ≤ size_of (e.Chain y ks))
     × (captures_of (with_links y (below_of ks)) + captures_of number ≤ captures_of (e.Chain y ks))
 target_parts y ks link number top n c =
-    let s : size_of (e.Chain y ks) ≡ size_of y + all_of (map size_of_link ks) = size_is (e.Chain y ks) (Core-F.Chain y ks) (e.rolls-Chain y ks)
+    let s : size_of (e.Chain y ks) ≡ size_of y + all_of (map size_of_link ks) =
+    size_is (e.Chain y ks) (Core-F.Chain y ks) (e.rolls-Chain y ks)
     in
     let k : captures_of (e.Chain y ks) ≡ captures_of y + all_of (map captures_of_link ks) =
     captures_are (e.Chain y ks) (Core-F.Chain y ks) (e.rolls-Chain y ks) in
     let p : size_of (with_links y (below_of ks)) ≡ size_of y + all_of (map size_of_link (below_of ks)) = with_links_size y (below_of ks) in
     let q : captures_of (with_links y (below_of ks)) ≡ captures_of y + all_of (map captures_of_link (below_of ks)) =
     with_links_captures y (below_of ks) in
-    let a : all_of (map size_of_link ks) ≡ all_of (map size_of_link (below_of ks)) + size_of_link link = all_below size_of_link ks link top in
+    let a : all_of (map size_of_link ks) ≡ all_of (map size_of_link (below_of ks)) + size_of_link link =
+    all_below size_of_link ks link top in
     let b : all_of (map captures_of_link ks) ≡ all_of (map captures_of_link (below_of ks)) + captures_of_link link =
     all_below captures_of_link ks link top in
     (omega arith, omega arith)

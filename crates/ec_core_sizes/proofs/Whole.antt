@@ -1,5 +1,5 @@
 -- The whole of the core of an accepted program of a text.
-use Rattle.std.proofs.Common.{◌≡◌, ◌+◌, ◌≤◌, List, [], length, arith}
+use Rattle.std.proofs.Common.{◌≡◌, ◌≤◌, List, [], length, arith}
 use Rattle.ec_ast.specs.declared.Program.{Program}
 use Rattle.ec_check.specs.Program.{core_of}
 use Rattle.ec_conform.specs.Table.{Table}
@@ -16,7 +16,8 @@ use Rattle.ec_lexer.specs.declared.token.Token.{Token}
 use Rattle.ec_parser.specs.HasTree.{HasTree}
 use Rattle.ec_rules.specs.Faults.{StaticFaults}
 
-module _ (table : Table) (tokens : List Token) (program : Program) (accepted : StaticFaults table program ≡ []) (tree : HasTree tokens program) where
+module _ (table : Table) (tokens : List Token) (program : Program) (accepted : StaticFaults table program ≡ [])
+    (tree : HasTree tokens program) where
   abbrev core : Core
   core = core_of table program
 
