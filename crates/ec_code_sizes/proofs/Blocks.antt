@@ -1,26 +1,25 @@
 -- The code of each form of statement is short, and reads and writes only variables that are there, where that of its parts is and
 -- does.
-use Rattle.std.proofs.Common.{◌≡◌, ℕ, zero, suc, ◌+◌, ◌*◌, ◌<◌, ◌≤◌, max, Bool, true, false, List, [], ◌∷◌, ◌++◌, length, map}
-use Rattle.std.proofs.Common.{Option, Some, None, arith}
-use Rattle.ec_check.proofs.Every.{Every, every_joined}
+use Rattle.std.proofs.Common.{ℕ, zero, suc, ◌+◌, ◌<◌, ◌≤◌, List, [], ◌∷◌, ◌++◌, length}
+use Rattle.std.proofs.Common.{None, arith}
+use Rattle.ec_check.proofs.Every.{Every}
 use Rattle.ec_code.specs.declared.code.Op.{Op}
 use Rattle.ec_code.specs.declared.code.Op.TheVariants as op
 use Rattle.ec_code.specs.declared.code.Operand.{Operand}
 use Rattle.ec_code.specs.declared.code.Variable.TheVariants as variable
 use Rattle.ec_code_sizes.proofs.Forms.{IsKept}
-use Rattle.ec_code_sizes.proofs.Sized.{Asked, Holds, Sized, alone_reads, alone_within}
+use Rattle.ec_code_sizes.proofs.Sized.{Asked, Sized, alone_reads, alone_within}
 use Rattle.ec_code_sizes.proofs.Within.{Reach, Within, join, more, nothing, one, step, temporaries_reach}
 use Rattle.ec_conform.specs.declared.static_type.StaticType.{StaticType}
 use Rattle.ec_core.specs.declared.Place.{Place}
 use Rattle.ec_core.specs.declared.Place.TheVariants as place
 use Rattle.ec_emission.specs.Expressions.{Condition, Emitted, all_code, operand_code, operand_of}
 use Rattle.ec_emission.specs.Literals.{Texts}
-use Rattle.ec_emission.specs.Statements.{Choice, Done, arm_code, arms_code, conditional, given, in_order, jump_over, loop_code}
-use Rattle.ec_emission.specs.Statements.{required, reset, store, stored, unless, where_it_holds}
+use Rattle.ec_emission.specs.Statements.{Choice, Done, arm_code, given, jump_over, loop_code}
+use Rattle.ec_emission.specs.Statements.{store, stored, unless, where_it_holds}
 use Rattle.ec_liveness.specs.Live.{read_in}
 use Rattle.ec_meaning.specs.Programs.{Source}
-use Rattle.ec_stands.specs.Rows.{bare_row, fail_row, rest_row}
-use Rattle.ec_world.specs.declared.process.Cause.TheVariants as cause
+use Rattle.ec_stands.specs.Rows.{bare_row, rest_row}
 use Rattle.ec_world.specs.declared.stop.Stop.{Stop}
 use Rattle.ec_world.specs.declared.stop.Stop.TheVariants as stop
 use Rattle.ec_world.specs.declared.value.Value.{Value}

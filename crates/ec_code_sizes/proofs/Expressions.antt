@@ -1,11 +1,10 @@
 -- The code of each expression is short, and reads and writes only variables that are there: one induction over expressions.
 use Rattle.std.proofs.Common.{◌≡◌, ℕ, suc, ◌+◌, ◌*◌, ◌<◌, ◌≤◌, max, Bool, true, false, ◌&&◌, List, [], ◌∷◌, ◌++◌, length, map}
-use Rattle.std.proofs.Common.{Option, Some, None, pos, sym, subst, arith}
+use Rattle.std.proofs.Common.{pos, sym, subst, arith}
 use Rattle.ec_check.proofs.Every.{Every, every_left, every_right}
 use Rattle.ec_check.specs.Numbers.{Number as Named, joined, in_expression, in_link, in_addend}
 use Rattle.ec_check.specs.Numbers.{in_factor, expression_numbers, link_numbers, addend_numbers, factor_numbers}
 use Rattle.ec_code.specs.Typing.{integer}
-use Rattle.ec_code.specs.declared.code.Op.{Op}
 use Rattle.ec_code.specs.declared.code.Op.TheVariants as op
 use Rattle.ec_code.specs.declared.code.Variable.TheVariants as variable
 use Rattle.ec_code_sizes.proofs.Forms.{IsCounted, comparison_sized, fetch_all_within, inverted_sized, itself_sized, joined_applies}
@@ -13,7 +12,6 @@ use Rattle.ec_code_sizes.proofs.Forms.{multiplied_applies, negated_sized, read_s
 use Rattle.ec_code_sizes.proofs.Sized.{Applies, Follows, Holds, Sized, as_leaf_sized, by_code_sized, kept_holds}
 use Rattle.ec_code_sizes.proofs.Within.{Within, into_reaches, join, more, nothing, one, step, temporaries_reach}
 use Rattle.ec_conform.specs.Types.{named}
-use Rattle.ec_conform.specs.declared.static_type.StaticType.{StaticType}
 use Rattle.ec_core.specs.declared.Addend.{Addend, roll-Addend, map-Addend, fold-Addend, fold-roll-Addend}
 use Rattle.ec_core.specs.declared.Expression.{Expression, roll-Expression, map-Expression, ind-Expression, fold-roll-Expression}
 use Rattle.ec_core.specs.declared.Expression.TheOpen.{Expression-F, Link-F, Addend-F, Factor-F}
@@ -28,12 +26,11 @@ use Rattle.ec_emission.specs.Expressions.{Applied, Emitted, Following, addend_co
 use Rattle.ec_emission.specs.Expressions.{builtin_type, chain, chain_code, emitted, expression_code, factor_code, fetch_all, fits_here}
 use Rattle.ec_emission.specs.Expressions.{kept}
 use Rattle.ec_emission.specs.Expressions.{link_code, links_code, literal_number, needed_code, own_call, own_code, by_code}
-use Rattle.ec_emission.specs.Expressions.{stop_order, stops_at}
+use Rattle.ec_emission.specs.Expressions.{stop_order}
 use Rattle.ec_emission.specs.Literals.{Texts}
 use Rattle.ec_meaning.specs.Programs.{Source, class_number, line, name_number}
 use Rattle.ec_meaning.specs.Steps.{stop_of}
-use Rattle.ec_meaning.specs.Types.{vector_type, viewed_as}
-use Rattle.ec_stands.specs.Leaves.{Number, Truth, Nil, temporary}
+use Rattle.ec_stands.specs.Leaves.{Number, Truth, Nil}
 use Rattle.ec_stands.specs.Rows.{own_row, rest_row}
 use Rattle.ec_world.specs.declared.stop.Stop.{Stop}
 use Rattle.ec_world.specs.declared.stop.Stop.TheVariants as stop

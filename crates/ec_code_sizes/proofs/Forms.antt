@@ -1,6 +1,6 @@
 -- The code of each form of expression is short, and reads and writes only variables that are there, where that of its parts is and
 -- does.
-use Rattle.std.proofs.Common.{ℕ, suc, ◌+◌, ◌*◌, ◌<◌, ◌≤◌, max, nat_lt, Bool, true, false, List, [], ◌∷◌, ◌++◌, length, map}
+use Rattle.std.proofs.Common.{ℕ, suc, ◌+◌, ◌<◌, ◌≤◌, max, nat_lt, Bool, true, false, List, [], ◌∷◌, ◌++◌, length, map}
 use Rattle.std.proofs.Common.{Option, Some, None, pos, arith}
 use Rattle.ec_ast.specs.declared.Additive.{Additive}
 use Rattle.ec_ast.specs.declared.Additive.TheVariants.{Plus, Minus, Concat}
@@ -19,7 +19,7 @@ use Rattle.ec_code.specs.declared.code.Operand.{Operand}
 use Rattle.ec_code.specs.declared.code.Operand.TheVariants as operand
 use Rattle.ec_code.specs.declared.code.Test.TheVariants as test
 use Rattle.ec_code.specs.declared.code.Variable.TheVariants as variable
-use Rattle.ec_code_sizes.proofs.Sized.{Applies, Asked, Holds, Sized, alone_reads, alone_within, by_code_sized}
+use Rattle.ec_code_sizes.proofs.Sized.{Applies, Holds, Sized, alone_reads, alone_within, by_code_sized}
 use Rattle.ec_code_sizes.proofs.Sized.{by_condition_sized, code_or_within, operand_reads, pair_reads, pair_turned}
 use Rattle.ec_code_sizes.proofs.Sized.{pair_within}
 use Rattle.ec_code_sizes.proofs.Within.{Reach, Within, join, more, nothing, one, step, temporaries_reach}
@@ -27,7 +27,7 @@ use Rattle.ec_conform.specs.declared.static_type.StaticType.{StaticType}
 use Rattle.ec_core.specs.declared.Place.{Place}
 use Rattle.ec_core.specs.declared.Place.TheVariants as place
 use Rattle.ec_emission.specs.Expressions.{Emitted, by_code, by_condition, calculated, compared_pair, comparison, divided, fetch}
-use Rattle.ec_emission.specs.Expressions.{fetch_all, fits_here, inverted, itself, joined, leaf_at, multiplied, negated, new_object}
+use Rattle.ec_emission.specs.Expressions.{fetch_all, fits_here, inverted, itself, joined, leaf_at, multiplied, negated}
 use Rattle.ec_emission.specs.Expressions.{pair_code, pair_first, pair_second, operand_code, operand_of, read, stops_at, test_of}
 use Rattle.ec_emission.specs.Expressions.{then_stop, variable_if}
 use Rattle.ec_emission.specs.Literals.{Texts}

@@ -1,10 +1,10 @@
 -- What is shown of the code of an expression: how many steps it has, and which variables it reads and writes.
-use Rattle.std.proofs.Common.{◌≡◌, ℕ, suc, ◌+◌, ◌*◌, ◌<◌, ◌≤◌, Bool, true, List, [], ◌∷◌, ◌++◌, Option, Some, None, arith}
+use Rattle.std.proofs.Common.{ℕ, suc, ◌+◌, ◌<◌, ◌≤◌, Bool, List, [], ◌∷◌, ◌++◌, Option, Some, None, arith}
 use Rattle.ec_check.proofs.Every.{Every, Where, every_joined}
 use Rattle.ec_code.specs.declared.code.Op.{Op}
 use Rattle.ec_code.specs.declared.code.Op.TheVariants as op
 use Rattle.ec_code.specs.declared.code.Variable.TheVariants as variable
-use Rattle.ec_code_sizes.proofs.Within.{Reach, StepReaches, Within, nothing, more, join, one}
+use Rattle.ec_code_sizes.proofs.Within.{Reach, Within, nothing, more, join, one}
 use Rattle.ec_emission.specs.Expressions.{Applied, Condition, Emitted, Following, as_leaf, by_code, by_condition, code_or, decided}
 use Rattle.ec_emission.specs.Expressions.{first_code, first_operand, kept, operand_code, operand_of, operand_or, pair_code, pair_first}
 use Rattle.ec_emission.specs.Expressions.{pair_second}

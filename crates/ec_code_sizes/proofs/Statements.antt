@@ -1,5 +1,5 @@
 -- The code of each block is short, and reads and writes only variables that are there: one induction over statements.
-use Rattle.std.proofs.Common.{◌≡◌, ℕ, suc, ◌+◌, ◌*◌, ◌<◌, ◌≤◌, max, List, [], ◌∷◌, ◌++◌, length, map, Option, Some, None, sym, subst, arith}
+use Rattle.std.proofs.Common.{◌≡◌, ℕ, ◌+◌, ◌*◌, ◌<◌, ◌≤◌, max, List, [], ◌∷◌, ◌++◌, length, map, Option, Some, None, sym, subst, arith}
 use Rattle.std.proofs.Common.{slice_get}
 use Rattle.ec_check.proofs.Every.{Every, every_left, every_right}
 use Rattle.ec_check.specs.Numbers.{Number, joined, in_expression, in_statement, in_arm, in_block, statement_numbers, arm_numbers}
@@ -10,7 +10,7 @@ use Rattle.ec_code_sizes.proofs.Blocks.{Short, ShortArm, arm_within, conditional
 use Rattle.ec_code_sizes.proofs.Blocks.{three_rest, two_rest, where_within}
 use Rattle.ec_code_sizes.proofs.Expressions.{is_sized}
 use Rattle.ec_code_sizes.proofs.Forms.{IsCounted}
-use Rattle.ec_code_sizes.proofs.Sized.{Asked, Sized}
+use Rattle.ec_code_sizes.proofs.Sized.{Sized}
 use Rattle.ec_code_sizes.proofs.Within.{Within, join, more, nothing, one, step}
 use Rattle.ec_conform.specs.declared.static_type.StaticType.{StaticType}
 use Rattle.ec_core.specs.declared.Arm.{Arm, roll-Arm, map-Arm, fold-Arm, fold-roll-Arm}
@@ -19,12 +19,12 @@ use Rattle.ec_core.specs.declared.Expression.{Expression}
 use Rattle.ec_core.specs.declared.Place.TheVariants as place
 use Rattle.ec_core.specs.declared.Statement.{Statement, roll-Statement, map-Statement, fold-roll-Statement}
 use Rattle.ec_core.specs.declared.Statement.TheOpen.{Statement-F, Arm-F, Block-F}
-use Rattle.ec_core_laws.specs.Measures.{all_of, greatest_of, if_there, size_of, height_of, statement_size, arm_size, block_size}
+use Rattle.ec_core_laws.specs.Measures.{all_of, greatest_of, size_of, height_of, statement_size, arm_size, block_size}
 use Rattle.ec_core_laws.specs.Measures.{size_of_statement, size_of_arm, size_of_block, statement_height, arm_height, block_height}
 use Rattle.ec_core_laws.specs.Measures.{height_of_statement, height_of_arm, height_of_block}
 use Rattle.ec_core_sizes.specs.Captures.{captures_of, statement_captures, arm_captures, block_captures, captures_of_statement}
 use Rattle.ec_core_sizes.specs.Captures.{captures_of_arm, captures_of_block}
-use Rattle.ec_emission.specs.Expressions.{Condition, Emitted, all_code}
+use Rattle.ec_emission.specs.Expressions.{Emitted, all_code}
 use Rattle.ec_emission.specs.Literals.{Texts}
 use Rattle.ec_emission.specs.Statements.{Choice, Done, arms_code, block_code, block_of, choice_code, done_of, in_order, required}
 use Rattle.ec_emission.specs.Statements.{statement_code, value_of, where_it_holds}

@@ -1,6 +1,6 @@
 -- What an accepted text is lowered to is within the limits of code.
-use Rattle.std.proofs.Common.{◌≡◌, ℕ, zero, suc, ◌+◌, ◌*◌, ◌<◌, ◌≤◌, ◌^◌, List, [], ◌∷◌, ◌++◌, length, map, take, All, Some, slice_get}
-use Rattle.std.proofs.Common.{refl, sym, ap, ◌∙◌, subst, arith}
+use Rattle.std.proofs.Common.{◌≡◌, ℕ, suc, ◌+◌, ◌*◌, ◌≤◌, List, [], ◌∷◌, length, map, take, All, Some, slice_get}
+use Rattle.std.proofs.Common.{refl, sym, ap, subst, arith}
 use Rattle.std.proofs.lemmas.List.{length-append, length-map, length-take}
 use Rattle.std.proofs.lemmas.List.Sums.{sum_by-cons}
 use Rattle.std.specs.Prelude.{sum_by}
@@ -44,7 +44,7 @@ use Rattle.ec_emission.specs.Statements.{operation_ops, program_ops}
 use Rattle.ec_lexer.proofs.Reading.{few_tokens}
 use Rattle.ec_lexer.specs.Tokens.{HasTokens}
 use Rattle.ec_lexer.specs.declared.token.Token.{Token}
-use Rattle.ec_lowered.specs.Lowered.{AreOperationsOf, HasLines, IsLowered, IsOperationOf, IsProgramOf, around, class_of_operation}
+use Rattle.ec_lowered.specs.Lowered.{AreOperationsOf, IsLowered, IsOperationOf, IsProgramOf, around, class_of_operation}
 use Rattle.ec_meaning.specs.Programs.{Source, captured_field, class_of, declared_field}
 use Rattle.ec_meaning.specs.Steps.{captured_by as captured_names}
 use Rattle.ec_meaning.specs.Types.{kind_of}

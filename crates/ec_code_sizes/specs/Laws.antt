@@ -1,5 +1,5 @@
 -- How large the three-address code is that an accepted program is lowered to.
-use Rattle.std.specs.Prelude.{ℕ, ◌+◌, ◌*◌, ◌≤◌, List, length}
+use Rattle.std.specs.Prelude.{◌+◌, ◌*◌, ◌≤◌, List, length}
 use Rattle.ec_ast.specs.declared.Program.{Program}
 use Rattle.ec_check.specs.Accepted.{HasCore}
 use Rattle.ec_code.specs.declared.code.Operation.{Operation as Made}
