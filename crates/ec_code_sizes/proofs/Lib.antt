@@ -1,0 +1,10 @@
+pub mod Blocks
+pub mod Expressions
+pub mod Forms
+pub mod Lines
+pub mod Operations
+pub mod Sized
+pub mod Statements
+pub mod Texts
+pub mod Whole
+pub mod Within

@@ -1,0 +1,5 @@
+pub mod Captures
+pub mod Constants
+pub mod Limits
+pub mod Laws
+pub mod TreeNodes
