@@ -22,7 +22,7 @@ pick vs Far = vs.far
 
 abbrev pub CanPutSource : ℕ → Source → Type 0
 CanPutSource homes (source.Home h) = IsWithin homes slots h
-CanPutSource homes (source.Word n) = n < 2 ^ 32
+CanPutSource homes (source.Word n) = Unit {0}
 
 abbrev pub CanPutQuestion : ℕ → Question → Type 0
 CanPutQuestion homes q = CanPutSource homes q.left × CanPutSource homes q.right

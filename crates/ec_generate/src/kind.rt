@@ -24,6 +24,10 @@ pub trait Kind {
     /// How many registers are homes.
     ghost homes: { ℕ };
 
+    /// How many registers are homes.
+    fn home_registers(&self) -> u32
+        ensures { result ≡ homes };
+
     /// How many words far questions and jumps reach.
     fn reach(&self, span: Span) -> u32
         ensures { result ≡ (pick vocabularies span).reach };
@@ -64,7 +68,13 @@ pub trait Kind {
         ensures { OnOk result (words.new ≡ words.old ++ (pick vocabularies span).ask_words question from to) };
 
     /// Writes a jump at a word to another one.
-    fn put_jump(&self, span: Span, from: u32, to: u32, words: &mut Seq<u32>) -> Result<(), AllocError>
+    fn put_jump(
+        &self,
+        span: Span,
+        from: u32,
+        to: u32,
+        words: &mut Seq<u32>,
+    ) -> Result<(), AllocError>
         requires from { from + (pick vocabularies span).jump_size ≤ words_end }
         requires to { to ≤ words_end }
         requires forward { to ≤ from + (pick vocabularies span).reach }

@@ -30,10 +30,25 @@ impl<'a> Site<'a> {
     {
         match test {
             Test::Holds(x) => question(Relation::Same, self.source_of(x), NOTHING, !wanted),
-            Test::Same(x, y) => question(Relation::Same, self.source_of(x), self.source_of(y), wanted),
-            Test::Less(x, y) => question(Relation::Less, self.source_of(x), self.source_of(y), wanted),
+            Test::Same(x, y) => question(
+                Relation::Same,
+                self.source_of(x),
+                self.source_of(y),
+                wanted,
+            ),
+            Test::Less(x, y) => question(
+                Relation::Less,
+                self.source_of(x),
+                self.source_of(y),
+                wanted,
+            ),
             Test::LessEqual(x, y) => {
-                question(Relation::Less, self.source_of(y), self.source_of(x), !wanted)
+                question(
+                    Relation::Less,
+                    self.source_of(y),
+                    self.source_of(x),
+                    !wanted,
+                )
             }
             Test::Divides(_, y) => question(Relation::Same, self.source_of(y), NOTHING, !wanted),
         }

@@ -1,6 +1,6 @@
 //! The words of an operation.
-ghost use Rattle.std.specs.Prelude.{◌≡◌, ℕ, ◌≤◌, ◌<◌, ◌+◌, ◌++◌, IfOk, OnOk, Some, length, map, slice_get};
-ghost use Rattle.ec_faithful.specs.Stops.{stop_places};
+ghost use Rattle.std.specs.Prelude.{◌≡◌, ℕ, ◌≤◌, ◌<◌, ◌+◌, ◌++◌, true, false, IfOk, IsSome, OnOk, Some, None, length, map, slice_get};
+ghost use Rattle.ec_faithful.specs.Stops.{stop_of, stop_places};
 ghost use Rattle.ec_generate.specs.Puts.{pick};
 ghost use Rattle.ec_generate.specs.Sites.{ArePlaces, CanPutAll, IsMakeable, code_there, home_there, ops_there, place_there, size_there};
 ghost use Rattle.ec_micro.specs.Layout as layout;
@@ -140,9 +140,39 @@ fn put_code<K: Kind>(
         ++ layout.operation_words (pick K.vocabularies span) (home_there site.now) (ops_there site.now) start) }
 {
     for q in 0..site.code.len() {
-        put_op(kind, span, site, places, start, q, &site.code.at(q).op, words)?;
+        put_op(
+            kind,
+            span,
+            site,
+            places,
+            start,
+            q,
+            &site.code.at(q).op,
+            words,
+        )?;
     }
     Ok(())
+}
+
+/// Whether a step is a stop.
+fn is_stop(op: &Op) -> bool
+    ensures some { result ≡ true → IsSome (stop_of op.now) }
+    ensures none { result ≡ false → stop_of op.now ≡ None }
+{
+    match op {
+        Op::Rest(_) => true,
+        Op::Copy { .. }
+        | Op::Literal { .. }
+        | Op::Itself { .. }
+        | Op::Field { .. }
+        | Op::SetField { .. }
+        | Op::Constant { .. }
+        | Op::Compute { .. }
+        | Op::Decide { .. }
+        | Op::Branch { .. }
+        | Op::Jump { .. }
+        | Op::Again { .. } => false,
+    }
 }
 
 /// The addresses of the stops of an operation, whose code begins at word `start`. The error is want of memory.
@@ -161,7 +191,7 @@ fn stops_of<K: Kind>(
 {
     let mut stops = Seq::new(alloc);
     for q in 0..site.code.len() {
-        if let Op::Rest(_) = &site.code.at(q).op {
+        if is_stop(&site.code.at(q).op) {
             let word = word_at(kind, span, site, places, start, q);
             stops.push(CODE_BASE + 4 * word)?;
         }

@@ -4,43 +4,54 @@ ghost use Rattle.ec_code.specs.declared.code.Operation.{Operation as One};
 ghost use Rattle.ec_code.specs.Fine.{Fine};
 ghost use Rattle.ec_code.specs.Typing.{Declared};
 ghost use Rattle.ec_code_limits.specs.Limits.{HasLimits};
+ghost use Rattle.ec_faithful.specs.Frames.{slots};
 ghost use Rattle.ec_micro.specs.Fitting.{HomesFit};
 ghost use Rattle.ec_micro.specs.Layout.{HasRoom, code_of};
+ghost use Rattle.ec_stop_tables.specs.Tables.{AreTablesOf, all_homes};
 
 use crate::kind::Kind;
 use crate::operation::put_operation;
 use crate::site::Site;
 use crate::sizes::span_of;
 use ec_base::list::Seq;
-use ec_code::code::Parts;
+use ec_code::code::{Operation, Parts};
 use ec_faithful::code::Code;
 use ec_homes::homes::Home;
+use ec_stop_tables::table::StopTable;
 use std::alloc::{AllocError, Global};
 
-/// The machine code of a well typed program for a kind of machine, by the homes of the variables of each operation. The error is
-/// want of memory.
+/// An operation with the homes of its variables.
+fn site_of<'a>(operation: &'a Operation, row: &'a Seq<Home>) -> Site<'a>
+    ensures code { result.code.now ≡ operation.now.code }
+    ensures named { result.named ≡ length operation.now.variables }
+    ensures homes { result.homes.now ≡ row.now }
+{
+    Site {
+        code: &operation.code,
+        named: operation.variables.len(),
+        homes: row,
+    }
+}
+
+/// The machine code of a well typed program for a kind of machine, by its stop table. The error is want of memory.
 pub fn generate<K: Kind>(
     alloc: Global,
     kind: &K,
     parts: &Parts,
-    homes: &Seq<Seq<Home>>,
+    table: &StopTable,
 ) -> Result<Code, AllocError>
     requires fine { (d : Declared) × Fine d parts.now }
     requires limits { HasLimits parts.now }
-    requires rows { length homes.now ≡ length parts.now.operations }
-    requires fit { (n : ℕ) (o : One) → slice_get parts.now.operations n ≡ Some o → HomesFit K.homes homes.now n o }
-    ensures code { IfOk result (λ code. code ≡ code_of K.vocabularies homes.now parts.now.operations) }
-    ensures room { IfOk result (λ code. HasRoom K.vocabularies homes.now parts.now) }
+    requires tables { AreTablesOf K.homes slots parts.now table.now.operations }
+    ensures code { IfOk result (λ code. code ≡ code_of K.vocabularies (all_homes table.now.operations) parts.now.operations) }
+    ensures room { IfOk result (λ code. HasRoom K.vocabularies (all_homes table.now.operations) parts.now) }
+    ensures fit { IfOk result (λ code. (n : ℕ) (o : One) → slice_get parts.now.operations n ≡ Some o →
+        HomesFit K.homes (all_homes table.now.operations) n o) }
 {
     let mut words = Seq::new(alloc);
     let mut operations = Seq::new(alloc);
     for n in 0..parts.operations.len() {
-        let operation = parts.operations.at(n);
-        let site = Site {
-            code: &operation.code,
-            named: operation.variables.len(),
-            homes: homes.at(n),
-        };
+        let site = site_of(parts.operations.at(n), &table.operations.at(n).homes);
         let span = span_of(kind, &site);
         operations.push(put_operation(alloc, kind, span, &site, &mut words)?)?;
     }

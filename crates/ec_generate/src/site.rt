@@ -31,12 +31,10 @@ impl<'a> Site<'a> {
     pub(crate) fn home(&self, x: Variable) -> Home
         ensures { result ≡ home_there self.now x }
     {
-        let Some(c) = column(self.named, x) else {
-            return Home::Slot(0);
-        };
-        match self.homes.get(c) {
-            Some(home) => *home,
-            None => Home::Slot(0),
+        let count = self.homes.len();
+        match column(self.named, x) {
+            Some(c) if c < count => *self.homes.at(c),
+            _ => Home::Slot(0),
         }
     }
 }

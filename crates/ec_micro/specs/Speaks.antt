@@ -9,8 +9,8 @@ use Rattle.ec_micro.specs.Micro.{Can, CanAsk, Sight, asked, does}
 use Rattle.ec_micro.specs.declared.step.Question.{Question}
 use Rattle.ec_micro.specs.declared.step.Step.{Step}
 
--- Words are numbered from 0; all of them lie below the first block, and so that each address behind one is below it too: a jump of MIPS
--- names no address from there on.
+-- Words are numbered from 0. All of them, and the address behind the last, lie below the first block: a jump of MIPS names no address
+-- from there on.
 abbrev pub words_end : ℕ
 words_end = 0x03EFFFFF
 

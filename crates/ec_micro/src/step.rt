@@ -72,18 +72,11 @@ pub enum Step {
 #[derive(Clone, Copy, PartialEq, Eq, Debug)]
 pub enum Ending {
     /// To the place of three-address code that is so many steps past the next one, where a question is answered with yes.
-    Branch {
-        question: Question,
-        over: u32,
-    },
+    Branch { question: Question, over: u32 },
     /// To the place so many steps past the next one.
-    Jump {
-        over: u32,
-    },
+    Jump { over: u32 },
     /// To the place so many steps before.
-    Again {
-        back: u32,
-    },
+    Again { back: u32 },
     /// It stops.
     Stop,
 }

@@ -1,5 +1,5 @@
 -- The stops of an operation, each with what is live there.
-use Rattle.std.specs.Prelude.{ℕ, suc, Bool, true, false, ◌||◌, if◌then◌else◌, List, [], ◌∷◌, map, Option, Some, None}
+use Rattle.std.specs.Prelude.{ℕ, suc, Bool, true, false, ◌||◌, if◌then◌else◌, List, [], ◌∷◌, map, Option, Some, None, slice_get}
 use Rattle.ec_code.specs.declared.code.Line.{Line}
 use Rattle.ec_code.specs.declared.code.Live.{Live}
 use Rattle.ec_code.specs.declared.code.StopRow.{StopRow}
@@ -40,6 +40,14 @@ entries_from code q (line ∷ rest) = with_entry code q line (stop_of line.op) (
 
 abbrev pub entries_of : List Line → List StopEntry
 entries_of code = entries_from code 0 code
+
+-- the stop at place q alone, where there is one
+abbrev pub stop_if : List Line → ℕ → Option Line → List StopEntry
+stop_if code q None = []
+stop_if code q (Some line) = with_entry code q line (stop_of line.op) []
+
+abbrev pub stop_here : List Line → ℕ → List StopEntry
+stop_here code q = stop_if code q (slice_get code q)
 
 -- ---- what is live at a stop
 

@@ -1,5 +1,5 @@
 -- Which table is that of a program.
-use Rattle.std.specs.Prelude.{◌≡◌, ℕ, ◌≤◌, Bool, false, List, [], length, Option, Some, None, slice_get}
+use Rattle.std.specs.Prelude.{◌≡◌, ℕ, Bool, false, List, [], length, map, Option, Some, None, slice_get}
 use Rattle.ec_code.specs.declared.code.Operation.{Operation}
 use Rattle.ec_code.specs.declared.code.Parts.{Parts}
 use Rattle.ec_code.specs.declared.code.Variable.{Variable}
@@ -43,6 +43,10 @@ is_live_if (Some e) x = is_live e x
 
 abbrev pub is_live_at : StopTable → StopId → Variable → Bool
 is_live_at table id x = is_live_if (slice_get (stops_at table id.operation) id.stop) x
+
+-- the homes of each operation's variables
+abbrev pub all_homes : List OperationTable → List (List Home)
+all_homes ts = map (λ t. t.homes) ts
 
 -- ---- the table of a program
 

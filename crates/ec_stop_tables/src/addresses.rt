@@ -1,6 +1,6 @@
 //! The addresses of stops, and the stop at each.
-ghost use Rattle.std.specs.Prelude.{◌≡◌, ◌≢◌, ℕ, [], map, IfNone, IfOk, IfSome, IsSome, Some};
-ghost use Rattle.ec_stop_tables.specs.Addresses.{AreApart, address_in};
+ghost use Rattle.std.specs.Prelude.{◌≡◌, ◌≢◌, ◌≤◌, ◌^◌, ℕ, [], length, map, IfNone, IfOk, IfSome, IsSome, OnOk, Some, slice_get};
+ghost use Rattle.ec_stop_tables.specs.Addresses.{AreApart, HasFew, Notes, address_in};
 
 use crate::table::StopId;
 use ec_base::list::Seq;
@@ -43,6 +43,7 @@ impl Addresses {
     /// Those of code in which no two stops have one address. The error is want of memory.
     pub fn of_code(alloc: Global, code: &Code) -> Result<Addresses, AllocError>
         requires apart { AreApart code.now }
+        requires few { HasFew code.now }
         ensures { IfOk result (λ addresses. addresses ≡ map (λ o. o.stops) code.now.operations) }
     {
         let mut of = Seq::new(alloc);
@@ -70,4 +71,27 @@ impl Addresses {
     {
         *self.of.at(id.operation as usize).at(id.stop as usize)
     }
+}
+
+/// The same addresses again. The error is want of memory.
+fn copied(alloc: Global, stops: &Seq<u32>) -> Result<Seq<u32>, AllocError>
+    ensures { IfOk result (λ copy. copy ≡ stops.now) }
+{
+    Ok(Seq::from_vec(Vec::from_slice(alloc, stops.as_slice())?))
+}
+
+/// Notes the stops of an operation at their addresses, no two of which are alike. The error is want of memory.
+fn note(at: &mut BTreeMap<u32, StopId>, operation: u32, stops: &Seq<u32>) -> Result<(), AllocError>
+    requires few { length stops.now ≤ 2 ^ 32 }
+    requires apart { (n m a : ℕ) → slice_get stops.now n ≡ Some a → slice_get stops.now m ≡ Some a → n ≡ m }
+    ensures { OnOk result (Notes at.old at.new operation stops.now) }
+{
+    for n in 0..stops.len() {
+        let id = StopId {
+            operation,
+            stop: n as u32,
+        };
+        at.insert(*stops.at(n), id)?;
+    }
+    Ok(())
 }

@@ -1,5 +1,6 @@
 //! The stops of an operation, each with what is live there.
-ghost use Rattle.std.specs.Prelude.{◌≡◌, ◌≤◌, ◌^◌, IfOk, Some, length, map, slice_get};
+ghost use Rattle.std.specs.Prelude.{◌≡◌, suc, ◌<◌, ◌≤◌, ◌^◌, ◌++◌, IfOk, OnOk, length, map};
+ghost use Rattle.ec_code.specs.Fine.{live_at};
 ghost use Rattle.ec_faithful.specs.Stops.{live_list};
 ghost use Rattle.ec_liveness.specs.Live as live;
 ghost use Rattle.ec_liveness.specs.Marks.{is_written};
@@ -52,6 +53,18 @@ fn result_of(into: Option<Variable>, gives: Option<StaticType>) -> Option<Live>
     }
 }
 
+/// What is live behind place q of the code.
+fn behind(code: &Seq<Line>, q: usize) -> &[Live]
+    requires { q < length code.now }
+    ensures { result.now ≡ live_at code.now (suc q) }
+{
+    let count = code.len();
+    if q + 1 < count {
+        return code.at(q + 1).live.as_slice();
+    }
+    &[]
+}
+
 /// What is live behind a stop at place q of the code, but for what the stop gives. The error is want of memory.
 fn live_of(
     alloc: Global,
@@ -59,18 +72,16 @@ fn live_of(
     q: usize,
     row: &StopRow,
 ) -> Result<Seq<Live>, AllocError>
+    requires { q < length code.now }
     ensures { IfOk result (λ live. live ≡ live_list code.now q row.now) }
 {
     let mut live = Seq::new(alloc);
     if !stays(row.stop) {
         return Ok(live);
     }
-    let Some(next) = code.get(q + 1) else {
-        return Ok(live);
-    };
-    for l in next.live.as_slice() {
-        if !is_taken(row.into, l.variable) {
-            live.push(*l)?;
+    for one in behind(code, q) {
+        if !is_taken(row.into, one.variable) {
+            live.push(*one)?;
         }
     }
     Ok(live)
@@ -96,6 +107,29 @@ fn is_taken(into: Option<Variable>, x: Variable) -> bool
     }
 }
 
+/// Adds the stop at place q of the code to others, where there is one. The error is want of memory.
+fn put_stop(
+    alloc: Global,
+    code: &Seq<Line>,
+    q: usize,
+    entries: &mut Seq<StopEntry>,
+) -> Result<(), AllocError>
+    requires there { q < length code.now }
+    requires few { length code.now ≤ 2 ^ 32 }
+    ensures { OnOk result (entries.new ≡ entries.old ++ spec.stop_here code.now q) }
+{
+    let line = code.at(q);
+    let Op::Rest(row) = &line.op else {
+        return Ok(());
+    };
+    entries.push(StopEntry {
+        place: q as u32,
+        operands: operands_of(alloc, &line.live, row)?,
+        result: result_of(row.into, row.gives),
+        live: live_of(alloc, code, q, row)?,
+    })
+}
+
 /// The stops of the code of an operation. The error is want of memory.
 pub(crate) fn entries_of(alloc: Global, code: &Seq<Line>) -> Result<Seq<StopEntry>, AllocError>
     requires { length code.now ≤ 2 ^ 32 }
@@ -103,15 +137,7 @@ pub(crate) fn entries_of(alloc: Global, code: &Seq<Line>) -> Result<Seq<StopEntr
 {
     let mut entries = Seq::new(alloc);
     for q in 0..code.len() {
-        let line = code.at(q);
-        if let Op::Rest(row) = &line.op {
-            entries.push(StopEntry {
-                place: q as u32,
-                operands: operands_of(alloc, &line.live, row)?,
-                result: result_of(row.into, row.gives),
-                live: live_of(alloc, code, q, row)?,
-            })?;
-        }
+        put_stop(alloc, code, q, &mut entries)?;
     }
     Ok(entries)
 }

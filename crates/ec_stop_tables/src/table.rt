@@ -1,14 +1,17 @@
 //! The stop table of a program.
-ghost use Rattle.std.specs.Prelude.{◌≡◌, ◌≤◌, ◌^◌, IfNone, IfSome, IsSome, OnOk, Some, None, length, slice_get};
+ghost use Rattle.std.specs.Prelude.{◌≡◌, ◌≢◌, ◌<◌, ◌≤◌, ◌^◌, ℕ, true, false, IfNone, IfSome, IsSome, OnOk, Some, None, length, slice_get};
 ghost use Rattle.ec_faithful.specs.Stops.{address_of};
-ghost use Rattle.ec_stop_tables.specs.Addresses.{AreApart, address_in};
-ghost use Rattle.ec_stop_tables.specs.Tables.{home_at, is_live_at, stops_at};
+ghost use Rattle.ec_stop_tables.specs.Addresses.{AreApart, HasFew, address_in};
+ghost use Rattle.ec_homes.specs.Homes as homes;
+ghost use Rattle.ec_stop_tables.specs.Entries as entries;
+ghost use Rattle.ec_stop_tables.specs.Tables.{home_at, home_in, is_live_at, stops_at};
 
 use crate::addresses::Addresses;
 use ec_base::list::Seq;
 use ec_code::code::{Live, Variable};
 use ec_faithful::code::Code;
 use ec_homes::homes::Home;
+use ec_liveness::steps::is_same;
 use ec_world::value::OpNo;
 use std::alloc::AllocError;
 
@@ -46,11 +49,65 @@ pub struct StopTable {
     pub addresses: Addresses,
 }
 
+impl OperationTable {
+    /// The home of a variable; the first slot where it has none.
+    pub fn home(&self, x: Variable) -> Home
+        ensures { result ≡ home_in self.now x }
+    {
+        let count = self.homes.len();
+        match column(self.named, x) {
+            Some(c) if c < count => *self.homes.at(c),
+            _ => Home::Slot(0),
+        }
+    }
+}
+
+/// The place of a variable among all, where there are so many named ones. One beyond 64 bits is no place.
+fn column(named: u32, x: Variable) -> Option<usize>
+    ensures some { IfSome result (λ c. c ≡ homes.column named x) }
+    ensures none { IfNone result (2 ^ 64 ≤ homes.column named x) }
+{
+    match x {
+        Variable::Named(n) => Some(n as usize),
+        Variable::Temporary(d) => (named as usize).checked_add(d as usize),
+    }
+}
+
+/// Whether a variable is one of these.
+fn is_in(live: &Seq<Live>, x: Variable) -> bool
+    ensures { result ≡ entries.is_in live.now x }
+{
+    for l in live.as_slice() {
+        if is_same(l.variable, x) {
+            return true;
+        }
+    }
+    false
+}
+
+impl StopEntry {
+    /// Whether a variable has an operand, takes what the stop gives, or is live behind it.
+    pub fn has(&self, x: Variable) -> bool
+        ensures { result ≡ entries.is_live self.now x }
+    {
+        if is_in(&self.operands, x) {
+            return true;
+        }
+        if let Some(l) = self.result {
+            if is_same(l.variable, x) {
+                return true;
+            }
+        }
+        is_in(&self.live, x)
+    }
+}
+
 impl StopTable {
     /// The addresses of the stops are those of this code, no two of which are alike. The error is want of memory, and nothing is
     /// said of the table then.
     pub fn bind(&mut self, code: &Code) -> Result<(), AllocError>
         requires apart { AreApart code.now }
+        requires few { HasFew code.now }
         ensures operations { OnOk result (self.new.operations ≡ self.old.operations) }
         ensures addresses { OnOk result ((op n : ℕ) → address_in self.new.addresses op n ≡ address_of code.now op n) }
     {

@@ -1,0 +1,215 @@
+-- Words can be written for each step of a well typed program with homes that fit.
+use Rattle.std.proofs.Common.{◌≡◌, ◌≢◌, ℕ, zero, suc, ◌+◌, ◌<◌, ◌≤◌, ◌^◌, ◌⊎◌, inl, inr, ⊎_elim, Bool, true, false, List, [], ◌∷◌, ◌++◌, length, drop}
+use Rattle.std.proofs.Common.{length-drop, Some, None, Option, refl, sym, ap, ◌∙◌, subst, arith, cond}
+use Rattle.std.specs.Prelude.{slice_get, All}
+use Rattle.std.proofs.lemmas.List.Elements.{All-get_or}
+use Rattle.std.proofs.lemmas.Option.{same_Some, slice_get-get_or}
+use Rattle.ec_base.proofs.Lists.{get_within}
+use Rattle.ec_code.specs.Fine.{Fine, FineOperation, FineOp, IsFieldOf, IsIn}
+use Rattle.ec_code.specs.Typing.{Declared, DeclaredClass, field_types, fields_if}
+use Rattle.ec_code.specs.declared.code.Line.{Line}
+use Rattle.ec_code.specs.declared.code.Live.{Live}
+use Rattle.ec_code.specs.declared.code.Op.{Op}
+use Rattle.ec_code.specs.declared.code.Op.TheVariants as op
+use Rattle.ec_code.specs.declared.code.Operand.{Operand}
+use Rattle.ec_code.specs.declared.code.Operand.TheVariants as operand
+use Rattle.ec_code.specs.declared.code.Operation.{Operation}
+use Rattle.ec_code.specs.declared.code.Parts.{Parts}
+use Rattle.ec_code.specs.declared.code.Test.{Test}
+use Rattle.ec_code.specs.declared.code.Test.TheVariants as test
+use Rattle.ec_code.specs.declared.code.Variable.{Variable}
+use Rattle.ec_code_limits.specs.Limits.{HasFewFields, HasLimits, IsSmallOperation}
+use Rattle.ec_conform.specs.declared.static_type.StaticType.{StaticType}
+use Rattle.ec_faithful.specs.Frames.{block_words, slots}
+use Rattle.ec_generate.specs.Puts.{CanPut, CanPutQuestion, CanPutSource}
+use Rattle.ec_generate.proofs.Loops.{ops_long}
+use Rattle.ec_generate.specs.Sites.{CanPutAll, CanPutEnding, IsMakeable, home_there, ops_there}
+use Rattle.ec_generate.specs.declared.site.Site.{Site}
+use Rattle.ec_homes.specs.Homes.{IsWithin}
+use Rattle.ec_homes.specs.declared.homes.Home.{Home}
+use Rattle.ec_liveness.specs.Live.{read_by, read_in, reads, writes}
+use Rattle.ec_micro.proofs.FineAt.{fine_at}
+use Rattle.ec_micro.specs.Fitting.{HomesFit, IsNamedBy}
+use Rattle.ec_micro.specs.Layout.{home_of, home_or, ops_of}
+use Rattle.ec_micro.specs.Lowering.{ending_of, is_there, question_of, source_of, steps_of}
+use Rattle.ec_micro.specs.declared.step.Source.{Source}
+use Rattle.ec_micro.specs.declared.step.Step.TheVariants as step
+use Rattle.ec_world.proofs.Related.{all-length}
+use Rattle.ec_world.specs.declared.class.ClassNo.{ClassNo}
+use Rattle.ec_world.specs.declared.class.ClassNo.TheVariants.{Node, Program, Made, Vector}
+
+pub in_front : {A : Type 0} (x : A) (xs ys : List A) → IsIn x xs → IsIn x (xs ++ ys)
+in_front x [] ys h = absurd h
+in_front x (z ∷ xs) ys (inl e) = inl e
+in_front x (z ∷ xs) ys (inr h) = inr (in_front x xs ys h)
+
+pub in_back : {A : Type 0} (x : A) (xs ys : List A) → IsIn x ys → IsIn x (xs ++ ys)
+in_back x [] ys h = h
+in_back x (z ∷ xs) ys h = inr (in_back x xs ys h)
+
+-- Operands, where each variable that is read has a home that there is.
+module _ (registers : ℕ) (home : Variable → Home) where
+  abbrev AllHomed : List Variable → Type 0
+  AllHomed xs = (x : Variable) → IsIn x xs → IsWithin registers slots (home x)
+
+  source_puts : (x : Operand) → AllHomed (read_in x) → CanPutSource registers (source_of home x)
+  source_puts (operand.Of x) h = h x (inl refl)
+  source_puts (operand.Number z) h = tt
+  source_puts (operand.Truth b) h = tt
+  source_puts operand.Nil h = tt
+
+  front : (xs ys : List Variable) → AllHomed (xs ++ ys) → AllHomed xs
+  front xs ys h x i = h x (in_front x xs ys i)
+
+  back : (xs ys : List Variable) → AllHomed (xs ++ ys) → AllHomed ys
+  back xs ys h x i = h x (in_back x xs ys i)
+
+  two_put : (x y : Operand) → AllHomed (read_in x ++ read_in y) →
+      CanPutSource registers (source_of home x) × CanPutSource registers (source_of home y)
+  two_put x y h = (source_puts x (front (read_in x) (read_in y) h), source_puts y (back (read_in x) (read_in y) h))
+
+  question_puts : (t : Test) (wanted : Bool) → AllHomed (read_by t) → CanPutQuestion registers (question_of home t wanted)
+  question_puts (test.Holds x) wanted h = (source_puts x h, tt)
+  question_puts (test.Same x y) wanted h = two_put x y h
+  question_puts (test.Less x y) wanted h = two_put x y h
+  question_puts (test.LessEqual x y) wanted h = let two = two_put x y h in (two.1, two.0)
+  question_puts (test.Divides x y) wanted h = ((two_put x y h).1, tt)
+
+  move_puts : (b : Bool) (into : Home) (from : Source) → IsWithin registers slots into → CanPutSource registers from →
+      CanPutAll registers (cond b [] (step.Move into from ∷ []))
+  move_puts true into from h k = tt
+  move_puts false into from h k = ((h, k), tt)
+
+  -- a step of three-address code: its field is in a block and its constant in the room for constants
+  abbrev IsFew : Op → Type 0
+  IsFew (op.Field to field) = field < block_words
+  IsFew (op.SetField field from) = field < block_words
+  IsFew (op.Constant to index) = index < 2 ^ 20
+  IsFew _ = Unit {0}
+
+  pub steps_put : (o : Op) → AllHomed (reads o) → ((to : Variable) → writes o ≡ Some to → IsWithin registers slots (home to)) → IsFew o →
+      CanPutAll registers (steps_of home o)
+  steps_put (op.Copy to from) r w few =
+      move_puts (is_there (home to) (source_of home from)) (home to) (source_of home from) (w to refl) (source_puts from r)
+  steps_put (op.Literal to index) r w few = ((w to refl, tt), tt)
+  steps_put (op.Itself to) r w few = (w to refl, tt)
+  steps_put (op.Field to field) r w few = ((w to refl, few), tt)
+  steps_put (op.SetField field from) r w few = ((few, source_puts from r), tt)
+  steps_put (op.Constant to index) r w few = ((w to refl, few), tt)
+  steps_put (op.Compute how to left right) r w few = let two = two_put left right r in ((w to refl, two.0, two.1), tt)
+  steps_put (op.Decide to t wanted) r w few = ((w to refl, question_puts t wanted r), tt)
+  steps_put (op.Branch t wanted over) r w few = tt
+  steps_put (op.Jump over) r w few = tt
+  steps_put (op.Again back) r w few = tt
+  steps_put (op.Rest row) r w few = tt
+
+  module _ (d : Declared) (p : Parts) (number : ℕ) (o : Operation) (q : ℕ) where
+    behind : (over : ℕ) → over < length (drop (suc q) o.code) → suc (q + over) < length o.code
+    behind over h = omega (arith, h, length-drop (suc q) o.code)
+
+    pub ending_puts :
+        (line : Line) (i : Op) → FineOp d p number o q (drop (suc q) o.code) line.live i → AllHomed (reads i) →
+        CanPutEnding registers (length o.code) q (ending_of home i)
+    ending_puts line (op.Branch t wanted over) fine r = (question_puts t wanted r, behind over fine.2.0)
+    ending_puts line (op.Jump over) fine r = behind over fine.0
+    ending_puts line (op.Again back) fine r = fine.within
+    ending_puts line (op.Rest row) fine r = tt
+    ending_puts line (op.Copy to from) fine r = tt
+    ending_puts line (op.Literal to index) fine r = tt
+    ending_puts line (op.Itself to) fine r = tt
+    ending_puts line (op.Field to field) fine r = tt
+    ending_puts line (op.SetField field from) fine r = tt
+    ending_puts line (op.Constant to index) fine r = tt
+    ending_puts line (op.Compute how to left right) fine r = tt
+    ending_puts line (op.Decide to t wanted) fine r = tt
+
+-- ---- an operation of a program
+
+all_at : {A : Type 0} (P : A → Type 0) (xs : List A) (k : ℕ) (x : A) → All P xs → slice_get xs k ≡ Some x → P x
+all_at P xs k x all e =
+    let h = get_within xs k x e in
+    subst P (same_Some _ _ (sym (slice_get-get_or xs k x h) ∙ e)) (All-get_or P xs k x h all)
+
+module _ (d : Declared) (p : Parts) (fine : Fine d p) (limits : HasLimits p) where
+  -- own fields are in one block
+  fields_few : (class : ClassNo) (n : ℕ) (s : StaticType) → slice_get (field_types d class) n ≡ Some s → n < block_words
+  fields_few (Made k) n s e = in_class (slice_get d.classes k) refl e
+    where
+      in_class : (t : Option DeclaredClass) → slice_get d.classes k ≡ t → slice_get (fields_if t) n ≡ Some s → n < block_words
+      in_class None is e = absurd cc
+      in_class (Some t) is e =
+          let c = fine.classes k t is in
+          let few : length c.0.fields ≤ 100 = all_at HasFewFields p.classes k c.0 limits.fields c.1 in
+          let same : length t.fields ≡ length c.0.fields = all-length (IsFieldOf d p) t.fields c.0.fields c.2.fields in
+          omega (arith, get_within t.fields n s e, few, same)
+  fields_few Program n s e = absurd cc
+  fields_few Node n s e = absurd cc
+  fields_few (Vector of) n s e = absurd cc
+
+  constants_few : (i : ℕ) (s : StaticType) → slice_get p.constants i ≡ Some s → i < 2 ^ 20
+  constants_few i s e = omega (arith, get_within p.constants i s e, limits.constants)
+
+  module _ (registers : ℕ) (home : Variable → Home) (number : ℕ) (o : Operation) where
+    few_at : (q : ℕ) (rest : List Line) (live : List Live) (i : Op) → FineOp d p number o q rest live i → IsFew registers home i
+    few_at q rest live (op.Field to n) f = fields_few o.class n f.0 f.1
+    few_at q rest live (op.SetField n from) f = fields_few o.class n f.0.0 f.0.1
+    few_at q rest live (op.Constant to index) f = constants_few index f.0 f.1
+    few_at q rest live (op.Copy to from) f = tt
+    few_at q rest live (op.Literal to index) f = tt
+    few_at q rest live (op.Itself to) f = tt
+    few_at q rest live (op.Compute how to left right) f = tt
+    few_at q rest live (op.Decide to t wanted) f = tt
+    few_at q rest live (op.Branch t wanted over) f = tt
+    few_at q rest live (op.Jump over) f = tt
+    few_at q rest live (op.Again back) f = tt
+    few_at q rest live (op.Rest row) f = tt
+
+-- the line of a step
+line_there : (code : List Line) (q : ℕ) (o : Op) → slice_get (ops_of code) q ≡ Some o → (line : Line) × (slice_get code q ≡ Some line) × (line.op ≡ o)
+line_there [] q o e = absurd cc
+line_there (l ∷ ls) zero o e = (l, refl, same_Some l.op o e)
+line_there (l ∷ ls) (suc q) o e = line_there ls q o e
+
+module _ (d : Declared) (p : Parts) (fine : Fine d p) (limits : HasLimits p) (registers : ℕ) (homes : List (List Home)) (n : ℕ)
+    (o : Operation) (there : slice_get p.operations n ≡ Some o) (fit : HomesFit registers homes n o) where
+  homed : (q : ℕ) (line : Line) (x : Variable) → slice_get o.code q ≡ Some line → IsNamedBy line x →
+      IsWithin registers slots (home_of homes n o x)
+  homed q line x e named =
+      let h = fit.each q line x e named in
+      subst (λ g. IsWithin registers slots g) (sym (ap home_or h.1)) h.2
+
+  module _ (site : Site) (same : home_there site ≡ home_of homes n o) (code : site.code.now ≡ o.code) where
+    abbrev home : Variable → Home
+    home = home_of homes n o
+
+    operation_fine : FineOperation d p n o
+    operation_fine = fine.operations n o there
+
+    steps : (q : ℕ) (i : Op) → slice_get (ops_of o.code) q ≡ Some i → CanPutAll registers (steps_of home i)
+    steps q i e =
+        let l = line_there o.code q i e in
+        let f = fine_at d p n o q l.0 operation_fine l.1 in
+        subst (λ x. CanPutAll registers (steps_of home x)) l.2
+        (steps_put registers home l.0.op (λ x r. homed q l.0 x l.1 (inl r)) (λ to w. homed q l.0 to l.1 (inr (inl w)))
+        (few_at d p fine limits registers home n o q (drop (suc q) o.code) l.0.live l.0.op f))
+
+    endings : (q : ℕ) (i : Op) → slice_get (ops_of o.code) q ≡ Some i →
+        CanPutEnding registers (length (ops_of o.code)) q (ending_of home i)
+    endings q i e =
+        let l = line_there o.code q i e in
+        let f = fine_at d p n o q l.0 operation_fine l.1 in
+        subst (λ k. CanPutEnding registers k q (ending_of home i)) (sym (ops_long o.code))
+        (subst (λ x. CanPutEnding registers (length o.code) q (ending_of home x)) l.2
+        (ending_puts registers home d p n o q l.0 l.0.op f (λ x r. homed q l.0 x l.1 (inl r))))
+
+    pub makeable : IsMakeable registers site
+    makeable =
+        let small = all_at IsSmallOperation p.operations n o limits.operations there in
+        let ops : ops_of site.code.now ≡ ops_of o.code = ap ops_of code in
+        record {
+          steps = λ q i e. subst (λ h. CanPutAll registers (steps_of h i)) (sym same) (steps q i (ap (λ l. slice_get l q) (sym ops) ∙ e));
+          endings = λ q i e.
+              subst (λ h. CanPutEnding registers (length (ops_there site)) q (ending_of h i)) (sym same)
+              (subst (λ l. CanPutEnding registers (length l) q (ending_of home i)) (sym ops) (endings q i (ap (λ l. slice_get l q) (sym ops) ∙ e)));
+          few = omega (arith, small.steps, ap length ops, ops_long o.code);
+        }

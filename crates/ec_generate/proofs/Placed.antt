@@ -1,0 +1,71 @@
+-- An operation of a program, where it is laid out: its words, sizes and places are those of the program's layout.
+use Rattle.std.proofs.Common.{◌≡◌, ℕ, ◌+◌, ◌≤◌, List, length, map, Some, refl, sym, ap, ◌∙◌, subst, arith}
+use Rattle.std.specs.Prelude.{slice_get}
+use Rattle.ec_code.specs.declared.code.Line.{Line}
+use Rattle.ec_code.specs.declared.code.Operation.{Operation}
+use Rattle.ec_code.specs.declared.code.Variable.{Variable}
+use Rattle.ec_faithful.specs.Stops.{row_or_empty, stop_places}
+use Rattle.ec_faithful.specs.declared.code.OperationCode.{OperationCode}
+use Rattle.ec_generate.specs.Puts.{Sized, pick}
+use Rattle.ec_generate.specs.Sites.{code_there, home_there, ops_there, size_there}
+use Rattle.ec_generate.specs.declared.kind.Span.{Span}
+use Rattle.ec_generate.specs.declared.site.Site.{Site}
+use Rattle.ec_generate.proofs.Programs.{words_at}
+use Rattle.ec_generate.proofs.Room.{chosen_near}
+use Rattle.ec_homes.specs.Homes.{column}
+use Rattle.ec_homes.specs.declared.homes.Home.{Home}
+use Rattle.ec_micro.specs.Layout.{Vocabularies, chosen, home_of, home_or, operation_words, ops_of, place, size_of, stop_addresses, vocabulary_of, words_in}
+use Rattle.ec_micro.specs.Speaks.{Vocabulary, words_end}
+use Rattle.ec_target.specs.Code.{pc_of}
+
+-- the homes of variables by those of their columns
+abbrev by_row : ℕ → List Home → Variable → Home
+by_row named row x = home_or (slice_get row (column named x))
+
+-- a function of the words, the homes and the code of an operation
+same_three : {A : Type 0} (F : Vocabulary → (Variable → Home) → List Line → A) (V W : Vocabulary) (g h : Variable → Home)
+    (k l : List Line) → V ≡ W → g ≡ h → k ≡ l → F V g k ≡ F W h l
+same_three F V W g h k l a b c = ap (λ x. F x g k) a ∙ ap (λ x. F W x k) b ∙ ap (λ x. F W h x) c
+
+abbrev code_by : ℕ → Vocabulary → (Variable → Home) → List Line → OperationCode
+code_by start V home code = record {
+  words = size_of V home (ops_of code);
+  stops = map (λ q. pc_of (place V home (ops_of code) start q)) (stop_places code);
+}
+
+-- an operation, with the site and the words that it gets
+pub record IsPlaced (vs : Vocabularies) (homes : List (List Home)) (n : ℕ) (o : Operation) (site : Site) (span : Span) : Type 0 where
+  pub row : List Home
+  pub has_row : slice_get homes n ≡ Some row
+  pub homes_are : site.homes.now ≡ row
+  pub named : site.named ≡ length o.variables
+  pub code : site.code.now ≡ o.code
+  pub span_is : pick vs span ≡ chosen vs (home_there site) (ops_there site)
+
+module _ (vs : Vocabularies) (homes : List (List Home)) (n : ℕ) (o : Operation) (site : Site) (span : Span)
+    (is : IsPlaced vs homes n o site span) where
+  pub same_home : home_there site ≡ home_of homes n o
+  same_home =
+      ap (λ k. by_row k site.homes.now) is.named ∙ ap (by_row (length o.variables)) (is.homes_are ∙ sym (ap row_or_empty is.has_row))
+
+  same_words : pick vs span ≡ vocabulary_of vs homes n o
+  same_words =
+      is.span_is ∙ ap (λ h. chosen vs h (ops_there site)) same_home ∙ ap (λ l. chosen vs (home_of homes n o) (ops_of l)) is.code
+
+  pub same_size : size_there (pick vs span) site ≡ words_in vs homes n o
+  same_size = same_three (λ V h l. size_of V h (ops_of l)) _ _ _ _ _ _ same_words same_home is.code
+
+  pub words_are : (start : ℕ) → operation_words (pick vs span) (home_there site) (ops_there site) start ≡ words_at vs homes n o start
+  words_are start = same_three (λ V h l. operation_words V h (ops_of l) start) _ _ _ _ _ _ same_words same_home is.code
+
+  pub code_is : (start : ℕ) → code_there (pick vs span) site start
+      ≡ record { words = words_in vs homes n o; stops = stop_addresses vs homes n start o }
+  code_is start = same_three (code_by start) _ _ _ _ _ _ same_words same_home is.code
+
+  pub near : Sized vs → words_in vs homes n o ≤ words_end → size_there (pick vs span) site ≤ (pick vs span).reach
+  near sized low =
+      let far = chosen_near vs sized (home_of homes n o) (ops_of o.code) low in
+      subst (λ V. size_there V site ≤ V.reach) (sym same_words)
+      (subst (λ k. k ≤ (vocabulary_of vs homes n o).reach)
+      (sym (ap (λ h. size_of (vocabulary_of vs homes n o) h (ops_there site)) same_home
+      ∙ ap (λ l. size_of (vocabulary_of vs homes n o) (home_of homes n o) (ops_of l)) is.code)) far)

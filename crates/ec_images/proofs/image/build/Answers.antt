@@ -1,0 +1,51 @@
+use Rattle.std.proofs.Common.{◌≡◌, ◌∙◌, ap, sym, subst}
+use Rattle.ec_faithful.specs.Faithful.{Faithful}
+use Rattle.ec_faithful.specs.declared.code.Code.{Code}
+use Rattle.ec_images.proofs.Few.{has_few}
+use Rattle.ec_images.proofs.image.build.Goals as goal
+use Rattle.ec_laid_out.proofs.Faithful.{faithful}
+use Rattle.ec_micro.specs.Fitting.{CanBeLaidOut, HomesFit}
+use Rattle.ec_micro.specs.Layout.{code_of}
+use Rattle.ec_stop_tables.specs.Addresses.{AreApart, HasFew}
+use Rattle.ec_stop_tables.specs.Tables.{all_homes}
+
+pub bind-requires-clause-apart : goal.bind-requires-clause-apart
+bind-requires-clause-apart g c =
+    let vs = g.K.Kind.vocabularies in
+    let p = c.args.parts.now in
+    let homes = all_homes c.in_ok-table.table.operations in
+    let can : CanBeLaidOut g.M.Target.meaning vs homes c.requires.fine.0 p = record {
+      near = c.requires.near;
+      middle = c.requires.middle;
+      far = c.requires.far;
+      fine = c.requires.fine.1;
+      numbers = c.requires.numbers;
+      homes_fit = λ n o e. subst (λ k. HomesFit k homes n o) (sym c.requires.homes) (c.in_ok-code.ensures.fit n o e);
+      room = c.in_ok-code.ensures.room;
+    } in
+    let is = faithful g.M.Target.meaning vs homes c.requires.fine.0 p can in
+    subst AreApart (sym c.in_ok-code.ensures.code) is.apart
+
+pub bind-requires-clause-few : goal.bind-requires-clause-few
+bind-requires-clause-few g c =
+    subst HasFew (sym c.in_ok-code.ensures.code)
+    (has_few g.K.Kind.vocabularies (all_homes c.in_ok-table.table.operations) c.args.parts.now c.requires.limits)
+
+pub returns-clause-faithful : goal.returns-clause-faithful
+returns-clause-faithful g c =
+    let vs = g.K.Kind.vocabularies in
+    let p = c.args.parts.now in
+    let homes = all_homes c.in_ok-table.table.operations in
+    let can : CanBeLaidOut g.M.Target.meaning vs homes c.requires.fine.0 p = record {
+      near = c.requires.near;
+      middle = c.requires.middle;
+      far = c.requires.far;
+      fine = c.requires.fine.1;
+      numbers = c.requires.numbers;
+      homes_fit = λ n o e. subst (λ k. HomesFit k homes n o) (sym c.requires.homes) (c.in_ok-code.ensures.fit n o e);
+      room = c.in_ok-code.ensures.room;
+    } in
+    let is = faithful g.M.Target.meaning vs homes c.requires.fine.0 p can in
+    let same : all_homes c.bind.new.self.operations ≡ homes = ap all_homes c.in_ok-bind.ensures.operations in
+    subst (λ h. Faithful g.M.Target.meaning p c.in_ok-code.code h) (sym same)
+    (subst (λ code. Faithful g.M.Target.meaning p code homes) (sym c.in_ok-code.ensures.code) is)

@@ -1,0 +1,16 @@
+pub mod Values
+pub mod Variables
+pub mod Standing
+pub mod Stretches
+pub mod Sizes
+pub mod Sites
+pub mod Operands
+pub mod Each
+pub mod Outcomes
+pub mod Walks
+pub mod Stops
+pub mod Laying
+pub mod Programs
+pub mod Whole
+pub mod Faithful
+pub mod Fitted

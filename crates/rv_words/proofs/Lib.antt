@@ -1,0 +1,11 @@
+pub mod Places
+pub mod Runs
+pub mod Numbers
+pub mod Sources
+pub mod Results
+pub mod Arithmetics
+pub mod Answers
+pub mod Steps
+pub mod Asks
+pub mod Stops
+pub mod Speaking
