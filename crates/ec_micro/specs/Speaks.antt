@@ -9,9 +9,10 @@ use Rattle.ec_micro.specs.Micro.{Can, CanAsk, Sight, asked, does}
 use Rattle.ec_micro.specs.declared.step.Question.{Question}
 use Rattle.ec_micro.specs.declared.step.Step.{Step}
 
--- Words are numbered from 0; all of them lie below the first block.
+-- Words are numbered from 0. All of them, and the address behind the last, lie below the first block: a jump of MIPS names no address
+-- from there on.
 abbrev pub words_end : ℕ
-words_end = 0x03F00000
+words_end = 0x03EFFFFF
 
 -- The words of a kind of machine: of a step; of a question that is asked at word `from` and leads to word `to` where the answer is
 -- yes; of a jump at word `from` to word `to`; and of a stop. A question leads forward, and it and a jump reach so many words far.

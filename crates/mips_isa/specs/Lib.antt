@@ -1,2 +1,3 @@
 pub mod OneWord
+pub mod Parts
 pub mod Words

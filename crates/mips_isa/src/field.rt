@@ -1,6 +1,7 @@
 //! Numbers of a few bits, as they stand in an instruction.
 
 ghost use Rattle.std.specs.Prelude.{◌≡◌, ◌≢◌, ◌<◌, ◌/◌, ◌%◌, ◌^◌};
+ghost use Rattle.mips_isa.specs.Parts.{high_of, low_of};
 
 /// The number of a register, 0 to 31.
 #[derive(Clone, Copy, PartialEq, Eq, Debug)]
@@ -45,4 +46,22 @@ pub fn field(word: u32, low: u32, width: u32) -> u32
     ensures { result ≡ word / 2 ^ low % 2 ^ width }
 {
     (word >> low) & ((1 << width) - 1)
+}
+
+/// What LUI has of a number of which ADDIU, a load or a store adds the low part: the assembler's %hi.
+pub fn high_part(number: u32) -> Sixteen
+    ensures { result.bits ≡ high_of number }
+{
+    Sixteen {
+        bits: (number.wrapping_add(0x8000)) >> 16,
+    }
+}
+
+/// What ADDIU, a load or a store adds to the high part of a number: the assembler's %lo.
+pub fn low_part(number: u32) -> Sixteen
+    ensures { result.bits ≡ low_of number }
+{
+    Sixteen {
+        bits: field(number, 0, 16),
+    }
 }

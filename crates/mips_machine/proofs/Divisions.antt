@@ -13,7 +13,7 @@ use Rattle.mips_machine.specs.Values.{signed, unsigned, quotient, remainder}
 
 -- ---- what fits a word
 
-signed_fits : (a : ℕ) → a < 2 ^ 32 → FitsSigned w32 (signed a)
+pub signed_fits : (a : ℕ) → a < 2 ^ 32 → FitsSigned w32 (signed a)
 signed_fits a h = ⊎_elim
     (λ lt. let f : FitsSigned w32 (pos a) = record { sfits = lt } in subst (λ z. FitsSigned w32 z) (sym (low_signed a lt)) f)
     (λ le. let f : FitsSigned w32 (negsuc (2 ^ 32 - suc a)) =
@@ -30,7 +30,7 @@ below_quotient a zero h far = let ne : a ≢ 2 ^ 31 - 1 = λ e. far e refl in om
 below_quotient a (suc b) h far = omega arith
 
 -- only the least number by -1 has a quotient that doesn't fit
-quotient_fits : (x y : ℤ) → FitsSigned w32 x → 0 < unsigned_abs y → (x ≡ negsuc (2 ^ 31 - 1) → y ≢ negsuc 0) → FitsSigned w32 (int_div x y)
+pub quotient_fits : (x y : ℤ) → FitsSigned w32 x → 0 < unsigned_abs y → (x ≡ negsuc (2 ^ 31 - 1) → y ≢ negsuc 0) → FitsSigned w32 (int_div x y)
 quotient_fits (pos a) (pos b) f g far = record { sfits = omega (arith, f.sfits, div-le_self a b) }
 quotient_fits (pos a) (negsuc b) f g far = negated_fits (a / suc b) (omega (arith, f.sfits, div-le_self a (suc b)))
 quotient_fits (negsuc a) (pos b) f g far = negated_fits (suc a / b) (omega (arith, f.sfits, div-le_self (suc a) b))
@@ -38,12 +38,12 @@ quotient_fits (negsuc a) (negsuc b) f g far =
     let below = below_quotient a b f.sfits (λ e k. far (ap negsuc e) (ap negsuc k)) in
     record { sfits = (div-lt_iff_lt-mul (omega arith)).1 below }
 
-remainder_fits : (x y : ℤ) → FitsSigned w32 x → FitsSigned w32 (int_rem x y)
+pub remainder_fits : (x y : ℤ) → FitsSigned w32 x → FitsSigned w32 (int_rem x y)
 remainder_fits x y f = record { sfits = omega (arith, mag_rem x y, f.sfits) }
 
 -- ---- signs
 
-not_zero : (b : ℕ) → b < 2 ^ 32 → b ≢ 0 → 0 < unsigned_abs (signed b)
+pub not_zero : (b : ℕ) → b < 2 ^ 32 → b ≢ 0 → 0 < unsigned_abs (signed b)
 not_zero b h ne = ⊎_elim
     (λ lt. subst (λ z. 0 < unsigned_abs z) (sym (low_signed b lt)) (omega arith))
     (λ le. subst (λ z. 0 < unsigned_abs z) (sym (high_signed b le h)) (omega arith))

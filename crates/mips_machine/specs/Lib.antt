@@ -1,3 +1,4 @@
+pub mod Delays
 pub mod Hazards
 pub mod Laws
 pub mod Machine

@@ -3,6 +3,7 @@
 
 mod access;
 pub mod arithmetic;
+pub mod delays;
 mod execute;
 pub mod flow;
 pub mod machine;

@@ -30,7 +30,7 @@ impl Kind for Riscv {
         match span {
             Span::Near => 0x3FF,
             Span::Middle => 0x3_FFFF,
-            Span::Far => 0x03F0_0000,
+            Span::Far => 0x03EF_FFFF,
         }
     }
 
