@@ -1,6 +1,6 @@
 -- Objects stay in range where one is changed or added; what a world sees of them is in range.
 use Rattle.std.proofs.Common.{◌≡◌, ℕ, ◌≤◌, arith, List, length, map, drop, Option, Some, None, refl}
-use Rattle.std.proofs.Common.{subst, sym, option_map}
+use Rattle.std.proofs.Common.{subst, option_map}
 use Rattle.std.proofs.lemmas.List.{length-set}
 use Rattle.std.specs.List.{AllByRecursion as Each}
 use Rattle.std.specs.Prelude.{slice_set}
@@ -43,7 +43,7 @@ new_fields_ranged given fields h =
 -- ---- objects
 
 few_set : (class : ClassNo) (vs : List Value) (i : ℕ) (v : Value) → FewElements class vs → FewElements class (slice_set vs i v)
-few_set (Vector of) vs i v h = subst (λ n. n ≤ largest) (sym (length-set vs i v)) h
+few_set (Vector of) vs i v h = omega (arith, length-set vs i v, h)
 few_set Node vs i v h = tt
 few_set Program vs i v h = tt
 few_set (Made k) vs i v h = tt
@@ -70,7 +70,7 @@ object_there objects oid h = by (object_at objects oid) refl
 -- what holds of a vector's elements
 few_in : (class : ClassNo) (fields : List Value) → RangedFields class fields → (n : ℕ)
     → option_map length (elements_of_class class fields) ≡ Some n → n ≤ largest
-few_in (Vector of) fields h n e = let s : length fields ≡ n = cc in subst (λ m. m ≤ largest) s h.few
+few_in (Vector of) fields h n e = let s : length fields ≡ n = cc in omega (arith, s, h.few)
 few_in Node fields h n e = cc
 few_in Program fields h n e = cc
 few_in (Made k) fields h n e = cc
