@@ -1,0 +1,23 @@
+-- Machine code can be made of what an accepted text is lowered to.
+use Rattle.std.proofs.Common.{sym, subst}
+use Rattle.ec_code_limits.specs.Limits.{HasLimits}
+use Rattle.ec_compile.proofs.Texts.{all_numbers_fit, text_has_limits, text_is_accepted}
+use Rattle.ec_compile.proofs.compile.compile.Goals as goal
+use Rattle.ec_lowered.specs.Lowered.{IsLowered}
+use Rattle.ec_meaning.specs.Sources.{source_of}
+
+pub new-requires : goal.new-requires
+new-requires g c = record {
+  accepted = (c.requires.accepted.program, text_is_accepted (source_of c.args.program.now) c.requires.accepted);
+}
+
+pub build-requires-clause-limits : goal.build-requires-clause-limits
+build-requires-clause-limits g c =
+    let s = source_of c.args.program.now in
+    subst HasLimits (sym c.parts.ensures.parts) (text_has_limits s c.requires.accepted c.in_ok-program.program c.in_ok-program.ensures.of_it)
+
+pub build-requires-clause-numbers : goal.build-requires-clause-numbers
+build-requires-clause-numbers g c =
+    let s = source_of c.args.program.now in
+    all_numbers_fit s c.requires.accepted c.parts.result.now
+    (subst (IsLowered s) (sym c.parts.ensures.parts) c.in_ok-program.ensures.of_it)

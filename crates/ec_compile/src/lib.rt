@@ -1,0 +1,4 @@
+//! Machine code of accepted texts, for any kind of machine.
+#![tactic(auto)]
+
+pub mod compile;

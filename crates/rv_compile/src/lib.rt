@@ -1,0 +1,4 @@
+//! RISC-V machine code of accepted texts.
+#![tactic(auto)]
+
+pub mod compile;
