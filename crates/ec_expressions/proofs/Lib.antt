@@ -1,9 +1,9 @@
 pub mod Codes
 pub mod Firsts
+pub mod Numbers
 pub mod Operands
 pub mod Parts
 pub mod Reversed
 pub mod Temporaries
-pub mod Texts
 pub mod Variables
 pub mod Whole

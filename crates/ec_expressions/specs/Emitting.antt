@@ -46,7 +46,7 @@ use Rattle.ec_world.specs.declared.stop.Stop.TheVariants as stop
 
 -- the program's source, and how many named variables the operation has
 abbrev pub source_by : Emitter → Source
-source_by m = source_of m.program.now
+source_by m = source_of m.tables.now.program.now
 
 abbrev pub count_by : Emitter → ℕ
 count_by m = length m.types.now

@@ -10,4 +10,5 @@ mod operators;
 mod places;
 pub mod rows;
 mod steps;
+pub mod tables;
 mod types;

@@ -1,6 +1,5 @@
 //! Values that are fetched from their places, and literals.
 ghost use Rattle.std.specs.Prelude.{◌≡◌, ◌++◌, ◌∷◌, OnOk};
-ghost use Rattle.ec_emission.specs.Expressions as spec;
 ghost use Rattle.ec_expressions.specs.Emitting as emitting;
 
 use crate::backward::Backward;
@@ -9,26 +8,7 @@ use crate::rows::further;
 use ec_code::code::{Op, Operand, Variable};
 use ec_core::Place;
 use ec_meaning::types::number_of;
-use ec_world::value::Text;
 use std::alloc::AllocError;
-
-fn is_text(a: &[u8], b: &[u8]) -> bool
-    ensures { result ≡ spec.is_text a.now b.now }
-{
-    a == b
-}
-
-/// The place of a text among literals; how many there are, where it is none of them.
-fn literal_place(literals: &[Text], text: &[u8]) -> usize
-    ensures { result ≡ spec.literal_from 0 literals.now text.now }
-{
-    for (n, literal) in literals.iter().enumerate() {
-        if is_text(literal.as_slice(), text) {
-            return n;
-        }
-    }
-    literals.len()
-}
 
 /// What is read goes into a temporary. The error is want of memory.
 pub(crate) fn copy(from: Operand, h: u32, out: &mut Backward) -> Result<(), AllocError>
@@ -43,7 +23,7 @@ impl<'a> Emitter<'a> {
     pub fn literal(&self, text: &[u8], to: Variable, out: &mut Backward) -> Result<(), AllocError>
         ensures { OnOk result (out.new ≡ Op.Literal to (emitting.literal_by self.now text.now) ∷ out.old) }
     {
-        let index = number_of(literal_place(self.literals, text))?;
+        let index = number_of(self.literals.place(text)?)?;
         out.before(Op::Literal { to, index })
     }
 

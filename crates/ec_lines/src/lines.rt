@@ -53,7 +53,7 @@ fn with_types(
 ) -> Result<Seq<Live>, AllocError>
     ensures { IfOk result (λ live. live ≡ spec.with_types (around_by site.now) temporaries.now list.now) }
 {
-    let mut live = Seq::new(alloc);
+    let mut live = Seq::from_vec(Vec::with_capacity(alloc, list.len())?);
     for x in list.as_slice() {
         live.push(Live {
             variable: *x,

@@ -45,13 +45,6 @@ pub fn literals_of(alloc: Global, core: &Core) -> Result<Literals, AllocError>
 }
 
 impl Literals {
-    /// The texts.
-    pub fn as_slice(&self) -> &[Text]
-        ensures { result.now ≡ self.now }
-    {
-        self.texts.as_slice()
-    }
-
     /// The texts, without their places.
     pub fn into_texts(self) -> Seq<Text>
         ensures { result ≡ self }

@@ -9,12 +9,12 @@ use ec_base::list::Seq;
 use ec_code::code::{Operation as Made, Parts};
 use ec_conform::static_type::StaticType;
 use ec_core::{Constant, Operation};
+use ec_expressions::tables::Tables;
 use ec_lines::operations::{operation_of, program_operation};
-use ec_literals::literals::literals_of;
+use ec_literals::literals::{Literals, literals_of};
 use ec_meaning::classes::classes_of;
 use ec_meaning::source::Program;
 use ec_statements::operations::{operation_ops, program_ops};
-use ec_world::value::Text;
 use std::alloc::{AllocError, Global};
 
 /// The program that a source is lowered to. The error is want of memory, a number of more than 31 bits, or one of a
@@ -24,8 +24,9 @@ pub fn lower(alloc: Global, program: &Program<'_>) -> Result<Parts, AllocError>
 {
     let classes = classes_of(alloc, program)?;
     let constants = constant_types(alloc, program.core().constants.as_slice())?;
-    let literals = literals_of(alloc, program.core())?;
-    let operations = operations_of(alloc, program, literals.as_slice())?;
+    let tables = Tables::new(alloc, program)?;
+    let literals = literals_of(alloc, tables.program.core())?;
+    let operations = operations_of(alloc, &tables, &literals)?;
     Ok(Parts {
         classes,
         constants,
@@ -48,33 +49,33 @@ fn constant_types(alloc: Global, constants: &[Constant]) -> Result<Seq<StaticTyp
 /// The program's own operation, and those of its objects behind it. The error is that of the program.
 fn operations_of(
     alloc: Global,
-    program: &Program<'_>,
-    literals: &[Text],
+    tables: &Tables<'_>,
+    literals: &Literals,
 ) -> Result<Seq<Made>, AllocError>
-    requires { literals.now ≡ literals_of (source_of program.now).core }
-    ensures { IfOk result (λ made. spec.AreOperationsOf (source_of program.now) made) }
+    requires { literals.now ≡ literals_of (source_of tables.now.program.now).core }
+    ensures { IfOk result (λ made. spec.AreOperationsOf (source_of tables.now.program.now) made) }
 {
-    let ops = program_ops(alloc, program, literals)?;
+    let ops = program_ops(alloc, tables, literals)?;
     let mut operations = Seq::new(alloc);
-    operations.push(program_operation(alloc, program, ops)?)?;
-    operations.append(object_operations(alloc, program, literals)?)?;
+    operations.push(program_operation(alloc, tables.program, ops)?)?;
+    operations.append(object_operations(alloc, tables, literals)?)?;
     Ok(operations)
 }
 
 /// The operations of objects, in their order. The error is that of the program.
 fn object_operations(
     alloc: Global,
-    program: &Program<'_>,
-    literals: &[Text],
+    tables: &Tables<'_>,
+    literals: &Literals,
 ) -> Result<Seq<Made>, AllocError>
-    requires { literals.now ≡ literals_of (source_of program.now).core }
+    requires { literals.now ≡ literals_of (source_of tables.now.program.now).core }
     ensures { IfOk result
-        (λ made. let s = source_of program.now in AllTwo (spec.IsOperationOf s) s.core.operations made) }
+        (λ made. let s = source_of tables.now.program.now in AllTwo (spec.IsOperationOf s) s.core.operations made) }
 {
     let mut made = Seq::new(alloc);
-    let operations = program.core().operations.as_slice();
+    let operations = tables.program.core().operations.as_slice();
     for o in operations {
-        made.push(object_operation(alloc, program, literals, o)?)?;
+        made.push(object_operation(alloc, tables, literals, o)?)?;
     }
     Ok(made)
 }
@@ -82,14 +83,15 @@ fn object_operations(
 /// An operation of an object. The error is that of the program.
 fn object_operation(
     alloc: Global,
-    program: &Program<'_>,
-    literals: &[Text],
+    tables: &Tables<'_>,
+    literals: &Literals,
     o: &Operation,
 ) -> Result<Made, AllocError>
-    requires { literals.now ≡ literals_of (source_of program.now).core }
-    ensures { IfOk result (λ made. spec.IsOperationOf (source_of program.now) o.now made) }
+    requires { literals.now ≡ literals_of (source_of tables.now.program.now).core }
+    ensures { IfOk result (λ made. spec.IsOperationOf (source_of tables.now.program.now) o.now made) }
 {
-    let class = program.class_number(o.class)?;
-    let ops = operation_ops(alloc, program, program.captured_by(class), literals, o)?;
-    operation_of(alloc, program, class, o, ops)
+    let class = tables.class_number(o.class)?;
+    let captured = tables.program.captured_by(class);
+    let ops = operation_ops(alloc, tables, captured, literals, o)?;
+    operation_of(alloc, tables.program, class, o, ops)
 }

@@ -14,10 +14,10 @@ use ec_core::{Constant, Operation};
 use ec_expressions::backward::Backward;
 use ec_expressions::emitter::Emitter;
 use ec_expressions::rows::{bare, rest};
-use ec_meaning::source::Program;
+use ec_expressions::tables::Tables;
+use ec_literals::literals::Literals;
 use ec_meaning::types::{kind_of, number_of};
 use ec_world::stop::Stop;
-use ec_world::value::Text;
 use std::alloc::{AllocError, Global};
 
 /// The code of an operation of an object whose class captures so many names. The error is want of memory, a number of more
@@ -25,15 +25,15 @@ use std::alloc::{AllocError, Global};
 /// a distance of more than 32.
 pub fn operation_ops<'a>(
     alloc: Global,
-    program: &'a Program<'a>,
+    tables: &'a Tables<'a>,
     captured: usize,
-    literals: &'a [Text],
+    literals: &'a Literals,
     o: &'a Operation,
 ) -> Result<Seq<Op>, AllocError>
-    ensures { IfOk result (λ ops. ops ≡ spec.operation_ops (source_of program.now) captured literals.now o.now) }
+    ensures { IfOk result (λ ops. ops ≡ spec.operation_ops (source_of tables.now.program.now) captured literals.now o.now) }
 {
     let emitter = Emitter {
-        program,
+        tables,
         captured,
         types: o.variables.as_slice(),
         literals,
@@ -49,28 +49,32 @@ pub fn operation_ops<'a>(
 /// The code of the program's own operation: each constant in turn. The error is that of an operation.
 pub fn program_ops<'a>(
     alloc: Global,
-    program: &'a Program<'a>,
-    literals: &'a [Text],
+    tables: &'a Tables<'a>,
+    literals: &'a Literals,
 ) -> Result<Seq<Op>, AllocError>
-    ensures { IfOk result (λ ops. ops ≡ spec.program_ops (source_of program.now) literals.now) }
+    ensures { IfOk result (λ ops. ops ≡ spec.program_ops (source_of tables.now.program.now) literals.now) }
 {
-    let emitter = own_emitter(program, literals);
+    let emitter = own_emitter(tables, literals);
     let mut out = Backward::new(alloc);
     bare(&mut out, Stop::End)?;
-    give_constants(&emitter, program.core().constants.as_slice(), &mut out)?;
+    give_constants(
+        &emitter,
+        tables.program.core().constants.as_slice(),
+        &mut out,
+    )?;
     bare(&mut out, Stop::Entry)?;
     out.into_ops()
 }
 
 /// What the code of the program's own operation is made of: it has no variables, and no class.
-fn own_emitter<'a>(program: &'a Program<'a>, literals: &'a [Text]) -> Emitter<'a>
-    ensures source { source_by result ≡ source_of program.now }
+fn own_emitter<'a>(tables: &'a Tables<'a>, literals: &'a Literals) -> Emitter<'a>
+    ensures source { source_by result ≡ source_of tables.now.program.now }
     ensures captured { result.captured ≡ 0 }
     ensures types { result.types.now ≡ [] }
     ensures literals { result.literals.now ≡ literals.now }
 {
     Emitter {
-        program,
+        tables,
         captured: 0,
         types: &[],
         literals,

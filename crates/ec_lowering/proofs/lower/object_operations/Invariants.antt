@@ -5,4 +5,4 @@ use Rattle.ec_world.specs.Agree.{AllTwo}
 use Rattle.ec_lowering.proofs.lower.object_operations.Given as goal
 
 abbrev pub invariant-loop-o : goal.invariant-loop-o
-invariant-loop-o l = AllTwo (IsOperationOf (source_of l.program)) (take l.o-index l.operations) l.made
+invariant-loop-o l = AllTwo (IsOperationOf (source_of l.tables.program.now)) (take l.o-index l.operations) l.made

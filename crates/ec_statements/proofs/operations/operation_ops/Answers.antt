@@ -8,7 +8,7 @@ use Rattle.ec_statements.proofs.operations.operation_ops.Goals as goal
 pub returns : goal.returns
 returns c =
     let m : Emitter = record {
-      program = c.args.program;
+      tables = c.args.tables;
       captured = c.args.captured;
       types = c.as_slice.result;
       literals = c.args.literals;
