@@ -1,0 +1,41 @@
+//! The MIPS I machine code of an accepted text.
+ghost use Rattle.std.specs.Prelude.{◌≡◌, ℕ, IfOk};
+ghost use Rattle.ec_compile.specs.Texts.{IsOfText};
+ghost use Rattle.ec_faithful.specs.Faithful.{Faithful};
+ghost use Rattle.ec_faithful.specs.Frames.{slots};
+ghost use Rattle.ec_faithful.specs.Stops.{address_of};
+ghost use Rattle.ec_lowered.specs.Lowered.{IsLowered};
+ghost use Rattle.ec_meaning.specs.Sources.{source_of};
+ghost use Rattle.ec_stop_tables.specs.Addresses.{address_in};
+ghost use Rattle.ec_stop_tables.specs.Tables.{AreTablesOf, all_homes};
+ghost use Rattle.mips_machine.specs.declared.machine.MipsMachine.{MipsMachine};
+ghost use Rattle.mips_words.specs.Meaning.{mips_meaning};
+
+use ec_compile::compile::{Compiled, compile};
+use ec_laid_out::laws::Target;
+use ec_meaning::source::Program;
+use mips_generate::mips::Mips;
+use std::alloc::{AllocError, Global};
+
+/// What a MIPS I machine means to code.
+struct MipsMeaning;
+
+impl Target for MipsMeaning {
+    ghost State = { MipsMachine };
+
+    ghost meaning = { mips_meaning };
+}
+
+/// Compiles the program of an accepted text for MIPS I. Between any two stops the machine code does what the silent steps of the
+/// three-address code do, without a trap. The error is want of memory.
+pub fn compile_for_mips(alloc: Global, program: &Program<'_>) -> Result<Compiled, AllocError>
+    requires accepted { IsOfText (source_of program.now) }
+    ensures lowered { IfOk result (λ made. IsLowered (source_of program.now) made.program) }
+    ensures faithful { IfOk result
+        (λ made. Faithful mips_meaning made.program made.image.code (all_homes made.image.table.operations)) }
+    ensures tables { IfOk result (λ made. AreTablesOf 6 slots made.program made.image.table.operations) }
+    ensures bound { IfOk result
+        (λ made. (op n : ℕ) → address_in made.image.table.addresses op n ≡ address_of made.image.code op n) }
+{
+    compile::<Mips, MipsMeaning>(alloc, &Mips, program)
+}

@@ -1,0 +1,4 @@
+//! MIPS I machine code of accepted texts.
+#![tactic(auto)]
+
+pub mod compile;
