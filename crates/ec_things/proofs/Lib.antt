@@ -1,0 +1,14 @@
+pub mod Kept
+pub mod Touch
+pub mod Put
+pub mod World
+pub mod Steps
+pub mod Sums
+pub mod Items
+pub mod Texts
+pub mod Ran
+pub mod Create
+pub mod Same
+pub mod Objects
+pub mod Began
+pub mod Globals

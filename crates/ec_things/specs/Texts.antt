@@ -1,0 +1,28 @@
+-- The texts that a world wants at a node, and those that are new there.
+use Rattle.std.specs.Prelude.{◌≡◌, ℕ, ◌↔◌, List, Option, Some}
+use Rattle.ec_nodes.specs.Held.{Distinct}
+use Rattle.ec_nodes.specs.Store.{text_bytes}
+use Rattle.ec_nodes.specs.declared.key.Key.{Key}
+use Rattle.ec_things.specs.Store.{Store}
+use Rattle.ec_things.specs.Things.{Thing}
+use Rattle.ec_world.specs.Group.{Has}
+use Rattle.ec_world.specs.declared.value.Value.TheVariants.{Str}
+
+-- a text is in the pool of a node
+abbrev pub InPool : Store → List ℕ → Type 0
+InPool s text = (i : ℕ) × (s.text i ≡ Some text)
+
+-- a text is a value of a thing whose home is at node k
+pub record IsHeld (things : Key → Option Thing) (place : ℕ → Option ℕ) (k : ℕ) (text : List ℕ) : Type 0 where
+  pub key : Key
+  pub thing : Thing
+  pub is : things key ≡ Some thing
+  pub at : place thing.home ≡ Some k
+  pub has : Has thing.values (Str text)
+
+-- The bytes of the texts that are wanted and not in the pool, each text once; so no order matters.
+pub record NewBytes (Wanted : List ℕ → Type 0) (s : Store) (n : ℕ) : Type 0 where
+  pub texts : List (List ℕ)
+  pub once : Distinct texts
+  pub these : (text : List ℕ) → Has texts text ↔ (Wanted text × (InPool s text → ⊥))
+  pub bytes : n ≡ text_bytes texts
