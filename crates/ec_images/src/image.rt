@@ -8,6 +8,8 @@ ghost use Rattle.ec_code_limits.specs.Limits.{HasLimits};
 ghost use Rattle.ec_faithful.specs.Faithful.{Faithful};
 ghost use Rattle.ec_faithful.specs.Frames.{slots};
 ghost use Rattle.ec_faithful.specs.Stops.{address_of};
+ghost use Rattle.ec_images.specs.Fits.{EachFits};
+ghost use Rattle.ec_laid_out.specs.Fitted.{CanRest, HasFew};
 ghost use Rattle.ec_micro.specs.Fitting.{NumbersFit};
 ghost use Rattle.ec_micro.specs.Speaks.{Speaks};
 ghost use Rattle.ec_stop_tables.specs.Addresses.{address_in};
@@ -49,6 +51,8 @@ pub fn build<K: Kind, M: Target>(
         slice_get o.code q ≡ Some line → NumbersFit line.op }
     ensures faithful { IfOk result
         (λ image. Faithful M.meaning parts.now image.code (all_homes image.table.operations)) }
+    ensures met { IfOk result (λ image. (d : Declared) → Fine d parts.now → CanRest M.meaning → HasFew d parts.now →
+        EachFits M.meaning parts.now image.code (all_homes image.table.operations)) }
     ensures tables { IfOk result (λ image. AreTablesOf K.homes slots parts.now image.table.operations) }
     ensures bound { IfOk result
         (λ image. (op n : ℕ) → address_in image.table.addresses op n ≡ address_of image.code op n) }

@@ -1,11 +1,11 @@
-use Rattle.std.proofs.Common.{◌≡◌, ◌∙◌, ap, sym, subst}
+use Rattle.std.proofs.Common.{◌≡◌, ap, sym, subst}
 use Rattle.ec_faithful.specs.Faithful.{Faithful}
-use Rattle.ec_faithful.specs.declared.code.Code.{Code}
 use Rattle.ec_images.proofs.Few.{has_few}
+use Rattle.ec_images.proofs.LaidOut.{can_be_laid_out}
 use Rattle.ec_images.proofs.image.build.Goals as goal
+use Rattle.ec_images.specs.Fits.{EachFits}
 use Rattle.ec_laid_out.proofs.Faithful.{faithful}
-use Rattle.ec_micro.specs.Fitting.{CanBeLaidOut, HomesFit}
-use Rattle.ec_micro.specs.Layout.{code_of}
+use Rattle.ec_laid_out.proofs.Fitted.{each_fit}
 use Rattle.ec_stop_tables.specs.Addresses.{AreApart, HasFew}
 use Rattle.ec_stop_tables.specs.Tables.{all_homes}
 
@@ -14,15 +14,9 @@ bind-requires-clause-apart g c =
     let vs = g.K.Kind.vocabularies in
     let p = c.args.parts.now in
     let homes = all_homes c.in_ok-table.table.operations in
-    let can : CanBeLaidOut g.M.Target.meaning vs homes c.requires.fine.0 p = record {
-      near = c.requires.near;
-      middle = c.requires.middle;
-      far = c.requires.far;
-      fine = c.requires.fine.1;
-      numbers = c.requires.numbers;
-      homes_fit = λ n o e. subst (λ k. HomesFit k homes n o) (sym c.requires.homes) (c.in_ok-code.ensures.fit n o e);
-      room = c.in_ok-code.ensures.room;
-    } in
+    let can =
+    can_be_laid_out g.M.Target.meaning vs homes c.requires.fine.0 p g.K.Kind.homes c.requires.near c.requires.middle c.requires.far
+    c.requires.homes c.requires.fine.1 c.requires.numbers c.in_ok-code.ensures.fit c.in_ok-code.ensures.room in
     let is = faithful g.M.Target.meaning vs homes c.requires.fine.0 p can in
     subst AreApart (sym c.in_ok-code.ensures.code) is.apart
 
@@ -36,16 +30,23 @@ returns-clause-faithful g c =
     let vs = g.K.Kind.vocabularies in
     let p = c.args.parts.now in
     let homes = all_homes c.in_ok-table.table.operations in
-    let can : CanBeLaidOut g.M.Target.meaning vs homes c.requires.fine.0 p = record {
-      near = c.requires.near;
-      middle = c.requires.middle;
-      far = c.requires.far;
-      fine = c.requires.fine.1;
-      numbers = c.requires.numbers;
-      homes_fit = λ n o e. subst (λ k. HomesFit k homes n o) (sym c.requires.homes) (c.in_ok-code.ensures.fit n o e);
-      room = c.in_ok-code.ensures.room;
-    } in
+    let can =
+    can_be_laid_out g.M.Target.meaning vs homes c.requires.fine.0 p g.K.Kind.homes c.requires.near c.requires.middle c.requires.far
+    c.requires.homes c.requires.fine.1 c.requires.numbers c.in_ok-code.ensures.fit c.in_ok-code.ensures.room in
     let is = faithful g.M.Target.meaning vs homes c.requires.fine.0 p can in
     let same : all_homes c.bind.new.self.operations ≡ homes = ap all_homes c.in_ok-bind.ensures.operations in
     subst (λ h. Faithful g.M.Target.meaning p c.in_ok-code.code h) (sym same)
     (subst (λ code. Faithful g.M.Target.meaning p code homes) (sym c.in_ok-code.ensures.code) is)
+
+pub returns-clause-met : goal.returns-clause-met
+returns-clause-met g c = λ d fine rests few.
+    let vs = g.K.Kind.vocabularies in
+    let p = c.args.parts.now in
+    let homes = all_homes c.in_ok-table.table.operations in
+    let can =
+    can_be_laid_out g.M.Target.meaning vs homes d p g.K.Kind.homes c.requires.near c.requires.middle c.requires.far c.requires.homes fine
+    c.requires.numbers c.in_ok-code.ensures.fit c.in_ok-code.ensures.room in
+    let same : all_homes c.bind.new.self.operations ≡ homes = ap all_homes c.in_ok-bind.ensures.operations in
+    subst (λ h. EachFits g.M.Target.meaning p c.in_ok-code.code h) (sym same)
+    (subst (λ code. EachFits g.M.Target.meaning p code homes) (sym c.in_ok-code.ensures.code)
+    (each_fit g.M.Target.meaning vs homes d p can rests few))
