@@ -1,1 +1,4 @@
+pub mod SameStops
+pub mod Few
+pub mod Literals
 pub mod Texts

@@ -4,6 +4,8 @@ ghost use Rattle.ec_compile.specs.Texts.{IsOfText};
 ghost use Rattle.ec_faithful.specs.Faithful.{Faithful};
 ghost use Rattle.ec_faithful.specs.Frames.{slots};
 ghost use Rattle.ec_faithful.specs.Stops.{address_of};
+ghost use Rattle.ec_images.specs.Fits.{EachFits};
+ghost use Rattle.ec_laid_out.specs.Fitted.{CanRest};
 ghost use Rattle.ec_lowered.specs.Lowered.{IsLowered};
 ghost use Rattle.ec_meaning.specs.Sources.{source_of};
 ghost use Rattle.ec_micro.specs.Speaks.{Speaks};
@@ -25,7 +27,8 @@ pub struct Compiled {
 }
 
 /// Compiles the program of an accepted text for a kind, whose words do on a machine what the steps do that they are of. Between any two
-/// stops the machine code does what the silent steps of the three-address code do. The error is want of memory.
+/// stops the machine code does what the silent steps of the three-address code do, and behind each stop there are states from which it
+/// is asked to. The error is want of memory.
 pub fn compile<K: Kind, M: Target>(
     alloc: Global,
     kind: &K,
@@ -35,10 +38,13 @@ pub fn compile<K: Kind, M: Target>(
     requires middle { Speaks M.meaning K.vocabularies.middle }
     requires far { Speaks M.meaning K.vocabularies.far }
     requires homes { M.meaning.homes ≡ K.homes }
+    requires rests { CanRest M.meaning }
     requires accepted { IsOfText (source_of program.now) }
     ensures lowered { IfOk result (λ made. IsLowered (source_of program.now) made.program) }
     ensures faithful { IfOk result
         (λ made. Faithful M.meaning made.program made.image.code (all_homes made.image.table.operations)) }
+    ensures met { IfOk result
+        (λ made. EachFits M.meaning made.program made.image.code (all_homes made.image.table.operations)) }
     ensures tables { IfOk result (λ made. AreTablesOf K.homes slots made.program made.image.table.operations) }
     ensures bound { IfOk result
         (λ made. (op n : ℕ) → address_in made.image.table.addresses op n ≡ address_of made.image.code op n) }

@@ -4,6 +4,7 @@ ghost use Rattle.ec_compile.specs.Texts.{IsOfText};
 ghost use Rattle.ec_faithful.specs.Faithful.{Faithful};
 ghost use Rattle.ec_faithful.specs.Frames.{slots};
 ghost use Rattle.ec_faithful.specs.Stops.{address_of};
+ghost use Rattle.ec_images.specs.Fits.{EachFits};
 ghost use Rattle.ec_lowered.specs.Lowered.{IsLowered};
 ghost use Rattle.ec_meaning.specs.Sources.{source_of};
 ghost use Rattle.ec_stop_tables.specs.Addresses.{address_in};
@@ -27,12 +28,14 @@ impl Target for RiscvMeaning {
 }
 
 /// Compiles the program of an accepted text for RISC-V. Between any two stops the machine code does what the silent steps of the
-/// three-address code do, without a trap. The error is want of memory.
+/// three-address code do, without a trap, and behind each stop there are states from which it does. The error is want of memory.
 pub fn compile_for_riscv(alloc: Global, program: &Program<'_>) -> Result<Compiled, AllocError>
     requires accepted { IsOfText (source_of program.now) }
     ensures lowered { IfOk result (λ made. IsLowered (source_of program.now) made.program) }
     ensures faithful { IfOk result
         (λ made. Faithful rv_meaning made.program made.image.code (all_homes made.image.table.operations)) }
+    ensures met { IfOk result
+        (λ made. EachFits rv_meaning made.program made.image.code (all_homes made.image.table.operations)) }
     ensures tables { IfOk result (λ made. AreTablesOf 10 slots made.program made.image.table.operations) }
     ensures bound { IfOk result
         (λ made. (op n : ℕ) → address_in made.image.table.addresses op n ≡ address_of made.image.code op n) }

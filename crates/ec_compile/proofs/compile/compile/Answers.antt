@@ -1,10 +1,13 @@
 -- Machine code can be made of what an accepted text is lowered to.
 use Rattle.std.proofs.Common.{sym, subst}
 use Rattle.ec_code_limits.specs.Limits.{HasLimits}
-use Rattle.ec_compile.proofs.Texts.{all_numbers_fit, text_has_limits, text_is_accepted}
+use Rattle.ec_compile.proofs.Few.{text_has_few}
+use Rattle.ec_compile.proofs.Texts.{all_numbers_fit, text_has_limits, text_is_accepted, text_is_fine}
 use Rattle.ec_compile.proofs.compile.compile.Goals as goal
-use Rattle.ec_lowered.specs.Lowered.{IsLowered}
+use Rattle.ec_images.specs.Fits.{EachFits}
+use Rattle.ec_lowered.specs.Lowered.{IsLowered, declared_of}
 use Rattle.ec_meaning.specs.Sources.{source_of}
+use Rattle.ec_stop_tables.specs.Tables.{all_homes}
 
 pub new-requires : goal.new-requires
 new-requires g c = record {
@@ -21,3 +24,13 @@ build-requires-clause-numbers g c =
     let s = source_of c.args.program.now in
     all_numbers_fit s c.requires.accepted c.parts.result.now
     (subst (IsLowered s) (sym c.parts.ensures.parts) c.in_ok-program.ensures.of_it)
+
+pub returns-clause-met : goal.returns-clause-met
+returns-clause-met g c =
+    let s = source_of c.args.program.now in
+    let p = c.parts.result.now in
+    let lowered : IsLowered s p = subst (IsLowered s) (sym c.parts.ensures.parts) c.in_ok-program.ensures.of_it in
+    let image = c.in_ok-image.image in
+    subst (λ q. EachFits g.M.Target.meaning q image.code (all_homes image.table.operations)) c.parts.ensures.parts
+    (c.in_ok-image.ensures.met (declared_of s) (text_is_fine s c.requires.accepted p lowered) c.requires.rests
+    (text_has_few s c.requires.accepted p lowered))

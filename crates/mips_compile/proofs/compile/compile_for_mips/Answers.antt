@@ -1,4 +1,5 @@
 -- The words of MIPS I do what their steps do.
+use Rattle.mips_compile.proofs.Resting.{mips_can_rest}
 use Rattle.mips_compile.proofs.compile.compile_for_mips.Goals as goal
 use Rattle.mips_words.proofs.Speaking.{far_speaks, near_speaks}
 
@@ -10,3 +11,6 @@ compile-requires-clause-middle c = far_speaks
 
 pub compile-requires-clause-far : goal.compile-requires-clause-far
 compile-requires-clause-far c = far_speaks
+
+pub compile-requires-clause-rests : goal.compile-requires-clause-rests
+compile-requires-clause-rests c = mips_can_rest

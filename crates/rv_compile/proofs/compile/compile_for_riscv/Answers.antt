@@ -1,4 +1,5 @@
 -- The words of RISC-V do what their steps do.
+use Rattle.rv_compile.proofs.Resting.{rv_can_rest}
 use Rattle.rv_compile.proofs.compile.compile_for_riscv.Goals as goal
 use Rattle.rv_words.proofs.Speaking.{far_speaks, middle_speaks, near_speaks}
 
@@ -10,3 +11,6 @@ compile-requires-clause-middle c = middle_speaks
 
 pub compile-requires-clause-far : goal.compile-requires-clause-far
 compile-requires-clause-far c = far_speaks
+
+pub compile-requires-clause-rests : goal.compile-requires-clause-rests
+compile-requires-clause-rests c = rv_can_rest
