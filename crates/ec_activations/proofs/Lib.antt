@@ -1,0 +1,5 @@
+pub mod Stops
+pub mod Meeting
+pub mod Words
+pub mod Frames
+pub mod ValueByValue
