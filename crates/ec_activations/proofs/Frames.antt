@@ -92,7 +92,9 @@ module _ (d : Declared) (p : Parts) (fine : Fine d p) (limits : HasLimits p) (a 
     IsBehind x = (st.row.into ≡ Some x) ⊎ (IsIn x (live_in st.line) × IsIn x after)
 
     behind_column : (x : Variable) → IsBehind x → HasColumn (length o.variables) x
-    behind_column x (inl h) = (small.lines a.at st.line st.is_line).written x (writes_into d p a.operation o (fine.operations a.operation o is) a.at st.line st.row st.is_line st.is_row ∙ h)
+    behind_column x (inl h) =
+        (small.lines a.at st.line st.is_line).written x
+        (writes_into d p a.operation o (fine.operations a.operation o is) a.at st.line st.row st.is_line st.is_row ∙ h)
     behind_column x (inr h) = (small.lines a.at st.line st.is_line).live x h.0
 
     behind_meet : (x y : Variable) → IsBehind x → IsBehind y → x ≢ y → Meet o.code x y

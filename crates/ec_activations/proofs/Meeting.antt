@@ -108,14 +108,16 @@ going_on d p number o stop.End T h e = absurd (true≢false (sym e))
 going_on d p number o (stop.Fail why line) T h e = absurd (true≢false (sym e))
 going_on d p number o s T h e = h
 
-written_by : (d : Declared) (p : Parts) (x : Variable) (given : Option StaticType) (into : Option Variable) (t : StaticType) → is_written into x ≡ false →
+written_by : (d : Declared) (p : Parts) (x : Variable) (given : Option StaticType) (into : Option Variable) (t : StaticType) →
+    is_written into x ≡ false →
     IsGiven d p given into x t → ⊥
 written_by d p x given None t e g = cc (g.2)
 written_by d p x given (Some y) t e g =
     let same : y ≡ x = same_Some y x g.2 in
     true≢false (sym (ap (is_same x) same ∙ is_same_self x) ∙ e)
 
-have_operand : (d : Declared) (p : Parts) (live : List Live) (xs : List Variable) (ts : List StaticType) → HaveTypes d p live xs ts → (x : Variable) → IsIn x xs →
+have_operand : (d : Declared) (p : Parts) (live : List Live) (xs : List Variable) (ts : List StaticType) → HaveTypes d p live xs ts →
+    (x : Variable) → IsIn x xs →
     IsIn x (map (λ l. l.variable) live)
 have_operand d p live [] ts h x i = absurd i
 have_operand d p live (y ∷ xs) [] h x i = absurd h
@@ -154,7 +156,9 @@ module _ (d : Declared) (p : Parts) (number : ℕ) (o : Operation) (fine : FineO
       IsIn l.variable (live_in line) × IsIn l.variable (live_first (drop (suc q) o.code))
   listed true l s h =
       let w = in_without row.into (live_at o.code (suc q)) l (rw s at h) in
-      let behind = going_on d p number o row.stop (IsTaken d p row.gives row.into × Behind d p (drop (suc q) o.code) row.gives row.into line.live) typed.behind s in
+      let behind =
+      going_on d p number o row.stop
+      (IsTaken d p row.gives row.into × Behind d p (drop (suc q) o.code) row.gives row.into line.live) typed.behind s in
       let start : IsIn l (live_at (drop (suc q) o.code) 0) = subst (λ z. IsIn l z) (sym (live_at_start o.code (suc q))) w.0 in
       let both = behind.1.1 l.variable l.of start in (
         ⊎_elim

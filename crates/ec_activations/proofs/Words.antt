@@ -69,7 +69,8 @@ module _ (p : Parts) (a : CodeActivation) (named registers : ℕ) (code : List L
       let second : home_word j.0 ≡ at = same_Some (home_word j.0) at (sym (ap (option_map home_word) j.1) ∙ f) in
       let homes : g.0 ≡ j.0 =
       one_home g.0 j.0 100 (within_twenty registers 100 g.0 few g.2) (within_twenty registers 100 j.0 few j.2) (first ∙ sym second) in
-      absurd (are.apart h.variable k.variable g.0 j.0 (meet h.variable k.variable is.1 js.1 ne) (c.is_variable, g.1) (b.is_variable, j.1) homes))
+      absurd
+      (are.apart h.variable k.variable g.0 j.0 (meet h.variable k.variable is.1 js.1 ne) (c.is_variable, g.1) (b.is_variable, j.1) homes))
       (one_variable h.variable k.variable)
 
 -- ---- what is held at a stop
@@ -97,7 +98,8 @@ in_typed live (x ∷ xs) l (inl e) = inl (ap (λ (k : Live). k.variable) e ∙ t
 in_typed live (x ∷ xs) l (inr h) = inr (in_typed live xs l h)
 
 -- the variable that takes what a stop gives
-pub result_variable : (into : Option Variable) (given : Option StaticType) (l : Live) → result_of into given ≡ Some l → into ≡ Some l.variable
+pub result_variable : (into : Option Variable) (given : Option StaticType) (l : Live) → result_of into given ≡ Some l →
+    into ≡ Some l.variable
 result_variable None None l e = absurd cc
 result_variable None (Some t) l e = absurd cc
 result_variable (Some x) None l e = absurd cc

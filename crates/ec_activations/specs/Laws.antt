@@ -33,7 +33,8 @@ pub record AreHomesOf (d : Declared) (p : Parts) (kind : Kind) (homes : Kind →
 -- Each value has a word of the frame, behind the headings, or as the reference to the own object.
 abbrev pub EachValueHasAWord : Type 0
 EachValueHasAWord =
-    (d : Declared) (p : Parts) (kind : Kind) (homes : Kind → List (List Home)) (process depth : ℕ) (a : CodeActivation) (i : ℕ) (v : Value) →
+    (d : Declared) (p : Parts) (kind : Kind) (homes : Kind → List (List Home)) (process depth : ℕ) (a : CodeActivation) (i : ℕ)
+    (v : Value) →
     AreHomesOf d p kind homes →
     slice_get (frame_thing p homes process depth a).values i ≡ Some v →
     (at : ℕ) × ((frame_thing p homes process depth a).spot kind i ≡ Some at) × (6 ≤ at)

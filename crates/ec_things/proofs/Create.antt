@@ -63,7 +63,8 @@ module _ {A : Type 0} (frame : ℕ → ℕ → A → Thing) where
             let t : total (object_weight frame place j) 0 (w.common.objects ++ o ∷ []) ≡ total (object_weight frame place j) 0
             w.common.objects + object_weight frame place j (length w.common.objects) o =
             total_push (object_weight frame place j) 0 w.common.objects (length w.common.objects) o (omega arith) in
-            let u : object_weight frame place j (length w.common.objects) o ≡ if_at j (blocks_of o) (Some k) = ap (if_at j (blocks_of o)) at in
+            let u : object_weight frame place j (length w.common.objects) o ≡ if_at j (blocks_of o) (Some k) =
+            ap (if_at j (blocks_of o)) at in
             rw none (omega (arith, t, u, if_none j k));
         old_at = rw none tt;
         new_at = at;

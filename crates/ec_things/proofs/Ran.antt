@@ -22,7 +22,8 @@ module _ {A : Type 0} (frame : ℕ → ℕ → A → Thing) (place : ℕ → Opt
     (w : World A) (i p d k : ℕ) (o o' : ObjectRec) (proc proc' : Proc A) (a a' : A)
     (object_is : slice_get w.common.objects i ≡ Some o) (is : slice_get w.processes p ≡ Some proc)
     (top : slice_get proc.activations d ≡ Some a) (next : proc'.activations ≡ slice_set proc.activations d a')
-    (own : (frame p d a).home ≡ suc i) (own' : (frame p d a').home ≡ suc i) (at : place (suc i) ≡ Some k) (size : blocks_of o' ≡ blocks_of o) where
+    (own : (frame p d a).home ≡ suc i) (own' : (frame p d a').home ≡ suc i) (at : place (suc i) ≡ Some k)
+    (size : blocks_of o' ≡ blocks_of o) where
   abbrev w' : World A
   w' = ran_world w i o' p proc'
 

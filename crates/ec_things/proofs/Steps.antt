@@ -53,8 +53,8 @@ module _ {A : Type 0} (frame : ℕ → ℕ → A → Thing) (place : ℕ → Opt
           (λ (at : q ≢ p). ap (frame_if frame q e) (activation_there w.processes p q e proc' at))
           (same_or_not q p)
 
-  held_put : (j : ℕ) → Held frame place j (with_process w c p proc') + process_weight frame place j p proc ≡ Held frame place j w + process_weight frame place j
-      p proc'
+  held_put : (j : ℕ) → Held frame place j (with_process w c p proc') + process_weight frame place j p proc ≡ Held frame place j w
+      + process_weight frame place j p proc'
   held_put j =
       let t : total (process_weight frame place j) 0 (slice_set w.processes p proc') + process_weight frame place j p proc ≡ total
       (process_weight frame place j) 0 w.processes + process_weight frame place j p proc' =

@@ -25,7 +25,8 @@ pub if_elsewhere : (j k n : ℕ) → j ≢ k → if_at j n (Some k) ≡ 0
 if_elsewhere j k n h = grind arith
 
 pub global_kept : (s s' : Store) (i : ℕ) (v : Value) → Grown s s' → GlobalStands s i v → GlobalStands s' i v
-global_kept s s' i v g h = record { word = h.word; there = g.global i ∙ h.there; stands = stands_kept s s' (carries_of s s' g) v h.word h.stands }
+global_kept s s' i v g h =
+    record { word = h.word; there = g.global i ∙ h.there; stands = stands_kept s s' (carries_of s s' g) v h.word h.stands }
 
 -- the blocks of what stands there
 pub row_size_is : (nodes : ℕ → Option Store) (things : Key → Option Thing) (place : ℕ → Option ℕ) → ShowsThings nodes things place →

@@ -9,8 +9,8 @@ use Rattle.mips_words.specs.Meaning.{mips_meaning}
 -- $16 to $21, $23 and $30
 abbrev registers_with : ℕ → ℕ → (ℕ → ℕ) → List ℕ
 registers_with frame own held =
-    0 ∷ 0 ∷ 0 ∷ 0 ∷ 0 ∷ 0 ∷ 0 ∷ 0 ∷ 0 ∷ 0 ∷ 0 ∷ 0 ∷ 0 ∷ 0 ∷ 0 ∷ 0 ∷ held 0 ∷ held 1 ∷ held 2 ∷ held 3 ∷ held 4 ∷ held 5 ∷ 0 ∷ own ∷ 0 ∷ 0 ∷ 0 ∷ 0
-    ∷ 0 ∷ 0 ∷ frame ∷ 0 ∷ []
+    0 ∷ 0 ∷ 0 ∷ 0 ∷ 0 ∷ 0 ∷ 0 ∷ 0 ∷ 0 ∷ 0 ∷ 0 ∷ 0 ∷ 0 ∷ 0 ∷ 0 ∷ 0
+    ∷ held 0 ∷ held 1 ∷ held 2 ∷ held 3 ∷ held 4 ∷ held 5 ∷ 0 ∷ own ∷ 0 ∷ 0 ∷ 0 ∷ 0 ∷ 0 ∷ 0 ∷ frame ∷ 0 ∷ []
 
 many_registers : (frame own : ℕ) (held : ℕ → ℕ) → 32 ≤ length (registers_with frame own held)
 many_registers frame own held = let all : length (registers_with frame own held) ≡ 32 = refl in omega (arith, all)

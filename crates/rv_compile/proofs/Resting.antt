@@ -8,8 +8,8 @@ use Rattle.rv_words.specs.Meaning.{rv_meaning}
 -- x8, x9, and x18 to x27
 abbrev registers_with : ℕ → ℕ → (ℕ → ℕ) → List ℕ
 registers_with frame own held =
-    0 ∷ 0 ∷ 0 ∷ 0 ∷ 0 ∷ 0 ∷ 0 ∷ 0 ∷ frame ∷ own ∷ 0 ∷ 0 ∷ 0 ∷ 0 ∷ 0 ∷ 0 ∷ 0 ∷ 0 ∷ held 0 ∷ held 1 ∷ held 2 ∷ held 3 ∷ held 4 ∷ held 5 ∷ held 6
-    ∷ held 7 ∷ held 8 ∷ held 9 ∷ 0 ∷ 0 ∷ 0 ∷ 0 ∷ []
+    0 ∷ 0 ∷ 0 ∷ 0 ∷ 0 ∷ 0 ∷ 0 ∷ 0 ∷ frame ∷ own ∷ 0 ∷ 0 ∷ 0 ∷ 0 ∷ 0 ∷ 0
+    ∷ 0 ∷ 0 ∷ held 0 ∷ held 1 ∷ held 2 ∷ held 3 ∷ held 4 ∷ held 5 ∷ held 6 ∷ held 7 ∷ held 8 ∷ held 9 ∷ 0 ∷ 0 ∷ 0 ∷ 0 ∷ []
 
 many_registers : (frame own : ℕ) (held : ℕ → ℕ) → 32 ≤ length (registers_with frame own held)
 many_registers frame own held = let all : length (registers_with frame own held) ≡ 32 = refl in omega (arith, all)

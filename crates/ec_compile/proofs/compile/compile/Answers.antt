@@ -17,7 +17,8 @@ new-requires g c = record {
 pub build-requires-clause-limits : goal.build-requires-clause-limits
 build-requires-clause-limits g c =
     let s = source_of c.args.program.now in
-    subst HasLimits (sym c.parts.ensures.parts) (text_has_limits s c.requires.accepted c.in_ok-program.program c.in_ok-program.ensures.of_it)
+    subst HasLimits (sym c.parts.ensures.parts)
+    (text_has_limits s c.requires.accepted c.in_ok-program.program c.in_ok-program.ensures.of_it)
 
 pub build-requires-clause-numbers : goal.build-requires-clause-numbers
 build-requires-clause-numbers g c =
