@@ -1,0 +1,5 @@
+//! Which node each object is at.
+#![tactic(auto)]
+
+pub mod directory;
+pub mod laws;
