@@ -11,13 +11,13 @@ use std::alloc::Global;
 use std::io;
 
 /// The first two homes that are registers, and two that are slots.
-const R0: Home = Home::Register(0);
+const FIRST: Home = Home::Register(0);
 
-const R1: Home = Home::Register(1);
+const SECOND: Home = Home::Register(1);
 
-const S0: Home = Home::Slot(0);
+const SLOT: Home = Home::Slot(0);
 
-const S3: Home = Home::Slot(3);
+const FAR_SLOT: Home = Home::Slot(3);
 
 /// Prints words under a name.
 pub fn print_words(rt: &impl Print, name: &str, words: &Seq<u32>) -> io::Result<()> {
@@ -60,8 +60,8 @@ fn print_moves<K: Kind>(rt: &impl Print, alloc: Global, kind: &K) -> io::Result<
         kind,
         "r0 <- r1",
         Step::Move {
-            into: R0,
-            from: Source::Home(R1),
+            into: FIRST,
+            from: Source::Home(SECOND),
         },
     )?;
     show(
@@ -70,8 +70,8 @@ fn print_moves<K: Kind>(rt: &impl Print, alloc: Global, kind: &K) -> io::Result<
         kind,
         "r0 <- s0",
         Step::Move {
-            into: R0,
-            from: Source::Home(S0),
+            into: FIRST,
+            from: Source::Home(SLOT),
         },
     )?;
     show(
@@ -80,8 +80,8 @@ fn print_moves<K: Kind>(rt: &impl Print, alloc: Global, kind: &K) -> io::Result<
         kind,
         "s3 <- r1",
         Step::Move {
-            into: S3,
-            from: Source::Home(R1),
+            into: FAR_SLOT,
+            from: Source::Home(SECOND),
         },
     )?;
     show(
@@ -90,8 +90,8 @@ fn print_moves<K: Kind>(rt: &impl Print, alloc: Global, kind: &K) -> io::Result<
         kind,
         "s3 <- s0",
         Step::Move {
-            into: S3,
-            from: Source::Home(S0),
+            into: FAR_SLOT,
+            from: Source::Home(SLOT),
         },
     )
 }
@@ -106,7 +106,7 @@ fn print_numbers<K: Kind>(rt: &impl Print, alloc: Global, kind: &K) -> io::Resul
         kind,
         "r0 <- 7",
         Step::Move {
-            into: R0,
+            into: FIRST,
             from: Source::Word(7),
         },
     )?;
@@ -116,7 +116,7 @@ fn print_numbers<K: Kind>(rt: &impl Print, alloc: Global, kind: &K) -> io::Resul
         kind,
         "r0 <- -1",
         Step::Move {
-            into: R0,
+            into: FIRST,
             from: Source::Word(0xFFFF_FFFF),
         },
     )?;
@@ -126,7 +126,7 @@ fn print_numbers<K: Kind>(rt: &impl Print, alloc: Global, kind: &K) -> io::Resul
         kind,
         "r0 <- 0x12345678",
         Step::Move {
-            into: R0,
+            into: FIRST,
             from: Source::Word(0x1234_5678),
         },
     )?;
@@ -136,7 +136,7 @@ fn print_numbers<K: Kind>(rt: &impl Print, alloc: Global, kind: &K) -> io::Resul
         kind,
         "r0 <- 0x1234f678",
         Step::Move {
-            into: R0,
+            into: FIRST,
             from: Source::Word(0x1234_F678),
         },
     )?;
@@ -146,7 +146,7 @@ fn print_numbers<K: Kind>(rt: &impl Print, alloc: Global, kind: &K) -> io::Resul
         kind,
         "r0 <- 0x12345fff",
         Step::Move {
-            into: R0,
+            into: FIRST,
             from: Source::Word(0x1234_5FFF),
         },
     )?;
@@ -156,7 +156,7 @@ fn print_numbers<K: Kind>(rt: &impl Print, alloc: Global, kind: &K) -> io::Resul
         kind,
         "r0 <- 0x70000000",
         Step::Move {
-            into: R0,
+            into: FIRST,
             from: Source::Word(0x7000_0000),
         },
     )?;
@@ -166,7 +166,7 @@ fn print_numbers<K: Kind>(rt: &impl Print, alloc: Global, kind: &K) -> io::Resul
         kind,
         "s3 <- 0",
         Step::Move {
-            into: S3,
+            into: FAR_SLOT,
             from: Source::Word(0),
         },
     )
@@ -176,14 +176,29 @@ fn print_numbers<K: Kind>(rt: &impl Print, alloc: Global, kind: &K) -> io::Resul
 fn print_loads<K: Kind>(rt: &impl Print, alloc: Global, kind: &K) -> io::Result<()>
     requires { 1 < K.homes }
 {
-    show(rt, alloc, kind, "r0 <- itself", Step::Itself { into: R0 })?;
-    show(rt, alloc, kind, "s3 <- itself", Step::Itself { into: S3 })?;
+    show(
+        rt,
+        alloc,
+        kind,
+        "r0 <- itself",
+        Step::Itself { into: FIRST },
+    )?;
+    show(
+        rt,
+        alloc,
+        kind,
+        "s3 <- itself",
+        Step::Itself { into: FAR_SLOT },
+    )?;
     show(
         rt,
         alloc,
         kind,
         "r0 <- field 5",
-        Step::Field { into: R0, field: 5 },
+        Step::Field {
+            into: FIRST,
+            field: 5,
+        },
     )?;
     show(
         rt,
@@ -192,7 +207,7 @@ fn print_loads<K: Kind>(rt: &impl Print, alloc: Global, kind: &K) -> io::Result<
         "field 5 <- r1",
         Step::SetField {
             field: 5,
-            from: Source::Home(R1),
+            from: Source::Home(SECOND),
         },
     )?;
     show(
@@ -202,7 +217,7 @@ fn print_loads<K: Kind>(rt: &impl Print, alloc: Global, kind: &K) -> io::Result<
         "field 5 <- s0",
         Step::SetField {
             field: 5,
-            from: Source::Home(S0),
+            from: Source::Home(SLOT),
         },
     )?;
     show(
@@ -210,7 +225,10 @@ fn print_loads<K: Kind>(rt: &impl Print, alloc: Global, kind: &K) -> io::Result<
         alloc,
         kind,
         "r0 <- constant 3",
-        Step::Constant { into: R0, index: 3 },
+        Step::Constant {
+            into: FIRST,
+            index: 3,
+        },
     )
 }
 
@@ -225,9 +243,9 @@ fn print_sums<K: Kind>(rt: &impl Print, alloc: Global, kind: &K) -> io::Result<(
         "r0 <- r0 + r1",
         Step::Work {
             how: Arithmetic::Sum,
-            into: R0,
-            left: Source::Home(R0),
-            right: Source::Home(R1),
+            into: FIRST,
+            left: Source::Home(FIRST),
+            right: Source::Home(SECOND),
         },
     )?;
     show(
@@ -237,8 +255,8 @@ fn print_sums<K: Kind>(rt: &impl Print, alloc: Global, kind: &K) -> io::Result<(
         "r0 <- r1 + 1",
         Step::Work {
             how: Arithmetic::Sum,
-            into: R0,
-            left: Source::Home(R1),
+            into: FIRST,
+            left: Source::Home(SECOND),
             right: Source::Word(1),
         },
     )?;
@@ -249,9 +267,9 @@ fn print_sums<K: Kind>(rt: &impl Print, alloc: Global, kind: &K) -> io::Result<(
         "r0 <- 1 + r1",
         Step::Work {
             how: Arithmetic::Sum,
-            into: R0,
+            into: FIRST,
             left: Source::Word(1),
-            right: Source::Home(R1),
+            right: Source::Home(SECOND),
         },
     )?;
     show(
@@ -261,9 +279,9 @@ fn print_sums<K: Kind>(rt: &impl Print, alloc: Global, kind: &K) -> io::Result<(
         "s3 <- s0 + r1",
         Step::Work {
             how: Arithmetic::Sum,
-            into: S3,
-            left: Source::Home(S0),
-            right: Source::Home(R1),
+            into: FAR_SLOT,
+            left: Source::Home(SLOT),
+            right: Source::Home(SECOND),
         },
     )?;
     show(
@@ -273,9 +291,9 @@ fn print_sums<K: Kind>(rt: &impl Print, alloc: Global, kind: &K) -> io::Result<(
         "r0 <- s0 + s3",
         Step::Work {
             how: Arithmetic::Sum,
-            into: R0,
-            left: Source::Home(S0),
-            right: Source::Home(S3),
+            into: FIRST,
+            left: Source::Home(SLOT),
+            right: Source::Home(FAR_SLOT),
         },
     )?;
     show(
@@ -285,8 +303,8 @@ fn print_sums<K: Kind>(rt: &impl Print, alloc: Global, kind: &K) -> io::Result<(
         "r0 <- r1 + 100000",
         Step::Work {
             how: Arithmetic::Sum,
-            into: R0,
-            left: Source::Home(R1),
+            into: FIRST,
+            left: Source::Home(SECOND),
             right: Source::Word(100_000),
         },
     )?;
@@ -297,9 +315,9 @@ fn print_sums<K: Kind>(rt: &impl Print, alloc: Global, kind: &K) -> io::Result<(
         "r0 <- r0 - r1",
         Step::Work {
             how: Arithmetic::Difference,
-            into: R0,
-            left: Source::Home(R0),
-            right: Source::Home(R1),
+            into: FIRST,
+            left: Source::Home(FIRST),
+            right: Source::Home(SECOND),
         },
     )?;
     show(
@@ -309,8 +327,8 @@ fn print_sums<K: Kind>(rt: &impl Print, alloc: Global, kind: &K) -> io::Result<(
         "r0 <- r1 - 1",
         Step::Work {
             how: Arithmetic::Difference,
-            into: R0,
-            left: Source::Home(R1),
+            into: FIRST,
+            left: Source::Home(SECOND),
             right: Source::Word(1),
         },
     )
@@ -327,9 +345,9 @@ fn print_products<K: Kind>(rt: &impl Print, alloc: Global, kind: &K) -> io::Resu
         "r0 <- r0 * r1",
         Step::Work {
             how: Arithmetic::Product,
-            into: R0,
-            left: Source::Home(R0),
-            right: Source::Home(R1),
+            into: FIRST,
+            left: Source::Home(FIRST),
+            right: Source::Home(SECOND),
         },
     )?;
     show(
@@ -339,9 +357,9 @@ fn print_products<K: Kind>(rt: &impl Print, alloc: Global, kind: &K) -> io::Resu
         "r0 <- r0 / r1",
         Step::Work {
             how: Arithmetic::Quotient,
-            into: R0,
-            left: Source::Home(R0),
-            right: Source::Home(R1),
+            into: FIRST,
+            left: Source::Home(FIRST),
+            right: Source::Home(SECOND),
         },
     )?;
     show(
@@ -351,8 +369,8 @@ fn print_products<K: Kind>(rt: &impl Print, alloc: Global, kind: &K) -> io::Resu
         "r0 <- r0 # 10",
         Step::Work {
             how: Arithmetic::Remainder,
-            into: R0,
-            left: Source::Home(R0),
+            into: FIRST,
+            left: Source::Home(FIRST),
             right: Source::Word(10),
         },
     )
@@ -368,11 +386,11 @@ fn print_orders<K: Kind>(rt: &impl Print, alloc: Global, kind: &K) -> io::Result
         kind,
         "r0 <- r0 < r1",
         Step::Decide {
-            into: R0,
+            into: FIRST,
             question: Question {
                 relation: Relation::Less,
-                left: Source::Home(R0),
-                right: Source::Home(R1),
+                left: Source::Home(FIRST),
+                right: Source::Home(SECOND),
                 wanted: true,
             },
         },
@@ -383,10 +401,10 @@ fn print_orders<K: Kind>(rt: &impl Print, alloc: Global, kind: &K) -> io::Result
         kind,
         "r0 <- r0 < 10",
         Step::Decide {
-            into: R0,
+            into: FIRST,
             question: Question {
                 relation: Relation::Less,
-                left: Source::Home(R0),
+                left: Source::Home(FIRST),
                 right: Source::Word(10),
                 wanted: true,
             },
@@ -398,11 +416,11 @@ fn print_orders<K: Kind>(rt: &impl Print, alloc: Global, kind: &K) -> io::Result
         kind,
         "r0 <- not r0 < r1",
         Step::Decide {
-            into: R0,
+            into: FIRST,
             question: Question {
                 relation: Relation::Less,
-                left: Source::Home(R0),
-                right: Source::Home(R1),
+                left: Source::Home(FIRST),
+                right: Source::Home(SECOND),
                 wanted: false,
             },
         },
@@ -419,11 +437,11 @@ fn print_sameness<K: Kind>(rt: &impl Print, alloc: Global, kind: &K) -> io::Resu
         kind,
         "r0 <- r0 = r1",
         Step::Decide {
-            into: R0,
+            into: FIRST,
             question: Question {
                 relation: Relation::Same,
-                left: Source::Home(R0),
-                right: Source::Home(R1),
+                left: Source::Home(FIRST),
+                right: Source::Home(SECOND),
                 wanted: true,
             },
         },
@@ -434,10 +452,10 @@ fn print_sameness<K: Kind>(rt: &impl Print, alloc: Global, kind: &K) -> io::Resu
         kind,
         "r0 <- not r0 = 0",
         Step::Decide {
-            into: R0,
+            into: FIRST,
             question: Question {
                 relation: Relation::Same,
-                left: Source::Home(R0),
+                left: Source::Home(FIRST),
                 right: Source::Word(0),
                 wanted: false,
             },
@@ -449,11 +467,11 @@ fn print_sameness<K: Kind>(rt: &impl Print, alloc: Global, kind: &K) -> io::Resu
         kind,
         "s3 <- 5 = r0",
         Step::Decide {
-            into: S3,
+            into: FAR_SLOT,
             question: Question {
                 relation: Relation::Same,
                 left: Source::Word(5),
-                right: Source::Home(R0),
+                right: Source::Home(FIRST),
                 wanted: true,
             },
         },
