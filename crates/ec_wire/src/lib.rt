@@ -8,17 +8,17 @@ ghost use Rattle.ec_wire.specs.Answers.{IfRefused, Answers};
 ghost use Rattle.ec_wire.specs.WireForm.{parcel as wire_form, IsWire};
 ghost use Rattle.ec_wire.specs.declared.parcel.Contents.{Contents as TheContents};
 
+mod contents;
 pub mod error;
-mod fields;
+pub mod fields;
 pub mod laws;
 pub mod parcel;
-mod whole;
 
+use contents::{put_contents, read_contents};
 use ec_formats::error::FieldError;
 use error::{ReadError, WireError};
 use parcel::Parcel;
 use std::alloc::{AllocError, Global};
-use whole::{put_contents, read_contents};
 
 /// The bytes of a parcel.
 pub fn write(alloc: Global, parcel: &Parcel) -> Result<Vec<u8>, AllocError>
@@ -52,3 +52,5 @@ pub fn read(alloc: Global, bytes: &[u8]) -> Result<Parcel, ReadError>
     }
 }
 
+#[cfg(test)]
+mod tests;
