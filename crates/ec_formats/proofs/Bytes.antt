@@ -1,5 +1,5 @@
 -- Lists of bytes, and what was taken from their front.
-use Rattle.std.proofs.Common.{◌≡◌, ℕ, suc, ◌+◌, ◌<◌, ◌≤◌, List, ◌∷◌, ◌++◌, length, take, drop, get_or, sym, ap, ◌∙◌, append_assoc, arith, inl, inr}
+use Rattle.std.proofs.Common.{◌≡◌, ℕ, suc, ◌+◌, ◌≤◌, List, ◌∷◌, ◌++◌, length, take, drop, sym, ap, ◌∙◌, append_assoc, arith, inl, inr}
 use Rattle.std.proofs.lemmas.Bool.{cases_lt}
 use Rattle.std.proofs.lemmas.List.{length-append, length-take, get_or-drop, get_or-take, get_or_past}
 use Rattle.ec_formats.specs.Format.{IsBytes, Takes}
@@ -20,9 +20,9 @@ IsBytes-rest b bytes h i = h (suc i)
 -- one spelling behind another
 pub Takes-then : (a x b y c : List ℕ) → Takes a x b → Takes b y c → Takes a (x ++ y) c
 Takes-then a x b y c p q = record {
-    parts = p.parts ∙ ap (λ (t : List ℕ). x ++ t) q.parts ∙ sym (append_assoc x y c);
-    rest_fits = q.rest_fits;
-  }
+  parts = p.parts ∙ ap (λ (t : List ℕ). x ++ t) q.parts ∙ sym (append_assoc x y c);
+  rest_fits = q.rest_fits;
+}
 
 -- one byte before a spelling
 pub Takes-behind : (b : ℕ) (bytes spelling rest : List ℕ) → Takes bytes spelling rest → Takes (b ∷ bytes) (b ∷ spelling) rest

@@ -1,5 +1,5 @@
 -- The laws of single fields.
-use Rattle.std.proofs.Common.{◌≡◌, ℕ, zero, suc, ◌+◌, ◌^◌, ◌<◌, ◌≤◌, Bool, true, false, ◌&&◌, cond, ltb, ◌-◌, List, [], ◌∷◌, ◌++◌, length, take, drop, Result, Ok, Err, refl, sym, ap, subst, ◌∙◌, append_assoc, arith, inl, inr}
+use Rattle.std.proofs.Common.{◌≡◌, ℕ, zero, suc, ◌^◌, ◌<◌, ◌≤◌, Bool, true, false, ◌&&◌, cond, ltb, ◌-◌, List, [], ◌∷◌, ◌++◌, length, take, drop, Ok, Err, refl, sym, ap, subst, ◌∙◌, append_assoc, arith, inl, inr}
 use Rattle.std.specs.Prelude.{ℤ, pos, negsuc, nat_eq}
 use Rattle.std.specs.List.{starts_with}
 use Rattle.std.specs.Cmp.Lexicographic.{pointwise}
@@ -8,7 +8,7 @@ use Rattle.std.proofs.lemmas.Bool.{ltb-false, ltb-true, le-ltb, lt-ltb, eqb-true
 use Rattle.std.proofs.lemmas.Int.{of_z-to_z, to_z-of_z}
 use Rattle.std.proofs.lemmas.List.{take_at, drop_at, take-append-drop, length-append, length-take}
 use Rattle.std.proofs.lemmas.Nat.{be_bytes_4, from_be_bytes-to_be_bytes_4}
-use Rattle.ec_formats.specs.Format.{◌>>=◌, Format, Read, IsBytes, Takes, IsLawful}
+use Rattle.ec_formats.specs.Format.{Read, IsBytes, Takes, IsLawful}
 use Rattle.ec_formats.specs.Combinators.{such_that}
 use Rattle.ec_formats.specs.Fields.{byte_at, byte, number_at, word, number, at_most, at_least, above, number_up_to, number_from, number_above, mark, integer_fits, integer, truth_of, number_of_truth, truth, text_at, text}
 use Rattle.ec_formats.proofs.Bytes.{IsBytes-drop, IsBytes-take, IsBytes-rest, Takes-then, rest_within}
@@ -21,7 +21,7 @@ byte_takes : (bytes : List ℕ) (x : ℕ × List ℕ) → IsBytes bytes → byte
 byte_takes [] x fits e = absurd cc
 byte_takes (b ∷ bytes) x fits e =
     subst (λ (y : ℕ × List ℕ). Takes (b ∷ bytes) (y.0 ∷ []) y.1 × (ltb y.0 256 ≡ true)) (ok_is (b, bytes) x e)
-      (record { parts = refl; rest_fits = IsBytes-rest b bytes fits }, lt-ltb _ _ (fits 0))
+    (record { parts = refl; rest_fits = IsBytes-rest b bytes fits }, lt-ltb _ _ (fits 0))
 
 byte_within : (bytes : List ℕ) (left : ℕ) → IsBytes bytes → byte_at bytes ≡ Err left → left ≤ length bytes
 byte_within [] left fits e = let none : 0 ≡ left = cc in omega arith
@@ -32,7 +32,8 @@ byte_law = record { takes = byte_takes; again = λ b rest h. refl; within = byte
 
 -- numbers
 
-number_takes : (bytes : List ℕ) (x : ℕ × List ℕ) → IsBytes bytes → number_at bytes ≡ Ok x → Takes bytes (word x.0) x.1 × (ltb x.0 (2 ^ 32) ≡ true)
+number_takes : (bytes : List ℕ) (x : ℕ × List ℕ) → IsBytes bytes → number_at bytes ≡ Ok x
+    → Takes bytes (word x.0) x.1 × (ltb x.0 (2 ^ 32) ≡ true)
 unfolding word
 number_takes bytes x fits e =
     let g = guarded (ltb (length bytes) 4) (length bytes) (from_be_bytes w32 (take 4 bytes), drop 4 bytes) x e in
@@ -41,22 +42,31 @@ number_takes bytes x fits e =
     let small = IsBytes-take 4 bytes fits in
     let front : to_be_bytes w32 (from_be_bytes w32 (take 4 bytes)) ≡ take 4 bytes = be_bytes_4 (take 4 bytes) _ len small refl in
     let below : from_be_bytes w32 (take 4 bytes) < 2 ^ 32 = omega (arith, small 0, small 1, small 2, small 3) in
-    subst (λ (y : ℕ × List ℕ). Takes bytes (to_be_bytes w32 y.0) y.1 × (ltb y.0 (2 ^ 32) ≡ true)) g.1
-      (record { parts = sym (ap (λ (t : List ℕ). t ++ drop 4 bytes) front ∙ take-append-drop 4 bytes); rest_fits = IsBytes-drop 4 bytes fits }, lt-ltb _ _ below)
+    subst (λ (y : ℕ × List ℕ). Takes bytes (to_be_bytes w32 y.0) y.1 × (ltb y.0 (2 ^ 32) ≡ true)) g.1 (
+      record {
+        parts = sym (ap (λ (t : List ℕ). t ++ drop 4 bytes) front ∙ take-append-drop 4 bytes);
+        rest_fits =
+            IsBytes-drop 4 bytes fits;
+      },
+      lt-ltb _ _ below,
+    )
 
 front_again : (front rest : List ℕ) (k : ℕ) → length front ≡ k
-    → cond {A = Read ℕ} (ltb (length (front ++ rest)) k) (Err (length (front ++ rest))) (done (from_be_bytes w32 (take k (front ++ rest)), drop k (front ++ rest))) ≡ Ok (from_be_bytes w32 front, rest)
+    → cond {A = Read ℕ} (ltb (length (front ++ rest)) k) (Err (length (front ++ rest)))
+    (done (from_be_bytes w32 (take k (front ++ rest)), drop k (front ++ rest))) ≡ Ok (from_be_bytes w32 front, rest)
 front_again front rest k len =
     let long : ltb (length (front ++ rest)) k ≡ false = le-ltb _ _ (omega (arith, length-append front rest)) in
     rw (long, take_at front rest k len, drop_at front rest k len) refl
 
 number_again : (n : ℕ) (rest : List ℕ) → ltb n (2 ^ 32) ≡ true → number_at (word n ++ rest) ≡ Ok (n, rest)
 unfolding word
-number_again n rest h = front_again (to_be_bytes w32 n) rest 4 refl ∙ ap (λ (m : ℕ). done (m, rest)) (from_be_bytes-to_be_bytes_4 n (ltb-true _ _ h))
+number_again n rest h = front_again (to_be_bytes w32 n) rest 4 refl
+    ∙ ap (λ (m : ℕ). done (m, rest)) (from_be_bytes-to_be_bytes_4 n (ltb-true _ _ h))
 
 number_within : (bytes : List ℕ) (left : ℕ) → IsBytes bytes → number_at bytes ≡ Err left → left ≤ length bytes
 number_within bytes left fits e =
-    let here : length bytes ≡ left = not_guarded (ltb (length bytes) 4) (length bytes) left (from_be_bytes w32 (take 4 bytes), drop 4 bytes) e in
+    let here : length bytes ≡ left =
+    not_guarded (ltb (length bytes) 4) (length bytes) left (from_be_bytes w32 (take 4 bytes), drop 4 bytes) e in
     omega arith
 
 pub number_law : IsLawful number
@@ -91,8 +101,10 @@ mark_law sign = record {
   takes = λ bytes x fits e.
       let p = passed (starts_with nat_eq bytes sign) (length bytes) (tt, drop (length sign) bytes) x e in
       let front : sign ≡ take (length sign) bytes = same sign (take (length sign) bytes) p.0 in
-      let parts : bytes ≡ sign ++ drop (length sign) bytes = sym (take-append-drop (length sign) bytes) ∙ ap (λ (t : List ℕ). t ++ drop (length sign) bytes) (sym front) in
-      subst (λ (y : Unit {0} × List ℕ). Takes bytes sign y.1 × (true ≡ true)) p.1 (record { parts = parts; rest_fits = IsBytes-drop (length sign) bytes fits }, refl);
+      let parts : bytes ≡ sign ++ drop (length sign) bytes =
+      sym (take-append-drop (length sign) bytes) ∙ ap (λ (t : List ℕ). t ++ drop (length sign) bytes) (sym front) in
+      subst (λ (y : Unit {0} × List ℕ). Takes bytes sign y.1 × (true ≡ true)) p.1
+      (record { parts = parts; rest_fits = IsBytes-drop (length sign) bytes fits }, refl);
   again = λ a rest h.
       rw (take_at sign rest (length sign) refl, itself sign, drop_at sign rest (length sign) refl) refl;
   within = λ bytes left fits e.
@@ -127,9 +139,11 @@ integer_law = record {
       let t = number_law.takes bytes a.0 fits a.1 in
       let lt : a.0.0 < 2 ^ 32 = ltb-true _ _ t.1 in
       let bits : cast_unsigned w32 (cast_signed w32 a.0.0) ≡ a.0.0 = of_z-to_z w32 a.0.0 lt in
-      subst (λ (y : ℤ × List ℕ). Takes bytes (word (cast_unsigned w32 y.0)) y.1 × (integer_fits y.0 ≡ true)) (ok_is (cast_signed w32 a.0.0, a.0.1) x a.2)
-        (subst (λ (m : ℕ). Takes bytes (word m) a.0.1) (sym bits) t.0, signed_fits a.0.0 (ltb a.0.0 (2 ^ 31)) refl lt);
-  again = λ z rest h. rw (number_law.again (cast_unsigned w32 z) rest (integer_bits z h)) (ap (λ (y : ℤ). integer_is (y, rest)) (integer_back z h));
+      subst (λ (y : ℤ × List ℕ). Takes bytes (word (cast_unsigned w32 y.0)) y.1 × (integer_fits y.0 ≡ true))
+      (ok_is (cast_signed w32 a.0.0, a.0.1) x a.2)
+      (subst (λ (m : ℕ). Takes bytes (word m) a.0.1) (sym bits) t.0, signed_fits a.0.0 (ltb a.0.0 (2 ^ 31)) refl lt);
+  again = λ z rest h. rw (number_law.again (cast_unsigned w32 z) rest (integer_bits z h))
+      (ap (λ (y : ℤ). integer_is (y, rest)) (integer_back z h));
   within = λ bytes left fits e.
       elim (bind_err (number.read bytes) integer_of left e) [
         | inl at_number ↦ number_law.within bytes left fits at_number
@@ -150,8 +164,9 @@ truth_there (suc (suc n)) h = absurd (omega arith)
 
 pub truth_law : IsLawful truth
 truth_law =
-    through_law truth_of number_of_truth (such_that byte (at_most 1)) (λ n h. truth_there n (ltb-true _ _ (second_of_both (ltb n 256) (at_most 1 n) h))) truth_back
-      (such_that_law byte (at_most 1) byte_law)
+    through_law truth_of number_of_truth (such_that byte (at_most 1))
+    (λ n h. truth_there n (ltb-true _ _ (second_of_both (ltb n 256) (at_most 1 n) h))) truth_back
+    (such_that_law byte (at_most 1) byte_law)
 
 pub truth_fits : (b : Bool) → truth.fits b ≡ true
 truth_fits true = refl
@@ -171,21 +186,27 @@ text_law limit =
           let g = guarded (ltb (length after) n) (length after) (take n after, drop n after) x a.2 in
           let long : n ≤ length after = ltb-false _ _ g.0 in
           let len : length (take n after) ≡ n = omega (arith, length-take n after) in
-          let second : Takes after (take n after) (drop n after) = record { parts = sym (take-append-drop n after); rest_fits = IsBytes-drop n after t.0.rest_fits } in
+          let second : Takes after (take n after) (drop n after) =
+          record { parts = sym (take-append-drop n after); rest_fits = IsBytes-drop n after t.0.rest_fits } in
           let all = Takes-then bytes (word n) after (take n after) (drop n after) t.0 second in
-          subst (λ (p : List ℕ × List ℕ). Takes bytes (word (length p.0) ++ p.0) p.1 × ((ltb (length p.0) (2 ^ 32) && at_most limit (length p.0)) ≡ true)) g.1
-            (subst (λ (k : ℕ). Takes bytes (word k ++ take n after) (drop n after)) (sym len) all, subst (λ (k : ℕ). (ltb k (2 ^ 32) && at_most limit k) ≡ true) (sym len) t.1);
+          subst (λ (p : List ℕ × List ℕ). Takes bytes (word (length p.0) ++ p.0) p.1
+          × ((ltb (length p.0) (2 ^ 32) && at_most limit (length p.0)) ≡ true)) g.1 (
+            subst (λ (k : ℕ). Takes bytes (word k ++ take n after) (drop n after)) (sym len) all,
+            subst (λ (k : ℕ). (ltb k (2 ^ 32) && at_most limit k) ≡ true) (sym len) t.1,
+          );
       again = λ s rest h.
           let one = counted.again (length s) (s ++ rest) h in
           let long : ltb (length (s ++ rest)) (length s) ≡ false = le-ltb _ _ (omega (arith, length-append s rest)) in
-          ap ((text limit).read) (append_assoc (word (length s)) s rest) ∙ rw (one, long, take_at s rest (length s) refl, drop_at s rest (length s) refl) refl;
+          ap ((text limit).read) (append_assoc (word (length s)) s rest)
+          ∙ rw (one, long, take_at s rest (length s) refl, drop_at s rest (length s) refl) refl;
       within = λ bytes left fits e.
           elim (bind_err ((number_up_to limit).read bytes) text_at left e) [
             | inl at_length ↦ counted.within bytes left fits at_length
             | inr a ↦
-              let t = counted.takes bytes a.0 fits a.1 in
-              let shorter = rest_within bytes (word a.0.0) a.0.1 t.0 in
-              let here : length a.0.1 ≡ left = not_guarded (ltb (length a.0.1) a.0.0) (length a.0.1) left (take a.0.0 a.0.1, drop a.0.0 a.0.1) a.2 in
-              omega arith
+                let t = counted.takes bytes a.0 fits a.1 in
+                let shorter = rest_within bytes (word a.0.0) a.0.1 t.0 in
+                let here : length a.0.1 ≡ left =
+                not_guarded (ltb (length a.0.1) a.0.0) (length a.0.1) left (take a.0.0 a.0.1, drop a.0.0 a.0.1) a.2 in
+                omega arith
           ];
     }

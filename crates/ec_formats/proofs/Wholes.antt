@@ -1,8 +1,8 @@
 -- Values whose spelling is all of the bytes.
-use Rattle.std.proofs.Common.{◌≡◌, ℕ, ◌-◌, ◌≤◌, ◌==◌, List, [], ◌++◌, length, Result, Ok, Err, refl, sym, ap, subst, ◌∙◌, arith, inl, inr}
+use Rattle.std.proofs.Common.{◌≡◌, ℕ, ◌≤◌, ◌==◌, List, [], ◌++◌, length, Ok, Err, sym, ap, subst, ◌∙◌, arith, inl, inr}
 use Rattle.std.proofs.lemmas.Bool.{eqb-true}
 use Rattle.std.proofs.lemmas.List.{append-nil, nil_from_length}
-use Rattle.ec_formats.specs.Format.{◌>>=◌, Format, Read, IsBytes, IsLawful, IsSpelling, nothing_behind, whole, placed, read_all}
+use Rattle.ec_formats.specs.Format.{◌>>=◌, Format, Read, IsBytes, IsLawful, IsSpelling, nothing_behind, whole}
 use Rattle.ec_formats.proofs.Bytes.{rest_within}
 use Rattle.ec_formats.proofs.Steps.{bind_ok, bind_err, passed, not_passed}
 
@@ -37,10 +37,10 @@ module _ {A : Type 0} where
         elim (bind_err (f.read bytes) nothing_behind left e) [
           | inl at_value ↦ law.within bytes left fits at_value
           | inr x ↦
-            let t = law.takes bytes x.0 fits x.1 in
-            let shorter = rest_within bytes (f.spell x.0.0) x.0.1 t.0 in
-            let here : length x.0.1 ≡ left = not_passed (length x.0.1 == 0) (length x.0.1) left x.0.0 x.2 in
-            omega arith
+              let t = law.takes bytes x.0 fits x.1 in
+              let shorter = rest_within bytes (f.spell x.0.0) x.0.1 t.0 in
+              let here : length x.0.1 ≡ left = not_passed (length x.0.1 == 0) (length x.0.1) left x.0.0 x.2 in
+              omega arith
         ]
 
     -- bytes are the spelling of one value at most

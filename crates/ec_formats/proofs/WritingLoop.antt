@@ -1,5 +1,5 @@
 -- Items written one after the other, as a loop writes them: what is still to be written from here on makes up the whole.
-use Rattle.std.proofs.Common.{◌≡◌, ℕ, zero, suc, ◌+◌, ◌≤◌, true, ◌&&◌, List, [], ◌∷◌, ◌++◌, length, take, drop, Some, refl, sym, ap, subst, ◌∙◌, append_assoc, arith}
+use Rattle.std.proofs.Common.{◌≡◌, ℕ, zero, suc, ◌+◌, ◌≤◌, true, List, [], ◌∷◌, ◌++◌, length, take, drop, Some, refl, sym, ap, subst, ◌∙◌, append_assoc, arith}
 use Rattle.std.specs.Prelude.{slice_get}
 use Rattle.std.proofs.lemmas.List.{append-nil}
 use Rattle.ec_base.proofs.Lists.{drop_at, take_next}
@@ -16,7 +16,8 @@ module _ {A : Type 0} (item : List A → Format A) (xs : List A) (i : ℕ) (x : 
 
   pub others_fit : items_fit item (take i xs) (drop i xs) ≡ true → items_fit item (take (i + 1) xs) (drop (i + 1) xs) ≡ true
   others_fit h =
-      subst (λ (ys : List A). items_fit item ys (drop (i + 1) xs) ≡ true) (sym (take_next xs i x here)) (second_of_both ((item (take i xs)).fits x) _ (fits_here h))
+      subst (λ (ys : List A). items_fit item ys (drop (i + 1) xs) ≡ true) (sym (take_next xs i x here))
+      (second_of_both ((item (take i xs)).fits x) _ (fits_here h))
 
   pub spelled : (out new total : List ℕ) → new ≡ out ++ (item (take i xs)).spell x → out ++ items_spell item (take i xs) (drop i xs) ≡ total
       → new ++ items_spell item (take (i + 1) xs) (drop (i + 1) xs) ≡ total
@@ -41,5 +42,6 @@ module _ {A : Type 0} where
   pub all_spelled : (item : List A → Format A) (xs : List A) (i : ℕ) (out total : List ℕ) → length xs ≤ i
       → out ++ items_spell item (take i xs) (drop i xs) ≡ total → out ≡ total
   all_spelled item xs i out total h so_far =
-      let e : out ++ items_spell item (take i xs) (drop i xs) ≡ out = ap (λ (ys : List A). out ++ items_spell item (take i xs) ys) (drop_all xs i h) ∙ append-nil out in
+      let e : out ++ items_spell item (take i xs) (drop i xs) ≡ out =
+      ap (λ (ys : List A). out ++ items_spell item (take i xs) ys) (drop_all xs i h) ∙ append-nil out in
       sym e ∙ so_far

@@ -1,5 +1,5 @@
 -- Formats made of formats.
-use Rattle.std.specs.Prelude.{ℕ, zero, suc, Bool, true, ◌&&◌, List, [], ◌∷◌, ◌++◌, length, Option, Some, None, Ok, Err, if◌then◌else◌}
+use Rattle.std.specs.Prelude.{ℕ, Bool, ◌&&◌, List, ◌++◌, length, Ok, Err, if◌then◌else◌}
 use Rattle.ec_formats.specs.Format.{◌>>=◌, Format, Read}
 
 module _ {A : Type 0} where
@@ -32,7 +32,6 @@ module _ {A B : Type 0} where
   }
 
 infixr 5 ◌followed_by◌
-
 -- a value and another behind it
 abbrev pub ◌followed_by◌ : {A B : Type 0} → Format A → Format B → Format (A × B)
 f followed_by g = pair f (λ _. g)

@@ -17,7 +17,11 @@ pub trait Field<Form>: Drop {
     ghost format: { List Self → Format Self };
 
     /// The value at the front of the bytes, and the bytes behind it. `Fault` comes exactly where there is none.
-    fn read<'a>(alloc: Global, before: &[Self], bytes: &'a [u8]) -> Result<(Self, &'a [u8]), FieldError>
+    fn read<'a>(
+        alloc: Global,
+        before: &[Self],
+        bytes: &'a [u8],
+    ) -> Result<(Self, &'a [u8]), FieldError>
         ensures { Gives (λ x. (x.0, x.1.now)) result ((format before.now).read bytes.now) };
 
     /// Its bytes, behind what is written already. It has to keep the rules that it has behind some values.
@@ -27,7 +31,11 @@ pub trait Field<Form>: Drop {
 }
 
 /// A list: a count, which is `limit` at most, and that many items. No room is taken for more items than are read.
-pub fn read_list<'a, Form, T: Field<Form>>(alloc: Global, limit: u32, bytes: &'a [u8]) -> Result<(Seq<T>, &'a [u8]), FieldError>
+pub fn read_list<'a, Form, T: Field<Form>>(
+    alloc: Global,
+    limit: u32,
+    bytes: &'a [u8],
+) -> Result<(Seq<T>, &'a [u8]), FieldError>
     ensures { Gives (λ x. (x.0, x.1.now)) result ((list limit T.format).read bytes.now) }
 {
     let (count, rest) = read_number_up_to(limit, bytes)?;
@@ -35,7 +43,11 @@ pub fn read_list<'a, Form, T: Field<Form>>(alloc: Global, limit: u32, bytes: &'a
 }
 
 /// So many items, each behind those before it.
-fn read_items<'a, Form, T: Field<Form>>(alloc: Global, count: u32, bytes: &'a [u8]) -> Result<(Seq<T>, &'a [u8]), FieldError>
+fn read_items<'a, Form, T: Field<Form>>(
+    alloc: Global,
+    count: u32,
+    bytes: &'a [u8],
+) -> Result<(Seq<T>, &'a [u8]), FieldError>
     ensures { Gives (λ x. (x.0, x.1.now)) result (items_read T.format [] count bytes.now) }
 {
     let mut items = Seq::new(alloc);
@@ -62,7 +74,10 @@ pub fn put_list<Form, T: Field<Form>>(out: &mut Vec<u8>, items: &Seq<T>) -> Resu
 }
 
 /// A value that may be missing: a flag, 0 or 1, and the value where it is 1. The value stands behind no others.
-pub fn read_optional<'a, Form, T: Field<Form>>(alloc: Global, bytes: &'a [u8]) -> Result<(Option<T>, &'a [u8]), FieldError>
+pub fn read_optional<'a, Form, T: Field<Form>>(
+    alloc: Global,
+    bytes: &'a [u8],
+) -> Result<(Option<T>, &'a [u8]), FieldError>
     ensures { Gives (λ x. (x.0, x.1.now)) result ((optional (T.format [])).read bytes.now) }
 {
     match bytes {
@@ -77,7 +92,10 @@ pub fn read_optional<'a, Form, T: Field<Form>>(alloc: Global, bytes: &'a [u8]) -
 }
 
 /// A flag, and the value where there is one, which keeps its rules.
-pub fn put_optional<Form, T: Field<Form>>(out: &mut Vec<u8>, value: &Option<T>) -> Result<(), AllocError>
+pub fn put_optional<Form, T: Field<Form>>(
+    out: &mut Vec<u8>,
+    value: &Option<T>,
+) -> Result<(), AllocError>
     requires rules { (optional (T.format [])).fits value.now ≡ true }
     ensures { OnOk result (out.new.items ≡ out.old.items ++ (optional (T.format [])).spell value.now) }
 {

@@ -5,5 +5,6 @@ pub mod error;
 pub mod field;
 pub mod laws;
 pub mod reading;
+#[cfg(test)]
+mod tests;
 pub mod writing;
-

@@ -26,7 +26,8 @@ use Rattle.ec_wire.specs.WireForm.{value_spell, value_fits, tagged, value_read, 
 abbrev Tagged : ℕ → List ℕ → Value × List ℕ → Type 0
 Tagged tag bytes x = Takes (tag ∷ bytes) (value_spell x.0) x.1 × (value_fits x.0 ≡ true)
 
-tagged_takes : (tag : ℕ) (bytes : List ℕ) (here : ℕ) (x : Value × List ℕ) → IsBytes bytes → tagged tag bytes here ≡ Ok x → Tagged tag bytes x
+tagged_takes : (tag : ℕ) (bytes : List ℕ) (here : ℕ) (x : Value × List ℕ) → IsBytes bytes → tagged tag bytes here ≡ Ok x
+    → Tagged tag bytes x
 unfolding value_fits
 tagged_takes zero bytes here x fits e =
     subst (λ (y : Value × List ℕ). Tagged 0 bytes y) (ok_is (Nil, bytes) x e) (record { parts = refl; rest_fits = fits }, refl)
@@ -48,7 +49,8 @@ tagged_takes (suc (suc (suc (suc zero)))) bytes here x fits e =
     subst (λ (y : Value × List ℕ). Tagged 4 bytes y) (ok_is (Ref a.0.0, a.0.1) x a.2) (Takes-behind 4 bytes _ a.0.1 t.0, t.1)
 tagged_takes (suc (suc (suc (suc (suc t))))) bytes here x fits e = absurd cc
 
-value_takes : (bytes : List ℕ) (x : Value × List ℕ) → IsBytes bytes → value_read bytes ≡ Ok x → Takes bytes (value_spell x.0) x.1 × (value_fits x.0 ≡ true)
+value_takes : (bytes : List ℕ) (x : Value × List ℕ) → IsBytes bytes → value_read bytes ≡ Ok x
+    → Takes bytes (value_spell x.0) x.1 × (value_fits x.0 ≡ true)
 unfolding value_read
 value_takes [] x fits e = absurd cc
 value_takes (tag ∷ bytes) x fits e = tagged_takes tag bytes _ x (λ i. fits (suc i)) e
@@ -73,7 +75,8 @@ within_made f law make bytes left fits e =
       | inr a ↦ absurd cc
     ]
 
-tagged_within : (tag : ℕ) (bytes : List ℕ) (here left : ℕ) → IsBytes bytes → here ≡ suc (length bytes) → tagged tag bytes here ≡ Err left → left ≤ suc (length bytes)
+tagged_within : (tag : ℕ) (bytes : List ℕ) (here left : ℕ) → IsBytes bytes → here ≡ suc (length bytes) → tagged tag bytes here ≡ Err left
+    → left ≤ suc (length bytes)
 tagged_within zero bytes here left fits h e = absurd cc
 tagged_within (suc zero) bytes here left fits h e = within_made integer integer_law Int bytes left fits e
 tagged_within (suc (suc zero)) bytes here left fits h e = within_made truth truth_law Truth bytes left fits e
@@ -109,7 +112,7 @@ holds_law = list_law (λ _. hold) (λ _. hold_law) most
 pub monitor_record_law : IsLawful monitor_record
 monitor_record_law = through_law _ _ _ (λ x h. refl) (λ m. refl)
     (pair_law _ _ (optional_law hold hold_law) (λ _. pair_law _ _ (list_law (λ _. number) (λ _. number_law) most)
-      (λ _. pair_law _ _ holds_law (λ _. list_law (λ _. list_of most hold) (λ _. holds_law) most))))
+    (λ _. pair_law _ _ holds_law (λ _. list_law (λ _. list_of most hold) (λ _. holds_law) most))))
 
 pub monitor_law : (before : List MonitorPart) → IsLawful (monitor before)
 monitor_law before = through_law _ _ _ (λ x h. refl) (λ m. refl)
@@ -120,18 +123,21 @@ monitor_law before = through_law _ _ _ (λ x h. refl) (λ m. refl)
 pub activation_law : (before : List ActivationPart) → IsLawful (activation before)
 activation_law before = through_law _ _ _ (λ x h. refl) (λ a. refl)
     (pair_law _ _ (such_that_law number (process_follows (top_of before)) number_law) (λ process.
-      pair_law _ _ (such_that_law number (depth_follows (top_of before) process) number_law)
-      (λ _. pair_law _ _ number_law (λ _. pair_law _ _ number_law (λ _. pair_law _ _ truth_law (λ _. pair_law _ _ (number_from_law 1) (λ _. values_law 100)))))))
+    pair_law _ _ (such_that_law number (depth_follows (top_of before) process) number_law)
+    (λ _. pair_law _ _ number_law (λ _. pair_law _ _ number_law
+    (λ _. pair_law _ _ truth_law (λ _. pair_law _ _ (number_from_law 1) (λ _. values_law 100)))))))
 
 -- parcels
 
 pub parcel_law : IsLawful parcel
 parcel_law = through_law _ _ _ (λ x h. refl) (λ p. refl)
     (pair_law _ _ (mark_law letters) (λ _. pair_law _ _ (mark_law version)
-      (λ _. pair_law _ _ (list_law object object_law most) (λ _. pair_law _ _ (list_law monitor monitor_law most) (λ _. list_law activation activation_law most)))))
+    (λ _. pair_law _ _ (list_law object object_law most)
+    (λ _. pair_law _ _ (list_law monitor monitor_law most) (λ _. list_law activation activation_law most)))))
 
 -- a fault's place, and the bytes that are left there
-placed_within : (bytes : List ℕ) (r : Result Contents ℕ) (at : ℕ) → ((left : ℕ) → r ≡ Err left → left ≤ length bytes) → placed (length bytes) r ≡ Err at
+placed_within : (bytes : List ℕ) (r : Result Contents ℕ) (at : ℕ) → ((left : ℕ) → r ≡ Err left → left ≤ length bytes)
+    → placed (length bytes) r ≡ Err at
     → (left : ℕ) × (r ≡ Err left) × (at + left ≡ length bytes)
 placed_within bytes (Ok p) at within e = absurd cc
 placed_within bytes (Err left) at within e =

@@ -1,15 +1,6 @@
--- The wire form of parcels, version 1: which bytes spell which parcel. Numbers have four bytes, the highest first; list(x) is a
--- count and that many x; a text is a length and that many bytes.
---
---     parcel     = 45 4D 56, version u8 = 1, list(object), list(monitor), list(activation)
---     object     = number u32, class u32, list(value)
---     value      = 00 (nil) | 01 u32 (Int, two's complement) | 02 u8 (Bool, 0 or 1) | 03 u32 length, bytes (Str) | 04 u32 (Ref)
---     monitor    = object u32, held u8 (0 or 1), [ process u32, depth u32 where held is 1 ],
---                  list(process u32) entry, list(pair) urgent, bottom first, list(list(pair)) conditions
---     pair       = process u32, depth u32
---     activation = process u32, depth u32, operation u32, stop u32, pending u8 (0 or 1), own object u32, list(value)
---
--- Nothing stands behind the end.
+-- The wire form of parcels, version 1: which bytes spell which parcel. A definition stands under its line of the form and the rules
+-- of that line. u8 is a byte, and u32 a number of four bytes, the highest first; list(x) is a count u32 and that many x. Nothing
+-- stands behind the end of a parcel.
 use Rattle.std.specs.Prelude.{◌≡◌, ℕ, zero, suc, Bool, true, false, ◌||◌, List, [], ◌∷◌, length, Option, Some, None, Ok, Err, nat_lt, codes}
 use Rattle.ec_base.specs.Stack.{top_of}
 use Rattle.ec_monitors.specs.declared.record.Hold.{Hold}
@@ -67,9 +58,9 @@ last_number (Some last) = last.number
 abbrev pub object : List ObjectPart → Format ObjectPart
 object before =
     through (λ x. record { number = x.0; class = x.1.0; values = x.1.1 }) (λ o. (o.number, (o.class, o.values)))
-      (number_above (last_number (top_of before))
-      followed_by number
-      followed_by list_of 16384 value)
+    (number_above (last_number (top_of before))
+    followed_by number
+    followed_by list_of 16384 value)
 
 -- pair = process u32, depth u32
 -- A depth is at least 1.
@@ -88,11 +79,11 @@ most = 4294967295
 abbrev pub monitor_record : Format MonitorRec
 monitor_record =
     through (λ x. record { holder = x.0; entry = x.1.0; urgent = x.1.1.0; conditions = x.1.1.1 })
-      (λ m. (m.holder, (m.entry, (m.urgent, m.conditions))))
-      (optional hold
-      followed_by list_of most number
-      followed_by list_of most hold
-      followed_by list_of most (list_of most hold))
+    (λ m. (m.holder, (m.entry, (m.urgent, m.conditions))))
+    (optional hold
+    followed_by list_of most number
+    followed_by list_of most hold
+    followed_by list_of most (list_of most hold))
 
 abbrev pub last_object : Option MonitorPart → ℕ
 last_object None = 0
@@ -101,8 +92,8 @@ last_object (Some last) = last.object
 abbrev pub monitor : List MonitorPart → Format MonitorPart
 monitor before =
     through (λ x. record { object = x.0; monitor = x.1 }) (λ m. (m.object, m.monitor))
-      (number_above (last_object (top_of before))
-      followed_by monitor_record)
+    (number_above (last_object (top_of before))
+    followed_by monitor_record)
 
 -- activation = process u32, depth u32, operation u32, stop u32, pending u8 (0 or 1), own object u32, list(value)
 -- Activations rise strictly, by process and then by depth, which is 0 at the bottom of a process; an own object is at least 1;
@@ -119,18 +110,23 @@ depth_follows (Some last) process depth = nat_lt last.process process || nat_lt 
 abbrev pub activation : List ActivationPart → Format ActivationPart
 activation before =
     through
-      (λ x. record {
-        process = x.0; depth = x.1.0; operation = x.1.1.0; stop = x.1.1.1.0; is_pending = x.1.1.1.1.0; own = x.1.1.1.1.1.0;
-        values = x.1.1.1.1.1.1;
-      })
-      (λ a. (a.process, (a.depth, (a.operation, (a.stop, (a.is_pending, (a.own, a.values)))))))
-      (pair (such_that number (process_follows (top_of before))) (λ process.
-        such_that number (depth_follows (top_of before) process)
-        followed_by number
-        followed_by number
-        followed_by truth
-        followed_by number_from 1
-        followed_by list_of 100 value))
+    (λ x. record {
+      process = x.0;
+      depth = x.1.0;
+      operation = x.1.1.0;
+      stop = x.1.1.1.0;
+      is_pending = x.1.1.1.1.0;
+      own = x.1.1.1.1.1.0;
+      values = x.1.1.1.1.1.1;
+    })
+    (λ a. (a.process, (a.depth, (a.operation, (a.stop, (a.is_pending, (a.own, a.values)))))))
+    (pair (such_that number (process_follows (top_of before))) (λ process.
+    such_that number (depth_follows (top_of before) process)
+    followed_by number
+    followed_by number
+    followed_by truth
+    followed_by number_from 1
+    followed_by list_of 100 value))
 
 -- parcel = 45 4D 56, version u8 = 1, list(object), list(monitor), list(activation)
 -- The three letters are one field, and the version the next.
@@ -144,12 +140,12 @@ version = 1 ∷ []
 abbrev pub parcel : Format Contents
 parcel =
     through (λ x. record { objects = x.1.1.0; monitors = x.1.1.1.0; activations = x.1.1.1.1 })
-      (λ p. (tt, (tt, (p.objects, (p.monitors, p.activations)))))
-      (mark letters
-      followed_by mark version
-      followed_by list most object
-      followed_by list most monitor
-      followed_by list most activation)
+    (λ p. (tt, (tt, (p.objects, (p.monitors, p.activations)))))
+    (mark letters
+    followed_by mark version
+    followed_by list most object
+    followed_by list most monitor
+    followed_by list most activation)
 
 -- the contents keep the rules of the wire form
 abbrev pub KeepsRules : Contents → Type 0

@@ -24,7 +24,11 @@ pub fn read_contents(alloc: Global, bytes: &[u8]) -> Result<Contents, FieldError
     let (objects, rest) = read_list::<Emv1, _>(alloc, u32::MAX, rest)?;
     let (monitors, rest) = read_list::<Emv1, _>(alloc, u32::MAX, rest)?;
     let (activations, rest) = read_list::<Emv1, _>(alloc, u32::MAX, rest)?;
-    let contents = Contents { objects, monitors, activations };
+    let contents = Contents {
+        objects,
+        monitors,
+        activations,
+    };
     with_nothing_behind(contents, rest)
 }
 

@@ -25,7 +25,11 @@ impl Field<Emv1> for Value {
     ghost format = { λ _. form.value };
 
     #[tactic(auto, unfolding(crate::specs::WireForm::value_read))]
-    fn read<'a>(alloc: Global, _before: &[Value], bytes: &'a [u8]) -> Result<(Value, &'a [u8]), FieldError> {
+    fn read<'a>(
+        alloc: Global,
+        _before: &[Value],
+        bytes: &'a [u8],
+    ) -> Result<(Value, &'a [u8]), FieldError> {
         match bytes {
             [] => Err(FieldError::Fault(0)),
             [0, rest @ ..] => Ok((Value::Nil, rest)),
@@ -77,7 +81,11 @@ impl Field<Emv1> for Value {
 impl Field<Emv1> for ObjectPart {
     ghost format = { form.object };
 
-    fn read<'a>(alloc: Global, before: &[ObjectPart], bytes: &'a [u8]) -> Result<(ObjectPart, &'a [u8]), FieldError> {
+    fn read<'a>(
+        alloc: Global,
+        before: &[ObjectPart],
+        bytes: &'a [u8],
+    ) -> Result<(ObjectPart, &'a [u8]), FieldError> {
         let (number, rest) = read_number_above(last_number(before), bytes)?;
         let (class, rest) = read_number(rest)?;
         let (values, rest) = read_list::<Emv1, _>(alloc, 16_384, rest)?;
@@ -101,7 +109,11 @@ impl Field<Emv1> for ObjectPart {
 impl Field<Emv1> for MonitorPart {
     ghost format = { form.monitor };
 
-    fn read<'a>(alloc: Global, before: &[MonitorPart], bytes: &'a [u8]) -> Result<(MonitorPart, &'a [u8]), FieldError> {
+    fn read<'a>(
+        alloc: Global,
+        before: &[MonitorPart],
+        bytes: &'a [u8],
+    ) -> Result<(MonitorPart, &'a [u8]), FieldError> {
         let (object, rest) = read_number_above(last_object(before), bytes)?;
         let (holder, rest) = read_optional::<Emv1, _>(alloc, rest)?;
         let (entry, rest) = read_list::<Emv1, _>(alloc, u32::MAX, rest)?;
@@ -129,7 +141,11 @@ impl Field<Emv1> for MonitorPart {
 impl Field<Emv1> for u32 {
     ghost format = { λ _. number };
 
-    fn read<'a>(_alloc: Global, _before: &[u32], bytes: &'a [u8]) -> Result<(u32, &'a [u8]), FieldError> {
+    fn read<'a>(
+        _alloc: Global,
+        _before: &[u32],
+        bytes: &'a [u8],
+    ) -> Result<(u32, &'a [u8]), FieldError> {
         read_number(bytes)
     }
 
@@ -142,7 +158,11 @@ impl Field<Emv1> for u32 {
 impl Field<Emv1> for Hold {
     ghost format = { λ _. form.hold };
 
-    fn read<'a>(_alloc: Global, _before: &[Hold], bytes: &'a [u8]) -> Result<(Hold, &'a [u8]), FieldError> {
+    fn read<'a>(
+        _alloc: Global,
+        _before: &[Hold],
+        bytes: &'a [u8],
+    ) -> Result<(Hold, &'a [u8]), FieldError> {
         let (process, rest) = read_number(bytes)?;
         let (depth, rest) = read_number_from(1, rest)?;
         Ok((Hold { process, depth }, rest))
@@ -158,7 +178,11 @@ impl Field<Emv1> for Hold {
 impl Field<Emv1> for Seq<Hold> {
     ghost format = { λ _. list_of form.most form.hold };
 
-    fn read<'a>(alloc: Global, _before: &[Seq<Hold>], bytes: &'a [u8]) -> Result<(Seq<Hold>, &'a [u8]), FieldError> {
+    fn read<'a>(
+        alloc: Global,
+        _before: &[Seq<Hold>],
+        bytes: &'a [u8],
+    ) -> Result<(Seq<Hold>, &'a [u8]), FieldError> {
         read_list::<Emv1, _>(alloc, u32::MAX, bytes)
     }
 
@@ -170,7 +194,11 @@ impl Field<Emv1> for Seq<Hold> {
 impl Field<Emv1> for ActivationPart {
     ghost format = { form.activation };
 
-    fn read<'a>(alloc: Global, before: &[ActivationPart], bytes: &'a [u8]) -> Result<(ActivationPart, &'a [u8]), FieldError> {
+    fn read<'a>(
+        alloc: Global,
+        before: &[ActivationPart],
+        bytes: &'a [u8],
+    ) -> Result<(ActivationPart, &'a [u8]), FieldError> {
         let (process, rest) = read_process(before, bytes)?;
         let (depth, rest) = read_depth(before, process, rest)?;
         let (operation, rest) = read_number(rest)?;
@@ -224,7 +252,10 @@ fn last_object(before: &[MonitorPart]) -> u32
 }
 
 /// A process that may follow the activations read so far.
-fn read_process<'a>(before: &[ActivationPart], bytes: &'a [u8]) -> Result<(u32, &'a [u8]), FieldError>
+fn read_process<'a>(
+    before: &[ActivationPart],
+    bytes: &'a [u8],
+) -> Result<(u32, &'a [u8]), FieldError>
     ensures { Gives (λ x. (x.0, x.1.now)) result ((such_that number (form.process_follows (top_of before.now))).read bytes.now) }
 {
     let (process, rest) = read_number(bytes)?;
@@ -235,7 +266,11 @@ fn read_process<'a>(before: &[ActivationPart], bytes: &'a [u8]) -> Result<(u32, 
 }
 
 /// A depth, in this process, that may follow the activations read so far.
-fn read_depth<'a>(before: &[ActivationPart], process: u32, bytes: &'a [u8]) -> Result<(u32, &'a [u8]), FieldError>
+fn read_depth<'a>(
+    before: &[ActivationPart],
+    process: u32,
+    bytes: &'a [u8],
+) -> Result<(u32, &'a [u8]), FieldError>
     ensures { Gives (λ x. (x.0, x.1.now)) result ((such_that number (form.depth_follows (top_of before.now) process)).read bytes.now) }
 {
     let (depth, rest) = read_number(bytes)?;

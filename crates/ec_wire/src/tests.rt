@@ -135,10 +135,20 @@ fn are_the_objects(rt: &impl Abort, objects: &[ObjectPart]) {
     match objects {
         [first, second] => {
             assert_eq!(rt; (first.number, first.class), (3, 2));
-            let kinds = [Wanted::Nil, Wanted::Int(-2), Wanted::Bool(true), Wanted::Str(b"hi"), Wanted::Ref(7)];
+            let kinds = [
+                Wanted::Nil,
+                Wanted::Int(-2),
+                Wanted::Bool(true),
+                Wanted::Str(b"hi"),
+                Wanted::Ref(7),
+            ];
             have_values(rt, first.values.as_slice(), &kinds);
             assert_eq!(rt; (second.number, second.class), (7, 1));
-            have_values(rt, second.values.as_slice(), &[Wanted::Int(258), Wanted::Bool(false)]);
+            have_values(
+                rt,
+                second.values.as_slice(),
+                &[Wanted::Int(258), Wanted::Bool(false)],
+            );
         }
         _ => panic!(rt; "two objects"),
     }
@@ -149,13 +159,33 @@ fn are_the_monitors(rt: &impl Abort, monitors: &[MonitorPart]) {
         [part] => {
             let monitor = &part.monitor;
             assert_eq!(rt; part.object, 3);
-            assert!(rt; monitor.holder == Some(Hold { process: 5, depth: 2 }));
+            assert!(rt;
+                monitor.holder
+                    == Some(Hold {
+                        process: 5,
+                        depth: 2
+                    })
+            );
             assert!(rt; monitor.entry.as_slice() == [6, 4].as_slice());
-            assert!(rt; monitor.urgent.as_slice() == [Hold { process: 8, depth: 1 }].as_slice());
+            assert!(rt;
+                monitor.urgent.as_slice()
+                    == [Hold {
+                        process: 8,
+                        depth: 1
+                    }]
+                    .as_slice()
+            );
             match monitor.conditions.as_slice() {
                 [first, second] => {
                     assert_eq!(rt; first.len(), 0);
-                    assert!(rt; second.as_slice() == [Hold { process: 9, depth: 3 }].as_slice());
+                    assert!(rt;
+                        second.as_slice()
+                            == [Hold {
+                                process: 9,
+                                depth: 3
+                            }]
+                            .as_slice()
+                    );
                 }
                 _ => panic!(rt; "two conditions"),
             }

@@ -7,16 +7,19 @@ use Rattle.ec_wire.proofs.FormLaws.{parcel_law}
 use Rattle.ec_wire.proofs.read.Goals as goal
 
 pub new-requires : goal.new-requires
-new-requires c = (is_spelling parcel parcel_law c.args.bytes.now c.in-Ok.contents (λ i. omega (arith, c.type_inv.bytes i)) c.in-Ok.ensures).rules
+new-requires c = (is_spelling parcel parcel_law c.args.bytes.now c.in-Ok.contents
+    (λ i. omega (arith, c.type_inv.bytes i)) c.in-Ok.ensures).rules
 
 pub overflow_sub-result : goal.overflow_sub-result
 overflow_sub-result c =
     let fault : Fails c.in-Err-Fault.field-0 (whole parcel c.args.bytes.now) = c.in-Err-Fault.ensures in
-    whole_within parcel parcel_law c.args.bytes.now c.in-Err-Fault.left (λ i. omega (arith, c.type_inv.bytes i)) (rw c.in-Err-Fault.field-0-is at fault)
+    whole_within parcel parcel_law c.args.bytes.now c.in-Err-Fault.left (λ i. omega (arith, c.type_inv.bytes i))
+    (rw c.in-Err-Fault.field-0-is at fault)
 
 pub returns-in-Ok-clause-found : goal.returns-in-Ok-clause-found
 returns-in-Ok-clause-found c =
-    rw c.new.ensures (is_spelling parcel parcel_law c.args.bytes.now c.in-Ok.contents (λ i. omega (arith, c.type_inv.bytes i)) c.in-Ok.ensures)
+    rw c.new.ensures (is_spelling parcel parcel_law c.args.bytes.now c.in-Ok.contents
+    (λ i. omega (arith, c.type_inv.bytes i)) c.in-Ok.ensures)
 
 pub returns-in-Err-Fault-clause-refused : goal.returns-in-Err-Fault-clause-refused
 returns-in-Err-Fault-clause-refused c = λ p w.
