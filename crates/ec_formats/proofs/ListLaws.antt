@@ -1,5 +1,6 @@
 -- The laws of values that may be missing, and of lists.
-use Rattle.std.proofs.Common.{◌≡◌, ℕ, zero, suc, ◌^◌, ◌≤◌, true, ◌&&◌, ltb, List, [], ◌∷◌, ◌++◌, length, Option, Some, None, Ok, Err, refl, sym, ap, subst, ◌∙◌, append_assoc, arith, inl, inr}
+use Rattle.std.proofs.Common.{◌≡◌, ℕ, zero, suc, ◌^◌, ◌≤◌, true, ◌&&◌, ltb, List, [], ◌∷◌, ◌++◌, length, take, Option, Some, None, Ok, Err, refl, sym, ap, subst, ◌∙◌, append_assoc, arith, inl, inr}
+use Rattle.std.specs.Prelude.{slice_get}
 use Rattle.std.proofs.lemmas.List.{append-nil}
 use Rattle.ec_formats.specs.Format.{Format, IsBytes, Takes, IsLawful}
 use Rattle.ec_formats.specs.Fields.{word, at_most, number_up_to}
@@ -50,9 +51,29 @@ module _ {A : Type 0} (f : Format A) (law : IsLawful f) where
   pub optional_law : IsLawful (optional f)
   optional_law = record { takes = optional_takes; again = optional_again; within = optional_within }
 
--- items that keep their rules, with one more that keeps its own behind them
+-- items that keep their rules
 
 module _ {A : Type 0} (item : List A → Format A) where
+  each_fits_behind : (before xs : List A) → items_fit item before xs ≡ true → (i : ℕ) (x : A) → slice_get xs i ≡ Some x
+      → (item (before ++ take i xs)).fits x ≡ true
+  each_fits_behind before [] h i x e = absurd cc
+  each_fits_behind before (y ∷ ys) h zero x e =
+      let same : y ≡ x = cc in
+      let here : (item before).fits x ≡ true = subst (λ (z : A). (item before).fits z ≡ true) same (first_of_both _ _ h) in
+      subst (λ (zs : List A). (item zs).fits x ≡ true) (sym (append-nil before)) here
+  each_fits_behind before (y ∷ ys) h (suc i) x e =
+      let there = each_fits_behind (before ++ y ∷ []) ys (second_of_both ((item before).fits y) _ h) i x e in
+      subst (λ (zs : List A). (item zs).fits x ≡ true) (append_assoc before (y ∷ []) (take i ys)) there
+
+  all_fit_behind : (before xs : List A) → ((i : ℕ) (x : A) → slice_get xs i ≡ Some x → (item (before ++ take i xs)).fits x ≡ true)
+      → items_fit item before xs ≡ true
+  all_fit_behind before [] each = refl
+  all_fit_behind before (y ∷ ys) each =
+      let here = subst (λ (zs : List A). (item zs).fits y ≡ true) (append-nil before) (each 0 y refl) in
+      let regrouped = λ (i : ℕ). sym (append_assoc before (y ∷ []) (take i ys)) in
+      both _ _ here (all_fit_behind (before ++ y ∷ []) ys
+      (λ i x e. subst (λ (zs : List A). (item zs).fits x ≡ true) (regrouped i) (each (suc i) x e)))
+
   fits_behind : (before xs : List A) (x : A) → items_fit item before xs ≡ true → (item (before ++ xs)).fits x ≡ true
       → items_fit item before (xs ++ x ∷ []) ≡ true
   fits_behind before [] x h one =
@@ -63,7 +84,16 @@ module _ {A : Type 0} (item : List A → Format A) where
       let there = subst (λ (zs : List A). (item zs).fits x ≡ true) regrouped one in
       both _ _ (first_of_both _ _ h) (fits_behind (before ++ y ∷ []) ys x (second_of_both ((item before).fits y) _ h) there)
 
-  pub items_fit-push : (xs : List A) (x : A) → items_fit item [] xs ≡ true → (item xs).fits x ≡ true → items_fit item [] (xs ++ x ∷ []) ≡ true
+  -- each keeps the rules that it has behind those before it
+  pub each_fits : (xs : List A) → items_fit item [] xs ≡ true → (i : ℕ) (x : A) → slice_get xs i ≡ Some x → (item (take i xs)).fits x ≡ true
+  each_fits xs = each_fits_behind [] xs
+
+  pub all_fit : (xs : List A) → ((i : ℕ) (x : A) → slice_get xs i ≡ Some x → (item (take i xs)).fits x ≡ true) → items_fit item [] xs ≡ true
+  all_fit xs = all_fit_behind [] xs
+
+  -- one more keeps the rules that it has behind them
+  pub items_fit-push : (xs : List A) (x : A) → items_fit item [] xs ≡ true → (item xs).fits x ≡ true
+      → items_fit item [] (xs ++ x ∷ []) ≡ true
   items_fit-push xs x h one = fits_behind [] xs x h one
 
 -- items

@@ -1,5 +1,5 @@
 -- Formats of values that may be missing, and of lists.
-use Rattle.std.specs.Prelude.{ℕ, zero, suc, ◌^◌, Bool, true, ◌&&◌, List, [], ◌∷◌, ◌++◌, length, Option, Some, None, Ok, Err, nat_lt}
+use Rattle.std.specs.Prelude.{◌≡◌, ℕ, zero, suc, ◌^◌, Bool, true, ◌&&◌, List, [], ◌∷◌, ◌++◌, length, take, slice_get, Option, Some, None, Ok, Err, nat_lt}
 use Rattle.ec_formats.specs.Format.{◌>>=◌, Format, Read}
 use Rattle.ec_formats.specs.Fields.{byte_at, word, at_most, number_up_to}
 
@@ -37,6 +37,10 @@ module _ {A : Type 0} where
   abbrev pub items_fit : (List A → Format A) → List A → List A → Bool
   items_fit item before [] = true
   items_fit item before (x ∷ xs) = (item before).fits x && items_fit item (before ++ x ∷ []) xs
+
+  -- each item keeps the rules that it has behind those before it
+  abbrev pub EachFits : (List A → Format A) → List A → Type 0
+  EachFits item xs = (i : ℕ) (x : A) → slice_get xs i ≡ Some x → (item (take i xs)).fits x ≡ true
 
   -- so many items more
   unfoldable pub items_read : (List A → Format A) → List A → ℕ → List ℕ → Read (List A)

@@ -1,9 +1,9 @@
 //! The laws of formats, each the contract of a function that does nothing.
-ghost use Rattle.std.specs.Prelude.{◌≡◌, ◌≤◌, ℕ, Bool, true, List, [], ◌∷◌, ◌++◌, length, Ok, Err};
+ghost use Rattle.std.specs.Prelude.{◌≡◌, ◌≤◌, ◌↔◌, ℕ, Bool, true, List, [], ◌∷◌, ◌++◌, length, Ok, Err};
 ghost use Rattle.ec_formats.specs.Combinators.{such_that, pair, through};
 ghost use Rattle.ec_formats.specs.Fields.{byte, mark, number, integer, truth, text};
 ghost use Rattle.ec_formats.specs.Format.{Format, IsBytes, IsLawful, IsSpelling, whole};
-ghost use Rattle.ec_formats.specs.Lists.{optional, items_fit, list};
+ghost use Rattle.ec_formats.specs.Lists.{optional, items_fit, EachFits, list};
 
 /// One byte.
 pub fn byte_is_lawful()
@@ -61,9 +61,11 @@ pub fn list_is_lawful<A>()
     ensures { (limit : ℕ) (item : List A → Format A) → ((before : List A) → IsLawful (item before)) → IsLawful (list limit item) }
 {}
 
-/// Items keep their rules with one more that keeps its own behind them.
+/// Items keep their rules exactly where each keeps those that it has behind the items before it; so one more may follow that keeps
+/// its own behind them.
 pub fn items_keep_their_rules<A>()
-    ensures { (item : List A → Format A) (xs : List A) (x : A) → items_fit item [] xs ≡ true → (item xs).fits x ≡ true
+    ensures each { (item : List A → Format A) (xs : List A) → (items_fit item [] xs ≡ true) ↔ EachFits item xs }
+    ensures one_more { (item : List A → Format A) (xs : List A) (x : A) → items_fit item [] xs ≡ true → (item xs).fits x ≡ true
         → items_fit item [] (xs ++ x ∷ []) ≡ true }
 {}
 

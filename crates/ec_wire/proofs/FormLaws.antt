@@ -1,18 +1,17 @@
 -- The parts of the wire form are lawful formats.
-use Rattle.std.proofs.Common.{◌≡◌, ℕ, zero, suc, ◌+◌, ◌-◌, ◌≤◌, ◌==◌, true, ◌&&◌, List, [], ◌∷◌, ◌++◌, length, Result, Ok, Err, refl, sym, ap, subst, ◌∙◌, arith, inl, inr}
+use Rattle.std.proofs.Common.{◌≡◌, ℕ, zero, suc, ◌+◌, ◌-◌, ◌≤◌, true, List, [], ◌∷◌, ◌++◌, length, Result, Ok, Err, refl, subst, arith, inl, inr}
 use Rattle.ec_base.specs.Stack.{top_of}
 use Rattle.ec_world.specs.declared.value.Value.{Value}
 use Rattle.ec_world.specs.declared.value.Value.TheVariants.{Int, Str, Ref, Nil, Bool as Truth}
-use Rattle.ec_formats.specs.Format.{◌>>=◌, Format, Read, IsBytes, Takes, IsLawful, IsSpelling, whole, placed, read_all}
-use Rattle.ec_formats.specs.Combinators.{such_that}
-use Rattle.ec_formats.specs.Fields.{number, number_from, number_above, integer, truth, text}
-use Rattle.ec_formats.specs.Lists.{optional, list_of}
+use Rattle.ec_formats.specs.Format.{◌>>=◌, Format, Read, IsBytes, Takes, IsLawful, whole, placed}
+use Rattle.ec_formats.specs.Fields.{number, number_from, integer, truth, text}
+use Rattle.ec_formats.specs.Lists.{list_of}
 use Rattle.ec_formats.proofs.Bytes.{Takes-behind}
 use Rattle.ec_formats.proofs.Steps.{bind_ok, bind_err, ok_is}
 use Rattle.ec_formats.proofs.CombinatorLaws.{such_that_law, pair_law, through_law}
 use Rattle.ec_formats.proofs.FieldLaws.{mark_law, number_law, number_from_law, number_above_law, integer_law, truth_law, truth_fits, text_law}
 use Rattle.ec_formats.proofs.ListLaws.{optional_law, list_law}
-use Rattle.ec_formats.proofs.Wholes.{is_spelling, is_read, whole_within, one_value}
+use Rattle.ec_formats.proofs.Wholes.{whole_within}
 use Rattle.ec_wire.specs.declared.parcel.ObjectPart.{ObjectPart}
 use Rattle.ec_wire.specs.declared.parcel.MonitorPart.{MonitorPart}
 use Rattle.ec_wire.specs.declared.parcel.ActivationPart.{ActivationPart}

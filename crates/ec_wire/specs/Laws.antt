@@ -1,5 +1,5 @@
 -- What holds of the wire form.
-use Rattle.std.specs.Prelude.{◌≡◌, ◌+◌, ℕ, List, length, Ok, Err}
+use Rattle.std.specs.Prelude.{◌≡◌, ◌+◌, ℕ, List, length, Err}
 use Rattle.ec_formats.specs.Format.{IsBytes, whole, read_all}
 use Rattle.ec_wire.specs.WireForm.{parcel, KeepsRules, IsWire}
 use Rattle.ec_wire.specs.declared.parcel.Contents.{Contents}

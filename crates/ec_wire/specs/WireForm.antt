@@ -1,7 +1,7 @@
 -- The wire form of parcels, version 1: which bytes spell which parcel. A definition stands under its line of the form and the rules
 -- of that line. u8 is a byte, and u32 a number of four bytes, the highest first; list(x) is a count u32 and that many x. Nothing
 -- stands behind the end of a parcel.
-use Rattle.std.specs.Prelude.{◌≡◌, ℕ, zero, suc, Bool, true, false, ◌||◌, List, [], ◌∷◌, length, Option, Some, None, Ok, Err, nat_lt, codes}
+use Rattle.std.specs.Prelude.{◌≡◌, ℕ, zero, suc, Bool, true, ◌||◌, List, [], ◌∷◌, length, Option, Some, None, Ok, Err, nat_lt, codes}
 use Rattle.ec_base.specs.Stack.{top_of}
 use Rattle.ec_monitors.specs.declared.record.Hold.{Hold}
 use Rattle.ec_monitors.specs.declared.record.MonitorRec.{MonitorRec}

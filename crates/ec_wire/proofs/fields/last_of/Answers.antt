@@ -1,4 +1,4 @@
-use Rattle.std.proofs.Common.{◌≡◌, ◌<◌, length, Some, ap, sym, ◌∙◌}
+use Rattle.std.proofs.Common.{◌<◌, length, Some, ap, sym, ◌∙◌}
 use Rattle.ec_base.proofs.Stacks.{top_of_last}
 use Rattle.ec_wire.proofs.Ends.{not_empty}
 use Rattle.ec_wire.proofs.fields.last_of.Goals as goal
