@@ -30,7 +30,8 @@ pub trait Field<Form>: Drop {
         ensures { OnOk result ((before : List Self) → out.new.items ≡ out.old.items ++ (format before).spell self.now) };
 }
 
-/// A list: a count, which is `limit` at most, and that many items. No room is taken for more items than are read.
+/// A list: a count, which is `limit` at most, and that many items. The count alone takes no room: room grows with the items that are
+/// read.
 pub fn read_list<'a, Form, T: Field<Form>>(
     alloc: Global,
     limit: u32,

@@ -31,7 +31,8 @@ pub fn write(alloc: Global, parcel: &Parcel) -> Result<Vec<u8>, AllocError>
 
 /// The parcel whose bytes these are.
 ///
-/// `Wire` comes exactly where no parcel has these bytes. No more room is taken than for what the bytes hold: a count takes none.
+/// `Wire` comes exactly where no parcel has these bytes. A count alone takes no room: room grows with
+/// the items that are read.
 pub fn read(alloc: Global, bytes: &[u8]) -> Result<Parcel, ReadError>
     // The parcel that is read has these bytes.
     ensures found { IfOk result (λ p. IsWire p bytes.now) }
@@ -46,9 +47,10 @@ pub fn read(alloc: Global, bytes: &[u8]) -> Result<Parcel, ReadError>
     match read_contents(alloc, bytes) {
         Ok(contents) => Ok(Parcel::new(contents)),
         Err(FieldError::Memory) => Err(ReadError::Memory),
-        Err(FieldError::Fault(left)) => Err(ReadError::Wire(WireError {
-            at: bytes.len() - left,
-        })),
+        Err(FieldError::Fault(left)) => {
+            let at = bytes.len() - left;
+            Err(ReadError::Wire(WireError { at }))
+        }
     }
 }
 

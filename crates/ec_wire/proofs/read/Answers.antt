@@ -10,8 +10,8 @@ pub new-requires : goal.new-requires
 new-requires c = (is_spelling parcel parcel_law c.args.bytes.now c.in-Ok.contents
     (λ i. omega (arith, c.type_inv.bytes i)) c.in-Ok.ensures).rules
 
-pub overflow_sub-result : goal.overflow_sub-result
-overflow_sub-result c =
+pub overflow_sub-at : goal.overflow_sub-at
+overflow_sub-at c =
     let fault : Fails c.in-Err-Fault.field-0 (whole parcel c.args.bytes.now) = c.in-Err-Fault.ensures in
     whole_within parcel parcel_law c.args.bytes.now c.in-Err-Fault.left (λ i. omega (arith, c.type_inv.bytes i))
     (rw c.in-Err-Fault.field-0-is at fault)
