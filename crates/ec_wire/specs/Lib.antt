@@ -1,0 +1,3 @@
+pub mod WireForm
+pub mod Laws
+pub mod Answers
