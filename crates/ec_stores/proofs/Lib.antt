@@ -1,0 +1,12 @@
+pub mod Numbers
+pub mod Written
+pub mod Blocks
+pub mod Owned
+pub mod Placing
+pub mod Writing
+pub mod Keyed
+pub mod Naming
+pub mod Finding
+pub mod Comings
+pub mod Fresh
+pub mod Changing

@@ -1,0 +1,6 @@
+pub mod Memory
+pub mod Lists
+pub mod Tables
+pub mod Node
+pub mod Changes
+pub mod Inside

@@ -1,0 +1,16 @@
+//! What one node keeps: its memory in the byte order of its kind, objects, activations, local references and texts.
+#![tactic(auto)]
+
+mod lists;
+pub mod memory;
+mod monitors;
+pub mod node;
+mod owners;
+mod pool;
+mod references;
+pub mod rows;
+mod running;
+mod tables;
+#[cfg(test)]
+mod trials;
+mod words;

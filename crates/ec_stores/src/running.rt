@@ -1,0 +1,28 @@
+//! Native runs on a node's memory.
+ghost use Rattle.std.specs.Prelude.{ℕ, IfErr, IfOk, OnErr};
+ghost use Rattle.ec_target.specs.Runs.{Halts, Leads, Native};
+ghost use Rattle.ec_stores.specs.Changes.{Ran};
+ghost use Rattle.ec_stores.specs.Node.{bytes_in, store_of};
+
+use crate::node::NodeStore;
+use ec_target::machine::Machine;
+use ec_target::outcome::Trap;
+
+impl NodeStore {
+    /// Runs a machine on the node's memory to the next stop. Answers how many instructions come before it, by which the count of
+    /// the node rises, up to 2^64 - 1. The error is a trap; the count stays then.
+    pub fn run<M: Machine>(&mut self, machine: &mut M, code: &[u32]) -> Result<u64, Trap>
+        requires { Halts (M.goes code.now) machine.old (bytes_in self.old) }
+        ensures ok { IfOk result
+            (λ k. Native (M.goes code.now) (M.stops code.now) machine.old (bytes_in self.old) k machine.new (bytes_in self.new)) }
+        ensures ran { IfOk result (λ k. Ran (store_of self.old) (store_of self.new) k) }
+        ensures trap { IfErr result
+            (λ trap. (k : ℕ) × Leads (M.goes code.now) machine.old (bytes_in self.old) k machine.new (bytes_in self.new)
+            × M.traps code.now machine.new (bytes_in self.new) trap) }
+        ensures still { OnErr result (Ran (store_of self.old) (store_of self.new) 0) }
+    {
+        let steps = machine.run_to_stop(code, &mut self.memory)?;
+        self.count = self.count.saturating_add(steps);
+        Ok(steps)
+    }
+}

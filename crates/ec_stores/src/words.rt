@@ -1,0 +1,71 @@
+//! The words of owners, and constants.
+ghost use Rattle.std.specs.Prelude.{◌≡◌, ◌<◌, IsSome, Some};
+ghost use Rattle.ec_nodes.specs.declared.key.Key.TheVariants.{Object as OfObject, Frame as OfFrame};
+ghost use Rattle.ec_stores.specs.Node.{store_of};
+ghost use Rattle.ec_stores.specs.Changes.{OwnsWord, WordIs, WritesGlobal, WritesWord};
+
+use crate::lists::{global_word, set_word_of, word_of};
+use crate::node::NodeStore;
+use ec_world::value::{Oid, Pid};
+
+impl NodeStore {
+    /// Word i of an object, whose blocks have 128 each.
+    pub fn object_word(&self, oid: Oid, i: u32) -> u32
+        requires { OwnsWord (store_of self.now) (OfObject oid) i }
+        ensures { WordIs (store_of self.now) (OfObject oid) i result }
+    {
+        match self.objects.get(&oid) {
+            Some(row) => word_of(&self.memory, row.blocks.as_slice(), i),
+            None => unreachable!(),
+        }
+    }
+
+    /// Writes word i of an object.
+    pub fn set_object_word(&mut self, oid: Oid, i: u32, word: u32)
+        requires { OwnsWord (store_of self.old) (OfObject oid) i }
+        ensures { WritesWord (store_of self.old) (store_of self.new) (OfObject oid) i word }
+    {
+        match self.objects.get(&oid) {
+            Some(row) => set_word_of(&mut self.memory, row.blocks.as_slice(), i, word),
+            None => unreachable!(),
+        }
+    }
+
+    /// Word i of an activation, of its 128.
+    pub fn frame_word(&self, process: Pid, depth: u32, i: u32) -> u32
+        requires { OwnsWord (store_of self.now) (OfFrame process depth) i }
+        ensures { WordIs (store_of self.now) (OfFrame process depth) i result }
+    {
+        match self.frames.get(&(process, depth)) {
+            Some(row) => word_of(&self.memory, &[row.block], i),
+            None => unreachable!(),
+        }
+    }
+
+    /// Writes word i of an activation.
+    pub fn set_frame_word(&mut self, process: Pid, depth: u32, i: u32, word: u32)
+        requires { OwnsWord (store_of self.old) (OfFrame process depth) i }
+        ensures { WritesWord (store_of self.old) (store_of self.new) (OfFrame process depth) i word }
+    {
+        match self.frames.get(&(process, depth)) {
+            Some(row) => set_word_of(&mut self.memory, &[row.block], i, word),
+            None => unreachable!(),
+        }
+    }
+
+    /// Constant i.
+    pub fn global(&self, i: u32) -> u32
+        requires { IsSome ((store_of self.now).global i) }
+        ensures { (store_of self.now).global i ≡ Some result }
+    {
+        self.memory.word(global_word(i))
+    }
+
+    /// Writes constant i.
+    pub fn set_global(&mut self, i: u32, word: u32)
+        requires { IsSome ((store_of self.old).global i) }
+        ensures { WritesGlobal (store_of self.old) (store_of self.new) i word }
+    {
+        self.memory.set_word(global_word(i), word);
+    }
+}
