@@ -10,3 +10,4 @@ pub mod Finding
 pub mod Comings
 pub mod Fresh
 pub mod Changing
+pub mod Putting
