@@ -1,0 +1,4 @@
+pub mod Removing
+pub mod Rooms
+pub mod Wording
+pub mod Creating

@@ -1,0 +1,43 @@
+//! Objects come to a node.
+ghost use Rattle.std.specs.Prelude.{◌≡◌, ◌≤◌, ℕ, length, List, None, OnOk, Some, ◌↔◌, ◌⊎◌};
+ghost use Rattle.ec_nodes.specs.Things as spec;
+ghost use Rattle.ec_nodes.specs.declared.key.Key.TheVariants.{Object as OfObject};
+ghost use Rattle.ec_objects.specs.Values.{TextsFit};
+ghost use Rattle.ec_stores.specs.Node.{store_of};
+ghost use Rattle.ec_things.specs.Texts.{InPool};
+ghost use Rattle.ec_things.specs.Things.{Puts, object_thing};
+ghost use Rattle.ec_world.specs.Group.{Has};
+ghost use Rattle.ec_world.specs.declared.value.Value.TheVariants.{Str};
+ghost use Rattle.ec_world.specs.declared.object.ObjectRec.{ObjectRec};
+
+use crate::values::words_for;
+use ec_monitors::monitor::Monitor;
+use ec_stores::node::NodeStore;
+use ec_world::class::ClassNo;
+use ec_world::value::{Oid, Value};
+use std::alloc::{AllocError, Global};
+
+/// A new object, with these fields or elements, for which the node has blocks and room for text. The error is want of memory, or
+/// that the node has 2^32 - 1 texts or references; what it keeps is then left open.
+pub fn create_object(
+    node: &mut NodeStore,
+    alloc: Global,
+    oid: Oid,
+    class: ClassNo,
+    fixed: bool,
+    monitor: Option<Monitor>,
+    fields: &[Value],
+) -> Result<(), AllocError>
+    requires new { (store_of node.old).row (OfObject oid) ≡ None }
+    requires blocks { spec.class_blocks class (length fields.now) ≤ (store_of node.old).free }
+    requires few { length fields.now ≤ 128 * spec.class_blocks class (length fields.now) }
+    requires small { length fields.now < 2 ^ 32 }
+    requires texts { TextsFit (store_of node.old) fields.now }
+    ensures puts { OnOk result (Puts (store_of node.old) (store_of node.new) (OfObject oid)
+        (Some (object_thing oid (record { class = class; fields = fields.now; fixed = fixed; monitor = monitor })))) }
+    ensures texts { OnOk result ((text : List ℕ) →
+        InPool (store_of node.new) text ↔ (InPool (store_of node.old) text ⊎ Has fields.now (Str text))) }
+{
+    let words = words_for(node, alloc, fields)?;
+    node.create(oid, class, fields.len() as u32, fixed, monitor, words.as_slice())
+}
