@@ -68,4 +68,3 @@ distinct_removed xs i once = record {
       t.place)
       s.place;
 }
-

@@ -1,8 +1,9 @@
 -- Words for values, one after another.
-use Rattle.std.proofs.Common.{◌≡◌, ◌≢◌, ℕ, zero, suc, ◌+◌, ◌≤◌, List, [], ◌∷◌, ◌++◌, length, Option, Some, refl, sym, ap, ◌∙◌, subst, arith, ◌⊎◌, inl, inr, ⊎_elim}
-use Rattle.std.specs.Prelude.{slice_get, take, ◌↔◌, Result, Ok, Err, IfOk, OnOk}
+use Rattle.std.proofs.Common.{◌≡◌, ◌≢◌, ℕ, zero, suc, ◌+◌, ◌≤◌, List, [], ◌∷◌, ◌++◌, length, Some, refl, sym, ap, ◌∙◌, subst, arith, ◌⊎◌, inl, inr, ⊎_elim}
+use Rattle.std.specs.Prelude.{slice_get, take, ◌↔◌}
 use Rattle.ec_base.proofs.Lists.{take_next}
-use Rattle.ec_objects.specs.Values.{HasWord, Spends, WordsFor}
+use Rattle.ec_objects.specs.Loops.{Wording}
+use Rattle.ec_objects.specs.Values.{HasWord, Spends, TextsFit, WordsFor}
 use Rattle.ec_stores.proofs.Numbers.{end_or, kept_end, length_more}
 use Rattle.ec_stores.specs.Changes.{Interns, OnlyTables, Refers}
 use Rattle.ec_things.proofs.Kept.{carries_of, stands_kept}
@@ -11,7 +12,7 @@ use Rattle.ec_things.specs.Store.{Grown, Stands, Store, Tidy}
 use Rattle.ec_things.specs.Texts.{InPool}
 use Rattle.ec_world.specs.Group.{Has}
 use Rattle.ec_world.specs.declared.value.Value.{Value}
-use Rattle.ec_world.specs.declared.value.Value.TheVariants.{Int, Str, Ref, Nil, Bool as Truth}
+use Rattle.ec_world.specs.declared.value.Value.TheVariants.{Str, Ref}
 
 -- ---- tables that grow
 
@@ -124,6 +125,18 @@ take_all [] zero h = refl
 take_all [] (suc n) h = refl
 take_all (x ∷ xs) zero h = absurd (omega arith)
 take_all (x ∷ xs) (suc n) h = ap (λ l. x ∷ l) (take_all xs n (omega arith))
+
+-- no value has its word yet
+pub no_words : (s : Store) (values : List Value) (words : List ℕ) → Tidy s → TextsFit s values → words ≡ [] → Wording s s values 0 words
+no_words s values words tidy fit none = record {
+  only = only_self s tidy;
+  have = record { many = ap (λ (l : List ℕ). length l) none; each = λ i w v e f. cc };
+  texts = λ text. (λ h. inl h, λ h. ⊎_elim (λ (x : InPool s text). x) (λ (x : Has [] (Str text)). absurd (no_item (Str text) x)) h);
+  room = fit;
+}
+  where
+    no_item : (v : Value) → Has [] v → ⊥
+    no_item v h = let e = h.is in cc
 
 -- ---- a word for a value of each sort
 

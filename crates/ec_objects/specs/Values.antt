@@ -1,5 +1,5 @@
 -- Words that stand for values: which value a word is, given its kind; words for values, and the room that their texts want.
-use Rattle.std.specs.Prelude.{◌≡◌, ◌+◌, ◌≤◌, ◌==◌, ℕ, zero, suc, Bool, List, length, Option, Some, None, slice_get, ◌↔◌, ◌⊎◌}
+use Rattle.std.specs.Prelude.{◌≡◌, ◌+◌, ◌≤◌, ◌==◌, ℕ, zero, suc, List, length, Option, Some, slice_get, ◌↔◌, ◌⊎◌}
 use Rattle.std.specs.Int.{cast_signed, w32}
 use Rattle.std.specs.Option.{option_map}
 use Rattle.ec_stores.specs.Changes.{OnlyTables}

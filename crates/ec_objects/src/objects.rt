@@ -1,5 +1,5 @@
 //! Objects come to a node.
-ghost use Rattle.std.specs.Prelude.{◌≡◌, ◌≤◌, ℕ, length, List, None, OnOk, Some, ◌↔◌, ◌⊎◌};
+ghost use Rattle.std.specs.Prelude.{◌≡◌, ◌≤◌, ◌<◌, ◌*◌, ◌^◌, ℕ, length, List, None, OnOk, Some, ◌↔◌, ◌⊎◌};
 ghost use Rattle.ec_nodes.specs.Things as spec;
 ghost use Rattle.ec_nodes.specs.declared.key.Key.TheVariants.{Object as OfObject};
 ghost use Rattle.ec_objects.specs.Values.{TextsFit};
@@ -39,5 +39,40 @@ pub fn create_object(
         InPool (store_of node.new) text ↔ (InPool (store_of node.old) text ⊎ Has fields.now (Str text))) }
 {
     let words = words_for(node, alloc, fields)?;
-    node.create(oid, class, fields.len() as u32, fixed, monitor, words.as_slice())
+    node.create(
+        oid,
+        class,
+        fields.len() as u32,
+        fixed,
+        monitor,
+        words.as_slice(),
+    )
+}
+
+#[cfg(test)]
+mod tests {
+    use super::*;
+    use ec_world::node::Kind;
+    use std::test::Fail;
+
+    #[test]
+    fn an_object_has_its_words(rt: HostRuntime) -> Result<(), Fail> {
+        let mut node = NodeStore::new(rt.alloc(), Kind::Mips, 1, 16, 0)?;
+        let fields = [Value::Int(-2), Value::Bool(true), Value::Nil, Value::Ref(9)];
+        create_object(
+            &mut node,
+            rt.alloc(),
+            3,
+            ClassNo::Made(0),
+            false,
+            None,
+            &fields,
+        )?;
+        assert_eq!(rt; node.object_word(3, 0), 0xFFFF_FFFE);
+        assert_eq!(rt; node.object_word(3, 1), 1);
+        assert_eq!(rt; node.object_word(3, 2), 0);
+        assert_eq!(rt; node.object_word(3, 3), 1);
+        assert_eq!(rt; node.free_blocks(), 0);
+        Ok(())
+    }
 }

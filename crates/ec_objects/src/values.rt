@@ -3,6 +3,7 @@ ghost use Rattle.std.specs.Prelude.{◌≡◌, IfOk, IsSome, OnOk, Some, length}
 ghost use Rattle.ec_objects.specs.Values as spec;
 ghost use Rattle.ec_objects.specs.Values.{HasRoom, HasWord, HasWords, TextsFit};
 ghost use Rattle.ec_stores.specs.Node.{store_of};
+ghost use Rattle.ec_things.specs.Store.{Tidy};
 
 use ec_stores::node::NodeStore;
 use ec_world::value::{Value, ValueType, copy_text};
@@ -33,12 +34,21 @@ pub fn word_for(node: &mut NodeStore, value: &Value) -> Result<u32, AllocError>
     ensures { IfOk result (λ w. HasWord (store_of node.old) (store_of node.new) value.now w) }
 {
     match value {
-        Value::Int(z) => Ok(z.cast_unsigned()),
-        Value::Bool(b) => Ok(u32::from(*b)),
+        Value::Int(z) => Ok(plain(node, z.cast_unsigned())),
+        Value::Bool(b) => Ok(plain(node, u32::from(*b))),
         Value::Str(t) => node.intern(copy_text(t)?),
         Value::Ref(oid) => node.local_of(*oid),
-        Value::Nil => Ok(0),
+        Value::Nil => Ok(plain(node, 0)),
     }
+}
+
+/// A word for which nothing has to be made. What a node keeps is tidy.
+fn plain(node: &NodeStore, word: u32) -> u32
+    ensures same { result ≡ word }
+    ensures tidy { Tidy (store_of node.now) }
+{
+    let _kind = node.kind();
+    word
 }
 
 /// The words of values, with texts and references made where they aren't there. The error is that of `word_for`.
@@ -50,6 +60,7 @@ pub fn words_for(
     requires { TextsFit (store_of node.old) values.now }
     ensures { IfOk result (λ words. HasWords (store_of node.old) (store_of node.new) values.now words.items) }
 {
+    let _kind = node.kind();
     let mut words = Vec::new(alloc);
     for i in 0..values.len() {
         let word = word_for(node, &values[i])?;
