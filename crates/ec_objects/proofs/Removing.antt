@@ -1,5 +1,6 @@
 -- Lists with one item less.
-use Rattle.std.proofs.Common.{◌≡◌, ◌≢◌, ℕ, zero, suc, ◌+◌, ◌<◌, ◌≤◌, List, [], ◌∷◌, length, Some, refl, sym, ap, ◌∙◌, arith, ◌⊎◌, inl, inr, ⊎_elim}
+use Rattle.std.proofs.Common.{◌≡◌, ◌≢◌, ℕ, zero, suc, ◌+◌, ◌<◌, ◌≤◌, List, [], ◌∷◌, length, Some}
+use Rattle.std.proofs.Common.{refl, sym, ap, ◌∙◌, arith, ◌⊎◌, inl, inr, ⊎_elim}
 use Rattle.std.specs.Prelude.{slice_get}
 use Rattle.std.specs.List.{remove}
 use Rattle.ec_nodes.specs.Held.{Distinct}
@@ -26,7 +27,8 @@ get_removed (y ∷ ys) (suc i) (suc j) x e =
           (λ (p : (i ≤ j) × (r.at ≡ suc j)). inr (let l = p.0 in omega arith, ap suc p.1)) r.place;
     }
 
-pub bytes_removed : (xs : List (List ℕ)) (i : ℕ) (t : List ℕ) → slice_get xs i ≡ Some t → text_bytes (remove xs i) + length t ≡ text_bytes xs
+pub bytes_removed : (xs : List (List ℕ)) (i : ℕ) (t : List ℕ) → slice_get xs i ≡ Some t →
+    text_bytes (remove xs i) + length t ≡ text_bytes xs
 bytes_removed [] i t e = cc
 bytes_removed (x ∷ xs) zero t e = (let is : x ≡ t = cc in let n = ap (λ (l : List ℕ). length l) is in omega arith)
 bytes_removed (x ∷ xs) (suc i) t e = (let r = bytes_removed xs i t e in omega arith)
@@ -42,13 +44,15 @@ has_removed (y ∷ ys) (suc i) zero x e h = record { at = 0; is = e }
 has_removed (y ∷ ys) (suc i) (suc j) x e h = (let t = has_removed ys i j x e (λ q. h (ap suc q)) in record { at = suc t.at; is = t.is })
 
 -- what is left is another text that was there
-pub left_was : (xs : List (List ℕ)) (i : ℕ) (t x : List ℕ) → Distinct xs → slice_get xs i ≡ Some t → Has (remove xs i) x → Has xs x × (x ≢ t)
+pub left_was : (xs : List (List ℕ)) (i : ℕ) (t x : List ℕ) → Distinct xs → slice_get xs i ≡ Some t →
+    Has (remove xs i) x → Has xs x × (x ≢ t)
 left_was xs i t x once e h =
     let s = get_removed xs i h.at x h.is in (
       record { at = s.at; is = s.there },
       λ same.
           let at : s.at ≡ i = once.once s.at i t (s.there ∙ ap Some same) e in
-          ⊎_elim (λ (p : (h.at < i) × (s.at ≡ h.at)). let l = p.0 in let m = p.1 in let f : ⊥ = omega arith in f) (λ (p : (i ≤ h.at) × (s.at ≡ suc h.at)). let l = p.0 in let m = p.1 in let f : ⊥ = omega arith in f) s.place,
+          ⊎_elim (λ (p : (h.at < i) × (s.at ≡ h.at)). let l = p.0 in let m = p.1 in let f : ⊥ = omega arith in f)
+          (λ (p : (i ≤ h.at) × (s.at ≡ suc h.at)). let l = p.0 in let m = p.1 in let f : ⊥ = omega arith in f) s.place,
     )
 
 pub distinct_removed : (xs : List (List ℕ)) (i : ℕ) → Distinct xs → Distinct (remove xs i)

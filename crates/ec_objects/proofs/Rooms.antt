@@ -15,7 +15,8 @@ use Rattle.ec_world.specs.declared.value.Value.TheVariants.{Int, Str, Ref, Nil, 
 has_next : {A : Type 0} (x : A) (xs : List A) (y : A) → Has xs y → Has (x ∷ xs) y
 has_next x xs y h = record { at = suc h.at; is = h.is }
 
-module _ (s s' : Store) (v : Value) (vs : List Value) (fit : TextsFit s (v ∷ vs)) (texts : (text : List ℕ) → InPool s' text ↔ (InPool s text ⊎ (v ≡ Str text))) where
+module _ (s s' : Store) (v : Value) (vs : List Value) (fit : TextsFit s (v ∷ vs))
+    (texts : (text : List ℕ) → InPool s' text ↔ (InPool s text ⊎ (v ≡ Str text))) where
   -- no text has come
   nothing_came : s'.text_free ≡ s.text_free → ((text : List ℕ) → v ≡ Str text → InPool s text) → TextsFit s' vs
   nothing_came free old = record {
@@ -26,7 +27,8 @@ module _ (s s' : Store) (v : Value) (vs : List Value) (fit : TextsFit s (v ∷ v
       these = λ text. (
         λ h.
             let w = (fit.needs.these text).0 h in (
-              ⊎_elim (λ (is : Str text ≡ v). absurd (w.1 (old text (sym is)))) (λ (x : Has vs (Str text)). x) (first_or v vs (Str text) w.0),
+              ⊎_elim (λ (is : Str text ≡ v). absurd (w.1 (old text (sym is)))) (λ (x : Has vs (Str text)). x)
+                  (first_or v vs (Str text) w.0),
               λ p. w.1 (⊎_elim (λ (x : InPool s text). x) (λ (x : v ≡ Str text). old text x) ((texts text).0 p)),
             ),
         λ h. (fit.needs.these text).1 (has_next v vs (Str text) h.0, λ p. h.1 ((texts text).1 (inl p))),

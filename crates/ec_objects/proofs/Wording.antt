@@ -1,5 +1,6 @@
 -- Words for values, one after another.
-use Rattle.std.proofs.Common.{◌≡◌, ◌≢◌, ℕ, zero, suc, ◌+◌, ◌≤◌, List, [], ◌∷◌, ◌++◌, length, Some, refl, sym, ap, ◌∙◌, subst, arith, ◌⊎◌, inl, inr, ⊎_elim}
+use Rattle.std.proofs.Common.{◌≡◌, ◌≢◌, ℕ, zero, suc, ◌+◌, ◌≤◌, List, [], ◌∷◌, ◌++◌, length, Some}
+use Rattle.std.proofs.Common.{refl, sym, ap, ◌∙◌, subst, arith, ◌⊎◌, inl, inr, ⊎_elim}
 use Rattle.std.specs.Prelude.{slice_get, take, ◌↔◌}
 use Rattle.ec_base.proofs.Lists.{take_next}
 use Rattle.ec_objects.specs.Loops.{Wording}
@@ -60,7 +61,8 @@ pub has_last : {A : Type 0} (xs : List A) (x : A) → Has (xs ++ x ∷ []) x
 has_last [] x = record { at = 0; is = refl }
 has_last (y ∷ ys) x = let h = has_last ys x in record { at = suc h.at; is = h.is }
 
-pub words_more : (s s' : Store) (values : List Value) (n w : ℕ) (words : List ℕ) (v : Value) → WordsFor s values n words → OnlyTables s s' → slice_get values n ≡ Some v → Stands s' v w → WordsFor s' values (n + 1) (words ++ w ∷ [])
+pub words_more : (s s' : Store) (values : List Value) (n w : ℕ) (words : List ℕ) (v : Value) → WordsFor s values n words →
+    OnlyTables s s' → slice_get values n ≡ Some v → Stands s' v w → WordsFor s' values (n + 1) (words ++ w ∷ [])
 words_more s s' values n w words v r only e stands = record {
   many = length_more words w ∙ (let m = r.many in omega arith);
   each = λ i x u f g. ⊎_elim
@@ -84,7 +86,8 @@ list_or_not (x ∷ xs) (y ∷ ys) = ⊎_elim
     (λ (h : x ≢ y). inr (λ e. h cc))
     (same_or_not x y)
 
-pub pool_or_not : (pool : List (List ℕ)) (t : List ℕ) → ((i : ℕ) × (slice_get pool i ≡ Some t)) ⊎ (((i : ℕ) × (slice_get pool i ≡ Some t)) → ⊥)
+pub pool_or_not : (pool : List (List ℕ)) (t : List ℕ) →
+    ((i : ℕ) × (slice_get pool i ≡ Some t)) ⊎ (((i : ℕ) × (slice_get pool i ≡ Some t)) → ⊥)
 pool_or_not [] t = inr (λ h. let e = h.1 in cc)
 pool_or_not (x ∷ xs) t = ⊎_elim
     (λ (h : x ≡ t). inl (0, ap Some h))
@@ -94,19 +97,25 @@ pool_or_not (x ∷ xs) t = ⊎_elim
     (pool_or_not xs t))
     (list_or_not x t)
   where
-    later : (x : List ℕ) (xs : List (List ℕ)) (t : List ℕ) → x ≢ t → (((i : ℕ) × (slice_get xs i ≡ Some t)) → ⊥) → (i : ℕ) → slice_get (x ∷ xs) i ≡ Some t → ⊥
+    later : (x : List ℕ) (xs : List (List ℕ)) (t : List ℕ) → x ≢ t → (((i : ℕ) × (slice_get xs i ≡ Some t)) → ⊥) →
+        (i : ℕ) → slice_get (x ∷ xs) i ≡ Some t → ⊥
     later x xs t h o zero e = h cc
     later x xs t h o (suc i) e = o (i, e)
 
 -- the texts of a pool, when one value more has its word
-pub texts_more : (old now next : Store) (values : List Value) (n : ℕ) (v : Value) → slice_get values n ≡ Some v → ((text : List ℕ) → InPool now text ↔ (InPool old text ⊎ Has (take n values) (Str text))) → ((text : List ℕ) → InPool next text ↔ (InPool now text ⊎ (v ≡ Str text))) → (text : List ℕ) → InPool next text ↔ (InPool old text ⊎ Has (take (n + 1) values) (Str text))
+pub texts_more : (old now next : Store) (values : List Value) (n : ℕ) (v : Value) → slice_get values n ≡ Some v →
+    ((text : List ℕ) → InPool now text ↔ (InPool old text ⊎ Has (take n values) (Str text))) →
+    ((text : List ℕ) → InPool next text ↔ (InPool now text ⊎ (v ≡ Str text))) → (text : List ℕ) →
+    InPool next text ↔ (InPool old text ⊎ Has (take (n + 1) values) (Str text))
 texts_more old now next values n v e f g text = (
   λ h. ⊎_elim
       (λ (x : InPool now text). ⊎_elim
       (λ (y : InPool old text). inl y)
-      (λ (y : Has (take n values) (Str text)). inr (subst (λ (l : List Value). Has l (Str text)) (sym is) (has_more (take n values) v (Str text) y)))
+      (λ (y : Has (take n values) (Str text)). inr (subst (λ (l : List Value). Has l (Str text)) (sym is)
+      (has_more (take n values) v (Str text) y)))
       ((f text).0 x))
-      (λ (x : v ≡ Str text). inr (subst (λ (l : List Value). Has l (Str text)) (sym is) (subst (λ (u : Value). Has (take n values ++ v ∷ []) u) x (has_last (take n values) v))))
+      (λ (x : v ≡ Str text). inr (subst (λ (l : List Value). Has l (Str text)) (sym is)
+      (subst (λ (u : Value). Has (take n values ++ v ∷ []) u) x (has_last (take n values) v))))
       ((g text).0 h),
   λ h. (g text).1 (⊎_elim
       (λ (y : InPool old text). inl ((f text).1 (inl y)))

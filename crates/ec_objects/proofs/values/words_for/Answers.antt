@@ -15,7 +15,8 @@ use Rattle.ec_world.specs.declared.value.Value.TheVariants.{Str}
 
 pub loop-i-init : goal.loop-i-init
 loop-i-init c =
-    no_words (store_of c.args.node.now) c.args.values.now c.new-words.result.items c.kind-kind.ensures.tidy c.requires c.new-words.ensures.items
+    no_words (store_of c.args.node.now) c.args.values.now c.new-words.result.items c.kind-kind.ensures.tidy c.requires
+    c.new-words.ensures.items
 
 pub word_for-requires : goal.word_for-requires
 word_for-requires c =
