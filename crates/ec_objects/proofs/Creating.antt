@@ -17,13 +17,13 @@ use Rattle.ec_world.specs.declared.object.ObjectRec.{ObjectRec}
 use Rattle.ec_world.specs.declared.value.Value.{Value}
 use Rattle.ec_world.specs.declared.value.Value.TheVariants.{Int, Str, Ref, Nil, Bool as Truth}
 
-kept_on : (a b c : Store) (key : Key) → KeptRow a b key → KeptRow b c key → KeptRow a c key
+pub kept_on : (a b c : Store) (key : Key) → KeptRow a b key → KeptRow b c key → KeptRow a c key
 kept_on a b c key g h = record {
   row = h.row ∙ g.row;
   words = λ r x i e has l. h.words r x i (g.row ∙ e) has l ∙ g.words r x i e has l;
 }
 
-only_kept : (a b : Store) (key : Key) → OnlyTables a b → KeptRow a b key
+pub only_kept : (a b : Store) (key : Key) → OnlyTables a b → KeptRow a b key
 only_kept a b key only = record { row = only.rows key; words = λ r x i e has l. only.words x i }
 
 module _ (s m s' : Store) (oid : ℕ) (o : ObjectRec) (words : List ℕ) (has : HasWords s m o.fields words)

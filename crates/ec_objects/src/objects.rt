@@ -2,15 +2,17 @@
 ghost use Rattle.std.specs.Prelude.{◌≡◌, ◌≤◌, ◌<◌, ◌*◌, ◌^◌, ℕ, length, List, None, OnOk, Some, ◌↔◌, ◌⊎◌};
 ghost use Rattle.ec_nodes.specs.Things as spec;
 ghost use Rattle.ec_nodes.specs.declared.key.Key.TheVariants.{Object as OfObject};
-ghost use Rattle.ec_objects.specs.Values.{TextsFit};
+ghost use Rattle.ec_objects.specs.Values.{HasRoom, TextsFit};
+ghost use Rattle.ec_stores.specs.Changes.{OwnsWord};
 ghost use Rattle.ec_stores.specs.Node.{store_of};
 ghost use Rattle.ec_things.specs.Texts.{InPool};
-ghost use Rattle.ec_things.specs.Things.{Puts, object_thing};
+ghost use Rattle.ec_things.specs.Things.{Puts, Shown, object_thing};
 ghost use Rattle.ec_world.specs.Group.{Has};
+ghost use Rattle.ec_world.specs.Outcomes.{with_element};
 ghost use Rattle.ec_world.specs.declared.value.Value.TheVariants.{Str};
 ghost use Rattle.ec_world.specs.declared.object.ObjectRec.{ObjectRec};
 
-use crate::values::words_for;
+use crate::values::{word_for, words_for};
 use ec_monitors::monitor::Monitor;
 use ec_stores::node::NodeStore;
 use ec_world::class::ClassNo;
@@ -49,6 +51,26 @@ pub fn create_object(
     )
 }
 
+/// A field or an element of an object that is here gets a value, for whose text the node has room. The error is want of memory, or
+/// that the node has 2^32 - 1 texts or references; the fields are then as they were.
+pub fn set_field(
+    node: &mut NodeStore,
+    oid: Oid,
+    field: u32,
+    value: &Value,
+) -> Result<(), AllocError>
+    requires owns { OwnsWord (store_of node.old) (OfObject oid) field }
+    requires text { HasRoom (store_of node.old) value.now }
+    ensures puts { OnOk result ((o : ObjectRec) → Shown (store_of node.old) (OfObject oid) (object_thing oid o) → field < length o.fields →
+        Puts (store_of node.old) (store_of node.new) (OfObject oid) (Some (object_thing oid (with_element field value.now o)))) }
+    ensures texts { OnOk result ((text : List ℕ) →
+        InPool (store_of node.new) text ↔ (InPool (store_of node.old) text ⊎ (value.now ≡ Str text))) }
+{
+    let word = word_for(node, value)?;
+    node.set_object_word(oid, field, word);
+    Ok(())
+}
+
 #[cfg(test)]
 mod tests {
     use super::*;
@@ -73,6 +95,8 @@ mod tests {
         assert_eq!(rt; node.object_word(3, 2), 0);
         assert_eq!(rt; node.object_word(3, 3), 1);
         assert_eq!(rt; node.free_blocks(), 0);
+        set_field(&mut node, 3, 1, &Value::Ref(4))?;
+        assert_eq!(rt; node.text_free(), 16);
         Ok(())
     }
 }
