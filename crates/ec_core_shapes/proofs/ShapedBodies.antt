@@ -240,7 +240,10 @@ module _ (types : ℕ) where
       let inner : Scope = in_a_process env.scope in
       let below : ScopeBelow types inner = below_in_a_process types env.scope s in
       both_shaped types (just_operation (process_operation class env name p)) (p.block.made inner)
-      (record { operations = (record { block = h.1.core (env_in inner env.captures) s.names; variables = h.1.locals inner below n }, tt); classes = tt })
+      (record {
+        operations = (record { block = h.1.core (env_in inner env.captures) s.names; variables = h.1.locals inner below n }, tt);
+        classes = tt;
+      })
       (h.1.made inner below n)
 
   -- ---- the whole

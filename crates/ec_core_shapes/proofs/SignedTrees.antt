@@ -344,24 +344,29 @@ member_at y =
     (member_is y))
 
 operation_is : (y : OperationWith knowing) →
-    KnowingOperation (operation_step (operation_mapped (bare_operation knowing y))) (conform.operation_step (operation_declared (bare_operation knowing y)))
+    KnowingOperation (operation_step (operation_mapped (bare_operation knowing y)))
+    (conform.operation_step (operation_declared (bare_operation knowing y)))
 operation_is y = λ scope is_monitored e.
     signatures.operation_declares scope is_monitored y.is_exported (operation_step (operation_mapped (bare_operation knowing y)))
     (in_block y.block.0) y.block.1 e
 
 operation_at : (y : OperationWith knowing) → IsKnowingOperation (roll-Operation (bare_operation knowing y))
 operation_at y =
-    subst (λ x. KnowingOperation x (in_operation (roll-Operation (bare_operation knowing y)))) (sym (operation_rolled (bare_operation knowing y)))
-    (subst (KnowingOperation (operation_step (operation_mapped (bare_operation knowing y)))) (sym (operation_declares (bare_operation knowing y)))
+    subst (λ x. KnowingOperation x (in_operation (roll-Operation (bare_operation knowing y))))
+    (sym (operation_rolled (bare_operation knowing y)))
+    (subst (KnowingOperation (operation_step (operation_mapped (bare_operation knowing y))))
+    (sym (operation_declares (bare_operation knowing y)))
     (operation_is y))
 
 process_is : (y : ProcessWith knowing) →
-    KnowingProcess (process_step (process_mapped (bare_process knowing y))) (conform.process_step (process_declared (bare_process knowing y)))
+    KnowingProcess (process_step (process_mapped (bare_process knowing y)))
+    (conform.process_step (process_declared (bare_process knowing y)))
 process_is y = λ scope e. y.block.1 (in_a_process scope) (none_left _ _ e)
 
 process_at : (y : ProcessWith knowing) → IsKnowingProcess (roll-ProcessSection (bare_process knowing y))
 process_at y =
-    subst (λ x. KnowingProcess x (in_process (roll-ProcessSection (bare_process knowing y)))) (sym (process_rolled (bare_process knowing y)))
+    subst (λ x. KnowingProcess x (in_process (roll-ProcessSection (bare_process knowing y))))
+    (sym (process_rolled (bare_process knowing y)))
     (subst (KnowingProcess (process_step (process_mapped (bare_process knowing y)))) (sym (process_declares (bare_process knowing y)))
     (process_is y))
 
@@ -411,7 +416,8 @@ object_is y = λ scope e.
 
 object_at : (y : ObjectWith knowing) → IsKnowingObject (roll-ObjectConstructor (bare_object knowing y))
 object_at y =
-    subst (λ x. KnowingObject x (in_constructor (roll-ObjectConstructor (bare_object knowing y)))) (sym (object_rolled (bare_object knowing y)))
+    subst (λ x. KnowingObject x (in_constructor (roll-ObjectConstructor (bare_object knowing y))))
+    (sym (object_rolled (bare_object knowing y)))
     (subst (KnowingObject (object_step (object_mapped (bare_object knowing y)))) (sym (object_declares (bare_object knowing y)))
     (object_is y))
 

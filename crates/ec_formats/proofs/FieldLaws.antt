@@ -1,5 +1,6 @@
 -- The laws of single fields.
-use Rattle.std.proofs.Common.{◌≡◌, ℕ, zero, suc, ◌^◌, ◌<◌, ◌≤◌, Bool, true, false, ◌&&◌, cond, ltb, ◌-◌, List, [], ◌∷◌, ◌++◌, length, take, drop, Ok, Err, refl, sym, ap, subst, ◌∙◌, append_assoc, arith, inl, inr}
+use Rattle.std.proofs.Common.{◌≡◌, ℕ, zero, suc, ◌^◌, ◌<◌, ◌≤◌, Bool, true, false, ◌&&◌, cond, ltb, ◌-◌, List, [], ◌∷◌, ◌++◌, length, take}
+use Rattle.std.proofs.Common.{drop, Ok, Err, refl, sym, ap, subst, ◌∙◌, append_assoc, arith, inl, inr}
 use Rattle.std.specs.Prelude.{ℤ, pos, negsuc, nat_eq}
 use Rattle.std.specs.List.{starts_with}
 use Rattle.std.specs.Cmp.Lexicographic.{pointwise}
@@ -10,9 +11,11 @@ use Rattle.std.proofs.lemmas.List.{take_at, drop_at, take-append-drop, length-ap
 use Rattle.std.proofs.lemmas.Nat.{be_bytes_4, from_be_bytes-to_be_bytes_4}
 use Rattle.ec_formats.specs.Format.{Read, IsBytes, Takes, IsLawful}
 use Rattle.ec_formats.specs.Combinators.{such_that}
-use Rattle.ec_formats.specs.Fields.{byte_at, byte, number_at, word, number, at_most, at_least, above, number_up_to, number_from, number_above, mark, integer_fits, integer, truth_of, number_of_truth, truth, text_at, text}
+use Rattle.ec_formats.specs.Fields.{byte_at, byte, number_at, word, number, at_most, at_least, above, number_up_to, number_from}
+use Rattle.ec_formats.specs.Fields.{number_above, mark, integer_fits, integer, truth_of, number_of_truth, truth, text_at, text}
 use Rattle.ec_formats.proofs.Bytes.{IsBytes-drop, IsBytes-take, IsBytes-rest, Takes-then, rest_within}
-use Rattle.ec_formats.proofs.Steps.{bind_ok, bind_err, done, passed, not_passed, guarded, not_guarded, ok_is, both, first_of_both, second_of_both}
+use Rattle.ec_formats.proofs.Steps.{bind_ok, bind_err, done, passed, not_passed, guarded, not_guarded, ok_is, both, first_of_both}
+use Rattle.ec_formats.proofs.Steps.{second_of_both}
 use Rattle.ec_formats.proofs.CombinatorLaws.{such_that_law, through_law}
 
 -- bytes

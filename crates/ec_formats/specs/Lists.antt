@@ -1,5 +1,6 @@
 -- Formats of values that may be missing, and of lists.
-use Rattle.std.specs.Prelude.{◌≡◌, ℕ, zero, suc, ◌^◌, Bool, true, ◌&&◌, List, [], ◌∷◌, ◌++◌, length, take, slice_get, Option, Some, None, Ok, Err, nat_lt}
+use Rattle.std.specs.Prelude.{◌≡◌, ℕ, zero, suc, ◌^◌, Bool, true, ◌&&◌, List, [], ◌∷◌, ◌++◌, length, take, slice_get, Option, Some, None}
+use Rattle.std.specs.Prelude.{Ok, Err, nat_lt}
 use Rattle.ec_formats.specs.Format.{◌>>=◌, Format, Read}
 use Rattle.ec_formats.specs.Fields.{byte_at, word, at_most, number_up_to}
 

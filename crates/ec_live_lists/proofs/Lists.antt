@@ -1,5 +1,6 @@
 -- Each place of code has its list of live variables: those of the numbers that the code names.
-use Rattle.std.proofs.Common.{◌≡◌, ℕ, zero, suc, ◌+◌, ◌<◌, inl, inr, ⊎_elim, List, [], ◌∷◌, ◌++◌, length, Some, slice_get, refl, ap, sym, subst}
+use Rattle.std.proofs.Common.{◌≡◌, ℕ, zero, suc, ◌+◌, ◌<◌, inl, inr, ⊎_elim, List, [], ◌∷◌, ◌++◌, length, Some, slice_get, refl, ap, sym}
+use Rattle.std.proofs.Common.{subst}
 use Rattle.std.proofs.Common.{arith}
 use Rattle.ec_code.specs.Fine.{IsIn}
 use Rattle.ec_code.specs.declared.code.Op.{Op}

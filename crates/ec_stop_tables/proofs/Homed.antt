@@ -1,5 +1,6 @@
 -- The homes of a table fit the code of its operation.
-use Rattle.std.proofs.Common.{◌≡◌, ◌≢◌, ℕ, zero, suc, ◌+◌, ◌<◌, ◌≤◌, ◌⊎◌, inl, inr, ⊎_elim, Bool, true, false, ◌||◌, List, [], ◌∷◌, ◌++◌, drop, length, map}
+use Rattle.std.proofs.Common.{◌≡◌, ◌≢◌, ℕ, zero, suc, ◌+◌, ◌<◌, ◌≤◌, ◌⊎◌, inl, inr, ⊎_elim, Bool, true, false, ◌||◌, List, [], ◌∷◌, ◌++◌}
+use Rattle.std.proofs.Common.{drop, length, map}
 use Rattle.std.proofs.Common.{Option, Some, None, refl, sym, ap, ◌∙◌, subst, arith}
 use Rattle.std.specs.Prelude.{slice_get}
 use Rattle.std.proofs.lemmas.Bool.Decides.{nat_tests}
@@ -64,7 +65,8 @@ met_here : (x to : Variable) (line : Line) (rest : List Line) → writes line.op
 met_here x to line rest w h =
     let behind = live_first rest in
     let met : IsIn to (met_behind x (Some to) behind) =
-    in_back to (all_if (is_same x to) behind) (all_if (is_among x behind) (to ∷ [])) (if_in (is_among x behind) to (to ∷ []) (among x behind h) (inl refl)) in
+    in_back to (all_if (is_same x to) behind) (all_if (is_among x behind) (to ∷ []))
+    (if_in (is_among x behind) to (to ∷ []) (among x behind h) (inl refl)) in
     in_back to (all_if (is_among x (live_in line)) (live_in line)) (met_behind x (writes line.op) behind)
     (subst (λ o. IsIn to (met_behind x o behind)) (sym w) met)
 

@@ -1,5 +1,6 @@
 -- The map of addresses, with one stop more and with the stops of one operation more.
-use Rattle.std.proofs.Common.{◌≡◌, ◌≢◌, ℕ, zero, suc, ◌+◌, ◌<◌, ◌≤◌, Bool, true, false, List, [], ◌∷◌, ◌++◌, length, map, take, Option, Some, None, refl}
+use Rattle.std.proofs.Common.{◌≡◌, ◌≢◌, ℕ, zero, suc, ◌+◌, ◌<◌, ◌≤◌, Bool, true, false, List, [], ◌∷◌, ◌++◌, length, map, take, Option}
+use Rattle.std.proofs.Common.{Some, None, refl}
 use Rattle.std.proofs.Common.{sym, ap, ◌∙◌, subst, arith, ◌⊎◌, inl, inr, ⊎_elim, cond}
 use Rattle.std.specs.Prelude.{slice_get, ◌==◌}
 use Rattle.std.specs.BTreeMap.{BTreeMap, Updates, get, is_at}
@@ -96,7 +97,8 @@ pub map_append : (os : List OperationCode) (o : OperationCode) → map (λ p. p.
 map_append [] o = refl
 map_append (p ∷ os) o = ap (λ l. p.stops ∷ l) (map_append os o)
 
-address_same : (os : List OperationCode) (op n : ℕ) → slice_get (row_or_empty (slice_get (map (λ p. p.stops) os) op)) n ≡ slice_get (stops_if (slice_get os op)) n
+address_same : (os : List OperationCode) (op n : ℕ) →
+    slice_get (row_or_empty (slice_get (map (λ p. p.stops) os) op)) n ≡ slice_get (stops_if (slice_get os op)) n
 address_same [] op n = refl
 address_same (o ∷ os) zero n = refl
 address_same (o ∷ os) (suc op) n = address_same os op n
@@ -108,7 +110,8 @@ take_all (o ∷ os) zero h = absurd (omega arith)
 take_all (o ∷ os) (suc n) h = ap (λ l. o ∷ l) (take_all os n (omega arith))
 
 pub found_all : (below : ℕ) (found : BTreeMap ℕ StopId) (code : Code) (of : List (List ℕ)) →
-    of ≡ map (λ o. o.stops) (take below code.operations) → length code.operations ≤ below → IsFoundBelow below found code → AreFound found of
+    of ≡ map (λ o. o.stops) (take below code.operations) → length code.operations ≤ below → IsFoundBelow below found code →
+    AreFound found of
 found_all below found code of is all so_far =
     let same : of ≡ map (λ o. o.stops) code.operations = is ∙ ap (map (λ o. o.stops)) (take_all code.operations below all) in
     let are : (op n : ℕ) → address_in of op n ≡ address_of code op n =

@@ -1,5 +1,6 @@
 -- The parts of the wire form are lawful formats.
-use Rattle.std.proofs.Common.{◌≡◌, ℕ, zero, suc, ◌+◌, ◌-◌, ◌≤◌, true, List, [], ◌∷◌, ◌++◌, length, Result, Ok, Err, refl, subst, arith, inl, inr}
+use Rattle.std.proofs.Common.{◌≡◌, ℕ, zero, suc, ◌+◌, ◌-◌, ◌≤◌, true, List, [], ◌∷◌, ◌++◌, length, Result, Ok, Err, refl, subst, arith, inl}
+use Rattle.std.proofs.Common.{inr}
 use Rattle.ec_base.specs.Stack.{top_of}
 use Rattle.ec_world.specs.declared.value.Value.{Value}
 use Rattle.ec_world.specs.declared.value.Value.TheVariants.{Int, Str, Ref, Nil, Bool as Truth}
@@ -9,7 +10,8 @@ use Rattle.ec_formats.specs.Lists.{list_of}
 use Rattle.ec_formats.proofs.Bytes.{Takes-behind}
 use Rattle.ec_formats.proofs.Steps.{bind_ok, bind_err, ok_is}
 use Rattle.ec_formats.proofs.CombinatorLaws.{such_that_law, pair_law, through_law}
-use Rattle.ec_formats.proofs.FieldLaws.{mark_law, number_law, number_from_law, number_above_law, integer_law, truth_law, truth_fits, text_law}
+use Rattle.ec_formats.proofs.FieldLaws.{mark_law, number_law, number_from_law, number_above_law, integer_law, truth_law, truth_fits}
+use Rattle.ec_formats.proofs.FieldLaws.{text_law}
 use Rattle.ec_formats.proofs.ListLaws.{optional_law, list_law}
 use Rattle.ec_formats.proofs.Wholes.{whole_within}
 use Rattle.ec_wire.specs.declared.parcel.ObjectPart.{ObjectPart}
@@ -17,7 +19,8 @@ use Rattle.ec_wire.specs.declared.parcel.MonitorPart.{MonitorPart}
 use Rattle.ec_wire.specs.declared.parcel.ActivationPart.{ActivationPart}
 use Rattle.ec_wire.specs.declared.parcel.Contents.{Contents}
 use Rattle.ec_wire.specs.Laws.{FaultsWithin}
-use Rattle.ec_wire.specs.WireForm.{value_spell, value_fits, tagged, value_read, value, last_number, object, hold, most, monitor_record, last_object, monitor, process_follows, depth_follows, activation, letters, version, parcel}
+use Rattle.ec_wire.specs.WireForm.{value_spell, value_fits, tagged, value_read, value, last_number, object, hold, most, monitor_record}
+use Rattle.ec_wire.specs.WireForm.{last_object, monitor, process_follows, depth_follows, activation, letters, version, parcel}
 
 -- values
 

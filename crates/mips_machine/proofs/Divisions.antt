@@ -30,7 +30,8 @@ below_quotient a zero h far = let ne : a ≢ 2 ^ 31 - 1 = λ e. far e refl in om
 below_quotient a (suc b) h far = omega arith
 
 -- only the least number by -1 has a quotient that doesn't fit
-pub quotient_fits : (x y : ℤ) → FitsSigned w32 x → 0 < unsigned_abs y → (x ≡ negsuc (2 ^ 31 - 1) → y ≢ negsuc 0) → FitsSigned w32 (int_div x y)
+pub quotient_fits : (x y : ℤ) → FitsSigned w32 x → 0 < unsigned_abs y → (x ≡ negsuc (2 ^ 31 - 1) → y ≢ negsuc 0) →
+    FitsSigned w32 (int_div x y)
 quotient_fits (pos a) (pos b) f g far = record { sfits = omega (arith, f.sfits, div-le_self a b) }
 quotient_fits (pos a) (negsuc b) f g far = negated_fits (a / suc b) (omega (arith, f.sfits, div-le_self a (suc b)))
 quotient_fits (negsuc a) (pos b) f g far = negated_fits (suc a / b) (omega (arith, f.sfits, div-le_self (suc a) b))

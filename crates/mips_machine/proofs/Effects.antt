@@ -1,6 +1,7 @@
 -- The effect of one instruction, with the no-ops that it asks for behind it: from rest to rest, by what it finds and what it leaves.
 -- A code generator cites these.
-use Rattle.std.proofs.Common.{◌≡◌, ◌≢◌, ℕ, zero, suc, ◌+◌, ◌-◌, ◌*◌, ◌/◌, ◌%◌, ◌^◌, ◌<◌, ◌≤◌, List, Some, refl, sym, ap, ◌∙◌, subst, arith, cond}
+use Rattle.std.proofs.Common.{◌≡◌, ◌≢◌, ℕ, zero, suc, ◌+◌, ◌-◌, ◌*◌, ◌/◌, ◌%◌, ◌^◌, ◌<◌, ◌≤◌, List, Some, refl, sym, ap, ◌∙◌, subst, arith}
+use Rattle.std.proofs.Common.{cond}
 use Rattle.std.proofs.Common.{true, false, length-set, ⊎_elim, lit<}
 use Rattle.std.specs.Prelude.{slice_index, slice_set, ◌==◌, ◌&&◌, ◌||◌, not, nat_lt, is_some, IsSome}
 use Rattle.std.proofs.lemmas.Bool.{cases_lt}

@@ -203,7 +203,8 @@ pub no_jump_in_slot : (code : List ℕ) (s t : State) (i j : Instr) (next : Next
     (next ≡ Traps Slot) ↔ ((is_jump j && is_jump i) ≡ true)
 no_jump_in_slot code s t i j next d at step =
     let f : t.flow.delayed ≡ is_jump i = ap (λ x. x.delayed) (flow_is code s t i d) in
-    let rest : Next = cond (touches j t.flow.loaded) (Traps LoadDelay) (cond (sets_hilo j && is_recent t.flow.since) (Traps HiLo) (does j t)) in
+    let rest : Next = cond (touches j t.flow.loaded) (Traps LoadDelay)
+    (cond (sets_hilo j && is_recent t.flow.since) (Traps HiLo) (does j t)) in
     let other : rest ≢ Traps Slot =
     on_either (λ x. x ≢ Traps Slot) (touches j t.flow.loaded) (Traps LoadDelay) _ (λ e. (cc))
     (on_either (λ x. x ≢ Traps Slot) (sets_hilo j && is_recent t.flow.since) (Traps HiLo) _ (λ e. (cc)) (does_not j t Slot slot_hazard)) in

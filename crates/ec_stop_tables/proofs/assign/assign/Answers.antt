@@ -16,7 +16,8 @@ table_of-requires c =
     let i = c.loop-operation.operation-index in
     let o = c.operation-item.result in
     let read = slice_get_read items (length items) i o refl c.loop-operation-test.true c.operation-item.is in
-    let there : slice_get c.args.parts.now.operations i ≡ Some o = ap (λ l. slice_get l i) (sym c.as_slice-operation-items.ensures) ∙ read in
+    let there : slice_get c.args.parts.now.operations i ≡ Some o =
+    ap (λ l. slice_get l i) (sym c.as_slice-operation-items.ensures) ∙ read in
     record { small = all_at IsSmallOperation c.args.parts.now.operations i o c.requires.limits.operations there }
 
 pub loop-operation-preserved : goal.loop-operation-preserved

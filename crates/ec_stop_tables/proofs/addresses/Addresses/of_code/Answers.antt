@@ -26,4 +26,5 @@ loop-op-preserved c =
     }
 
 pub invariant_of-result : goal.invariant_of-result
-invariant_of-result c = found_all c.loop-op.op c.loop-op.at c.args.code.now c.loop-op.of c.loop-op.invariant.of (omega arith) c.loop-op.invariant.at
+invariant_of-result c =
+    found_all c.loop-op.op c.loop-op.at c.args.code.now c.loop-op.of c.loop-op.invariant.of (omega arith) c.loop-op.invariant.at
