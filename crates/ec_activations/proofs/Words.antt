@@ -83,7 +83,7 @@ held_is p a ls S each i h e =
     let value : h.value ≡ value_in p a m.0.variable = ap (λ (k : Held). k.value) m.2 in
     (value ∙ ap (value_in p a) (sym variable), subst S (sym variable) (each m.0 (in_list ls i m.0 m.1)))
 
-typed_variable : (live : List Live) (x : Variable) → (typed live x).variable ≡ x
+pub typed_variable : (live : List Live) (x : Variable) → (typed live x).variable ≡ x
 typed_variable [] x = refl
 typed_variable (l ∷ ls) x = by (is_same l.variable x) refl (typed_variable ls x)
   where

@@ -1,8 +1,9 @@
 -- An object comes with words for its values.
 use Rattle.std.proofs.Common.{◌≡◌, ℕ, zero, suc, List, [], ◌∷◌, length, Some, None, refl, sym, ap, ◌∙◌, arith}
-use Rattle.std.specs.Prelude.{slice_get, ◌↔◌, ◌⊎◌}
+use Rattle.std.specs.Prelude.{slice_get}
 use Rattle.ec_base.proofs.Lists.{get_there, get_within}
 use Rattle.ec_nodes.specs.declared.key.Key.TheVariants.{Object}
+use Rattle.ec_objects.proofs.Gets.{gets_on, gets_words}
 use Rattle.ec_objects.proofs.Wording.{grown_on}
 use Rattle.ec_nodes.specs.declared.key.Key.{Key}
 use Rattle.ec_objects.specs.Values.{HasWords, TextsFit}
@@ -10,7 +11,7 @@ use Rattle.ec_stores.proofs.Putting.{created_puts, rest_grown}
 use Rattle.ec_stores.specs.Changes.{OnlyTables, PlacedObject}
 use Rattle.ec_things.proofs.Kept.{carries_of, stands_kept}
 use Rattle.ec_things.specs.Store.{KeptRow, Stands, Store}
-use Rattle.ec_things.specs.Texts.{InPool}
+use Rattle.ec_things.specs.Texts.{GetsTexts}
 use Rattle.ec_things.specs.Things.{Puts, object_thing, row_size}
 use Rattle.ec_world.specs.Group.{Has}
 use Rattle.ec_world.specs.declared.object.ObjectRec.{ObjectRec}
@@ -48,24 +49,22 @@ module _ (s m s' : Store) (oid : ℕ) (o : ObjectRec) (words : List ℕ) (has : 
         let g = has.only.free in
         let r : row_size (m.row (Object oid)) ≡ row_size (s.row (Object oid)) = ap row_size (has.only.rows (Object oid)) in
         omega (arith, f, g, r);
+    count = puts_here.count ∙ has.only.count;
   }
 
-  pub object_texts : (text : List ℕ) → InPool s' text ↔ (InPool s text ⊎ Has o.fields (Str text))
-  object_texts text = (
-    λ h. (has.texts text).0 (h.0, sym (placed.placed.rest.text h.0) ∙ h.1),
-    λ h. let p = (has.texts text).1 h in (p.0, placed.placed.rest.text p.0 ∙ p.1),
-  )
+  pub object_texts : GetsTexts (λ text. Has o.fields (Str text)) s s'
+  object_texts = gets_on s m s' (λ text. Has o.fields (Str text)) (gets_words s m o.fields words has) placed.placed.rest
 
 -- none of these is a text
-abbrev pub NoTexts : List Value → Type 0
-NoTexts [] = Unit {0}
-NoTexts (Str t ∷ vs) = ⊥
-NoTexts (Int z ∷ vs) = NoTexts vs
-NoTexts (Truth b ∷ vs) = NoTexts vs
-NoTexts (Ref o ∷ vs) = NoTexts vs
-NoTexts (Nil ∷ vs) = NoTexts vs
+abbrev pub AreNoTexts : List Value → Type 0
+AreNoTexts [] = Unit {0}
+AreNoTexts (Str t ∷ vs) = ⊥
+AreNoTexts (Int z ∷ vs) = AreNoTexts vs
+AreNoTexts (Truth b ∷ vs) = AreNoTexts vs
+AreNoTexts (Ref o ∷ vs) = AreNoTexts vs
+AreNoTexts (Nil ∷ vs) = AreNoTexts vs
 
-none_has : (vs : List Value) (i : ℕ) (text : List ℕ) → NoTexts vs → slice_get vs i ≡ Some (Str text) → ⊥
+none_has : (vs : List Value) (i : ℕ) (text : List ℕ) → AreNoTexts vs → slice_get vs i ≡ Some (Str text) → ⊥
 none_has [] i text n e = cc
 none_has (Str t ∷ vs) i text n e = n
 none_has (Int z ∷ vs) zero text n e = cc
@@ -77,7 +76,7 @@ none_has (Ref o ∷ vs) (suc i) text n e = none_has vs i text n e
 none_has (Nil ∷ vs) zero text n e = cc
 none_has (Nil ∷ vs) (suc i) text n e = none_has vs i text n e
 
-pub no_texts_fit : (s : Store) (vs : List Value) → NoTexts vs → TextsFit s vs
+pub no_texts_fit : (s : Store) (vs : List Value) → AreNoTexts vs → TextsFit s vs
 no_texts_fit s vs none = record {
   bytes = 0;
   needs = record {

@@ -1,5 +1,9 @@
+pub mod Reading
 pub mod Removing
 pub mod Rooms
 pub mod Wording
 pub mod Creating
 pub mod Setting
+pub mod Gets
+pub mod Rows
+pub mod Defining

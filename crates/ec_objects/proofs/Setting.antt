@@ -1,20 +1,21 @@
 -- A field of an object that is shown gets another value.
 use Rattle.std.proofs.Common.{◌≡◌, ◌≢◌, ℕ, ◌*◌, ◌/◌, ◌%◌, ◌<◌, List, length, Option, Some, None, refl, sym, ap, ◌∙◌, subst, arith, ⊎_elim}
-use Rattle.std.specs.Prelude.{slice_get, slice_set, ◌↔◌, ◌⊎◌}
+use Rattle.std.specs.Prelude.{slice_get, slice_set}
 use Rattle.std.proofs.lemmas.Option.{same_Some}
 use Rattle.ec_base.proofs.Lists.{get_set_other, get_set_same, get_within, length_set}
 use Rattle.ec_nodes.specs.Things.{class_blocks}
 use Rattle.ec_nodes.specs.declared.key.Key.{Key}
 use Rattle.ec_nodes.specs.declared.key.Key.TheVariants.{Object}
 use Rattle.ec_objects.proofs.Creating.{kept_on, only_kept}
+use Rattle.ec_objects.proofs.Gets.{gets_on, gets_word}
 use Rattle.ec_objects.proofs.Wording.{grown_on}
 use Rattle.ec_objects.specs.Values.{HasWord}
 use Rattle.ec_stores.proofs.Putting.{rest_grown}
-use Rattle.ec_stores.specs.Changes.{WritesWord}
+use Rattle.ec_stores.specs.Changes.{SameRest, WritesWord}
 use Rattle.ec_things.proofs.Kept.{carries_of, stands_kept}
 use Rattle.ec_things.proofs.Put.{same_or_not}
 use Rattle.ec_things.specs.Store.{Grown, Owned, StandsAt, Store, Tidy, word_in, word_of}
-use Rattle.ec_things.specs.Texts.{InPool}
+use Rattle.ec_things.specs.Texts.{GetsTexts}
 use Rattle.ec_things.specs.Things.{Puts, Shown, object_thing, row_size}
 use Rattle.ec_world.specs.Outcomes.{with_element}
 use Rattle.ec_world.specs.declared.object.ObjectRec.{ObjectRec}
@@ -29,13 +30,21 @@ within s blocks at w e = by (slice_get blocks (at / 128)) refl e
     by None f g = absurd cc
     by (Some b) f g = let l = get_within blocks (at / 128) b f in omega (arith, l)
 
-tidy_same : (s s' : Store) → ((key : Key) → s'.row key ≡ s.row key) → ((i : ℕ) → s'.local i ≡ s.local i) →
-    ((i : ℕ) → s'.text i ≡ s.text i) → Tidy s → Tidy s'
-tidy_same s s' rows locals texts t = record {
+tidy_same : (s s' : Store) → ((key : Key) → s'.row key ≡ s.row key) → SameRest s s' → Tidy s → Tidy s'
+tidy_same s s' rows rest t = record {
   apart = λ a b r q x e f. t.apart a b r q x (sym (rows a) ∙ e) (sym (rows b) ∙ f);
-  nil = locals 0 ∙ t.nil;
-  locals = λ i j oid e f. t.locals i j oid (sym (locals i) ∙ e) (sym (locals j) ∙ f);
-  texts = λ i j u e f. t.texts i j u (sym (texts i) ∙ e) (sym (texts j) ∙ f);
+  nil = rest.local 0 ∙ t.nil;
+  locals = λ i j oid e f. t.locals i j oid (sym (rest.local i) ∙ e) (sym (rest.local j) ∙ f);
+  texts = λ i j u e f. t.texts i j u (sym (rest.text i) ∙ e) (sym (rest.text j) ∙ f);
+  filled = record {
+    texts = t.filled.texts;
+    once = t.filled.once;
+    these = λ text. (
+      λ h. let x = (t.filled.these text).0 h in (x.0, rest.text x.0 ∙ x.1),
+      λ h. (t.filled.these text).1 (h.0, sym (rest.text h.0) ∙ h.1),
+    );
+    bytes = (let b = t.filled.bytes in let r = rest.text_room in let f = rest.text_free in omega (arith, b, r, f));
+  };
 }
 
 module _ (s m s' : Store) (oid field w : ℕ) (v : Value) (has : HasWord s m v w) (writes : WritesWord m s' (Object oid) field w) where
@@ -113,16 +122,14 @@ module _ (s m s' : Store) (oid field w : ℕ) (v : Value) (has : HasWord s m v w
       };
       others = λ other ne. kept_on s m s' other (only_kept s m other has.only) (writes.others other ne);
       grown = grown;
-      tidy = λ before. tidy_same m s' writes.rows writes.rest.local writes.rest.text has.only.tidy;
+      tidy = λ before. tidy_same m s' writes.rows writes.rest has.only.tidy;
       free =
           let f = writes.free in
           let g = has.only.free in
           let r : row_size (s.row key) ≡ length shown.row.blocks = ap row_size shown.there in
           omega (arith, f, g, r, counted);
+      count = writes.rest.count ∙ has.only.count;
     }
 
-  pub field_texts : (text : List ℕ) → InPool s' text ↔ (InPool s text ⊎ (v ≡ Str text))
-  field_texts text = (
-    λ h. (has.texts text).0 (h.0, sym (writes.rest.text h.0) ∙ h.1),
-    λ h. let p = (has.texts text).1 h in (p.0, writes.rest.text p.0 ∙ p.1),
-  )
+  pub field_texts : GetsTexts (λ text. v ≡ Str text) s s'
+  field_texts = gets_on s m s' (λ text. v ≡ Str text) (gets_word s m v w has) writes.rest

@@ -24,6 +24,7 @@ grown_on a b c g h = record {
   text = λ i t e. h.text i t (g.text i t e);
   global = λ i. h.global i ∙ g.global i;
   room = h.room ∙ g.room;
+  text_room = h.text_room ∙ g.text_room;
 }
 
 pub only_on : (a b c : Store) → OnlyTables a b → OnlyTables b c → OnlyTables a c
@@ -38,7 +39,7 @@ only_on a b c g h = record {
 
 pub only_self : (s : Store) → Tidy s → OnlyTables s s
 only_self s tidy = record {
-  grown = record { kind = refl; local = λ i o e. e; text = λ i t e. e; global = λ i. refl; room = refl };
+  grown = record { kind = refl; local = λ i o e. e; text = λ i t e. e; global = λ i. refl; room = refl; text_room = refl };
   rows = λ key. refl;
   words = λ x i. refl;
   free = refl;

@@ -1,2 +1,4 @@
 pub mod Values
+pub mod Kinds
 pub mod Loops
+pub mod Acts

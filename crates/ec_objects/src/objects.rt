@@ -1,11 +1,11 @@
 //! Objects come to a node.
-ghost use Rattle.std.specs.Prelude.{◌≡◌, ◌≤◌, ◌<◌, ◌*◌, ◌^◌, ℕ, length, List, None, OnOk, Some, ◌↔◌, ◌⊎◌};
+ghost use Rattle.std.specs.Prelude.{◌≡◌, ◌≤◌, ◌<◌, ◌*◌, ◌^◌, length, None, OnOk, Some};
 ghost use Rattle.ec_nodes.specs.Things as spec;
 ghost use Rattle.ec_nodes.specs.declared.key.Key.TheVariants.{Object as OfObject};
 ghost use Rattle.ec_objects.specs.Values.{HasRoom, TextsFit};
 ghost use Rattle.ec_stores.specs.Changes.{OwnsWord};
 ghost use Rattle.ec_stores.specs.Node.{store_of};
-ghost use Rattle.ec_things.specs.Texts.{InPool};
+ghost use Rattle.ec_things.specs.Texts.{GetsTexts};
 ghost use Rattle.ec_things.specs.Things.{Puts, Shown, object_thing};
 ghost use Rattle.ec_world.specs.Group.{Has};
 ghost use Rattle.ec_world.specs.Outcomes.{with_element};
@@ -37,8 +37,7 @@ pub fn create_object(
     requires texts { TextsFit (store_of node.old) fields.now }
     ensures puts { OnOk result (Puts (store_of node.old) (store_of node.new) (OfObject oid)
         (Some (object_thing oid (record { class = class; fields = fields.now; fixed = fixed; monitor = monitor })))) }
-    ensures texts { OnOk result ((text : List ℕ) →
-        InPool (store_of node.new) text ↔ (InPool (store_of node.old) text ⊎ Has fields.now (Str text))) }
+    ensures gets { OnOk result (GetsTexts (λ text. Has fields.now (Str text)) (store_of node.old) (store_of node.new)) }
 {
     let words = words_for(node, alloc, fields)?;
     node.create(
@@ -63,8 +62,7 @@ pub fn set_field(
     requires text { HasRoom (store_of node.old) value.now }
     ensures puts { OnOk result ((o : ObjectRec) → Shown (store_of node.old) (OfObject oid) (object_thing oid o) → field < length o.fields →
         Puts (store_of node.old) (store_of node.new) (OfObject oid) (Some (object_thing oid (with_element field value.now o)))) }
-    ensures texts { OnOk result ((text : List ℕ) →
-        InPool (store_of node.new) text ↔ (InPool (store_of node.old) text ⊎ (value.now ≡ Str text))) }
+    ensures gets { OnOk result (GetsTexts (λ text. value.now ≡ Str text) (store_of node.old) (store_of node.new)) }
 {
     let word = word_for(node, value)?;
     node.set_object_word(oid, field, word);

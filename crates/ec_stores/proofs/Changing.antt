@@ -52,6 +52,7 @@ module _ (node : NodeData) (old new : BTreeMap ℕ ObjectRow) (oid : ℕ) (row n
     owners = owned_alike (row_of node) (row_of after) (held node.memory) (held node.memory) laid.owners refl (λ b h. h) alike;
     locals = laid.locals;
     texts = laid.texts;
+    filled = laid.filled;
   }
 
 -- ---- a monitor is taken out and put back
@@ -63,6 +64,7 @@ rest_on s t u a b = record {
   local = λ i. b.local i ∙ a.local i;
   text = λ i. b.text i ∙ a.text i;
   room = b.room ∙ a.room;
+  text_room = b.text_room ∙ a.text_room;
   text_free = b.text_free ∙ a.text_free;
   count = b.count ∙ a.count;
 }

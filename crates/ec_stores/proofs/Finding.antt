@@ -1,6 +1,6 @@
 -- Maps by which references and texts are found, when one more comes behind the others.
-use Rattle.std.proofs.Common.{◌≡◌, ◌≢◌, ℕ, zero, suc, Bool, true, false, true≢false, List, [], ◌∷◌, ◌++◌, length, Option, Some}
-use Rattle.std.proofs.Common.{None, Vec, BTreeMap}
+use Rattle.std.proofs.Common.{◌≡◌, ◌≢◌, ℕ, zero, suc, ◌^◌, ◌<◌, Bool, true, false, true≢false, List, [], ◌∷◌, ◌++◌, length, Option, Some}
+use Rattle.std.proofs.Common.{arith, None, Vec, BTreeMap}
 use Rattle.std.proofs.Common.{refl, sym, ap, ◌∙◌, ◌⊎◌, inl, inr, ⊎_elim}
 use Rattle.std.specs.Prelude.{◌↔◌, IfNone, IfSome, IsTrue, is_some, slice_get}
 use Rattle.std.specs.BTreeMap.{Updates, get}
@@ -11,7 +11,7 @@ use Rattle.std.proofs.lemmas.Map.Text.{is_eq-slice_cmp}
 use Rattle.ec_nodes.proofs.Procs.{get_end}
 use Rattle.ec_nodes.proofs.Put.{same_or_not}
 use Rattle.ec_stores.specs.Tables.{ArePlaces, AreReferences, by_bytes, get_bytes, local_in}
-use Rattle.ec_stores.proofs.Numbers.{end_or, kept_end}
+use Rattle.ec_stores.proofs.Numbers.{end_or, kept_end, length_more}
 use Rattle.ec_stores.proofs.Keyed.{other_object}
 
 -- ---- references
@@ -20,6 +20,7 @@ pub no_references : (words : BTreeMap ℕ ℕ) → words.entries ≡ [] → AreR
 no_references words empty = record {
   each = λ i oid e. cc;
   only = λ oid word e. absurd (let none : get nat_cmp words oid ≡ None = rw empty refl in let no : ⊥ = cc in no);
+  few = omega arith;
 }
 
 pub local_kept : (xs : List ℕ) (x i b : ℕ) → local_in xs i ≡ Some b → local_in (xs ++ x ∷ []) i ≡ Some b
@@ -27,7 +28,7 @@ local_kept xs x zero b e = e
 local_kept xs x (suc i) b e = kept_end xs x i b e
 
 module _ (words words' : BTreeMap ℕ ℕ) (named : List ℕ) (oid word : ℕ) (are : AreReferences words named)
-    (absent : (i : ℕ) → slice_get named i ≢ Some oid) (count : word ≡ suc (length named))
+    (absent : (i : ℕ) → slice_get named i ≢ Some oid) (count : word ≡ suc (length named)) (few : word < 2 ^ 32)
     (updates : Updates nat_cmp words words' oid (Some word)) where
   pub references_added : AreReferences words' (named ++ oid ∷ [])
   references_added = record {
@@ -44,6 +45,7 @@ module _ (words words' : BTreeMap ℕ ℕ) (named : List ℕ) (oid word : ℕ) (
         ap (local_in (named ++ oid ∷ [])) (sym is ∙ count) ∙ get_end named oid ∙ ap Some (sym same))
         (λ (ne : o ≢ oid). local_kept named oid w o (are.only o w (sym (updates.2 o (other_object oid o ne)) ∙ e)))
         (same_or_not o oid);
+    few = (let n = length_more named oid in omega arith);
   }
     where
       by_some : (a b : ℕ) → Some a ≡ Some b → a ≡ b
@@ -81,11 +83,12 @@ module _ {Y : Type 0} where
   no_places places empty = record {
     each = λ i text e. cc;
     only = λ text i e. absurd (let none : get_bytes places text ≡ None = rw empty refl in let no : ⊥ = cc in no);
+    few = omega arith;
   }
 
   module _ (places places' : BTreeMap (Vec ℕ Y) ℕ) (texts : List (List ℕ)) (text : List ℕ) (key : Vec ℕ Y) (place : ℕ)
       (are : ArePlaces places texts) (absent : (i : ℕ) → slice_get texts i ≢ Some text) (count : place ≡ length texts)
-      (bytes : key.items ≡ text) (updates : Updates by_bytes places places' key (Some place)) where
+      (few : place < 2 ^ 32) (bytes : key.items ≡ text) (updates : Updates by_bytes places places' key (Some place)) where
     other_bytes : (t : List ℕ) → t ≢ text → get_bytes places' t ≡ get_bytes places t
     unfolding KeepsOthers
     other_bytes t ne = updates.3 (λ k. is_eq (slice_cmp nat_cmp t k.items))
@@ -110,6 +113,7 @@ module _ {Y : Type 0} where
           ap (slice_get (texts ++ text ∷ [])) (sym is ∙ count) ∙ get_end texts text ∙ ap Some (sym same))
           (λ (ne : t ≢ text). kept_end texts text i t (are.only t i (sym (other_bytes t ne) ∙ e)))
           (text_or_not t text);
+      few = (let n = length_more texts text in omega arith);
     }
       where
         by_some : (a b : ℕ) → Some a ≡ Some b → a ≡ b

@@ -14,7 +14,8 @@ use Rattle.ec_stores.specs.declared.rows.ObjectRow.{ObjectRow}
 use Rattle.ec_stores.proofs.Written.{zeros}
 
 pub is_fresh : (node : NodeData) (blocks room globals : ℕ) → IsWhole (held node.memory) → IsNew (held node.memory) blocks globals →
-    globals ≤ 1048576 → node.objects ≡ [] → node.frames ≡ [] → node.locals ≡ [] → node.pool ≡ record { texts = []; free = room } →
+    globals ≤ 1048576 → node.objects ≡ [] → node.frames ≡ [] → node.locals ≡ [] →
+    node.pool ≡ record { texts = []; room = room; free = room } →
     node.count ≡ 0 → IsFresh (store_of node) node.kind blocks room globals
 is_fresh node blocks room globals whole new few objects frames locals pool count = record {
   kind_is = refl;
@@ -25,6 +26,7 @@ is_fresh node blocks room globals whole new few objects frames locals pool count
   texts = λ i. ap (λ (p : TextPool). slice_get p.texts i) pool;
   room_is = new.links;
   free_is = new.free;
+  text_room_is = ap (λ (p : TextPool). p.room) pool;
   text_is = ap (λ (p : TextPool). p.free) pool;
   count_is = count;
 }

@@ -11,3 +11,4 @@ pub mod Comings
 pub mod Fresh
 pub mod Changing
 pub mod Putting
+pub mod Readable

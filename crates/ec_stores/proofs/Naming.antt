@@ -4,6 +4,7 @@ use Rattle.std.proofs.Common.{arith, inl, inr, ⊎_elim}
 use Rattle.std.specs.Prelude.{slice_get}
 use Rattle.ec_base.proofs.Lists.{get_there}
 use Rattle.ec_nodes.proofs.Procs.{get_end, get_past}
+use Rattle.ec_nodes.specs.Store.{text_bytes}
 use Rattle.ec_things.specs.Texts.{InPool}
 use Rattle.ec_stores.specs.Changes.{Interns, OnlyTables, Refers}
 use Rattle.ec_stores.specs.Node.{Laid, NodeData, store_of}
@@ -16,7 +17,7 @@ use Rattle.ec_stores.proofs.Placing.{tidy_laid}
 
 only_same : (node : NodeData) → Laid node → OnlyTables (store_of node) (store_of node)
 only_same node laid = record {
-  grown = record { kind = refl; local = λ j o h. h; text = λ j t h. h; global = λ j. refl; room = refl };
+  grown = record { kind = refl; local = λ j o h. h; text = λ j t h. h; global = λ j. refl; room = refl; text_room = refl };
   rows = λ key. refl;
   words = λ b j. refl;
   free = refl;
@@ -71,6 +72,7 @@ module _ (node : NodeData) (oid : ℕ) (locals : List ℕ) (laid : Laid node) (n
     locals = subst (λ (ls : List ℕ). (i j o : ℕ) → local_in ls i ≡ Some o → local_in ls j ≡ Some o → i ≡ j) (sym is)
         (locals_once node.locals oid new laid.locals);
     texts = laid.texts;
+    filled = laid.filled;
   }
 
   pub made_refers : (word : ℕ) → word ≡ length node.locals + 1 →
@@ -83,6 +85,7 @@ module _ (node : NodeData) (oid : ℕ) (locals : List ℕ) (laid : Laid node) (n
         text = λ j t h. h;
         global = λ j. refl;
         room = refl;
+        text_room = refl;
       };
       rows = λ key. refl;
       words = λ b j. refl;
@@ -98,7 +101,7 @@ module _ (node : NodeData) (oid : ℕ) (locals : List ℕ) (laid : Laid node) (n
 
 -- ---- a text comes
 
-texts_once : (pool : List (List ℕ)) (text : List ℕ) → ((i : ℕ) → slice_get pool i ≢ Some text) →
+pub texts_once : (pool : List (List ℕ)) (text : List ℕ) → ((i : ℕ) → slice_get pool i ≢ Some text) →
     ((i j : ℕ) (t : List ℕ) → slice_get pool i ≡ Some t → slice_get pool j ≡ Some t → i ≡ j) → (i j : ℕ) (t : List ℕ) →
     slice_get (pool ++ text ∷ []) i ≡ Some t → slice_get (pool ++ text ∷ []) j ≡ Some t → i ≡ j
 texts_once pool text new old i j t e f = ⊎_elim
@@ -112,15 +115,22 @@ texts_once pool text new old i j t e f = ⊎_elim
     (end_or pool text j t f))
     (end_or pool text i t e)
 
+pub bytes_end : (pool : List (List ℕ)) (text : List ℕ) → text_bytes (pool ++ text ∷ []) ≡ text_bytes pool + length text
+bytes_end [] text = omega arith
+bytes_end (t ∷ ts) text = let e = bytes_end ts text in omega (arith, e)
+
 module _ (node : NodeData) (text : List ℕ) (pool : TextPool) (laid : Laid node)
     (new : (i : ℕ) → slice_get node.pool.texts i ≢ Some text)
-    (is : pool ≡ record { texts = node.pool.texts ++ text ∷ []; free = node.pool.free - length text })
+    (is : pool ≡ record { texts = node.pool.texts ++ text ∷ []; room = node.pool.room; free = node.pool.free - length text })
     (room : length text ≤ node.pool.free) where
   not_in_pool : InPool (store_of node) text → ⊥
   not_in_pool h = new h.0 h.1
 
   texts_are : pool.texts ≡ node.pool.texts ++ text ∷ []
   texts_are = ap (λ (p : TextPool). p.texts) is
+
+  room_is : pool.room ≡ node.pool.room
+  room_is = ap (λ (p : TextPool). p.room) is
 
   pub laid_text : Laid (record node { pool = pool })
   laid_text = record {
@@ -130,6 +140,8 @@ module _ (node : NodeData) (text : List ℕ) (pool : TextPool) (laid : Laid node
     locals = laid.locals;
     texts = subst (λ (ts : List (List ℕ)). (i j : ℕ) (t : List ℕ) → slice_get ts i ≡ Some t → slice_get ts j ≡ Some t → i ≡ j)
         (sym texts_are) (texts_once node.pool.texts text new laid.texts);
+    filled = (let b = ap text_bytes texts_are in let e = bytes_end node.pool.texts text in let l = laid.filled in
+        let f = ap (λ (p : TextPool). p.free) is in omega (arith, b, e, l, f, room_is, room));
   }
 
   text_there : (j : ℕ) (t : List ℕ) → slice_get node.pool.texts j ≡ Some t → slice_get pool.texts j ≡ Some t
@@ -142,7 +154,7 @@ module _ (node : NodeData) (text : List ℕ) (pool : TextPool) (laid : Laid node
       Interns (store_of node) (store_of (record node { pool = pool })) text place
   made_interns place n = record {
     only = record {
-      grown = record { kind = refl; local = λ j o h. h; text = text_there; global = λ j. refl; room = refl };
+      grown = record { kind = refl; local = λ j o h. h; text = text_there; global = λ j. refl; room = refl; text_room = room_is };
       rows = λ key. refl;
       words = λ b j. refl;
       free = refl;

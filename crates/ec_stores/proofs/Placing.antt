@@ -27,7 +27,18 @@ use Rattle.ec_stores.proofs.Written.{same_word}
 
 -- what every store of a node keeps
 pub tidy_laid : (node : NodeData) → Laid node → Tidy (store_of node)
-tidy_laid node laid = record { apart = laid.owners.apart; nil = refl; locals = laid.locals; texts = laid.texts }
+tidy_laid node laid = record {
+  apart = laid.owners.apart;
+  nil = refl;
+  locals = laid.locals;
+  texts = laid.texts;
+  filled = record {
+    texts = node.pool.texts;
+    once = record { once = laid.texts };
+    these = λ text. (λ h. (h.at, h.is), λ h. record { at = h.0; is = h.1 });
+    bytes = laid.filled;
+  };
+}
 
 -- a node whose memory and owners alone have changed
 abbrev pub with_owners : NodeData → NodeMemory → List (ℕ × ObjectRow) → List ((ℕ × ℕ) × FrameRow) → NodeData
@@ -44,6 +55,7 @@ module _ (node : NodeData) (m : NodeMemory) (objects : List (ℕ × ObjectRow)) 
     owners = owners;
     locals = laid.locals;
     texts = laid.texts;
+    filled = laid.filled;
   }
 
   -- ---- an owner comes
@@ -125,6 +137,7 @@ module _ (node : NodeData) (m : NodeMemory) (objects : List (ℕ × ObjectRow)) 
         local = λ i. refl;
         text = λ i. refl;
         room = links_after;
+        text_room = refl;
         text_free = refl;
         count = refl;
       };
@@ -156,6 +169,7 @@ module _ (node : NodeData) (m : NodeMemory) (objects : List (ℕ × ObjectRow)) 
         local = λ j. refl;
         text = λ j. refl;
         room = gives.sized;
+        text_room = refl;
         text_free = refl;
         count = refl;
       };
@@ -187,6 +201,7 @@ module _ (node : NodeData) (m : NodeMemory) (laid : Laid node) where
         (same_alike (row_of node) (row_of node) (λ key. refl));
     locals = laid.locals;
     texts = laid.texts;
+    filled = laid.filled;
   }
 
   pub laid_filled : (blocks given : List ℕ) → FilledList node.memory m blocks given → Laid (record node { memory = m })
@@ -202,4 +217,5 @@ module _ (node : NodeData) (m : NodeMemory) (laid : Laid node) where
             (same_alike (row_of node) (row_of node) (λ key. refl));
         locals = laid.locals;
         texts = laid.texts;
+        filled = laid.filled;
       }

@@ -10,7 +10,14 @@ use Rattle.ec_world.specs.declared.value.Value.{Value}
 use Rattle.ec_stores.specs.Changes.{Closed, Placed, PlacedObject, SameRest, object_row}
 
 pub rest_grown : (s s' : Store) → SameRest s s' → Grown s s'
-rest_grown s s' r = record { kind = r.kind; local = λ i o e. r.local i ∙ e; text = λ i t e. r.text i ∙ e; global = r.global; room = r.room }
+rest_grown s s' r = record {
+  kind = r.kind;
+  local = λ i o e. r.local i ∙ e;
+  text = λ i t e. r.text i ∙ e;
+  global = r.global;
+  room = r.room;
+  text_room = r.text_room;
+}
 
 -- ---- an owner comes: its words are those given, which stand for what the thing is
 
@@ -46,6 +53,7 @@ placed_puts s s' key row given t placed new counted size class fixed monitor hea
   grown = rest_grown s s' placed.rest;
   tidy = λ before. placed.tidy;
   free = (let f = placed.free in let r : row_size (s.row key) ≡ 0 = ap row_size new in omega arith);
+  count = placed.rest.count;
 }
 
 -- an object comes, with a word for each of its fields or elements in their order
@@ -67,4 +75,5 @@ closed_puts s s' key closed = record {
   grown = rest_grown s s' closed.rest;
   tidy = λ before. closed.tidy;
   free = (let f = closed.free in omega arith);
+  count = closed.rest.count;
 }

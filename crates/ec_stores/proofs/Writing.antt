@@ -35,6 +35,7 @@ module _ (node : NodeData) (m : NodeMemory) (laid : Laid node) (same : SameMemor
         (same_alike (row_of node) (row_of node) (λ key. refl));
     locals = laid.locals;
     texts = laid.texts;
+    filled = laid.filled;
   }
 
   same_room : length (held m).links ≡ length (held node.memory).links
@@ -112,6 +113,7 @@ module _ (node : NodeData) (m : NodeMemory) (laid : Laid node) (same : SameMemor
           local = λ j. refl;
           text = λ j. refl;
           room = same_room;
+          text_room = refl;
           text_free = refl;
           count = refl;
         };
@@ -138,6 +140,7 @@ module _ (node : NodeData) (m : NodeMemory) (laid : Laid node) (same : SameMemor
           text = λ j. refl;
           room = same_room;
           free = same_free;
+          text_room = refl;
           text_free = refl;
           count = refl;
         }
@@ -206,4 +209,4 @@ pub laid_ran : (node : NodeData) (m : NodeMemory) (count : ℕ) → Laid node �
     Laid (record node { memory = m; count = count })
 laid_ran node m count laid same =
     let l = laid_same node m laid same in
-    record { order = l.order; whole = l.whole; owners = l.owners; locals = l.locals; texts = l.texts }
+    record { order = l.order; whole = l.whole; owners = l.owners; locals = l.locals; texts = l.texts; filled = l.filled }

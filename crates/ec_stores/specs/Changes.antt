@@ -82,6 +82,7 @@ pub record SameRest (s s' : Store) : Type 0 where
   pub local : (i : ℕ) → s'.local i ≡ s.local i
   pub text : (i : ℕ) → s'.text i ≡ s.text i
   pub room : s'.room ≡ s.room
+  pub text_room : s'.text_room ≡ s.text_room
   pub text_free : s'.text_free ≡ s.text_free
   pub count : s'.count ≡ s.count
 
@@ -96,6 +97,7 @@ pub record IsFresh (s : Store) (kind : Kind) (blocks text globals : ℕ) : Type 
   pub texts : (i : ℕ) → s.text i ≡ None
   pub room_is : s.room ≡ blocks
   pub free_is : s.free ≡ blocks
+  pub text_room_is : s.text_room ≡ text
   pub text_is : s.text_free ≡ text
   pub count_is : s.count ≡ 0
 
@@ -118,6 +120,7 @@ pub record WritesGlobal (s s' : Store) (i w : ℕ) : Type 0 where
   pub text : (j : ℕ) → s'.text j ≡ s.text j
   pub room : s'.room ≡ s.room
   pub free : s'.free ≡ s.free
+  pub text_room : s'.text_room ≡ s.text_room
   pub text_free : s'.text_free ≡ s.text_free
   pub count : s'.count ≡ s.count
 
@@ -196,6 +199,7 @@ pub record Ran (s s' : Store) (k : ℕ) : Type 0 where
   pub text : (i : ℕ) → s'.text i ≡ s.text i
   pub room : s'.room ≡ s.room
   pub free : s'.free ≡ s.free
+  pub text_room : s'.text_room ≡ s.text_room
   pub text_free : s'.text_free ≡ s.text_free
   pub count : s'.count ≡ min (s.count + k) (2 ^ 64 - 1)
 

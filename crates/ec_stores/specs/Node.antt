@@ -1,5 +1,5 @@
 -- What a node keeps, as data; the store that it is; and what it keeps by itself.
-use Rattle.std.specs.Prelude.{◌≡◌, ℕ, ◌<◌, false, List, [], ◌∷◌, length, Option, Some, None, slice_get, option_map}
+use Rattle.std.specs.Prelude.{◌≡◌, ℕ, ◌+◌, ◌<◌, false, List, [], ◌∷◌, length, Option, Some, None, slice_get, option_map}
 use Rattle.std.specs.BTreeMap.{is_at}
 use Rattle.std.specs.Map.{lookup}
 use Rattle.std.specs.Ordering.{nat_cmp, ordering_then}
@@ -7,6 +7,7 @@ use Rattle.std.specs.declared.cmp.Ordering.{Ordering}
 use Rattle.ec_base.specs.Bytes.{Bytes}
 use Rattle.ec_memory.specs.Store.{Store as Memory, IsWhole}
 use Rattle.ec_memory.specs.Words.{block_word_at, global_word_at}
+use Rattle.ec_nodes.specs.Store.{text_bytes}
 use Rattle.ec_nodes.specs.Things.{class_blocks}
 use Rattle.ec_nodes.specs.declared.key.Key.{Key}
 use Rattle.ec_nodes.specs.declared.key.Key.TheVariants.{Object, Frame}
@@ -71,6 +72,7 @@ store_of node = record {
   text = slice_get node.pool.texts;
   room = length (held node.memory).links;
   free = length (held node.memory).free;
+  text_room = node.pool.room;
   text_free = node.pool.free;
   count = node.count;
 }
@@ -96,3 +98,4 @@ pub record Laid (node : NodeData) : Type 0 where
   pub owners : AreOwned (row_of node) (held node.memory)
   pub locals : (i j oid : ℕ) → local_in node.locals i ≡ Some oid → local_in node.locals j ≡ Some oid → i ≡ j
   pub texts : (i j : ℕ) (t : List ℕ) → slice_get node.pool.texts i ≡ Some t → slice_get node.pool.texts j ≡ Some t → i ≡ j
+  pub filled : text_bytes node.pool.texts + node.pool.free ≡ node.pool.room

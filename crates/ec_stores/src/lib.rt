@@ -6,7 +6,7 @@ pub mod memory;
 mod monitors;
 pub mod node;
 mod owners;
-mod pool;
+pub mod pool;
 mod references;
 pub mod rows;
 mod running;

@@ -1,5 +1,6 @@
-//! A node's texts.
-ghost use Rattle.std.specs.Prelude.{◌≡◌, ◌≢◌, ◌-◌, ◌≤◌, ◌<◌, ◌++◌, [], ◌∷◌, ℕ, Some, length, slice_get, IfOk, IfSome, IfNone, OnOk, OnErr};
+//! Texts, each once.
+ghost use Rattle.std.specs.Prelude.{◌≡◌, ◌≢◌, ◌-◌, ◌^◌, ◌≤◌, ◌<◌, ◌++◌, [], ◌∷◌, ℕ, Some, length};
+ghost use Rattle.std.specs.Prelude.{slice_get, IfOk, IfSome, IfNone, OnOk, OnErr};
 ghost use Rattle.std.specs.BTreeMap.{IsUnchanged, Updates};
 ghost use Rattle.ec_stores.specs.Tables.{by_bytes};
 
@@ -8,12 +9,13 @@ use std::alloc::{AllocError, Global};
 use std::collections::BTreeMap;
 use std::marker::Model;
 
-/// Texts by their places, from 0, each of them once, and how many bytes more they may have.
+/// Texts by their places, from 0, each of them once, how many bytes they may have in all, and how many more.
 #[derive(Drop)]
-pub(crate) struct Pool {
+pub struct Pool {
     texts: Vec<Text>,
     // the place of each text
     places: BTreeMap<Vec<u8>, u32>,
+    room: u32,
     free: u32,
     alloc: Global,
 }
@@ -23,33 +25,42 @@ impl Model for Pool {
 
     ghost Value = { TextPool };
 
-    ghost view = { λ p. record { texts = p.texts.items; free = p.free } };
+    ghost view = { λ p. record { texts = p.texts.items; room = p.room; free = p.free } };
 
     ghost invariant = { λ p. ArePlaces p.places p.texts.items };
 }
 
 impl Pool {
     /// No texts, with room for so many bytes.
-    pub(crate) fn new(alloc: Global, room: u32) -> Pool
-        ensures { result ≡ record { texts = []; free = room } }
+    pub fn new(alloc: Global, room: u32) -> Pool
+        ensures { result ≡ record { texts = []; room = room; free = room } }
     {
         Pool {
             texts: Vec::new(alloc),
             places: BTreeMap::new(alloc),
+            room,
             free: room,
             alloc,
         }
     }
 
+    /// How many there are, at most 2^32.
+    pub(crate) fn len(&self) -> usize
+        ensures is { result ≡ length self.now.texts }
+        ensures few { result ≤ 2 ^ 32 }
+    {
+        self.texts.len()
+    }
+
     /// How many bytes more there is room for.
-    pub(crate) fn free(&self) -> u32
+    pub fn free(&self) -> u32
         ensures { result ≡ self.now.free }
     {
         self.free
     }
 
     /// The place of a text, if it is there.
-    pub(crate) fn find(&self, text: &[u8]) -> Option<u32>
+    pub fn find(&self, text: &[u8]) -> Option<u32>
         ensures some { IfSome result (λ i. slice_get self.now.texts i ≡ Some text.now) }
         ensures none { IfNone result ((i : ℕ) → slice_get self.now.texts i ≢ Some text.now) }
     {
@@ -66,10 +77,11 @@ impl Pool {
 
     /// A text that isn't there, behind the others. The error is want of memory, or that there are 2^32 texts; nothing has
     /// changed then.
-    pub(crate) fn add(&mut self, text: Text) -> Result<u32, AllocError>
+    pub fn add(&mut self, text: Text) -> Result<u32, AllocError>
         requires new { (i : ℕ) → slice_get self.old.texts i ≢ Some text }
         requires room { length text ≤ self.old.free }
-        ensures added { OnOk result (self.new ≡ record { texts = self.old.texts ++ text ∷ []; free = self.old.free - length text }) }
+        ensures added { OnOk result (self.new ≡
+            record { texts = self.old.texts ++ text ∷ []; room = self.old.room; free = self.old.free - length text }) }
         ensures place { IfOk result (λ place. place ≡ length self.old.texts) }
         ensures err { OnErr result (self.new ≡ self.old) }
     {

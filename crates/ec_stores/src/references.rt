@@ -1,5 +1,6 @@
 //! A node's own references to objects.
-ghost use Rattle.std.specs.Prelude.{◌≡◌, ◌≢◌, ◌+◌, ◌++◌, [], ◌∷◌, ℕ, Some, length, slice_get, IsSome, IfOk, IfSome, IfNone, OnOk, OnErr};
+ghost use Rattle.std.specs.Prelude.{◌≡◌, ◌≢◌, ◌+◌, ◌^◌, ◌<◌, ◌++◌, [], ◌∷◌, ℕ, Some, length, slice_get};
+ghost use Rattle.std.specs.Prelude.{IsSome, IfOk, IfSome, IfNone, OnOk, OnErr};
 ghost use Rattle.std.specs.BTreeMap.{IsUnchanged, Updates};
 ghost use Rattle.std.specs.Ordering.{nat_cmp};
 ghost use Rattle.ec_stores.specs.Tables.{local_in};
@@ -37,6 +38,14 @@ impl References {
             named: Vec::new(alloc),
             words: BTreeMap::new(alloc),
         }
+    }
+
+    /// How many there are, less than 2^32.
+    pub(crate) fn len(&self) -> usize
+        ensures is { result ≡ length self.now }
+        ensures few { result < 2 ^ 32 }
+    {
+        self.named.len()
     }
 
     /// The reference to an object, if there is one.

@@ -1,14 +1,27 @@
 //! Native runs on a node's memory.
-ghost use Rattle.std.specs.Prelude.{ℕ, IfErr, IfOk, OnErr};
+ghost use Rattle.std.specs.Prelude.{◌≡◌, ℕ, IfErr, IfOk, OnErr};
 ghost use Rattle.ec_target.specs.Runs.{Halts, Leads, Native};
 ghost use Rattle.ec_stores.specs.Changes.{Ran};
 ghost use Rattle.ec_stores.specs.Node.{bytes_in, store_of};
+ghost use Rattle.ec_stores.specs.Readable.{IsSmall, StandsIn};
 
 use crate::node::NodeStore;
 use ec_target::machine::Machine;
 use ec_target::outcome::Trap;
+use ec_world::node::Kind;
 
 impl NodeStore {
+    /// The kind of machines that run here: its words stand in its bytes as they read them.
+    pub fn runs_on(&self) -> Kind
+        ensures kind { result ≡ (store_of self.now).kind }
+        ensures small { IsSmall (store_of self.now) }
+        ensures words { StandsIn (store_of self.now) (bytes_in self.now) }
+    {
+        let _references = self.references.len();
+        let _texts = self.pool.len();
+        self.kind
+    }
+
     /// Runs a machine on the node's memory to the next stop. Answers how many instructions come before it, by which the count of
     /// the node rises, up to 2^64 - 1. The error is a trap; the count stays then.
     pub fn run<M: Machine>(&mut self, machine: &mut M, code: &[u32]) -> Result<u64, Trap>

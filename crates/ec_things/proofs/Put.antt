@@ -27,7 +27,7 @@ key_or_not (Frame p d) (Frame q e) = ⊎_elim
 
 pub kept_self : (Touched : Key → Type 0) (s : Store) → NodeKept Touched s s
 kept_self Touched s = record {
-  grown = record { kind = refl; local = λ i o e. e; text = λ i t e. e; global = λ i. refl; room = refl };
+  grown = record { kind = refl; local = λ i o e. e; text = λ i t e. e; global = λ i. refl; room = refl; text_room = refl };
   rows = λ key h. record { row = refl; words = λ r b i e x l. refl };
 }
 

@@ -29,6 +29,7 @@ pub record PutsGlobal (s s' : Store) (i : ℕ) (v : Value) : Type 0 where
   pub text : (j : ℕ) (t : List ℕ) → s.text j ≡ Some t → s'.text j ≡ Some t
   pub room : s'.room ≡ s.room
   pub free : s'.free ≡ s.free
+  pub count : s'.count ≡ s.count
   pub tidy : Tidy s → Tidy s'
 
 -- Each node does so: a constant stands at every node.

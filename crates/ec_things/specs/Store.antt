@@ -1,13 +1,14 @@
 -- What a node keeps, as functions, whatever the order of its bytes and the layout of its tables; and when a word stands
 -- for a value.
-use Rattle.std.specs.Prelude.{◌≡◌, ℕ, ◌/◌, ◌%◌, ◌<◌, Bool, List, Option, Some, None}
+use Rattle.std.specs.Prelude.{◌≡◌, ℕ, ◌+◌, ◌/◌, ◌%◌, ◌<◌, ◌↔◌, Bool, List, Option, Some, None}
 use Rattle.std.specs.Prelude.{slice_get}
 use Rattle.ec_world.specs.declared.value.Value.{Value}
 use Rattle.ec_world.specs.declared.class.ClassNo.{ClassNo}
 use Rattle.ec_monitors.specs.declared.record.MonitorRec.{MonitorRec}
 use Rattle.ec_world.specs.declared.node.Kind.{Kind}
 use Rattle.ec_world.specs.Group.{Has}
-use Rattle.ec_nodes.specs.Store.{StandsFor}
+use Rattle.ec_nodes.specs.Held.{Distinct}
+use Rattle.ec_nodes.specs.Store.{StandsFor, text_bytes}
 use Rattle.ec_nodes.specs.declared.key.Key.{Key}
 
 -- what is kept of an owner of blocks: of an object also how many fields or elements it has, its class, whether it is fixed, and
@@ -20,7 +21,8 @@ pub record Owned : Type 0 where
   pub monitor : Option MonitorRec
 
 -- a node: its kind, its owners, word i of block b, its global constants, its local references, the texts of its pool,
--- how many blocks it has, how many of them are free, how many bytes of text are free, and how many instructions it ran
+-- how many blocks it has, how many of them are free, how many bytes of text it has room for, how many of them are free, and
+-- how many instructions it ran
 pub record Store : Type 0 where
   pub kind : Kind
   pub row : Key → Option Owned
@@ -30,6 +32,7 @@ pub record Store : Type 0 where
   pub text : ℕ → Option (List ℕ)
   pub room : ℕ
   pub free : ℕ
+  pub text_room : ℕ
   pub text_free : ℕ
   pub count : ℕ
 
@@ -52,13 +55,21 @@ pub record StandsAt (s : Store) (blocks : List ℕ) (at : ℕ) (v : Value) : Typ
   pub there : word_of s blocks at ≡ Some word
   pub stands : Stands s v word
 
+-- the texts of a node, each once: their bytes and those that are free are all
+pub record Filled (s : Store) : Type 0 where
+  pub texts : List (List ℕ)
+  pub once : Distinct texts
+  pub these : (text : List ℕ) → Has texts text ↔ ((i : ℕ) × (s.text i ≡ Some text))
+  pub bytes : text_bytes texts + s.text_free ≡ s.text_room
+
 -- what a store keeps by itself, whatever world it shows: no block has two owners, local references and object numbers
--- are one to one, 0 is no reference, and each text stands once
+-- are one to one, 0 is no reference, each text stands once, and what texts don't take of their room is free
 pub record Tidy (s : Store) : Type 0 where
   pub apart : (a b : Key) (r q : Owned) (x : ℕ) → s.row a ≡ Some r → s.row b ≡ Some q → Has r.blocks x → Has q.blocks x → a ≡ b
   pub nil : s.local 0 ≡ None
   pub locals : (i j oid : ℕ) → s.local i ≡ Some oid → s.local j ≡ Some oid → i ≡ j
   pub texts : (i j : ℕ) (t : List ℕ) → s.text i ≡ Some t → s.text j ≡ Some t → i ≡ j
+  pub filled : Filled s
 
 -- the tables only grow, and globals stay
 pub record Grown (s s' : Store) : Type 0 where
@@ -67,6 +78,7 @@ pub record Grown (s s' : Store) : Type 0 where
   pub text : (i : ℕ) (t : List ℕ) → s.text i ≡ Some t → s'.text i ≡ Some t
   pub global : (i : ℕ) → s'.global i ≡ s.global i
   pub room : s'.room ≡ s.room
+  pub text_room : s'.text_room ≡ s.text_room
 
 -- the blocks of an owner and their words are as they were
 pub record KeptRow (s s' : Store) (key : Key) : Type 0 where

@@ -1,5 +1,5 @@
 -- The texts that a world wants at a node, and those that are new there.
-use Rattle.std.specs.Prelude.{◌≡◌, ℕ, ◌↔◌, List, Option, Some}
+use Rattle.std.specs.Prelude.{◌≡◌, ◌⊎◌, ℕ, ◌↔◌, List, Option, Some}
 use Rattle.ec_nodes.specs.Held.{Distinct}
 use Rattle.ec_nodes.specs.Store.{text_bytes}
 use Rattle.ec_nodes.specs.declared.key.Key.{Key}
@@ -11,6 +11,18 @@ use Rattle.ec_world.specs.declared.value.Value.TheVariants.{Str}
 -- a text is in the pool of a node
 abbrev pub InPool : Store → List ℕ → Type 0
 InPool s text = (i : ℕ) × (s.text i ≡ Some text)
+
+-- no text at all
+abbrev pub NoTexts : List ℕ → Type 0
+NoTexts text = ⊥
+
+-- A node has the texts that it had and those that were added; its kind, its room and its count are as they were.
+pub record GetsTexts (Added : List ℕ → Type 0) (s s' : Store) : Type 0 where
+  pub kind : s'.kind ≡ s.kind
+  pub room : s'.room ≡ s.room
+  pub text_room : s'.text_room ≡ s.text_room
+  pub count : s'.count ≡ s.count
+  pub texts : (text : List ℕ) → InPool s' text ↔ (InPool s text ⊎ Added text)
 
 -- a text is a value of a thing whose home is at node k
 pub record IsHeld (things : Key → Option Thing) (place : ℕ → Option ℕ) (k : ℕ) (text : List ℕ) : Type 0 where

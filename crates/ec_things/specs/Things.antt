@@ -109,6 +109,7 @@ pub record Puts (s s' : Store) (key : Key) (now : Option Thing) : Type 0 where
   pub grown : Grown s s'
   pub tidy : Tidy s → Tidy s'
   pub free : s'.free + size_of now ≡ s.free + row_size (s.row key)
+  pub count : s'.count ≡ s.count
 
 -- one node has changed
 pub record NodePut (nodes nodes' : ℕ → Option Store) (k : ℕ) (s s' : Store) : Type 0 where

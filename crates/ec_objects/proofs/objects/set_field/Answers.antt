@@ -17,7 +17,7 @@ returns-clause-puts c = λ o shown inside.
     field_put (store_of c.args.node.now) (store_of c.word_for.new.node) (store_of c.set_object_word.new.self) c.args.oid c.args.field
     c.in_ok-word.word c.args.value.now c.in_ok-word.ensures c.set_object_word.ensures o shown inside
 
-pub returns-clause-texts : goal.returns-clause-texts
-returns-clause-texts c = λ text.
+pub returns-clause-gets : goal.returns-clause-gets
+returns-clause-gets c =
     field_texts (store_of c.args.node.now) (store_of c.word_for.new.node) (store_of c.set_object_word.new.self) c.args.oid c.args.field
-    c.in_ok-word.word c.args.value.now c.in_ok-word.ensures c.set_object_word.ensures text
+    c.in_ok-word.word c.args.value.now c.in_ok-word.ensures c.set_object_word.ensures

@@ -13,4 +13,4 @@ invariant_of-self-2 c =
     let count : c.len-count.result + 1 ≡ suc (length named) = (let n = c.len-count.ensures in omega arith) in
     subst (λ (os : List ℕ). AreReferences c.enter.new.words os) (sym is)
     (references_added c.self.inside.words c.enter.new.words named c.args.oid (c.len-count.result + 1) c.self.invariant absent count
-    c.in_ok-enter.ensures.entered)
+    (omega arith) c.in_ok-enter.ensures.entered)
