@@ -298,6 +298,7 @@ module _ (d : Declared) (p : Parts) (a b : List ObjectRec) (later : Later a b) w
     operands = record {
       values = h.operands.values;
       are = h.operands.are;
+      those = h.operands.those;
       fit = values_later h.rests.typed.types h.operands.values h.operands.fit;
     };
     into = h.into;

@@ -21,6 +21,7 @@ use Rattle.ec_world.specs.Agree.{AllTwo}
 use Rattle.ec_world.specs.declared.object.ObjectRec.{ObjectRec}
 use Rattle.ec_world.specs.declared.value.Value.{Value}
 use Rattle.ec_world.specs.declared.value.Value.TheVariants.{Nil}
+use Rattle.ec_sound.proofs.Held.{none_held}
 use Rattle.ec_sound.specs.Sound.{LiveBehind, OfGiven, RestsAt, ResultFits, SoundDone, SoundPending, SoundWaiting}
 use Rattle.ec_sound.specs.Values.{HasType, IsOfType, class_in, held}
 use Rattle.ec_sound.proofs.Carried.{all_two_get, all_two_length, get_front, goes_on_more}
@@ -299,6 +300,7 @@ module _ (d : Declared) (p : Parts) (fine : Fine d p) (objects : List ObjectRec)
         operands = record {
           values = [];
           are = ap (λ b. with_itself b own []) (sym e.on_itself);
+          those = none_held (variables_behind p (begun number own args) 0) [] e.row.operands e.operands;
           fit = no_operands d p fine number o f own objects e.line.live e.row.operands r.typed.types e.operands r.typed.are;
         };
         into = sym e.into;

@@ -1,6 +1,7 @@
 mod Typed
 pub mod Carried
 mod Reading
+mod Held
 mod Steps
 pub mod Silent
 mod Monitors

@@ -13,7 +13,7 @@ use Rattle.ec_conform.specs.declared.static_type.StaticType.{StaticType}
 use Rattle.ec_world.specs.declared.common.Common.{Common}
 use Rattle.ec_world.specs.declared.object.ObjectRec.{ObjectRec}
 use Rattle.ec_sound.specs.Sound.{LiveBehind, SoundCommon, SoundDone, SoundPending, reached}
-use Rattle.ec_sound.specs.Values.{IsOfType, Later, held}
+use Rattle.ec_sound.specs.Values.{AreHeld, IsOfType, Later, held}
 use Rattle.ec_sound.proofs.Carried.{goes_on_more}
 use Rattle.ec_sound.proofs.Reading.{IsNotZero, machine_held}
 use Rattle.ec_sound.proofs.Steps.{ArrivedWell, BehindArrived, Going, WalkEnds, code_from, walk_sound}
@@ -91,7 +91,13 @@ module _ (d : Declared) (p : Parts) (fine : Fine d p) (c : Common) (sound : Soun
       arguments = λ z. let l = w.positive in absurd (omega arith);
       count = ap length (not_opened p (rested a (Some r)) r.place w.positive) ∙ w.count;
     };
-    operands = record { values = w.operands.values; are = w.operands.are; fit = w.operands.fit };
+    operands = record {
+      values = w.operands.values;
+      are = w.operands.are;
+      those = subst (λ vs. AreHeld w.row.operands vs r.temporaries w.operands.values)
+          (sym (not_opened p (rested a (Some r)) r.place w.positive)) w.operands.those;
+      fit = w.operands.fit;
+    };
     into = w.into;
     behind =
         goes_on_more d p a.operation o w.row.stop (BehindArrived d p fine a.operation o fine_o a.own e.objects r w.row.gives)

@@ -39,6 +39,7 @@ use Rattle.ec_world.specs.declared.stop.Stop.{Stop}
 use Rattle.ec_world.specs.declared.stop.Stop.TheVariants as stop
 use Rattle.ec_world.specs.declared.value.Value.{Value}
 use Rattle.ec_world.specs.declared.value.Value.TheVariants.{Int, Str, Ref, Bool as Truth}
+use Rattle.ec_sound.proofs.Held.{all_held, none_held}
 use Rattle.ec_sound.specs.Sound.{CodeBehind, FineFields, FineObject, OperandsFit, SoundCommon}
 use Rattle.ec_sound.specs.Values.{HasType, IsOfType, Later, class_in, held}
 use Rattle.ec_sound.proofs.Carried.{all_two_get, all_two_set, each_object, get_there, goes_on_more, later_changed, later_same, later_then}
@@ -160,16 +161,17 @@ module _ (d : Declared) (p : Parts) (fine : Fine d p) (number : ℕ) (o : Operat
       pub hold : (x : Variable) (t : StaticType) → Has live x t → IsOfType d m.common.objects t (variable_at m x)
       pub divides : IsNotZero m by
 
-    pub record RestsWell (objects : List ObjectRec) (rest : List Line) (live : List Live) (x : Op) (row : StopRow) (operands : List Value) :
-        Type 0 where
+    pub record RestsWell (objects : List ObjectRec) (rest : List Line) (live : List Live) (x : Op) (row : StopRow) (operands : List Value)
+        (variables temporaries : List Value) : Type 0 where
       pub is : x ≡ op.Rest row
       pub typed : FineRow d p number o rest live row
-      pub operands_fit : OperandsFit d p objects row.on_itself own typed.types operands
+      pub operands_fit : OperandsFit d p objects row.on_itself own typed.types operands row.operands variables temporaries
 
     abbrev StepsWell : ℕ → List Line → List Live → Op → Machine → Done → Type 0
     StepsWell place rest live x m (Goes new over) =
         (over < length rest) × Later m.common.objects new.common.objects × Going new (live_at rest over) (divisor_at rest over)
-    StepsWell place rest live x m (Rests row operands) = RestsWell m.common.objects rest live x row operands
+    StepsWell place rest live x m (Rests row operands) =
+        RestsWell m.common.objects rest live x row operands m.variables m.temporaries
     StepsWell place rest live x m (Loops back) = FineTop d p number o place back live
     StepsWell place rest live x m NoCase = ⊥
 
@@ -360,7 +362,11 @@ module _ (d : Declared) (p : Parts) (fine : Fine d p) (number : ℕ) (o : Operat
       rest_sound row is f =
           let r = all_read d p fine objects m line.live g.hold row.operands f.types f.are in
           subst (λ z. Well (rests row own z)) (sym r.are)
-          (record { is = is; typed = f; operands_fit = record { values = r.values; are = refl; fit = r.fit } })
+          (record {
+            is = is;
+            typed = f;
+            operands_fit = record { values = r.values; are = refl; those = all_held m row.operands r.values r.are; fit = r.fit };
+          })
 
       compute_sound : (how : Arithmetic) (to : Variable) (left right : Operand) → FineNumbers d p line.live left right
           → Writes d p rest to integer line.live → IsNotZero m (divisor_in how right) → divisor_at rest 0 ≡ None
@@ -405,7 +411,7 @@ module _ (d : Declared) (p : Parts) (fine : Fine d p) (number : ℕ) (o : Operat
       pub is_row : line.op ≡ op.Rest row
       pub typed : FineRow d p number o (drop (suc r.place) o.code) line.live row
       pub stop : r.action ≡ row.stop
-      pub operands : OperandsFit d p objects row.on_itself own typed.types r.operands
+      pub operands : OperandsFit d p objects row.on_itself own typed.types r.operands row.operands r.variables r.temporaries
       pub into : r.into ≡ row.into
       pub positive : 0 < r.place
       pub count : length r.variables ≡ length o.variables
@@ -433,15 +439,15 @@ module _ (d : Declared) (p : Parts) (fine : Fine d p) (number : ℕ) (o : Operat
     -- at a stop in the code
     arrives_here : (place : ℕ) (line : Line) (rest : List Line) → CodeFrom place (line ∷ rest) → 0 < place → (m : Machine)
         → Going m line.live (divisor_of line.op) → (row : StopRow) (operands : List Value)
-        → RestsWell m.common.objects rest line.live line.op row operands
+        → RestsWell m.common.objects rest line.live line.op row operands m.variables m.temporaries
         → ArrivedWell m.common.objects (arrived m row.stop operands row.into place)
     arrives_here place line rest code positive m g row operands h =
         let objects : List ObjectRec = m.common.objects in
         let behind : List Line = drop (suc place) o.code in
         let is_line : slice_get o.code place ≡ Some line = get_drop o.code place line rest code.is in
         let here : rest ≡ behind = sym (drop_next o.code place line rest code.is) in
-        let r : RestsWell objects behind line.live line.op row operands =
-        subst (λ z. RestsWell objects z line.live line.op row operands) here h in
+        let r : RestsWell objects behind line.live line.op row operands m.variables m.temporaries =
+        subst (λ z. RestsWell objects z line.live line.op row operands m.variables m.temporaries) here h in
         let given : Option StaticType = row.gives in
         let at = row_at place line row is_line r.is in
         let Known : Type 0 = IsTaken d p given row.into × Behind d p behind given row.into line.live in
@@ -492,6 +498,7 @@ module _ (d : Declared) (p : Parts) (fine : Fine d p) (number : ℕ) (o : Operat
           operands = record {
             values = [];
             are = ap (λ b. with_itself b own []) (sym top.on_itself);
+            those = none_held m.variables m.temporaries top.row.operands top.operands;
             fit = no_operands objects top.line.live top.row.operands at.typed.types top.operands at.typed.are;
           };
           into = sym top.into;

@@ -33,7 +33,7 @@ use Rattle.ec_world.specs.declared.stop.Effect.{Effect}
 use Rattle.ec_world.specs.declared.stop.Effect.TheVariants.{GoesOn, Calls, Leaves, Blocks, Ends, Fails}
 use Rattle.ec_world.specs.declared.value.Value.{Value}
 use Rattle.ec_world.specs.declared.world.World.{World}
-use Rattle.ec_sound.specs.Values.{HasType, IsOfType, Later, class_in, held}
+use Rattle.ec_sound.specs.Values.{AreHeld, HasType, IsOfType, Later, class_in, held}
 
 -- what silent steps behind an activation's stop come to
 abbrev pub reached : Parts → Common → CodeActivation → Common × Option Arrived
@@ -95,16 +95,19 @@ module _ (d : Declared) (p : Parts) where
           IsGiven d p given a.into x t
           ⊎ ((a.into ≢ Some x) × IsOfType d objects t (held (variables_behind p a a.at) a.temporaries x))
 
-    -- the operands of a stop are of these types, behind the own object where this is one of them
-    pub record OperandsFit (on_itself : Bool) (own : ℕ) (types : List StaticType) (operands : List Value) : Type 0 where
+    -- the operands of a stop are the values of these variables and are of these types, behind the own object where this is one of them
+    pub record OperandsFit (on_itself : Bool) (own : ℕ) (types : List StaticType) (operands : List Value) (names : List Variable)
+        (variables temporaries : List Value) : Type 0 where
       pub values : List Value
       pub are : operands ≡ with_itself on_itself own values
+      pub those : AreHeld names variables temporaries values
       pub fit : AllTwo (HasType d objects) types values
 
     -- the action of its stop is to be done
     pub record SoundPending (a : CodeActivation) : Type 0 where
       pub rests : RestsAt a
-      pub operands : OperandsFit rests.row.on_itself a.own rests.typed.types a.operands
+      pub operands :
+          OperandsFit rests.row.on_itself a.own rests.typed.types a.operands rests.row.operands (variables_behind p a a.at) a.temporaries
       pub into : a.into ≡ rests.row.into
       pub behind : IfGoesOn d p a.operation rests.of rests.row.stop (LiveBehind a rests.of rests.row.gives)
 

@@ -6,6 +6,7 @@ use Rattle.ec_code.specs.Typing.{Declared, integer, boolean, string, class_type}
 use Rattle.ec_conform.specs.declared.static_type.StaticType.{StaticType}
 use Rattle.ec_conform.specs.declared.static_type.StaticType.TheVariants as type
 use Rattle.ec_conformity.specs.Fits.{Fits}
+use Rattle.ec_world.specs.Agree.{AllTwo}
 use Rattle.ec_world.specs.Objects.{object_at}
 use Rattle.ec_world.specs.Sights.{class_of}
 use Rattle.ec_world.specs.declared.class.ClassNo.{ClassNo}
@@ -40,6 +41,10 @@ pub record IsOfType (d : Declared) (objects : List ObjectRec) (t : StaticType) (
 abbrev pub held : List Value → List Value → Variable → Option Value
 held variables temporaries (Named n) = slice_get variables n
 held variables temporaries (Temporary k) = slice_get temporaries k
+
+-- these values are those of some variables
+abbrev pub AreHeld : List Variable → List Value → List Value → List Value → Type 0
+AreHeld names variables temporaries values = AllTwo (λ x v. held variables temporaries x ≡ Some v) names values
 
 -- Objects are only added, and each keeps its class.
 abbrev pub Later : List ObjectRec → List ObjectRec → Type 0
