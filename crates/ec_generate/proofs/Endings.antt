@@ -1,10 +1,10 @@
 -- Where the words behind a step end.
-use Rattle.std.proofs.Common.{◌≡◌, ℕ, suc, ◌+◌, ◌-◌, ◌≤◌, List, Some, None, Option, ap, arith, length}
+use Rattle.std.proofs.Common.{◌≡◌, ℕ, suc, ◌+◌, ◌≤◌, Some, ap, arith}
 use Rattle.std.specs.Prelude.{slice_get}
 use Rattle.ec_code.specs.declared.code.Op.{Op}
 use Rattle.ec_generate.specs.Sites.{home_there, ops_there, place_there, size_there}
 use Rattle.ec_generate.specs.declared.site.Site.{Site}
-use Rattle.ec_micro.specs.Layout.{before, ending_size, plain_size}
+use Rattle.ec_micro.specs.Layout.{ending_size, plain_size}
 use Rattle.ec_micro.specs.Lowering.{ending_of}
 use Rattle.ec_micro.specs.Speaks.{Vocabulary}
 use Rattle.ec_micro.specs.declared.step.Ending.{Ending}

@@ -1,6 +1,7 @@
 -- The homes of a program's stop table fit its operations.
-use Rattle.std.proofs.Common.{◌≡◌, ◌≢◌, ℕ, zero, suc, ◌+◌, ◌<◌, ◌⊎◌, inl, inr, ⊎_elim, List, [], ◌∷◌, length, map, Option, Some, None, option_map, refl, sym, ap}
-use Rattle.std.proofs.Common.{◌∙◌, subst, arith}
+use Rattle.std.proofs.Common.{◌≡◌, ℕ, zero, suc, ◌⊎◌, inl, inr, ⊎_elim, List, [], ◌∷◌, length, Option, Some, None, option_map, refl}
+use Rattle.std.proofs.Common.{sym, ap}
+use Rattle.std.proofs.Common.{◌∙◌, subst}
 use Rattle.std.specs.Prelude.{slice_get}
 use Rattle.std.proofs.lemmas.Option.{same_Some, slice_get-map}
 use Rattle.ec_code.specs.Fine.{Has, IsIn, live_at, live_if}
@@ -8,7 +9,7 @@ use Rattle.ec_code.specs.declared.code.Line.{Line}
 use Rattle.ec_code.specs.declared.code.Operation.{Operation}
 use Rattle.ec_code.specs.declared.code.Parts.{Parts}
 use Rattle.ec_code.specs.declared.code.Variable.{Variable}
-use Rattle.ec_code_limits.specs.Limits.{HasColumn, HasColumns, HasLimits, IsSmallOperation}
+use Rattle.ec_code_limits.specs.Limits.{HasColumn, HasLimits, IsSmallOperation}
 use Rattle.ec_conform.specs.declared.static_type.StaticType.{StaticType}
 use Rattle.ec_faithful.specs.Frames.{slots}
 use Rattle.ec_faithful.specs.Stops.{row_or_empty}
@@ -63,7 +64,8 @@ module _ (registers : ℕ) (p : Parts) (ts : List OperationTable) (limits : HasL
   row_is : slice_get (all_homes ts) n ≡ Some table.0.homes
   row_is = row_at ts n table.0 table.1
 
-  in_row : (x : Variable) → slice_get (row_or_empty (slice_get (all_homes ts) n)) (column named x) ≡ slice_get table.0.homes (column named x)
+  in_row : (x : Variable) → slice_get (row_or_empty (slice_get (all_homes ts) n)) (column named x) ≡ slice_get table.0.homes
+      (column named x)
   in_row x = ap (λ r. slice_get (row_or_empty r) (column named x)) row_is
 
   home : (x : Variable) → HasColumn named x →
@@ -79,7 +81,8 @@ module _ (registers : ℕ) (p : Parts) (ts : List OperationTable) (limits : HasL
       (line : Line) × (slice_get o.code q ≡ Some line) × Has line.live x t
   live_line q x t h = by (slice_get o.code q) refl h
     where
-      by : (l : Option Line) → slice_get o.code q ≡ l → Has (live_if l) x t → (line : Line) × (slice_get o.code q ≡ Some line) × Has line.live x t
+      by : (l : Option Line) → slice_get o.code q ≡ l → Has (live_if l) x t →
+          (line : Line) × (slice_get o.code q ≡ Some line) × Has line.live x t
       by None e h = absurd h
       by (Some line) e h = (line, e, h)
 

@@ -1,8 +1,8 @@
 -- What the loops keep that write code.
-use Rattle.std.proofs.Common.{◌≡◌, ℕ, zero, suc, ◌+◌, ◌-◌, ◌<◌, ◌≤◌, List, [], ◌∷◌, ◌++◌, length, length-append, append_assoc, Some, None, Option, refl}
-use Rattle.std.proofs.Common.{sym, ap, ◌∙◌, subst, arith, drop, map}
+use Rattle.std.proofs.Common.{◌≡◌, ℕ, zero, suc, ◌+◌, ◌<◌, List, [], ◌∷◌, ◌++◌, length, length-append, append_assoc, Some, None, Option}
+use Rattle.std.proofs.Common.{refl}
+use Rattle.std.proofs.Common.{sym, ap, ◌∙◌, arith, drop, map}
 use Rattle.std.specs.Prelude.{slice_get, IsSome}
-use Rattle.std.proofs.lemmas.Option.{same_Some}
 use Rattle.ec_base.proofs.Lists.{drop_at}
 use Rattle.ec_code.specs.declared.code.Line.{Line}
 use Rattle.ec_code.specs.declared.code.Op.{Op}
@@ -11,19 +11,9 @@ use Rattle.ec_code.specs.declared.code.Variable.{Variable}
 use Rattle.ec_faithful.specs.Stops.{places_from, stop_of, with_place}
 use Rattle.ec_generate.specs.Puts.{IsSized}
 use Rattle.ec_homes.specs.declared.homes.Home.{Home}
-use Rattle.ec_micro.specs.Layout.{before, op_size, op_words, ops_of, place, words_from}
+use Rattle.ec_micro.specs.Layout.{before, op_words, place, words_from}
 use Rattle.ec_micro.specs.Speaks.{Vocabulary}
 use Rattle.ec_micro.proofs.Sizes.{before_next, op_long}
-
--- the step of a line
-pub op_there : (code : List Line) (q : ℕ) (line : Line) → slice_get code q ≡ Some line → slice_get (ops_of code) q ≡ Some line.op
-op_there [] q line e = cc
-op_there (l ∷ ls) zero line e = ap (λ (x : Line). Some x.op) (same_Some l line e)
-op_there (l ∷ ls) (suc q) line e = op_there ls q line e
-
-pub ops_long : (code : List Line) → length (ops_of code) ≡ length code
-ops_long [] = refl
-ops_long (l ∷ ls) = ap suc (ops_long ls)
 
 -- one item more of a list of what f gives
 pub one_more : (xs new : List ℕ) (x : ℕ) (f : ℕ → ℕ) (n : ℕ) → new ≡ xs ++ x ∷ [] → length xs ≡ n → x ≡ f n →
@@ -67,6 +57,21 @@ module _ (V : Vocabulary) (home : Variable → Home) (ops : List Op) (start : �
         op_long V home sized.asks sized.jumps ops start q o,
         before_next V home ops q o there,
       )
+
+  nothing_behind : (os : List Op) → drop (length os) os ≡ []
+  nothing_behind [] = refl
+  nothing_behind (o ∷ os) = nothing_behind os
+
+  no_more : (ws : List ℕ) → ws ++ [] ≡ ws
+  no_more [] = refl
+  no_more (w ∷ ws) = ap (λ r. w ∷ r) (no_more ws)
+
+  -- at the end all is there
+  pub all_there : (q : ℕ) (old all : List ℕ) → q ≡ length ops → old ++ rest_words q ≡ all → old ≡ all
+  all_there q old all end there =
+      let none : rest_words q ≡ [] =
+      ap (λ k. words_from V home ops start q (drop k ops)) end ∙ ap (words_from V home ops start q) (nothing_behind ops) in
+      sym (no_more old) ∙ sym (ap (λ r. old ++ r) none) ∙ there
 
 -- the addresses of the stops of what remains
 module _ (address : ℕ → ℕ) where

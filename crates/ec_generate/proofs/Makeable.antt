@@ -1,5 +1,5 @@
 -- Words can be written for each step of a well typed program with homes that fit.
-use Rattle.std.proofs.Common.{◌≡◌, ◌≢◌, ℕ, zero, suc, ◌+◌, ◌<◌, ◌≤◌, ◌^◌, ◌⊎◌, inl, inr, ⊎_elim, Bool, true, false, List, [], ◌∷◌, ◌++◌, length, drop}
+use Rattle.std.proofs.Common.{◌≡◌, ℕ, suc, ◌+◌, ◌<◌, ◌≤◌, ◌^◌, inl, inr, Bool, true, false, List, [], ◌∷◌, ◌++◌, length, drop}
 use Rattle.std.proofs.Common.{length-drop, Some, None, Option, refl, sym, ap, ◌∙◌, subst, arith, cond}
 use Rattle.std.specs.Prelude.{slice_get, All}
 use Rattle.std.proofs.lemmas.List.Elements.{All-get_or}
@@ -18,20 +18,24 @@ use Rattle.ec_code.specs.declared.code.Parts.{Parts}
 use Rattle.ec_code.specs.declared.code.Test.{Test}
 use Rattle.ec_code.specs.declared.code.Test.TheVariants as test
 use Rattle.ec_code.specs.declared.code.Variable.{Variable}
+use Rattle.ec_code.specs.declared.code.Variable.TheVariants.{Named}
 use Rattle.ec_code_limits.specs.Limits.{HasFewFields, HasLimits, IsSmallOperation}
 use Rattle.ec_conform.specs.declared.static_type.StaticType.{StaticType}
 use Rattle.ec_faithful.specs.Frames.{block_words, slots}
-use Rattle.ec_generate.specs.Puts.{CanPut, CanPutQuestion, CanPutSource}
-use Rattle.ec_generate.proofs.Loops.{ops_long}
+use Rattle.ec_generate.specs.Puts.{CanPutQuestion, CanPutSource}
+use Rattle.ec_generate.proofs.Led.{laid_ending}
 use Rattle.ec_generate.specs.Sites.{CanPutAll, CanPutEnding, IsMakeable, home_there, ops_there}
 use Rattle.ec_generate.specs.declared.site.Site.{Site}
 use Rattle.ec_homes.specs.Homes.{IsWithin}
 use Rattle.ec_homes.specs.declared.homes.Home.{Home}
 use Rattle.ec_liveness.specs.Live.{read_by, read_in, reads, writes}
+use Rattle.ec_micro.proofs.Direct.{IsDirect, is_direct, line_there, nothing_moved, ops_long}
 use Rattle.ec_micro.proofs.FineAt.{fine_at}
+use Rattle.ec_micro.specs.Direct.{direct_before, direct_of, into_named, laid_by, laid_op}
 use Rattle.ec_micro.specs.Fitting.{HomesFit, IsNamedBy}
 use Rattle.ec_micro.specs.Layout.{home_of, home_or, ops_of}
-use Rattle.ec_micro.specs.Lowering.{ending_of, is_there, question_of, source_of, steps_of}
+use Rattle.ec_micro.specs.Lowering.{branch_by, ending_of, is_there, known, question_of, source_of, steps_of}
+use Rattle.ec_micro.specs.declared.step.Question.{Question}
 use Rattle.ec_micro.specs.declared.step.Source.{Source}
 use Rattle.ec_micro.specs.declared.step.Step.TheVariants as step
 use Rattle.ec_world.proofs.Related.{all-length}
@@ -107,10 +111,19 @@ module _ (registers : ℕ) (home : Variable → Home) where
     behind : (over : ℕ) → over < length (drop (suc q) o.code) → suc (q + over) < length o.code
     behind over h = omega (arith, h, length-drop (suc q) o.code)
 
+    branch_puts :
+        (k : Option Bool) (question : Question) (over : ℕ) → CanPutQuestion registers question → suc (q + over) < length o.code →
+        CanPutEnding registers (length o.code) q (branch_by k question over)
+    branch_puts None question over puts h = (puts, h)
+    branch_puts (Some true) question over puts h = h
+    branch_puts (Some false) question over puts h = tt
+
     pub ending_puts :
         (line : Line) (i : Op) → FineOp d p number o q (drop (suc q) o.code) line.live i → AllHomed (reads i) →
         CanPutEnding registers (length o.code) q (ending_of home i)
-    ending_puts line (op.Branch t wanted over) fine r = (question_puts t wanted r, behind over fine.2.0)
+    ending_puts line (op.Branch t wanted over) fine r =
+        let question = question_of home t wanted in
+        branch_puts (known question) question over (question_puts t wanted r) (behind over fine.2.0)
     ending_puts line (op.Jump over) fine r = behind over fine.0
     ending_puts line (op.Again back) fine r = fine.within
     ending_puts line (op.Rest row) fine r = tt
@@ -164,12 +177,6 @@ module _ (d : Declared) (p : Parts) (fine : Fine d p) (limits : HasLimits p) whe
     few_at q rest live (op.Again back) f = tt
     few_at q rest live (op.Rest row) f = tt
 
--- the line of a step
-line_there : (code : List Line) (q : ℕ) (o : Op) → slice_get (ops_of code) q ≡ Some o → (line : Line) × (slice_get code q ≡ Some line) × (line.op ≡ o)
-line_there [] q o e = absurd cc
-line_there (l ∷ ls) zero o e = (l, refl, same_Some l.op o e)
-line_there (l ∷ ls) (suc q) o e = line_there ls q o e
-
 module _ (d : Declared) (p : Parts) (fine : Fine d p) (limits : HasLimits p) (registers : ℕ) (homes : List (List Home)) (n : ℕ)
     (o : Operation) (there : slice_get p.operations n ≡ Some o) (fit : HomesFit registers homes n o) where
   homed : (q : ℕ) (line : Line) (x : Variable) → slice_get o.code q ≡ Some line → IsNamedBy line x →
@@ -185,22 +192,50 @@ module _ (d : Declared) (p : Parts) (fine : Fine d p) (limits : HasLimits p) (re
     operation_fine : FineOperation d p n o
     operation_fine = fine.operations n o there
 
+    -- the steps of a line as it is
+    own_put : (q : ℕ) (line : Line) → slice_get o.code q ≡ Some line → CanPutAll registers (steps_of home line.op)
+    own_put q line e =
+        let f = fine_at d p n o q line operation_fine e in
+        steps_put registers home line.op (λ x r. homed q line x e (inl r)) (λ to w. homed q line to e (inr (inl w)))
+        (few_at d p fine limits registers home n o q (drop (suc q) o.code) line.live line.op f)
+
+    -- with a result that goes at once to where it is copied
+    named_put : (q k : ℕ) (line : Line) → slice_get o.code q ≡ Some line → IsDirect o.code q line.op k →
+        CanPutAll registers (steps_of home (into_named k line.op))
+    named_put q k line e at_once =
+        let reading = λ (x : Variable) (i : IsIn x (read_in at_once.left ++ read_in at_once.right)).
+        homed q line x e (inl (subst (λ i. IsIn x (reads i)) (sym at_once.computes) i)) in
+        let two = two_put registers home at_once.left at_once.right reading in
+        let into = homed (suc q) at_once.next (Named k) at_once.is_next (inr (inl (ap writes at_once.copies_it))) in
+        subst (λ i. CanPutAll registers (steps_of home (into_named k i))) (sym at_once.computes) ((into, two.0, two.1), tt)
+
+    laid_put : (q : ℕ) (line : Line) → slice_get o.code q ≡ Some line → CanPutAll registers (steps_of home (laid_op o.code q line.op))
+    laid_put q line e = by (direct_before o.code q) (direct_of o.code q line.op) refl
+      where
+        by : (a b : Option ℕ) → direct_of o.code q line.op ≡ b → CanPutAll registers (steps_of home (laid_by a b line.op))
+        by (Some k) b is = subst (CanPutAll registers) (sym (nothing_moved home k)) tt
+        by None None is = own_put q line e
+        by None (Some k) is = named_put q k line e (is_direct o.code q line.op k is)
+
     steps : (q : ℕ) (i : Op) → slice_get (ops_of o.code) q ≡ Some i → CanPutAll registers (steps_of home i)
     steps q i e =
         let l = line_there o.code q i e in
-        let f = fine_at d p n o q l.0 operation_fine l.1 in
-        subst (λ x. CanPutAll registers (steps_of home x)) l.2
-        (steps_put registers home l.0.op (λ x r. homed q l.0 x l.1 (inl r)) (λ to w. homed q l.0 to l.1 (inr (inl w)))
-        (few_at d p fine limits registers home n o q (drop (suc q) o.code) l.0.live l.0.op f))
+        subst (λ x. CanPutAll registers (steps_of home x)) l.2 (laid_put q l.0 l.1)
+
+    laid_end : (q : ℕ) (line : Line) (a : Option ℕ) → slice_get o.code q ≡ Some line →
+        CanPutEnding registers (length o.code) q (ending_of home (laid_by a (direct_of o.code q line.op) line.op))
+    laid_end q line (Some k) e = tt
+    laid_end q line None e =
+        let f = fine_at d p n o q line operation_fine e in
+        subst (CanPutEnding registers (length o.code) q) (sym (laid_ending home o.code q line.op (direct_of o.code q line.op)))
+        (ending_puts registers home d p n o q line line.op f (λ x r. homed q line x e (inl r)))
 
     endings : (q : ℕ) (i : Op) → slice_get (ops_of o.code) q ≡ Some i →
         CanPutEnding registers (length (ops_of o.code)) q (ending_of home i)
     endings q i e =
         let l = line_there o.code q i e in
-        let f = fine_at d p n o q l.0 operation_fine l.1 in
         subst (λ k. CanPutEnding registers k q (ending_of home i)) (sym (ops_long o.code))
-        (subst (λ x. CanPutEnding registers (length o.code) q (ending_of home x)) l.2
-        (ending_puts registers home d p n o q l.0 l.0.op f (λ x r. homed q l.0 x l.1 (inl r))))
+        (subst (λ x. CanPutEnding registers (length o.code) q (ending_of home x)) l.2 (laid_end q l.0 (direct_before o.code q) l.1))
 
     pub makeable : IsMakeable registers site
     makeable =
@@ -210,6 +245,7 @@ module _ (d : Declared) (p : Parts) (fine : Fine d p) (limits : HasLimits p) (re
           steps = λ q i e. subst (λ h. CanPutAll registers (steps_of h i)) (sym same) (steps q i (ap (λ l. slice_get l q) (sym ops) ∙ e));
           endings = λ q i e.
               subst (λ h. CanPutEnding registers (length (ops_there site)) q (ending_of h i)) (sym same)
-              (subst (λ l. CanPutEnding registers (length l) q (ending_of home i)) (sym ops) (endings q i (ap (λ l. slice_get l q) (sym ops) ∙ e)));
+              (subst (λ l. CanPutEnding registers (length l) q (ending_of home i)) (sym ops)
+              (endings q i (ap (λ l. slice_get l q) (sym ops) ∙ e)));
           few = omega (arith, small.steps, ap length ops, ops_long o.code);
         }

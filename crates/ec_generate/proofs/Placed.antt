@@ -1,5 +1,5 @@
 -- An operation of a program, where it is laid out: its words, sizes and places are those of the program's layout.
-use Rattle.std.proofs.Common.{◌≡◌, ℕ, ◌+◌, ◌≤◌, List, length, map, Some, refl, sym, ap, ◌∙◌, subst, arith}
+use Rattle.std.proofs.Common.{◌≡◌, ℕ, ◌≤◌, List, length, map, Some, sym, ap, ◌∙◌, subst}
 use Rattle.std.specs.Prelude.{slice_get}
 use Rattle.ec_code.specs.declared.code.Line.{Line}
 use Rattle.ec_code.specs.declared.code.Operation.{Operation}
@@ -14,7 +14,8 @@ use Rattle.ec_generate.proofs.Programs.{words_at}
 use Rattle.ec_generate.proofs.Room.{chosen_near}
 use Rattle.ec_homes.specs.Homes.{column}
 use Rattle.ec_homes.specs.declared.homes.Home.{Home}
-use Rattle.ec_micro.specs.Layout.{Vocabularies, chosen, home_of, home_or, operation_words, ops_of, place, size_of, stop_addresses, vocabulary_of, words_in}
+use Rattle.ec_micro.specs.Layout.{Vocabularies, chosen, home_of, home_or, operation_words, ops_of, place, size_of, stop_addresses}
+use Rattle.ec_micro.specs.Layout.{vocabulary_of, words_in}
 use Rattle.ec_micro.specs.Speaks.{Vocabulary, words_end}
 use Rattle.ec_target.specs.Code.{pc_of}
 

@@ -1,8 +1,7 @@
 -- What the loop over a program's operations keeps.
-use Rattle.std.proofs.Common.{◌≡◌, ℕ, zero, suc, ◌+◌, ◌≤◌, ◌*◌, List, [], ◌∷◌, ◌++◌, length, length-append, append_assoc, drop, Some, refl, sym}
-use Rattle.std.proofs.Common.{ap, ◌∙◌, subst, arith}
+use Rattle.std.proofs.Common.{◌≡◌, ℕ, suc, ◌+◌, List, [], ◌∷◌, ◌++◌, length, length-append, append_assoc, drop, Some, refl, sym}
+use Rattle.std.proofs.Common.{ap, ◌∙◌, arith}
 use Rattle.std.specs.Prelude.{slice_get}
-use Rattle.std.proofs.lemmas.Option.{same_Some}
 use Rattle.ec_base.proofs.Lists.{drop_at}
 use Rattle.ec_code.specs.declared.code.Op.{Op}
 use Rattle.ec_code.specs.declared.code.Operation.{Operation}
@@ -10,7 +9,8 @@ use Rattle.ec_code.specs.declared.code.Variable.{Variable}
 use Rattle.ec_faithful.specs.declared.code.OperationCode.{OperationCode}
 use Rattle.ec_generate.specs.Puts.{IsSized}
 use Rattle.ec_homes.specs.declared.homes.Home.{Home}
-use Rattle.ec_micro.specs.Layout.{Vocabularies, home_of, op_words, operation_codes, operation_words, ops_of, program_words, size_of, size_of_all}
+use Rattle.ec_micro.specs.Layout.{Vocabularies, home_of, op_words, operation_codes, operation_words, ops_of, program_words, size_of}
+use Rattle.ec_micro.specs.Layout.{size_of_all}
 use Rattle.ec_micro.specs.Layout.{stop_addresses, vocabulary_of, words_from, words_in}
 use Rattle.ec_micro.specs.Speaks.{Vocabulary}
 use Rattle.ec_micro.proofs.Sizes.{op_long}
@@ -60,12 +60,14 @@ module _ (vs : Vocabularies) (homes : List (List Home)) (sized : (n : ℕ) (o : 
         ap (λ k. size_of_all vs homes k (drop (n + 1) os)) next in
         omega (arith, a, b, so_far, longer)
 
-    pub words_more : (all : List ℕ) → old ++ rest_words vs homes os n (length old) ≡ all → new ++ rest_words vs homes os (n + 1) (length new) ≡ all
+    pub words_more : (all : List ℕ) → old ++ rest_words vs homes os n (length old) ≡ all →
+        new ++ rest_words vs homes os (n + 1) (length new) ≡ all
     words_more all so_far =
         let rest : ℕ → List ℕ = λ k. program_words vs homes (n + 1) k (drop (n + 1) os) in
         ap (λ l. l ++ rest (length new)) is ∙ append_assoc old (words_at vs homes n o (length old)) (rest (length new))
         ∙ ap (λ k. old ++ (words_at vs homes n o (length old) ++ rest k)) longer
-        ∙ ap (λ k. old ++ (words_at vs homes n o (length old) ++ program_words vs homes k (length old + words_in vs homes n o) (drop (n + 1) os))) next
+        ∙ ap (λ k. old ++ (words_at vs homes n o (length old) ++ program_words vs homes k (length old + words_in vs homes n o)
+        (drop (n + 1) os))) next
         ∙ sym (ap (λ l. old ++ program_words vs homes n (length old) l) (drop_at os n o there)) ∙ so_far
 
     pub codes_more : (before after all : List OperationCode) (code : OperationCode) → after ≡ before ++ code ∷ [] →

@@ -1,7 +1,8 @@
 -- Each operation is within the reach of its words, and all of them within the room for code.
-use Rattle.std.proofs.Common.{◌≡◌, ℕ, zero, suc, ◌+◌, ◌*◌, ◌≤◌, ◌<◌, Bool, true, false, List, [], ◌∷◌, ◌++◌, length, length-append, Some, None, refl}
-use Rattle.std.proofs.Common.{sym, ap, ◌∙◌, subst, arith, cond, ⊎_elim}
-use Rattle.std.specs.Prelude.{nat_le, slice_get, sum_by}
+use Rattle.std.proofs.Common.{◌≡◌, ℕ, zero, suc, ◌+◌, ◌*◌, ◌≤◌, Bool, true, false, List, [], ◌∷◌, length, length-append, Option, Some}
+use Rattle.std.proofs.Common.{None, refl}
+use Rattle.std.proofs.Common.{sym, ap, ◌∙◌, arith, cond}
+use Rattle.std.specs.Prelude.{slice_get, sum_by}
 use Rattle.std.proofs.lemmas.Bool.Decides.{nat_tests}
 use Rattle.std.proofs.lemmas.Option.{same_Some}
 use Rattle.std.proofs.lemmas.List.Sums.{sum_by-cons}
@@ -14,12 +15,13 @@ use Rattle.ec_code_limits.specs.Limits as limits
 use Rattle.ec_generate.specs.Puts.{IsSized, Sized, most_words, pick}
 use Rattle.ec_generate.specs.declared.kind.Span.{Span}
 use Rattle.ec_generate.specs.declared.kind.Span.TheVariants.{Near, Middle, Far}
-use Rattle.ec_generate.proofs.Loops.{ops_long}
+use Rattle.ec_micro.proofs.Direct.{ops_long}
 use Rattle.ec_homes.specs.declared.homes.Home.{Home}
-use Rattle.ec_micro.specs.Layout.{HasRoom, Vocabularies, before, chosen, ending_size, home_of, is_within, op_size, ops_of, plain_size, size_of, size_of_all}
+use Rattle.ec_micro.specs.Layout.{HasRoom, Vocabularies, chosen, ending_size, home_of, is_within, op_size, ops_of, size_of, size_of_all}
 use Rattle.ec_micro.specs.Layout.{vocabulary_of, words_in, words_of_steps}
-use Rattle.ec_micro.specs.Lowering.{is_there, question_of, source_of, steps_of}
+use Rattle.ec_micro.specs.Lowering.{branch_by, is_there, known, question_of, source_of}
 use Rattle.ec_micro.specs.Speaks.{Vocabulary, words_end}
+use Rattle.ec_micro.specs.declared.step.Question.{Question}
 use Rattle.ec_micro.specs.declared.step.Source.TheVariants as source
 use Rattle.ec_micro.specs.declared.step.Step.{Step}
 use Rattle.ec_micro.specs.declared.step.Step.TheVariants as step
@@ -34,6 +36,11 @@ module _ (V : Vocabulary) (sized : IsSized V) where
   if_few true m = omega arith
   if_few false m = one_few m
 
+  branch_few : (k : Option Bool) (q : Question) (over : ℕ) → ending_size V (branch_by k q over) ≤ most_words
+  branch_few None q over = sized.ask q
+  branch_few (Some true) q over = sized.jump
+  branch_few (Some false) q over = omega arith
+
   module _ (home : Variable → Home) where
     pub op_few : (o : Op) → op_size V home o ≤ most_words
     op_few (op.Copy to from) =
@@ -46,7 +53,9 @@ module _ (V : Vocabulary) (sized : IsSized V) where
     op_few (op.Compute how to left right) =
         let few = one_few (step.Work how (home to) (source_of home left) (source_of home right)) in omega (arith, few)
     op_few (op.Decide to t wanted) = let few = one_few (step.Decide (home to) (question_of home t wanted)) in omega (arith, few)
-    op_few (op.Branch t wanted over) = let few = sized.ask (question_of home t wanted) in omega (arith, few)
+    op_few (op.Branch t wanted over) =
+        let q = question_of home t wanted in
+        let few = branch_few (known q) q over in omega (arith, few)
     op_few (op.Jump over) = let few = sized.jump in omega (arith, few)
     op_few (op.Again back) = let few = sized.jump in omega (arith, few)
     op_few (op.Rest row) = omega arith

@@ -1,6 +1,5 @@
 -- When words can be written.
-use Rattle.std.specs.Prelude.{◌≡◌, ℕ, ◌<◌, ◌≤◌, ◌^◌, Bool, List, length}
-use Rattle.ec_code.specs.declared.code.Arithmetic.{Arithmetic}
+use Rattle.std.specs.Prelude.{◌≡◌, ℕ, ◌<◌, ◌≤◌, ◌^◌, length}
 use Rattle.ec_faithful.specs.Frames.{block_words, slots}
 use Rattle.ec_generate.specs.declared.kind.Span.{Span}
 use Rattle.ec_generate.specs.declared.kind.Span.TheVariants.{Near, Middle, Far}

@@ -8,6 +8,7 @@ use Rattle.ec_generate.specs.Puts.{CanPut, CanPutQuestion}
 use Rattle.ec_generate.specs.declared.site.Site.{Site}
 use Rattle.ec_homes.specs.Homes.{column}
 use Rattle.ec_homes.specs.declared.homes.Home.{Home}
+use Rattle.ec_micro.specs.Direct.{led_to}
 use Rattle.ec_micro.specs.Layout as layout
 use Rattle.ec_micro.specs.Layout.{home_or, ops_of}
 use Rattle.ec_micro.specs.Lowering.{ending_of, steps_of}
@@ -42,6 +43,10 @@ code_there V site start = record {
   words = size_there V site;
   stops = map (λ q. pc_of (place_there V site start q)) (stop_places site.code.now);
 }
+
+-- the site has the places to which steps lead
+abbrev pub IsLed : Site → Type 0
+IsLed site = site.led.now ≡ led_to site.code.now
 
 -- ---- one step
 

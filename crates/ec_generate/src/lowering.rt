@@ -1,10 +1,12 @@
 //! The steps on words for a step of three-address code.
-ghost use Rattle.std.specs.Prelude.{◌≡◌};
-ghost use Rattle.ec_generate.specs.Sites.{home_there, listed};
+ghost use Rattle.std.specs.Prelude.{◌≡◌, ◌<◌, length};
+ghost use Rattle.ec_generate.specs.Sites.{IsLed, home_there, listed};
+ghost use Rattle.ec_micro.specs.Direct as direct;
 ghost use Rattle.ec_micro.specs.Lowering as spec;
+ghost use Rattle.ec_micro.specs.Micro.{related};
 
 use crate::site::Site;
-use ec_code::code::{Op, Operand, Test};
+use ec_code::code::{Op, Operand, Test, Variable};
 use ec_homes::homes::Home;
 use ec_micro::step::{Ending, Question, Relation, Source, Step};
 
@@ -55,7 +57,7 @@ impl<'a> Site<'a> {
     }
 
     /// The step on words, where there is one.
-    pub(crate) fn step_of(&self, op: &Op) -> Option<Step>
+    fn step_of(&self, op: &Op) -> Option<Step>
         ensures { listed result ≡ spec.steps_of (home_there self.now) op.now }
     {
         match op {
@@ -98,15 +100,71 @@ impl<'a> Site<'a> {
         }
     }
 
+    /// The step on words, with its result in a named variable.
+    fn step_into(&self, n: u32, op: &Op) -> Option<Step>
+        ensures { listed result ≡ spec.steps_of (home_there self.now) (direct.into_named n op.now) }
+    {
+        match op {
+            Op::Compute {
+                how,
+                left,
+                right,
+                ..
+            } => Some(Step::Work {
+                how: *how,
+                into: self.home(Variable::Named(n)),
+                left: self.source_of(*left),
+                right: self.source_of(*right),
+            }),
+            Op::Copy { .. }
+            | Op::Literal { .. }
+            | Op::Itself { .. }
+            | Op::Field { .. }
+            | Op::SetField { .. }
+            | Op::Constant { .. }
+            | Op::Decide { .. }
+            | Op::Branch { .. }
+            | Op::Jump { .. }
+            | Op::Again { .. }
+            | Op::Rest(_) => self.step_of(op),
+        }
+    }
+
+    /// The step on words for the step at a place, where there is one: none for a copy that is done already.
+    #[tactic(auto, using(crate::proofs::Led::no_steps, crate::proofs::Led::own_steps, crate::proofs::Led::named_steps))]
+    pub(crate) fn step_at(&self, place: usize, op: &Op) -> Option<Step>
+        requires led { IsLed self.now }
+        requires there { place < length self.now.code.now }
+        ensures { listed result ≡ spec.steps_of (home_there self.now) (direct.laid_op self.now.code.now place op.now) }
+    {
+        match self.direct_before(place) {
+            Some(_) => None,
+            None => match self.direct_of(place, op) {
+                Some(n) => self.step_into(n, op),
+                None => self.step_of(op),
+            },
+        }
+    }
+
+    /// How the code goes on behind the step at a place, where this isn't the next one.
+    #[tactic(auto, using(crate::proofs::Led::no_ending, crate::proofs::Led::own_ending))]
+    pub(crate) fn ending_at(&self, place: usize, op: &Op) -> Option<Ending>
+        requires led { IsLed self.now }
+        requires there { place < length self.now.code.now }
+        ensures { result ≡ spec.ending_of (home_there self.now) (direct.laid_op self.now.code.now place op.now) }
+    {
+        match self.direct_before(place) {
+            Some(_) => None,
+            None => self.ending_of(op),
+        }
+    }
+
     /// How the code goes on behind a step, where this isn't the next one.
-    pub(crate) fn ending_of(&self, op: &Op) -> Option<Ending>
+    fn ending_of(&self, op: &Op) -> Option<Ending>
         ensures { result ≡ spec.ending_of (home_there self.now) op.now }
     {
         match op {
-            Op::Branch { test, wanted, over } => Some(Ending::Branch {
-                question: self.question_of(*test, *wanted),
-                over: *over,
-            }),
+            Op::Branch { test, wanted, over } => { branch(self.question_of(*test, *wanted), *over) }
             Op::Jump { over } => Some(Ending::Jump { over: *over }),
             Op::Again { back } => Some(Ending::Again { back: *back }),
             Op::Rest(_) => Some(Ending::Stop),
@@ -131,6 +189,40 @@ fn question(relation: Relation, left: Source, right: Source, wanted: bool) -> Qu
         left,
         right,
         wanted,
+    }
+}
+
+/// Whether a relation holds between two words.
+fn related(relation: Relation, a: u32, b: u32) -> bool
+    ensures { result ≡ related relation a b }
+{
+    match relation {
+        Relation::Same => a == b,
+        Relation::Less => a.cast_signed() < b.cast_signed(),
+    }
+}
+
+/// The answer to a question of two numbers, which is known already.
+fn known(question: Question) -> Option<bool>
+    ensures { result ≡ spec.known question }
+{
+    match (question.left, question.right) {
+        (Source::Word(a), Source::Word(b)) => {
+            let holds = related(question.relation, a, b);
+            Some(if question.wanted { holds } else { !holds })
+        }
+        (Source::Home(_), _) | (Source::Word(_), Source::Home(_)) => None,
+    }
+}
+
+/// How the code goes on where a question is answered with yes, which isn't asked if the answer is known.
+fn branch(question: Question, over: u32) -> Option<Ending>
+    ensures { result ≡ spec.branch question over }
+{
+    match known(question) {
+        None => Some(Ending::Branch { question, over }),
+        Some(true) => Some(Ending::Jump { over }),
+        Some(false) => None,
     }
 }
 

@@ -2,7 +2,9 @@
 ghost use Rattle.std.specs.Prelude.{◌≡◌, ℕ, ◌≤◌, ◌<◌, ◌+◌, ◌++◌, true, false, IfOk, IsSome, OnOk, Some, None, length, map, slice_get};
 ghost use Rattle.ec_faithful.specs.Stops.{stop_of, stop_places};
 ghost use Rattle.ec_generate.specs.Puts.{pick};
-ghost use Rattle.ec_generate.specs.Sites.{ArePlaces, CanPutAll, IsMakeable, code_there, home_there, ops_there, place_there, size_there};
+ghost use Rattle.ec_generate.specs.Sites.{ArePlaces, CanPutAll, IsLed, IsMakeable, code_there, home_there};
+ghost use Rattle.ec_generate.specs.Sites.{ops_there, place_there, size_there};
+ghost use Rattle.ec_micro.specs.Direct.{laid_op};
 ghost use Rattle.ec_micro.specs.Layout as layout;
 ghost use Rattle.ec_micro.specs.Lowering as lowering;
 ghost use Rattle.ec_micro.specs.Speaks.{words_end};
@@ -20,19 +22,23 @@ use std::alloc::{AllocError, Global};
 /// Where code starts, in bytes.
 const CODE_BASE: u32 = 0x0040_0000;
 
-/// Writes the steps on words for a step of three-address code. The error is want of memory.
+/// Writes the steps on words for step q of three-address code. The error is want of memory.
 fn put_steps<K: Kind>(
     kind: &K,
     span: Span,
     site: &Site<'_>,
+    q: usize,
     op: &Op,
     words: &mut Seq<u32>,
 ) -> Result<(), AllocError>
-    requires { CanPutAll K.homes (lowering.steps_of (home_there site.now) op.now) }
+    requires led { IsLed site.now }
+    requires there { q < length site.now.code.now }
+    requires puts { CanPutAll K.homes (lowering.steps_of (home_there site.now) (laid_op site.now.code.now q op.now)) }
     ensures { OnOk result (words.new ≡ words.old
-        ++ layout.words_of_steps (pick K.vocabularies span) (lowering.steps_of (home_there site.now) op.now)) }
+        ++ layout.words_of_steps (pick K.vocabularies span)
+        (lowering.steps_of (home_there site.now) (laid_op site.now.code.now q op.now))) }
 {
-    match site.step_of(op) {
+    match site.step_at(q, op) {
         Some(step) => kind.put_step(span, step, words),
         None => Ok(()),
     }
@@ -67,17 +73,20 @@ fn put_ending<K: Kind>(
     op: &Op,
     words: &mut Seq<u32>,
 ) -> Result<(), AllocError>
-    requires there { slice_get (ops_there site.now) q ≡ Some op.now }
+    requires led { IsLed site.now }
+    requires in_code { q < length site.now.code.now }
+    requires there { slice_get (ops_there site.now) q ≡ Some (laid_op site.now.code.now q op.now) }
     requires makeable { IsMakeable K.homes site.now }
     requires placed { ArePlaces (pick K.vocabularies span) site.now places.now }
     requires near { size_there (pick K.vocabularies span) site.now ≤ (pick K.vocabularies span).reach }
     requires room { start + size_there (pick K.vocabularies span) site.now ≤ words_end }
     requires here { length words.old ≡ place_there (pick K.vocabularies span) site.now start q
-        + layout.plain_size (pick K.vocabularies span) (home_there site.now) op.now }
+        + layout.plain_size (pick K.vocabularies span) (home_there site.now) (laid_op site.now.code.now q op.now) }
     ensures { OnOk result (words.new ≡ words.old ++ layout.ending_words (pick K.vocabularies span) (home_there site.now)
-        (ops_there site.now) start q (length words.old) (lowering.ending_of (home_there site.now) op.now)) }
+        (ops_there site.now) start q (length words.old)
+        (lowering.ending_of (home_there site.now) (laid_op site.now.code.now q op.now))) }
 {
-    let Some(ending) = site.ending_of(op) else {
+    let Some(ending) = site.ending_at(q, op) else {
         return Ok(());
     };
     let from = words.len() as u32;
@@ -109,16 +118,19 @@ fn put_op<K: Kind>(
     op: &Op,
     words: &mut Seq<u32>,
 ) -> Result<(), AllocError>
-    requires there { slice_get (ops_there site.now) q ≡ Some op.now }
+    requires led { IsLed site.now }
+    requires in_code { q < length site.now.code.now }
+    requires there { slice_get (ops_there site.now) q ≡ Some (laid_op site.now.code.now q op.now) }
     requires makeable { IsMakeable K.homes site.now }
     requires placed { ArePlaces (pick K.vocabularies span) site.now places.now }
     requires near { size_there (pick K.vocabularies span) site.now ≤ (pick K.vocabularies span).reach }
     requires room { start + size_there (pick K.vocabularies span) site.now ≤ words_end }
     requires here { length words.old ≡ place_there (pick K.vocabularies span) site.now start q }
     ensures { OnOk result (words.new ≡ words.old
-        ++ layout.op_words (pick K.vocabularies span) (home_there site.now) (ops_there site.now) start q op.now) }
+        ++ layout.op_words (pick K.vocabularies span) (home_there site.now) (ops_there site.now) start q
+        (laid_op site.now.code.now q op.now)) }
 {
-    put_steps(kind, span, site, op, words)?;
+    put_steps(kind, span, site, q, op, words)?;
     put_ending(kind, span, site, places, start, q, op, words)
 }
 
@@ -131,6 +143,7 @@ fn put_code<K: Kind>(
     start: u32,
     words: &mut Seq<u32>,
 ) -> Result<(), AllocError>
+    requires led { IsLed site.now }
     requires makeable { IsMakeable K.homes site.now }
     requires placed { ArePlaces (pick K.vocabularies span) site.now places.now }
     requires near { size_there (pick K.vocabularies span) site.now ≤ (pick K.vocabularies span).reach }
@@ -207,6 +220,7 @@ pub(crate) fn put_operation<K: Kind>(
     site: &Site<'_>,
     words: &mut Seq<u32>,
 ) -> Result<OperationCode, AllocError>
+    requires led { IsLed site.now }
     requires makeable { IsMakeable K.homes site.now }
     requires near { size_there (pick K.vocabularies span) site.now ≤ (pick K.vocabularies span).reach }
     requires room { length words.old + size_there (pick K.vocabularies span) site.now ≤ words_end }

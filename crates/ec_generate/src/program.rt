@@ -9,6 +9,7 @@ ghost use Rattle.ec_micro.specs.Fitting.{HomesFit};
 ghost use Rattle.ec_micro.specs.Layout.{HasRoom, code_of};
 ghost use Rattle.ec_stop_tables.specs.Tables.{AreTablesOf, all_homes};
 
+use crate::direct::led_to;
 use crate::kind::Kind;
 use crate::operation::put_operation;
 use crate::site::Site;
@@ -20,14 +21,16 @@ use ec_homes::homes::Home;
 use ec_stop_tables::table::StopTable;
 use std::alloc::{AllocError, Global};
 
-/// An operation with the homes of its variables.
-fn site_of<'a>(operation: &'a Operation, row: &'a Seq<Home>) -> Site<'a>
+/// An operation with the places to which its steps lead and the homes of its variables.
+fn site_of<'a>(operation: &'a Operation, led: &'a [bool], row: &'a Seq<Home>) -> Site<'a>
     ensures code { result.code.now ≡ operation.now.code }
+    ensures led { result.led.now ≡ led.now }
     ensures named { result.named ≡ length operation.now.variables }
     ensures homes { result.homes.now ≡ row.now }
 {
     Site {
         code: &operation.code,
+        led,
         named: operation.variables.len(),
         homes: row,
     }
@@ -51,7 +54,9 @@ pub fn generate<K: Kind>(
     let mut words = Seq::new(alloc);
     let mut operations = Seq::new(alloc);
     for n in 0..parts.operations.len() {
-        let site = site_of(parts.operations.at(n), &table.operations.at(n).homes);
+        let operation = parts.operations.at(n);
+        let led = led_to(alloc, &operation.code)?;
+        let site = site_of(operation, &led, &table.operations.at(n).homes);
         let span = span_of(kind, &site);
         operations.push(put_operation(alloc, kind, span, &site, &mut words)?)?;
     }

@@ -7,10 +7,12 @@ use ec_base::list::Seq;
 use ec_code::code::{Line, Variable};
 use ec_homes::homes::Home;
 
-/// The code of an operation, how many named variables it has, and the homes of its variables by their places: named ones first.
+/// The code of an operation, for each place of it whether a step leads there past the next one, how many named variables it has, and the
+/// homes of its variables by their places: named ones first.
 #[derive(Clone, Copy)]
 pub(crate) struct Site<'a> {
     pub(crate) code: &'a Seq<Line>,
+    pub(crate) led: &'a [bool],
     pub(crate) named: usize,
     pub(crate) homes: &'a Seq<Home>,
 }

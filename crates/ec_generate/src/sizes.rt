@@ -1,7 +1,8 @@
 //! How many words there are, and where they begin.
 ghost use Rattle.std.specs.Prelude.{◌≡◌, ℕ, ◌≤◌, ◌<◌, ◌+◌, ◌*◌, ◌^◌, IfOk, length};
 ghost use Rattle.ec_generate.specs.Puts.{most_words, pick};
-ghost use Rattle.ec_generate.specs.Sites.{ArePlaces, home_there, most_steps, ops_there, size_there};
+ghost use Rattle.ec_generate.specs.Sites.{ArePlaces, IsLed, home_there, most_steps, ops_there, size_there};
+ghost use Rattle.ec_micro.specs.Direct.{laid_op};
 ghost use Rattle.ec_micro.specs.Layout as layout;
 ghost use Rattle.ec_micro.specs.Layout.{chosen};
 
@@ -28,13 +29,15 @@ fn ending_size<K: Kind>(kind: &K, span: Span, site: &Site<'_>, ending: Option<En
     }
 }
 
-/// How many words a step of three-address code has.
-fn op_size<K: Kind>(kind: &K, span: Span, site: &Site<'_>, op: &Op) -> u32
-    ensures is { result ≡ layout.op_size (pick K.vocabularies span) (home_there site.now) op.now }
+/// How many words the step of three-address code at place q has.
+fn op_size<K: Kind>(kind: &K, span: Span, site: &Site<'_>, q: usize, op: &Op) -> u32
+    requires led { IsLed site.now }
+    requires there { q < length site.now.code.now }
+    ensures is { result ≡ layout.op_size (pick K.vocabularies span) (home_there site.now) (laid_op site.now.code.now q op.now) }
     ensures few { result ≤ 2 * most_words }
 {
-    let ending = ending_size(kind, span, site, site.ending_of(op));
-    match site.step_of(op) {
+    let ending = ending_size(kind, span, site, site.ending_at(q, op));
+    match site.step_at(q, op) {
         Some(step) => kind.step_size(span, step) + ending,
         None => ending,
     }
@@ -42,19 +45,21 @@ fn op_size<K: Kind>(kind: &K, span: Span, site: &Site<'_>, op: &Op) -> u32
 
 /// How many words an operation's code has.
 fn size_of<K: Kind>(kind: &K, span: Span, site: &Site<'_>) -> u32
-    requires { length (ops_there site.now) ≤ most_steps }
+    requires led { IsLed site.now }
+    requires few { length (ops_there site.now) ≤ most_steps }
     ensures is { result ≡ size_there (pick K.vocabularies span) site.now }
 {
     let mut size = 0;
     for q in 0..site.code.len() {
-        size += op_size(kind, span, site, &site.code.at(q).op);
+        size += op_size(kind, span, site, q, &site.code.at(q).op);
     }
     size
 }
 
 /// How far the words reach that an operation gets: no further than its code goes.
 pub(crate) fn span_of<K: Kind>(kind: &K, site: &Site<'_>) -> Span
-    requires { length (ops_there site.now) ≤ most_steps }
+    requires led { IsLed site.now }
+    requires few { length (ops_there site.now) ≤ most_steps }
     ensures { pick K.vocabularies result ≡ chosen K.vocabularies (home_there site.now) (ops_there site.now) }
 {
     if size_of(kind, Span::Near, site) <= kind.reach(Span::Near) {
@@ -73,14 +78,15 @@ pub(crate) fn places<K: Kind>(
     span: Span,
     site: &Site<'_>,
 ) -> Result<Seq<u32>, AllocError>
-    requires { length (ops_there site.now) ≤ most_steps }
+    requires led { IsLed site.now }
+    requires few { length (ops_there site.now) ≤ most_steps }
     ensures { IfOk result (λ places. ArePlaces (pick K.vocabularies span) site.now places) }
 {
     let mut places = Seq::new(alloc);
     let mut at = 0;
     places.push(at)?;
     for q in 0..site.code.len() {
-        at += op_size(kind, span, site, &site.code.at(q).op);
+        at += op_size(kind, span, site, q, &site.code.at(q).op);
         places.push(at)?;
     }
     Ok(places)

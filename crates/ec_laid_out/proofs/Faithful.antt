@@ -1,5 +1,5 @@
 -- From a state that fits an activation the code does what silent steps do.
-use Rattle.std.proofs.Common.{◌≡◌, ℕ, zero, suc, ◌+◌, ◌≤◌, List, [], ◌∷◌, length, drop, Option, Some, refl, sym, ap, ◌∙◌}
+use Rattle.std.proofs.Common.{◌≡◌, ℕ, zero, suc, ◌+◌, ◌≤◌, List, [], ◌∷◌, length, drop, Option, Some, None, refl, sym, ap, ◌∙◌}
 use Rattle.std.proofs.Common.{subst, arith, inr}
 use Rattle.std.specs.Prelude.{slice_get}
 use Rattle.std.proofs.lemmas.Option.{same_Some}
@@ -12,16 +12,19 @@ use Rattle.ec_code.specs.declared.activation.CodeActivation.{CodeActivation}
 use Rattle.ec_code.specs.declared.code.Line.{Line}
 use Rattle.ec_code.specs.declared.code.Operation.{Operation}
 use Rattle.ec_code.specs.declared.code.Parts.{Parts}
+use Rattle.ec_code.specs.declared.code.StopRow.{StopRow}
 use Rattle.ec_code.specs.declared.code.Variable.{Variable}
 use Rattle.ec_conform.specs.declared.static_type.StaticType.{StaticType}
 use Rattle.ec_faithful.specs.Faithful.{Arrives, homes_of, machine_at}
 use Rattle.ec_faithful.specs.Frames.{slots}
 use Rattle.ec_faithful.specs.Machine.{MachineMeaning}
 use Rattle.ec_faithful.specs.Standing.{AreTables, Fits, HasWhatIsSet, HomeStands, Lives}
-use Rattle.ec_faithful.specs.Stops.{IsStopAt, home_in, stop_places}
+use Rattle.ec_faithful.specs.Stops.{IsStopAt, home_in, stop_of, stop_places}
 use Rattle.ec_homes.specs.Homes.{IsWithin}
 use Rattle.ec_homes.specs.declared.homes.Home.{Home}
 use Rattle.ec_homes.specs.declared.homes.Home.TheVariants.{Register, Slot}
+use Rattle.ec_micro.proofs.Direct.{none_behind}
+use Rattle.ec_micro.specs.Direct.{direct_before, direct_of, laid_from}
 use Rattle.ec_micro.specs.Fitting.{CanBeLaidOut, LaidOutIsFaithful}
 use Rattle.ec_micro.specs.Layout.{Vocabularies, home_of, home_or, op_size, ops_of, size_of, vocabulary_of}
 use Rattle.ec_micro.specs.Micro.{Sight}
@@ -40,11 +43,18 @@ use Rattle.ec_laid_out.proofs.Whole.{stop_word_at, stops}
 use Rattle.ec_laid_out.proofs.Whole.{whole, within, words_are}
 
 size_drop :
-    (V : Vocabulary) (home : Variable → Home) (lines : List Line) (n : ℕ) →
-    size_of V home (ops_of (drop n lines)) ≤ size_of V home (ops_of lines)
-size_drop V home lines zero = omega arith
-size_drop V home [] (suc n) = omega arith
-size_drop V home (l ∷ rest) (suc n) = let far = size_drop V home rest n in omega (arith, far)
+    (V : Vocabulary) (home : Variable → Home) (code lines : List Line) (p n : ℕ) →
+    size_of V home (laid_from code (p + n) (drop n lines)) ≤ size_of V home (laid_from code p lines)
+size_drop V home code lines p zero =
+    let none : p + zero ≡ p = omega arith in
+    let same = ap (λ i. size_of V home (laid_from code i lines)) none in
+    omega (arith, same)
+size_drop V home code [] p (suc n) = omega arith
+size_drop V home code (l ∷ rest) p (suc n) =
+    let next : p + suc n ≡ suc p + n = omega arith in
+    let same = ap (λ i. size_of V home (laid_from code i (drop n rest))) next in
+    let far = size_drop V home code rest (suc p) n in
+    omega (arith, same, far)
 
 module _ {S : Type 0} (M : MachineMeaning S) (vs : Vocabularies) (homes : List (List Home)) (d : Declared) (p : Parts)
     (can : CanBeLaidOut M vs homes d p) (local : ℕ → Option ℕ) (text : ℕ → Option (List ℕ)) (o : Operation) (a : CodeActivation)
@@ -138,28 +148,51 @@ module _ {S : Type 0} (M : MachineMeaning S) (vs : Vocabularies) (homes : List (
       many = has.variables;
     }
 
-    begins : M.place s ≡ pc_of (at_place M vs homes d p can a.operation o (suc a.at))
-    begins =
+    -- the stop, where it stands in the code
+    pub record Here : Type 0 where
+      pub line : Line
+      pub row : StopRow
+      pub number : slice_get (stop_places o.code) stop.number ≡ Some a.at
+      pub is_line : slice_get o.code a.at ≡ Some line
+      pub is_stop : stop_of line.op ≡ Some row
+
+    here : Here
+    here =
         let same = same_Some stop.operation o (sym stop.is_operation ∙ is) in
         let number : slice_get (stop_places o.code) stop.number ≡ Some a.at =
         subst (λ (x : Operation). slice_get (stop_places x.code) stop.number ≡ Some a.at) same stop.is_number in
         let n = numbered o.code 0 stop.number a.at number in
         let sum = n.sum in
         let place_is : n.place ≡ a.at = omega (arith, sum) in
-        let next = before_next V home (ops_of o.code) a.at n.line.op
-        (op_at o.code a.at n.line (subst (λ i. slice_get o.code i ≡ Some n.line) place_is n.is_line)) in
-        let one = ap (op_size V home) (rest_is n.line.op n.row n.is_stop) in
+        record {
+          line = n.line;
+          row = n.row;
+          number = number;
+          is_line = subst (λ i. slice_get o.code i ≡ Some n.line) place_is n.is_line;
+          is_stop = n.is_stop;
+        }
+
+    begins : M.place s ≡ pc_of (at_place M vs homes d p can a.operation o (suc a.at))
+    begins =
+        let next = before_next V home (ops_of o.code) a.at here.line.op (op_at o.code a.at here.line here.row here.is_line here.is_stop) in
+        let one = ap (op_size V home) (rest_is here.line.op here.row here.is_stop) in
         let from = same_Some address (pc_of (at_place M vs homes d p can a.operation o a.at))
-        (sym stop.is_address ∙ address_is M vs homes d p can a.operation stop.number a.at o is number) in
+        (sym stop.is_address ∙ address_is M vs homes d p can a.operation stop.number a.at o is here.number) in
         omega (arith, behind, from, next, one)
+
+    -- a stop does no copy of the step behind it
+    none_done : direct_before o.code (suc a.at) ≡ None
+    none_done =
+        none_behind o.code a.at here.line here.is_line (ap (direct_of o.code a.at) (rest_is here.line.op here.row here.is_stop))
 
     module _ (e : Common) (r : Arrived)
         (walks : walk p.literals a.own (suc a.at) (drop (suc a.at) o.code) 0 m ≡ (e, Some r)) where
-      gone : Gets M V g z s seen (size M V g z (drop (suc a.at) o.code)) e r
+      gone : Gets M V g z s seen (size M V g z (suc a.at) (drop (suc a.at) o.code)) e r
       gone =
           let first : suc a.at ≡ suc a.at + 0 = omega arith in
-          subst (λ to. GetsTo M V g z s seen (size M V g z (drop (suc a.at) o.code)) to) walks
-          (gets M V g z (drop (suc a.at) o.code) (suc a.at) 0 m refl s seen sees
+          subst (λ to. GetsTo M V g z s seen (size M V g z (suc a.at) (drop (suc a.at) o.code)) to) walks
+          (gets M V g z (drop (suc a.at) o.code) (suc a.at) 0 m refl s seen
+          (ap (direct_before o.code) (sym first) ∙ none_done) sees
           (begins ∙ ap (λ k. pc_of (at_place M vs homes d p can a.operation o k)) first)
           (subst (λ k. Standing M g home (length o.variables) (live_at o.code k) seen m) first stands))
 
@@ -204,7 +237,10 @@ module _ {S : Type 0} (M : MachineMeaning S) (vs : Vocabularies) (homes : List (
                   (ap (word_at (code M vs homes d p can).words) gone.ends.at ∙ word),
             );
             few = (let few = gone.ends.few in let all = words_are M vs homes d p can a.operation o is in
-                let part = size_drop V home o.code (suc a.at) in omega (arith, few, all, part));
+                let part = size_drop V home o.code o.code 0 (suc a.at) in
+                let first : 0 + suc a.at ≡ suc a.at = omega arith in
+                let same = ap (λ i. size_of V home (laid_from o.code i (drop (suc a.at) o.code))) first in
+                omega (arith, few, all, part, same));
             is_loaded = speaking.is_loaded gone.ends.last rests;
             at = record {
               operation = o;

@@ -1,6 +1,6 @@
 -- The words of an operation: each stands where it should, and only a stop's is a stop word.
-use Rattle.std.proofs.Common.{◌≡◌, ℕ, zero, suc, ◌+◌, ◌-◌, ◌≤◌, List, [], ◌∷◌, length, Option, Some, None, refl, ap}
-use Rattle.std.proofs.Common.{subst, arith, ⊎_elim, length-append}
+use Rattle.std.proofs.Common.{◌≡◌, ◌≢◌, ℕ, zero, suc, ◌+◌, ◌-◌, ◌≤◌, List, [], ◌∷◌, length, Option, Some, None, refl, ap}
+use Rattle.std.proofs.Common.{subst, arith, ⊎_elim, length-append, Bool, true, false}
 use Rattle.std.specs.Prelude.{slice_get}
 use Rattle.std.proofs.lemmas.Option.{same_Some}
 use Rattle.ec_code.specs.declared.code.Op.{Op}
@@ -11,13 +11,19 @@ use Rattle.ec_faithful.specs.Machine.{MachineMeaning}
 use Rattle.ec_homes.specs.declared.homes.Home.{Home}
 use Rattle.ec_micro.specs.Layout.{before, ending_size, ending_words, op_size, op_words, operation_words, place, plain_size, size_of}
 use Rattle.ec_micro.specs.Layout.{words_from, words_of_steps}
-use Rattle.ec_micro.specs.Lowering.{ending_of, steps_of}
+use Rattle.ec_micro.specs.Lowering.{branch_by, ending_of, known, question_of, steps_of}
 use Rattle.ec_micro.specs.Speaks.{HasAt, Speaks, Vocabulary, words_end}
 use Rattle.ec_micro.specs.declared.step.Ending.{Ending}
 use Rattle.ec_micro.specs.declared.step.Ending.TheVariants.{Again, Branch, Jump, Stop}
+use Rattle.ec_micro.specs.declared.step.Question.{Question}
 use Rattle.ec_micro.specs.declared.step.Step.{Step}
 use Rattle.ec_laid_out.proofs.Sites.{Laid}
 use Rattle.ec_laid_out.proofs.Stretches.{get_append, has_back, has_front}
+
+branch_no_stop : (k : Option Bool) (q : Question) (over : ℕ) → branch_by k q over ≢ Some Stop
+branch_no_stop None q over e = cc
+branch_no_stop (Some true) q over e = cc
+branch_no_stop (Some false) q over e = cc
 
 -- a step that ends with a stop is one
 ends_with_stop : (home : Variable → Home) (o : Op) → ending_of home o ≡ Some Stop → (row : StopRow) × (o ≡ op.Rest row)
@@ -30,7 +36,9 @@ ends_with_stop home (op.SetField n from) e = absurd cc
 ends_with_stop home (op.Constant to index) e = absurd cc
 ends_with_stop home (op.Compute how to left right) e = absurd cc
 ends_with_stop home (op.Decide to t wanted) e = absurd cc
-ends_with_stop home (op.Branch t wanted over) e = absurd cc
+ends_with_stop home (op.Branch t wanted over) e =
+    let q = question_of home t wanted in
+    absurd (branch_no_stop (known q) q over e)
 ends_with_stop home (op.Jump over) e = absurd cc
 ends_with_stop home (op.Again back) e = absurd cc
 

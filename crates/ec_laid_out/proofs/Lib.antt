@@ -7,6 +7,7 @@ pub mod Sites
 pub mod Operands
 pub mod Each
 pub mod Outcomes
+pub mod Pairs
 pub mod Walks
 pub mod Stops
 pub mod Laying

@@ -1,7 +1,8 @@
 -- What the operands and the tests of a step find in a sight.
-use Rattle.std.proofs.Common.{◌≡◌, List, Option, Some, None, refl, sym, ap, ◌∙◌, subst, arith}
+use Rattle.std.proofs.Common.{◌≡◌, ℕ, List, Option, Some, None, refl, sym, ap, ◌∙◌, subst, arith}
 use Rattle.std.proofs.Common.{Bool, not, int_lt, int_le}
 use Rattle.std.proofs.lemmas.Option.{same_Some}
+use Rattle.ec_base.specs.Bytes.{Bytes}
 use Rattle.ec_code.specs.Fine.{FineOperand, FineTest, Has}
 use Rattle.ec_code.specs.Steps.{Machine, as_wanted, on_numbers, operand_at, tested, truth_in, variable_at}
 use Rattle.ec_code.specs.declared.code.Live.{Live}
@@ -14,9 +15,13 @@ use Rattle.ec_conform.specs.declared.static_type.StaticType.{StaticType}
 use Rattle.ec_faithful.specs.Machine.{MachineMeaning}
 use Rattle.ec_faithful.specs.Standing.{FitsWord}
 use Rattle.ec_micro.specs.Fitting.{OperandFits, TestFits}
-use Rattle.ec_micro.specs.Lowering.{question_of, source_of}
-use Rattle.ec_micro.specs.Micro.{CanAsk, CanFind, Sight, asked, found}
+use Rattle.ec_micro.specs.Lowering.{known, known_by, question_of, source_of}
+use Rattle.ec_micro.specs.Micro.{CanAsk, CanFind, Sight, asked, found, related}
 use Rattle.ec_micro.specs.Speaks.{Vocabulary}
+use Rattle.ec_micro.specs.declared.step.Question.{Question}
+use Rattle.ec_micro.specs.declared.step.Relation.{Relation}
+use Rattle.ec_micro.specs.declared.step.Source.{Source}
+use Rattle.ec_micro.specs.declared.step.Source.TheVariants as source
 use Rattle.ec_nodes.specs.Store.{StandsFor}
 use Rattle.ec_operators.specs.Same.{are_same, is_same_truth, is_zero}
 use Rattle.ec_world.specs.declared.value.Value.{Value}
@@ -25,6 +30,23 @@ use Rattle.ec_laid_out.proofs.Sites.{Site, named}
 use Rattle.ec_laid_out.proofs.Standing.{Holds, Setting, Standing, finds}
 use Rattle.ec_laid_out.proofs.Values.{at_most_is, below, below_is, bool_small, divides_is, holds_is, same_is, stands_small, truth_stands}
 use Rattle.ec_laid_out.proofs.Values.{turned, two_some, wanted_some}
+
+-- ---- questions whose answer is known
+
+known_by_is :
+    {S : Type 0} (M : MachineMeaning S) (f own : ℕ) (home : ℕ → ℕ) (bytes : Bytes) (relation : Relation) (wanted : Bool) (x y : Source)
+    (r : Bool) → known_by relation wanted x y ≡ Some r →
+    is_same_truth wanted (related relation (found M f own x home bytes) (found M f own y home bytes)) ≡ r
+known_by_is M f own home bytes relation wanted (source.Home h) y r e = absurd cc
+known_by_is M f own home bytes relation wanted (source.Word a) (source.Home h) r e = absurd cc
+known_by_is M f own home bytes relation wanted (source.Word a) (source.Word b) r e =
+    same_Some (is_same_truth wanted (related relation a b)) r e
+
+-- it is the answer that the question gets
+pub known_is :
+    {S : Type 0} (M : MachineMeaning S) (f own : ℕ) (home : ℕ → ℕ) (bytes : Bytes) (q : Question) (r : Bool) → known q ≡ Some r →
+    asked M f own q home bytes ≡ r
+known_is M f own home bytes q r e = known_by_is M f own home bytes q.relation q.wanted q.left q.right r e
 
 module _ {S : Type 0} (M : MachineMeaning S) (V : Vocabulary) (g : Setting M) (z : Site M V g)
     (here : List Live) (v : Sight) (m : Machine) (stand : Standing M g z.home (named M V g z) here v m) where

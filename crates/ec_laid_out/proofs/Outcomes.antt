@@ -1,5 +1,5 @@
 -- Where the code of each step of three-address code leads.
-use Rattle.std.proofs.Common.{◌≡◌, ◌≢◌, ℕ, suc, ◌+◌, ◌-◌, ◌≤◌, List, [], ◌∷◌, drop, Option, Some, None, refl, sym, ap, ◌∙◌}
+use Rattle.std.proofs.Common.{◌≡◌, ◌≢◌, ℕ, suc, ◌+◌, ◌-◌, List, [], ◌∷◌, drop, Option, Some, None, refl, sym, ap, ◌∙◌}
 use Rattle.std.proofs.Common.{subst, arith, Bool, true, false, if◌then◌else◌, inl, inr, ⊎_elim, option_map}
 use Rattle.std.specs.Prelude.{slice_get}
 use Rattle.std.proofs.lemmas.Bool.Decides.{nat_tests}
@@ -19,11 +19,15 @@ use Rattle.ec_faithful.specs.Machine.{MachineMeaning}
 use Rattle.ec_faithful.specs.Stops.{live_list, stop_at, stop_in, without}
 use Rattle.ec_liveness.specs.Live.{stays}
 use Rattle.ec_liveness.specs.Marks.{is_same, is_written}
+use Rattle.ec_micro.proofs.Direct.{LeadsPast, branch_leads, jump_leads, none_behind, none_led}
+use Rattle.ec_micro.specs.Direct.{direct_at, direct_before, direct_of, laid_op}
 use Rattle.ec_micro.specs.Fitting.{TestFits}
 use Rattle.ec_micro.specs.Layout.{ending_size, ending_words, op_size, plain_size}
-use Rattle.ec_micro.specs.Lowering.{ending_of, question_of, steps_of}
-use Rattle.ec_micro.specs.Micro.{Sight}
-use Rattle.ec_micro.specs.Speaks.{Ends, HasAt, Sees, Vocabulary, words_end}
+use Rattle.ec_micro.specs.Lowering.{branch, branch_by, ending_of, known, question_of, steps_of}
+use Rattle.ec_micro.specs.Micro.{CanAsk, Sight, asked}
+use Rattle.ec_micro.specs.Speaks.{Ends, HasAt, Sees, Vocabulary}
+use Rattle.ec_micro.specs.declared.step.Ending.TheVariants.{Branch, Jump}
+use Rattle.ec_micro.specs.declared.step.Question.{Question}
 use Rattle.ec_micro.specs.declared.step.Step.{Step}
 use Rattle.ec_target.specs.Code.{pc_of}
 use Rattle.ec_world.specs.declared.stop.Stop.{Stop}
@@ -31,12 +35,13 @@ use Rattle.ec_world.specs.declared.stop.Stop.TheVariants as stop
 use Rattle.ec_world.specs.declared.value.Value.{Value}
 use Rattle.ec_world.specs.declared.value.Value.TheVariants.{Ref, Str, Bool as Truth}
 use Rattle.ec_laid_out.proofs.Each.{Did, copies, decides_home, sets_field, takes_constant, takes_field, takes_itself, takes_literal, works}
-use Rattle.ec_laid_out.proofs.Operands.{Asked, asked_is}
-use Rattle.ec_laid_out.proofs.Sites.{At, Site, ending_there, fine_at, line_of, live_next, named, op_at, ops, passes_next, plain_there}
-use Rattle.ec_laid_out.proofs.Sites.{word_of}
-use Rattle.ec_laid_out.proofs.Sizes.{before_next, before_rises, before_within}
+use Rattle.ec_laid_out.proofs.Operands.{Asked, asked_is, known_is}
+use Rattle.ec_laid_out.proofs.Sites.{At, Site, ending_there, ends_at, fine_at, in_code, line_of, live_next, named, next_word, ops}
+use Rattle.ec_laid_out.proofs.Sites.{passes_next}
+use Rattle.ec_laid_out.proofs.Sites.{plain_there, word_of}
+use Rattle.ec_laid_out.proofs.Sizes.{before_rises, before_within}
 use Rattle.ec_laid_out.proofs.Standing.{Beside, Setting, Standing, passes_on}
-use Rattle.ec_laid_out.proofs.Stretches.{does_all, longer, runs_all}
+use Rattle.ec_laid_out.proofs.Stretches.{does_all, longer, runs_all, stays as stands_still}
 
 -- ---- what is live at a stop
 
@@ -81,6 +86,8 @@ module _ {S : Type 0} (M : MachineMeaning S) (V : Vocabulary) (g : Setting M) (z
     pub ends : Ends M g.f g.own z.code s v (op_size V z.home o) (word_of M V g z to) after
     pub stand : Standing M g z.home (named M V g z) (live_at z.of.code to) after new
     pub same : (address : ℕ) → Beside M g address → after.bytes address ≡ v.bytes address
+    -- no copy was done before it
+    pub lands : direct_before z.of.code to ≡ None
 
   pub record Looped (q back : ℕ) (o : Op) (here : List Live) (s : S) (v : Sight) : Type 0 where
     pub arrival : Arrival (q - back) here
@@ -155,22 +162,8 @@ module _ {S : Type 0} (M : MachineMeaning S) (V : Vocabulary) (g : Setting M) (z
 
   -- ---- steps
 
-  in_code : (q : ℕ) → word_of M V g z q ≤ words_end
-  in_code q =
-      let within = before_within V z.home (ops M V g z) q in
-      let low = z.laid.low in
-      omega (arith, within, low)
-
-  -- where the next step begins
-  next_word :
-      (q : ℕ) (o : Op) (here : List Live) → At M V g z q o here → word_of M V g z (suc q) ≡ word_of M V g z q + op_size V z.home o
-  next_word q o here at = let next = before_next V z.home (ops M V g z) q o (op_at M V g z q o here at) in omega (arith, next)
-
-  ends_at :
-      (s : S) (v u : Sight) (size n k : ℕ) → n ≡ k → Ends M g.f g.own z.code s v size n u → Ends M g.f g.own z.code s v size k u
-  ends_at s v u size n k e h = subst (λ to. Ends M g.f g.own z.code s v size to u) e h
-
-  module _ (q : ℕ) (o : Op) (here : List Live) (at : At M V g z q o here) (s : S) (v : Sight) (m : Machine)
+  module _ (q : ℕ) (o : Op) (here : List Live) (at : At M V g z q o here) (same : laid_op z.of.code q o ≡ o)
+      (single : direct_of z.of.code q o ≡ None) (s : S) (v : Sight) (m : Machine)
       (stand : Standing M g z.home (named M V g z) here v m) (sees : Sees M g.f g.own s v.home)
       (there : M.place s ≡ pc_of (word_of M V g z q)) where
     abbrev Leads : Done → Type 0
@@ -179,26 +172,32 @@ module _ {S : Type 0} (M : MachineMeaning S) (V : Vocabulary) (g : Setting M) (z
     abbrev Does : List Step → Machine → Type 0
     Does steps new = Did M V g z q o here at v m stand steps new
 
+    falls : direct_at z.of.code (q + 0) ≡ None
+    falls =
+        let none : q + 0 ≡ q = omega arith in
+        ap (direct_at z.of.code) none ∙ none_behind z.of.code q (line_of o here) at single
+
     -- a step behind which the next one follows
     follows : (new : Machine) → ending_of z.home o ≡ None → Does (steps_of z.home o) new → Leads (Goes new 0)
     follows new none d =
-        let next = next_word q o here at in
-        let low = in_code (suc q) in
+        let next = next_word M V g z q o o here at same in
+        let low = in_code M V g z (suc q) in
         let size : ending_size V (ending_of z.home o) ≡ 0 = ap (ending_size V) none in
         let first : suc q ≡ suc (q + 0) = omega arith in
         let word = ap (word_of M V g z) first in
         let after = does_all M g.f g.own z.code (steps_of z.home o) v in
         let e = runs_all M g.f g.own z.code V z.speaks g.frame_small g.own_small (steps_of z.home o) (word_of M V g z q)
-        (word_of M V g z q + plain_size V z.home o) s v (plain_there M V g z q o here at) refl there (omega (arith, next, low, size))
+        (word_of M V g z q + plain_size V z.home o) s v (plain_there M V g z q o o here at same) refl there (omega (arith, next, low, size))
         sees d.can in
         record {
           after = after;
-          ends = ends_at s v after (op_size V z.home o) (word_of M V g z q + plain_size V z.home o) (word_of M V g z (suc (q + 0)))
+          ends = ends_at M V g z s v after (op_size V z.home o) (word_of M V g z q + plain_size V z.home o) (word_of M V g z (suc (q + 0)))
               (omega (arith, next, size, word))
               (longer M g.f g.own z.code s v after (plain_size V z.home o) (op_size V z.home o) (word_of M V g z q + plain_size V z.home o)
               (omega arith) e);
           stand = subst (λ k. Standing M g z.home (named M V g z) (live_at z.of.code k) after new) first d.behind;
           same = d.same;
+          lands = falls;
         }
 
     given :
@@ -222,50 +221,111 @@ module _ {S : Type 0} (M : MachineMeaning S) (V : Vocabulary) (g : Setting M) (z
     rested row None arrival is = tt
     rested row (Some vs) arrival is = (arrival, is)
 
-    -- ---- questions
+    -- ---- jumps and questions
 
-    -- the words of a question lead to one of two steps
-    asks :
-        (t : Test) (wanted r : Bool) (over : ℕ) → o ≡ op.Branch t wanted over → Asked M V g z here v m stand t wanted r →
-        Ends M g.f g.own z.code s v (op_size V z.home o) (if r then word_of M V g z (suc (q + over)) else word_of M V g z (suc (q + 0))) v
-    asks t wanted r over is a =
-        let question = question_of z.home t wanted in
-        let words = ending_there M V g z q o here at in
+    -- a jump leads forward
+    jumped :
+        (over : ℕ) → plain_size V z.home o ≡ 0 → ending_of z.home o ≡ Some (Jump over) →
+        Ends M g.f g.own z.code s v (op_size V z.home o) (word_of M V g z (suc (q + over))) v
+    jumped over plain is =
+        let words = ending_there M V g z q o o here at same in
         let i = word_of M V g z q + plain_size V z.home o in
         let to = word_of M V g z (suc (q + over)) in
-        let next = next_word q o here at in
+        let next = next_word M V g z q o o here at same in
         let rise = before_rises V z.home (ops M V g z) (suc q) (suc (q + over)) (omega arith) in
         let within = before_within V z.home (ops M V g z) (suc (q + over)) in
         let near = z.laid.near in
-        let low = in_code (suc (q + over)) in
-        let plain : plain_size V z.home o ≡ 0 = ap (plain_size V z.home) is in
-        let size : op_size V z.home o ≡ V.ask_size question = ap (op_size V z.home) is ∙ (omega arith) in
+        let low = in_code M V g z (suc (q + over)) in
+        let low_next = in_code M V g z (suc q) in
+        let size : ending_size V (ending_of z.home o) ≡ V.jump_size = ap (ending_size V) is in
+        let has : HasAt z.code i (V.jump_words i to) =
+        subst (λ e. HasAt z.code i (ending_words V z.home (ops M V g z) z.start q i e)) is words in
+        let e = z.speaks.jump g.f g.own z.code i to s v has (omega (arith, there, plain)) (omega (arith, next, size, plain, low_next)) low
+        (omega (arith, within, near)) (omega (arith, next, rise, plain)) sees in
+        longer M g.f g.own z.code s v v V.jump_size (op_size V z.home o) to (omega (arith, size)) e
+
+    -- a step without words is behind itself
+    passed :
+        plain_size V z.home o ≡ 0 → ending_of z.home o ≡ None →
+        Ends M g.f g.own z.code s v (op_size V z.home o) (word_of M V g z (suc (q + 0))) v
+    passed plain none =
+        let next = next_word M V g z q o o here at same in
+        let size : ending_size V (ending_of z.home o) ≡ 0 = ap (ending_size V) none in
+        let first : suc q ≡ suc (q + 0) = omega arith in
+        let word = ap (word_of M V g z) first in
+        ends_at M V g z s v v (op_size V z.home o) (word_of M V g z q) (word_of M V g z (suc (q + 0)))
+        (omega (arith, next, size, plain, word))
+        (longer M g.f g.own z.code s v v 0 (op_size V z.home o) (word_of M V g z q) (omega arith)
+        (stands_still M g.f g.own z.code s v (word_of M V g z q) there sees))
+
+    -- to one of two steps
+    abbrev LeadsTo : ℕ → Bool → Type 0
+    LeadsTo over r =
+        Ends M g.f g.own z.code s v (op_size V z.home o) (if r then word_of M V g z (suc (q + over)) else word_of M V g z (suc (q + 0))) v
+
+    -- the words of a question lead to one of them
+    answered :
+        (question : Question) (r : Bool) (over : ℕ) → plain_size V z.home o ≡ 0 → ending_of z.home o ≡ Some (Branch question over) →
+        CanAsk M g.f g.own question v → asked M g.f g.own question v.home v.bytes ≡ r → LeadsTo over r
+    answered question r over plain is can answer =
+        let words = ending_there M V g z q o o here at same in
+        let i = word_of M V g z q + plain_size V z.home o in
+        let to = word_of M V g z (suc (q + over)) in
+        let next = next_word M V g z q o o here at same in
+        let rise = before_rises V z.home (ops M V g z) (suc q) (suc (q + over)) (omega arith) in
+        let within = before_within V z.home (ops M V g z) (suc (q + over)) in
+        let near = z.laid.near in
+        let low = in_code M V g z (suc (q + over)) in
+        let size : ending_size V (ending_of z.home o) ≡ V.ask_size question = ap (ending_size V) is in
         let first : suc q ≡ suc (q + 0) = omega arith in
         let word = ap (word_of M V g z) first in
         let has : HasAt z.code i (V.ask_words question i to) =
-        subst (λ e. HasAt z.code i (ending_words V z.home (ops M V g z) z.start q i e)) (ap (ending_of z.home) is) words in
+        subst (λ e. HasAt z.code i (ending_words V z.home (ops M V g z) z.start q i e)) is words in
         let e = z.speaks.ask g.f g.own z.code question i to s v g.frame_small g.own_small has (omega (arith, there, plain))
-        (omega (arith, next, rise, size, plain)) low (omega (arith, within, near)) sees a.can in
-        let there_is = ap (λ b. if b then to else i + V.ask_size question) a.is in
-        ends_at s v v (op_size V z.home o) (if r then to else i + V.ask_size question)
+        (omega (arith, next, rise, size, plain)) low (omega (arith, within, near)) sees can in
+        let there_is = ap (λ b. if b then to else i + V.ask_size question) answer in
+        ends_at M V g z s v v (op_size V z.home o) (if r then to else i + V.ask_size question)
         (if r then to else word_of M V g z (suc (q + 0))) (one_of r to (i + V.ask_size question) (word_of M V g z (suc (q + 0)))
         (omega (arith, next, size, plain, word)))
-        (ends_at s v v (op_size V z.home o) _ (if r then to else i + V.ask_size question) there_is
+        (ends_at M V g z s v v (op_size V z.home o) _ (if r then to else i + V.ask_size question) there_is
         (longer M g.f g.own z.code s v v (V.ask_size question) (op_size V z.home o) _ (omega (arith, size)) e))
       where
         one_of : (r : Bool) (a b c : ℕ) → b ≡ c → (if r then a else b) ≡ (if r then a else c)
         one_of true a b c e = refl
         one_of false a b c e = e
 
+    -- and so do those that stand for it where its answer is known
+    known_or_asked :
+        (question : Question) (r : Bool) (over : ℕ) → plain_size V z.home o ≡ 0 → ending_of z.home o ≡ branch question over →
+        CanAsk M g.f g.own question v → asked M g.f g.own question v.home v.bytes ≡ r → LeadsTo over r
+    known_or_asked question r over plain is can answer = by (known question) refl
+      where
+        ending : (k : Option Bool) → known question ≡ k → ending_of z.home o ≡ branch_by k question over
+        ending k e = is ∙ ap (λ (j : Option Bool). branch_by j question over) e
+
+        comes_to : (b : Bool) → known question ≡ Some b → b ≡ r
+        comes_to b e = sym (known_is M g.f g.own v.home v.bytes question b e) ∙ answer
+
+        by : (k : Option Bool) → known question ≡ k → LeadsTo over r
+        by None e = answered question r over plain (ending None e) can answer
+        by (Some true) e = subst (λ b. LeadsTo over b) (comes_to true e) (jumped over plain (ending (Some true) e))
+        by (Some false) e = subst (λ b. LeadsTo over b) (comes_to false e) (passed plain (ending (Some false) e))
+
+    asks :
+        (t : Test) (wanted r : Bool) (over : ℕ) → o ≡ op.Branch t wanted over → Asked M V g z here v m stand t wanted r → LeadsTo over r
+    asks t wanted r over is a =
+        known_or_asked (question_of z.home t wanted) r over (ap (plain_size V z.home) is) (ap (ending_of z.home) is) a.can a.is
+
     went_to :
-        (over : ℕ) → Passes z.declared g.parts (drop (suc q) z.of.code) over here →
+        (over : ℕ) → direct_at z.of.code (q + over) ≡ None → Passes z.declared g.parts (drop (suc q) z.of.code) over here →
         Ends M g.f g.own z.code s v (op_size V z.home o) (word_of M V g z (suc (q + over))) v → Leads (Goes m over)
-    went_to over flows e = record {
+    went_to over lands flows e = record {
       after = v;
       ends = e;
       stand = passes_on M g z.home (named M V g z) here (live_at z.of.code (suc (q + over))) v m
           (passes_next M V g z q over here flows) stand;
       same = λ address out. refl;
+      lands = lands;
     }
 
     branches :
@@ -274,48 +334,38 @@ module _ {S : Type 0} (M : MachineMeaning S) (V : Vocabulary) (g : Setting M) (z
         Leads (passes m over (as_wanted wanted (tested m t)))
     branches t wanted over is fine fits next far = by (as_wanted wanted (tested m t)) refl
       where
-        asked : (r : Bool) → as_wanted wanted (tested m t) ≡ Some r → Asked M V g z here v m stand t wanted r
-        asked r e = asked_is M V g z here v m stand t wanted r fine fits e
+        led : direct_at z.of.code (q + over) ≡ None
+        led =
+            none_led z.of.code q (line_of o here) (q + over) at
+            (subst (λ i. LeadsPast q i (suc (q + over))) (sym is) (branch_leads q over t wanted))
+
+        is_asked : (r : Bool) → as_wanted wanted (tested m t) ≡ Some r → Asked M V g z here v m stand t wanted r
+        is_asked r e = asked_is M V g z here v m stand t wanted r fine fits e
 
         by : (r : Option Bool) → as_wanted wanted (tested m t) ≡ r → Leads (passes m over r)
         by None e = tt
-        by (Some true) e = went_to over far (asks t wanted true over is (asked true e))
-        by (Some false) e = went_to 0 next (asks t wanted false over is (asked false e))
-
-    -- ---- jumps
+        by (Some true) e = went_to over led far (asks t wanted true over is (is_asked true e))
+        by (Some false) e = went_to 0 falls next (asks t wanted false over is (is_asked false e))
 
     jumps :
         (over : ℕ) → o ≡ op.Jump over → Passes z.declared g.parts (drop (suc q) z.of.code) over here → Leads (Goes m over)
     jumps over is flows =
-        let words = ending_there M V g z q o here at in
-        let i = word_of M V g z q + plain_size V z.home o in
-        let to = word_of M V g z (suc (q + over)) in
-        let next = next_word q o here at in
-        let rise = before_rises V z.home (ops M V g z) (suc q) (suc (q + over)) (omega arith) in
-        let within = before_within V z.home (ops M V g z) (suc (q + over)) in
-        let near = z.laid.near in
-        let low = in_code (suc (q + over)) in
-        let low_next = in_code (suc q) in
-        let plain : plain_size V z.home o ≡ 0 = ap (plain_size V z.home) is in
-        let size : op_size V z.home o ≡ V.jump_size = ap (op_size V z.home) is ∙ (omega arith) in
-        let has : HasAt z.code i (V.jump_words i to) =
-        subst (λ e. HasAt z.code i (ending_words V z.home (ops M V g z) z.start q i e)) (ap (ending_of z.home) is) words in
-        let e = z.speaks.jump g.f g.own z.code i to s v has (omega (arith, there, plain)) (omega (arith, next, size, plain, low_next)) low
-        (omega (arith, within, near)) (omega (arith, next, rise, plain)) sees in
-        went_to over flows (longer M g.f g.own z.code s v v V.jump_size (op_size V z.home o) to (omega (arith, size)) e)
+        went_to over
+        (none_led z.of.code q (line_of o here) (q + over) at (subst (λ i. LeadsPast q i (suc (q + over))) (sym is) (jump_leads q over)))
+        flows (jumped over (ap (plain_size V z.home) is) (ap (ending_of z.home) is))
 
     loops :
         (back : ℕ) → o ≡ op.Again back → FineTop z.declared g.parts z.number z.of q back here → Leads (Loops back)
     loops back is fine =
-        let words = ending_there M V g z q o here at in
+        let words = ending_there M V g z q o o here at same in
         let i = word_of M V g z q + plain_size V z.home o in
         let to = word_of M V g z (q - back) in
-        let next = next_word q o here at in
+        let next = next_word M V g z q o o here at same in
         let rise = before_rises V z.home (ops M V g z) (q - back) q (omega arith) in
         let within = before_within V z.home (ops M V g z) q in
         let near = z.laid.near in
-        let low = in_code (q - back) in
-        let low_next = in_code (suc q) in
+        let low = in_code M V g z (q - back) in
+        let low_next = in_code M V g z (suc q) in
         let plain : plain_size V z.home o ≡ 0 = ap (plain_size V z.home) is in
         let size : op_size V z.home o ≡ V.jump_size = ap (op_size V z.home) is ∙ (omega arith) in
         let has : HasAt z.code i (V.jump_words i to) =
@@ -334,79 +384,81 @@ module _ {S : Type 0} (M : MachineMeaning S) (V : Vocabulary) (g : Setting M) (z
   text_some (Some t) u e = (t, refl, same_Some (Str t) u e)
 
   pub leads :
-      (q : ℕ) (o : Op) (here : List Live) → At M V g z q o here → (s : S) (v : Sight) (m : Machine) →
+      (q : ℕ) (o : Op) (here : List Live) → At M V g z q o here → laid_op z.of.code q o ≡ o → direct_of z.of.code q o ≡ None →
+      (s : S) (v : Sight) (m : Machine) →
       Standing M g z.home (named M V g z) here v m → Sees M g.f g.own s v.home → M.place s ≡ pc_of (word_of M V g z q) →
       Outcome q o here s v (act g.parts.literals g.self m o)
-  leads q (op.Copy to from) here at s v m stand sees there =
+  leads q (op.Copy to from) here at same single s v m stand sees there =
       let o = op.Copy to from in
       let fine = fine_at z.declared g.parts z.number z.of q (line_of o here) z.fine at in
       let fits = z.numbers q (line_of o here) at in
-      given q o here at s v m stand sees there to (operand_at m from)
-      (λ u e. follows q o here at s v m stand sees there (with_variable m to u) refl
+      given q o here at same single s v m stand sees there to (operand_at m from)
+      (λ u e. follows q o here at same single s v m stand sees there (with_variable m to u) refl
       (copies M V g z q o here at v m stand to from fine.0 u refl fine.1 fits fine.2 e))
-  leads q (op.Literal to index) here at s v m stand sees there =
+  leads q (op.Literal to index) here at same single s v m stand sees there =
       let o = op.Literal to index in
       let fine = fine_at z.declared g.parts z.number z.of q (line_of o here) z.fine at in
-      given q o here at s v m stand sees there to (option_map Str (slice_get g.parts.literals index))
-      (λ u e. follows q o here at s v m stand sees there (with_variable m to u) refl
+      given q o here at same single s v m stand sees there to (option_map Str (slice_get g.parts.literals index))
+      (λ u e. follows q o here at same single s v m stand sees there (with_variable m to u) refl
       (let t = text_some (slice_get g.parts.literals index) u e in
       subst (λ w. Did M V g z q o here at v m stand (steps_of z.home o) (with_variable m to w)) t.2
       (takes_literal M V g z q o here at v m stand to index _ t.0 refl fine.1 t.1)))
-  leads q (op.Itself to) here at s v m stand sees there =
+  leads q (op.Itself to) here at same single s v m stand sees there =
       let o = op.Itself to in
       let fine = fine_at z.declared g.parts z.number z.of q (line_of o here) z.fine at in
-      follows q o here at s v m stand sees there (with_variable m to (Ref g.self)) refl
+      follows q o here at same single s v m stand sees there (with_variable m to (Ref g.self)) refl
       (takes_itself M V g z q o here at v m stand to _ refl fine.1)
-  leads q (op.Field to n) here at s v m stand sees there =
+  leads q (op.Field to n) here at same single s v m stand sees there =
       let o = op.Field to n in
       let fine = fine_at z.declared g.parts z.number z.of q (line_of o here) z.fine at in
-      given q o here at s v m stand sees there to (own_field m.common g.self n)
-      (λ u e. follows q o here at s v m stand sees there (with_variable m to u) refl
+      given q o here at same single s v m stand sees there to (own_field m.common g.self n)
+      (λ u e. follows q o here at same single s v m stand sees there (with_variable m to u) refl
       (takes_field M V g z q o here at v m stand to n fine.0 u refl fine.2 e))
-  leads q (op.SetField n from) here at s v m stand sees there =
+  leads q (op.SetField n from) here at same single s v m stand sees there =
       let o = op.SetField n from in
       let fine = fine_at z.declared g.parts z.number z.of q (line_of o here) z.fine at in
       let fits = z.numbers q (line_of o here) at in
       let was = z.sets q n (line_of o here) from at refl in
       let old = stand.ground.kept n was.0 was.1 in
-      is_stored_or_not q o here at s v m stand sees there n (operand_at m from)
-      (λ u e. follows q o here at s v m stand sees there (record m { common = with_field m.common g.self n u }) refl
+      is_stored_or_not q o here at same single s v m stand sees there n (operand_at m from)
+      (λ u e. follows q o here at same single s v m stand sees there (record m { common = with_field m.common g.self n u }) refl
       (sets_field M V g z q o here at v m stand n from fine.0.0 u old.0 fine.0.2 fits fine.1 e old.1))
-  leads q (op.Constant to index) here at s v m stand sees there =
+  leads q (op.Constant to index) here at same single s v m stand sees there =
       let o = op.Constant to index in
       let fine = fine_at z.declared g.parts z.number z.of q (line_of o here) z.fine at in
-      given q o here at s v m stand sees there to (slice_get m.common.globals index)
-      (λ u e. follows q o here at s v m stand sees there (with_variable m to u) refl
+      given q o here at same single s v m stand sees there to (slice_get m.common.globals index)
+      (λ u e. follows q o here at same single s v m stand sees there (with_variable m to u) refl
       (takes_constant M V g z q o here at v m stand to index fine.0 u refl fine.2 e))
-  leads q (op.Compute how to left right) here at s v m stand sees there =
+  leads q (op.Compute how to left right) here at same single s v m stand sees there =
       let o = op.Compute how to left right in
       let fine = fine_at z.declared g.parts z.number z.of q (line_of o here) z.fine at in
       let fits = z.numbers q (line_of o here) at in
-      given q o here at s v m stand sees there to (on_two (on_numbers (computed how)) (operand_at m left) (operand_at m right))
-      (λ u e. follows q o here at s v m stand sees there (with_variable m to u) refl
+      given q o here at same single s v m stand sees there to (on_two (on_numbers (computed how)) (operand_at m left) (operand_at m right))
+      (λ u e. follows q o here at same single s v m stand sees there (with_variable m to u) refl
       (works M V g z q o here at v m stand how to left right _ _ u refl fine.1 fine.0.0 fine.0.1 fits.0 fits.1 e))
-  leads q (op.Decide to t wanted) here at s v m stand sees there =
+  leads q (op.Decide to t wanted) here at same single s v m stand sees there =
       let o = op.Decide to t wanted in
       let fine = fine_at z.declared g.parts z.number z.of q (line_of o here) z.fine at in
       let fits = z.numbers q (line_of o here) at in
-      decided q o here at s v m stand sees there to (as_wanted wanted (tested m t))
-      (λ r e. follows q o here at s v m stand sees there (with_variable m to (Truth r)) refl
+      decided q o here at same single s v m stand sees there to (as_wanted wanted (tested m t))
+      (λ r e. follows q o here at same single s v m stand sees there (with_variable m to (Truth r)) refl
       (decides_home M V g z q o here at v m stand to t wanted r _ refl fine.1
       (asked_is M V g z here v m stand t wanted r fine.0 fits e)))
-  leads q (op.Branch t wanted over) here at s v m stand sees there =
+  leads q (op.Branch t wanted over) here at same single s v m stand sees there =
       let o = op.Branch t wanted over in
       let fine = fine_at z.declared g.parts z.number z.of q (line_of o here) z.fine at in
       let fits = z.numbers q (line_of o here) at in
-      branches q o here at s v m stand sees there t wanted over refl fine.0 fits fine.1 fine.2
-  leads q (op.Jump over) here at s v m stand sees there =
+      branches q o here at same single s v m stand sees there t wanted over refl fine.0 fits fine.1 fine.2
+  leads q (op.Jump over) here at same single s v m stand sees there =
       let o = op.Jump over in
       let fine = fine_at z.declared g.parts z.number z.of q (line_of o here) z.fine at in
-      jumps q o here at s v m stand sees there over refl fine
-  leads q (op.Again back) here at s v m stand sees there =
+      jumps q o here at same single s v m stand sees there over refl fine
+  leads q (op.Again back) here at same single s v m stand sees there =
       let o = op.Again back in
       let fine = fine_at z.declared g.parts z.number z.of q (line_of o here) z.fine at in
-      loops q o here at s v m stand sees there back refl fine
-  leads q (op.Rest row) here at s v m stand sees there =
+      loops q o here at same single s v m stand sees there back refl fine
+  leads q (op.Rest row) here at same single s v m stand sees there =
       let o = op.Rest row in
       let fine = fine_at z.declared g.parts z.number z.of q (line_of o here) z.fine at in
-      rested q o here at s v m stand sees there row (variables_at m row.operands) (rests_here q here row at fine) (ap stop_in at)
+      rested q o here at same single s v m stand sees there row (variables_at m row.operands) (rests_here q here row at fine)
+      (ap stop_in at)

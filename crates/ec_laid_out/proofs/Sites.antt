@@ -1,8 +1,8 @@
 -- Code of an operation, where it stands in the code of a program; and what the typing of three-address code says of a place.
 use Rattle.std.proofs.Common.{◌≡◌, ◌≢◌, ℕ, zero, suc, ◌+◌, ◌≤◌, List, [], ◌∷◌, length, drop, Some, sym, ap, ◌∙◌}
-use Rattle.std.proofs.Common.{subst, arith, option_map, inl, inr, ⊎_elim}
+use Rattle.std.proofs.Common.{subst, arith, inl, inr, ⊎_elim}
 use Rattle.std.specs.Prelude.{slice_get}
-use Rattle.std.proofs.lemmas.Option.{same_Some, slice_get-map}
+use Rattle.std.proofs.lemmas.Option.{same_Some}
 use Rattle.ec_code.specs.Fine.{FineCode, FineOp, FineOperation, Has, Passes, Writes, live_at, live_if}
 use Rattle.ec_code.specs.Steps.{own_field}
 use Rattle.ec_code.specs.Typing.{Declared}
@@ -22,10 +22,14 @@ use Rattle.ec_homes.specs.Homes.{IsWithin}
 use Rattle.ec_homes.specs.declared.homes.Home.{Home}
 use Rattle.ec_liveness.specs.Live.{writes}
 use Rattle.ec_micro.specs.Fitting.{IsNamedBy, NumbersFit}
-use Rattle.ec_micro.specs.Layout.{ending_words, op_words, ops_of, place, plain_size, size_of, words_of_steps}
+use Rattle.ec_micro.proofs.Direct.{laid_there}
+use Rattle.ec_micro.specs.Direct.{laid_op}
+use Rattle.ec_micro.specs.Layout.{ending_words, op_size, op_words, ops_of, place, plain_size, size_of, words_of_steps}
 use Rattle.ec_micro.specs.Lowering.{ending_of, steps_of}
-use Rattle.ec_micro.specs.Speaks.{HasAt, Speaks, Vocabulary, words_end}
+use Rattle.ec_micro.specs.Micro.{Sight}
+use Rattle.ec_micro.specs.Speaks.{Ends, HasAt, Speaks, Vocabulary, words_end}
 use Rattle.ec_world.specs.declared.value.Value.{Value}
+use Rattle.ec_laid_out.proofs.Sizes.{before_next, before_within}
 use Rattle.ec_laid_out.proofs.Standing.{AreThere, Flows, Setting}
 use Rattle.ec_laid_out.proofs.Stretches.{get_behind, has_back, has_front}
 
@@ -127,19 +131,40 @@ module _ {S : Type 0} (M : MachineMeaning S) (V : Vocabulary) (g : Setting M) (z
   abbrev pub word_of : ℕ → ℕ
   word_of q = place V z.home ops z.start q
 
-  pub op_at : (q : ℕ) (o : Op) (here : List Live) → At q o here → slice_get ops q ≡ Some o
-  op_at q o here e = slice_get-map (λ (l : Line). l.op) z.of.code q ∙ ap (option_map (λ (l : Line). l.op)) e
+  -- the step that is laid out for the one at a place
+  pub op_at : (q : ℕ) (o x : Op) (here : List Live) → At q o here → laid_op z.of.code q o ≡ x → slice_get ops q ≡ Some x
+  op_at q o x here e same = laid_there z.of.code q (line_of o here) e ∙ ap Some same
 
   pub plain_there :
-      (q : ℕ) (o : Op) (here : List Live) → At q o here → HasAt z.code (word_of q) (words_of_steps V (steps_of z.home o))
-  plain_there q o here e =
-      has_front z.code (word_of q) (words_of_steps V (steps_of z.home o))
-      (ending_words V z.home ops z.start q (word_of q + plain_size V z.home o) (ending_of z.home o)) (z.laid.stand q o (op_at q o here e))
+      (q : ℕ) (o x : Op) (here : List Live) → At q o here → laid_op z.of.code q o ≡ x →
+      HasAt z.code (word_of q) (words_of_steps V (steps_of z.home x))
+  plain_there q o x here e same =
+      has_front z.code (word_of q) (words_of_steps V (steps_of z.home x))
+      (ending_words V z.home ops z.start q (word_of q + plain_size V z.home x) (ending_of z.home x))
+      (z.laid.stand q x (op_at q o x here e same))
 
   pub ending_there :
-      (q : ℕ) (o : Op) (here : List Live) → At q o here →
-      HasAt z.code (word_of q + plain_size V z.home o)
-      (ending_words V z.home ops z.start q (word_of q + plain_size V z.home o) (ending_of z.home o))
-  ending_there q o here e =
-      has_back z.code (word_of q) (words_of_steps V (steps_of z.home o))
-      (ending_words V z.home ops z.start q (word_of q + plain_size V z.home o) (ending_of z.home o)) (z.laid.stand q o (op_at q o here e))
+      (q : ℕ) (o x : Op) (here : List Live) → At q o here → laid_op z.of.code q o ≡ x →
+      HasAt z.code (word_of q + plain_size V z.home x)
+      (ending_words V z.home ops z.start q (word_of q + plain_size V z.home x) (ending_of z.home x))
+  ending_there q o x here e same =
+      has_back z.code (word_of q) (words_of_steps V (steps_of z.home x))
+      (ending_words V z.home ops z.start q (word_of q + plain_size V z.home x) (ending_of z.home x))
+      (z.laid.stand q x (op_at q o x here e same))
+
+  -- ---- places
+
+  pub in_code : (q : ℕ) → word_of q ≤ words_end
+  in_code q =
+      let within = before_within V z.home ops q in
+      let low = z.laid.low in
+      omega (arith, within, low)
+
+  -- where the next step begins
+  pub next_word :
+      (q : ℕ) (o x : Op) (here : List Live) → At q o here → laid_op z.of.code q o ≡ x → word_of (suc q) ≡ word_of q + op_size V z.home x
+  next_word q o x here at same = let next = before_next V z.home ops q x (op_at q o x here at same) in omega (arith, next)
+
+  pub ends_at :
+      (s : S) (v u : Sight) (size n k : ℕ) → n ≡ k → Ends M g.f g.own z.code s v size n u → Ends M g.f g.own z.code s v size k u
+  ends_at s v u size n k e h = subst (λ to. Ends M g.f g.own z.code s v size to u) e h

@@ -6,7 +6,6 @@ use Rattle.std.proofs.lemmas.Bool.{cases_order}
 use Rattle.std.proofs.lemmas.Option.{same_Some, slice_get-map, slice_get-get_or}
 use Rattle.ec_code.specs.Activations.{operation_at}
 use Rattle.ec_code.specs.declared.code.Line.{Line}
-use Rattle.ec_code.specs.declared.code.Op.{Op}
 use Rattle.ec_code.specs.declared.code.Op.TheVariants as op
 use Rattle.ec_code.specs.declared.code.Operation.{Operation}
 use Rattle.ec_code.specs.declared.code.Parts.{Parts}
@@ -17,6 +16,7 @@ use Rattle.ec_faithful.specs.Stops.{address_of, stop_in, stop_of, stop_places, s
 use Rattle.ec_faithful.specs.declared.code.Code.{Code}
 use Rattle.ec_faithful.specs.declared.code.OperationCode.{OperationCode}
 use Rattle.ec_homes.specs.declared.homes.Home.{Home}
+use Rattle.ec_micro.proofs.Direct.{laid_there, rest_laid, stop_line as stop_laid}
 use Rattle.ec_micro.specs.Fitting.{CanBeLaidOut}
 use Rattle.ec_micro.specs.Layout.{Vocabularies, code_of, home_of, ops_of}
 use Rattle.ec_micro.specs.Layout.{stop_addresses, vocabulary_of, words_in}
@@ -30,12 +30,11 @@ use Rattle.ec_laid_out.proofs.Sites.{Laid}
 use Rattle.ec_laid_out.proofs.Sizes.{before_next, before_rises, before_within}
 use Rattle.ec_laid_out.proofs.Stops.{number_of, numbered, one_number, rest_is}
 
-pub op_at : (code : List Line) (q : ℕ) (line : Line) → slice_get code q ≡ Some line → slice_get (ops_of code) q ≡ Some line.op
-op_at code q line e = slice_get-map (λ (l : Line). l.op) code q ∙ ap (option_map (λ (l : Line). l.op)) e
-
-line_in : (o : Option Line) (p : Op) → option_map (λ (l : Line). l.op) o ≡ Some p → (line : Line) × (o ≡ Some line) × (line.op ≡ p)
-line_in None p e = absurd cc
-line_in (Some line) p e = (line, refl, same_Some line.op p e)
+-- a stop is laid out as it is
+pub op_at :
+    (code : List Line) (q : ℕ) (line : Line) (row : StopRow) → slice_get code q ≡ Some line → stop_of line.op ≡ Some row →
+    slice_get (ops_of code) q ≡ Some line.op
+op_at code q line row e stop = laid_there code q line e ∙ ap Some (rest_laid code q line row e stop)
 
 pub stop_line : (o : Option Line) (row : StopRow) → stop_in o ≡ Some row → (line : Line) × (o ≡ Some line) × (stop_of line.op ≡ Some row)
 stop_line None row e = absurd cc
@@ -99,7 +98,7 @@ module _ {S : Type 0} (M : MachineMeaning S) (vs : Vocabularies) (homes : List (
   stop_word_at n q o line row e is stop =
       let here : at_place n o q ≡ at_place n o q + 0 = omega arith in
       ap (λ i. word_at code.words (pc_of i)) here
-      ∙ (laid_at n o e).stand q (op.Rest row) (op_at o.code q line is ∙ ap Some (rest_is line.op row stop)) 0 M.stop_word
+      ∙ (laid_at n o e).stand q (op.Rest row) (op_at o.code q line row is stop ∙ ap Some (rest_is line.op row stop)) 0 M.stop_word
       (ap Some (speaks n o).stop_same)
 
   -- ---- what is said of stops
@@ -143,8 +142,7 @@ module _ {S : Type 0} (M : MachineMeaning S) (vs : Vocabularies) (homes : List (
       (slice_get-get_or code.words w.0 0 w.1 ∙ ap Some w.3) in
       let o = found.operation in
       let q = found.place in
-      let line = line_in (slice_get o.code q) (op.Rest found.row)
-      (sym (slice_get-map (λ (l : Line). l.op) o.code q) ∙ found.is_stop) in
+      let line = stop_laid o.code q found.row found.is_stop in
       let number = number_of o.code 0 q line.0 found.row line.1 (ap stop_of line.2) in
       let none : 0 + q ≡ q = omega arith in
       let is_at = found.is_at in
@@ -167,7 +165,8 @@ module _ {S : Type 0} (M : MachineMeaning S) (vs : Vocabularies) (homes : List (
       let home = home_of homes n o in
       let ops = ops_of o.code in
       let here : slice_get ops q ≡ Some (op.Rest s.row) =
-      op_at o.code q s.line (subst (λ i. slice_get o.code i ≡ Some s.line) same s.is_line) ∙ ap Some (rest_is s.line.op s.row s.is_stop) in
+      op_at o.code q s.line s.row (subst (λ i. slice_get o.code i ≡ Some s.line) same s.is_line) s.is_stop
+      ∙ ap Some (rest_is s.line.op s.row s.is_stop) in
       let next = before_next V home ops q (op.Rest s.row) here in
       let within = before_within V home ops (suc q) in
       omega (arith, next, within)
@@ -183,7 +182,8 @@ module _ {S : Type 0} (M : MachineMeaning S) (vs : Vocabularies) (homes : List (
       let home = home_of homes n o in
       let ops = ops_of o.code in
       let here : slice_get ops q ≡ Some (op.Rest s.row) =
-      op_at o.code q s.line (subst (λ i. slice_get o.code i ≡ Some s.line) same s.is_line) ∙ ap Some (rest_is s.line.op s.row s.is_stop) in
+      op_at o.code q s.line s.row (subst (λ i. slice_get o.code i ≡ Some s.line) same s.is_line) s.is_stop
+      ∙ ap Some (rest_is s.line.op s.row s.is_stop) in
       let next = before_next V home ops q (op.Rest s.row) here in
       let rise = before_rises V home ops (suc q) r (omega (arith, lt)) in
       omega (arith, next, rise)

@@ -1,5 +1,5 @@
 -- How the words of a program are laid out: operation behind operation, and in each the words of its steps in their order.
-use Rattle.std.specs.Prelude.{◌≡◌, ℕ, zero, suc, ◌+◌, ◌-◌, ◌*◌, ◌<◌, ◌≤◌, ◌^◌, nat_le, Bool, if◌then◌else◌, List, [], ◌∷◌, ◌++◌, length, map}
+use Rattle.std.specs.Prelude.{◌≡◌, ℕ, zero, suc, ◌+◌, ◌-◌, ◌≤◌, nat_le, Bool, if◌then◌else◌, List, [], ◌∷◌, ◌++◌, length, map}
 use Rattle.std.specs.Prelude.{Option, Some, None, slice_get}
 use Rattle.ec_code.specs.declared.code.Line.{Line}
 use Rattle.ec_code.specs.declared.code.Op.{Op}
@@ -12,14 +12,16 @@ use Rattle.ec_faithful.specs.declared.code.OperationCode.{OperationCode}
 use Rattle.ec_homes.specs.declared.homes.Home.{Home}
 use Rattle.ec_homes.specs.declared.homes.Home.TheVariants.{Slot}
 use Rattle.ec_target.specs.Code.{pc_of}
+use Rattle.ec_micro.specs.Direct.{laid_from}
 use Rattle.ec_micro.specs.Lowering.{ending_of, steps_of}
 use Rattle.ec_micro.specs.Speaks.{Vocabulary, words_end}
 use Rattle.ec_micro.specs.declared.step.Ending.{Ending}
 use Rattle.ec_micro.specs.declared.step.Ending.TheVariants.{Again, Branch, Jump, Stop}
 use Rattle.ec_micro.specs.declared.step.Step.{Step}
 
+-- the steps for which there are words
 abbrev pub ops_of : List Line → List Op
-ops_of code = map (λ l. l.op) code
+ops_of code = laid_from code 0 code
 
 -- ---- the words of one operation
 

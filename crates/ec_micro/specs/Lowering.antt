@@ -11,6 +11,7 @@ use Rattle.ec_code.specs.declared.code.Test.TheVariants as test
 use Rattle.ec_code.specs.declared.code.Variable.{Variable}
 use Rattle.ec_homes.specs.declared.homes.Home.{Home}
 use Rattle.ec_homes.specs.declared.homes.Home.TheVariants.{Register, Slot}
+use Rattle.ec_micro.specs.Micro.{related}
 use Rattle.ec_micro.specs.declared.step.Ending.{Ending}
 use Rattle.ec_micro.specs.declared.step.Ending.TheVariants as ending
 use Rattle.ec_micro.specs.declared.step.Question.{Question}
@@ -20,6 +21,7 @@ use Rattle.ec_micro.specs.declared.step.Source.{Source}
 use Rattle.ec_micro.specs.declared.step.Source.TheVariants as source
 use Rattle.ec_micro.specs.declared.step.Step.{Step}
 use Rattle.ec_micro.specs.declared.step.Step.TheVariants as step
+use Rattle.ec_operators.specs.Same.{is_same_truth}
 
 abbrev pub is_same_home : Home → Home → Bool
 is_same_home (Register k) (Register j) = k == j
@@ -40,6 +42,24 @@ nothing = source.Word 0
 
 abbrev pub question : Relation → Source → Source → Bool → Question
 question relation left right wanted = record { relation = relation; left = left; right = right; wanted = wanted }
+
+-- the answer to a question of two numbers, which is known when code is made
+abbrev pub known_by : Relation → Bool → Source → Source → Option Bool
+known_by relation wanted (source.Home h) right = None
+known_by relation wanted (source.Word a) (source.Home h) = None
+known_by relation wanted (source.Word a) (source.Word b) = Some (is_same_truth wanted (related relation a b))
+
+abbrev pub known : Question → Option Bool
+known q = known_by q.relation q.wanted q.left q.right
+
+-- A question whose answer is known isn't asked: yes is a jump, and no is nothing.
+abbrev pub branch_by : Option Bool → Question → ℕ → Option Ending
+branch_by None q over = Some (ending.Branch q over)
+branch_by (Some true) q over = Some (ending.Jump over)
+branch_by (Some false) q over = None
+
+abbrev pub branch : Question → ℕ → Option Ending
+branch q over = branch_by (known q) q over
 
 module _ (home : Variable → Home) where
   abbrev pub source_of : Operand → Source
@@ -72,7 +92,7 @@ module _ (home : Variable → Home) where
   steps_of (op.Rest row) = []
 
   abbrev pub ending_of : Op → Option Ending
-  ending_of (op.Branch t wanted over) = Some (ending.Branch (question_of t wanted) over)
+  ending_of (op.Branch t wanted over) = branch (question_of t wanted) over
   ending_of (op.Jump over) = Some (ending.Jump over)
   ending_of (op.Again back) = Some (ending.Again back)
   ending_of (op.Rest row) = Some ending.Stop

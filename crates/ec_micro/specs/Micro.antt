@@ -1,6 +1,6 @@
 -- What steps on words do, for any kind of machine: functions on a sight of its state, which is what its home registers hold and the
 -- bytes of its memory.
-use Rattle.std.specs.Prelude.{◌≡◌, ◌≢◌, ℕ, ℤ, ◌+◌, ◌-◌, ◌*◌, ◌%◌, ◌^◌, ◌==◌, ◌<◌, Bool, int_lt, int_rem, Option, Some, None}
+use Rattle.std.specs.Prelude.{◌≢◌, ℕ, ℤ, ◌+◌, ◌-◌, ◌*◌, ◌%◌, ◌^◌, ◌==◌, ◌<◌, Bool, int_lt, int_rem, Option, Some, None}
 use Rattle.std.specs.Prelude.{if◌then◌else◌}
 use Rattle.std.specs.Int.{w32, cast_signed, cast_unsigned, from_bool, int_wrapping_div}
 use Rattle.ec_base.specs.Bytes.{Bytes, with_bytes}

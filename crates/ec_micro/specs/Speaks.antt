@@ -1,5 +1,5 @@
 -- What a kind of machine gives: words for each step, and laws on what they do from a state that shows a sight.
-use Rattle.std.specs.Prelude.{◌≡◌, ◌≢◌, ℕ, ◌+◌, ◌<◌, ◌≤◌, ◌^◌, Bool, List, length, Some, slice_get, if◌then◌else◌}
+use Rattle.std.specs.Prelude.{◌≡◌, ◌≢◌, ℕ, ◌+◌, ◌<◌, ◌≤◌, List, length, Some, slice_get, if◌then◌else◌}
 use Rattle.ec_base.specs.Bytes.{Bytes}
 use Rattle.ec_faithful.specs.Frames.{block_at, most_blocks}
 use Rattle.ec_faithful.specs.Machine.{MachineMeaning}

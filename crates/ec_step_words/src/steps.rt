@@ -373,6 +373,30 @@ fn print_products<K: Kind>(rt: &impl Print, alloc: Global, kind: &K) -> io::Resu
             left: Source::Home(FIRST),
             right: Source::Word(10),
         },
+    )?;
+    show(
+        rt,
+        alloc,
+        kind,
+        "r0 <- r0 / 10",
+        Step::Work {
+            how: Arithmetic::Quotient,
+            into: FIRST,
+            left: Source::Home(FIRST),
+            right: Source::Word(10),
+        },
+    )?;
+    show(
+        rt,
+        alloc,
+        kind,
+        "r0 <- r0 / -1",
+        Step::Work {
+            how: Arithmetic::Quotient,
+            into: FIRST,
+            left: Source::Home(FIRST),
+            right: Source::Word(0xFFFF_FFFF),
+        },
     )
 }
 

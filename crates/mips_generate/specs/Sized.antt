@@ -15,18 +15,21 @@ use Rattle.ec_micro.specs.declared.step.Source.{Source}
 use Rattle.ec_micro.specs.declared.step.Source.TheVariants.{Home, Word}
 use Rattle.ec_micro.specs.declared.step.Step.{Step}
 use Rattle.ec_micro.specs.declared.step.Step.TheVariants.{Constant, Decide, Field, Itself, Move, SetField, Work}
-use Rattle.mips_generate.specs.Sizes.{answer_size, both_size, copied_size, move_size, number_size, one_size, order_size}
+use Rattle.mips_generate.specs.Sizes.{answer_size, both_size, copied_size, division_size, move_size, number_size, one_size, order_size}
 use Rattle.mips_generate.specs.Sizes.{source_size, step_size, sum_size, target_size, two_size, with_number_size, work_size}
 use Rattle.mips_isa.specs.Parts.{high_of, low_of}
 use Rattle.mips_isa.specs.declared.instr.Immediate.{Immediate}
 use Rattle.mips_isa.specs.declared.instr.Immediate.TheVariants.{Addiu, Slti, Xori}
+use Rattle.mips_isa.specs.declared.instr.HiLoOperation.TheVariants.{Mult}
+use Rattle.mips_isa.specs.declared.instr.MoveFrom.{MoveFrom}
 use Rattle.mips_isa.specs.declared.instr.MoveFrom.TheVariants.{Mfhi, Mflo}
 use Rattle.mips_isa.specs.declared.instr.Operation.{Operation}
 use Rattle.mips_isa.specs.declared.instr.Operation.TheVariants.{Addu, Slt, Subu}
-use Rattle.mips_words.specs.Words.{answer_words, branch_at, constant_words, copied_words, difference_by, difference_words, divided_words}
-use Rattle.mips_words.specs.Words.{far_words, is_small, jump_words, less_by, less_words, loaded_words, lui, mips_far, mips_near, move_words}
-use Rattle.mips_words.specs.Words.{near_words, no_op, number_words, on_number, on_registers, one_words, order_words, product_words, small}
-use Rattle.mips_words.specs.Words.{small_negative, source_register, source_words, step_words, stored_words, sum_by, sw, taken_where}
+use Rattle.mips_words.specs.Words.{answer_words, branch_at, constant_words, copied_words, difference_by, difference_words, division_by}
+use Rattle.mips_words.specs.Words.{far_words, hilo_words, is_other_number, is_small, jump_words, less_by, less_words, loaded_words, lui}
+use Rattle.mips_words.specs.Words.{mips_far, mips_near, move_words, near_words, no_op, number_words, on_number, on_registers, one_words}
+use Rattle.mips_words.specs.Words.{order_words, small, small_negative, source_register, source_words, step_words, stored_words, sum_by}
+use Rattle.mips_words.specs.Words.{sw, taken_where}
 use Rattle.mips_words.specs.Words.{target_register, target_words, two_words, with_two, work_words, zero_word}
 
 -- A jump reaches each word of the code.
@@ -87,12 +90,20 @@ less_length : (o : Option ℕ) (rd : ℕ) (x y : Source) → length (less_by o r
 less_length (Some n) rd x y = one_length Slti rd x n
 less_length None rd x y = two_length Slt rd x y
 
+division_length : (t : Bool) (from : MoveFrom) (rd a b : ℕ) → length (division_by t from rd a b) ≡ division_size t
+division_length true from rd a b = refl
+division_length false from rd a b = refl
+
 work_length : (how : Arithmetic) (rd : ℕ) (x y : Source) → length (work_words how rd x y) ≡ work_size how x y
 work_length Sum rd x y = sum_length (small x) (small y) rd x y
 work_length Difference rd x y = difference_length (small_negative y) rd x y
-work_length Product rd x y = with_length x y (product_words rd) 4 (λ a b. refl)
-work_length Quotient rd x y = with_length x y (λ a b. divided_words (on_registers Subu 10 0 a) Mflo rd a b) 9 (λ a b. refl)
-work_length Remainder rd x y = with_length x y (λ a b. divided_words (on_registers Addu 10 0 0) Mfhi rd a b) 9 (λ a b. refl)
+work_length Product rd x y = with_length x y (hilo_words Mult Mflo rd) 4 (λ a b. refl)
+work_length Quotient rd x y =
+    with_length x y (division_by (is_other_number y) Mflo rd) (division_size (is_other_number y))
+    (λ a b. division_length (is_other_number y) Mflo rd a b)
+work_length Remainder rd x y =
+    with_length x y (division_by (is_other_number y) Mfhi rd) (division_size (is_other_number y))
+    (λ a b. division_length (is_other_number y) Mfhi rd a b)
 
 answer_length : (relation : Relation) (wanted : Bool) (rd : ℕ) (x y : Source) →
     length (answer_words relation wanted rd x y) ≡ answer_size relation wanted x y
@@ -192,12 +203,16 @@ few_with_number : (o : Option ℕ) (x y : Source) → with_number_size o x y ≤
 few_with_number (Some n) x y = few_one x
 few_with_number None x y = few_two x y
 
+few_division : (t : Bool) → division_size t ≤ 9
+few_division true = omega arith
+few_division false = omega arith
+
 few_work : (how : Arithmetic) (x y : Source) → work_size how x y ≤ 13
 few_work Sum x y = omega (arith, few_sum (small x) (small y) x y)
 few_work Difference x y = omega (arith, few_with_number (small_negative y) x y)
 few_work Product x y = omega (arith, few_two x y)
-few_work Quotient x y = omega (arith, few_two x y)
-few_work Remainder x y = omega (arith, few_two x y)
+few_work Quotient x y = omega (arith, few_two x y, few_division (is_other_number y))
+few_work Remainder x y = omega (arith, few_two x y, few_division (is_other_number y))
 
 few_answer : (relation : Relation) (wanted : Bool) (x y : Source) → answer_size relation wanted x y ≤ 6
 few_answer Same wanted x y = omega (arith, few_with_number (small_negative y) x y)

@@ -11,7 +11,7 @@ use Rattle.ec_micro.specs.declared.step.Source.{Source}
 use Rattle.ec_micro.specs.declared.step.Source.TheVariants as source
 use Rattle.ec_micro.specs.declared.step.Step.{Step}
 use Rattle.ec_micro.specs.declared.step.Step.TheVariants as step
-use Rattle.mips_words.specs.Words.{is_small, no_op, order_words, small, small_negative, taken_where, with_two}
+use Rattle.mips_words.specs.Words.{is_other_number, is_small, no_op, order_words, small, small_negative, taken_where, with_two}
 
 abbrev pub number_size : ℕ → ℕ
 number_size n = if is_small n then 1 else 2
@@ -43,12 +43,17 @@ abbrev pub with_number_size : Option ℕ → Source → Source → ℕ
 with_number_size (Some n) left right = one_size left
 with_number_size None left right = two_size left right
 
+-- of a division, whether it is by a number other than -1, behind the words of its sources
+abbrev pub division_size : Bool → ℕ
+division_size true = 4
+division_size false = 9
+
 abbrev pub work_size : Arithmetic → Source → Source → ℕ
 work_size Sum left right = sum_size (small left) (small right) left right
 work_size Difference left right = with_number_size (small_negative right) left right
 work_size Product left right = both_size left right + 4
-work_size Quotient left right = both_size left right + 9
-work_size Remainder left right = both_size left right + 9
+work_size Quotient left right = both_size left right + division_size (is_other_number right)
+work_size Remainder left right = both_size left right + division_size (is_other_number right)
 
 abbrev pub answer_size : Relation → Bool → Source → Source → ℕ
 answer_size Same wanted left right = with_number_size (small_negative right) left right + 1

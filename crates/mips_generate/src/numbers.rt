@@ -42,3 +42,13 @@ fn negative(n: u32) -> u32
 {
     0_u32.wrapping_sub(n)
 }
+
+/// Whether a source is a number other than -1.
+pub(crate) fn is_other_number(source: Source) -> bool
+    ensures { result ≡ spec.is_other_number source }
+{
+    match source {
+        Source::Home(_) => false,
+        Source::Word(n) => n != 0xFFFF_FFFF,
+    }
+}

@@ -3,7 +3,7 @@ ghost use Rattle.std.specs.Prelude.{◌≡◌, ◌≤◌};
 ghost use Rattle.mips_generate.specs.Sizes as sizes;
 ghost use Rattle.mips_words.specs.Words as spec;
 
-use crate::numbers::{is_small, small, small_negative};
+use crate::numbers::{is_other_number, is_small, small, small_negative};
 use ec_code::code::Arithmetic;
 use ec_homes::homes::Home;
 use ec_micro::step::{Question, Relation, Source, Step};
@@ -81,6 +81,14 @@ fn with_number_size(number: Option<u32>, left: Source, right: Source) -> u32
     }
 }
 
+/// Without the words of its sources.
+fn division_size(right: Source) -> u32
+    ensures is { result ≡ sizes.division_size (spec.is_other_number right) }
+    ensures few { result ≤ 9 }
+{
+    if is_other_number(right) { 4 } else { 9 }
+}
+
 fn work_size(how: Arithmetic, left: Source, right: Source) -> u32
     ensures is { result ≡ sizes.work_size how left right }
     ensures few { result ≤ 13 }
@@ -89,8 +97,8 @@ fn work_size(how: Arithmetic, left: Source, right: Source) -> u32
         Arithmetic::Sum => sum_size(left, right),
         Arithmetic::Difference => with_number_size(small_negative(right), left, right),
         Arithmetic::Product => both_size(left, right) + 4,
-        Arithmetic::Quotient => both_size(left, right) + 9,
-        Arithmetic::Remainder => both_size(left, right) + 9,
+        Arithmetic::Quotient => both_size(left, right) + division_size(right),
+        Arithmetic::Remainder => both_size(left, right) + division_size(right),
     }
 }
 

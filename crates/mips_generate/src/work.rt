@@ -1,6 +1,6 @@
 //! Arithmetic on sources.
 ghost use Rattle.std.specs.Prelude.{◌≡◌, [], ◌∷◌, ◌++◌, OnOk};
-ghost use Rattle.ec_code.specs.declared.code.Arithmetic.TheVariants.{Product, Quotient, Remainder};
+ghost use Rattle.ec_code.specs.declared.code.Arithmetic.TheVariants.{Product};
 ghost use Rattle.ec_generate.specs.Puts.{CanPutSource};
 ghost use Rattle.mips_isa.specs.Words.{word_of};
 ghost use Rattle.mips_words.specs.Words as spec;
@@ -9,7 +9,7 @@ use crate::instructions::{
     A, B, MINUS_ONE, RESULT, ZERO, branch, on_hilo, on_number, on_registers, put, put_delayed,
     put_from_hilo,
 };
-use crate::numbers::{small, small_negative};
+use crate::numbers::{is_other_number, small, small_negative};
 use crate::sources::{put_source, register_of};
 use ec_base::list::Seq;
 use ec_code::code::Arithmetic;
@@ -92,6 +92,21 @@ pub(crate) fn put_difference(
     }
 }
 
+/// Writes the words by which a register gets what an operation on two leaves in HI or LO.
+fn put_hilo(
+    words: &mut Seq<u32>,
+    operation: HiLoOperation,
+    from: MoveFrom,
+    rd: Register,
+    a: Register,
+    b: Register,
+) -> Result<(), AllocError>
+    ensures { OnOk result (words.new ≡ words.old ++ spec.hilo_words operation from rd.number a.number b.number) }
+{
+    put(words, on_hilo(operation, a, b))?;
+    put_from_hilo(words, from, rd)
+}
+
 fn put_product(
     words: &mut Seq<u32>,
     rd: Register,
@@ -104,15 +119,24 @@ fn put_product(
 {
     put_source(words, A, left)?;
     put_source(words, B, right)?;
-    put(
+    put_hilo(
         words,
-        on_hilo(
-            HiLoOperation::Mult,
-            register_of(A, left),
-            register_of(B, right),
-        ),
-    )?;
-    put_from_hilo(words, MoveFrom::Mflo, rd)
+        HiLoOperation::Mult,
+        MoveFrom::Mflo,
+        rd,
+        register_of(A, left),
+        register_of(B, right),
+    )
+}
+
+/// The instruction that makes what a division by -1 comes to.
+fn by_minus_one(from: MoveFrom, a: Register) -> Instr
+    ensures { word_of result ≡ spec.by_minus_one from a.number }
+{
+    match from {
+        MoveFrom::Mflo => on_registers(Operation::Subu, RESULT, ZERO, a),
+        MoveFrom::Mfhi => on_registers(Operation::Addu, RESULT, ZERO, ZERO),
+    }
 }
 
 /// Writes the words that divide where the divisor isn't -1; an instruction makes what comes out where it is.
@@ -141,45 +165,46 @@ fn put_divided(
     put(words, on_registers(Operation::Addu, rd, RESULT, ZERO))
 }
 
-fn put_quotient(
+/// Writes the words that divide one register by another, which has a number other than -1 or may have any.
+fn put_division_by(
     words: &mut Seq<u32>,
+    is_other_number: bool,
+    from: MoveFrom,
     rd: Register,
-    left: Source,
-    right: Source,
+    a: Register,
+    b: Register,
 ) -> Result<(), AllocError>
-    requires left { CanPutSource 6 left }
-    requires right { CanPutSource 6 right }
-    ensures { OnOk result (words.new ≡ words.old ++ spec.work_words Quotient rd.number left right) }
+    ensures { OnOk result (words.new ≡ words.old
+        ++ spec.division_by is_other_number from rd.number a.number b.number) }
 {
-    put_source(words, A, left)?;
-    put_source(words, B, right)?;
-    let a = register_of(A, left);
-    let negative = on_registers(Operation::Subu, RESULT, ZERO, a);
-    put_divided(
-        words,
-        negative,
-        MoveFrom::Mflo,
-        rd,
-        a,
-        register_of(B, right),
-    )
+    if is_other_number {
+        put_hilo(words, HiLoOperation::Div, from, rd, a, b)
+    } else {
+        put_divided(words, by_minus_one(from, a), from, rd, a, b)
+    }
 }
 
-fn put_remainder(
+fn put_division(
     words: &mut Seq<u32>,
+    from: MoveFrom,
     rd: Register,
     left: Source,
     right: Source,
 ) -> Result<(), AllocError>
     requires left { CanPutSource 6 left }
     requires right { CanPutSource 6 right }
-    ensures { OnOk result (words.new ≡ words.old ++ spec.work_words Remainder rd.number left right) }
+    ensures { OnOk result (words.new ≡ words.old ++ spec.division_words from rd.number left right) }
 {
     put_source(words, A, left)?;
     put_source(words, B, right)?;
-    let none = on_registers(Operation::Addu, RESULT, ZERO, ZERO);
-    let a = register_of(A, left);
-    put_divided(words, none, MoveFrom::Mfhi, rd, a, register_of(B, right))
+    put_division_by(
+        words,
+        is_other_number(right),
+        from,
+        rd,
+        register_of(A, left),
+        register_of(B, right),
+    )
 }
 
 /// Writes the words by which a register gets the result of arithmetic. The error is want of memory.
@@ -198,7 +223,7 @@ pub(crate) fn put_work(
         Arithmetic::Sum => put_sum(words, rd, left, right),
         Arithmetic::Difference => put_difference(words, rd, left, right),
         Arithmetic::Product => put_product(words, rd, left, right),
-        Arithmetic::Quotient => put_quotient(words, rd, left, right),
-        Arithmetic::Remainder => put_remainder(words, rd, left, right),
+        Arithmetic::Quotient => put_division(words, MoveFrom::Mflo, rd, left, right),
+        Arithmetic::Remainder => put_division(words, MoveFrom::Mfhi, rd, left, right),
     }
 }

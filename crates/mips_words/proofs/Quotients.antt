@@ -85,6 +85,9 @@ quotient_by true x y e h k some =
 quotient_by false x y e h k some =
     sym (of_z-to_z w32 (cast_unsigned w32 (int_div (signed x) (signed y))) (part_low Mflo x y h k some e))
 
+pub quotient_at_once : (x y : ℕ) → x < 2 ^ 32 → y < 2 ^ 32 → y ≢ 0 → (y == 2 ^ 32 - 1) ≡ false → part Mflo x y ≡ reckoned Quotient x y
+quotient_at_once x y h k some e = quotient_by false x y e h k some
+
 pub quotient_is : (x y : ℕ) → x < 2 ^ 32 → y < 2 ^ 32 → y ≢ 0 → divided Mflo (minus 0 x) x y ≡ reckoned Quotient x y
 quotient_is x y h k some = quotient_by (y == 2 ^ 32 - 1) x y refl h k some
 

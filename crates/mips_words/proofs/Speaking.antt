@@ -1,5 +1,6 @@
 -- The words of steps do what the steps do.
-use Rattle.std.proofs.Common.{◌≡◌, ◌≢◌, ℕ, zero, suc, ◌+◌, ◌-◌, ◌*◌, ◌%◌, ◌^◌, ◌<◌, ◌≤◌, List, [], ◌∷◌, ◌++◌, length, length-append, Option, Some}
+use Rattle.std.proofs.Common.{◌≡◌, ◌≢◌, ℕ, zero, suc, ◌+◌, ◌-◌, ◌*◌, ◌%◌, ◌^◌, ◌<◌, ◌≤◌, List, [], ◌∷◌, ◌++◌, length, length-append}
+use Rattle.std.proofs.Common.{Option, Some}
 use Rattle.std.proofs.Common.{None, refl, sym, ap, ◌∙◌, subst, arith, cond, true, false, lit<}
 use Rattle.std.specs.Prelude.{Bool, ◌==◌, not}
 use Rattle.std.specs.Int.{from_bool}
@@ -25,9 +26,11 @@ use Rattle.ec_micro.specs.declared.step.Step.TheVariants as step
 use Rattle.ec_target.specs.Code.{pc_of}
 use Rattle.ec_target.specs.Runs.{Leads}
 use Rattle.mips_isa.specs.Parts.{high_of, low_of}
-use Rattle.mips_isa.specs.Words.{i_word, immediate_op, operation_funct, r_word}
+use Rattle.mips_isa.specs.Words.{hilo_funct, i_word, immediate_op, operation_funct, r_word}
 use Rattle.mips_isa.specs.declared.instr.Branch.{Branch}
 use Rattle.mips_isa.specs.declared.instr.Branch.TheVariants as branches
+use Rattle.mips_isa.specs.declared.instr.HiLoOperation.{HiLoOperation}
+use Rattle.mips_isa.specs.declared.instr.HiLoOperation.TheVariants.{Div, Mult}
 use Rattle.mips_isa.specs.declared.instr.Immediate.{Immediate}
 use Rattle.mips_isa.specs.declared.instr.Immediate.TheVariants as immediates
 use Rattle.mips_isa.specs.declared.instr.MoveFrom.{MoveFrom}
@@ -40,10 +43,11 @@ use Rattle.mips_machine.specs.Machine.{mips_goes, mips_register}
 use Rattle.mips_machine.specs.Values.{extended, plus}
 use Rattle.mips_machine.specs.declared.machine.MipsMachine.{MipsMachine}
 use Rattle.mips_words.specs.Meaning.{mips_meaning}
-use Rattle.mips_words.specs.Words.{answer_words, branch, branch_at, branch_of, constant_words, copied_words, difference_by}
-use Rattle.mips_words.specs.Words.{difference_words, divided_words, far_words, from_hilo, is_small, jump_words, less_by, less_words}
-use Rattle.mips_words.specs.Words.{loaded_words, lui, mips_far, mips_near, near_words, no_op, number_words, on_number, on_registers}
-use Rattle.mips_words.specs.Words.{one_words, order_words, product_words, slot_offset, small, small_negative, source_register}
+use Rattle.mips_words.specs.Words.{answer_words, branch, branch_at, branch_of, by_minus_one, constant_words, copied_words, difference_by}
+use Rattle.mips_words.specs.Words.{difference_words, divided_words, division_by, far_words, from_hilo, hilo_words, is_other_number}
+use Rattle.mips_words.specs.Words.{is_small}
+use Rattle.mips_words.specs.Words.{jump_words, less_by, less_words, loaded_words, lui, mips_far, mips_near, near_words, no_op, number_words}
+use Rattle.mips_words.specs.Words.{on_number, on_registers, one_words, order_words, slot_offset, small, small_negative, source_register}
 use Rattle.mips_words.specs.Words.{source_words, step_words, stored_words, sum_by, sw, taken_where, target_register, target_words}
 use Rattle.mips_words.specs.Words.{two_words, with_two, work_words, zero_word}
 use Rattle.mips_words.proofs.Asks.{far_law, jump_law_far, jump_law_near, near_law}
@@ -114,7 +118,8 @@ module _ (code : List ℕ) (f own : ℕ) (f_small : f < most_blocks) (own_small 
       let ws = source_words 8 from in
       let last : List ℕ = sw (source_register 8 from) base offset ∷ [] in
       let long = length-append ws last in
-      let got = source_got code f own f_small own_small from m v.home v.bytes i 8 g at (omega (arith, low, long)) (omega arith) (lit< tt) can
+      let got = source_got code f own f_small own_small from m v.home v.bytes i 8 g at (omega (arith, low, long)) (omega arith) (lit< tt)
+      can
       (has_front code i ws last has) in
       let n = got.last in
       let pc = got.way.at in
@@ -193,7 +198,8 @@ module _ (code : List ℕ) (f own : ℕ) (f_small : f < most_blocks) (own_small 
       let upper = high_of at' * 2 ^ 16 in
       let on = m.flow.pc + 4 in
       let m1 = wrote m r upper on in
-      let one = lui_goes code m v.bytes g.rests (reg r small) (high_part at') (nth_at code i ws 0 _ m.flow.pc front (omega (arith, at)) refl)
+      let one = lui_goes code m v.bytes g.rests (reg r small) (high_part at')
+      (nth_at code i ws 0 _ m.flow.pc front (omega (arith, at)) refl)
       (omega (arith, at, low, long)) pos in
       let sum : at' ≡ plus (mips_register m1 r) (extended 16 (low_of at')) =
       sym (ap (λ x. plus x (extended 16 (low_of at'))) (register-wrote_same m r upper on pos small) ∙ high_low at' (omega (arith, few))) in
@@ -232,7 +238,8 @@ module _ (code : List ℕ) (f own : ℕ) (f_small : f < most_blocks) (own_small 
       }
   does_step (step.Itself into) low has can =
       loaded into 30 24 (block_word_at f own_reference) (lit< tt) (lit< tt)
-      (from_base (mips_register m 30) (block_at f) 24 (block_word_at f own_reference) g.frame (lit< tt) (omega (arith, f_small)) (omega arith))
+      (from_base (mips_register m 30) (block_at f) 24 (block_word_at f own_reference) g.frame (lit< tt) (omega (arith, f_small))
+      (omega arith))
       (omega arith) can.1 can.0 low has
   does_step (step.Field into n) low has can =
       let few = can.1 in
@@ -319,6 +326,10 @@ operation_high _ = omega arith
 on_registers_not : (o : Operation) (rd rs rt : ℕ) → on_registers o rd rs rt ≢ 0x0000000C
 on_registers_not o rd rs rt = r_not rs rt rd (operation_funct o) (operation_high o)
 
+hilo_high : (o : HiLoOperation) → 12 < hilo_funct o
+hilo_high Mult = omega arith
+hilo_high _ = omega arith
+
 from_not : (from : MoveFrom) (rd : ℕ) → from_hilo from rd ≢ 0x0000000C
 from_not Mfhi rd = r_not 0 0 rd 0x10 (omega arith)
 from_not Mflo rd = r_not 0 0 rd 0x12 (omega arith)
@@ -330,7 +341,8 @@ none_loaded r base offset = none_cons _ _ (i_not 0x23 base r offset (omega arith
 
 none_number : (r n : ℕ) → Free (number_words r n)
 none_number r n =
-    none_if (is_small n) (on_number immediates.Addiu r 0 (low_of n) ∷ []) (lui r (high_of n) ∷ on_number immediates.Addiu r r (low_of n) ∷ [])
+    none_if (is_small n) (on_number immediates.Addiu r 0 (low_of n) ∷ [])
+    (lui r (high_of n) ∷ on_number immediates.Addiu r r (low_of n) ∷ [])
     (none_one _ (on_number_not immediates.Addiu r 0 (low_of n)))
     (none_cons _ _ (i_not 0x0F 0 r (high_of n) (omega arith)) (none_one _ (on_number_not immediates.Addiu r r (low_of n))))
 
@@ -382,21 +394,30 @@ none_divided first from rd a c h =
     (none_cons _ _ (from_not from 10)
     (none_cons _ _ no_op_not (none_cons _ _ no_op_not (none_one _ (on_registers_not operations.Addu rd 10 0)))))))))
 
+none_hilo : (o : HiLoOperation) (from : MoveFrom) (rd a c : ℕ) → Free (hilo_words o from rd a c)
+none_hilo o from rd a c =
+    none_cons _ _ (r_not a c 0 (hilo_funct o) (hilo_high o))
+    (none_cons _ _ (from_not from rd) (none_cons _ _ no_op_not (none_one _ no_op_not)))
+
+none_first : (from : MoveFrom) (a : ℕ) → by_minus_one from a ≢ 0x0000000C
+none_first Mflo a = on_registers_not operations.Subu 10 0 a
+none_first Mfhi a = on_registers_not operations.Addu 10 0 0
+
+none_division : (t : Bool) (from : MoveFrom) (rd a c : ℕ) → Free (division_by t from rd a c)
+none_division true from rd a c = none_hilo Div from rd a c
+none_division false from rd a c = none_divided (by_minus_one from a) from rd a c (none_first from a)
+
 none_work : (how : Arithmetic) (rd : ℕ) (left right : Source) → Free (work_words how rd left right)
 none_work Sum rd left right = none_sum (small left) (small right) rd left right
 none_work Difference rd left right = none_difference (small_negative right) rd left right
 none_work Product rd left right =
-    none_with left right (product_words rd)
-    (none_cons _ _ (r_not (source_register 8 left) (source_register 9 right) 0 0x18 (omega arith))
-    (none_cons _ _ (from_not Mflo rd) (none_cons _ _ no_op_not (none_one _ no_op_not))))
+    none_with left right (hilo_words Mult Mflo rd) (none_hilo Mult Mflo rd (source_register 8 left) (source_register 9 right))
 none_work Quotient rd left right =
-    none_with left right (λ a c. divided_words (on_registers operations.Subu 10 0 a) Mflo rd a c)
-    (none_divided (on_registers operations.Subu 10 0 (source_register 8 left)) Mflo rd (source_register 8 left) (source_register 9 right)
-    (on_registers_not operations.Subu 10 0 (source_register 8 left)))
+    none_with left right (division_by (is_other_number right) Mflo rd)
+    (none_division (is_other_number right) Mflo rd (source_register 8 left) (source_register 9 right))
 none_work Remainder rd left right =
-    none_with left right (λ a c. divided_words (on_registers operations.Addu 10 0 0) Mfhi rd a c)
-    (none_divided (on_registers operations.Addu 10 0 0) Mfhi rd (source_register 8 left) (source_register 9 right)
-    (on_registers_not operations.Addu 10 0 0))
+    none_with left right (division_by (is_other_number right) Mfhi rd)
+    (none_division (is_other_number right) Mfhi rd (source_register 8 left) (source_register 9 right))
 
 none_zero : (wanted : Bool) (rd : ℕ) → Free (zero_word wanted rd ∷ [])
 none_zero true rd = none_one _ (on_number_not immediates.Sltiu rd 8 1)
@@ -425,7 +446,8 @@ none_step : (s : Step) → Free (step_words s)
 none_step (step.Move (home.Slot n) from) = none_stored 30 (slot_offset n) from
 none_step (step.Move (home.Register k) from) = none_copied (16 + k) from
 none_step (step.Itself into) =
-    none_append (loaded_words (target_register into) 30 24) (target_words into) (none_loaded (target_register into) 30 24) (none_target into)
+    none_append (loaded_words (target_register into) 30 24) (target_words into) (none_loaded (target_register into) 30 24)
+    (none_target into)
 none_step (step.Field into n) =
     none_append (loaded_words (target_register into) 23 (4 * n)) (target_words into) (none_loaded (target_register into) 23 (4 * n))
     (none_target into)

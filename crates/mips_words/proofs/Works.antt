@@ -20,6 +20,7 @@ use Rattle.ec_target.proofs.Running.{leads_first, leads_one}
 use Rattle.ec_target.specs.Code.{pc_of, word_at}
 use Rattle.mips_isa.specs.Parts.{low_of}
 use Rattle.mips_isa.specs.declared.instr.Branch.TheVariants.{Beq}
+use Rattle.mips_isa.specs.declared.instr.HiLoOperation.{HiLoOperation}
 use Rattle.mips_isa.specs.declared.instr.HiLoOperation.TheVariants.{Div, Mult}
 use Rattle.mips_isa.specs.declared.instr.Immediate.{Immediate}
 use Rattle.mips_isa.specs.declared.instr.Immediate.TheVariants.{Addiu, Slti, Sltiu, Xori}
@@ -31,15 +32,20 @@ use Rattle.mips_machine.proofs.Effects.{branch_leads, hilo_goes, immediate_goes,
 use Rattle.mips_machine.proofs.Effects.{register-wrote_other, register-wrote_same, wrote}
 use Rattle.mips_machine.specs.Machine.{data_of, mips_goes, mips_register, mips_rests}
 use Rattle.mips_machine.specs.Step.{branch_target, hilo_of}
-use Rattle.mips_machine.specs.Values.{extended, hi_value, immediate_number, immediate_overflows, immediate_value, is_undefined, lo_value, minus}
+use Rattle.mips_machine.specs.Values.{extended, hi_value, immediate_number, immediate_overflows, immediate_value, is_undefined}
+use Rattle.mips_machine.specs.Values.{lo_value, minus}
 use Rattle.mips_machine.specs.Values.{operation_overflows, operation_value, plus}
 use Rattle.mips_machine.specs.declared.machine.MipsMachine.{MipsMachine}
-use Rattle.mips_words.specs.Words.{answer_words, branch, difference_by, difference_words, divided_words, from_hilo, is_small, less_by, less_words, negative}
-use Rattle.mips_words.specs.Words.{no_op, on_hilo, on_number, on_registers, one_words, product_words, small, small_negative, source_register, source_words, sum_by}
-use Rattle.mips_words.specs.Words.{two_words, with_two, work_words, zero_word}
-use Rattle.mips_words.proofs.Quotients.{divided, part, part_low, quotient_is, remainder_is}
+use Rattle.mips_words.specs.Words.{answer_words, branch, by_minus_one, difference_by, difference_words, divided_words, division_by}
+use Rattle.mips_words.specs.Words.{from_hilo}
+use Rattle.mips_words.specs.Words.{hilo_words, is_other_number, is_small, less_by, less_words, negative, no_op, on_hilo, on_number}
+use Rattle.mips_words.specs.Words.{on_registers}
+use Rattle.mips_words.specs.Words.{one_words, small, small_negative, source_register, source_words, sum_by, two_words, with_two, work_words}
+use Rattle.mips_words.specs.Words.{zero_word}
+use Rattle.mips_words.proofs.Quotients.{divided, part, part_low, quotient_at_once, quotient_is, remainder_is}
 use Rattle.mips_words.proofs.Sources.{Finds, Made, Word, r0, reg, sixteen, small_is, source_got, source_low, source_other}
-use Rattle.mips_words.proofs.Ways.{Gave, Seen, Way, has_back, has_front, nth_at, rest_at, same_or_not, seen_still, way_by, way_on, way_one, way_to}
+use Rattle.mips_words.proofs.Ways.{Gave, Seen, Way, has_back, has_front, nth_at, rest_at, same_or_not, seen_still, way_by, way_on}
+use Rattle.mips_words.proofs.Ways.{way_one, way_to}
 
 gave_wrote : (m : MipsMachine) (r w pc : ℕ) → 0 < r → r < 2 ^ 5 → Gave m (wrote m r w pc) r w
 gave_wrote m r w pc pos small = record {
@@ -88,30 +94,43 @@ module _ (code : List ℕ) (b : Bytes) (rd : ℕ) (pos : 0 < rd) (small_rd : rd 
 
 -- ---- products and divisions
 
+-- what an operation leaves in HI or LO
+abbrev left_in : HiLoOperation → MoveFrom → ℕ → ℕ → ℕ
+left_in o Mfhi x y = hi_value o x y
+left_in o Mflo x y = lo_value o x y
+
+read_left : (o : HiLoOperation) (from : MoveFrom) (n : MipsMachine) (b : Bytes) (x y : ℕ) → n.hi ≡ hi_value o x y →
+    n.lo ≡ lo_value o x y → hilo_of from (data_of n b) ≡ left_in o from x y
+read_left o Mfhi n b x y e f = e
+read_left o Mflo n b x y e f = f
+
 module _ (code : List ℕ) (b : Bytes) (rd : ℕ) (pos : 0 < rd) (small_rd : rd < 2 ^ 5) where
-  pub product : (n : MipsMachine) (j a c x y : ℕ) → mips_rests n → n.flow.pc ≡ pc_of j → j + 4 ≤ words_end → a < 2 ^ 5 → c < 2 ^ 5 →
-      mips_register n a ≡ x → mips_register n c ≡ y → HasAt code j (product_words rd a c) →
-      Made code n b 4 (j + 4) rd (x * y % 2 ^ 32)
-  product n j a c x y rest pc low small_a small_c ea ec has =
-      let ws = product_words rd a c in
+  pub leaves : (o : HiLoOperation) (from : MoveFrom) (n : MipsMachine) (j a c x y : ℕ) → is_undefined o x y ≡ false → mips_rests n →
+      n.flow.pc ≡ pc_of j → j + 4 ≤ words_end → a < 2 ^ 5 → c < 2 ^ 5 → mips_register n a ≡ x → mips_register n c ≡ y →
+      HasAt code j (hilo_words o from rd a c) → Made code n b 4 (j + 4) rd (left_in o from x y)
+  leaves o from n j a c x y fine rest pc low small_a small_c ea ec has =
+      let ws = hilo_words o from rd a c in
       let p = mips_register n a in
       let q = mips_register n c in
       let on = n.flow.pc + 4 in
-      let n1 = hilo_set n (hi_value Mult p q) (lo_value Mult p q) on in
-      let one = hilo_goes code n b rest Mult (reg a small_a) (reg c small_c) refl (nth_at code j ws 0 _ n.flow.pc has (omega (arith, pc)) refl)
+      let n1 = hilo_set n (hi_value o p q) (lo_value o p q) on in
+      let same : is_undefined o p q ≡ false = ap (λ z. is_undefined o p z) ec ∙ ap (λ z. is_undefined o z y) ea ∙ fine in
+      let one = hilo_goes code n b rest o (reg a small_a) (reg c small_c) same (nth_at code j ws 0 _ n.flow.pc has (omega (arith, pc)) refl)
       (omega (arith, pc, low)) in
-      let two = read_leads code n1 b refl Mflo (reg rd small_rd) (nth_at code j ws 1 _ on has (omega (arith, pc)) refl)
+      let two = read_leads code n1 b refl from (reg rd small_rd) (nth_at code j ws 1 _ on has (omega (arith, pc)) refl)
       (nth_at code j ws 2 0 (on + 4) has (omega (arith, pc)) refl) (nth_at code j ws 3 0 (on + 8) has (omega (arith, pc)) refl)
       (omega (arith, pc, low)) pos in
-      let is : lo_value Mult p q ≡ x * y % 2 ^ 32 = ap (λ z. z * q % 2 ^ 32) ea ∙ ap (λ z. x * z % 2 ^ 32) ec in
-      let last = wrote n1 rd (lo_value Mult p q) (on + 12) in
+      let w = hilo_of from (data_of n1 b) in
+      let is : w ≡ left_in o from x y =
+      read_left o from n1 b p q refl refl ∙ ap (λ z. left_in o from z q) ea ∙ ap (left_in o from x) ec in
+      let last = wrote n1 rd w (on + 12) in
       record {
         last = last;
         way = way_by code n last b b 4 (j + 4) (leads_first (mips_goes code) n b n1 b 3 last b one two) (omega (arith, pc));
         gave = record {
           rests = refl;
-          holds = register-wrote_same n1 rd (lo_value Mult p q) (on + 12) pos small_rd ∙ is;
-          others = λ r h ne. register-wrote_other n1 rd (lo_value Mult p q) (on + 12) r ne;
+          holds = register-wrote_same n1 rd w (on + 12) pos small_rd ∙ is;
+          others = λ r h ne. register-wrote_other n1 rd w (on + 12) r ne;
         };
       }
 
@@ -132,10 +151,9 @@ tail_at code j ws k w has get zero u e =
     ap (λ i. word_at code (pc_of i)) on ∙ has k w get ∙ ap Some same
 tail_at code j ws k w has get (suc i) u e = absurd (cc)
 
-read_part : (from : MoveFrom) (n : MipsMachine) (b : Bytes) (x y : ℕ) → n.hi ≡ hi_value Div x y → n.lo ≡ lo_value Div x y →
-    hilo_of from (data_of n b) ≡ part from x y
-read_part Mfhi n b x y e f = e
-read_part Mflo n b x y e f = f
+left_part : (from : MoveFrom) (x y : ℕ) → left_in Div from x y ≡ part from x y
+left_part Mfhi x y = refl
+left_part Mflo x y = refl
 
 -- the words from the branch on: $10 has p and $11 has 2^32 - 1
 module _ (code : List ℕ) (b : Bytes) (rd : ℕ) (pos : 0 < rd) (small_rd : rd < 2 ^ 5) where
@@ -184,7 +202,8 @@ module _ (code : List ℕ) (b : Bytes) (rd : ℕ) (pos : 0 < rd) (small_rd : rd 
       let n1 = moved n (pc_of (j + 2)) in
       let on = pc_of (j + 2) + 4 in
       let n2 = hilo_set n1 (hi_value Div ra rc) (lo_value Div ra rc) on in
-      let fine : is_undefined Div ra rc ≡ false = ap (λ z. is_undefined Div ra z) ec ∙ ap (λ z. is_undefined Div z y) ea ∙ defined x y some e in
+      let fine : is_undefined Div ra rc ≡ false = ap (λ z. is_undefined Div ra z) ec ∙ ap (λ z. is_undefined Div z y) ea
+      ∙ defined x y some e in
       let two = hilo_goes code n1 b refl Div (reg a small_a) (reg c small_c) fine
       (nth_at code j ws 2 _ (pc_of (j + 2)) has refl refl) (omega (arith, low)) in
       let three = read_leads code n2 b refl from (reg 10 (lit< tt)) (nth_at code j ws 3 _ on has (omega arith) refl)
@@ -192,10 +211,11 @@ module _ (code : List ℕ) (b : Bytes) (rd : ℕ) (pos : 0 < rd) (small_rd : rd 
       (omega arith) in
       let w = hilo_of from (data_of n2 b) in
       let n3 = wrote n2 10 w (on + 12) in
-      let is : w ≡ part from x y = read_part from n2 b ra rc refl refl ∙ ap (λ z. part from ra z) ec ∙ ap (λ z. part from z y) ea in
+      let is : w ≡ part from x y = read_left Div from n2 b ra rc refl refl ∙ ap (λ z. part from ra z) ec ∙ ap (λ z. part from z y) ea in
       let held : mips_register n3 10 ≡ part from x y = register-wrote_same n2 10 w (on + 12) (omega arith) (lit< tt) ∙ is in
       let at : n3.flow.pc ≡ pc_of (j + 6) = omega arith in
-      let four = brings n3 (j + 6) (part from x y) refl at (omega (arith, low)) (part_low from x y x_low y_low some e) held (tail_at code j ws 6 _ has refl) in
+      let four = brings n3 (j + 6) (part from x y) refl at (omega (arith, low)) (part_low from x y x_low y_low some e) held
+      (tail_at code j ws 6 _ has refl) in
       let way1 = way_on code n n1 n2 b b b 2 1 3 (j + 2) (j + 3) (way_by code n n1 b b 2 (j + 2) one refl)
       (way_one code n1 n2 b b (j + 3) two (omega arith)) (omega arith) in
       let way2 = way_on code n n2 n3 b b b 3 3 6 (j + 3) (j + 6) way1 (way_by code n2 n3 b b 3 (j + 6) three at) (omega arith) in
@@ -291,6 +311,10 @@ some_if : (t : Bool) (k n : ℕ) → cond t (Some k) None ≡ Some n → (k ≡ 
 some_if true k n e = (same_Some k n e, refl)
 some_if false k n e = absurd (cc)
 
+not_so : (t : Bool) → not t ≡ true → t ≡ false
+not_so true e = absurd (cc)
+not_so false e = refl
+
 -- a word is added to another as the number that it is less than 0
 plus_negative : (x y : ℕ) → y < 2 ^ 32 → plus x (negative y) ≡ minus x y
 plus_negative x y h = omega (arith, h)
@@ -318,6 +342,11 @@ module _ (code : List ℕ) (f own : ℕ) (f_small : f < most_blocks) (own_small 
   small_negative_word (source.Word k) n held b can e =
       let t = some_if (is_small (negative k)) (negative k) n e in
       (t.0, subst (λ x. x < 2 ^ 32) t.0 (omega arith), sym (ap is_small t.0) ∙ t.1, can)
+
+  other_number : (s : Source) (held : ℕ → ℕ) (b : Bytes) → Finds code f own f_small own_small s held b → is_other_number s ≡ true →
+      (Word_ s held b == 2 ^ 32 - 1) ≡ false
+  other_number (source.Home h) held b can e = absurd (cc)
+  other_number (source.Word k) held b can e = not_so (k == 2 ^ 32 - 1) e
 
   module _ (m : MipsMachine) (v : Sight) (i : ℕ) (g : Seen f own m v.home) (pc : m.flow.pc ≡ pc_of i) where
     -- the words of a source, and what some more words make of it
@@ -437,7 +466,8 @@ module _ (code : List ℕ) (f own : ℕ) (f_small : f < most_blocks) (own_small 
       abbrev pub Makes : List ℕ → ℕ → Type 0
       Makes ws w = i + length ws ≤ words_end → HasAt code i ws → Made code m v.bytes (length ws) (i + length ws) rd w
 
-      pub two_made : (o : Operation) → ((p q : ℕ) → operation_overflows o p q ≡ false) → Makes (two_words o rd left right) (operation_value o X Y)
+      pub two_made : (o : Operation) → ((p q : ℕ) → operation_overflows o p q ≡ false) →
+          Makes (two_words o rd left right) (operation_value o X Y)
       two_made o within low has =
           with_both left right (λ a c. on_registers o rd a c ∷ []) rd (operation_value o X Y) can_left can_right low has
           (λ n j rest at room ea ec here. operates code v.bytes rd pos small_rd o n j (source_register 8 left) (source_register 9 right) X Y
@@ -451,7 +481,8 @@ module _ (code : List ℕ) (f own : ℕ) (f_small : f < most_blocks) (own_small 
       one_of s can o within n low has =
           with_one s (on_number o rd (source_register 8 s) (low_of n) ∷ []) rd
           (immediate_value o (Word_ s v.home v.bytes) (immediate_number o (low_of n))) can low has
-          (λ u j rest at room ea here. adds_number code v.bytes rd pos small_rd o u j (source_register 8 s) (Word_ s v.home v.bytes) (low_of n)
+          (λ u j rest at room ea here. adds_number code v.bytes rd pos small_rd o u j (source_register 8 s) (Word_ s v.home v.bytes)
+          (low_of n)
           (omega arith) within rest at room (source_low code f own f_small own_small s v.home v.bytes 8 can (lit< tt)) ea here)
 
       -- words that bring what is the same
@@ -515,44 +546,68 @@ module _ (code : List ℕ) (f own : ℕ) (f_small : f < most_blocks) (own_small 
       c_not q above below = source_other code f own f_small own_small right v.home v.bytes 9 q can_right (omega (arith, above)) below
           (λ e. omega (arith, e, above))
 
-      product_made : Makes (with_two left right (product_words rd)) (X * Y % 2 ^ 32)
+      product_made : Makes (with_two left right (hilo_words Mult Mflo rd)) (X * Y % 2 ^ 32)
       product_made low has =
-          with_both left right (product_words rd) rd (X * Y % 2 ^ 32) can_left can_right low has
-          (λ n j rest at room ea ec here. product code v.bytes rd pos small_rd n j A C X Y rest at room a_low c_low ea ec here)
+          with_both left right (hilo_words Mult Mflo rd) rd (X * Y % 2 ^ 32) can_left can_right low has
+          (λ n j rest at room ea ec here. leaves code v.bytes rd pos small_rd Mult Mflo n j A C X Y refl rest at room a_low c_low ea ec
+          here)
 
-      quotient_made : Y ≢ 0 → Makes (with_two left right (λ a c. divided_words (on_registers Subu 10 0 a) Mflo rd a c)) (reckoned Quotient X Y)
+      quotient_made : Y ≢ 0 → Makes (with_two left right (division_by false Mflo rd)) (reckoned Quotient X Y)
       quotient_made some low has =
-          with_both left right (λ a c. divided_words (on_registers Subu 10 0 a) Mflo rd a c) rd (reckoned Quotient X Y) can_left can_right low
+          with_both left right (division_by false Mflo rd) rd (reckoned Quotient X Y) can_left can_right low
           has (λ n j rest at room ea ec here.
           let on = n.flow.pc + 4 in
           let st = operation_goes code n v.bytes rest Subu (reg 10 (lit< tt)) r0 (reg A a_low) refl
-          (nth_at code j (divided_words (on_registers Subu 10 0 A) Mflo rd A C) 0 _ n.flow.pc here (omega (arith, at)) refl)
+          (nth_at code j (divided_words (by_minus_one Mflo A) Mflo rd A C) 0 _ n.flow.pc here (omega (arith, at)) refl)
           (omega (arith, at, room)) (omega arith) in
           let one : mips_goes code n v.bytes (wrote n 10 (minus 0 X) on) v.bytes =
           subst (λ x. mips_goes code n v.bytes (wrote n 10 (minus 0 x) on) v.bytes) ea st in
           subst (λ x. Made code n v.bytes 9 (j + 9) rd x) (quotient_is X Y x_low y_low some)
-          (divides code v.bytes rd pos small_rd Mflo n j (on_registers Subu 10 0 A) A C (minus 0 X) X Y rest at room a_low c_low
+          (divides code v.bytes rd pos small_rd Mflo n j (by_minus_one Mflo A) A C (minus 0 X) X Y rest at room a_low c_low
           (a_not 10 (omega arith) (omega arith)) (a_not 11 (omega arith) (omega arith)) (c_not 10 (omega arith) (omega arith))
           (c_not 11 (omega arith) (omega arith)) some (omega arith) x_low y_low ea ec one here))
 
-      remainder_made : Y ≢ 0 → Makes (with_two left right (λ a c. divided_words (on_registers Addu 10 0 0) Mfhi rd a c)) (reckoned Remainder X Y)
+      remainder_made : Y ≢ 0 → Makes (with_two left right (division_by false Mfhi rd)) (reckoned Remainder X Y)
       remainder_made some low has =
-          with_both left right (λ a c. divided_words (on_registers Addu 10 0 0) Mfhi rd a c) rd (reckoned Remainder X Y) can_left can_right low
+          with_both left right (division_by false Mfhi rd) rd (reckoned Remainder X Y) can_left can_right low
           has (λ n j rest at room ea ec here.
           let one = operation_goes code n v.bytes rest Addu (reg 10 (lit< tt)) r0 r0 refl
-          (nth_at code j (divided_words (on_registers Addu 10 0 0) Mfhi rd A C) 0 _ n.flow.pc here (omega (arith, at)) refl)
+          (nth_at code j (divided_words (by_minus_one Mfhi A) Mfhi rd A C) 0 _ n.flow.pc here (omega (arith, at)) refl)
           (omega (arith, at, room)) (omega arith) in
           subst (λ x. Made code n v.bytes 9 (j + 9) rd x) (remainder_is X Y)
-          (divides code v.bytes rd pos small_rd Mfhi n j (on_registers Addu 10 0 0) A C 0 X Y rest at room a_low c_low
+          (divides code v.bytes rd pos small_rd Mfhi n j (by_minus_one Mfhi A) A C 0 X Y rest at room a_low c_low
           (a_not 10 (omega arith) (omega arith)) (a_not 11 (omega arith) (omega arith)) (c_not 10 (omega arith) (omega arith))
           (c_not 11 (omega arith) (omega arith)) some (omega arith) x_low y_low ea ec one here))
+
+      -- by a number other than -1
+      at_once : (from : MoveFrom) → Y ≢ 0 → is_other_number right ≡ true →
+          Makes (with_two left right (division_by true from rd)) (part from X Y)
+      at_once from some e low has =
+          with_both left right (division_by true from rd) rd (part from X Y) can_left can_right low has
+          (λ n j rest at room ea ec here. subst (λ x. Made code n v.bytes 4 (j + 4) rd x) (left_part from X Y)
+          (leaves code v.bytes rd pos small_rd Div from n j A C X Y (defined X Y some (other_number right v.home v.bytes can_right e))
+          rest at
+          room a_low c_low ea ec here))
+
+      quotient_made_by : (t : Bool) → is_other_number right ≡ t → Y ≢ 0 →
+          Makes (with_two left right (division_by t Mflo rd)) (reckoned Quotient X Y)
+      quotient_made_by false e some = quotient_made some
+      quotient_made_by true e some =
+          same_made (with_two left right (division_by true Mflo rd)) (part Mflo X Y) (reckoned Quotient X Y)
+          (quotient_at_once X Y x_low y_low some (other_number right v.home v.bytes can_right e)) (at_once Mflo some e)
+
+      remainder_made_by : (t : Bool) → is_other_number right ≡ t → Y ≢ 0 →
+          Makes (with_two left right (division_by t Mfhi rd)) (reckoned Remainder X Y)
+      remainder_made_by false e some = remainder_made some
+      remainder_made_by true e some =
+          same_made (with_two left right (division_by true Mfhi rd)) (part Mfhi X Y) (reckoned Remainder X Y) refl (at_once Mfhi some e)
 
       pub work_made : (how : Arithmetic) → CanReckon how Y → Makes (work_words how rd left right) (reckoned how X Y)
       work_made Sum can = sum_made_by (small left) (small right) refl refl
       work_made Difference can = difference_made
       work_made Product can = product_made
-      work_made Quotient can = quotient_made can
-      work_made Remainder can = remainder_made can
+      work_made Quotient can = quotient_made_by (is_other_number right) refl can
+      work_made Remainder can = remainder_made_by (is_other_number right) refl can
 
     -- ---- answers
 

@@ -142,8 +142,9 @@ difference_by None rd left right = two_words Subu rd left right
 abbrev pub difference_words : ℕ → Source → Source → List ℕ
 difference_words rd left right = difference_by (small_negative right) rd left right
 
-abbrev pub product_words : (rd a b : ℕ) → List ℕ
-product_words rd a b = on_hilo Mult a b ∷ from_hilo Mflo rd ∷ no_op ∷ no_op ∷ []
+-- what an operation on two registers leaves in HI or LO
+abbrev pub hilo_words : HiLoOperation → MoveFrom → (rd a b : ℕ) → List ℕ
+hilo_words o from rd a b = on_hilo o a b ∷ from_hilo from rd ∷ no_op ∷ no_op ∷ []
 
 -- By -1 nothing is divided, so that -2^31 by -1 never is: $10 gets the quotient or the remainder by -1, and keeps it where the branch
 -- is taken; else it gets that of the division.
@@ -161,12 +162,29 @@ divided_words by_minus_one from rd a b =
     ∷ []
 
 -- a by -1 is -a, and leaves 0
+abbrev pub by_minus_one : MoveFrom → ℕ → ℕ
+by_minus_one Mflo a = on_registers Subu 10 0 a
+by_minus_one Mfhi a = on_registers Addu 10 0 0
+
+-- a number other than -1
+abbrev pub is_other_number : Source → Bool
+is_other_number (source.Home h) = false
+is_other_number (source.Word n) = not (n == 2 ^ 32 - 1)
+
+-- By such a number it is divided at once.
+abbrev pub division_by : Bool → MoveFrom → (rd a b : ℕ) → List ℕ
+division_by true from rd a b = hilo_words Div from rd a b
+division_by false from rd a b = divided_words (by_minus_one from a) from rd a b
+
+abbrev pub division_words : MoveFrom → ℕ → Source → Source → List ℕ
+division_words from rd left right = with_two left right (division_by (is_other_number right) from rd)
+
 abbrev pub work_words : Arithmetic → ℕ → Source → Source → List ℕ
 work_words Sum rd left right = sum_by (small left) (small right) rd left right
 work_words Difference rd left right = difference_words rd left right
-work_words Product rd left right = with_two left right (product_words rd)
-work_words Quotient rd left right = with_two left right (λ a b. divided_words (on_registers Subu 10 0 a) Mflo rd a b)
-work_words Remainder rd left right = with_two left right (λ a b. divided_words (on_registers Addu 10 0 0) Mfhi rd a b)
+work_words Product rd left right = with_two left right (hilo_words Mult Mflo rd)
+work_words Quotient rd left right = division_words Mflo rd left right
+work_words Remainder rd left right = division_words Mfhi rd left right
 
 -- ---- a register gets 1 or 0
 

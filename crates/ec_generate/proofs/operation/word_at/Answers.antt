@@ -1,4 +1,4 @@
-use Rattle.std.proofs.Common.{◌≡◌, ◌+◌, ◌∙◌, sym, arith}
+use Rattle.std.proofs.Common.{◌≡◌, ◌∙◌, sym, arith}
 use Rattle.std.proofs.lemmas.Option.{same_Some}
 use Rattle.ec_generate.specs.Puts.{pick}
 use Rattle.ec_generate.specs.Sites.{home_there, ops_there}
