@@ -1,5 +1,5 @@
 //! The machine code of an accepted text.
-ghost use Rattle.std.specs.Prelude.{◌≡◌, ℕ, IfOk};
+ghost use Rattle.std.specs.Prelude.{◌≡◌, ◌≤◌, ℕ, IfOk, length};
 ghost use Rattle.ec_compile.specs.Texts.{IsOfText};
 ghost use Rattle.ec_faithful.specs.Faithful.{Faithful};
 ghost use Rattle.ec_faithful.specs.Frames.{slots};
@@ -8,7 +8,7 @@ ghost use Rattle.ec_images.specs.Fits.{EachFits};
 ghost use Rattle.ec_laid_out.specs.Fitted.{CanRest};
 ghost use Rattle.ec_lowered.specs.Lowered.{IsLowered};
 ghost use Rattle.ec_meaning.specs.Sources.{source_of};
-ghost use Rattle.ec_micro.specs.Speaks.{Speaks};
+ghost use Rattle.ec_micro.specs.Speaks.{Speaks, words_end};
 ghost use Rattle.ec_stop_tables.specs.Addresses.{address_in};
 ghost use Rattle.ec_stop_tables.specs.Tables.{AreTablesOf, all_homes};
 
@@ -48,6 +48,7 @@ pub fn compile<K: Kind, M: Target>(
     ensures tables { IfOk result (λ made. AreTablesOf K.homes slots made.program made.image.table.operations) }
     ensures bound { IfOk result
         (λ made. (op n : ℕ) → address_in made.image.table.addresses op n ≡ address_of made.image.code op n) }
+    ensures few { IfOk result (λ made. length made.image.code.words ≤ words_end) }
 {
     let program = LoweredProgram::new(alloc, program)?;
     let image = build::<K, M>(alloc, kind, program.parts())?;

@@ -1,5 +1,5 @@
 //! The image of a program.
-ghost use Rattle.std.specs.Prelude.{◌≡◌, ℕ, Some, IfOk, slice_get};
+ghost use Rattle.std.specs.Prelude.{◌≡◌, ◌≤◌, ℕ, Some, IfOk, length, slice_get};
 ghost use Rattle.ec_code.specs.declared.code.Line.{Line};
 ghost use Rattle.ec_code.specs.declared.code.Operation.{Operation};
 ghost use Rattle.ec_code.specs.Fine.{Fine};
@@ -11,7 +11,7 @@ ghost use Rattle.ec_faithful.specs.Stops.{address_of};
 ghost use Rattle.ec_images.specs.Fits.{EachFits};
 ghost use Rattle.ec_laid_out.specs.Fitted.{CanRest, HasFew};
 ghost use Rattle.ec_micro.specs.Fitting.{NumbersFit};
-ghost use Rattle.ec_micro.specs.Speaks.{Speaks};
+ghost use Rattle.ec_micro.specs.Speaks.{Speaks, words_end};
 ghost use Rattle.ec_stop_tables.specs.Addresses.{address_in};
 ghost use Rattle.ec_stop_tables.specs.Tables.{AreTablesOf, all_homes};
 
@@ -56,6 +56,7 @@ pub fn build<K: Kind, M: Target>(
     ensures tables { IfOk result (λ image. AreTablesOf K.homes slots parts.now image.table.operations) }
     ensures bound { IfOk result
         (λ image. (op n : ℕ) → address_in image.table.addresses op n ≡ address_of image.code op n) }
+    ensures few { IfOk result (λ image. length image.code.words ≤ words_end) }
 {
     let mut table = assign(alloc, parts, kind.home_registers(), SLOTS)?;
     let code = generate(alloc, kind, parts, &table)?;

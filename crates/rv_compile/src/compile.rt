@@ -1,5 +1,5 @@
 //! The RISC-V machine code of an accepted text.
-ghost use Rattle.std.specs.Prelude.{◌≡◌, ℕ, IfOk};
+ghost use Rattle.std.specs.Prelude.{◌≡◌, ◌≤◌, ℕ, IfOk, length};
 ghost use Rattle.ec_compile.specs.Texts.{IsOfText};
 ghost use Rattle.ec_faithful.specs.Faithful.{Faithful};
 ghost use Rattle.ec_faithful.specs.Frames.{slots};
@@ -7,6 +7,7 @@ ghost use Rattle.ec_faithful.specs.Stops.{address_of};
 ghost use Rattle.ec_images.specs.Fits.{EachFits};
 ghost use Rattle.ec_lowered.specs.Lowered.{IsLowered};
 ghost use Rattle.ec_meaning.specs.Sources.{source_of};
+ghost use Rattle.ec_micro.specs.Speaks.{words_end};
 ghost use Rattle.ec_stop_tables.specs.Addresses.{address_in};
 ghost use Rattle.ec_stop_tables.specs.Tables.{AreTablesOf, all_homes};
 ghost use Rattle.rv_machine.specs.declared.machine.RvMachine.{RvMachine};
@@ -39,6 +40,7 @@ pub fn compile_for_riscv(alloc: Global, program: &Program<'_>) -> Result<Compile
     ensures tables { IfOk result (λ made. AreTablesOf 10 slots made.program made.image.table.operations) }
     ensures bound { IfOk result
         (λ made. (op n : ℕ) → address_in made.image.table.addresses op n ≡ address_of made.image.code op n) }
+    ensures few { IfOk result (λ made. length made.image.code.words ≤ words_end) }
 {
     compile::<Riscv, RiscvMeaning>(alloc, &Riscv, program)
 }

@@ -1,11 +1,14 @@
-use Rattle.std.proofs.Common.{◌≡◌, ap, sym, subst}
+use Rattle.std.proofs.Common.{◌≡◌, ◌≤◌, ap, sym, subst, length, arith}
 use Rattle.ec_faithful.specs.Faithful.{Faithful}
 use Rattle.ec_images.proofs.Few.{has_few}
 use Rattle.ec_images.proofs.LaidOut.{can_be_laid_out}
 use Rattle.ec_images.proofs.image.build.Goals as goal
 use Rattle.ec_images.specs.Fits.{EachFits}
 use Rattle.ec_laid_out.proofs.Faithful.{faithful}
+use Rattle.ec_faithful.specs.declared.code.Code.{Code}
 use Rattle.ec_laid_out.proofs.Fitted.{each_fit}
+use Rattle.ec_laid_out.proofs.Programs.{long_is}
+use Rattle.ec_micro.specs.Speaks.{words_end}
 use Rattle.ec_stop_tables.specs.Addresses.{AreApart, HasFew}
 use Rattle.ec_stop_tables.specs.Tables.{all_homes}
 
@@ -50,3 +53,12 @@ returns-clause-met g c = λ d fine rests few.
     subst (λ h. EachFits g.M.Target.meaning p c.in_ok-code.code h) (sym same)
     (subst (λ code. EachFits g.M.Target.meaning p code homes) (sym c.in_ok-code.ensures.code)
     (each_fit g.M.Target.meaning vs homes d p can rests few))
+
+pub returns-clause-few : goal.returns-clause-few
+returns-clause-few g c =
+    let vs = g.K.Kind.vocabularies in
+    let p = c.args.parts.now in
+    let homes = all_homes c.in_ok-table.table.operations in
+    let long = long_is g.M.Target.meaning vs c.requires.near c.requires.middle c.requires.far homes 0 0 p.operations in
+    let low = c.in_ok-code.ensures.room.low in
+    subst (λ (code : Code). length code.words ≤ words_end) (sym c.in_ok-code.ensures.code) (omega arith)
