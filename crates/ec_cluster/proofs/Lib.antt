@@ -1,0 +1,6 @@
+pub mod Putting
+pub mod Changing
+pub mod Acting
+pub mod Creating
+pub mod Defining
+pub mod Answered

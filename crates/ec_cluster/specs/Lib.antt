@@ -1,0 +1,5 @@
+pub mod Images
+pub mod Cluster
+pub mod Steps
+pub mod Makings
+pub mod Defining

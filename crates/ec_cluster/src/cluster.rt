@@ -1,0 +1,38 @@
+//! Nodes, the program that they run, and where objects are.
+ghost use Rattle.std.specs.Prelude.{◌≡◌};
+ghost use Rattle.ec_cluster.specs.Images.{image_of};
+
+use ec_base::list::Seq;
+use ec_code::code::Parts;
+use ec_forward::directory::Directory;
+use ec_images::image::Image;
+use ec_stores::node::NodeStore;
+use ec_world::node::Kind;
+
+/// The image of a program for each kind of machine.
+#[derive(Drop)]
+pub struct Images {
+    pub riscv: Image,
+    pub mips: Image,
+}
+
+/// Nodes by their numbers (from 0), the program that they run with its images, and the directory of all objects.
+#[derive(Drop)]
+pub struct Cluster {
+    pub parts: Parts,
+    pub images: Images,
+    pub nodes: Seq<NodeStore>,
+    pub directory: Directory,
+}
+
+impl Images {
+    /// The image for a kind.
+    pub fn of(&self, kind: Kind) -> &Image
+        ensures { result.now ≡ image_of self.now kind }
+    {
+        match kind {
+            Kind::Riscv => &self.riscv,
+            Kind::Mips => &self.mips,
+        }
+    }
+}

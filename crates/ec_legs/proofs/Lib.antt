@@ -1,0 +1,10 @@
+pub mod Bytes
+pub mod Keeping
+pub mod Stops
+pub mod Holding
+pub mod Walking
+pub mod Fitting
+pub mod Running
+pub mod Landing
+pub mod Registers
+pub mod Going

@@ -1,0 +1,47 @@
+use Rattle.std.proofs.Common.{◌≡◌, ◌+◌, subst, arith}
+use Rattle.ec_legs.proofs.Keeping.{owns_word}
+use Rattle.ec_legs.proofs.Registers.{restores_more, restores_none}
+use Rattle.ec_legs.proofs.machine.restore.Goals as goal
+use Rattle.ec_legs.specs.Machines.{Restores}
+use Rattle.ec_stores.specs.Node.{store_of}
+use Rattle.ec_target.specs.Runs.{SetsRegister}
+
+pub frame_word-word-requires : goal.frame_word-word-requires
+frame_word-word-requires g c =
+    let few = g.met.N.NativeKind.registers.few in
+    owns_word (store_of c.args.node.now) c.args.process c.args.depth c.requires (8 + c.loop-k.k) (omega arith)
+
+pub set_reg-requires : goal.set_reg-requires
+set_reg-requires g c = let there = g.met.N.NativeKind.registers.there in omega arith
+
+pub loop-k-init : goal.loop-k-init
+loop-k-init g c =
+    restores_none g.N.NativeKind.meaning g.M.Machine.kind g.M.Machine.goes g.M.Machine.stops g.M.Machine.register g.M.Machine.place
+    g.M.Machine.rests g.M.Machine.beside g.met.N.NativeKind.means g.M.Machine.REGISTERS g.M.Machine.FRAME g.M.Machine.OWN
+    g.N.NativeKind.FIRST_HOME g.N.NativeKind.HOMES g.met.N.NativeKind.registers (store_of c.args.node.now) c.args.process c.args.depth
+    c.args.machine.now
+
+pub loop-k-preserved : goal.loop-k-preserved
+loop-k-preserved g c =
+    restores_more g.N.NativeKind.meaning g.M.Machine.kind g.M.Machine.goes g.M.Machine.stops g.M.Machine.register g.M.Machine.place
+    g.M.Machine.rests g.M.Machine.beside g.met.N.NativeKind.means g.M.Machine.REGISTERS g.M.Machine.FRAME g.M.Machine.OWN
+    g.N.NativeKind.FIRST_HOME g.N.NativeKind.HOMES g.met.N.NativeKind.registers (store_of c.args.node.now) c.args.process c.args.depth
+    c.loop-k.k c.frame_word-word.result c.args.machine.now c.loop-k.machine c.set_reg.new.self c.loop-k.invariant (omega arith)
+    c.frame_word-word.ensures
+    (subst
+    (λ r. SetsRegister g.M.Machine.register g.M.Machine.place g.M.Machine.rests g.M.Machine.beside c.loop-k.machine c.set_reg.new.self
+    (r + c.loop-k.k) c.frame_word-word.result)
+    c.FIRST_HOME.ensures c.set_reg.ensures)
+
+pub overflow_add-FIRST_HOME : goal.overflow_add-FIRST_HOME
+overflow_add-FIRST_HOME g c =
+    let there = g.met.N.NativeKind.registers.there in
+    let small = g.met.N.NativeKind.registers.small in
+    omega arith
+
+pub returns : goal.returns
+returns g c =
+    let same : c.loop-k.k ≡ g.N.NativeKind.HOMES = omega arith in
+    subst
+    (λ n. Restores g.N.NativeKind.meaning (store_of c.args.node.now) c.args.process c.args.depth n c.args.machine.now c.loop-k.machine)
+    same c.loop-k.invariant

@@ -1,0 +1,127 @@
+//! A machine is set up for an activation, and an activation rests where a machine has come to.
+ghost use Rattle.std.specs.Prelude.{◌≡◌, ◌<◌, ℕ, Some};
+ghost use Rattle.ec_faithful.specs.Frames.{block_at};
+ghost use Rattle.ec_legs.specs.Machines.{IsBehindStop, IsSetUp, NamesObject, NamesStop, Restores, RestsWhere, Saves};
+ghost use Rattle.ec_legs.specs.Words.{IsFrame};
+ghost use Rattle.ec_nodes.specs.declared.key.Key.TheVariants.{Object as OfObject};
+ghost use Rattle.ec_stop_tables.specs.Addresses.{address_in};
+ghost use Rattle.ec_stores.specs.Changes.{HasBlock};
+ghost use Rattle.ec_stores.specs.Node.{store_of};
+
+use crate::kind::NativeKind;
+use ec_stop_tables::table::{StopId, StopTable};
+use ec_stores::node::NodeStore;
+use ec_target::machine::Machine;
+use ec_world::value::{Oid, Pid};
+
+/// The headings of a frame that are its operation, its stop, whether the stop's action is pending, and its own object.
+const OPERATION: u32 = 2;
+
+const STOP: u32 = 3;
+
+const PENDING: u32 = 4;
+
+const OWN_OBJECT: u32 = 5;
+
+/// The first of the words of a frame in which homes are saved.
+const FIRST_SAVED: u32 = 8;
+
+/// Where a block begins.
+fn block_address(block: u32) -> u32
+    requires { block < 65536 }
+    ensures { result ≡ block_at block }
+{
+    0x1000_0000 + 512 * block
+}
+
+/// A machine at rest behind the stop at which an activation rests: with the addresses of the frame and of the own object, and with
+/// what the frame has saved.
+pub(crate) fn behind_stop<M: Machine + Drop, N: NativeKind<M>>(
+    native: &N,
+    node: &NodeStore,
+    table: &StopTable,
+    process: Pid,
+    depth: u32,
+) -> M
+    requires frame { IsFrame (store_of node.now) process depth }
+    requires stop { NamesStop table.now.addresses (store_of node.now) process depth }
+    requires object { NamesObject (store_of node.now) process depth }
+    ensures { IsBehindStop N.meaning table.now.addresses (store_of node.now) process depth result }
+{
+    let operation = node.frame_word(process, depth, OPERATION);
+    let stop = node.frame_word(process, depth, STOP);
+    let own = node.frame_word(process, depth, OWN_OBJECT);
+    let address = table.pc_of(StopId { operation, stop });
+    set_up::<M, N>(native, node, process, depth, own, address + 4)
+}
+
+/// A machine at rest at a place, for an activation.
+fn set_up<M: Machine + Drop, N: NativeKind<M>>(
+    native: &N,
+    node: &NodeStore,
+    process: Pid,
+    depth: u32,
+    own: Oid,
+    place: u32,
+) -> M
+    requires frame { IsFrame (store_of node.now) process depth }
+    requires object { HasBlock (store_of node.now) (OfObject own) }
+    ensures { IsSetUp N.meaning (store_of node.now) process depth own place result }
+{
+    let mut machine = native.machine();
+    let frame_at = block_address(node.block_of_frame(process, depth));
+    let own_at = block_address(node.first_block(own));
+    machine.set_reg(M::FRAME, frame_at);
+    machine.set_reg(M::OWN, own_at);
+    restore::<M, N>(&mut machine, node, process, depth);
+    machine.set_pc(place);
+    machine
+}
+
+/// The homes get the words that a frame has saved.
+fn restore<M: Machine, N: NativeKind<M>>(
+    machine: &mut M,
+    node: &NodeStore,
+    process: Pid,
+    depth: u32,
+)
+    requires { IsFrame (store_of node.now) process depth }
+    ensures { Restores N.meaning (store_of node.now) process depth N.HOMES machine.old machine.new }
+{
+    for k in 0..N::HOMES {
+        let word = node.frame_word(process, depth, FIRST_SAVED + k);
+        machine.set_reg(N::FIRST_HOME + k, word);
+    }
+}
+
+/// An activation rests at the stop to which a machine has come, pending, with the homes saved in its frame.
+pub(crate) fn rest_at<M: Machine, N: NativeKind<M>>(
+    node: &mut NodeStore,
+    machine: &M,
+    table: &StopTable,
+    process: Pid,
+    depth: u32,
+)
+    requires frame { IsFrame (store_of node.old) process depth }
+    requires stop { (operation : ℕ) × (number : ℕ)
+        × (address_in table.now.addresses operation number ≡ Some (N.meaning.place machine.now)) }
+    ensures { RestsWhere N.meaning table.now.addresses (store_of node.old) (store_of node.new) process depth machine.now }
+{
+    let Some(id) = table.at_pc(machine.pc()) else {
+        unreachable!()
+    };
+    save::<M, N>(node, machine, process, depth);
+    node.set_frame_word(process, depth, STOP, id.stop);
+    node.set_frame_word(process, depth, PENDING, 1);
+}
+
+/// The homes are saved in a frame.
+fn save<M: Machine, N: NativeKind<M>>(node: &mut NodeStore, machine: &M, process: Pid, depth: u32)
+    requires { IsFrame (store_of node.old) process depth }
+    ensures { Saves N.meaning (store_of node.old) (store_of node.new) process depth N.HOMES machine.now }
+{
+    for k in 0..N::HOMES {
+        let word = machine.read_reg(N::FIRST_HOME + k);
+        node.set_frame_word(process, depth, FIRST_SAVED + k, word);
+    }
+}

@@ -1,0 +1,29 @@
+//! MIPS I.
+use ec_legs::kind::NativeKind;
+use mips_machine::machine::MipsMachine;
+
+/// MIPS I machines: $16 to $21 are homes.
+pub struct MipsKind;
+
+impl NativeKind<MipsMachine> for MipsKind {
+    ghost use Rattle.ec_native_kinds.specs.Kinds.{mips_means, mips_registers};
+    ghost use Rattle.mips_words.specs.Meaning.{mips_meaning};
+
+    ghost meaning = { mips_meaning };
+
+    ghost FIRST_HOME = { 16 };
+
+    ghost HOMES = { 6 };
+
+    const FIRST_HOME: u32 = 16;
+
+    const HOMES: u32 = 6;
+
+    fn machine(&self) -> MipsMachine {
+        MipsMachine::new()
+    }
+
+    ghost means = { mips_means };
+
+    ghost registers = { mips_registers };
+}

@@ -1,0 +1,29 @@
+//! RISC-V.
+use ec_legs::kind::NativeKind;
+use rv_machine::machine::RvMachine;
+
+/// RISC-V machines: x18 to x27 are homes.
+pub struct RiscvKind;
+
+impl NativeKind<RvMachine> for RiscvKind {
+    ghost use Rattle.ec_native_kinds.specs.Kinds.{rv_means, rv_registers};
+    ghost use Rattle.rv_words.specs.Meaning.{rv_meaning};
+
+    ghost meaning = { rv_meaning };
+
+    ghost FIRST_HOME = { 18 };
+
+    ghost HOMES = { 10 };
+
+    const FIRST_HOME: u32 = 18;
+
+    const HOMES: u32 = 10;
+
+    fn machine(&self) -> RvMachine {
+        RvMachine::new()
+    }
+
+    ghost means = { rv_means };
+
+    ghost registers = { rv_registers };
+}

@@ -1,0 +1,6 @@
+use Rattle.ec_needs.proofs.texts.new_bytes.Given as goal
+use Rattle.ec_needs.specs.Texts.{Noted}
+use Rattle.ec_stores.specs.Node.{store_of}
+
+abbrev pub invariant-loop-i : goal.invariant-loop-i
+invariant-loop-i l = Noted (store_of l.node) l.values l.i 4294967295 l.seen

@@ -1,0 +1,12 @@
+pub mod Items
+pub mod Changes
+pub mod Shown
+pub mod Homed
+pub mod AtStop
+pub mod Rewriting
+pub mod Done
+pub mod Given
+pub mod Beginning
+pub mod Filling
+pub mod Reading
+pub mod Texts

@@ -1,0 +1,56 @@
+-- An activation in a frame of a node: by which tables its words lie there, whether it is there, and at which stop it rests.
+use Rattle.std.specs.Prelude.{◌≡◌, ℕ, ◌<◌, ◌≤◌, List, length, Option, Some, None}
+use Rattle.ec_activations.specs.Frames.{number_if, stop_of}
+use Rattle.ec_code.specs.Activations.{operation_at, variables_if}
+use Rattle.ec_code.specs.Fine.{Fine}
+use Rattle.ec_code.specs.Typing.{Declared}
+use Rattle.ec_code.specs.declared.activation.CodeActivation.{CodeActivation}
+use Rattle.ec_code.specs.declared.code.Live.{Live}
+use Rattle.ec_code.specs.declared.code.Parts.{Parts}
+use Rattle.ec_code.specs.declared.code.Variable.{Variable}
+use Rattle.ec_code_limits.specs.Limits.{HasLimits}
+use Rattle.ec_faithful.specs.Frames.{slots}
+use Rattle.ec_homes.specs.declared.homes.Home.{Home}
+use Rattle.ec_node_frames.specs.declared.frames.Headings.{Headings}
+use Rattle.ec_nodes.specs.declared.key.Key.TheVariants.{Frame}
+use Rattle.ec_stop_tables.specs.Tables.{AreTablesOf, all_homes}
+use Rattle.ec_stop_tables.specs.declared.table.OperationTable.{OperationTable}
+use Rattle.ec_stop_tables.specs.declared.table.StopEntry.{StopEntry}
+use Rattle.ec_things.specs.Store.{Owned, Store}
+use Rattle.ec_world.specs.declared.node.Kind.{Kind}
+
+-- The homes of a well typed program within its limits on a kind are those of these tables. The kind has at most 20 registers for them, as
+-- many as a frame has words to save them in.
+pub record HasTables (d : Declared) (p : Parts) (kind : Kind) (homes : Kind → List (List Home)) (tables : List OperationTable) :
+    Type 0 where
+  pub fine : Fine d p
+  pub limits : HasLimits p
+  pub registers : ℕ
+  pub few : registers ≤ 20
+  pub are : AreTablesOf registers slots p tables
+  pub homes_are : homes kind ≡ all_homes tables
+
+-- an activation is there, in one block
+pub record IsFrame (s : Store) (process depth : ℕ) : Type 0 where
+  pub row : Owned
+  pub there : s.row (Frame process depth) ≡ Some row
+  pub one : length row.blocks ≡ 1
+
+-- what the headings of its frame say of an activation
+pub record AreHeadings (p : Parts) (a : CodeActivation) (h : Headings) : Type 0 where
+  pub operation : h.operation ≡ a.operation
+  pub stop : h.stop ≡ number_if (stop_of p a)
+  pub pending : h.pending ≡ a.pending
+  pub own : h.own ≡ a.own
+
+-- the variable that takes what a stop gives
+abbrev pub variable_of : Option Live → Option Variable
+variable_of None = None
+variable_of (Some l) = Some l.variable
+
+-- An activation rests at a stop, and waits for what this gives. Behind its entry all named variables are there.
+pub record RestsAt (p : Parts) (a : CodeActivation) (e : StopEntry) : Type 0 where
+  pub number : ℕ
+  pub is : stop_of p a ≡ Some (record { number = number; entry = e })
+  pub into : a.into ≡ variable_of e.result
+  pub named : 0 < a.at → length (variables_if (operation_at p a.operation)) ≤ length a.variables

@@ -1,0 +1,5 @@
+pub mod Frames
+pub mod Beginning
+pub mod Finishing
+pub mod Loops
+pub mod Operands

@@ -1,0 +1,67 @@
+//! Activations in frames of a node: what their headings say, and how one goes.
+ghost use Rattle.std.specs.Prelude.{◌≡◌, List, None};
+ghost use Rattle.ec_activations.specs.Frames.{frame_thing};
+ghost use Rattle.ec_code.specs.declared.activation.CodeActivation.{CodeActivation};
+ghost use Rattle.ec_code.specs.declared.code.Parts.{Parts};
+ghost use Rattle.ec_faithful.specs.Frames as spec;
+ghost use Rattle.ec_homes.specs.declared.homes.Home.{Home as HomeData};
+ghost use Rattle.ec_node_frames.specs.Frames.{AreHeadings, IsFrame};
+ghost use Rattle.ec_nodes.specs.declared.key.Key.TheVariants.{Frame as OfFrame};
+ghost use Rattle.ec_stores.specs.Node.{store_of};
+ghost use Rattle.ec_things.specs.Texts.{GetsTexts, NoTexts};
+ghost use Rattle.ec_things.specs.Things.{Puts, Shown};
+ghost use Rattle.ec_world.specs.declared.node.Kind.{Kind as KindData};
+
+use ec_homes::homes::Home;
+use ec_stores::node::NodeStore;
+use ec_world::value::{Oid, OpNo, Pid};
+
+/// What the headings of a frame say of its activation: its operation, the number of the stop at which it rests, whether the action
+/// there is pending, and its own object.
+#[derive(Clone, Copy, PartialEq, Eq, Debug)]
+pub struct Headings {
+    pub operation: OpNo,
+    pub stop: u32,
+    pub pending: bool,
+    pub own: Oid,
+}
+
+/// The word of a frame that says whether the action is pending.
+pub(crate) const PENDING: u32 = 4;
+
+/// What the headings of an activation that is here say.
+pub fn headings_of(node: &NodeStore, process: Pid, depth: u32) -> Headings
+    requires { IsFrame (store_of node.now) process depth }
+    ensures { (p : Parts) (homes : KindData → List (List HomeData)) (a : CodeActivation) →
+        Shown (store_of node.now) (OfFrame process depth) (frame_thing p homes process depth a) → AreHeadings p a result }
+{
+    let operation = node.frame_word(process, depth, 2);
+    let stop = node.frame_word(process, depth, 3);
+    let pending = node.frame_word(process, depth, PENDING);
+    let own = node.frame_word(process, depth, 5);
+    Headings {
+        operation,
+        stop,
+        pending: pending == 1,
+        own,
+    }
+}
+
+/// An activation that is here goes, and its block is free. Takes no memory.
+pub fn close_frame(node: &mut NodeStore, process: Pid, depth: u32)
+    requires { IsFrame (store_of node.old) process depth }
+    ensures puts { Puts (store_of node.old) (store_of node.new) (OfFrame process depth) None }
+    ensures gets { GetsTexts NoTexts (store_of node.old) (store_of node.new) }
+{
+    node.close(process, depth);
+}
+
+/// The word of a frame that a home has while its activation rests.
+pub(crate) fn home_word(home: Home) -> usize
+    ensures { result ≡ spec.home_word home }
+{
+    match home {
+        Home::Register(k) => 8 + k as usize,
+        Home::Slot(n) => 28 + n as usize,
+    }
+}

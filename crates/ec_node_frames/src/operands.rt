@@ -1,0 +1,85 @@
+//! The operands of a pending action, read from the frame.
+ghost use Rattle.std.specs.Prelude.{◌≡◌, List, map, IfOk};
+ghost use Rattle.ec_activations.specs.Frames.{held_in};
+ghost use Rattle.ec_code.specs.Typing as typing;
+ghost use Rattle.ec_code.specs.Typing.{Declared};
+ghost use Rattle.ec_code.specs.declared.activation.CodeActivation.{CodeActivation};
+ghost use Rattle.ec_code.specs.declared.code.Parts.{Parts};
+ghost use Rattle.ec_homes.specs.declared.homes.Home.{Home as HomeData};
+ghost use Rattle.ec_node_frames.specs.Operands.{ActsHere, HasOperand, HasOperands, ReadsAs};
+ghost use Rattle.ec_stop_tables.specs.declared.table.OperationTable.{OperationTable as TableData};
+ghost use Rattle.ec_stores.specs.Node.{store_of};
+ghost use Rattle.ec_world.specs.declared.node.Kind.{Kind as KindData};
+ghost use Rattle.ec_world.specs.declared.value.Value.{Value as ValueData};
+
+use crate::frames::home_word;
+use ec_base::list::Seq;
+use ec_code::code::Live;
+use ec_conform::static_type::{Plain, StaticType};
+use ec_objects::values::value_of;
+use ec_stop_tables::table::{OperationTable, StopEntry};
+use ec_stores::node::NodeStore;
+use ec_world::value::{Pid, Value, ValueType, Values};
+use std::alloc::{AllocError, Global};
+
+/// The operands of the action of an activation that is here, pending at a stop of the table of its operation. The error is want of
+/// memory.
+pub fn operands_of(
+    node: &NodeStore,
+    alloc: Global,
+    table: &OperationTable,
+    entry: &StopEntry,
+    process: Pid,
+    depth: u32,
+) -> Result<Values, AllocError>
+    requires { HasOperands (store_of node.now) table.now entry.now process depth }
+    ensures { (d : Declared) (p : Parts) (homes : KindData → List (List HomeData)) (tables : List TableData) (a : CodeActivation) →
+        ActsHere (store_of node.now) table.now entry.now process depth d p homes tables a →
+        IfOk result (λ values. values ≡ map (λ h. h.value) (held_in p a entry.now.operands)) }
+{
+    let mut values = Seq::new(alloc);
+    for i in 0..entry.operands.len() {
+        let operand = *entry.operands.at(i);
+        let value = operand_of(node, table, operand, process, depth)?;
+        values.push(value)?;
+    }
+    Ok(values)
+}
+
+/// The value of an operand, read by its type. The error is want of memory.
+fn operand_of(
+    node: &NodeStore,
+    table: &OperationTable,
+    operand: Live,
+    process: Pid,
+    depth: u32,
+) -> Result<Value, AllocError>
+    requires { HasOperand (store_of node.now) table.now process depth operand }
+    ensures { (v : ValueData) → ReadsAs (store_of node.now) table.now process depth operand v → IfOk result (λ u. u ≡ v) }
+{
+    let _kind = node.kind();
+    let at = home_word(table.home(operand.variable));
+    let word = node.frame_word(process, depth, at as u32);
+    value_of(node, kind_of(operand.of), word)
+}
+
+/// What a variable of a type holds.
+fn kind_of(of: StaticType) -> ValueType
+    ensures { result ≡ typing.kind_of of }
+{
+    match of {
+        StaticType::Plain(of) => plain_kind(of),
+        StaticType::Vector(_, _) | StaticType::Nil | StaticType::Unknown => ValueType::Reference,
+    }
+}
+
+fn plain_kind(of: Plain) -> ValueType
+    ensures { result ≡ typing.plain_kind of }
+{
+    match of {
+        Plain::Integer => ValueType::Integer,
+        Plain::Boolean => ValueType::Boolean,
+        Plain::String => ValueType::Bytes,
+        Plain::Any | Plain::Node | Plain::Named(_) => ValueType::Reference,
+    }
+}

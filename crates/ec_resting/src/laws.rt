@@ -1,0 +1,17 @@
+//! What holds of each activation of a sound world.
+ghost use Rattle.ec_resting.specs.Laws.{EachRestsAtAnEntry, OperandsAreHeld, WaitsForTheResult};
+
+/// Each activation of a sound world rests at a stop that has an entry in the table of its operation.
+pub fn each_rests_at_an_entry()
+    ensures { EachRestsAtAnEntry }
+{}
+
+/// The operands of a pending stop are what the frame holds for them, behind the own object where this is one of them.
+pub fn operands_are_held()
+    ensures { OperandsAreHeld }
+{}
+
+/// Where code goes on behind a stop, the variable that waits there is the one that the entry has for the result.
+pub fn waits_for_the_result()
+    ensures { WaitsForTheResult }
+{}

@@ -1,0 +1,5 @@
+pub mod Kinds
+pub mod Decoded
+pub mod Seeing
+pub mod Searches
+pub mod Laws

@@ -1,0 +1,9 @@
+//! What nodes let a reader see: the world that they show, read from their words.
+#![tactic(auto)]
+
+pub mod doings;
+mod kinds;
+pub mod laws;
+mod links;
+mod searching;
+pub mod seen;
