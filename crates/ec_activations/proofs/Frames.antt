@@ -30,7 +30,7 @@ use Rattle.ec_stop_tables.specs.declared.table.OperationTable.{OperationTable}
 use Rattle.ec_stop_tables.specs.declared.table.StopEntry.{StopEntry}
 use Rattle.ec_world.specs.Agree.{AllTwo}
 
-all_two_at : {A B : Type 0} (R : A → B → Type 0) (xs : List A) (ys : List B) (i : ℕ) (x : A) → AllTwo R xs ys → slice_get xs i ≡ Some x →
+pub all_two_at : {A B : Type 0} (R : A → B → Type 0) (xs : List A) (ys : List B) (i : ℕ) (x : A) → AllTwo R xs ys → slice_get xs i ≡ Some x →
     (y : B) × (slice_get ys i ≡ Some y) × R x y
 all_two_at R [] ys i x all e = absurd cc
 all_two_at R (z ∷ xs) [] i x all e = absurd all

@@ -59,6 +59,11 @@ value_in p a (Temporary d) = or_nil (slice_get a.temporaries d)
 abbrev pub held_in : Parts → CodeActivation → List Live → List Held
 held_in p a ls = map (λ l. record { variable = l.variable; value = value_in p a l.variable }) ls
 
+-- the variable that takes what a stop gives
+abbrev pub taker_of : Option Live → Option Variable
+taker_of None = None
+taker_of (Some l) = Some l.variable
+
 -- What a stop gives has come where the action is done and no variable waits for it any more.
 abbrev pub result_in : Parts → CodeActivation → Option Live → Option Variable → List Held
 result_in p a (Some l) None = held_in p a (l ∷ [])

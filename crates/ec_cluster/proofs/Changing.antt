@@ -1,7 +1,7 @@
 -- An object changes at its node.
 use Rattle.std.proofs.Common.{◌≡◌, ◌≢◌, ◌⊎◌, ℕ, zero, suc, ◌-◌, ◌<◌, List, Option, Some, None, refl, sym, ap, ◌∙◌, subst, arith, inl}
 use Rattle.std.proofs.Common.{inr, ⊎_elim}
-use Rattle.std.specs.Prelude.{IsSome, length, option_map, slice_get, slice_set}
+use Rattle.std.specs.Prelude.{IsSome, is_some, length, option_map, slice_get, slice_set}
 use Rattle.std.proofs.lemmas.Option.{same_Some}
 use Rattle.ec_cluster.proofs.Putting.{node_changes, put_shown, shown_there, with_node}
 use Rattle.ec_cluster.specs.Cluster.{CodeWorld, Shows, frame_of, place, stores}
@@ -22,6 +22,14 @@ some_is (Some a) h = (a, refl)
 
 pub before_suc : (i : ℕ) → suc i - 1 ≡ i
 before_suc i = omega arith
+
+-- an object that has a field is there
+pub has_object : (c : Cluster) (oid i : ℕ) → HasField c oid i → HasObject c oid
+has_object c oid i has = record {
+  node = has.node;
+  at = has.at;
+  kept = record { store = has.store; there = has.there; row = ap is_some has.is };
+}
 
 -- an object that is at a node is one of the world that is shown
 pub object_shown : (c : Cluster) (w : CodeWorld) (oid : ℕ) → HasObject c oid → Shows c w →

@@ -24,12 +24,15 @@ pub store_there : (k : ℕ) (x : Option NodeData) (s : Store) → option_map sto
 store_there k None s e = absurd cc
 store_there k (Some n) s e = (n, refl, cc)
 
+-- a node that keeps something is one of them
+pub is_node : (c : Cluster) (k : ℕ) (s : Store) → stores c k ≡ Some s → k < length c.nodes
+is_node c k s e = let x = store_there k (slice_get c.nodes k) s e in get_within c.nodes k x.0 x.1
+
 -- the node at which an object is is one of them
 pub node_there : (c : Cluster) (oid k : ℕ) → HasObject c oid → place c oid ≡ Some k → k < length c.nodes
 node_there c oid k has at =
     let same : has.node ≡ k = cc (has.at) in
-    let x = store_there has.node (slice_get c.nodes has.node) has.kept.store has.kept.there in
-    get_within c.nodes k x.0 (ap (slice_get c.nodes) (sym same) ∙ x.1)
+    is_node c k has.kept.store (ap (stores c) (sym same) ∙ has.kept.there)
 
 pub node_put : (nodes : List NodeData) (k : ℕ) (n n' : NodeData) → slice_get nodes k ≡ Some n →
     NodePut (stores_of nodes) (stores_of (slice_set nodes k n')) k (store_of n) (store_of n')

@@ -40,7 +40,6 @@ pub fn set_field(
     field: u32,
     value: &Value,
 ) -> Result<(), AllocError>
-    requires there { HasObject cluster.old oid }
     requires field { HasField cluster.old oid field }
     requires room { HasRoomAt cluster.old oid value.now }
     ensures changes { OnOk result (Changes (WhereIs cluster.old oid (λ text. value.now ≡ Str text)) cluster.old cluster.new) }

@@ -2,8 +2,7 @@
 use Rattle.std.proofs.Common.{◌≡◌, ◌≢◌, ◌<◌, ◌⊎◌, ℕ, List, Some, sym, ap, ◌∙◌, subst, inl, inr, ⊎_elim}
 use Rattle.std.specs.Prelude.{length, option_map, slice_get}
 use Rattle.std.proofs.lemmas.Option.{same_Some}
-use Rattle.ec_base.proofs.Lists.{get_within}
-use Rattle.ec_cluster.proofs.Putting.{node_changes, store_there, with_node}
+use Rattle.ec_cluster.proofs.Putting.{is_node, node_changes, with_node}
 use Rattle.ec_cluster.specs.Cluster.{place, stores}
 use Rattle.ec_cluster.specs.Steps.{Changes}
 use Rattle.ec_cluster.specs.declared.cluster.Cluster.{Cluster}
@@ -20,8 +19,7 @@ use Rattle.ec_world.specs.declared.value.Value.TheVariants.{Str}
 pub node_within : (c : Cluster) (own k : ℕ) → HasNode c own → place c own ≡ Some k → k < length c.nodes
 node_within c own k has at =
     let same : has.node ≡ k = (let h = has.at in cc) in
-    let x = store_there has.node (slice_get c.nodes has.node) has.store has.there in
-    get_within c.nodes k x.0 (ap (slice_get c.nodes) (sym same) ∙ x.1)
+    is_node c k has.store (ap (stores c) (sym same) ∙ has.there)
 
 module _ (c : Cluster) (operation own : ℕ) (arguments : List Value) (k : ℕ) (n n' : NodeData) (at : place c own ≡ Some k)
     (is : slice_get c.nodes k ≡ Some n) (t : OperationTable) (its : slice_get (tables_on c (store_of n).kind) operation ≡ Some t)

@@ -1,13 +1,11 @@
 -- An activation that rests in a world, at its node.
 use Rattle.std.proofs.Common.{◌≡◌, ◌<◌, ℕ, Option, Some, None, refl, sym, ap, ◌∙◌, subst}
 use Rattle.std.specs.Prelude.{length, option_map, slice_get}
-use Rattle.ec_base.proofs.Lists.{get_within}
-use Rattle.ec_cluster.proofs.Putting.{store_there}
+use Rattle.ec_cluster.proofs.Putting.{is_node}
 use Rattle.ec_cluster.specs.Cluster.{CodeWorld, frame_of, place, stores}
 use Rattle.ec_cluster.specs.Images.{homes_on}
 use Rattle.ec_cluster.specs.Steps.{HasPlace}
 use Rattle.ec_cluster.specs.declared.cluster.Cluster.{Cluster}
-use Rattle.ec_cluster_frames.proofs.Resting.{frame_is}
 use Rattle.ec_cluster_frames.proofs.Stacks.{frame_shown}
 use Rattle.ec_cluster_frames.specs.Frames.{RestsIn, RestsOn}
 use Rattle.ec_cluster_frames.specs.Stops.{RestsThere, SomeRests, SomeRestsHere, tables_for}
@@ -16,6 +14,7 @@ use Rattle.ec_code.specs.Typing.{Declared}
 use Rattle.ec_code.specs.declared.activation.CodeActivation.{CodeActivation}
 use Rattle.ec_code.specs.declared.code.Variable.{Variable}
 use Rattle.ec_code.specs.declared.code.Variable.TheVariants.{Named, Temporary}
+use Rattle.ec_node_frames.proofs.Shown.{shown_here}
 use Rattle.ec_node_frames.specs.Finishing.{RestsHere}
 use Rattle.ec_node_frames.specs.Frames.{IsFrame}
 use Rattle.ec_nodes.proofs.Procs.{activation_is}
@@ -51,8 +50,7 @@ module _ (d : Declared) (c : Cluster) (w : CodeWorld) (p depth : ℕ) (proc : Pr
     pub its_node : k < length c.nodes
     its_node =
         let same : shown_at.node ≡ k = (let h = shown_at.home in cc) in
-        let x = store_there shown_at.node (slice_get c.nodes shown_at.node) shown_at.store shown_at.there in
-        get_within c.nodes k x.0 (ap (slice_get c.nodes) (sym same) ∙ x.1)
+        is_node c k shown_at.store (ap (stores c) (sym same) ∙ shown_at.there)
 
     module _ (n : NodeData) (is : slice_get c.nodes k ≡ Some n) where
       pub rests_there : RestsThere d c.parts c.images (store_of n) p depth a e
@@ -63,7 +61,7 @@ module _ (d : Declared) (c : Cluster) (w : CodeWorld) (p depth : ℕ) (proc : Pr
       }
 
       pub in_frame : IsFrame (store_of n) p depth
-      in_frame = frame_is (store_of n) c.parts (homes_on c.images) p depth a rests_there.shown
+      in_frame = shown_here (store_of n) c.parts (homes_on c.images) p depth a rests_there.shown
 
       pub some_rests : SomeRests c.images (store_of n) p depth
       some_rests = record { declared = d; program = c.parts; activation = a; entry = e; rests = rests_there }

@@ -5,8 +5,7 @@ use Rattle.std.proofs.lemmas.Option.{same_Some}
 use Rattle.ec_cluster.specs.Cluster.{CodeWorld, Shows, frame_of, place, stores}
 use Rattle.ec_cluster.specs.Images.{homes_on}
 use Rattle.ec_cluster.specs.declared.cluster.Cluster.{Cluster}
-use Rattle.ec_cluster.proofs.Putting.{shown_there, store_there}
-use Rattle.ec_base.proofs.Lists.{get_within}
+use Rattle.ec_cluster.proofs.Putting.{is_node, shown_there}
 use Rattle.ec_cluster_frames.specs.Finding.{NoFrame, NoneBefore, TellsOf}
 use Rattle.ec_code.specs.declared.activation.CodeActivation.{CodeActivation}
 use Rattle.ec_code.specs.declared.code.Parts.{Parts}
@@ -26,16 +25,13 @@ use Rattle.ec_world.specs.declared.process.Proc.{Proc}
 use Rattle.std.proofs.Common.{List}
 
 -- a row of an activation has one block
-row_is_frame : (n : NodeData) (p depth : ℕ) → IsSome ((store_of n).row (Frame p depth)) → IsFrame (store_of n) p depth
-row_is_frame n p depth h = by (frame_in n.frames p depth) refl h
+pub here_is_frame : (n : NodeData) (p depth : ℕ) → IsSome ((store_of n).row (Frame p depth)) → IsFrame (store_of n) p depth
+here_is_frame n p depth h = by (frame_in n.frames p depth) refl h
   where
     by : (x : Option FrameRow) → frame_in n.frames p depth ≡ x → IsSome (option_map owned_frame (frame_in n.frames p depth)) →
         IsFrame (store_of n) p depth
     by None e g = absurd cc
     by (Some r) e g = record { row = owned_frame r; there = ap (option_map owned_frame) e; one = refl }
-
-pub here_is_frame : (n : NodeData) (p depth : ℕ) → IsSome ((store_of n).row (Frame p depth)) → IsFrame (store_of n) p depth
-here_is_frame n p depth h = row_is_frame n p depth h
 
 -- it is shown at this node
 pub tells_of : (c : Cluster) (k p depth : ℕ) (n : NodeData) (h : Headings) → slice_get c.nodes k ≡ Some n →
@@ -43,7 +39,7 @@ pub tells_of : (c : Cluster) (k p depth : ℕ) (n : NodeData) (h : Headings) →
     ((q : Parts) (homes : Kind → List (List Home)) (a : CodeActivation) →
     Shown (store_of n) (Frame p depth) (frame_thing q homes p depth a) → AreHeadings q a h) → TellsOf c p depth h
 tells_of c k p depth n h is row headings w proc a shows is_proc there =
-    let frame = row_is_frame n p depth row in
+    let frame = here_is_frame n p depth row in
     let stands : stores c k ≡ Some (store_of n) = ap (option_map store_of) is in
     let z = shows.things_stand.only k (store_of n) (Frame p depth) frame.row stands frame.there in
     let thing : things_of (frame_of c) w (Frame p depth) ≡ Some (frame_of c p depth a) =
@@ -67,6 +63,5 @@ one_more_without c p depth k n before is none j s l e = ⊎_elim
 
 pub none_at_all : (c : Cluster) (p depth count : ℕ) → NoneBefore c p depth count → length c.nodes ≤ count → NoFrame c p depth
 none_at_all c p depth count before all k s e =
-    let x = store_there k (slice_get c.nodes k) s e in
-    let l = get_within c.nodes k x.0 x.1 in
+    let l = is_node c k s e in
     before k s (omega arith) e

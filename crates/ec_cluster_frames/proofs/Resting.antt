@@ -3,7 +3,8 @@ use Rattle.std.proofs.Common.{◌≡◌, ℕ, zero, suc, ◌+◌, ◌==◌, Bool
 use Rattle.std.proofs.Common.{arith}
 use Rattle.std.specs.Prelude.{if◌then◌else◌, slice_get}
 use Rattle.std.proofs.lemmas.Option.{same_Some}
-use Rattle.ec_activations.specs.Frames.{Numbered, at_place, entries_if, frame_thing, number_if, stop_of}
+use Rattle.ec_activations.proofs.Frames.{all_two_at}
+use Rattle.ec_activations.specs.Frames.{Numbered, at_place, entries_if, number_if, stop_of}
 use Rattle.ec_code.specs.Activations.{operation_at}
 use Rattle.ec_code.specs.Typing.{Declared}
 use Rattle.ec_code.specs.declared.activation.CodeActivation.{CodeActivation}
@@ -11,29 +12,12 @@ use Rattle.ec_code.specs.declared.code.Operation.{Operation}
 use Rattle.ec_code.specs.declared.code.Parts.{Parts}
 use Rattle.ec_faithful.specs.Frames.{slots}
 use Rattle.ec_homes.specs.declared.homes.Home.{Home}
-use Rattle.ec_node_frames.specs.Finishing.{RestsHere}
-use Rattle.ec_node_frames.specs.Frames.{HasTables, IsFrame, RestsAt}
-use Rattle.ec_nodes.specs.declared.key.Key.TheVariants.{Frame}
+use Rattle.ec_node_frames.specs.Frames.{HasTables, RestsAt}
 use Rattle.ec_stop_tables.specs.Entries.{entries_of}
 use Rattle.ec_stop_tables.specs.Tables.{IsTableOf}
 use Rattle.ec_stop_tables.specs.declared.table.OperationTable.{OperationTable}
 use Rattle.ec_stop_tables.specs.declared.table.StopEntry.{StopEntry}
-use Rattle.ec_things.specs.Store.{Store}
-use Rattle.ec_things.specs.Things.{Shown}
-use Rattle.ec_world.specs.Agree.{AllTwo}
 use Rattle.ec_world.specs.declared.node.Kind.{Kind}
-
-all_two_at : {A B : Type 0} (R : A → B → Type 0) (xs : List A) (ys : List B) (i : ℕ) (x : A) → AllTwo R xs ys → slice_get xs i ≡ Some x →
-    (y : B) × (slice_get ys i ≡ Some y) × R x y
-all_two_at R [] ys i x all e = absurd cc
-all_two_at R (z ∷ xs) [] i x all e = absurd all
-all_two_at R (z ∷ xs) (y ∷ ys) zero x all e = (y, refl, subst (λ w. R w y) (same_Some z x e) all.0)
-all_two_at R (z ∷ xs) (y ∷ ys) (suc i) x all e = all_two_at R xs ys i x all.1 e
-
--- an activation is in a frame of one block
-pub frame_is : (s : Store) (p : Parts) (homes : Kind → List (List Home)) (process depth : ℕ) (a : CodeActivation) →
-    Shown s (Frame process depth) (frame_thing p homes process depth a) → IsFrame s process depth
-frame_is s p homes process depth a shown = record { row = shown.row; there = shown.there; one = shown.spells.counted }
 
 -- the stop at a place stands at its number
 pub record StandsAt (n : ℕ) (es : List StopEntry) (s : Numbered) : Type 0 where

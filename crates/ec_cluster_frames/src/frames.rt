@@ -1,5 +1,6 @@
 //! Steps on activations at the nodes of their own objects.
 ghost use Rattle.std.specs.Prelude.{◌≡◌, ◌++◌, [], ◌∷◌, length, List, OnOk, Some, option_copied, slice_get, slice_set};
+ghost use Rattle.ec_activations.specs.Frames.{taker_of};
 ghost use Rattle.ec_cluster.specs.Cluster.{CodeWorld, Shows};
 ghost use Rattle.ec_cluster.specs.Steps.{Changes, Nothing, WhereIs};
 ghost use Rattle.ec_cluster_frames.specs.Frames.{BeginsWith, CanBegin, FrameAt, HasImages, HasRoomFor, RestsIn, RestsOn};
@@ -37,7 +38,7 @@ pub fn finish(
         Changes (WhereIs cluster.old own (IsTaken e.result (option_copied given.entry))) cluster.old cluster.new) }
     ensures directory { cluster.new.directory ≡ cluster.old.directory }
     ensures shows { OnOk result ((d : Declared) (w : CodeWorld) (proc : Proc CodeActivation) (a : CodeActivation) (e : StopEntry)
-        (status : ProcStatus) → RestsIn d cluster.old w process depth proc a e → a.own ≡ own →
+        (status : ProcStatus) → RestsIn d cluster.old w process depth proc a e → a.own ≡ own → a.into ≡ taker_of e.result →
         Shows cluster.new (with_stack w process (slice_set proc.activations depth (finished a (option_copied given.entry))) status)) }
 {
     let k = node_of(cluster, own);

@@ -2,7 +2,8 @@
 use Rattle.std.proofs.Common.{◌≡◌, ◌≢◌, ℕ, zero, suc, false, List, [], ◌++◌, Option, Some, None, refl, sym, ap, ◌∙◌, subst, arith}
 use Rattle.std.specs.Prelude.{slice_get}
 use Rattle.ec_activations.proofs.Stops.{mapped}
-use Rattle.ec_activations.specs.Frames.{Held, frame_thing, held_in, held_of, or_nil, result_in, value_in, variable_word}
+use Rattle.ec_activations.specs.Frames.{Held, frame_thing, held_in, held_of, or_nil, result_in, taker_of, value_in}
+use Rattle.ec_activations.specs.Frames.{variable_word}
 use Rattle.ec_code.specs.Activations.{finished, into_variable, variables_behind}
 use Rattle.ec_code.specs.declared.activation.CodeActivation.{CodeActivation}
 use Rattle.ec_code.specs.declared.code.Live.{Live}
@@ -14,7 +15,7 @@ use Rattle.ec_node_frames.proofs.Changes.{Rewritten, word_rewritten, word_there}
 use Rattle.ec_node_frames.proofs.Homed.{word_from_eight}
 use Rattle.ec_node_frames.proofs.Rewriting.{IsDone, IsThere, held_now, live_stood, rewritten_puts, still_stands}
 use Rattle.ec_node_frames.specs.Finishing.{FinishesFrame}
-use Rattle.ec_node_frames.specs.Frames.{RestsAt, variable_of}
+use Rattle.ec_node_frames.specs.Frames.{RestsAt}
 use Rattle.ec_nodes.specs.declared.key.Key.TheVariants.{Frame}
 use Rattle.ec_stop_tables.specs.declared.table.OperationTable.{OperationTable}
 use Rattle.ec_stop_tables.specs.declared.table.StopEntry.{StopEntry}
@@ -39,13 +40,14 @@ same_value p a (Named n) = ap (λ (vs : List Value). or_nil (slice_get vs n)) (s
 same_value p a (Temporary d) = refl
 
 -- what waits has nothing yet
-still_waits : (p : Parts) (a : CodeActivation) (r : Option Live) (into : Option Variable) → into ≡ variable_of r → result_in p a r into ≡ []
+still_waits : (p : Parts) (a : CodeActivation) (r : Option Live) (into : Option Variable) → into ≡ taker_of r → result_in p a r into ≡ []
 still_waits p a None into e = refl
 still_waits p a (Some l) into e = ap (result_in p a (Some l)) e
 
 module _ (s s' : Store) (process depth : ℕ) (writes : WritesWord s s' (Frame process depth) 4 0) (tidy : Tidy s') (p : Parts)
     (homes : Kind → List (List Home)) (a : CodeActivation)
-    (shown : Shown s (Frame process depth) (frame_thing p homes process depth a)) (e : StopEntry) (rests : RestsAt p a e) where
+    (shown : Shown s (Frame process depth) (frame_thing p homes process depth a)) (e : StopEntry) (rests : RestsAt p a e)
+    (waits : a.into ≡ taker_of e.result) where
   abbrev Kept : ℕ → Type 0
   Kept j = j ≢ 4
 
@@ -58,7 +60,7 @@ module _ (s s' : Store) (process depth : ℕ) (writes : WritesWord s s' (Frame p
   held_ended : held_of p (ended a) ≡ held_in p (ended a) e.live
   held_ended =
       held_now p a (ended a) (ended_is_done a) e rests
-      ∙ ap (λ (hs : List Held). hs ++ held_in p (ended a) e.live) (still_waits p (ended a) e.result a.into rests.into)
+      ∙ ap (λ (hs : List Held). hs ++ held_in p (ended a) e.live) (still_waits p (ended a) e.result a.into waits)
 
   each : (i : ℕ) (h : Held) → slice_get (held_of p (ended a)) i ≡ Some h →
       IsThere s s' process depth p homes a (ended a) Kept re tidy shown (ended_is_done a) (λ j l ne. ne) zero_there h
@@ -85,14 +87,14 @@ module _ (s s' : Store) (process depth : ℕ) (writes : WritesWord s s' (Frame p
 -- nothing is given
 pub nothing_given : (s s' : Store) (process depth : ℕ) → WritesWord s s' (Frame process depth) 4 0 → Tidy s' → (table : OperationTable)
     (e : StopEntry) → FinishesFrame s s' table e process depth None
-nothing_given s s' process depth writes tidy table e d p homes tables a here =
-    ended_puts s s' process depth writes tidy p homes a here.shown e here.rests
+nothing_given s s' process depth writes tidy table e d p homes tables a here waits =
+    ended_puts s s' process depth writes tidy p homes a here.shown e here.rests waits
 
 -- nothing waits for what is given
 pub nothing_waits : (s s' : Store) (process depth : ℕ) → WritesWord s s' (Frame process depth) 4 0 → Tidy s' → (table : OperationTable)
     (e : StopEntry) (v : Value) → e.result ≡ None → FinishesFrame s s' table e process depth (Some v)
-nothing_waits s s' process depth writes tidy table e v none d p homes tables a here =
-    let into : a.into ≡ None = here.rests.into ∙ ap variable_of none in
+nothing_waits s s' process depth writes tidy table e v none d p homes tables a here waits =
+    let into : a.into ≡ None = waits ∙ ap taker_of none in
     let is : finished a (Some v) ≡ ended a = ap (λ x. into_variable a x v) into in
     subst (λ (b : CodeActivation). Puts s s' (Frame process depth) (Some (frame_thing p homes process depth b))) (sym is)
-    (ended_puts s s' process depth writes tidy p homes a here.shown e here.rests)
+    (ended_puts s s' process depth writes tidy p homes a here.shown e here.rests waits)

@@ -5,7 +5,8 @@ use Rattle.std.specs.Prelude.{slice_get, slice_set}
 use Rattle.std.proofs.lemmas.Option.{same_Some}
 use Rattle.ec_activations.proofs.Stops.{in_list, mapped}
 use Rattle.ec_activations.proofs.ValueByValue.{one_word_one_value}
-use Rattle.ec_activations.specs.Frames.{Held, frame_thing, held_in, held_of, or_nil, result_in, value_in, variable_word, word_if}
+use Rattle.ec_activations.specs.Frames.{Held, frame_thing, held_in, held_of, or_nil, result_in, taker_of, value_in, variable_word}
+use Rattle.ec_activations.specs.Frames.{word_if}
 use Rattle.ec_base.proofs.Lists.{get_set_other, get_set_same}
 use Rattle.ec_code.specs.Activations.{finished, into_variable, variables_behind, variables_if, with_result}
 use Rattle.ec_code.specs.Typing.{Declared}
@@ -23,7 +24,6 @@ use Rattle.ec_node_frames.proofs.Homed.{behind_eight, has_spot, homes_of, its_op
 use Rattle.ec_node_frames.proofs.Items.{get_map, put_beside, put_here}
 use Rattle.ec_node_frames.proofs.Rewriting.{IsDone, IsThere, held_now, live_stood, rewritten_puts, still_stands}
 use Rattle.ec_node_frames.specs.Finishing.{FinishesFrame, Gives, IsTaken, RestsHere}
-use Rattle.ec_node_frames.specs.Frames.{variable_of}
 use Rattle.ec_nodes.specs.declared.key.Key.TheVariants.{Frame}
 use Rattle.ec_objects.proofs.Gets.{gets_on, gets_word}
 use Rattle.ec_objects.specs.Values.{HasWord}
@@ -233,8 +233,8 @@ module _ (s m t s' : Store) (process depth : ℕ) (table : OperationTable) (e : 
     given_puts = rewritten_puts s s' process depth p homes a next Kept re tidy here.shown done keeps ended each
 
   goes_on : FinishesFrame s s' table e process depth (Some v)
-  goes_on d p homes tables a here =
-      let into : a.into ≡ Some l.variable = here.rests.into ∙ ap variable_of result in
+  goes_on d p homes tables a here waits =
+      let into : a.into ≡ Some l.variable = waits ∙ ap taker_of result in
       let is : finished a (Some v) ≡ with_result a l.variable v = ap (λ y. into_variable a y v) into in
       subst (λ (b : CodeActivation). Puts s s' (Frame process depth) (Some (frame_thing p homes process depth b))) (sym is)
       (given_puts d p homes tables a here)

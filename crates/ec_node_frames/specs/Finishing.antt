@@ -1,6 +1,6 @@
 -- What an action that is done leaves in the frame of its activation.
 use Rattle.std.specs.Prelude.{◌≡◌, ℕ, ◌<◌, List, Option, Some, None, slice_get}
-use Rattle.ec_activations.specs.Frames.{frame_thing}
+use Rattle.ec_activations.specs.Frames.{frame_thing, taker_of}
 use Rattle.ec_code.specs.Activations.{finished}
 use Rattle.ec_code.specs.Typing.{Declared}
 use Rattle.ec_code.specs.declared.activation.CodeActivation.{CodeActivation}
@@ -27,11 +27,13 @@ pub record RestsHere (s : Store) (table : OperationTable) (e : StopEntry) (proce
   pub has : HasTables d p s.kind homes tables
   pub its : slice_get tables a.operation ≡ Some table
 
--- Whatever activation is shown there, it is the same one with its action done, and nothing else has changed.
+-- Whatever activation is shown there and waits for what the stop gives, it is the same one with its action done, and nothing else has
+-- changed.
 abbrev pub FinishesFrame : Store → Store → OperationTable → StopEntry → ℕ → ℕ → Option Value → Type 0
 FinishesFrame s s' table e process depth given =
     (d : Declared) (p : Parts) (homes : Kind → List (List Home)) (tables : List OperationTable) (a : CodeActivation) →
     RestsHere s table e process depth d p homes tables a →
+    a.into ≡ taker_of e.result →
     Puts s s' (Frame process depth) (Some (frame_thing p homes process depth (finished a given)))
 
 -- what is given has room, where the stop has a variable for it

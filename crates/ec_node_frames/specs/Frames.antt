@@ -5,9 +5,7 @@ use Rattle.ec_code.specs.Activations.{operation_at, variables_if}
 use Rattle.ec_code.specs.Fine.{Fine}
 use Rattle.ec_code.specs.Typing.{Declared}
 use Rattle.ec_code.specs.declared.activation.CodeActivation.{CodeActivation}
-use Rattle.ec_code.specs.declared.code.Live.{Live}
 use Rattle.ec_code.specs.declared.code.Parts.{Parts}
-use Rattle.ec_code.specs.declared.code.Variable.{Variable}
 use Rattle.ec_code_limits.specs.Limits.{HasLimits}
 use Rattle.ec_faithful.specs.Frames.{slots}
 use Rattle.ec_homes.specs.declared.homes.Home.{Home}
@@ -43,14 +41,8 @@ pub record AreHeadings (p : Parts) (a : CodeActivation) (h : Headings) : Type 0 
   pub pending : h.pending ≡ a.pending
   pub own : h.own ≡ a.own
 
--- the variable that takes what a stop gives
-abbrev pub variable_of : Option Live → Option Variable
-variable_of None = None
-variable_of (Some l) = Some l.variable
-
--- An activation rests at a stop, and waits for what this gives. Behind its entry all named variables are there.
+-- An activation rests at a stop. Behind its entry all named variables are there.
 pub record RestsAt (p : Parts) (a : CodeActivation) (e : StopEntry) : Type 0 where
   pub number : ℕ
   pub is : stop_of p a ≡ Some (record { number = number; entry = e })
-  pub into : a.into ≡ variable_of e.result
   pub named : 0 < a.at → length (variables_if (operation_at p a.operation)) ≤ length a.variables

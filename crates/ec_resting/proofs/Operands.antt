@@ -2,7 +2,7 @@
 use Rattle.std.proofs.Common.{◌≡◌, ℕ, true, List, [], ◌∷◌, Option, Some, None, refl, sym, ap, ◌∙◌, map}
 use Rattle.std.specs.Prelude.{slice_get}
 use Rattle.ec_activations.proofs.Words.{typed_variable}
-use Rattle.ec_activations.specs.Frames.{Held, held_in, or_nil, value_in}
+use Rattle.ec_activations.specs.Frames.{Held, held_in, or_nil, taker_of, value_in}
 use Rattle.ec_code.specs.Activations.{variables_behind}
 use Rattle.ec_code.specs.Fine.{GoesOn, IsTaken}
 use Rattle.ec_code.specs.Steps.{with_itself}
@@ -15,7 +15,7 @@ use Rattle.ec_code.specs.declared.code.Variable.{Variable}
 use Rattle.ec_code.specs.declared.code.Variable.TheVariants.{Named, Temporary}
 use Rattle.ec_conform.specs.declared.static_type.StaticType.{StaticType}
 use Rattle.ec_liveness.specs.Live.{stays}
-use Rattle.ec_resting.specs.Laws.{its_entry, variable_of}
+use Rattle.ec_resting.specs.Laws.{its_entry}
 use Rattle.ec_sound.specs.Sound.{RestsAt, SoundPending}
 use Rattle.ec_sound.specs.Values.{AreHeld, held}
 use Rattle.ec_stop_tables.specs.Entries.{result_of, typed}
@@ -80,14 +80,14 @@ module _ (d : Declared) (p : Parts) (number : ℕ) (o : Operation) (T : Type 0) 
   going (stop.Fail why line) e h = absurd cc
 
 taken : (d : Declared) (p : Parts) (into : Option Variable) (gives : Option StaticType) → IsTaken d p gives into →
-    into ≡ variable_of (result_of into gives)
+    into ≡ taker_of (result_of into gives)
 taken d p None None h = refl
 taken d p None (Some t) h = refl
 taken d p (Some x) None h = absurd h
 taken d p (Some x) (Some t) h = refl
 
 pub waits_for : (d : Declared) (p : Parts) (objects : List ObjectRec) (a : CodeActivation) (r : RestsAt d p objects a) →
-    a.into ≡ r.row.into → stays r.row.stop ≡ true → a.into ≡ variable_of (its_entry d p objects a r).result
+    a.into ≡ r.row.into → stays r.row.stop ≡ true → a.into ≡ taker_of (its_entry d p objects a r).result
 waits_for d p objects a r into goes =
     let behind = going d p a.operation r.of _ r.row.stop goes r.typed.behind in
     into ∙ taken d p r.row.into r.row.gives behind.0

@@ -1,16 +1,14 @@
 -- What holds of each activation of a sound world: its stop, its operands, and what it waits for, by the stop table of its operation.
 use Rattle.std.specs.Prelude.{◌≡◌, ℕ, true, List, map, Option, Some, None}
-use Rattle.ec_activations.specs.Frames.{held_in, stop_of}
+use Rattle.ec_activations.specs.Frames.{held_in, stop_of, taker_of}
 use Rattle.ec_code.specs.Fine.{Fine}
 use Rattle.ec_code.specs.Typing.{Declared}
 use Rattle.ec_code.specs.Steps.{with_itself}
 use Rattle.ec_code.specs.declared.activation.CodeActivation.{CodeActivation}
 use Rattle.ec_code.specs.declared.code.Line.{Line}
-use Rattle.ec_code.specs.declared.code.Live.{Live}
 use Rattle.ec_code.specs.declared.code.Operation.{Operation}
 use Rattle.ec_code.specs.declared.code.Parts.{Parts}
 use Rattle.ec_code.specs.declared.code.StopRow.{StopRow}
-use Rattle.ec_code.specs.declared.code.Variable.{Variable}
 use Rattle.ec_liveness.specs.Live.{stays}
 use Rattle.ec_sound.specs.Sound.{RestsAt, SoundPending}
 use Rattle.ec_stop_tables.specs.Entries.{entry_of}
@@ -34,12 +32,8 @@ OperandsAreHeld =
     a.operands ≡ with_itself h.rests.row.on_itself a.own
     (map (λ x. x.value) (held_in p a (its_entry d p objects a h.rests).operands))
 
-abbrev pub variable_of : Option Live → Option Variable
-variable_of None = None
-variable_of (Some l) = Some l.variable
-
 -- Where code goes on, what is said to wait is the variable of the entry's result.
 abbrev pub WaitsForTheResult : Type 0
 WaitsForTheResult =
     (d : Declared) (p : Parts) (objects : List ObjectRec) (a : CodeActivation) (r : RestsAt d p objects a) → a.into ≡ r.row.into →
-    stays r.row.stop ≡ true → a.into ≡ variable_of (its_entry d p objects a r).result
+    stays r.row.stop ≡ true → a.into ≡ taker_of (its_entry d p objects a r).result

@@ -2,7 +2,7 @@
 use Rattle.std.proofs.Common.{◌≡◌, ℕ, List, ap}
 use Rattle.std.specs.Prelude.{option_map}
 use Rattle.ec_cluster.proofs.Answered.{on_ok}
-use Rattle.ec_cluster.proofs.Changing.{field_step, object_changes}
+use Rattle.ec_cluster.proofs.Changing.{field_step, has_object, object_changes}
 use Rattle.ec_cluster.proofs.objects.set_field.Goals as goal
 use Rattle.ec_stores.specs.Node.{store_of}
 use Rattle.ec_world.specs.Outcomes.{with_element}
@@ -21,5 +21,5 @@ returns-clause-changes c = on_ok c.set_field.result
 pub returns-clause-shows : goal.returns-clause-shows
 returns-clause-shows c = on_ok c.set_field.result
     (λ puts w shows. field_step c.args.cluster.now c.args.oid c.node_of-k.result c.at_mut.result.now c.set_field.new.node c.args.field
-    c.node_of-k.ensures c.at_mut.ensures.value c.requires.field (with_element c.args.field c.args.value.now) puts c.requires.there w shows)
+    c.node_of-k.ensures c.at_mut.ensures.value c.requires.field (with_element c.args.field c.args.value.now) puts (has_object c.args.cluster.now c.args.oid c.args.field c.requires.field) w shows)
     c.set_field.ensures.puts

@@ -1,6 +1,7 @@
 -- The activation is finished at its node.
 use Rattle.std.proofs.Common.{◌≡◌, ℕ, List, Option, Some, ap, ◌∙◌, subst, sym}
 use Rattle.std.specs.Prelude.{OnOk, Ok, Err, Result, option_copied, option_map, slice_get}
+use Rattle.ec_activations.specs.Frames.{taker_of}
 use Rattle.ec_cluster.proofs.Answered.{on_ok}
 use Rattle.ec_cluster.proofs.Changing.{object_changes}
 use Rattle.ec_cluster.specs.Cluster.{place}
@@ -88,7 +89,7 @@ returns-clause-changes c = on_ok c.finish_frame.result
 
 pub returns-clause-shows : goal.returns-clause-shows
 returns-clause-shows c = on_ok c.finish_frame.result
-    (λ puts d w proc a e status r own.
+    (λ puts d w proc a e status r own waits.
     let cluster = c.args.cluster.now in
     let at = ap (place cluster) own ∙ c.node_of-k.ensures in
     let there = rests_there d cluster w c.args.process c.args.depth proc a e r c.node_of-k.result at c.at_mut-node.result.now
@@ -103,5 +104,6 @@ returns-clause-shows c = on_ok c.finish_frame.result
     frame_became cluster c.node_of-k.result c.at_mut-node.result.now c.finish_frame.new.node w c.at_mut-node.ensures.value r.shows
     c.args.process proc r.is_proc status c.args.depth a (finished a (option_copied c.args.given)) r.there
     (finished_own a (option_copied c.args.given)) at
-    (puts d cluster.parts (homes_on cluster.images) (tables_for cluster.images (store_of c.at_mut-node.result.now)) a entry_here))
+    (puts d cluster.parts (homes_on cluster.images) (tables_for cluster.images (store_of c.at_mut-node.result.now)) a entry_here
+    (subst (λ (x : StopEntry). a.into ≡ taker_of x.result) (sym same) waits)))
     c.finish_frame.ensures.puts
