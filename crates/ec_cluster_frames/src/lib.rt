@@ -3,4 +3,4 @@
 
 pub mod finding;
 pub mod frames;
-mod stops;
+pub mod stops;

@@ -18,7 +18,7 @@ use ec_stores::node::NodeStore;
 use ec_world::value::Pid;
 
 /// The table of the operation of an activation that is here.
-pub(crate) fn table_of<'a>(
+pub fn table_of<'a>(
     images: &'a Images,
     node: &NodeStore,
     process: Pid,
@@ -38,7 +38,7 @@ pub(crate) fn table_of<'a>(
 }
 
 /// The stop at which an activation that is here rests, by the table of its operation.
-pub(crate) fn entry_of<'a>(
+pub fn entry_of<'a>(
     table: &'a OperationTable,
     node: &NodeStore,
     process: Pid,

@@ -2,7 +2,6 @@
 #![tactic(auto)]
 
 pub mod doings;
-mod kinds;
 pub mod laws;
 mod links;
 mod searching;

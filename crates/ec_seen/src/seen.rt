@@ -8,7 +8,6 @@ ghost use Rattle.ec_stores.specs.Node.{store_of};
 ghost use Rattle.ec_world.specs.Objects.{object_at};
 ghost use Rattle.ec_world.specs.Sights.{sight_of};
 
-use crate::kinds::element_kind;
 use crate::searching::members;
 use ec_base::list::Seq;
 use ec_cluster::cluster::Cluster;
@@ -111,7 +110,7 @@ impl<'a> Sees for Seen<'a> {
             return Ok(None);
         }
         let word = node.object_word(oid, index);
-        Ok(Some(value_of(node, element_kind(of), word)?))
+        Ok(Some(value_of(node, of.elements(), word)?))
     }
 
     fn is_fixed(&self, oid: Oid) -> bool {

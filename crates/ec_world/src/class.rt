@@ -24,6 +24,23 @@ pub struct VectorType {
     pub of: PlainType,
 }
 
+impl VectorType {
+    /// What the elements of such a vector are.
+    pub fn elements(self) -> ValueType
+        ensures { result ≡ spec.element_kind self }
+    {
+        if self.inner > 0 {
+            return ValueType::Reference;
+        }
+        match self.of {
+            PlainType::Integer => ValueType::Integer,
+            PlainType::Boolean => ValueType::Boolean,
+            PlainType::Bytes => ValueType::Bytes,
+            PlainType::Any | PlainType::Node | PlainType::Named(_) => ValueType::Reference,
+        }
+    }
+}
+
 /// The class of an object: that of nodes, that of the program's own object, a class or object constructor by its place
 /// among these in the source, from 0, or that of the vectors of a type.
 #[derive(Clone, Copy, PartialEq, Eq, Debug)]

@@ -1,11 +1,10 @@
 //! New objects.
 ghost use Rattle.std.specs.Prelude.{◌≡◌, ◌++◌, drop, replicate, IfOk, OnOk};
-ghost use Rattle.ec_world.specs.Objects as objects;
 ghost use Rattle.ec_world.specs.Objects.{class_at};
 ghost use Rattle.ec_world.specs.Outcomes as spec;
 ghost use Rattle.ec_world.specs.Values.{default_of, field_defaults};
 
-use crate::class::{ClassNo, ClassRec, FieldRec, PlainType, VectorType};
+use crate::class::{ClassNo, ClassRec, FieldRec, VectorType};
 use crate::common::Common;
 use crate::doing::Outcome;
 use crate::event::Event;
@@ -66,7 +65,7 @@ impl Common {
     {
         self.objects.push(ObjectRec {
             class: ClassNo::Vector(of),
-            fields: defaults(alloc, element_kind(of), size)?,
+            fields: defaults(alloc, of.elements(), size)?,
             fixed: false,
             monitor: None,
         })?;
@@ -103,21 +102,6 @@ fn push_defaults(
         values.push(fields.at(i).of.default_value(alloc))?;
     }
     Ok(())
-}
-
-/// What the elements of a vector are.
-fn element_kind(of: VectorType) -> ValueType
-    ensures { result ≡ objects.element_kind of }
-{
-    if of.inner > 0 {
-        return ValueType::Reference;
-    }
-    match of.of {
-        PlainType::Integer => ValueType::Integer,
-        PlainType::Boolean => ValueType::Boolean,
-        PlainType::Bytes => ValueType::Bytes,
-        PlainType::Any | PlainType::Node | PlainType::Named(_) => ValueType::Reference,
-    }
 }
 
 /// So many defaults of a type.

@@ -14,7 +14,7 @@ returns-then-index-object c =
 pub returns : goal.returns
 returns c =
     let read =
-    ap (λ (kind : ValueType). value_of (store_of c.in-Some.node.now) kind c.object_word-word.result) (sym c.element_kind.ensures)
+    ap (λ (kind : ValueType). value_of (store_of c.in-Some.node.now) kind c.object_word-word.result) (sym c.elements.ensures)
     ∙ c.in_ok-value_of.ensures in
     sym (element_seen c.args.self.now c.args.oid (store_of c.in-Some.node.now) c.in-Some.object c.in-Some.ensures.some c.in-Vector.of
     c.args.index c.object_word-word.result c.in_ok-value_of.field-0 c.in-Vector.is c.object_word-word.ensures c.if-index-object.false read)
