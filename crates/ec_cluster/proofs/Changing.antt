@@ -110,5 +110,6 @@ object_changes c oid k n n' Added at is gets = node_changes c k n n' (WhereIs c 
             inl x)
             (λ (x : WhereIs c oid Added k text). inr x.1) h),
       );
+      stay = gets.stay;
     })
     (λ j text ne x. ne (let e = x.0 in cc))

@@ -50,6 +50,7 @@ nothing_got s = record {
   text_room = refl;
   count = refl;
   texts = λ text. (λ h. inl h, λ h. ⊎_elim (λ (x : InPool s text). x) (λ (x : ⊥). absurd x) h);
+  stay = λ i text e. e;
 }
 
 -- The node gets texts, and no other one does.
@@ -77,6 +78,7 @@ node_changes c k n n' Added is gets elsewhere = record {
           text_room = refl;
           count = refl;
           texts = λ text. (λ h. inl h, λ h. ⊎_elim (λ (x : InPool s text). x) (λ (x : Added j text). absurd (elsewhere j text ne x)) h);
+          stay = λ i text e. e;
         },
       ))
       (same_or_not j k);

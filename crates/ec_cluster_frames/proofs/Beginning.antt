@@ -54,5 +54,6 @@ module _ (c : Cluster) (operation own : ℕ) (arguments : List Value) (k : ℕ) 
               (λ (new : BeginsWith c operation own arguments k text). inr (its_texts text new))
               h),
         );
+        stay = gets.stay;
       })
       (λ j text ne b. ne (let f = b.at in cc))

@@ -126,4 +126,5 @@ none_got s s' Added none rest = record {
     λ h. inl (h.0, sym (rest.text h.0) ∙ h.1),
     λ h. ⊎_elim (λ (x : InPool s text). (x.0, rest.text x.0 ∙ x.1)) (λ (x : Added text). absurd (none text x)) h,
   );
+  stay = λ i text e. rest.text i ∙ e;
 }

@@ -255,6 +255,7 @@ taken_text s s' (Some k) l v e gets = record {
   text_room = gets.text_room;
   count = gets.count;
   texts = gets.texts;
+  stay = gets.stay;
 }
 
 pub texts_given : (s s' : Store) (process depth at : ℕ) (t : Option Live) (l : Live) (v : Value) → t ≡ Some l →

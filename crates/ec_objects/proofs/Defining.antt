@@ -44,4 +44,5 @@ module _ (s m s' : Store) (i w : ℕ) (v : Value) (has : HasWord s m v w) (write
       λ h. (has.texts text).0 (h.0, sym (writes.text h.0) ∙ h.1),
       λ h. let p = (has.texts text).1 h in (p.0, writes.text p.0 ∙ p.1),
     );
+    stay = λ j t e. writes.text j ∙ has.only.grown.text j t e;
   }

@@ -15,6 +15,7 @@ gets_word s s' v w has = record {
   text_room = has.only.grown.text_room;
   count = has.only.count;
   texts = has.texts;
+  stay = has.only.grown.text;
 }
 
 pub gets_words : (s s' : Store) (values : List Value) (words : List ℕ) → HasWords s s' values words →
@@ -25,6 +26,7 @@ gets_words s s' values words has = record {
   text_room = has.only.grown.text_room;
   count = has.only.count;
   texts = has.texts;
+  stay = has.only.grown.text;
 }
 
 -- and then no more
@@ -38,4 +40,5 @@ gets_on s m s' Added gets rest = record {
     λ h. (gets.texts text).0 (h.0, sym (rest.text h.0) ∙ h.1),
     λ h. let p = (gets.texts text).1 h in (p.0, rest.text p.0 ∙ p.1),
   );
+  stay = λ i text e. rest.text i ∙ gets.stay i text e;
 }

@@ -25,6 +25,7 @@ no_texts_got s s' rest = record {
     λ h. inl (h.0, sym (rest.text h.0) ∙ h.1),
     λ h. ⊎_elim (λ (x : InPool s text). (x.0, rest.text x.0 ∙ x.1)) (λ (x : ⊥). absurd x) h,
   );
+  stay = λ i text e. rest.text i ∙ e;
 }
 
 module _ (s s' : Store) (oid : ℕ) (now : Owned → Owned) (sets : SetsRow s s' (Object oid) now) (tidy : Tidy s')

@@ -16,13 +16,16 @@ InPool s text = (i : ℕ) × (s.text i ≡ Some text)
 abbrev pub NoTexts : List ℕ → Type 0
 NoTexts text = ⊥
 
--- A node has the texts that it had and those that were added; its kind, its room and its count are as they were.
+-- A node has the texts that it had and those that were added, and each text keeps its place; its kind, its room and its
+-- count are as they were.
 pub record GetsTexts (Added : List ℕ → Type 0) (s s' : Store) : Type 0 where
   pub kind : s'.kind ≡ s.kind
   pub room : s'.room ≡ s.room
   pub text_room : s'.text_room ≡ s.text_room
   pub count : s'.count ≡ s.count
   pub texts : (text : List ℕ) → InPool s' text ↔ (InPool s text ⊎ Added text)
+  -- each text keeps its place
+  pub stay : (i : ℕ) (text : List ℕ) → s.text i ≡ Some text → s'.text i ≡ Some text
 
 -- a text is a value of a thing whose home is at node k
 pub record IsHeld (things : Key → Option Thing) (place : ℕ → Option ℕ) (k : ℕ) (text : List ℕ) : Type 0 where
