@@ -1,0 +1,5 @@
+pub mod Stacks
+pub mod Objects
+pub mod Effects
+pub mod Steps
+pub mod Worlds

@@ -1,0 +1,3 @@
+pub mod Systems
+pub mod Acting
+pub mod Steps

@@ -1,0 +1,7 @@
+//! Types of live variables in lowered code.
+ghost use Rattle.ec_typed_once.specs.Laws.{LoweredIsTypedOnce};
+
+/// A live variable has one type on each line of a program that some source is lowered to.
+pub fn lowered_is_typed_once()
+    ensures { LoweredIsTypedOnce }
+{}
