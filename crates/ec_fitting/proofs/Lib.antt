@@ -1,0 +1,11 @@
+pub mod Keeping
+pub mod Entries
+pub mod Shown
+pub mod Waiting
+pub mod Asking
+pub mod Finishing
+pub mod Sections
+pub mod Calls
+pub mod Blocks
+pub mod Doings
+pub mod Roomy

@@ -1,0 +1,4 @@
+pub mod Fitting
+pub mod Room
+pub mod Waiters
+pub mod Laws

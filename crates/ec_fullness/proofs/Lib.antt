@@ -1,0 +1,15 @@
+pub mod Acting
+pub mod Stacks
+pub mod Blocks
+pub mod Objects
+pub mod Values
+pub mod Begun
+pub mod Effects
+pub mod Waiting
+pub mod Needs
+pub mod Fields
+pub mod Doings
+pub mod Changes
+pub mod Asked
+pub mod Verdicts
+pub mod Telling

@@ -1,0 +1,87 @@
+//! What the node of an object lacks for a new activation on it.
+ghost use Rattle.std.specs.Prelude.{◌≡◌, ◌∷◌, ℕ, map, slice_get, IfOk, Some};
+ghost use Rattle.ec_cluster.specs.Cluster.{place, stores};
+ghost use Rattle.ec_cluster_frames.specs.Frames.{HasNode, tables_on};
+ghost use Rattle.ec_fullness.specs.Told.{Tells};
+ghost use Rattle.ec_node_frames.specs.Beginning as spec;
+ghost use Rattle.ec_node_frames.specs.Beginning.{HasEntry};
+ghost use Rattle.ec_stop_tables.specs.declared.table.OperationTable.{OperationTable as Table};
+ghost use Rattle.ec_things.specs.Store.{Store};
+ghost use Rattle.ec_world.specs.declared.node.Kind.{Kind};
+ghost use Rattle.ec_world.specs.declared.value.Value.TheVariants.{Ref};
+
+use ec_cluster::cluster::Cluster;
+use ec_cluster::objects::node_of;
+use ec_code::code::{Live, Variable};
+use ec_needs::lacks::lack_of;
+use ec_nodes::room::Lack;
+use ec_stop_tables::table::OperationTable;
+use ec_world::value::{Oid, OpNo, Value};
+use std::alloc::{AllocError, Global};
+
+/// What the node of an object lacks for a new activation of an operation on it, with these arguments: a block, and room for the texts that
+/// it holds at its entry. The error is that of `lack_of`.
+pub(crate) fn lack_to_start(
+    cluster: &Cluster,
+    alloc: Global,
+    operation: OpNo,
+    own: Oid,
+    arguments: &[Value],
+) -> Result<Option<Lack>, AllocError>
+    requires own { HasNode cluster.now own }
+    requires entry { (kind : Kind) → (table : Table) × (slice_get (tables_on cluster.now kind) operation ≡ Some table) × HasEntry table }
+    ensures { IfOk result (λ r. (k : ℕ) (s : Store) (table : Table) → place cluster.now own ≡ Some k → stores cluster.now k ≡ Some s →
+        slice_get (tables_on cluster.now s.kind) operation ≡ Some table →
+        Tells cluster.now own 1 (spec.first_values table own arguments.now) r) }
+{
+    let k = node_of(cluster, own);
+    let node = cluster.nodes.at(k as usize);
+    let image = cluster.images.of(node.kind());
+    let table = image.table.operations.at(operation as usize);
+    let live = first_held(alloc, table)?;
+    let values = first_values(alloc, live.as_slice(), own, arguments)?;
+    lack_of(k, node, alloc, 1, values.as_slice())
+}
+
+/// The variables that hold something at the entry.
+fn first_held(alloc: Global, table: &OperationTable) -> Result<Vec<Live>, AllocError>
+    requires { HasEntry table.now }
+    ensures { IfOk result (λ held. held.items ≡ spec.first_held table.now) }
+{
+    let entry = table.stops.at(0);
+    let mut held = Vec::from_slice(alloc, entry.operands.as_slice())?;
+    held.extend_from_slice(entry.live.as_slice())?;
+    Ok(held)
+}
+
+/// What a variable holds at the entry: a parameter its argument, all else nil.
+fn first_value(arguments: &[Value], x: Variable) -> Result<Value, AllocError>
+    ensures { IfOk result (λ v. v ≡ spec.first_value arguments.now x) }
+{
+    match x {
+        Variable::Named(n) => match arguments.get(n as usize) {
+            Some(value) => value.copy(),
+            None => Ok(Value::Nil),
+        },
+        Variable::Temporary(_) => Ok(Value::Nil),
+    }
+}
+
+/// The reference to the own object, and what each of these variables holds at the entry.
+fn first_values(
+    alloc: Global,
+    held: &[Live],
+    own: Oid,
+    arguments: &[Value],
+) -> Result<Vec<Value>, AllocError>
+    ensures { IfOk result
+        (λ values. values.items ≡ Ref own ∷ map (λ l. spec.first_value arguments.now l.variable) held.now) }
+{
+    let mut values = Vec::new(alloc);
+    values.push(Value::Ref(own))?;
+    for live in held {
+        let value = first_value(arguments, live.variable)?;
+        values.push(value)?;
+    }
+    Ok(values)
+}

@@ -1,0 +1,16 @@
+pub mod Stacking
+pub mod Wording
+pub mod Readied
+pub mod Doing
+pub mod Holding
+pub mod Dropped
+pub mod Owning
+pub mod Unfailing
+pub mod Finished
+pub mod Effected
+pub mod Closing
+pub mod Taken
+pub mod Mirrored
+pub mod Freed
+pub mod Following
+pub mod Settled
