@@ -1,0 +1,4 @@
+pub mod Carrying
+pub mod Stops
+pub mod Wording
+pub mod Arriving

@@ -1,0 +1,4 @@
+pub mod Carried
+pub mod Arriving
+pub mod Loops
+pub mod Laws

@@ -1,0 +1,12 @@
+pub mod Walked
+pub mod Touched
+pub mod Tops
+pub mod Ranging
+pub mod Stepping
+pub mod Showing
+pub mod Shown
+pub mod Mirrored
+pub mod Counting
+pub mod Placed
+pub mod Idling
+pub mod Keeping

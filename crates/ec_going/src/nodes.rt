@@ -1,0 +1,45 @@
+//! Native code of an activation at its node, on a machine of the node's kind.
+ghost use Rattle.ec_going.specs.Nodes.{EachHasGoneOn, SomeSteps};
+ghost use Rattle.ec_stores.specs.Node.{store_of};
+
+use ec_cluster::cluster::Images;
+use ec_legs::legs;
+use ec_native_kinds::mips::MipsKind;
+use ec_native_kinds::riscv::RiscvKind;
+use ec_stores::node::NodeStore;
+use ec_world::node::Kind;
+use ec_world::value::Pid;
+use mips_machine::machine::MipsMachine;
+use rv_machine::machine::RvMachine;
+
+/// Runs the native code of an activation that is here, by the image for the node's kind, to the next stop. Answers how many instructions
+/// come before that stop.
+pub(crate) fn run_here(node: &mut NodeStore, images: &Images, process: Pid, depth: u32) -> u64
+    requires { SomeSteps images.now (store_of node.old) process depth }
+    ensures { EachHasGoneOn images.now (store_of node.old) (store_of node.new) process depth result }
+{
+    match node.kind() {
+        Kind::Riscv => {
+            let image = &images.riscv;
+            legs::go_on::<RvMachine, RiscvKind>(
+                &RiscvKind,
+                node,
+                &image.code,
+                &image.table,
+                process,
+                depth,
+            )
+        }
+        Kind::Mips => {
+            let image = &images.mips;
+            legs::go_on::<MipsMachine, MipsKind>(
+                &MipsKind,
+                node,
+                &image.code,
+                &image.table,
+                process,
+                depth,
+            )
+        }
+    }
+}

@@ -1,0 +1,14 @@
+pub mod Keeping
+pub mod Interning
+pub mod Defaults
+pub mod Starting
+pub mod Setting
+pub mod Making
+pub mod Holding
+pub mod Entering
+pub mod Beginning
+pub mod Freshly
+pub mod Rooms
+pub mod Going
+pub mod Arriving
+pub mod Running

@@ -1,0 +1,4 @@
+pub mod Worlds
+pub mod Fresh
+pub mod Loading
+pub mod Loaded

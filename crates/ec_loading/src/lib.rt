@@ -1,0 +1,6 @@
+//! Nodes on which a program begins.
+#![tactic(auto)]
+
+mod fresh;
+pub mod load;
+mod objects;

@@ -1,0 +1,6 @@
+pub mod Told
+pub mod Tops
+pub mod Standing
+pub mod Turned
+pub mod Loading
+pub mod Networks

@@ -1,0 +1,57 @@
+-- What has been loaded stands in its first world.
+use Rattle.std.proofs.Common.{◌<◌, List, [], sym, ap, ◌∙◌, subst}
+use Rattle.std.specs.Prelude.{length, slice_get}
+use Rattle.ec_asking.specs.Typed.{IsTypedOnce}
+use Rattle.ec_base.proofs.Lists.{get_there}
+use Rattle.ec_cluster.proofs.Putting.{is_node}
+use Rattle.ec_cluster.specs.Images.{homes_on}
+use Rattle.ec_cluster.specs.declared.cluster.Images.{Images}
+use Rattle.ec_code.specs.Fine.{Fine}
+use Rattle.ec_code.specs.Typing.{Declared}
+use Rattle.ec_code.specs.declared.code.Parts.{Parts}
+use Rattle.ec_going.specs.Going.{HasCode, HasLiterals}
+use Rattle.ec_idle.proofs.Worlds.{run_idle}
+use Rattle.ec_idle.specs.Idle.{OfClasses}
+use Rattle.ec_legs.specs.Legs.{IsCodeOf}
+use Rattle.ec_loading.specs.Loaded.{Loaded}
+use Rattle.ec_loading.specs.Worlds.{world_first}
+use Rattle.ec_nodes_running.specs.Networks.{AreCode, CanRun}
+use Rattle.ec_nodes_running.specs.Standing.{Stands}
+use Rattle.ec_ranges.specs.Code.{SmallProgram}
+use Rattle.ec_system.specs.Systems.{Runs}
+use Rattle.ec_system.specs.declared.system.System.{System}
+use Rattle.ec_world.specs.declared.node.Kind.TheVariants.{Riscv, Mips}
+use Rattle.ec_world.specs.declared.node.NodeSpec.{NodeSpec}
+use Rattle.mips_words.specs.Meaning.{mips_meaning}
+use Rattle.rv_words.specs.Meaning.{rv_meaning}
+
+module _ (p : Parts) (images : Images) (specs : List NodeSpec) (s : System) (loaded : Loaded p images specs s) where
+  -- what is said of the program and its images is said of those of the nodes
+  there : (P : Parts → Images → Type 0) → P p images → P s.cluster.parts s.cluster.images
+  there P h = subst (λ q. P q s.cluster.images) (sym loaded.parts) (subst (λ i. P p i) (sym loaded.images_are) h)
+
+  code_there : (d : Declared) → AreCode d p images → HasCode d s.cluster
+  code_there d code = record {
+    riscv = there (λ q i. IsCodeOf rv_meaning i.riscv.code i.riscv.table d q (homes_on i)) (code Riscv);
+    mips = there (λ q i. IsCodeOf mips_meaning i.mips.code i.mips.table d q (homes_on i)) (code Mips);
+  }
+
+  literals_there : HasLiterals s.cluster
+  literals_there k i store text at is =
+      let within : k < length specs = subst (λ n. k < n) loaded.nodes (is_node s.cluster k store at) in
+      let spec = get_there specs k within in
+      (loaded.sizes k spec.0 store spec.1 at).texts i ∙ ap (λ (q : Parts). slice_get q.literals i) (sym loaded.parts) ∙ is
+
+  pub stands_first : (d : Declared) → CanRun p images specs → Runs d s (world_first (length specs) p) → AreCode d p images →
+      Stands d s (world_first (length specs) p)
+  stands_first d can runs code = record {
+    goes = record {
+      runs = runs;
+      idle = run_idle d p (subst (Fine d) loaded.parts runs.steady.fine) (length specs) [];
+      typed = subst IsTypedOnce (sym loaded.parts) can.typed;
+    };
+    code = code_there d code;
+    literals = literals_there;
+    small = subst SmallProgram (sym loaded.parts) can.small;
+    classes = subst OfClasses (sym loaded.parts) can.classes;
+  }

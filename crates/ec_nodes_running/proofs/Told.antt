@@ -1,0 +1,15 @@
+-- What an answer tells.
+use Rattle.std.proofs.Common.{Option, Some, None}
+use Rattle.std.specs.Prelude.{IfNone, IfSome}
+
+pub if_none : {X P Q : Type 0} (r : Option X) → (P → Q) → IfNone r P → IfNone r Q
+if_none None f h = f h
+if_none (Some x) f h = tt
+
+pub if_some : {X : Type 0} {P Q : X → Type 0} (r : Option X) → ((x : X) → P x → Q x) → IfSome r P → IfSome r Q
+if_some None f h = tt
+if_some (Some x) f h = f x h
+
+pub is_none : {X : Type 0} (P : Type 0) (r : Option X) → P → IfNone r P
+is_none P None h = h
+is_none P (Some x) h = tt

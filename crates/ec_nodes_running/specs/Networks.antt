@@ -1,0 +1,91 @@
+-- A network: a system that stands in some world, or none once it is spent.
+use Rattle.std.specs.Prelude.{◌≡◌, ℕ, List, length, Option, Some, None, IsSome, option_map, slice_get}
+use Rattle.ec_cluster.specs.Cluster.{CodeWorld, stores}
+use Rattle.ec_cluster.specs.declared.cluster.Images.{Images}
+use Rattle.ec_code.specs.Typing.{Declared}
+use Rattle.ec_code.specs.declared.activation.CodeActivation.{CodeActivation}
+use Rattle.ec_code.specs.declared.code.Parts.{Parts}
+use Rattle.ec_asking.specs.Typed.{IsTypedOnce}
+use Rattle.ec_going.specs.Nodes.{IsCodeFor}
+use Rattle.ec_idle.specs.Idle.{OfClasses}
+use Rattle.ec_loading.specs.Loaded.{AreImages, Loaded}
+use Rattle.ec_loading.specs.Loading.{CanLoad}
+use Rattle.ec_loading.specs.Worlds.{world_first}
+use Rattle.ec_nodes_running.specs.Standing.{Stands, StandsInSome}
+use Rattle.ec_nodes_running.specs.Turns.{RefusedIn, TurnedIn}
+use Rattle.ec_nodes_running.specs.declared.turns.Did.{Did}
+use Rattle.ec_nodes_running.specs.declared.turns.TurnError.{TurnError}
+use Rattle.ec_nodes_running.specs.declared.turns.TurnError.TheVariants.{Full, Memory}
+use Rattle.ec_ranges.specs.Code.{SmallProgram}
+use Rattle.ec_system.specs.declared.system.System.{System}
+use Rattle.ec_things.specs.Store.{Store}
+use Rattle.ec_world.specs.declared.node.Kind.{Kind}
+use Rattle.ec_world.specs.declared.node.NodeSpec.{NodeSpec}
+use Rattle.ec_world.specs.declared.process.Proc.{Proc}
+use Rattle.ec_world.specs.declared.process.ProcStatus.{ProcStatus}
+
+-- what a network is to its callers
+abbrev pub Net : Type 0
+Net = Option System
+
+-- if it is not spent, it stands in some world
+abbrev pub IsStanding : Net → Type 0
+IsStanding None = Unit {0}
+IsStanding (Some s) = StandsInSome s
+
+-- of each world in which it stands
+abbrev pub ForStanding : Net → (Declared → System → CodeWorld → Type 0) → Type 0
+ForStanding net P = (d : Declared) (s : System) (w : CodeWorld) → net ≡ Some s → Stands d s w → P d s w
+
+-- ---- turns
+
+-- a system that is there now, of which this is told
+pub record Now (net : Net) (P : System → Type 0) : Type 0 where
+  pub system : System
+  pub is : net ≡ Some system
+  pub told : P system
+
+abbrev pub NetTurned : Net → Net → ℕ → Did → Type 0
+NetTurned old new p did = ForStanding old (λ d s w. Now new (λ t. TurnedIn d s t w p did))
+
+-- want of memory spends a network, and a spent one meets nothing else
+abbrev pub NetRefused : Net → Net → ℕ → TurnError → Type 0
+NetRefused old new p (Full lack) = IsSome old × ForStanding old (λ d s w. Now new (λ t. RefusedIn s t w p (Full lack)))
+NetRefused old new p (Memory e) = new ≡ None
+
+-- ---- the load
+
+-- on each kind the images are the code of the program
+abbrev pub AreCode : Declared → Parts → Images → Type 0
+AreCode d p images = (kind : Kind) → IsCodeFor d p images kind
+
+-- A program can be loaded with its images, which are its code; what its code has is in range, and each live variable has one type.
+pub record CanRun (p : Parts) (images : Images) (specs : List NodeSpec) : Type 0 where
+  pub loads : CanLoad p images specs
+  pub code : AreCode loads.declared p images
+  pub small : SmallProgram p
+  pub classes : OfClasses p
+  pub typed : IsTypedOnce p
+
+-- The program is loaded, and the system stands in its first world.
+pub record NetLoaded (p : Parts) (images : Images) (specs : List NodeSpec) (net : Net) : Type 0 where
+  pub start : System
+  pub is : net ≡ Some start
+  pub loaded : Loaded p images specs start
+  pub stands : (d : Declared) → AreImages d p images → AreCode d p images → Stands d start (world_first (length specs) p)
+
+-- ---- what is read
+
+-- the status of a process, where it is there
+abbrev pub status_at : CodeWorld → ℕ → Option ProcStatus
+status_at w p = option_map (λ (q : Proc CodeActivation). q.status)
+    (slice_get w.processes p)
+
+abbrev pub count_if : Option Store → ℕ
+count_if None = 0
+count_if (Some s) = s.count
+
+-- how many instructions a node has run; none where it is not there, or the network is spent
+abbrev pub counts_of : Net → ℕ → ℕ
+counts_of None k = 0
+counts_of (Some s) k = count_if (stores s.cluster k)

@@ -1,0 +1,131 @@
+//! A network of nodes: what its callers may ask of it.
+ghost use Rattle.std.specs.Prelude.{◌≡◌};
+
+use crate::turning;
+use crate::turns::{Did, TurnError};
+use ec_cluster::cluster::Images;
+use ec_code::code::Parts;
+use ec_loading::load as loading;
+use ec_loading::load::LoadError;
+use ec_system::system::System;
+use ec_world::node::NodeSpec;
+use ec_world::process::ProcStatus;
+use ec_world::value::{NodeNo, Pid, Text};
+use std::alloc::{AllocError, Global};
+use std::marker::Model;
+
+/// Nodes that run a program: its actions by the kernel, and all code between stops on the nodes' own machines.
+#[derive(Drop)]
+pub struct Network {
+    system: Option<System>,
+}
+
+impl Model for Network {
+    ghost use Rattle.ec_nodes_running.specs.Networks.{IsStanding, Net};
+
+    ghost Value = { Net };
+
+    ghost view = { λ n. n.system };
+
+    ghost invariant = { λ n. IsStanding n.system };
+}
+
+impl Network {
+    ghost use Rattle.std.specs.Prelude.{IfErr, IfOk, IsSome, Some, is_some, length};
+    ghost use Rattle.ec_loading.specs.Loaded.{WhenFull};
+    ghost use Rattle.ec_loading.specs.Loading.{LacksFirst, first_needs};
+    ghost use Rattle.ec_nodes_running.specs.Networks.{CanRun, ForStanding, NetLoaded, NetRefused, NetTurned, counts_of, status_at};
+    ghost use Rattle.ec_nodes_running.specs.Standing.{StandsInSome};
+
+    /// Loads a program with its images onto 1 to 64 nodes of these kinds and sizes (at most 65,536 blocks and 16,777,216 bytes of text), so
+    /// that process 0 is about to run operation 0. The error is what the first node that lacks room for that lacks, blocks before text; or
+    /// want of memory, which literals of 2^64 bytes or more are too.
+    pub fn load(
+        alloc: Global,
+        parts: Parts,
+        images: Images,
+        specs: &[NodeSpec],
+    ) -> Result<Network, LoadError>
+        requires { CanRun parts images specs.now }
+        ensures loaded { IfOk result (λ net. NetLoaded parts images specs.now net) }
+        ensures full { WhenFull result (LacksFirst (first_needs parts images (length specs.now)) specs.now) }
+    {
+        match loading::load(alloc, parts, images, specs) {
+            Ok(system) => Ok(Network {
+                system: Some(system),
+            }),
+            Err(e) => Err(e),
+        }
+    }
+
+    /// Whether no turn has met want of memory. Then it stands in some world.
+    pub fn is_whole(&self) -> bool
+        ensures { result ≡ is_some self.now }
+    {
+        self.system.is_some()
+    }
+
+    /// A turn of a process: the action of the stop at which it rests, then machine code up to the next stop. A move is only told of. Where
+    /// a node lacks room, the least one that does is told, blocks before text, and nothing has changed. Want of memory spends the network,
+    /// and a spent one answers nothing else.
+    pub fn turn(&mut self, alloc: Global, p: Pid) -> Result<Did, TurnError>
+        ensures turned { IfOk result (λ did. IsSome self.old × NetTurned self.old self.new p did) }
+        ensures refused { IfErr result (λ e. NetRefused self.old self.new p e) }
+    {
+        let Some(system) = &mut self.system else {
+            return Err(TurnError::Memory(AllocError));
+        };
+        match turning::turn(system, alloc, p) {
+            Ok(did) => Ok(did),
+            Err(TurnError::Full(lack)) => Err(TurnError::Full(lack)),
+            Err(TurnError::Memory(e)) => {
+                self.system = None;
+                Err(TurnError::Memory(e))
+            }
+        }
+    }
+
+    /// What has been printed.
+    pub fn output(&self) -> &Text
+        requires whole { IsSome self.now }
+        ensures { ForStanding self.now (λ d s w. result.now ≡ w.common.output) }
+    {
+        &self.standing().output
+    }
+
+    /// What a process may do, where it is there.
+    pub fn process(&self, p: Pid) -> Option<ProcStatus>
+        requires whole { IsSome self.now }
+        ensures { ForStanding self.now (λ d s w. result ≡ status_at w p) }
+    {
+        match self.standing().processes.get(p as usize) {
+            Some(row) => Some(row.status),
+            None => None,
+        }
+    }
+
+    /// How many instructions a node has run, up to 2^64 - 1; 0 where it is not there, or the network is spent.
+    pub fn count_of(&self, k: NodeNo) -> u64
+        ensures { result ≡ counts_of self.now k }
+    {
+        match &self.system {
+            Some(system) => match system.cluster.nodes.get(k as usize) {
+                Some(node) => node.count(),
+                None => 0,
+            },
+            None => 0,
+        }
+    }
+
+    /// The system of a network that is not spent.
+    fn standing(&self) -> &System
+        requires whole { IsSome self.now }
+        ensures is { self.now ≡ Some result.now }
+        ensures stands { StandsInSome result.now }
+    {
+        match &self.system {
+            Some(system) => system,
+            None => unreachable!(),
+        }
+    }
+}

@@ -1,0 +1,61 @@
+//! A turn of a process on the nodes of a system.
+ghost use Rattle.std.specs.Prelude.{IfErr, IfOk};
+ghost use Rattle.ec_cluster.specs.Cluster.{CodeWorld};
+ghost use Rattle.ec_code.specs.Typing.{Declared};
+ghost use Rattle.ec_nodes_running.specs.Running.{AfterAction};
+ghost use Rattle.ec_nodes_running.specs.Standing.{Stands, StandsInSome};
+ghost use Rattle.ec_nodes_running.specs.Turns.{RefusedIn, TurnedIn};
+
+use crate::running::run_on;
+use crate::turns::{Did, TurnError};
+use ec_kernel::acting::act;
+use ec_kernel::acts::{ActError, Acted};
+use ec_system::system::System;
+use ec_world::value::Pid;
+use std::alloc::Global;
+
+/// The action of the stop at which a process rests, and then the code behind it up to the next stop. A move is only told of. Where a node
+/// lacks room, that is told, and nothing has changed.
+pub(crate) fn turn(system: &mut System, alloc: Global, p: Pid) -> Result<Did, TurnError>
+    requires { StandsInSome system.old }
+    ensures turned { IfOk result (λ did. (d : Declared) (w : CodeWorld) → Stands d system.old w →
+        TurnedIn d system.old system.new w p did) }
+    ensures refused { IfErr result (λ e. (d : Declared) (w : CodeWorld) → Stands d system.old w →
+        RefusedIn system.old system.new w p e) }
+{
+    match act(system, alloc, p) {
+        Ok(Acted::Idle) => match run_on(system, p) {
+            Some(steps) => Ok(Did::Acted { steps }),
+            None => Ok(Did::Idle),
+        },
+        Ok(Acted::Done) => Ok(Did::Acted {
+            steps: run_if_done(system, p),
+        }),
+        Ok(
+            Acted::Moves {
+                who,
+                members,
+                target,
+                fixes,
+            },
+        ) => Ok(Did::Moves {
+            who,
+            members,
+            target,
+            fixes,
+        }),
+        Err(ActError::Full(lack)) => Err(TurnError::Full(lack)),
+        Err(ActError::Memory(e)) => Err(TurnError::Memory(e)),
+    }
+}
+
+/// The code behind a stop up to the next one, where the process may go on. Answers how many instructions have been run.
+fn run_if_done(system: &mut System, p: Pid) -> u64
+    requires { StandsInSome system.old }
+    ensures { (d : Declared) (w : CodeWorld) → Stands d system.old w → AfterAction d system.old system.new w p result }
+{
+    match run_on(system, p) {
+        Some(steps) => steps,
+        None => 0,
+    }
+}
