@@ -7,6 +7,7 @@ pub mod Showing
 pub mod Shown
 pub mod Mirrored
 pub mod Counting
+pub mod Native
 pub mod Placed
 pub mod Idling
 pub mod Keeping

@@ -9,6 +9,7 @@ use Rattle.ec_faithful.specs.Stops.{words_of}
 use Rattle.ec_legs.specs.Legs.{IsCodeOf}
 use Rattle.ec_liveness.specs.Live.{stays}
 use Rattle.ec_nodes.specs.Things.{blocks_of}
+use Rattle.ec_stores.specs.Node.{NodeData}
 use Rattle.ec_system.specs.Acting.{IsTop}
 use Rattle.ec_system.specs.Systems.{Runs}
 use Rattle.ec_system.specs.declared.system.System.{System}
@@ -20,6 +21,7 @@ use Rattle.ec_world.specs.declared.object.ObjectRec.{ObjectRec}
 use Rattle.ec_world.specs.declared.process.ProcStatus.TheVariants.{Ready}
 use Rattle.mips_words.specs.Meaning.{mips_meaning}
 use Rattle.rv_words.specs.Meaning.{rv_meaning}
+use Rattle.ec_going.specs.Nodes.{RunsOn}
 
 -- ---- what is asked
 
@@ -91,3 +93,15 @@ abbrev pub IsFew : Cluster → CodeActivation → ℕ → Type 0
 IsFew c a count =
     (k : ℕ) (s : Store) → place c a.own ≡ Some k → stores c k ≡ Some s →
     count ≤ suc (words_of (image_of c.images s.kind).code a.operation)
+
+-- The node of an object has run the image for its kind, on a machine of this kind, for the activation of a process at a depth, from one
+-- stop to the next, in so many instructions. Every other node is as it was.
+pub record RanNatively (c c' : Cluster) (process depth own count : ℕ) : Type 0 where
+  pub node : ℕ
+  pub at : place c own ≡ Some node
+  pub before : NodeData
+  pub after : NodeData
+  pub was : slice_get c.nodes node ≡ Some before
+  pub now : slice_get c'.nodes node ≡ Some after
+  pub runs : RunsOn before.kind c.images before after process depth count
+  pub others : (j : ℕ) → j ≢ node → slice_get c'.nodes j ≡ slice_get c.nodes j

@@ -1,3 +1,3 @@
-pub mod Going
 pub mod Nodes
+pub mod Going
 pub mod Laws

@@ -6,12 +6,16 @@ use Rattle.ec_code.specs.Typing.{Declared}
 use Rattle.ec_code.specs.declared.activation.CodeActivation.{CodeActivation}
 use Rattle.ec_code.specs.declared.code.Parts.{Parts}
 use Rattle.ec_legs.specs.Legs.{CanStep, IsCodeOf, Leg, ShowsAll}
+use Rattle.ec_legs.specs.Runs.{RunsNatively}
+use Rattle.ec_stores.specs.Node.{NodeData}
 use Rattle.ec_things.specs.Store.{Store}
 use Rattle.ec_world.specs.declared.common.Common.{Common}
 use Rattle.ec_world.specs.declared.node.Kind.{Kind}
 use Rattle.ec_world.specs.declared.node.Kind.TheVariants.{Riscv, Mips}
 use Rattle.ec_world.specs.declared.object.ObjectRec.{ObjectRec}
+use Rattle.mips_machine.specs.Machine.{mips_goes, mips_stops}
 use Rattle.mips_words.specs.Meaning.{mips_meaning}
+use Rattle.rv_machine.specs.Machine.{rv_goes, rv_stops}
 use Rattle.rv_words.specs.Meaning.{rv_meaning}
 
 -- the image for a kind is the code and the stop table of a program
@@ -40,3 +44,10 @@ abbrev pub EachHasGoneOn : Images → Store → Store → ℕ → ℕ → ℕ �
 EachHasGoneOn images s s' process depth k =
     (d : Declared) (p : Parts) (c : Common) (a : CodeActivation) (o : ObjectRec) → StepsThere d p images c a o s process depth →
     Leg (image_of images s.kind).code p (homes_on images) c a s s' process depth k
+
+-- The image for a kind was run on a machine of this kind, as the kind's table of instructions says.
+abbrev pub RunsOn : Kind → Images → NodeData → NodeData → ℕ → ℕ → ℕ → Type 0
+RunsOn Riscv images before after process depth k =
+    RunsNatively rv_meaning rv_goes rv_stops images.riscv.code images.riscv.table before after process depth k
+RunsOn Mips images before after process depth k =
+    RunsNatively mips_meaning mips_goes mips_stops images.mips.code images.mips.table before after process depth k

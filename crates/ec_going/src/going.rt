@@ -1,10 +1,10 @@
 //! A process of a system goes on to its next stop.
-ghost use Rattle.std.specs.Prelude.{◌≡◌, List};
+ghost use Rattle.std.specs.Prelude.{◌≡◌, List, length};
 ghost use Rattle.ec_cluster.specs.Cluster.{CodeWorld};
 ghost use Rattle.ec_code.specs.Activations.{code_meaning, code_silent};
 ghost use Rattle.ec_code.specs.Typing.{Declared};
 ghost use Rattle.ec_code.specs.declared.activation.CodeActivation.{CodeActivation};
-ghost use Rattle.ec_going.specs.Going.{GoesIn, GoesInSome, IsFew, Ran};
+ghost use Rattle.ec_going.specs.Going.{GoesIn, GoesInSome, IsFew, Ran, RanNatively};
 ghost use Rattle.ec_system.specs.Systems.{Mirrors};
 ghost use Rattle.ec_world.specs.World.{GoOn};
 
@@ -25,6 +25,9 @@ pub fn go_on(system: &mut System, process: Pid) -> u64
         GoesIn d system.old w process below top → Ran system.old.cluster system.new.cluster top.own result }
     ensures few { (d : Declared) (w : CodeWorld) (below : List CodeActivation) (top : CodeActivation) →
         GoesIn d system.old w process below top → IsFew system.old.cluster top result }
+    ensures native { (d : Declared) (w : CodeWorld) (below : List CodeActivation) (top : CodeActivation) →
+        GoesIn d system.old w process below top →
+        RanNatively system.old.cluster system.new.cluster process (length below) top.own result }
     ensures parts { system.new.cluster.parts ≡ system.old.cluster.parts }
     ensures images { system.new.cluster.images ≡ system.old.cluster.images }
     ensures directory { system.new.cluster.directory ≡ system.old.cluster.directory }

@@ -1,5 +1,5 @@
 //! Native code of an activation at its node, on a machine of the node's kind.
-ghost use Rattle.ec_going.specs.Nodes.{EachHasGoneOn, SomeSteps};
+ghost use Rattle.ec_going.specs.Nodes.{EachHasGoneOn, RunsOn, SomeSteps};
 ghost use Rattle.ec_stores.specs.Node.{store_of};
 
 use ec_cluster::cluster::Images;
@@ -16,7 +16,8 @@ use rv_machine::machine::RvMachine;
 /// come before that stop.
 pub(crate) fn run_here(node: &mut NodeStore, images: &Images, process: Pid, depth: u32) -> u64
     requires { SomeSteps images.now (store_of node.old) process depth }
-    ensures { EachHasGoneOn images.now (store_of node.old) (store_of node.new) process depth result }
+    ensures leg { EachHasGoneOn images.now (store_of node.old) (store_of node.new) process depth result }
+    ensures native { RunsOn node.old.kind images.now node.old node.new process depth result }
 {
     match node.kind() {
         Kind::Riscv => {

@@ -2,3 +2,4 @@ pub mod Kinds
 pub mod Words
 pub mod Machines
 pub mod Legs
+pub mod Runs

@@ -1,5 +1,6 @@
 //! Native code from a stop to the next.
 ghost use Rattle.ec_legs.specs.Legs.{CanGoOn, HasGoneOn};
+ghost use Rattle.ec_legs.specs.Runs.{RunsNatively};
 ghost use Rattle.ec_stores.specs.Node.{store_of};
 
 use crate::kind::NativeKind;
@@ -21,7 +22,8 @@ pub fn go_on<M: Machine + Drop, N: NativeKind<M>>(
     depth: u32,
 ) -> u64
     requires { CanGoOn N.meaning code.now table.now (store_of node.old) process depth }
-    ensures { HasGoneOn N.meaning code.now table.now (store_of node.old) (store_of node.new) process depth result }
+    ensures leg { HasGoneOn N.meaning code.now table.now (store_of node.old) (store_of node.new) process depth result }
+    ensures native { RunsNatively N.meaning M.goes M.stops code.now table.now node.old node.new process depth result }
 {
     let _before = node.runs_on();
     let _tidy = node.kind();

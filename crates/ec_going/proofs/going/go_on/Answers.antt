@@ -4,10 +4,12 @@ use Rattle.ec_cluster.specs.Cluster.{place}
 use Rattle.ec_cluster.specs.Images.{image_of}
 use Rattle.ec_cluster.specs.Steps.{HasPlace}
 use Rattle.ec_going.proofs.Counting.{has_run, is_few}
+use Rattle.ec_going.proofs.Native.{ran_natively}
 use Rattle.ec_going.proofs.Placed.{depth_is, has_frame, is_there, its_leg, own_is, own_object, own_object_is, own_place, some_steps}
 use Rattle.ec_going.proofs.Mirrored.{goes_mirrored}
 use Rattle.ec_going.proofs.Showing.{place_of}
 use Rattle.ec_going.proofs.going.go_on.Goals as goal
+use Rattle.ec_going.specs.Nodes.{RunsOn}
 use Rattle.ec_stores.specs.Node.{store_of}
 
 pub unreachable-requires : goal.unreachable-requires
@@ -56,7 +58,7 @@ returns-clause-mirrors c = λ d w below top g.
     goes_mirrored system k n c.run_here.new.node w c.at_mut-node.ensures.value g.runs.mirrors c.args.process below top g.is at number.0
     number.1 o number.2 (image_of system.cluster.images (store_of n).kind).code c.run_here.result
     (its_leg d system w c.args.process below top g k n c.run_here.new.node _ c.run_here.result at c.at_mut-node.ensures.value depth
-    c.run_here.ensures)
+    c.run_here.ensures.leg)
 
 pub returns-clause-counts : goal.returns-clause-counts
 returns-clause-counts c = λ d w below top g.
@@ -69,7 +71,7 @@ returns-clause-counts c = λ d w below top g.
     has_run system.cluster k n c.run_here.new.node c.at_mut-node.ensures.value w.common top at c.args.process (length below)
     c.run_here.result
     (its_leg d system w c.args.process below top g k n c.run_here.new.node _ c.run_here.result at c.at_mut-node.ensures.value depth
-    c.run_here.ensures)
+    c.run_here.ensures.leg)
 
 pub returns-clause-few : goal.returns-clause-few
 returns-clause-few c = λ d w below top g.
@@ -82,4 +84,16 @@ returns-clause-few c = λ d w below top g.
     is_few system.cluster k n c.run_here.new.node c.at_mut-node.ensures.value w.common top at c.args.process (length below)
     c.run_here.result
     (its_leg d system w c.args.process below top g k n c.run_here.new.node _ c.run_here.result at c.at_mut-node.ensures.value depth
-    c.run_here.ensures)
+    c.run_here.ensures.leg)
+
+pub returns-clause-native : goal.returns-clause-native
+returns-clause-native c = λ d w below top g.
+    let system = c.args.system.now in
+    let n = c.at_mut-node.result.now in
+    let k = c.node_of-k.result in
+    let depth = depth_is d system w c.args.process below top g c.at.result.now c.at.ensures in
+    let own = own_is d system w c.args.process below top g _ c.in-Some.headings depth c.in-Some.ensures.some in
+    ran_natively system.cluster k n c.run_here.new.node c.at_mut-node.ensures.value top.own
+    (ap (place system.cluster) (sym own) ∙ c.node_of-k.ensures) c.args.process (length below) c.run_here.result
+    (subst (λ x. RunsOn n.kind system.cluster.images n c.run_here.new.node c.args.process x c.run_here.result) depth
+    c.run_here.ensures.native)

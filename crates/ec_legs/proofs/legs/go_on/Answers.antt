@@ -88,8 +88,8 @@ rest_at-requires-clause-stop g c =
     g.M.Machine.kind g.M.Machine.goes g.M.Machine.stops g.M.Machine.traps g.M.Machine.register g.M.Machine.place g.M.Machine.rests
     g.met.N.NativeKind.means g.met.M.Machine.one_way g.met.M.Machine.apart c.in-Ok.steps to memory native
 
-pub returns : goal.returns
-returns g c = λ d p homes common a o is step shows.
+pub returns-clause-leg : goal.returns-clause-leg
+returns-clause-leg g c = λ d p homes common a o is step shows.
     let can = c.requires in
     let u = c.behind_stop-machine.result in
     let to = c.run.new.machine in
@@ -105,3 +105,22 @@ returns g c = λ d p homes common a o is step shows.
     g.met.N.NativeKind.means g.met.M.Machine.one_way g.met.M.Machine.apart c.in-Ok.steps to memory native
     (store_of c.run.new.self) (store_of c.rest_at.new.node) c.in-Ok.ensures.ran c.runs_on-between.ensures.words c.rest_at.ensures
     c.kind-after.ensures.tidy
+
+pub returns-clause-native : goal.returns-clause-native
+returns-clause-native g c =
+    let u = c.behind_stop-machine.result in
+    let to = c.run.new.machine in
+    let memory = bytes_in c.run.new.self in
+    record {
+      from = u;
+      to = to;
+      between = c.run.new.self;
+      behind = c.behind_stop-machine.ensures;
+      native =
+          subst
+          (λ (words : List ℕ). Native (g.M.Machine.goes words) (g.M.Machine.stops words) u (bytes_in c.args.node.now) c.in-Ok.steps to
+          memory)
+          c.as_slice.ensures c.in-Ok.ensures.ok;
+      counted = c.in-Ok.ensures.ran;
+      rests = c.rest_at.ensures;
+    }
