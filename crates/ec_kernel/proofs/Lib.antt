@@ -2,5 +2,9 @@ pub mod Rooms
 pub mod Nodes
 pub mod Strings
 pub mod Rooming
+pub mod Asking
+pub mod Behind
 pub mod Both
+pub mod Fixing
+pub mod Staying
 pub mod Told

@@ -71,7 +71,7 @@ nothing_in : (s : Store) (r : Option Live) → HasRoomIn s r None
 nothing_in s None = tt
 nothing_in s (Some l) = tt
 
-take_nothing : (c : Cluster) (a : CodeActivation) → RoomToTake c a None
+pub take_nothing : (c : Cluster) (a : CodeActivation) → RoomToTake c a None
 take_nothing c a = λ e rests k s at there. nothing_in s e.result
 
 reference_in : (s : Store) (r : Option Live) (oid : ℕ) → HasRoomIn s r (Some (Ref oid))

@@ -139,7 +139,7 @@ more_comes c c' maker more x k none now = ⊎_elim
     (λ (ne : x ≢ suc (made_count c.directory)). absurd (let e : None ≡ Some k = sym none ∙ sym (more.others x ne) ∙ now in cc))
     (same_or_not x (suc (made_count c.directory)))
 
-none_comes : (c c' : Cluster) → SamePlaces c c' → (x k : ℕ) → place c x ≡ None → place c' x ≡ Some k → {A : Type 0} → A
+pub none_comes : (c c' : Cluster) → SamePlaces c c' → (x k : ℕ) → place c x ≡ None → place c' x ≡ Some k → {A : Type 0} → A
 none_comes c c' same x k none now = absurd (let e : None ≡ Some k = sym none ∙ ap (λ d. place_at d x) (sym same) ∙ now in cc)
 
 -- What is new at a node is where the own object of who acts is.

@@ -1,5 +1,5 @@
 -- The action of a process on the nodes of a system.
-use Rattle.std.specs.Prelude.{◌≡◌, ℕ, List, Some, None}
+use Rattle.std.specs.Prelude.{◌≡◌, ◌≢◌, ℕ, List, Option, Some, None}
 use Rattle.ec_asking.specs.Typed.{IsTypedOnce}
 use Rattle.ec_base.specs.Stack.{top_of}
 use Rattle.ec_cluster.specs.Cluster.{CodeWorld, place}
@@ -19,6 +19,7 @@ use Rattle.ec_nodes.specs.declared.room.Lack.{Lack}
 use Rattle.ec_system.specs.Acting.{Asks}
 use Rattle.ec_system.specs.Systems.{Runs, Strings}
 use Rattle.ec_system.specs.declared.system.System.{System}
+use Rattle.ec_world.specs.Group.{Has}
 use Rattle.ec_world.specs.World.{Action, stack_at}
 use Rattle.ec_world.specs.declared.doing.Doing.{Doing}
 use Rattle.ec_world.specs.declared.doing.Doing.TheVariants.{Moves}
@@ -59,20 +60,39 @@ pub record KeepsPlaces (c c' : Cluster) (w : CodeWorld) (p : ℕ) : Type 0 where
   pub comes : (oid k : ℕ) (top : CodeActivation) → place c oid ≡ None → place c' oid ≡ Some k → top_of (stack_at w p) ≡ Some top →
       place c top.own ≡ Some k
 
+-- each of these objects is at the node of the target
+abbrev pub AreTogether : Cluster → List ℕ → ℕ → Type 0
+AreTogether c members target = (member : ℕ) → Has members member → place c member ≡ place c target
+
+-- where the process asks for a move, it is one of objects that are all where their target is
+abbrev pub MovesInPlace : Cluster → CodeWorld → ℕ → Type 0
+MovesInPlace c w p =
+    (below : List CodeActivation) (top : CodeActivation) (who : Who) (members : List ℕ) (target : ℕ) (fixes : Option ℕ) →
+    who.process ≡ p → Asks w below top who (Moves members target fixes) → AreTogether c members target
+
 -- The system goes on with the world that the table of actions makes, each node has the texts that it had and those of this world, and no
--- object goes from one node to another.
+-- object goes from one node to another, nor is one to.
 pub record HasActed (d : Declared) (old new : System) (w : CodeWorld) (p : ℕ) : Type 0 where
   pub goes : Goes d new (Action code_meaning w p)
   pub texts : Changes (Strings new.cluster (Action code_meaning w p)) old.cluster new.cluster
   pub places : KeepsPlaces old.cluster new.cluster w p
+  pub together : MovesInPlace old.cluster w p
 
--- an activation of the process asks for a move, and nothing has changed
-pub record AsksToMove (old new : System) (w : CodeWorld) (p : ℕ) (who : Who) (doing : Doing) : Type 0 where
+-- some of these objects is at another node than the target
+pub record Apart (c : Cluster) (members : List ℕ) (target : ℕ) : Type 0 where
+  pub member : ℕ
+  pub has : Has members member
+  pub elsewhere : place c member ≢ place c target
+
+-- An activation of the process asks for a move of objects that are not all where their target is, and nothing has changed.
+pub record AsksToMove (old new : System) (w : CodeWorld) (p : ℕ) (who : Who) (members : List ℕ) (target : ℕ) (fixes : Option ℕ) :
+    Type 0 where
   pub same : new ≡ old
   pub process : who.process ≡ p
   pub below : List CodeActivation
   pub top : CodeActivation
-  pub asks : Asks w below top who doing
+  pub asks : Asks w below top who (Moves members target fixes)
+  pub apart : Apart old.cluster members target
 
 -- nothing was to be done, and nothing has changed
 pub record WasIdle (old new : System) (w : CodeWorld) (p : ℕ) : Type 0 where
@@ -82,13 +102,15 @@ pub record WasIdle (old new : System) (w : CodeWorld) (p : ℕ) : Type 0 where
 abbrev pub ActedIn : Declared → System → System → CodeWorld → ℕ → Acted → Type 0
 ActedIn d old new w p came.Idle = WasIdle old new w p
 ActedIn d old new w p came.Done = HasActed d old new w p
-ActedIn d old new w p (came.Moves who members target fixes) = AsksToMove old new w p who (Moves members target fixes)
+ActedIn d old new w p (came.Moves who members target fixes) = AsksToMove old new w p who members target fixes
 
--- A node is full, as the world that the action would make tells, and nothing has changed.
+-- A node is full, as the world that the action would make tells, with a new object where the own object of the activation on top is; and
+-- nothing has changed.
 pub record FoundFull (old new : System) (w : CodeWorld) (p : ℕ) (lack : Lack) : Type 0 where
   pub same : new ≡ old
-  pub maker : ℕ
-  pub full : IsFull old.cluster w (Action code_meaning w p) (place_then old.cluster maker) lack.node lack.part lack.need lack.free
+  pub top : CodeActivation
+  pub is_top : top_of (stack_at w p) ≡ Some top
+  pub full : IsFull old.cluster w (Action code_meaning w p) (place_then old.cluster top.own) lack.node lack.part lack.need lack.free
 
 abbrev pub RefusedIn : System → System → CodeWorld → ℕ → ActError → Type 0
 RefusedIn old new w p (refusal.Full lack) = FoundFull old new w p lack

@@ -6,6 +6,7 @@ ghost use Rattle.ec_kernel.specs.Acts.{ActedIn, AsksInSome, AsksOfEach, Goes, Go
 ghost use Rattle.ec_fullness.specs.Fullness.{StaysPut};
 
 use crate::acts::{ActError, Acted};
+use crate::moving::perform_move;
 use crate::steps::both_steps;
 use ec_asking::asking::asked;
 use ec_asking::requests::Asked;
@@ -17,8 +18,8 @@ use ec_world::value::Pid;
 use std::alloc::{AllocError, Global};
 
 /// The action of the stop at which a process rests is done to the nodes: whatever world they showed, they then show the world that the
-/// table of actions makes of it. A move is only told of. Where a node lacks room, the least one that does is told, blocks before text, and
-/// nothing has changed.
+/// table of actions makes of it. A move of objects that are not all where their target is, is only told of. Where a node lacks room, the
+/// least one that does is told, blocks before text, and nothing has changed.
 pub fn act(system: &mut System, alloc: Global, p: Pid) -> Result<Acted, ActError>
     requires { GoesSome system.old }
     ensures acted { IfOk result (λ a. (d : Declared) (w : CodeWorld) → Goes d system.old w → ActedIn d system.old system.new w p a) }
@@ -31,7 +32,7 @@ pub fn act(system: &mut System, alloc: Global, p: Pid) -> Result<Acted, ActError
     }
 }
 
-/// What is asked for is done, or told of where it is a move.
+/// What is asked for is done, or told of.
 fn perform(system: &mut System, alloc: Global, asked: Asked) -> Result<Acted, ActError>
     requires { AsksInSome system.old asked.who asked.doing }
     ensures acted { IfOk result (λ a. (d : Declared) (w : CodeWorld) → AsksOfEach d system.old w asked.who asked.doing →
@@ -45,12 +46,7 @@ fn perform(system: &mut System, alloc: Global, asked: Asked) -> Result<Acted, Ac
             members,
             target,
             fixes,
-        } => Ok(Acted::Moves {
-            who,
-            members,
-            target,
-            fixes,
-        }),
+        } => perform_move(system, alloc, who, members, target, fixes),
         other => perform_here(system, alloc, who, other),
     }
 }

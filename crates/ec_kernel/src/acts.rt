@@ -11,7 +11,8 @@ pub enum Acted {
     Idle,
     /// It is done, and its effect has come to processes.
     Done,
-    /// These objects are to go where another one is, and one of them is to be fixed from then on, if any. Nothing has changed yet.
+    /// These objects, which are not all there, are to go where another one is, and one of them is to be fixed from then on, if any. Nothing
+    /// has changed yet.
     Moves {
         who: Who,
         members: Oids,

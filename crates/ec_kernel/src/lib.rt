@@ -3,4 +3,5 @@
 
 pub mod acting;
 pub mod acts;
+mod moving;
 mod steps;

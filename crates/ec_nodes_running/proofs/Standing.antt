@@ -1,6 +1,6 @@
 -- What is kept of a system that stands in a world when it acts, and when a process goes on.
 use Rattle.std.proofs.Common.{◌≡◌, ℕ, false, List, sym, ap, ◌∙◌, subst}
-use Rattle.std.specs.Prelude.{slice_get}
+use Rattle.std.specs.Prelude.{length, slice_get}
 use Rattle.ec_asking.specs.Typed.{IsTypedOnce}
 use Rattle.ec_cluster.specs.Cluster.{CodeWorld}
 use Rattle.ec_cluster.specs.Steps.{Changes}
@@ -10,7 +10,7 @@ use Rattle.ec_code.specs.Typing.{Declared}
 use Rattle.ec_code.specs.declared.code.Parts.{Parts}
 use Rattle.ec_going.proofs.Idling.{idle_top_goes_on}
 use Rattle.ec_going.proofs.Keeping.{code_kept, literals_kept, runs_kept}
-use Rattle.ec_going.specs.Going.{GoesIn, HasLiterals, IsDoneTop, IsFew, Ran}
+use Rattle.ec_going.specs.Going.{GoesIn, HasLiterals, IsDoneTop, IsFew, Ran, RanNatively}
 use Rattle.ec_idle.proofs.Worlds.{go_on_idle}
 use Rattle.ec_idle.specs.Idle.{OfClasses}
 use Rattle.ec_kernel.proofs.Nodes.{before}
@@ -69,15 +69,18 @@ module _ (d : Declared) (s : System) (w : CodeWorld) (p : ℕ) (stands : Stands 
 
   -- what is known of it once it has gone on
   pub went_on : (new : System) (steps : ℕ) → new.cluster.parts ≡ s.cluster.parts → new.cluster.images ≡ s.cluster.images →
-      Mirrors new (gone_on s w p) → Ran s.cluster new.cluster t.top.own steps → IsFew s.cluster t.top steps →
+      Mirrors new (gone_on s w p) → Ran s.cluster new.cluster t.top.own steps →
+      RanNatively s.cluster new.cluster p (length t.below) t.top.own steps → IsFew s.cluster t.top steps →
       new.cluster.directory ≡ s.cluster.directory → new.output ≡ s.output → WentOn d s new w p steps
-  went_on new steps parts images mirrors ran few directory output = record {
+  went_on new steps parts images mirrors ran native few directory output = record {
     stands = stands_on d s new w p t.top.own steps stands parts images ran mirrors;
     below = t.below;
     top = t.top;
     is_done = is_done;
     ran = ran;
+    native = native;
     few = few;
+    parts = parts;
     directory = directory;
     output = output;
   }

@@ -1,6 +1,6 @@
 -- What an answer tells.
-use Rattle.std.proofs.Common.{Option, Some, None}
-use Rattle.std.specs.Prelude.{IfNone, IfSome}
+use Rattle.std.proofs.Common.{◌≡◌, Option, Some, None}
+use Rattle.std.specs.Prelude.{Err, IfNone, IfOk, IfSome, Ok, Result}
 
 pub if_none : {X P Q : Type 0} (r : Option X) → (P → Q) → IfNone r P → IfNone r Q
 if_none None f h = f h
@@ -13,3 +13,11 @@ if_some (Some x) f h = f x h
 pub is_none : {X : Type 0} (P : Type 0) (r : Option X) → P → IfNone r P
 is_none P None h = h
 is_none P (Some x) h = tt
+
+pub from_none : {X P : Type 0} (r : Option X) → r ≡ None → IfNone r P → P
+from_none None e h = h
+from_none (Some x) e h = absurd cc
+
+pub if_ok : {X E : Type 0} {P Q : X → Type 0} (r : Result X E) → ((x : X) → P x → Q x) → IfOk r P → IfOk r Q
+if_ok (Ok x) f h = f x h
+if_ok (Err e) f h = tt

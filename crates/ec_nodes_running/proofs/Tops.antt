@@ -1,7 +1,8 @@
 -- The activation on top of a process, by its row and its headings.
 use Rattle.std.proofs.Common.{◌≡◌, ℕ, zero, suc, true, List, [], ◌∷◌, ◌++◌, length, map, Some, None, refl, sym, ap, ◌∙◌, arith}
+use Rattle.std.proofs.Common.{subst}
 use Rattle.std.proofs.lemmas.Option.{same_Some}
-use Rattle.std.specs.Prelude.{slice_get}
+use Rattle.std.specs.Prelude.{IsSome, is_some, slice_get}
 use Rattle.ec_asking.specs.Rows.{depth_if}
 use Rattle.ec_base.proofs.Stacks.{stack_parts, top_of-push}
 use Rattle.ec_base.specs.Stack.{below_of, top_of}
@@ -13,7 +14,7 @@ use Rattle.ec_code.specs.declared.activation.CodeActivation.{CodeActivation}
 use Rattle.ec_node_frames.specs.declared.frames.Headings.{Headings}
 use Rattle.ec_nodes.proofs.Procs.{activation_is}
 use Rattle.ec_nodes.specs.declared.key.Key.TheVariants.{Frame}
-use Rattle.ec_nodes_running.specs.Running.{EachTop, HasNoTop, TopTold, gone_on}
+use Rattle.ec_nodes_running.specs.Running.{EachTop, HasNoTop, TopTold, Waits, gone_on}
 use Rattle.ec_system.specs.Systems.{Runs, row_of}
 use Rattle.ec_system.specs.declared.system.ProcessRow.{ProcessRow}
 use Rattle.ec_system.specs.declared.system.System.{System}
@@ -133,7 +134,24 @@ module _ (s : System) (p : ℕ) where
           pending = (tells w t.proc t.last.item runs.mirrors.shows t.is_proc t.last.is).pending;
         }
 
+-- what is told is the activation on top
+pub told_top : (w : CodeWorld) (p : ℕ) (h : Headings) (t : TopTold w p h) → top_of (stack_at w p) ≡ Some t.top
+told_top w p h t =
+    ap (λ x. top_of (ready_stack x)) t.is_top.is
+    ∙ ap (λ x. top_of (stack_if_ready x t.is_top.proc.activations)) t.ready
+    ∙ ap top_of t.is_top.stack
+    ∙ top_of-push t.below t.top
+
+pub some_top : (w : CodeWorld) (p : ℕ) (h : Headings) → TopTold w p h → IsSome (top_of (stack_at w p))
+some_top w p h t = ap is_some (told_top w p h t)
+
 -- ---- a process that does not go on
+
+pub waits_none : (w : CodeWorld) (p : ℕ) → stack_at w p ≡ [] → Waits (top_of (stack_at w p))
+waits_none w p none = subst (λ (xs : List CodeActivation). Waits (top_of xs)) (sym none) tt
+
+pub waits_pending : (w : CodeWorld) (p : ℕ) (h : Headings) → TopTold w p h → h.pending ≡ true → Waits (top_of (stack_at w p))
+waits_pending w p h t pending = subst Waits (sym (told_top w p h t)) (sym t.pending ∙ pending)
 
 pub without_top : (s : System) (w : CodeWorld) (p : ℕ) → stack_at w p ≡ [] → gone_on s w p ≡ w
 without_top s w p e =

@@ -1,4 +1,5 @@
 pub mod Standing
 pub mod Running
 pub mod Turns
+pub mod Moving
 pub mod Networks

@@ -1,5 +1,5 @@
 -- A network: a system that stands in some world, or none once it is spent.
-use Rattle.std.specs.Prelude.{◌≡◌, ℕ, List, length, Option, Some, None, IsSome, option_map, slice_get}
+use Rattle.std.specs.Prelude.{◌≡◌, ℕ, Bool, List, length, Option, Some, None, IsSome, option_map, slice_get}
 use Rattle.ec_cluster.specs.Cluster.{CodeWorld, stores}
 use Rattle.ec_cluster.specs.declared.cluster.Images.{Images}
 use Rattle.ec_code.specs.Typing.{Declared}
@@ -19,8 +19,12 @@ use Rattle.ec_nodes_running.specs.declared.turns.TurnError.TheVariants.{Full, Me
 use Rattle.ec_ranges.specs.Code.{SmallProgram}
 use Rattle.ec_system.specs.declared.system.System.{System}
 use Rattle.ec_things.specs.Store.{Store}
+use Rattle.ec_world.specs.Objects.{object_at}
+use Rattle.ec_world.specs.Sights.{class_of}
+use Rattle.ec_world.specs.declared.class.ClassNo.{ClassNo}
 use Rattle.ec_world.specs.declared.node.Kind.{Kind}
 use Rattle.ec_world.specs.declared.node.NodeSpec.{NodeSpec}
+use Rattle.ec_world.specs.declared.object.ObjectRec.{ObjectRec}
 use Rattle.ec_world.specs.declared.process.Proc.{Proc}
 use Rattle.ec_world.specs.declared.process.ProcStatus.{ProcStatus}
 
@@ -80,6 +84,15 @@ pub record NetLoaded (p : Parts) (images : Images) (specs : List NodeSpec) (net 
 abbrev pub status_at : CodeWorld → ℕ → Option ProcStatus
 status_at w p = option_map (λ (q : Proc CodeActivation). q.status)
     (slice_get w.processes p)
+
+-- the class of an object, where it is there
+abbrev pub class_at : CodeWorld → ℕ → Option ClassNo
+class_at w oid = class_of (object_at w.common.objects oid)
+
+-- whether an object is fixed, where it is there
+abbrev pub fixed_at : CodeWorld → ℕ → Option Bool
+fixed_at w oid = option_map (λ (o : ObjectRec). o.fixed)
+    (object_at w.common.objects oid)
 
 abbrev pub count_if : Option Store → ℕ
 count_if None = 0

@@ -1,7 +1,10 @@
 //! A network of nodes that runs code of the whole language: a turn of a process asks nothing of its caller.
 #![tactic(auto)]
 
+pub mod moves;
+mod moving;
 pub mod network;
 mod running;
+mod seeing;
 mod turning;
 pub mod turns;

@@ -1,16 +1,20 @@
 //! A network of nodes: what its callers may ask of it.
 ghost use Rattle.std.specs.Prelude.{◌≡◌};
 
-use crate::turning;
+use crate::moves::Shifted;
+use crate::seeing::seen;
 use crate::turns::{Did, TurnError};
+use crate::{moving, turning};
 use ec_cluster::cluster::Images;
 use ec_code::code::Parts;
 use ec_loading::load as loading;
 use ec_loading::load::LoadError;
 use ec_system::system::System;
+use ec_world::class::ClassNo;
 use ec_world::node::NodeSpec;
 use ec_world::process::ProcStatus;
-use ec_world::value::{NodeNo, Pid, Text};
+use ec_world::sight::Sees;
+use ec_world::value::{NodeNo, Oid, Pid, Text};
 use std::alloc::{AllocError, Global};
 use std::marker::Model;
 
@@ -34,7 +38,10 @@ impl Network {
     ghost use Rattle.std.specs.Prelude.{IfErr, IfOk, IsSome, Some, is_some, length};
     ghost use Rattle.ec_loading.specs.Loaded.{WhenFull};
     ghost use Rattle.ec_loading.specs.Loading.{LacksFirst, first_needs};
-    ghost use Rattle.ec_nodes_running.specs.Networks.{CanRun, ForStanding, NetLoaded, NetRefused, NetTurned, counts_of, status_at};
+    ghost use Rattle.ec_cluster.specs.Cluster.{place};
+    ghost use Rattle.ec_nodes_running.specs.Moving.{ShiftedIn};
+    ghost use Rattle.ec_nodes_running.specs.Networks.{CanRun, ForStanding, NetLoaded, NetRefused, NetTurned};
+    ghost use Rattle.ec_nodes_running.specs.Networks.{class_at, counts_of, fixed_at, status_at};
     ghost use Rattle.ec_nodes_running.specs.Standing.{StandsInSome};
 
     /// Loads a program with its images onto 1 to 64 nodes of these kinds and sizes (at most 65,536 blocks and 16,777,216 bytes of text), so
@@ -85,6 +92,15 @@ impl Network {
         }
     }
 
+    /// What a move of an object's group by the operator, to where the object of a node is, comes to. Nothing changes. The error is want of
+    /// memory.
+    pub fn operator_move(&self, alloc: Global, o: Oid, k: NodeNo) -> Result<Shifted, AllocError>
+        requires whole { IsSome self.now }
+        ensures { IfOk result (λ shifted. ForStanding self.now (λ d s w. ShiftedIn d s w o k shifted)) }
+    {
+        moving::shift(self.standing(), alloc, o, k)
+    }
+
     /// What has been printed.
     pub fn output(&self) -> &Text
         requires whole { IsSome self.now }
@@ -102,6 +118,34 @@ impl Network {
             Some(row) => Some(row.status),
             None => None,
         }
+    }
+
+    /// The class of an object, where it is there.
+    pub fn class_of(&self, oid: Oid) -> Option<ClassNo>
+        requires whole { IsSome self.now }
+        ensures { ForStanding self.now (λ d s w. result ≡ class_at w oid) }
+    {
+        seen(self.standing()).class_of(oid)
+    }
+
+    /// Whether an object is fixed, where it is there.
+    pub fn is_fixed(&self, oid: Oid) -> Option<bool>
+        requires whole { IsSome self.now }
+        ensures { ForStanding self.now (λ d s w. result ≡ fixed_at w oid) }
+    {
+        let seen = seen(self.standing());
+        match seen.class_of(oid) {
+            Some(_) => Some(seen.is_fixed(oid)),
+            None => None,
+        }
+    }
+
+    /// The node at which the directory has an object, where it has it.
+    pub fn place(&self, oid: Oid) -> Option<NodeNo>
+        requires whole { IsSome self.now }
+        ensures { ForStanding self.now (λ d s w. result ≡ place s.cluster oid) }
+    {
+        self.standing().cluster.directory.place(oid)
     }
 
     /// How many instructions a node has run, up to 2^64 - 1; 0 where it is not there, or the network is spent.

@@ -29,7 +29,7 @@ pub(crate) fn run_on(system: &mut System, p: Pid) -> Option<u64>
 }
 
 /// What the headings of the activation on top of a process that is Ready say; nothing where there is none.
-fn top_of(system: &System, p: Pid) -> Option<Headings>
+pub(crate) fn top_of(system: &System, p: Pid) -> Option<Headings>
     ensures some { IfSome result (λ h. EachTop system.now p h) }
     ensures none { IfNone result (HasNoTop system.now p) }
 {

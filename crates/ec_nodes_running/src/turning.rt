@@ -6,7 +6,7 @@ ghost use Rattle.ec_nodes_running.specs.Running.{AfterAction};
 ghost use Rattle.ec_nodes_running.specs.Standing.{Stands, StandsInSome};
 ghost use Rattle.ec_nodes_running.specs.Turns.{RefusedIn, TurnedIn};
 
-use crate::running::run_on;
+use crate::running::{run_on, top_of};
 use crate::turns::{Did, TurnError};
 use ec_kernel::acting::act;
 use ec_kernel::acts::{ActError, Acted};
@@ -23,11 +23,13 @@ pub(crate) fn turn(system: &mut System, alloc: Global, p: Pid) -> Result<Did, Tu
     ensures refused { IfErr result (λ e. (d : Declared) (w : CodeWorld) → Stands d system.old w →
         RefusedIn system.old system.new w p e) }
 {
+    let Some(_headings) = top_of(system, p) else {
+        return Ok(Did::Idle);
+    };
     match act(system, alloc, p) {
-        Ok(Acted::Idle) => match run_on(system, p) {
-            Some(steps) => Ok(Did::Acted { steps }),
-            None => Ok(Did::Idle),
-        },
+        Ok(Acted::Idle) => Ok(Did::Acted {
+            steps: run_if_done(system, p),
+        }),
         Ok(Acted::Done) => Ok(Did::Acted {
             steps: run_if_done(system, p),
         }),

@@ -7,13 +7,14 @@ use std::alloc::AllocError;
 /// What a turn did.
 #[derive(Drop)]
 pub enum Did {
-    /// Nothing: the process is not there or not Ready.
+    /// Nothing: the process is not there or not Ready, or it has no activation.
     Idle,
     /// The action of the stop, where it was to be done, and then so many instructions up to the next stop.
     Acted {
         steps: u64,
     },
-    /// These objects are to go where another one is, and one of them is to be fixed from then on, if any. Nothing has changed yet.
+    /// These objects, which are not all there, are to go where another one is, and one of them is to be fixed from then on, if any. Nothing
+    /// has changed yet.
     Moves {
         who: Who,
         members: Oids,

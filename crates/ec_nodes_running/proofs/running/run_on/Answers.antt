@@ -2,17 +2,19 @@
 use Rattle.std.proofs.Common.{refl}
 use Rattle.ec_nodes_running.proofs.Standing.{goes_in, went_on}
 use Rattle.ec_nodes_running.proofs.Told.{is_none}
-use Rattle.ec_nodes_running.proofs.Tops.{with_pending, without_top}
+use Rattle.ec_nodes_running.proofs.Tops.{waits_none, waits_pending, with_pending, without_top}
 use Rattle.ec_nodes_running.proofs.running.run_on.Goals as goal
 
 pub returns-in_err-headings-clause-none : goal.returns-in_err-headings-clause-none
 returns-in_err-headings-clause-none c = is_none _ c.from_residual.result (λ d w s. record {
+  waits = waits_none w c.args.p (c.in_err-headings.ensures.none d w s.goes.runs);
   same = refl;
   nothing = without_top c.args.system.now w c.args.p (c.in_err-headings.ensures.none d w s.goes.runs);
 })
 
 pub returns-then-headings-clause-none : goal.returns-then-headings-clause-none
 returns-then-headings-clause-none c = λ d w s. record {
+  waits = waits_pending w c.args.p c.in_ok-headings.headings (c.in_ok-headings.ensures.some d w s.goes.runs) c.if-headings.true;
   same = refl;
   nothing =
       with_pending c.args.system.now w c.args.p c.in_ok-headings.headings (c.in_ok-headings.ensures.some d w s.goes.runs)
@@ -41,4 +43,5 @@ returns-clause-some c = λ d w s.
     let goes = goes_in d system w c.args.p s h t c.if-headings.false in
     went_on d system w c.args.p s h t c.if-headings.false c.go_on.new.system c.go_on.result c.go_on.ensures.parts c.go_on.ensures.images
     (c.go_on.ensures.mirrors d w t.below t.top goes) (c.go_on.ensures.counts d w t.below t.top goes)
-    (c.go_on.ensures.few d w t.below t.top goes) c.go_on.ensures.directory c.go_on.ensures.output
+    (c.go_on.ensures.native d w t.below t.top goes) (c.go_on.ensures.few d w t.below t.top goes) c.go_on.ensures.directory
+    c.go_on.ensures.output

@@ -1,0 +1,116 @@
+-- The second step of an action, and what both steps come to.
+use Rattle.std.proofs.lemmas.Option.{same_Some}
+use Rattle.std.proofs.Common.{◌≡◌, ℕ, List, [], ◌∷◌, Some, None, sym, ap, ◌∙◌, subst}
+use Rattle.std.specs.List.{AllByRecursion as Each}
+use Rattle.ec_asking.specs.Typed.{IsTypedOnce}
+use Rattle.ec_cluster.specs.Cluster.{CodeWorld, place}
+use Rattle.ec_cluster.specs.Steps.{Changes}
+use Rattle.ec_code.specs.Activations.{code_meaning}
+use Rattle.ec_code.specs.Typing.{Declared}
+use Rattle.ec_code.specs.declared.activation.CodeActivation.{CodeActivation}
+use Rattle.ec_code.specs.declared.code.Parts.{Parts}
+use Rattle.ec_fitting.proofs.Keeping.{images_after, steady_after, strings_then}
+use Rattle.ec_fitting.proofs.Roomy.{settles_with_room}
+use Rattle.ec_fitting.specs.Room.{RoomToSettle}
+use Rattle.ec_fitting.specs.Waiters.{BelowStay, WaitersStay}
+use Rattle.ec_forward.specs.Directory.{place_at}
+use Rattle.ec_fullness.proofs.Acting.{action_is, top_is}
+use Rattle.ec_idle.proofs.Worlds.{action_idle}
+use Rattle.ec_idle.specs.Idle.{IdleProc, IdleWorld}
+use Rattle.ec_kernel.proofs.Rooming.{frames_same}
+use Rattle.ec_kernel.proofs.Strings.{texts_between}
+use Rattle.ec_kernel.specs.Acts.{AsksOfEach, HasActed, MovesInPlace}
+use Rattle.ec_ranges.proofs.Worlds.{action_ranged}
+use Rattle.ec_settling.specs.Settling.{CanBeSettled, SettlesIn}
+use Rattle.ec_sound.proofs.Worlds.{action_sound}
+use Rattle.ec_sound.specs.Sound.{SoundWorld}
+use Rattle.ec_system.specs.Steps.{Does, Settles, world_done, world_settled}
+use Rattle.ec_system.specs.Systems.{Mirrors, Runs, Strings}
+use Rattle.ec_system.specs.declared.system.System.{System}
+use Rattle.ec_world.specs.World.{Action}
+use Rattle.ec_world.specs.declared.doing.Doing.{Doing}
+use Rattle.ec_world.specs.declared.doing.Outcome.{Outcome}
+use Rattle.ec_world.specs.declared.process.Proc.{Proc}
+use Rattle.ec_world.specs.declared.stop.Who.{Who}
+
+-- ---- the second step
+
+-- those that wait stand where code goes on
+waiters_in : (ps : List (Proc CodeActivation)) → Each IdleProc ps → Each BelowStay ps
+waiters_in [] h = tt
+waiters_in (p ∷ ps) h = (h.0.below, waiters_in ps h.1)
+
+waiters_of : (w : CodeWorld) → IdleWorld w → WaitersStay w
+waiters_of w idle = waiters_in w.processes idle.processes
+
+module _ (d : Declared) (old : System) (w : CodeWorld) (who : Who) (doing : Doing) (a : AsksOfEach d old w who doing) (mid : System)
+    (o : Outcome) (does : Does old mid w who doing o) where
+  -- With room behind the first step, the second one can be taken.
+  module _ (room : RoomToSettle mid.cluster a.below a.top o.effect) where
+    pub settles_behind : SettlesIn d mid (world_done w who doing) a.below a.top who o
+    settles_behind = record {
+      images = images_after d _ old.cluster mid.cluster does.texts a.goes.runs.steady.images;
+      mirrors = does.mirrors;
+      is_top = record { proc = a.asks.is_top.proc; is = a.asks.is_top.is; stack = a.asks.is_top.stack };
+      depth = ap (λ (x : Who). x.depth) a.asks.who_is;
+      owns = ap (λ (x : Who). x.own) a.asks.who_is;
+      can = settles_with_room d old w a.below a.top who doing a.goes.runs a.asks (waiters_of w a.goes.idle) mid o does room;
+    }
+
+    pub can_settle_behind : CanBeSettled mid who o
+    can_settle_behind = record {
+      declared = d;
+      world = world_done w who doing;
+      below = a.below;
+      top = a.top;
+      settles = settles_behind;
+    }
+
+  -- ---- what is then shown
+
+  module _ (new : System) (settled : Settles mid new (world_done w who doing) who.process a.below a.top o)
+      (same : new.cluster.directory ≡ mid.cluster.directory)
+      (stays : (x k : ℕ) → place old.cluster x ≡ Some k → place mid.cluster x ≡ Some k)
+      (comes : (x k : ℕ) → place old.cluster x ≡ None → place mid.cluster x ≡ Some k → place old.cluster who.own ≡ Some k)
+      (together : MovesInPlace old.cluster w who.process) where
+    behind_is : world_settled (world_done w who doing) who.process a.below a.top o ≡ Action code_meaning w who.process
+    behind_is =
+        ap (world_settled (world_done w who doing) who.process a.below a.top) (sym does.answers)
+        ∙ sym (action_is w a.below a.top who doing a.asks)
+
+    after : (x : ℕ) → place new.cluster x ≡ place mid.cluster x
+    after x = ap (λ e. place_at e x) same
+
+    texts_then : Changes (Strings new.cluster (Action code_meaning w who.process)) old.cluster new.cluster
+    texts_then = subst (λ (x : CodeWorld). Changes (Strings new.cluster x) old.cluster new.cluster) behind_is
+        (strings_then old.cluster mid.cluster new.cluster w (world_done w who doing)
+        (world_settled (world_done w who doing) who.process a.below a.top o) does.texts settled.texts a.goes.runs.mirrors.shows
+        (texts_between old.cluster mid.cluster new.cluster w a.below a.top who doing o a.goes.runs.mirrors.shows
+        (frames_same _ old.cluster mid.cluster does.texts) stays after))
+
+    runs_then : Runs d new (Action code_meaning w who.process)
+    runs_then = record {
+      mirrors = subst (λ (x : CodeWorld). Mirrors new x) behind_is settled.mirrors;
+      steady = steady_after d _ old.cluster new.cluster texts_then a.goes.runs.steady;
+      sound = subst (λ (p : Parts). SoundWorld d p (Action code_meaning w who.process)) (sym texts_then.parts)
+          (action_sound d old.cluster.parts a.goes.runs.steady.fine w who.process a.goes.runs.sound);
+      ranged = action_ranged w who.process a.goes.runs.ranged;
+    }
+
+    pub acted_behind : HasActed d old new w who.process
+    acted_behind = record {
+      goes = record {
+        runs = runs_then;
+        idle = action_idle d old.cluster.parts a.goes.runs.steady.fine w who.process a.goes.runs.sound a.goes.idle;
+        typed = subst IsTypedOnce (sym texts_then.parts) a.goes.typed;
+      };
+      texts = texts_then;
+      places = record {
+        stays = λ x k at. after x ∙ stays x k at;
+        comes = λ x k top none now is.
+            let its : a.top ≡ top = same_Some a.top top (sym (top_is w a.below a.top who doing a.asks) ∙ is) in
+            let own : who.own ≡ top.own = ap (λ (y : Who). y.own) a.asks.who_is ∙ ap (λ (b : CodeActivation). b.own) its in
+            ap (place old.cluster) (sym own) ∙ comes x k none (sym (after x) ∙ now);
+      };
+      together = together;
+    }

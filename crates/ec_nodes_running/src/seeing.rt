@@ -1,0 +1,18 @@
+//! What is seen of the nodes of a system.
+ghost use Rattle.std.specs.Prelude.{◌≡◌};
+ghost use Rattle.ec_cluster.specs.Cluster.{CodeWorld};
+ghost use Rattle.ec_code.specs.Typing.{Declared};
+ghost use Rattle.ec_nodes_running.specs.Standing.{Stands, StandsInSome};
+ghost use Rattle.ec_seen.specs.Decoded.{seen_common};
+ghost use Rattle.ec_world.specs.Sights.{sight_of};
+
+use ec_seen::seen::Seen;
+use ec_system::system::System;
+
+/// The nodes of a system: a reader sees each world in which the system stands.
+pub(crate) fn seen(system: &System) -> Seen<'_>
+    requires { StandsInSome system.now }
+    ensures { (d : Declared) (w : CodeWorld) → Stands d system.now w → sight_of (seen_common result) ≡ sight_of w.common }
+{
+    Seen::of(&system.cluster)
+}
