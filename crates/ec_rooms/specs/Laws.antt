@@ -1,0 +1,111 @@
+-- What holds of room at nodes that show a world.
+use Rattle.std.specs.Prelude.{◌≡◌, ◌⊎◌, ℕ, List, length, Some, slice_get}
+use Rattle.ec_cluster.specs.Cluster.{CodeWorld}
+use Rattle.ec_cluster.specs.declared.cluster.Images.{Images}
+use Rattle.ec_code.specs.Activations.{code_meaning, code_silent}
+use Rattle.ec_code.specs.Typing.{Declared}
+use Rattle.ec_code.specs.declared.code.Parts.{Parts}
+use Rattle.ec_kernel.specs.Acts.{FoundFull, Goes, HasActed}
+use Rattle.ec_loading.specs.Loaded.{Loaded}
+use Rattle.ec_loading.specs.Loading.{CanLoad, LacksFirst, first_needs}
+use Rattle.ec_loading.specs.Worlds.{world_first}
+use Rattle.ec_nodes.specs.declared.room.Lack.{Lack}
+use Rattle.ec_nodes.specs.declared.room.Part.{Part}
+use Rattle.ec_rooms.specs.Rooms.{FullAt, Literals, LoadFull, Strings, held}
+use Rattle.ec_rooms.specs.Runs.{NextFull, PoolAfter}
+use Rattle.ec_rooms.specs.Standing.{ArePlaced, HaveSizes, HavePools, PlacesEach, ShowsWith}
+use Rattle.ec_system.specs.Systems.{Mirrors}
+use Rattle.ec_system.specs.declared.system.System.{System}
+use Rattle.ec_world.specs.Moves.{OperatorMove}
+use Rattle.ec_world.specs.World.{Action, GoOn}
+use Rattle.ec_world.specs.declared.node.NodeSpec.{NodeSpec}
+use Rattle.ec_world.specs.declared.run.Entry.{Entry}
+
+-- no node lacks room for what comes
+abbrev pub HasRoomFor : Parts → List NodeSpec → CodeWorld → CodeWorld → (ℕ → List ℕ → Type 0) → Type 0
+HasRoomFor p specs w w' Pool =
+    (k need free : ℕ) (part : Part) → FullAt specs (held p w) (held p w') Pool (Strings p w') k part need free → ⊥
+
+-- ---- one answer
+
+-- the same node lacks as much of the same
+pub record SameLack (node : ℕ) (part : Part) (need free node' : ℕ) (part' : Part) (need' free' : ℕ) : Type 0 where
+  pub node_is : node ≡ node'
+  pub part_is : part ≡ part'
+  pub need_is : need ≡ need'
+  pub free_is : free ≡ free'
+
+-- only one lack is told
+abbrev pub IsOne : (ℕ → Part → ℕ → ℕ → Type 0) → Type 0
+IsOne Full =
+    (node node' : ℕ) (part part' : Part) (need free need' free' : ℕ) → Full node part need free → Full node' part' need' free' →
+    SameLack node part need free node' part' need' free'
+
+-- A load, and each entry of a run, finds one node at most that is the first to lack room, and that lacks one thing.
+pub record FullIsOne : Type 0 where
+  pub load : (p : Parts) (specs : List NodeSpec) → IsOne (LoadFull p specs)
+  pub next : (p : Parts) (specs : List NodeSpec) (schedule : List Entry) (k : ℕ) → IsOne (NextFull p specs schedule k)
+
+-- ---- places
+
+-- The events of the first world place its objects. They do so after an action, a move by the operator, and silent steps.
+pub record EachIsPlaced : Type 0 where
+  pub first : (n : ℕ) (p : Parts) → PlacesEach (world_first n p)
+  pub acted : (w : CodeWorld) (i : ℕ) → PlacesEach w → PlacesEach (Action code_meaning w i)
+  pub moved : (w : CodeWorld) (o k : ℕ) → PlacesEach w → PlacesEach (OperatorMove w o k)
+  pub gone_on : (p : Parts) (w : CodeWorld) (i : ℕ) → PlacesEach w → PlacesEach (GoOn code_meaning (code_silent p) w i)
+
+-- On one node each object is where the events have it.
+abbrev pub OneNodePlaces : Type 0
+OneNodePlaces = (s : System) (w : CodeWorld) → Mirrors s w → length s.cluster.nodes ≡ 1 → PlacesEach w → ArePlaced s.cluster w
+
+-- ---- the load
+
+-- Where a load tells of a lack, it finds no room there; where it has loaded, each node has room, the sizes are those of the nodes, and the
+-- pools have the literals.
+pub record LoadsAreFull : Type 0 where
+  pub full : (p : Parts) (images : Images) (specs : List NodeSpec) (lack : Lack) → CanLoad p images specs →
+      LacksFirst (first_needs p images (length specs)) specs lack → LoadFull p specs lack.node lack.part lack.need lack.free
+  pub fits : (p : Parts) (images : Images) (specs : List NodeSpec) (s : System) → CanLoad p images specs → Loaded p images specs s →
+      (k need free : ℕ) (part : Part) → LoadFull p specs k part need free → ⊥
+  pub sizes : (p : Parts) (images : Images) (specs : List NodeSpec) (s : System) → Loaded p images specs s → HaveSizes specs s.cluster
+  pub pools : (p : Parts) (images : Images) (specs : List NodeSpec) (s : System) → Loaded p images specs s →
+      HavePools s.cluster (Literals p)
+
+-- ---- entries
+
+-- what holds of the texts of pools after so many entries of each run
+abbrev pub InRuns : ((ℕ → List ℕ → Type 0) → Type 0) → Type 0
+InRuns Law = (p : Parts) (n : ℕ) (schedule : List Entry) (k : ℕ) → Law (PoolAfter p n schedule k)
+
+-- Where an action is told to find a node full, it finds no room there.
+abbrev pub FoundIsFull : (ℕ → List ℕ → Type 0) → Type 0
+FoundIsFull Pool =
+    (d : Declared) (specs : List NodeSpec) (s t : System) (w : CodeWorld) (i : ℕ) (lack : Lack) →
+    Goes d s w → ShowsWith specs s w Pool → length specs ≡ 1 → PlacesEach w → FoundFull s t w i lack →
+    FullAt specs (held s.cluster.parts w) (held s.cluster.parts (Action code_meaning w i)) Pool
+    (Strings s.cluster.parts (Action code_meaning w i)) lack.node lack.part lack.need lack.free
+
+-- Where an action was done, each node had room; the nodes then have the sizes that they had, and the texts that they had with those of the
+-- world then.
+pub record ActedHadRoom (specs : List NodeSpec) (s t : System) (w : CodeWorld) (i : ℕ) (Pool : ℕ → List ℕ → Type 0) : Type 0 where
+  pub room : HasRoomFor s.cluster.parts specs w (Action code_meaning w i) Pool
+  pub sizes : HaveSizes specs t.cluster
+  pub pools : HavePools t.cluster (λ k text. Pool k text ⊎ Strings s.cluster.parts (Action code_meaning w i) k text)
+
+abbrev pub ActionsHadRoom : (ℕ → List ℕ → Type 0) → Type 0
+ActionsHadRoom Pool =
+    (d : Declared) (specs : List NodeSpec) (s t : System) (w : CodeWorld) (i : ℕ) →
+    Goes d s w → ShowsWith specs s w Pool → length specs ≡ 1 → PlacesEach w → HasActed d s t w i → ActedHadRoom specs s t w i Pool
+
+-- Where the same nodes show a world and then another, as when nothing is to be done or the operator moves nothing, there was room for it,
+-- and its texts are there.
+pub record WasThere (p : Parts) (specs : List NodeSpec) (w w' : CodeWorld) (Pool : ℕ → List ℕ → Type 0) : Type 0 where
+  pub room : HasRoomFor p specs w w' Pool
+  pub texts : (k : ℕ) (spec : NodeSpec) (text : List ℕ) → slice_get specs k ≡ Some spec →
+      Strings p w' k text → Pool k text
+
+abbrev pub SameNodesHaveRoom : (ℕ → List ℕ → Type 0) → Type 0
+SameNodesHaveRoom Pool =
+    (specs : List NodeSpec) (s : System) (w w' : CodeWorld) →
+    ShowsWith specs s w Pool → ShowsWith specs s w' Pool → WasThere s.cluster.parts specs w w' Pool

@@ -1,0 +1,4 @@
+pub mod Rooms
+pub mod Runs
+pub mod Standing
+pub mod Laws
