@@ -35,7 +35,7 @@ impl Model for Network {
 }
 
 impl Network {
-    ghost use Rattle.std.specs.Prelude.{IfErr, IfOk, IsSome, Some, is_some, length};
+    ghost use Rattle.std.specs.Prelude.{IfErr, IfOk, IsSome, None, Some, is_some, length};
     ghost use Rattle.ec_loading.specs.Loaded.{WhenFull};
     ghost use Rattle.ec_loading.specs.Loading.{LacksFirst, first_needs};
     ghost use Rattle.ec_cluster.specs.Cluster.{place};
@@ -43,6 +43,13 @@ impl Network {
     ghost use Rattle.ec_nodes_running.specs.Networks.{CanRun, ForStanding, NetLoaded, NetRefused, NetTurned};
     ghost use Rattle.ec_nodes_running.specs.Networks.{class_at, counts_of, fixed_at, status_at};
     ghost use Rattle.ec_nodes_running.specs.Standing.{StandsInSome};
+
+    /// A network of no nodes, on which nothing was loaded. It meets its calls as a spent one does.
+    pub fn empty() -> Network
+        ensures { result ≡ None }
+    {
+        Network { system: None }
+    }
 
     /// Loads a program with its images onto 1 to 64 nodes of these kinds and sizes (at most 65,536 blocks and 16,777,216 bytes of text), so
     /// that process 0 is about to run operation 0. The error is what the first node that lacks room for that lacks, blocks before text; or

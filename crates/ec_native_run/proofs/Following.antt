@@ -1,0 +1,336 @@
+-- A network follows the run: at the load, and from one entry to the next.
+use Rattle.std.proofs.Common.{◌≡◌, ◌⊎◌, ℕ, suc, List, [], ◌∷◌, ◌++◌, length, Option, Some, below_none, below_more, refl, sym}
+use Rattle.std.proofs.Common.{ap, subst, ◌∙◌, add-one}
+use Rattle.std.proofs.lemmas.Option.{same_Some}
+use Rattle.ec_cluster.specs.Cluster.{CodeWorld}
+use Rattle.ec_cluster.specs.declared.cluster.Cluster.{Cluster}
+use Rattle.ec_cluster.specs.declared.cluster.Images.{Images}
+use Rattle.ec_code.specs.Activations.{code_meaning, code_silent}
+use Rattle.ec_code.specs.declared.activation.CodeActivation.{CodeActivation}
+use Rattle.ec_code.specs.declared.code.Parts.{Parts}
+use Rattle.ec_driver.proofs.Coming.{comes_first, comes_next, entry_is, run_more, run_start_is}
+use Rattle.ec_driver.specs.Driver.{IsDone, IsRefused}
+use Rattle.ec_driver.specs.Progress.{IsStep, Progress, advanced, at_start}
+use Rattle.ec_driver.specs.declared.driver.Refusal.{Refusal}
+use Rattle.ec_driver.specs.declared.step.Step.TheVariants.{Does}
+use Rattle.ec_loading.specs.Loaded.{Loaded}
+use Rattle.ec_loading.specs.Worlds.{world_first}
+use Rattle.ec_native_run.proofs.Entries.{GoneOn, along_none, along_push, idle_leaves, rest_leaves, stay_leaves, turn_leaves}
+use Rattle.ec_native_run.proofs.OnOne.{never_moves, never_shifts}
+use Rattle.ec_native_run.specs.Entries.{Along, EntryOf}
+use Rattle.ec_native_run.specs.Following.{Follows, FullNext, HasCome, refusal_of}
+use Rattle.ec_nodes.specs.declared.room.Lack.{Lack}
+use Rattle.ec_nodes.specs.declared.room.Part.{Part}
+use Rattle.ec_nodes_running.specs.Moving.{AsksToShift, IsThere, NoMove}
+use Rattle.ec_nodes_running.specs.Networks.{AreCode, CanRun, ForStanding, Net, NetLoaded, NetRefused, NetTurned}
+use Rattle.ec_nodes_running.specs.Standing.{Stands}
+use Rattle.ec_nodes_running.specs.declared.turns.Did.TheVariants.{Acted, Idle, Moves}
+use Rattle.ec_nodes_running.specs.declared.turns.TurnError.TheVariants.{Full}
+use Rattle.ec_rooms.proofs.Acted.{found_full}
+use Rattle.ec_rooms.proofs.Loads.{loads_full}
+use Rattle.ec_rooms.proofs.OnOne.{one_node}
+use Rattle.ec_rooms.proofs.Worlds.{each_placed}
+use Rattle.ec_rooms.specs.Rooms.{FullAt, Literals, Strings, held}
+use Rattle.ec_rooms.specs.Runs.{NextFull, PoolAfter, action_if, after_action, code_run, next_action}
+use Rattle.ec_rooms.specs.Standing.{HavePools}
+use Rattle.ec_system.specs.declared.system.System.{System}
+use Rattle.ec_world.proofs.Entries.{run_world}
+use Rattle.ec_world.specs.Run.{RunState, after_entries, after_entry, statuses_of, stepped}
+use Rattle.ec_world.specs.World.{Action}
+use Rattle.ec_world.specs.declared.node.NodeSpec.{NodeSpec}
+use Rattle.ec_world.specs.declared.process.ProcStatus.{ProcStatus}
+use Rattle.ec_world.specs.declared.run.Entry.{Entry}
+use Rattle.ec_world.specs.declared.run.RunEntry.{RunEntry}
+use Rattle.ec_world.specs.declared.run.RunEntry.TheVariants.{MoveOf as AMove, TurnOf as ATurn}
+use Rattle.ec_world.specs.declared.stop.Who.{Who}
+
+-- ---- texts of pools
+
+pools_first : (p : Parts) (n : ℕ) (schedule : List Entry) (c : Cluster) → HavePools c (Literals p) → HavePools c (PoolAfter p n schedule 0)
+unfolding PoolAfter
+pools_first p n schedule c h = h
+
+pools_more : (p : Parts) (n : ℕ) (schedule : List Entry) (k : ℕ) (c : Cluster) →
+    HavePools c (λ node text. PoolAfter p n schedule k node text ⊎ Strings p (next_action p n schedule k) node text) →
+    HavePools c (PoolAfter p n schedule (suc k))
+unfolding PoolAfter
+pools_more p n schedule k c h = h
+
+-- ---- the load
+
+module _ (p : Parts) (images : Images) (specs : List NodeSpec) (schedule : List Entry) (budget : ℕ) (net : Net) (one : length specs ≡ 1)
+    (can : CanRun p images specs) (l : NetLoaded p images specs net) where
+  abbrev own : Parts
+  own = l.start.cluster.parts
+
+  abbrev world : CodeWorld
+  world = world_first (length specs) own
+
+  loaded_is : Loaded own l.start.cluster.images specs l.start
+  loaded_is =
+      subst (λ (x : Parts). Loaded x l.start.cluster.images specs l.start) (sym l.loaded.parts)
+      (subst (λ (x : Images). Loaded p x specs l.start) (sym l.loaded.images_are) l.loaded)
+
+  code_is : AreCode can.loads.declared own l.start.cluster.images
+  code_is =
+      subst (λ (x : Parts). AreCode can.loads.declared x l.start.cluster.images) (sym l.loaded.parts)
+      (subst (λ (x : Images). AreCode can.loads.declared p x) (sym l.loaded.images_are) can.code)
+
+  stands_first : Stands can.loads.declared l.start world
+  stands_first =
+      subst (λ (x : Parts). Stands can.loads.declared l.start (world_first (length specs) x)) (sym l.loaded.parts)
+      (l.stands can.loads.declared can.loads.tables can.code)
+
+  first_come : HasCome specs l.start schedule budget (statuses_of world) (at_start schedule) l.start world
+  first_come = record {
+    one = one;
+    loaded = loaded_is;
+    declared = can.loads.declared;
+    code = code_is;
+    parts = refl;
+    comes = comes_first code_meaning (code_silent own) world schedule budget world refl;
+    stands = stands_first;
+    along =
+        subst (λ (es : List RunEntry). Along can.loads.declared own l.start world es l.start)
+        (sym (ap (λ (r : RunState CodeActivation). r.done) (run_start_is code_meaning (code_silent own) world schedule)))
+        (along_none can.loads.declared own l.start world);
+    fits = below_none (λ j. (node need free : ℕ) (part : Part) → NextFull own specs schedule j node part need free → ⊥);
+    shows = record {
+      mirrors = loaded_is.mirrors;
+      sizes = loads_full.sizes own l.start.cluster.images specs l.start loaded_is;
+      placed = one_node l.start world loaded_is.mirrors (l.loaded.nodes ∙ one) (each_placed.first (length specs) own);
+      pools = pools_first own (length specs) schedule l.start.cluster
+          (loads_full.pools own l.start.cluster.images specs l.start loaded_is);
+    };
+    places = each_placed.first (length specs) own;
+  }
+
+  -- what was just loaded follows the run
+  pub first_follows : (statuses : List ProcStatus) × Follows specs net schedule budget statuses (at_start schedule) net
+  first_follows = (
+    statuses_of world,
+    record { start = l.start; started = l.is; now = l.start; is = l.is; world = world; come = first_come },
+  )
+
+-- ---- the entry that comes next
+
+module _ (specs : List NodeSpec) (start : System) (schedule : List Entry) (budget : ℕ) (statuses : List ProcStatus) (progress : Progress)
+    (now : System) (w : CodeWorld) (h : HasCome specs start schedule budget statuses progress now w) where
+  abbrev parts : Parts
+  parts = start.cluster.parts
+
+  abbrev n : ℕ
+  n = length specs
+
+  abbrev begins : CodeWorld
+  begins = world_first (length specs) start.cluster.parts
+
+  abbrev here : RunState CodeActivation
+  here = code_run start.cluster.parts (length specs) schedule progress.done
+
+  abbrev Pool : ℕ → List ℕ → Type 0
+  Pool = PoolAfter start.cluster.parts (length specs) schedule progress.done
+
+  pub one_here : length now.cluster.nodes ≡ 1
+  one_here = h.shows.sizes.nodes ∙ h.one
+
+  module _ (e : RunEntry) (step : IsStep statuses budget progress (Does e)) where
+    abbrev next : CodeWorld
+    next = after_entry code_meaning (code_silent start.cluster.parts) w e
+
+    action_is : next_action parts n schedule progress.done ≡ after_action w e
+    action_is =
+        ap (action_if here.world) (entry_is code_meaning (code_silent parts) begins schedule budget statuses progress w h.comes e step)
+        ∙ ap (λ (v : CodeWorld). after_action v e) (sym h.comes.world_is)
+
+    more : code_run parts n schedule (suc progress.done) ≡ stepped code_meaning (code_silent parts) here (Some e)
+    more = run_more code_meaning (code_silent parts) begins schedule budget statuses progress w h.comes e step
+
+    done_is : (code_run parts n schedule (suc progress.done)).done ≡ here.done ++ e ∷ []
+    done_is = ap (λ (r : RunState CodeActivation). r.done) more
+
+    abbrev IsFullFrom : CodeWorld → CodeWorld → ℕ → Part → ℕ → ℕ → Type 0
+    IsFullFrom v x = FullAt specs (held parts v) (held parts x) Pool (Strings parts x)
+
+    -- what is full for the world now is full for the run
+    full_next : (node need free : ℕ) (part : Part) → IsFullFrom w (after_action w e) node part need free →
+        NextFull parts specs schedule progress.done node part need free
+    full_next node need free part full =
+        subst (λ (v : CodeWorld). IsFullFrom v (next_action parts n schedule progress.done) node part need free) h.comes.world_is
+        (subst (λ (x : CodeWorld). IsFullFrom w x node part need free) (sym action_is) full)
+
+    full_here : (node need free : ℕ) (part : Part) → NextFull parts specs schedule progress.done node part need free →
+        IsFullFrom w (after_action w e) node part need free
+    full_here node need free part full =
+        subst (λ (x : CodeWorld). IsFullFrom w x node part need free) action_is
+        (subst (λ (v : CodeWorld). IsFullFrom v (next_action parts n schedule progress.done) node part need free)
+        (sym h.comes.world_is) full)
+
+    module _ (new : System) (g : GoneOn specs h.declared parts now w e Pool new) where
+      along_more : Along h.declared parts start begins (code_run parts n schedule (suc progress.done)).done new
+      along_more =
+          let world : w ≡ after_entries code_meaning (code_silent parts) begins here.done =
+          h.comes.world_is ∙ run_world code_meaning (code_silent parts) begins schedule progress.done in
+          let entry = subst (λ (v : CodeWorld). EntryOf h.declared now new v e) world g.entry in
+          subst (λ (es : List RunEntry). Along h.declared parts start begins es new) (sym done_is)
+          (along_push h.declared parts start begins here.done e now new h.along entry)
+
+      pools_next : HavePools new.cluster (PoolAfter parts n schedule (suc progress.done))
+      pools_next =
+          pools_more parts n schedule progress.done new.cluster
+          (subst (λ (x : CodeWorld). HavePools new.cluster (λ node text. Pool node text ⊎ Strings parts x node text)) (sym action_is)
+          g.pools)
+
+      come_next : HasCome specs start schedule budget (statuses_of next) (advanced progress e) new next
+      come_next = record {
+        one = h.one;
+        loaded = h.loaded;
+        declared = h.declared;
+        code = h.code;
+        parts = g.parts;
+        comes = comes_next code_meaning (code_silent parts) begins schedule budget statuses progress w h.comes e step next refl;
+        stands = g.stands;
+        along = rw (add-one progress.done) along_more;
+        fits = below_more (λ j. (node need free : ℕ) (part : Part) → NextFull parts specs schedule j node part need free → ⊥)
+            progress.done h.fits (λ node need free part full. g.room node need free part (full_here node need free part full));
+        shows = record {
+          mirrors = g.stands.goes.runs.mirrors;
+          sizes = g.sizes;
+          placed = one_node new next g.stands.goes.runs.mirrors (g.sizes.nodes ∙ h.one) g.places;
+          pools = rw (add-one progress.done) pools_next;
+        };
+        places = g.places;
+      }
+
+-- ---- what the network answers
+
+-- an entry that is done leads to what follows the run one entry further
+abbrev GoesTo : List NodeSpec → Net → List Entry → ℕ → Progress → RunEntry → Net → Type 0
+GoesTo specs old schedule budget progress e net' =
+    (after : List ProcStatus) × Follows specs old schedule budget after (advanced progress e) net'
+
+module _ (specs : List NodeSpec) (old : Net) (schedule : List Entry) (budget : ℕ) (statuses : List ProcStatus) (progress : Progress)
+    (net : Net) (f : Follows specs old schedule budget statuses progress net) where
+  abbrev come : HasCome specs f.start schedule budget statuses progress f.now f.world
+  come = f.come
+
+  abbrev PoolHere : ℕ → List ℕ → Type 0
+  PoolHere = PoolAfter f.start.cluster.parts (length specs) schedule progress.done
+
+  module _ (e : RunEntry) (step : IsStep statuses budget progress (Does e)) where
+    -- told over the program that the system has
+    follows_next : (net' : Net) (new : System) → net' ≡ Some new →
+        GoneOn specs f.come.declared f.now.cluster.parts f.now f.world e PoolHere new → GoesTo specs old schedule budget progress e net'
+    follows_next net' new is g =
+        let its : GoneOn specs f.come.declared f.start.cluster.parts f.now f.world e PoolHere new =
+        subst (λ (p : Parts). GoneOn specs f.come.declared p f.now f.world e PoolHere new) f.come.parts g in (
+          statuses_of (after_entry code_meaning (code_silent f.start.cluster.parts) f.world e),
+          record {
+            start = f.start;
+            started = f.started;
+            now = new;
+            is = is;
+            world = after_entry code_meaning (code_silent f.start.cluster.parts) f.world e;
+            come = come_next specs f.start schedule budget statuses progress f.now f.world f.come e step new its;
+          },
+        )
+
+  -- a turn
+  module _ (p : ℕ) (step : IsStep statuses budget progress (Does (ATurn p))) (net' : Net) where
+    pub turn_acted : (steps : ℕ) → NetTurned net net' p (Acted steps) → GoesTo specs old schedule budget progress (ATurn p) net'
+    turn_acted steps turned =
+        let t = turned f.come.declared f.now f.world f.is f.come.stands in
+        follows_next (ATurn p) step net' t.system t.is
+        (turn_leaves specs f.come.declared f.now t.system f.world PoolHere f.come.one f.come.stands f.come.shows f.come.places p steps
+        t.told)
+
+    pub turn_idle : NetTurned net net' p Idle → GoesTo specs old schedule budget progress (ATurn p) net'
+    turn_idle turned =
+        let t = turned f.come.declared f.now f.world f.is f.come.stands in
+        follows_next (ATurn p) step net' t.system t.is
+        (rest_leaves specs f.come.declared f.now t.system f.world PoolHere f.come.one f.come.stands f.come.shows f.come.places p t.told)
+
+    -- one that finds a node full leaves the network as it was
+    pub turn_full : (lack : Lack) → NetRefused net net' p (Full lack) →
+        Follows specs old schedule budget statuses progress net'
+        × FullNext specs old schedule progress.done lack.node lack.part lack.need lack.free
+    turn_full lack refused =
+        let t = refused.1 f.come.declared f.now f.world f.is f.come.stands in
+        let same : net ≡ net' = f.is ∙ ap Some (sym t.told.same) ∙ sym t.is in
+        let full = found_full PoolHere f.come.declared specs f.now t.system f.world p lack f.come.stands.goes f.come.shows f.come.one
+        f.come.places t.told in
+        let its = subst (λ (q : Parts). FullAt specs (held q f.world) (held q (Action code_meaning f.world p)) PoolHere
+        (Strings q (Action code_meaning f.world p)) lack.node lack.part lack.need lack.free) f.come.parts full in (
+          subst (λ (x : Net). Follows specs old schedule budget statuses progress x) same f,
+          λ start started.
+              let is : f.start ≡ start = same_Some f.start start (sym f.started ∙ started) in
+              subst (λ (s : System). NextFull s.cluster.parts specs schedule progress.done lack.node lack.part lack.need lack.free) is
+              (full_next specs f.start schedule budget statuses progress f.now f.world f.come (ATurn p) step lack.node lack.need lack.free
+              lack.part its),
+        )
+
+  pub turn_stays : (p : ℕ) (net' : Net) (who : Who) (members : List ℕ) (target : ℕ) (fixes : Option ℕ) →
+      NetTurned net net' p (Moves who members target fixes) → ⊥
+  turn_stays p net' who members target fixes turned =
+      let t = turned f.come.declared f.now f.world f.is f.come.stands in
+      never_moves f.come.declared f.now t.system f.world p who members target fixes
+      (one_here specs f.start schedule budget statuses progress f.now f.world f.come) f.come.stands t.told
+
+  -- a move by the operator
+  module _ (o k : ℕ) (step : IsStep statuses budget progress (Does (AMove o k))) where
+    pub move_there : ForStanding net (λ d s w. IsThere d s w o k) → GoesTo specs old schedule budget progress (AMove o k) net
+    move_there told =
+        let t = told f.come.declared f.now f.world f.is f.come.stands in
+        follows_next (AMove o k) step net f.now f.is
+        (stay_leaves specs f.come.declared f.now f.now f.world PoolHere f.come.one f.come.stands f.come.shows f.come.places o k t refl)
+
+    pub move_idle : ForStanding net (λ d s w. NoMove d s w o k) → GoesTo specs old schedule budget progress (AMove o k) net
+    move_idle told =
+        let t = told f.come.declared f.now f.world f.is f.come.stands in
+        follows_next (AMove o k) step net f.now f.is
+        (idle_leaves specs f.come.declared f.now f.now f.world PoolHere f.come.one f.come.stands f.come.shows f.come.places o k t refl)
+
+  pub move_stays : (o k : ℕ) (members : List ℕ) → ForStanding net (λ d s w. AsksToShift s w o k members) → ⊥
+  move_stays o k members told =
+      never_shifts f.come.declared f.now f.world o k members
+      (one_here specs f.start schedule budget statuses progress f.now f.world f.come) f.come.stands
+      (told f.come.declared f.now f.world f.is f.come.stands)
+
+-- ---- entries, as they are given
+
+module _ (specs : List NodeSpec) (net net' : Net) (entry : RunEntry) where
+  abbrev IsDoneBy : RunEntry → Type 0
+  IsDoneBy e = IsDone (Follows specs) (FullNext specs) e net net'
+
+  abbrev IsRefusedBy : RunEntry → Refusal → Type 0
+  IsRefusedBy e r = IsRefused (Follows specs) (FullNext specs) e net net' r
+
+  module _ (p : ℕ) (is : entry ≡ ATurn p) where
+    pub acted_done : (steps : ℕ) → NetTurned net net' p (Acted steps) → IsDoneBy entry
+    acted_done steps turned =
+        subst (λ (e : RunEntry). IsDoneBy e) (sym is)
+        (λ old schedule budget statuses progress f step.
+        turn_acted specs old schedule budget statuses progress net f p step net' steps turned)
+
+    pub idle_done : NetTurned net net' p Idle → IsDoneBy entry
+    idle_done turned =
+        subst (λ (e : RunEntry). IsDoneBy e) (sym is)
+        (λ old schedule budget statuses progress f step. turn_idle specs old schedule budget statuses progress net f p step net' turned)
+
+    pub full_refused : (lack : Lack) (r : Refusal) → r ≡ refusal_of lack → NetRefused net net' p (Full lack) → IsRefusedBy entry r
+    full_refused lack r why refused =
+        subst (λ (x : Refusal). IsRefusedBy entry x) (sym why)
+        (subst (λ (e : RunEntry). IsRefusedBy e (refusal_of lack)) (sym is)
+        (λ old schedule budget statuses progress f step.
+        turn_full specs old schedule budget statuses progress net f p step net' lack refused))
+
+module _ (specs : List NodeSpec) (net : Net) (entry : RunEntry) (o k : ℕ) (is : entry ≡ AMove o k) where
+  pub there_done : ForStanding net (λ d s w. IsThere d s w o k) → IsDone (Follows specs) (FullNext specs) entry net net
+  there_done told =
+      subst (λ (e : RunEntry). IsDone (Follows specs) (FullNext specs) e net net) (sym is)
+      (λ old schedule budget statuses progress f step. move_there specs old schedule budget statuses progress net f o k step told)
+
+  pub idle_move_done : ForStanding net (λ d s w. NoMove d s w o k) → IsDone (Follows specs) (FullNext specs) entry net net
+  idle_move_done told =
+      subst (λ (e : RunEntry). IsDone (Follows specs) (FullNext specs) e net net) (sym is)
+      (λ old schedule budget statuses progress f step. move_idle specs old schedule budget statuses progress net f o k step told)

@@ -1,0 +1,5 @@
+pub mod Entries
+pub mod OnOne
+pub mod Following
+pub mod Shown
+pub mod Ending

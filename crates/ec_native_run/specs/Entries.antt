@@ -1,0 +1,44 @@
+-- Entries of a run that nodes do by their own code.
+use Rattle.std.specs.Prelude.{◌≡◌, ℕ, List, [], ◌∷◌, length, Some}
+use Rattle.ec_cluster.specs.Cluster.{CodeWorld}
+use Rattle.ec_cluster.specs.declared.cluster.Images.{Images}
+use Rattle.ec_code.specs.Activations.{code_meaning, code_silent}
+use Rattle.ec_code.specs.Typing.{Declared}
+use Rattle.ec_code.specs.declared.code.Parts.{Parts}
+use Rattle.ec_loading.specs.Loaded.{Loaded}
+use Rattle.ec_loading.specs.Worlds.{world_first}
+use Rattle.ec_nodes_running.specs.Moving.{IsThere, NoMove}
+use Rattle.ec_nodes_running.specs.Networks.{AreCode, Net}
+use Rattle.ec_nodes_running.specs.Turns.{NoTurn, TurnOf}
+use Rattle.ec_system.specs.declared.system.System.{System}
+use Rattle.ec_world.specs.Run.{after_entry}
+use Rattle.ec_world.specs.declared.node.NodeSpec.{NodeSpec}
+use Rattle.ec_world.specs.declared.run.RunEntry.{RunEntry}
+use Rattle.ec_world.specs.declared.run.RunEntry.TheVariants as entry
+
+-- What an entry does on nodes that stand in a world. A turn is the action of the stop at which a process rests, and then so many
+-- instructions of the node's own code up to the next stop; or nothing, where the process has nothing to do. A move by the operator is one
+-- of objects that are all there, or idle; the nodes stay as they are.
+pub data EntryOf (d : Declared) (old new : System) (w : CodeWorld) : RunEntry → Type 0 where
+  Turns : (p steps : ℕ) → TurnOf d old new w p steps → EntryOf d old new w (entry.TurnOf p)
+  Rests : (p : ℕ) → NoTurn old new w p → EntryOf d old new w (entry.TurnOf p)
+  Stays : (o k : ℕ) → IsThere d old w o k → new ≡ old → EntryOf d old new w (entry.MoveOf o k)
+  Idles : (o k : ℕ) → NoMove d old w o k → new ≡ old → EntryOf d old new w (entry.MoveOf o k)
+
+-- Entries lead from nodes that stand in a world of a program to others, one entry after the other.
+unfoldable pub Along : Declared → Parts → System → CodeWorld → List RunEntry → System → Type 0
+Along d p s w [] t = t ≡ s
+Along d p s w (e ∷ es) t =
+    (m : System) × EntryOf d s m w e × Along d p m (after_entry code_meaning (code_silent p) w e) es t
+
+-- The network has run these entries of a program: nodes of these kinds and sizes began with the program and its machine code for each
+-- kind, and from there the entries have led to what the network is.
+pub record Ran (p : Parts) (specs : List NodeSpec) (entries : List RunEntry) (net : Net) : Type 0 where
+  pub declared : Declared
+  pub images : Images
+  pub code : AreCode declared p images
+  pub start : System
+  pub loaded : Loaded p images specs start
+  pub now : System
+  pub is : net ≡ Some now
+  pub along : Along declared p start (world_first (length specs) p) entries now

@@ -1,0 +1,4 @@
+//! Accepted programs, as nodes of either kind run them.
+#![tactic(auto)]
+
+pub mod prepare;
