@@ -1,4 +1,0 @@
-pub mod Statuses
-pub mod Judging
-pub mod Promised
-pub mod Examples

@@ -1,4 +1,2 @@
 pub mod Lines
-pub mod Asked
-pub mod Verdict
-pub mod Promises
+pub mod Writing

@@ -1,4 +1,4 @@
-//! What a call answers: its verdict, by the table of answers, and what is written of it.
+//! What a call answers where nothing is run, and how an answer is written.
 #![tactic(auto)]
 
 pub mod answers;

@@ -1,5 +1,5 @@
 //! The step from an answer to what is written.
-ghost use Rattle.ec_answers.specs.Verdict.{Answers};
+ghost use Rattle.ec_answers.specs.Writing.{Answers};
 
 use ec_outside::sink::Sink;
 use ec_outside::whole::write_whole;

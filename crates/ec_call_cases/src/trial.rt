@@ -1,10 +1,10 @@
 //! One call and what should come of it, line by line.
 use crate::error::Fault;
 use crate::text::{is_as, mark_in, place_behind, text_of};
-use ec_network::network::Network;
 use ec_outside::mem_shelf::{MemFile, MemShelf};
 use ec_outside::mem_sink::MemSink;
 use ec_tool::emerald::emerald;
+use ec_tool::network::Network;
 use std::alloc::{AllocError, Global};
 
 /// A file of the shelf.
@@ -176,7 +176,7 @@ impl Trial {
     ) -> Result<Outcome, AllocError> {
         let mut shelf = MemShelf::new(alloc, files, self.read_piece.max(1), &self.read_fails)?;
         let mut sink = MemSink::new(alloc, self.put_piece.max(1), &self.put_fails)?;
-        let mut net = Network::empty(alloc);
+        let mut net = Network::empty();
         let status = emerald(alloc, words, &mut shelf, &mut sink, &mut net);
         Ok(Outcome {
             status: status.code(),

@@ -1,23 +1,19 @@
--- A node file that is read has one node, a RISC-V node whose sizes are within the limits.
+-- A node file that is read has one node, of either kind, whose sizes are within the limits.
 use Rattle.std.proofs.Common.{◌≡◌, refl, ℕ, ◌≤◌, Bool, true, false, ◌==◌, List, [], ◌∷◌, length, Option, Some, None, subst, arith}
 use Rattle.std.proofs.Common.{codes, if◌then◌else◌}
 use Rattle.std.specs.Prelude.{ℤ, pos, negsuc, Result, Ok, nat_le, option_map, option_and_then}
 use Rattle.std.specs.List.{list_all}
-use Rattle.std.specs.Str.{bytes_eq}
 use Rattle.std.proofs.lemmas.Bool.Decides.{nat_tests}
 use Rattle.toml.specs.Data.{Members, as_array, as_integer, get_member}
-use Rattle.ec_world.specs.declared.node.Kind.{Kind}
-use Rattle.ec_world.specs.declared.node.Kind.TheVariants.{Riscv}
 use Rattle.ec_world.specs.declared.node.NodeSpec.{NodeSpec}
 use Rattle.ec_inputs.specs.declared.nodes.NodeRule.{NodeRule}
 use Rattle.ec_inputs.specs.declared.nodes.NodeRule.TheVariants as rule
-use Rattle.ec_inputs.specs.Nodes.{Text, NodesOf, nodes_of, nodes_by, nodes_in, node_of, number_at, whole, kind_of, string_at}
+use Rattle.ec_inputs.specs.Nodes.{Text, NodesOf, nodes_of, nodes_by, nodes_in, node_of, number_at, whole, kind_of}
 use Rattle.ec_inputs.specs.Nodes.{tables_of, tables_in, counted, is_fit_count, key_count, document_of, has_keys, have_names}
 use Rattle.ec_inputs.specs.Nodes.{have_kinds, holds, given, ◌>>=◌, longest, most_blocks, most_text}
 
--- a RISC-V node whose blocks and text are within the limits
+-- a node whose blocks and text are within the limits
 pub record IsSized (spec : NodeSpec) : Type 0 where
-  pub kind : spec.kind ≡ Riscv
   pub blocks : spec.blocks ≤ most_blocks
   pub text : spec.text ≤ most_text
 
@@ -70,13 +66,6 @@ number_within key most t n e =
     let found = then_some (whole most) (option_and_then as_integer (get_member key t)) n e in
     whole_within most found.0 n found.2
 
-kind_is : (t : Members) (kind : Kind) → kind_of t ≡ Some kind → kind ≡ Riscv
-kind_is t kind e = go (bytes_eq (string_at (codes "kind") t) (codes "riscv")) e
-  where
-    go : (b : Bool) → (if b then Some Riscv else None) ≡ Some kind → kind ≡ Riscv
-    go true h = cc
-    go false h = cc
-
 node_sized : (t : Members) (spec : NodeSpec) → node_of t ≡ Some spec → IsSized spec
 unfolding node_of
 node_sized t spec e =
@@ -85,7 +74,6 @@ node_sized t spec e =
     let text = map_some _ (number_at (codes "text") most_text t) spec blocks.2 in
     subst IsSized text.2
     (record {
-      kind = kind_is t kind.0 kind.1;
       blocks = number_within (codes "blocks") most_blocks t blocks.0 blocks.1;
       text = number_within (codes "text") most_text t text.0 text.1;
     })

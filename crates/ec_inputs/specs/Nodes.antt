@@ -7,7 +7,7 @@ use Rattle.std.specs.Str.{bytes_eq, is_utf8}
 use Rattle.toml.specs.Data.{Items, Members, no_items, item, no_members, member, get_member, as_str, as_integer, as_array, as_table}
 use Rattle.toml.specs.Parse.{parse_document}
 use Rattle.ec_world.specs.declared.node.Kind.{Kind}
-use Rattle.ec_world.specs.declared.node.Kind.TheVariants.{Riscv}
+use Rattle.ec_world.specs.declared.node.Kind.TheVariants.{Riscv, Mips}
 use Rattle.ec_world.specs.declared.node.NodeSpec.{NodeSpec}
 use Rattle.ec_inputs.specs.declared.nodes.NodeRule.{NodeRule}
 use Rattle.ec_inputs.specs.declared.nodes.NodeRule.TheVariants as rule
@@ -91,6 +91,7 @@ name_of t = string_at (codes "name") t
 abbrev pub kind_named : Text → Option Kind
 kind_named text =
     if bytes_eq text (codes "riscv") then Some Riscv else
+    if bytes_eq text (codes "mips") then Some Mips else
     None
 
 abbrev pub kind_of : Members → Option Kind

@@ -28,7 +28,7 @@ pub enum NodeRule {
     Keys,
     /// Each name is a string of 1 to 16 ASCII letters and digits, and no name is there twice; case counts.
     Name,
-    /// Each kind is the string `riscv`.
+    /// Each kind is the string `riscv` or `mips`.
     Kind,
     /// Blocks are a whole number from 0 to 65,536, and text is one from 0 to 16,777,216.
     Size,
@@ -307,6 +307,7 @@ fn kind_of(table: &Table) -> Option<Kind>
 {
     match string_at(table, "kind") {
         "riscv" => Some(Kind::Riscv),
+        "mips" => Some(Kind::Mips),
         _ => None,
     }
 }

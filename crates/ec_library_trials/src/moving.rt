@@ -5,12 +5,13 @@ use ec_inputs::schedule::read_schedule;
 use ec_lexer::lex;
 use ec_meaning::meaning::Meaning;
 use ec_meaning::source::Program;
-use ec_network::network::{Did, Network};
+use ec_nodes_running::moves::Shifted;
 use ec_outside::mem_shelf::{MemFile, MemShelf};
 use ec_outside::mem_sink::MemSink;
 use ec_parser::parse;
 use ec_report::status::Status;
 use ec_tool::emerald::emerald;
+use ec_tool::network::Network;
 use ec_world::group::group;
 use ec_world::process::ProcStatus;
 use ec_world::run::Entry;
@@ -103,7 +104,7 @@ fn a_run_leaves_its_network(rt: HostRuntime) -> Result<(), Fail> {
     let alloc = rt.alloc();
     let mut shelf = MemShelf::new(alloc, &FILES, 100, &[])?;
     let mut sink = MemSink::new(alloc, 100, &[])?;
-    let mut net = ManuallyDrop::new(Network::empty(alloc));
+    let mut net = ManuallyDrop::new(Network::empty());
     assert!(rt; !net.is_whole());
     let words = ["emerald", "run", "p", "n", "s"];
     let status = emerald(alloc, &words, &mut shelf, &mut sink, &mut net);
@@ -112,14 +113,23 @@ fn a_run_leaves_its_network(rt: HostRuntime) -> Result<(), Fail> {
     assert_eq!(rt; net.process(0), Some(ProcStatus::Ended));
     assert_eq!(rt; net.output().as_slice(), b"hi".as_slice());
     assert_eq!(rt; net.is_fixed(1), Some(true));
-    for (object, node, did) in [
-        (1, 0, Did::Idle),
-        (3, 0, Did::Moved),
-        (3, 1, Did::Idle),
-        (4, 0, Did::Idle),
+    for (object, node, told) in [
+        (1, 0, "idle"),
+        (3, 0, "there"),
+        (3, 1, "idle"),
+        (4, 0, "idle"),
     ] {
         assert!(rt; net.is_whole());
-        assert_eq!(rt; net.operator_move(object, node), Ok(did));
+        assert_eq!(rt; word_of(&net.operator_move(alloc, object, node)?), told);
     }
     Ok(())
+}
+
+/// What a move by the operator comes to, in a word.
+fn word_of(shifted: &Shifted) -> &'static str {
+    match shifted {
+        Shifted::Idle => "idle",
+        Shifted::There => "there",
+        Shifted::Moves { .. } => "moves",
+    }
 }

@@ -1,10 +1,10 @@
 -- A source is judged in one way only: it is one program's, or it is refused for one reason at one place.
-use Rattle.std.proofs.Common.{◌≡◌, ℕ, zero, suc, ◌+◌, ◌^◌, ◌<◌, ◌≤◌, List, [], ◌∷◌, ◌++◌, length, take, drop, ◌⊎◌, inl, inr, Some}
-use Rattle.std.proofs.Common.{None, refl, sym, ◌∙◌, ap, subst, arith, append_assoc, length-append}
+use Rattle.std.proofs.Common.{◌≡◌, ℕ, zero, suc, ◌+◌, ◌<◌, ◌≤◌, List, [], ◌∷◌, ◌++◌, length, take, drop, ◌⊎◌, inl, inr, Some}
+use Rattle.std.proofs.Common.{None, refl, sym, ◌∙◌, ap, subst, arith, append_assoc}
 use Rattle.std.specs.Prelude.{slice_get}
 use Rattle.std.proofs.lemmas.Bool.{cases_lt}
 use Rattle.std.proofs.lemmas.List.{take-append-drop, take-take, drop-drop}
-use Rattle.ec_ast.specs.declared.Program.{Program as WholeProgram}
+use Rattle.ec_ast.specs.declared.Program.{Program}
 use Rattle.ec_lexer.specs.declared.error.LexFault.{LexFault}
 use Rattle.ec_lexer.specs.declared.lexeme.Lexeme.TheVariants as lexeme
 use Rattle.ec_lexer.specs.declared.token.Token.{Token}
@@ -13,30 +13,19 @@ use Rattle.ec_lexer.specs.Lexemes.{begins, kind_of}
 use Rattle.ec_lexer.specs.Tokens.{HasTokens, longest_text, token}
 use Rattle.ec_lexer.specs.Words.{Bytes}
 use Rattle.ec_lexer.proofs.Lexing.{reads_separator, reads_token, reads_fault}
-use Rattle.ec_lexer.proofs.Reading.{Sofar, start, after, with_token, only_fault, only_too_long, few_tokens, same_tokens, no_tokens}
-use Rattle.ec_parser.specs.HasTree as whole
+use Rattle.ec_lexer.proofs.Reading.{Sofar, start, after, with_token, only_fault, only_too_long, same_tokens, no_tokens}
+use Rattle.ec_parser.specs.HasTree.{HasTree}
 use Rattle.ec_parser.specs.declared.grammar.Opened.{Opened}
 use Rattle.ec_parser.specs.Nesting.{Behind, behind, other, open_at, nestings_from, nestings_of}
 use Rattle.ec_parser.specs.Terminals.{terminal_of}
 use Rattle.ec_parser.specs.Program.{AreShallow, Begins, BeginsNone, IsDeep, IsShallow, IsSyntax}
-use Rattle.ec_parser.proofs.OneTree.{same_tree as same_whole_tree}
-use Rattle.ec_printing.specs.declared.Program.{Program}
-use Rattle.ec_printing.specs.declared.Statement.{Statement}
-use Rattle.ec_subset.specs.Grammar as printing
-use Rattle.ec_subset.specs.Leaving.{IsOutside}
-use Rattle.ec_subset.proofs.Outside.{same_place}
-use Rattle.ec_subset.proofs.Trees.{same_tree}
+use Rattle.ec_parser.proofs.OneTree.{same_tree}
 use Rattle.ec_rules.specs.declared.StaticFault.{StaticFault}
 use Rattle.ec_rules.specs.Faults.{HasFaults}
 use Rattle.ec_rules.proofs.OneList.{same_faults}
-use Rattle.ec_lower.specs.Short.{IsShort}
 use Rattle.ec_sources.specs.declared.source.Refusal.{Refusal}
 use Rattle.ec_sources.specs.declared.source.Refusal.TheVariants.{Lexical, Syntax, Deep, Static}
-use Rattle.ec_sources.specs.declared.source.SourceError.{SourceError}
-use Rattle.ec_sources.specs.declared.source.SourceError.TheVariants.{Refused, Memory}
-use Rattle.ec_sources.specs.Sources.{IsProgram, IsChecked, IsSource, IsFaulty, IsRefused, IsFault as IsFaultIn, IsCause, lexical}
-use Rattle.ec_sources.specs.Sources.{syntax, deep, static_rule, place_of}
-use Rattle.ec_sources.specs.Sources.IsRefused.{faulty as is_faulty, later}
+use Rattle.ec_sources.specs.Sources.{IsProgram, IsChecked, IsFaulty, lexical, syntax, deep, static_rule, place_of}
 
 -- ---- a text has at most one first fault
 
@@ -105,7 +94,7 @@ begins_later ts j k h n b =
     let split : take k ts ≡ take (j + 1) ts ++ drop (j + 1) (take k ts) =
     sym (take-append-drop (j + 1) (take k ts)) ∙ ap (λ x. x ++ drop (j + 1) (take k ts)) (take-take (j + 1) k ts (omega arith)) in
     n (drop (j + 1) (take k ts) ++ b.more) b.program
-    (subst (λ x. whole.HasTree x b.program)
+    (subst (λ x. HasTree x b.program)
     (ap (λ x. x ++ b.more) split ∙ append_assoc (take (j + 1) ts) (drop (j + 1) (take k ts)) b.more) b.has_tree)
 
 neither_less : (j k : ℕ) → (j < k → ⊥) → (k < j → ⊥) → (j < k) ⊎ (k ≤ j) → (k < j) ⊎ (j ≤ k) → j ≡ k
@@ -135,7 +124,7 @@ syntax_or_deep ts j k a b (inr h) = let l = b.within in begins_later ts j (k + 1
 data IsFaultyOn (text : List ℕ) (ts : List Token) : Refusal → ℕ → Type 0 where
   by_syntax : {k : ℕ} → IsSyntax ts k → IsFaultyOn text ts Syntax (place_of text ts k)
   by_depth : {k : ℕ} → IsDeep ts k → IsFaultyOn text ts Deep (place_of text ts k)
-  by_rule : {w : WholeProgram} {faults : List StaticFault} {fault : StaticFault} → whole.HasTree ts w → IsShallow ts → HasFaults w faults →
+  by_rule : {w : Program} {faults : List StaticFault} {fault : StaticFault} → HasTree ts w → IsShallow ts → HasFaults w faults →
       slice_get faults 0 ≡ Some fault → IsFaultyOn text ts (Static fault.rule) fault.at.from
 
 faulty_on : {text : List ℕ} {r : Refusal} {at : ℕ} → IsFaulty text r at → (ts : List Token) → HasTokens text ts → IsFaultyOn text ts r at
@@ -146,11 +135,11 @@ faulty_on {text} {r} {at} (static_rule {tokens} g w s f e) ts h =
     subst (λ us. IsFaultyOn text us r at) (same_tokens text tokens ts g h) (by_rule w s f e)
 
 -- the first fault of tokens is one
-same_first : (ts : List Token) (w v : WholeProgram) (fs gs : List StaticFault) (f g : StaticFault) → whole.HasTree ts w →
-    whole.HasTree ts v →
+same_first : (ts : List Token) (w v : Program) (fs gs : List StaticFault) (f g : StaticFault) → HasTree ts w →
+    HasTree ts v →
     HasFaults w fs → HasFaults v gs → slice_get fs 0 ≡ Some f → slice_get gs 0 ≡ Some g → f ≡ g
 same_first ts w v fs gs f g t u has have e d =
-    let as_v = subst (λ x. HasFaults x fs) (same_whole_tree ts w v t u) has in
+    let as_v = subst (λ x. HasFaults x fs) (same_tree ts w v t u) has in
     let same : fs ≡ gs = same_faults v fs gs as_v have in
     let first : slice_get fs 0 ≡ slice_get gs 0 = ap (λ x. slice_get x 0) same in
     cc
@@ -181,12 +170,12 @@ same_fault (syntax {tokens} g s) d = same_on (by_syntax s) (faulty_on d tokens g
 same_fault (deep {tokens} g s) d = same_on (by_depth s) (faulty_on d tokens g)
 same_fault (static_rule {tokens} g w s h e) d = same_on (by_rule w s h e) (faulty_on d tokens g)
 
-no_fault_on : {text : List ℕ} {ts : List Token} {w : WholeProgram} {r : Refusal} {at : ℕ} → IsProgram text ts w →
+no_fault_on : {text : List ℕ} {ts : List Token} {w : Program} {r : Refusal} {at : ℕ} → IsProgram text ts w →
     IsFaultyOn text ts r at → ⊥
 no_fault_on {w = w} p (by_syntax a) = a.no_program w p.has_tree
 no_fault_on {ts = ts} p (by_depth {k} a) = no_deep ts k p.shallow a
 no_fault_on {ts = ts} {w = w} p (by_rule {w = v} {faults = fs} h s a e) =
-    let as_w = subst (λ x. HasFaults x fs) (same_whole_tree ts v w h p.has_tree) a in
+    let as_w = subst (λ x. HasFaults x fs) (same_tree ts v w h p.has_tree) a in
     let none : fs ≡ [] = same_faults w fs [] as_w p.is_accepted in
     let first : slice_get fs 0 ≡ None = ap (λ x. slice_get x 0) none in
     cc
@@ -195,58 +184,8 @@ no_fault_on {ts = ts} {w = w} p (by_rule {w = v} {faults = fs} h s a e) =
 pub not_faulty : {text : List ℕ} {r : Refusal} {at : ℕ} → IsChecked text → IsFaulty text r at → ⊥
 not_faulty c f = no_fault_on c.is_program (faulty_on f c.tokens c.is_program.has_tokens)
 
--- the tokens of a text are one list, wherever they leave the printing part
-outside_on : {text : List ℕ} {ts us : List Token} {w : WholeProgram} {k : ℕ} → IsProgram text us w → HasTokens text ts →
-    IsOutside us k → IsOutside ts k
-outside_on {text} {ts} {us} {k = k} p h o = subst (λ x. IsOutside x k) (same_tokens text us ts p.has_tokens h) o
-
--- a text is refused for one reason at one place only
-pub same_refusal : {text : List ℕ} {r s : Refusal} {at to : ℕ} → IsRefused text r at → IsRefused text s to → (r ≡ s) × (at ≡ to)
-same_refusal (is_faulty f) (is_faulty g) = same_fault f g
-same_refusal (is_faulty f) (later {tokens} {program} p o) =
-    absurd (not_faulty (record { tokens = tokens; program = program; is_program = p }) f)
-same_refusal (later {tokens} {program} p o) (is_faulty f) =
-    absurd (not_faulty (record { tokens = tokens; program = program; is_program = p }) f)
-same_refusal {text} (later {tokens = ts} {k = j} p o) (later {tokens = us} {k} q n) =
-    let same : us ≡ ts = same_tokens text us ts q.has_tokens p.has_tokens in
-    (refl, ap (λ x. place_of text ts x) (same_place ts j k o (outside_on q p.has_tokens n)) ∙ ap (λ x. place_of text x k) (sym same))
-
--- the text of a program that is run today is not refused
-pub not_refused : {text : List ℕ} {program : Program} {r : Refusal} {at : ℕ} → IsSource text program → IsRefused text r at → ⊥
-not_refused s (is_faulty f) = not_faulty (record { tokens = s.tokens; program = s.whole_program; is_program = s.is_program }) f
-not_refused {program = program} s (later p o) = (outside_on p s.is_program.has_tokens o).no_program program s.is_printing
-
 -- a text is one program's only
-pub same_program : (text : List ℕ) (p q : Program) → IsSource text p → IsSource text q → p ≡ q
-same_program text p q s t =
-    same_tree t.tokens p q
-    (subst (λ ts. printing.HasTree ts p) (same_tokens text s.tokens t.tokens s.is_program.has_tokens t.is_program.has_tokens)
-    s.is_printing) t.is_printing
-
--- ---- what the steps of judging a text find
-
--- why a text is no program's is also why it isn't run
-pub cause_of : (text : List ℕ) (e : SourceError) → IsFaultIn text e → IsCause text e
-cause_of text (Refused refused) f = is_faulty f
-cause_of text Memory f = tt
-
--- ---- a program is short enough to be lowered
-
--- a statement has a token
-few_statements : {tokens : List Token} {statements : List Statement} → printing.AreStatements tokens statements →
-    length statements ≤ length tokens
-few_statements printing.none = omega arith
-few_statements (printing.more (printing.print p) others) = let few = few_statements others in omega arith
-
-short_tree : {tokens : List Token} {program : Program} → length tokens ≤ 2 ^ 20 → printing.HasTree tokens program → IsShort program
-short_tree l printing.empty = tt
-short_tree l (printing.with_constant (printing.constant (printing.object a b c d e f g are))) =
-    let few = few_statements are in
-    let long = simp length-append at l in
-    omega arith
-
-pub short_source : (text : List ℕ) (program : Program) → IsSource text program → IsShort program
-short_source text program s =
-    let few = few_tokens s.is_program.has_tokens in
-    let short = s.is_program.has_tokens.short in
-    short_tree (omega arith) s.is_printing
+pub same_program : (text : List ℕ) (ts us : List Token) (p q : Program) → IsProgram text ts p → IsProgram text us q → p ≡ q
+same_program text ts us p q a b =
+    let same : ts ≡ us = same_tokens text ts us a.has_tokens b.has_tokens in
+    same_tree us p q (subst (λ x. HasTree x p) same a.has_tree) b.has_tree

@@ -1,30 +1,22 @@
--- A source is judged: it is the text of a program, or it is refused for one reason at one place. Of the programs a part is
--- run today, and a larger part has its meaning worked out.
-use Rattle.std.specs.Prelude.{◌≡◌, ℕ, suc, Bool, true, false, if◌then◌else◌, List, [], ◌∷◌, ◌++◌, length, Option, Some, None}
+-- A source is judged: it is the text of a program, or it is refused for one reason at one place.
+use Rattle.std.specs.Prelude.{◌≡◌, ℕ, List, [], ◌∷◌, ◌++◌, length, Option, Some, None}
 use Rattle.std.specs.Prelude.{slice_get, codes}
 use Rattle.ec_ast.specs.declared.Program.{Program}
 use Rattle.ec_lexer.specs.declared.error.LexFault.{LexFault}
 use Rattle.ec_lexer.specs.declared.error.LexFault.TheVariants.{StrayByte, UnclosedString, UnknownEscape, LargeInteger, TextTooLong}
-use Rattle.ec_lexer.specs.declared.token.Reserved.{Reserved}
-use Rattle.ec_lexer.specs.declared.token.Reserved.TheVariants as word
 use Rattle.ec_lexer.specs.declared.token.Token.{Token}
-use Rattle.ec_lexer.specs.declared.token.TokenKind.{TokenKind}
-use Rattle.ec_lexer.specs.declared.token.TokenKind.TheVariants as kind
 use Rattle.ec_check.specs.Accepted.{HasCore}
 use Rattle.ec_lexer.specs.Faults.{HasFault}
 use Rattle.ec_lexer.specs.Tokens.{HasTokens}
 use Rattle.ec_meaning.specs.Programs.{Source}
 use Rattle.ec_parser.specs.HasTree.{HasTree}
 use Rattle.ec_parser.specs.Program.{IsDeep, IsShallow, IsSyntax}
-use Rattle.ec_printing.specs.declared.Program.{Program as Printing}
-use Rattle.ec_subset.specs.Grammar as printing
-use Rattle.ec_subset.specs.Leaving.{IsOutside}
 use Rattle.ec_rules.specs.declared.Rule.{Rule}
 use Rattle.ec_rules.specs.declared.Rule.TheVariants as rule
 use Rattle.ec_rules.specs.declared.StaticFault.{StaticFault}
 use Rattle.ec_rules.specs.Faults.{HasFaults, IsAccepted}
 use Rattle.ec_sources.specs.declared.source.Refusal.{Refusal}
-use Rattle.ec_sources.specs.declared.source.Refusal.TheVariants.{Lexical, Syntax, Deep, Later, Static}
+use Rattle.ec_sources.specs.declared.source.Refusal.TheVariants.{Lexical, Syntax, Deep, Static}
 use Rattle.ec_sources.specs.declared.source.SourceError.{SourceError}
 use Rattle.ec_sources.specs.declared.source.SourceError.TheVariants.{Refused, Memory}
 use Rattle.ec_sources.specs.Places.{place_text}
@@ -43,13 +35,6 @@ pub record IsChecked (text : List ℕ) : Type 0 where
   pub tokens : List Token
   pub program : Program
   pub is_program : IsProgram text tokens program
-
--- The text is that of a program that is run today: its tokens also have this tree of the printing part.
-pub record IsSource (text : List ℕ) (program : Printing) : Type 0 where
-  pub tokens : List Token
-  pub whole_program : Program
-  pub is_program : IsProgram text tokens whole_program
-  pub is_printing : printing.HasTree tokens program
 
 -- The text is that of a program, and its source is the text with the program's core.
 pub record IsMeant (text : List ℕ) (source : Source) : Type 0 where
@@ -83,22 +68,10 @@ pub data IsFaulty (text : List ℕ) : Refusal → ℕ → Type 0 where
       HasTokens text tokens → HasTree tokens program → IsShallow tokens → HasFaults program faults → slice_get faults 0 ≡ Some fault →
       IsFaulty text (Static fault.rule) fault.at.from
 
--- the text isn't run today, for this reason, at this byte or at its end
-pub data IsRefused (text : List ℕ) : Refusal → ℕ → Type 0 where
-  faulty : {refusal : Refusal} {at : ℕ} → IsFaulty text refusal at → IsRefused text refusal at
-  -- it is a program's, but up to this token its tokens begin none of the printing part
-  later : {tokens : List Token} {program : Program} {k : ℕ} →
-      IsProgram text tokens program → IsOutside tokens k → IsRefused text Later (place_of text tokens k)
-
 -- the error is why the text is no program's, or want of memory
 abbrev pub IsFault : List ℕ → SourceError → Type 0
 IsFault text (Refused refused) = IsFaulty text refused.refusal refused.at
 IsFault text Memory = Unit {0}
-
--- the error is why the text isn't run, or want of memory
-abbrev pub IsCause : List ℕ → SourceError → Type 0
-IsCause text (Refused refused) = IsRefused text refused.refusal refused.at
-IsCause text Memory = Unit {0}
 
 -- ---- the line that says it: `refused E3 at line 3 column 5`
 
@@ -132,7 +105,6 @@ abbrev pub refusal_name : Refusal → List ℕ
 refusal_name (Lexical fault) = fault_name fault
 refusal_name Syntax = codes "syntax"
 refusal_name Deep = codes "deep"
-refusal_name Later = codes "later"
 refusal_name (Static rule) = rule_name rule
 
 abbrev pub refused_line : List ℕ → Refusal → ℕ → List ℕ

@@ -1,24 +1,20 @@
 //! A source is judged: its program, or why it is refused and where, and the line that says so.
 ghost use Rattle.std.specs.Prelude.{◌≡◌, ◌<◌, ◌^◌, length, IfOk, IfErr};
 ghost use Rattle.ec_check.specs.Accepted.{HasCore};
-ghost use Rattle.ec_ast.specs.declared.Program.{Program as WholeProgram};
 ghost use Rattle.ec_lexer.specs.Tokens.{HasTokens};
-ghost use Rattle.ec_parser.specs.HasTree as whole;
+ghost use Rattle.ec_parser.specs.HasTree.{HasTree};
 ghost use Rattle.ec_parser.specs.Program.{IsShallow};
-ghost use Rattle.ec_subset.specs.Grammar as printing;
-ghost use Rattle.ec_sources.specs.Sources.{IsProgram, IsSource, IsMeant, IsFault, IsCause, place_of, fault_name, rule_name};
-ghost use Rattle.ec_sources.specs.Sources.{refusal_name, refused_line};
+ghost use Rattle.ec_sources.specs.Sources.{IsProgram, IsMeant, IsFault, place_of, fault_name, rule_name, refusal_name, refused_line};
 
 use crate::place::push_place;
+use ec_ast::Program;
 use ec_base::list::Seq;
 use ec_check::check::{CheckError, Checked, check};
 use ec_lexer::error::{LexError, LexFault};
 use ec_lexer::lex;
 use ec_lexer::token::Token;
 use ec_parser::{ParseError, parse};
-use ec_printing::Program;
 use ec_rules::Rule;
-use ec_subset::{SubsetError, read};
 use std::alloc::{AllocError, Global};
 
 /// Why a source is refused.
@@ -32,8 +28,6 @@ pub enum Refusal {
     Deep,
     /// The program breaks this rule.
     Static(Rule),
-    /// The program is one of the language, but not of the part that is run so far.
-    Later,
 }
 
 /// Why a source is refused, and at which byte; the length of the text stands for its end.
@@ -65,21 +59,12 @@ pub fn check_source(alloc: Global, text: &[u8]) -> Result<Accepted, SourceError>
     ensures refused { IfErr result (IsFault text.now) }
 {
     let tokens = tokens_of(alloc, text)?;
-    let program = whole_of(alloc, text, tokens.as_slice())?;
+    let program = tree_of(alloc, text, tokens.as_slice())?;
     match check(alloc, program) {
         Ok(checked) => Ok(Accepted { tokens, checked }),
         Err(CheckError::Fault(fault)) => Err(refuse(Refusal::Static(fault.rule), fault.at.from)),
         Err(CheckError::Memory) => Err(SourceError::Memory),
     }
-}
-
-/// The program of a source that is run today.
-pub fn read_source(alloc: Global, text: &[u8]) -> Result<Program, SourceError>
-    ensures program { IfOk result (IsSource text.now) }
-    ensures refused { IfErr result (IsCause text.now) }
-{
-    let accepted = check_source(alloc, text)?;
-    printing_of(alloc, text, accepted.tokens.as_slice())
 }
 
 /// The program of a source, with its core.
@@ -109,10 +94,10 @@ fn tokens_of(alloc: Global, text: &[u8]) -> Result<Seq<Token>, SourceError>
     }
 }
 
-/// The tree of a text's tokens in the whole language.
-fn whole_of(alloc: Global, text: &[u8], tokens: &[Token]) -> Result<ec_ast::Program, SourceError>
+/// The tree of a text's tokens.
+fn tree_of(alloc: Global, text: &[u8], tokens: &[Token]) -> Result<Program, SourceError>
     requires { HasTokens text.now tokens.now }
-    ensures tree { IfOk result (λ program. whole.HasTree tokens.now program × IsShallow tokens.now) }
+    ensures tree { IfOk result (λ program. HasTree tokens.now program × IsShallow tokens.now) }
     ensures refused { IfErr result (IsFault text.now) }
 {
     match parse(alloc, tokens) {
@@ -124,21 +109,6 @@ fn whole_of(alloc: Global, text: &[u8], tokens: &[Token]) -> Result<ec_ast::Prog
             Err(refuse(Refusal::Deep, place_of(text, tokens, token)))
         }
         Err(ParseError::Memory) => Err(SourceError::Memory),
-    }
-}
-
-/// The tree of a program's tokens in the printing part.
-fn printing_of(alloc: Global, text: &[u8], tokens: &[Token]) -> Result<Program, SourceError>
-    requires { (program : WholeProgram) × IsProgram text.now tokens.now program }
-    ensures tree { IfOk result (printing.HasTree tokens.now) }
-    ensures refused { IfErr result (IsCause text.now) }
-{
-    match read(alloc, tokens) {
-        Ok(program) => Ok(program),
-        Err(SubsetError::Outside { token }) => {
-            Err(refuse(Refusal::Later, place_of(text, tokens, token)))
-        }
-        Err(SubsetError::Memory) => Err(SourceError::Memory),
     }
 }
 
@@ -197,7 +167,6 @@ fn refusal_name(refusal: Refusal) -> &'static [u8]
         Refusal::Syntax => b"syntax",
         Refusal::Deep => b"deep",
         Refusal::Static(rule) => rule_name(rule),
-        Refusal::Later => b"later",
     }
 }
 

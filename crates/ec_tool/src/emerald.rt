@@ -1,24 +1,23 @@
 //! The call of the program: the files are read, the source is judged and run, and the text is written at the end.
 ghost use Rattle.std.specs.Prelude.{◌≡◌, ◌⊎◌, ℕ, List, ◌++◌, None, map};
-ghost use Rattle.ec_answers.specs.Asked.{HasRead};
+ghost use Rattle.ec_tool.specs.Asked.{HasRead};
 ghost use Rattle.ec_answers.specs.Lines.{usage_line};
-ghost use Rattle.ec_answers.specs.Promises.{EndsWith, HasReadFault, IsNoSource, IsNoInput, HasEnded, HasAccepted, IsRun, IsAccepted};
-ghost use Rattle.ec_answers.specs.Promises.{NoneRisen};
-ghost use Rattle.ec_answers.specs.Verdict.{Came};
+ghost use Rattle.ec_tool.specs.Promises.{EndsWith, HasReadFault, IsNoSource, IsNoInput, HasEnded, HasAccepted, IsRun, IsAccepted};
+ghost use Rattle.ec_tool.specs.Promises.{NoneRisen};
+ghost use Rattle.ec_tool.specs.Verdict.{Came};
 ghost use Rattle.ec_inputs.specs.Words.{WordsOf};
-ghost use Rattle.ec_network.specs.Net.{empty_net};
 ghost use Rattle.ec_outside.specs.Fault.{HasRisen};
 
-use ec_calls::call::call;
-use ec_network::network::Network;
+use crate::call::call;
+use ec_native_run::network::Network;
 use ec_outside::shelf::Shelf;
 use ec_outside::sink::Sink;
 use ec_report::status::Status;
 use std::alloc::Global;
 
-/// The program: reads the files that the words name, runs the source that it finds there on the nodes or only judges it,
-/// and writes one text at the end. `net` is an empty network; what a run leaves of it stays there. Nothing is written
-/// where there was no memory.
+/// The program: reads the files that the words name, runs the source that it finds there on the nodes or only judges it, and writes one
+/// text at the end. Every accepted source is run, by the machine code of one node of either kind; what a run leaves of its network stays in
+/// `net`. Nothing is written where there was no memory.
 pub fn emerald<'a, F: Shelf, K: Sink>(
     alloc: Global,
     words: &'a [&'a str],
@@ -26,8 +25,6 @@ pub fn emerald<'a, F: Shelf, K: Sink>(
     sink: &mut K,
     net: &mut Network,
 ) -> Status
-    requires { net.old ≡ empty_net }
-
     // The status and the text, by the table of answers.
     ensures answer { Came (F.tells shelf.old) (K.tells sink.old)
         (record {

@@ -4,10 +4,10 @@
 ghost use Rattle.std.specs.Prelude.{◌≡◌, ◌⊎◌, None, map, IfOk};
 ghost use Rattle.ec_inputs.specs.Words.{WordsOf};
 
-use ec_network::network::Network;
 use ec_outside::file_shelf::FileShelf;
 use ec_outside::out_sink::OutSink;
 use ec_tool::emerald::emerald;
+use ec_tool::network::Network;
 use ec_tool::status::Status;
 use std::alloc::AllocError;
 use std::process::ExitCode;
@@ -40,7 +40,7 @@ fn call_with<'a>(rt: &HostRuntime, words: &'a [&'a str]) -> Result<Status, Alloc
     let alloc = rt.alloc();
     let mut shelf = FileShelf::new(alloc, rt, words)?;
     let mut sink = OutSink::new(rt);
-    let mut net = Network::empty(alloc);
+    let mut net = Network::empty();
     Ok(emerald(alloc, words, &mut shelf, &mut sink, &mut net))
 }
 

@@ -1,4 +1,4 @@
-use Rattle.ec_answers.specs.Verdict.Answers.{Written, Broken}
+use Rattle.ec_answers.specs.Writing.Answers.{Written, Broken}
 use Rattle.ec_answers.proofs.writing.write_answer.Goals as goal
 
 pub returns-in-Ok : goal.returns-in-Ok

@@ -1,6 +1,6 @@
-use Rattle.ec_answers.specs.Promises.IsRunStatus.{Fails, Spends, Sticks}
-use Rattle.ec_answers.proofs.Promised.{usage_of, no_command_of, read_fault_of, source_refused_of, input_refused_of, write_fault_of}
-use Rattle.ec_answers.proofs.Promised.{no_memory_of, finished_of, ended_of, full_of, reads_of, complete_of}
+use Rattle.ec_tool.specs.Promises.IsRunStatus.{Fails, Spends, Sticks}
+use Rattle.ec_tool.proofs.Promised.{usage_of, no_command_of, read_fault_of, source_refused_of, input_refused_of, write_fault_of}
+use Rattle.ec_tool.proofs.Promised.{no_memory_of, finished_of, ended_of, full_of, reads_of, complete_of}
 use Rattle.ec_report.specs.declared.status.Status.TheVariants as statuses
 use Rattle.ec_tool.proofs.emerald.emerald.Goals as goal
 

@@ -1,4 +1,0 @@
-pub mod Node
-pub mod Changes
-pub mod Owners
-pub mod Words

@@ -1,5 +1,0 @@
-pub mod Agreement
-pub mod Printing
-pub mod Short
-pub mod Stands
-pub mod Waiting

@@ -1,4 +1,0 @@
-//! From trees to three-address code.
-#![tactic(auto)]
-
-pub mod lower;

@@ -1,8 +1,0 @@
-use Rattle.std.proofs.Common.{◌≡◌, ◌++◌, drop}
-use Rattle.ec_network.specs.Net.{counts_of}
-use Rattle.ec_report.specs.Report.{node_lines}
-use Rattle.ec_run.proofs.report.push_nodes.Given as goal
-
-abbrev pub invariant-loop-k : goal.invariant-loop-k
-invariant-loop-k l = l.out.items ++ node_lines (counts_of l.net) l.k (drop l.k l.specs) ≡ l.initial.out.items
-    ++ node_lines (counts_of l.net) 0 l.specs

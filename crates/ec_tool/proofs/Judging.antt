@@ -1,0 +1,157 @@
+-- What is said of files that were judged, by the status.
+use Rattle.std.proofs.Common.{◌≡◌, ◌⊎◌, inl, inr, ℕ, List, Option, Some, None, Ok, Err, refl, sym, ap, subst, ◌∙◌}
+use Rattle.ec_tool.specs.Asked.{name_of, file_limit, AreRead, Refuses, Takes, Checks}
+use Rattle.ec_tool.specs.Promises.{IsRunStatus, EndsWith, IsNoSource, IsNoInput, HasEnded, HasAccepted, IsRun, AreInputs, AreAccepted}
+use Rattle.ec_tool.specs.Promises.IsRunStatus.{Finishes}
+use Rattle.ec_tool.specs.Promises.BreaksRule.{ByNodes, BySchedule}
+use Rattle.ec_tool.specs.Verdict.{Judged}
+use Rattle.ec_tool.specs.Verdict.Judged.{SourceRefused, NodesRefused, ScheduleRefused, IsEnded, Accepts}
+use Rattle.ec_answers.specs.declared.file.FileOf.{FileOf}
+use Rattle.ec_answers.specs.declared.file.FileOf.TheVariants.{Source, Nodes, Schedule}
+use Rattle.ec_tool.proofs.Statuses.{ends_with, end_status, full_is_run, IsByFiles, run_apart}
+use Rattle.ec_tool.proofs.Statuses.IsByFiles.{RefusesSource, RefusesInput, Ended}
+use Rattle.ec_inputs.specs.Nodes.{NodesOf}
+use Rattle.ec_inputs.specs.Schedules.{EntriesOf}
+use Rattle.ec_inputs.specs.Words.{CommandWords}
+use Rattle.ec_inputs.specs.Words.{CommandWords as command}
+use Rattle.ec_inputs.specs.declared.nodes.NodeRule.{NodeRule}
+use Rattle.ec_inputs.specs.declared.schedule.ScheduleRule.{ScheduleRule}
+use Rattle.ec_meaning.specs.Programs.{Source as Meant}
+use Rattle.ec_native_run.specs.Runs.{Net}
+use Rattle.ec_outside.specs.Whole.{IsWhole}
+use Rattle.ec_report.specs.declared.status.Status.{Status}
+use Rattle.ec_report.specs.declared.status.Status.TheVariants as statuses
+use Rattle.ec_sources.specs.Sources.{IsFaulty, IsMeant}
+use Rattle.ec_sources.specs.declared.source.Refusal.{Refusal}
+use Rattle.ec_sources.proofs.Sources.{not_faulty}
+
+module _ (asked : CommandWords) (held : FileOf → List ℕ) (net net' : Net) where
+  pub by_files : {s : Status} {t : List ℕ} → Judged asked held net net' s t → IsByFiles s
+  by_files (SourceRefused refusal at r n) = RefusesSource
+  by_files (NodesRefused rule takes m n) = RefusesInput
+  by_files (ScheduleRefused specs rule line takes m k n) = RefusesInput
+  by_files (IsEnded specs entries s t m k c) = Ended s (end_status asked s (ends_with asked (held Source) specs entries net net' s t c))
+  by_files (Accepts h n) = Ended statuses.Finished Finishes
+
+  pub source_refused : {s : Status} {t : List ℕ} → Judged asked held net net' s t → s ≡ statuses.SourceRefused →
+      IsNoSource asked held t × (net' ≡ net)
+  source_refused (SourceRefused refusal at r n) e = (record { refusal = refusal; at = at; refuses = r; text_is = refl }, n)
+  source_refused (NodesRefused rule takes m n) e = cc
+  source_refused (ScheduleRefused specs rule line takes m k n) e = cc
+  source_refused (IsEnded specs entries s t m k c) e =
+      absurd ((run_apart (end_status asked s (ends_with asked (held Source) specs entries net net' s t c))).not_source e)
+  source_refused (Accepts h n) e = cc
+
+  pub input_refused : {s : Status} {t : List ℕ} → Judged asked held net net' s t → s ≡ statuses.InputRefused →
+      IsNoInput asked held t × (net' ≡ net)
+  input_refused (SourceRefused refusal at r n) e = cc
+  input_refused (NodesRefused rule takes m n) e = ((takes, ByNodes rule m), n)
+  input_refused (ScheduleRefused specs rule line takes m k n) e = ((takes, BySchedule specs rule line m k), n)
+  input_refused (IsEnded specs entries s t m k c) e =
+      absurd ((run_apart (end_status asked s (ends_with asked (held Source) specs entries net net' s t c))).not_input e)
+  input_refused (Accepts h n) e = cc
+
+  -- a run or a plain meaning has ended so, or a check has accepted
+  judged_ended : {s : Status} {t : List ℕ} → Judged asked held net net' s t → IsRunStatus s →
+      HasEnded asked held net net' s t ⊎ ((s ≡ statuses.Finished) × HasAccepted asked held net net' t)
+  judged_ended (SourceRefused refusal at r n) e = elim e [ ]
+  judged_ended (NodesRefused rule takes m n) e = elim e [ ]
+  judged_ended (ScheduleRefused specs rule line takes m k n) e = elim e [ ]
+  judged_ended (IsEnded specs entries s t m k c) e =
+      inl (record { specs = specs; entries = entries; nodes_are = m; entries_are = k; comes_to = c })
+  judged_ended (Accepts h n) e = inr (refl, (h, n, refl))
+
+  either : (s : Status) (t : List ℕ) → HasEnded asked held net net' s t ⊎ ((s ≡ statuses.Finished) × HasAccepted asked held net net' t) →
+      HasEnded asked held net net' s t ⊎ HasAccepted asked held net net' t
+  either s t (inl h) = inl h
+  either s t (inr h) = inr h.1
+
+  pub has_finished : (s : Status) (t : List ℕ) → Judged asked held net net' s t → IsRunStatus s →
+      HasEnded asked held net net' s t ⊎ HasAccepted asked held net net' t
+  has_finished s t j r = either s t (judged_ended j r)
+
+  only_ended : (s : Status) (t : List ℕ) → (s ≡ statuses.Finished → ⊥) →
+      HasEnded asked held net net' s t ⊎ ((s ≡ statuses.Finished) × HasAccepted asked held net net' t) →
+      HasEnded asked held net net' s t
+  only_ended s t n (inl h) = h
+  only_ended s t n (inr h) = absurd (n h.0)
+
+  pub has_ended : (s : Status) (t : List ℕ) → Judged asked held net net' s t → IsRunStatus s → (s ≡ statuses.Finished → ⊥) →
+      HasEnded asked held net net' s t
+  has_ended s t j r n = only_ended s t n (judged_ended j r)
+
+  pub full_run : (s : Status) (t : List ℕ) → HasEnded asked held net net' s t → s ≡ statuses.Full → IsRun asked
+  full_run s t h e = full_is_run asked (held Source) h.specs h.entries net net' s t h.comes_to e
+
+-- ---- what is accepted
+
+-- a file is read whole in one way
+same_whole : (file : Option (List ℕ)) (limit : ℕ) (a b : List ℕ) → IsWhole file limit a → IsWhole file limit b → a ≡ b
+same_whole (Some file) limit a b e f = e ∙ sym f
+same_whole None limit a b e f = absurd e
+
+-- each command names its source
+source_named : (asked : CommandWords) → (name : List ℕ) × (name_of asked Source ≡ Some name)
+source_named (command.Run run) = (run.source, refl)
+source_named (command.Mean mean) = (mean.source, refl)
+source_named (command.Check check) = (check.source, refl)
+
+-- the text of a program that has its meaning is not faulty
+meant_not_faulty : {source : List ℕ} {meant : Meant} {refusal : Refusal} {at : ℕ} → IsMeant source meant → IsFaulty source refusal at → ⊥
+meant_not_faulty m f = not_faulty (record { tokens = m.tokens; program = m.program; is_program = m.is_program }) f
+
+-- what is accepted isn't refused
+no_refusal : (asked : CommandWords) (held : FileOf → List ℕ) (refusal : Refusal) (at : ℕ) → AreAccepted asked held →
+    Refuses asked (held Source) refusal at → ⊥
+no_refusal (command.Run run) held refusal at a r = meant_not_faulty a.0.1 r
+no_refusal (command.Mean mean) held refusal at a r = meant_not_faulty a.0.1 r
+no_refusal (command.Check check) held refusal at a r = not_faulty a r
+
+no_rule : (nodes : List ℕ) (rule : NodeRule) (held : FileOf → List ℕ) → AreInputs held → nodes ≡ held Nodes → NodesOf nodes ≡ Err rule → ⊥
+no_rule nodes rule held i e m = let y : Err rule ≡ Ok i.specs = sym m ∙ (ap NodesOf e ∙ i.nodes_are) in cc
+
+no_line : (schedule : List ℕ) (rule : ScheduleRule) (line : Option ℕ) (held : FileOf → List ℕ) → AreInputs held → schedule ≡ held Schedule →
+    EntriesOf schedule ≡ Err (rule, line) → ⊥
+no_line schedule rule line held i e m = let y : Err (rule, line) ≡ Ok i.entries = sym m ∙ (ap EntriesOf e ∙ i.entries_are) in cc
+
+-- where the same texts are accepted
+module _ (held other : FileOf → List ℕ) (net net' : Net) where
+  nodes_accepted : (asked : CommandWords) →
+      ((file : FileOf) (name : List ℕ) → name_of asked file ≡ Some name → held file ≡ other file) → AreAccepted asked other →
+      (rule : NodeRule) → Takes asked (held Source) → NodesOf (held Nodes) ≡ Err rule → ⊥
+  nodes_accepted (command.Run run) same a rule takes m = no_rule (held Nodes) rule other a.1 (same Nodes run.nodes refl) m
+  nodes_accepted (command.Mean mean) same a rule takes m = no_rule (held Nodes) rule other a.1 (same Nodes mean.nodes refl) m
+  nodes_accepted (command.Check check) same a rule takes m = takes
+
+  schedule_accepted : (asked : CommandWords) →
+      ((file : FileOf) (name : List ℕ) → name_of asked file ≡ Some name → held file ≡ other file) → AreAccepted asked other →
+      (rule : ScheduleRule) (line : Option ℕ) → Takes asked (held Source) → EntriesOf (held Schedule) ≡ Err (rule, line) → ⊥
+  schedule_accepted (command.Run run) same a rule line takes m =
+      no_line (held Schedule) rule line other a.1 (same Schedule run.schedule refl) m
+  schedule_accepted (command.Mean mean) same a rule line takes m =
+      no_line (held Schedule) rule line other a.1 (same Schedule mean.schedule refl) m
+  schedule_accepted (command.Check check) same a rule line takes m = takes
+
+  checked_ends : (asked : CommandWords) (source : List ℕ) → Checks asked source → EndsWith asked statuses.Finished
+  checked_ends (command.Run run) source h = absurd h
+  checked_ends (command.Mean mean) source h = absurd h
+  checked_ends (command.Check check) source h = refl
+
+  accepted_ends : (asked : CommandWords) →
+      ((file : FileOf) (name : List ℕ) → name_of asked file ≡ Some name → held file ≡ other file) → AreAccepted asked other →
+      {s : Status} {t : List ℕ} → Judged asked held net net' s t → EndsWith asked s
+  accepted_ends asked same a (SourceRefused refusal at r n) =
+      let named = source_named asked in
+      let e : held Source ≡ other Source = same Source named.0 named.1 in
+      absurd (no_refusal asked other refusal at a (subst (λ (x : List ℕ). Refuses asked x refusal at) e r))
+  accepted_ends asked same a (NodesRefused rule takes m n) = absurd (nodes_accepted asked same a rule takes m)
+  accepted_ends asked same a (ScheduleRefused specs rule line takes m k n) = absurd (schedule_accepted asked same a rule line takes k)
+  accepted_ends asked same a (IsEnded specs entries s t m k c) = ends_with asked (held Source) specs entries net net' s t c
+  accepted_ends asked same a (Accepts h n) = checked_ends asked (held Source) h
+
+  -- files that were read whole and are accepted lead to an end of the command
+  pub ends_of : (content : List ℕ → Option (List ℕ)) (asked : CommandWords) → AreRead content asked held →
+      AreRead content asked other → AreAccepted asked other →
+      (s : Status) (t : List ℕ) → Judged asked held net net' s t → EndsWith asked s
+  ends_of content asked r q a s t j =
+      accepted_ends asked (λ file name e. same_whole (content name) file_limit (held file) (other file) (r file name e) (q file name e)) a j

@@ -1,0 +1,5 @@
+pub mod Asked
+pub mod Verdict
+pub mod Promises
+pub mod Reading
+pub mod Taking

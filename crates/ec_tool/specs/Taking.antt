@@ -1,0 +1,28 @@
+-- A source that is taken to nodes, to be run or for its meaning to be worked out.
+use Rattle.std.specs.Prelude.{◌≡◌, ℕ, List}
+use Rattle.ec_check.specs.declared.check.Checked.{Checked}
+use Rattle.ec_inputs.specs.Words.{RunWords, CommandWords}
+use Rattle.ec_inputs.specs.Words.{CommandWords as command}
+use Rattle.ec_meaning.specs.Programs.{Source as Meant}
+use Rattle.ec_native_run.specs.Runs.{Net, RunsTo}
+use Rattle.ec_plain.specs.Plain.{IsPlainRun}
+use Rattle.ec_report.specs.declared.status.Status.{Status}
+use Rattle.ec_tool.specs.declared.take.Work.{Work}
+use Rattle.ec_tool.specs.declared.take.Work.TheVariants.{Run, Mean}
+use Rattle.ec_world.specs.declared.node.NodeSpec.{NodeSpec}
+use Rattle.ec_world.specs.declared.run.Entry.{Entry}
+
+-- the command with these words
+abbrev pub asked_of : Work → RunWords → CommandWords
+asked_of Run words = command.Run words
+asked_of Mean words = command.Mean words
+
+-- the source of a text with this core
+abbrev pub source_in : List ℕ → Checked → Meant
+source_in text checked = record { text = text; table = checked.table; core = checked.core }
+
+-- on these nodes along these entries a source comes to this status and this text; its plain meaning leaves the network alone
+abbrev pub WorkComesTo : Work → Meant → List NodeSpec → List Entry → ℕ → Net → Net → Status → List ℕ → Type 0
+WorkComesTo Run source specs entries budget net net' status written = RunsTo source specs entries budget net net' status written
+WorkComesTo Mean source specs entries budget net net' status written =
+    IsPlainRun source specs entries budget status written × (net' ≡ net)

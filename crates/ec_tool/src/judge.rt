@@ -1,0 +1,67 @@
+//! Files that were read are judged: the source, then the node file, then the schedule. What is taken comes to its end.
+ghost use Rattle.std.specs.Prelude.{IfOk};
+ghost use Rattle.ec_tool.specs.Verdict.{Judged};
+ghost use Rattle.ec_inputs.specs.Words.{run_in, CheckWords, Check as ACheck};
+ghost use Rattle.ec_native_run.specs.Runs.{Net as ANet};
+ghost use Rattle.ec_tool.specs.Reading.{held_in, only};
+ghost use Rattle.ec_tool.specs.Taking.{asked_of};
+
+use crate::files::Files;
+use crate::take::{Work, come_to_end};
+use ec_answers::answers::{accepted, nodes_refused, schedule_refused, source_refused};
+use ec_inputs::nodes::{NodesError, read_nodes};
+use ec_inputs::schedule::{ScheduleError, read_schedule};
+use ec_inputs::words::RunCommand;
+use ec_native_run::network::Network;
+use ec_report::answer::Answer;
+use ec_sources::source::{SourceError, check_source, meant_source};
+use std::alloc::{AllocError, Global};
+
+/// Judges the files of a run or a plain meaning, and goes on to its end.
+pub(crate) fn judge(
+    alloc: Global,
+    work: Work,
+    run: RunCommand,
+    files: &Files,
+    net: &mut Network,
+) -> Result<Answer, AllocError>
+    ensures { IfOk result
+        (λ answer. Judged (asked_of work (run_in run.entry)) (held_in files.now) net.old net.new answer.status answer.text.items) }
+{
+    let checked = match meant_source(alloc, &files.source) {
+        Ok(checked) => checked,
+        Err(SourceError::Refused(refused)) => return source_refused(alloc, &files.source, refused),
+        Err(SourceError::Memory) => return Err(AllocError),
+    };
+    let specs = match read_nodes(alloc, &files.nodes) {
+        Ok(specs) => specs,
+        Err(NodesError::Refused(rule)) => return nodes_refused(alloc, rule),
+        Err(NodesError::Memory) => return Err(AllocError),
+    };
+    match read_schedule(alloc, &files.schedule) {
+        Ok(entries) => come_to_end(
+            alloc,
+            work,
+            &checked,
+            &files.source,
+            &specs,
+            &entries,
+            run.budget,
+            net,
+        ),
+        Err(ScheduleError::Refused { rule, line }) => schedule_refused(alloc, rule, line),
+        Err(ScheduleError::Memory) => Err(AllocError),
+    }
+}
+
+/// Judges the source of a check.
+pub(crate) fn judge_source(alloc: Global, source: &[u8]) -> Result<Answer, AllocError>
+    ensures { IfOk result
+        (λ answer. (check : CheckWords) (net : ANet) → Judged (ACheck check) (only source.now) net net answer.status answer.text.items) }
+{
+    match check_source(alloc, source) {
+        Ok(_) => accepted(alloc),
+        Err(SourceError::Refused(refused)) => source_refused(alloc, source, refused),
+        Err(SourceError::Memory) => Err(AllocError),
+    }
+}
