@@ -1,5 +1,5 @@
 % Read and checked whole: a typeobject, a class that conforms to it, a monitored class with a condition and a process, a
-% vector, and a move. `emerald check` accepts it; it isn't of the part that is run so far.
+% vector, and a move. `emerald check` accepts it.
 const Counted <- typeobject Counted
   operation count -> [n : Integer]
 end Counted

@@ -1,9 +1,10 @@
-% A program of the whole language. It is read, but isn't of the part that is run so far: so the answer names the place
-% at which it leaves that part.
+% The word `then` is missing behind the condition: the source is refused at the token with which it can no longer become a
+% program, and nothing is run.
 const counter <- object counter
-  var count : Integer <- 0
-  export operation add[n : Integer] -> [total : Integer]
-    count <- count + n
-    total <- count
+  var count : Integer
+  export operation add [n : Integer]
+    if n > 0
+      count <- count + n
+    end if
   end add
 end counter
