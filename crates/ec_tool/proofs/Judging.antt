@@ -1,6 +1,6 @@
 -- What is said of files that were judged, by the status.
 use Rattle.std.proofs.Common.{◌≡◌, ◌⊎◌, inl, inr, ℕ, List, Option, Some, None, Ok, Err, refl, sym, ap, subst, ◌∙◌}
-use Rattle.ec_tool.specs.Asked.{name_of, file_limit, AreRead, Refuses, Takes, Checks}
+use Rattle.ec_tool.specs.Asked.{name_of, file_limit, AreRead, Takes, Checks}
 use Rattle.ec_tool.specs.Promises.{IsRunStatus, EndsWith, IsNoSource, IsNoInput, HasEnded, HasAccepted, IsRun, AreInputs, AreAccepted}
 use Rattle.ec_tool.specs.Promises.IsRunStatus.{Finishes}
 use Rattle.ec_tool.specs.Promises.BreaksRule.{ByNodes, BySchedule}
@@ -34,7 +34,7 @@ module _ (asked : CommandWords) (held : FileOf → List ℕ) (net net' : Net) wh
   by_files (Accepts h n) = Ended statuses.Finished Finishes
 
   pub source_refused : {s : Status} {t : List ℕ} → Judged asked held net net' s t → s ≡ statuses.SourceRefused →
-      IsNoSource asked held t × (net' ≡ net)
+      IsNoSource held t × (net' ≡ net)
   source_refused (SourceRefused refusal at r n) e = (record { refusal = refusal; at = at; refuses = r; text_is = refl }, n)
   source_refused (NodesRefused rule takes m n) e = cc
   source_refused (ScheduleRefused specs rule line takes m k n) e = cc
@@ -102,7 +102,7 @@ meant_not_faulty m f = not_faulty (record { tokens = m.tokens; program = m.progr
 
 -- what is accepted isn't refused
 no_refusal : (asked : CommandWords) (held : FileOf → List ℕ) (refusal : Refusal) (at : ℕ) → AreAccepted asked held →
-    Refuses asked (held Source) refusal at → ⊥
+    IsFaulty (held Source) refusal at → ⊥
 no_refusal (command.Run run) held refusal at a r = meant_not_faulty a.0.1 r
 no_refusal (command.Mean mean) held refusal at a r = meant_not_faulty a.0.1 r
 no_refusal (command.Check check) held refusal at a r = not_faulty a r
@@ -143,7 +143,7 @@ module _ (held other : FileOf → List ℕ) (net net' : Net) where
   accepted_ends asked same a (SourceRefused refusal at r n) =
       let named = source_named asked in
       let e : held Source ≡ other Source = same Source named.0 named.1 in
-      absurd (no_refusal asked other refusal at a (subst (λ (x : List ℕ). Refuses asked x refusal at) e r))
+      absurd (no_refusal asked other refusal at a (subst (λ (x : List ℕ). IsFaulty x refusal at) e r))
   accepted_ends asked same a (NodesRefused rule takes m n) = absurd (nodes_accepted asked same a rule takes m)
   accepted_ends asked same a (ScheduleRefused specs rule line takes m k n) = absurd (schedule_accepted asked same a rule line takes k)
   accepted_ends asked same a (IsEnded specs entries s t m k c) = ends_with asked (held Source) specs entries net net' s t c

@@ -197,7 +197,7 @@ no_memory_of {Told} {TakenTold} {call} {taken} {taken'} {count} {count'} c e = m
 pub source_refused_of : {Told TakenTold : Type 0} {call : Call} {taken taken' : List ℕ} {count count' : ℕ} {r : Status} →
     Came Told TakenTold call taken taken' count count' r →
     r ≡ statuses.SourceRefused →
-    (text : List ℕ) × (read : HasRead Told call.words call.content) × IsNoSource read.asked read.held text
+    (text : List ℕ) × (read : HasRead Told call.words call.content) × IsNoSource read.held text
     × (call.net_after ≡ call.net) ×
     (TakenTold → taken' ≡ taken ++ text)
 source_refused_of {Told} {TakenTold} {call} {taken} {taken'} {count} {count'} c e =

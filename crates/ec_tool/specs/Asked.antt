@@ -10,8 +10,7 @@ use Rattle.ec_outside.specs.Fault.{HasRisen, ShareCount}
 use Rattle.ec_outside.specs.Whole.{IsWhole}
 use Rattle.ec_plain.specs.Plain.{IsPlainRun}
 use Rattle.ec_report.specs.declared.status.Status.{Status}
-use Rattle.ec_sources.specs.Sources.{IsChecked, IsMeant, IsFaulty}
-use Rattle.ec_sources.specs.declared.source.Refusal.{Refusal}
+use Rattle.ec_sources.specs.Sources.{IsChecked, IsMeant}
 use Rattle.ec_world.specs.declared.node.NodeSpec.{NodeSpec}
 use Rattle.ec_world.specs.declared.run.Entry.{Entry}
 
@@ -70,10 +69,6 @@ pub record StopsAt (Told : Type 0) (content : List ℕ → Option (List ℕ)) (k
   pub earlier : Told → EachBefore file (λ other. (n : List ℕ) → name_of asked other ≡ Some n → IsSome (content n))
 
 -- ---- its source
-
--- the source is refused, for this reason at this byte: each command refuses what is no program's
-abbrev pub Refuses : CommandWords → List ℕ → Refusal → ℕ → Type 0
-Refuses asked source refusal at = IsFaulty source refusal at
 
 -- the source goes to nodes, to be run there or to have its meaning worked out; a check takes none there
 abbrev pub Takes : CommandWords → List ℕ → Type 0

@@ -1,6 +1,6 @@
 -- What the call promises of each status with which it ends: its cause, and what is written.
 use Rattle.std.specs.Prelude.{◌≡◌, ℕ, List, Option, Some, Ok, Err}
-use Rattle.ec_tool.specs.Asked.{name_of, AreRead, StopsAt, Refuses, Takes, Checks, ComesTo}
+use Rattle.ec_tool.specs.Asked.{name_of, AreRead, StopsAt, Takes, Checks, ComesTo}
 use Rattle.ec_answers.specs.Lines.{fault_line}
 use Rattle.ec_answers.specs.declared.file.FileOf.{FileOf}
 use Rattle.ec_answers.specs.declared.file.FileOf.TheVariants.{Source, Nodes, Schedule}
@@ -15,7 +15,7 @@ use Rattle.ec_outside.specs.Fault.{HasRisen}
 use Rattle.ec_report.specs.declared.status.Status.{Status}
 use Rattle.ec_report.specs.declared.status.Status.TheVariants as statuses
 use Rattle.ec_sources.specs.Refusals.{nodes_line, schedule_line}
-use Rattle.ec_sources.specs.Sources.{accepted_line, refused_line}
+use Rattle.ec_sources.specs.Sources.{IsFaulty, accepted_line, refused_line}
 use Rattle.ec_sources.specs.declared.source.Refusal.{Refusal}
 use Rattle.ec_world.specs.declared.node.NodeSpec.{NodeSpec}
 use Rattle.ec_world.specs.declared.run.Entry.{Entry}
@@ -55,10 +55,10 @@ pub record HasReadFault (Told : Type 0) (words : List (List ℕ)) (content : Lis
   pub text_is : text ≡ fault_line file
 
 -- the source is refused
-pub record IsNoSource (asked : CommandWords) (held : FileOf → List ℕ) (text : List ℕ) : Type 0 where
+pub record IsNoSource (held : FileOf → List ℕ) (text : List ℕ) : Type 0 where
   pub refusal : Refusal
   pub at : ℕ
-  pub refuses : Refuses asked (held Source) refusal at
+  pub refuses : IsFaulty (held Source) refusal at
   pub text_is : text ≡ refused_line (held Source) refusal at
 
 -- the node file breaks a rule, or the nodes are there and the schedule breaks one

@@ -1,6 +1,6 @@
 -- What a call comes to, by the table of answers: a case a row, each where no earlier one came.
 use Rattle.std.specs.Prelude.{◌≡◌, ℕ, List, Option, Some, None, Ok, Err}
-use Rattle.ec_tool.specs.Asked.{HasRead, StopsAt, Refuses, Takes, Checks, ComesTo}
+use Rattle.ec_tool.specs.Asked.{HasRead, StopsAt, Takes, Checks, ComesTo}
 use Rattle.ec_answers.specs.Lines.{usage_line, fault_line}
 use Rattle.ec_answers.specs.Writing.{Answers}
 use Rattle.ec_answers.specs.declared.file.FileOf.{FileOf}
@@ -14,7 +14,7 @@ use Rattle.ec_native_run.specs.Runs.{Net}
 use Rattle.ec_report.specs.declared.status.Status.{Status}
 use Rattle.ec_report.specs.declared.status.Status.TheVariants as statuses
 use Rattle.ec_sources.specs.Refusals.{nodes_line, schedule_line}
-use Rattle.ec_sources.specs.Sources.{accepted_line, refused_line}
+use Rattle.ec_sources.specs.Sources.{IsFaulty, accepted_line, refused_line}
 use Rattle.ec_sources.specs.declared.source.Refusal.{Refusal}
 use Rattle.ec_world.specs.declared.node.NodeSpec.{NodeSpec}
 use Rattle.ec_world.specs.declared.run.Entry.{Entry}
@@ -23,7 +23,7 @@ use Rattle.ec_world.specs.declared.run.Entry.{Entry}
 
 -- What a command whose files were read comes to: its status and its text, by what the files hold, and the network before and after.
 pub data Judged (asked : CommandWords) (held : FileOf → List ℕ) (net net' : Net) : Status → List ℕ → Type 0 where
-  SourceRefused : (refusal : Refusal) (at : ℕ) → Refuses asked (held Source) refusal at → net' ≡ net →
+  SourceRefused : (refusal : Refusal) (at : ℕ) → IsFaulty (held Source) refusal at → net' ≡ net →
       Judged asked held net net' statuses.SourceRefused (refused_line (held Source) refusal at)
   NodesRefused : (rule : NodeRule) → Takes asked (held Source) → NodesOf (held Nodes) ≡ Err rule → net' ≡ net →
       Judged asked held net net' statuses.InputRefused (nodes_line rule)

@@ -49,7 +49,7 @@ pub fn emerald<'a, F: Shelf, K: Sink>(
         (K.tells sink.old → K.taken sink.new ≡ K.taken sink.old ++ text) }
     ensures source_refused { result ≡ Status.SourceRefused →
         (text : List ℕ) × (read : HasRead (F.tells shelf.old) (map (λ word. word.now) words.now) (F.content shelf.old)) ×
-        IsNoSource read.asked read.held text × (net.new ≡ net.old) ×
+        IsNoSource read.held text × (net.new ≡ net.old) ×
         (K.tells sink.old → K.taken sink.new ≡ K.taken sink.old ++ text) }
     ensures input_refused { result ≡ Status.InputRefused →
         (text : List ℕ) × (read : HasRead (F.tells shelf.old) (map (λ word. word.now) words.now) (F.content shelf.old)) ×
