@@ -39,7 +39,7 @@ use Rattle.ec_node_frames.specs.Frames.{RestsAt}
 use Rattle.ec_node_frames.specs.declared.frames.Headings.{Headings}
 use Rattle.ec_nodes.proofs.Procs.{activation_is, get_end}
 use Rattle.ec_nodes.specs.Held.{if_at}
-use Rattle.ec_nodes.specs.Store.{text_bytes}
+use Rattle.ec_nodes.specs.Words.{text_bytes}
 use Rattle.ec_nodes.specs.Things.{class_blocks}
 use Rattle.ec_nodes.specs.declared.key.Key.TheVariants.{Frame, Object}
 use Rattle.ec_nodes.specs.declared.room.Lack.{Lack}

@@ -8,15 +8,16 @@ ghost use Rattle.ec_going.specs.Going.{GoesIn, GoesInSome, IsFew, Ran, RanNative
 ghost use Rattle.ec_system.specs.Systems.{Mirrors};
 ghost use Rattle.ec_world.specs.World.{GoOn};
 
+use crate::machines::Machines;
 use crate::nodes::run_here;
 use ec_cluster::objects::node_of;
 use ec_cluster_frames::finding::headings_at;
 use ec_system::system::System;
 use ec_world::value::Pid;
 
-/// Runs the native code of the activation on top of a process, whose action is done, to the next stop, at the node of its own object.
-/// Answers how many instructions come before that stop; no instruction traps.
-pub fn go_on(system: &mut System, process: Pid) -> u64
+/// Runs the native code of the activation on top of a process, whose action is done, to the next stop, at the node of its own object, on
+/// the machine of its kind. Answers how many instructions come before that stop; no instruction traps.
+pub fn go_on(system: &mut System, machines: &mut Machines, process: Pid) -> u64
     requires { GoesInSome system.old process }
     ensures mirrors { (d : Declared) (w : CodeWorld) (below : List CodeActivation) (top : CodeActivation) →
         GoesIn d system.old w process below top →
@@ -40,5 +41,5 @@ pub fn go_on(system: &mut System, process: Pid) -> u64
     };
     let k = node_of(&system.cluster, headings.own);
     let node = system.cluster.nodes.at_mut(k as usize);
-    run_here(node, &system.cluster.images, process, depth)
+    run_here(machines, node, &system.cluster.images, process, depth)
 }

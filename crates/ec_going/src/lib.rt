@@ -3,4 +3,5 @@
 
 pub mod going;
 pub mod laws;
+pub mod machines;
 mod nodes;

@@ -2,6 +2,7 @@
 ghost use Rattle.ec_going.specs.Nodes.{EachHasGoneOn, RunsOn, SomeSteps};
 ghost use Rattle.ec_stores.specs.Node.{store_of};
 
+use crate::machines::Machines;
 use ec_cluster::cluster::Images;
 use ec_legs::legs;
 use ec_native_kinds::mips::MipsKind;
@@ -14,7 +15,13 @@ use rv_machine::machine::RvMachine;
 
 /// Runs the native code of an activation that is here, by the image for the node's kind, to the next stop. Answers how many instructions
 /// come before that stop.
-pub(crate) fn run_here(node: &mut NodeStore, images: &Images, process: Pid, depth: u32) -> u64
+pub(crate) fn run_here(
+    machines: &mut Machines,
+    node: &mut NodeStore,
+    images: &Images,
+    process: Pid,
+    depth: u32,
+) -> u64
     requires { SomeSteps images.now (store_of node.old) process depth }
     ensures leg { EachHasGoneOn images.now (store_of node.old) (store_of node.new) process depth result }
     ensures native { RunsOn node.old.kind images.now node.old node.new process depth result }
@@ -23,7 +30,7 @@ pub(crate) fn run_here(node: &mut NodeStore, images: &Images, process: Pid, dept
         Kind::Riscv => {
             let image = &images.riscv;
             legs::go_on::<RvMachine, RiscvKind>(
-                &RiscvKind,
+                &mut machines.riscv,
                 node,
                 &image.code,
                 &image.table,
@@ -34,7 +41,7 @@ pub(crate) fn run_here(node: &mut NodeStore, images: &Images, process: Pid, dept
         Kind::Mips => {
             let image = &images.mips;
             legs::go_on::<MipsMachine, MipsKind>(
-                &MipsKind,
+                &mut machines.mips,
                 node,
                 &image.code,
                 &image.table,

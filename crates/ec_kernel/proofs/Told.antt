@@ -1,6 +1,6 @@
 -- What an answer tells, once it is known which it is.
-use Rattle.std.proofs.Common.{◌≡◌, Bool, true, false, Option, Some, None, subst}
-use Rattle.std.specs.Prelude.{Err, IfErr, IfNone, IfSome, MatchBool, Ok, Result}
+use Rattle.std.proofs.Common.{◌≡◌, Option, Some, None, subst}
+use Rattle.std.specs.Prelude.{Err, IfErr, IfNone, IfSome, Ok, Result}
 
 pub none_told : {A P : Type 0} (x : Option A) → x ≡ None → IfNone x P → P
 none_told None e told = told
@@ -13,12 +13,3 @@ some_told P (Some b) a e told = let same : b ≡ a = cc in subst P same told
 pub if_err : {X E : Type 0} {P Q : E → Type 0} (r : Result X E) → ((e : E) → P e → Q e) → IfErr r P → IfErr r Q
 if_err (Ok x) f p = tt
 if_err (Err e) f p = f e p
-
--- what a test tells, once it is known how it ended
-pub true_told : {P : Type 0} (Q : Type 0) (b : Bool) → b ≡ true → MatchBool b P Q → P
-true_told Q true e told = told
-true_told Q false e told = absurd cc
-
-pub false_told : (P : Type 0) {Q : Type 0} (b : Bool) → b ≡ false → MatchBool b P Q → Q
-false_told P false e told = told
-false_told P true e told = absurd cc

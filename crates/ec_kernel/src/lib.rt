@@ -3,5 +3,5 @@
 
 pub mod acting;
 pub mod acts;
-mod moving;
+pub mod moving;
 mod steps;

@@ -1,5 +1,5 @@
 //! A move of objects: done where they are all where their target is, and else told of.
-ghost use Rattle.std.specs.Prelude.{◌≡◌, IfErr, IfOk, IfSome, List, MatchBool, ℕ};
+ghost use Rattle.std.specs.Prelude.{◌≡◌, IfErr, IfOk, IfSome, IsFalse, IsTrue, List, ℕ};
 ghost use Rattle.ec_cluster.specs.Cluster.{CodeWorld, Shows};
 ghost use Rattle.ec_cluster.specs.Steps.{Changes, HasObject, Nothing, with_common};
 ghost use Rattle.ec_code.specs.Typing.{Declared};
@@ -47,8 +47,9 @@ pub(crate) fn perform_move(
 }
 
 /// Whether each of these objects is where the target is.
-fn are_together(cluster: &Cluster, members: &[Oid], target: Oid) -> bool
-    ensures { MatchBool result (AreTogether cluster.now members.now target) (Apart cluster.now members.now target) }
+pub fn are_together(cluster: &Cluster, members: &[Oid], target: Oid) -> bool
+    ensures together { IsTrue result → AreTogether cluster.now members.now target }
+    ensures apart { IsFalse result → Apart cluster.now members.now target }
 {
     let there = cluster.directory.place(target);
     for member in members {

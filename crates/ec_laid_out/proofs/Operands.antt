@@ -22,7 +22,7 @@ use Rattle.ec_micro.specs.declared.step.Question.{Question}
 use Rattle.ec_micro.specs.declared.step.Relation.{Relation}
 use Rattle.ec_micro.specs.declared.step.Source.{Source}
 use Rattle.ec_micro.specs.declared.step.Source.TheVariants as source
-use Rattle.ec_nodes.specs.Store.{StandsFor}
+use Rattle.ec_nodes.specs.Words.{StandsFor}
 use Rattle.ec_operators.specs.Same.{are_same, is_same_truth, is_zero}
 use Rattle.ec_world.specs.declared.value.Value.{Value}
 use Rattle.ec_world.specs.declared.value.Value.TheVariants.{Int, Nil, Bool as Truth}

@@ -27,7 +27,7 @@ use Rattle.ec_faithful.specs.declared.code.Code.{Code}
 use Rattle.ec_homes.specs.declared.homes.Home.{Home}
 use Rattle.ec_homes.specs.declared.homes.Home.TheVariants.{Register, Slot}
 use Rattle.ec_memory.specs.Words.{block_word_at, global_word_at, word_in}
-use Rattle.ec_nodes.specs.Store.{StandsFor}
+use Rattle.ec_nodes.specs.Words.{StandsFor}
 use Rattle.ec_nodes.specs.Things.{class_blocks}
 use Rattle.ec_nodes.specs.declared.key.Key.{Key}
 use Rattle.ec_nodes.specs.declared.key.Key.TheVariants.{Frame, Object}

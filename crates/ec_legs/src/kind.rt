@@ -20,9 +20,6 @@ pub trait NativeKind<M: Machine> {
     /// How many registers are homes.
     const HOMES: u32;
 
-    /// A machine.
-    fn machine(&self) -> M;
-
     /// What the machine means to code is what it does.
     ghost means: { Means meaning M.kind M.goes M.stops M.register M.place M.rests };
 

@@ -4,7 +4,7 @@ ghost use Rattle.ec_legs.specs.Runs.{RunsNatively};
 ghost use Rattle.ec_stores.specs.Node.{store_of};
 
 use crate::kind::NativeKind;
-use crate::machine::{behind_stop, rest_at};
+use crate::machine::{go_behind_stop, rest_at};
 use ec_faithful::code::Code;
 use ec_stop_tables::table::StopTable;
 use ec_stores::node::NodeStore;
@@ -12,9 +12,10 @@ use ec_target::machine::Machine;
 use ec_world::value::Pid;
 
 /// Runs the native code of an activation that rests at a stop whose action is done, to the next stop, where it rests again, with the
-/// action pending. Answers how many instructions come before that stop. No instruction traps.
-pub fn go_on<M: Machine + Drop, N: NativeKind<M>>(
-    native: &N,
+/// action pending, on a machine of the node's kind, whatever it did before. Answers how many instructions come before that stop. No
+/// instruction traps.
+pub fn go_on<M: Machine, N: NativeKind<M>>(
+    machine: &mut M,
     node: &mut NodeStore,
     code: &Code,
     table: &StopTable,
@@ -27,12 +28,12 @@ pub fn go_on<M: Machine + Drop, N: NativeKind<M>>(
 {
     let _before = node.runs_on();
     let _tidy = node.kind();
-    let mut machine = behind_stop::<M, N>(native, node, table, process, depth);
-    let Ok(steps) = node.run(&mut machine, code.words.as_slice()) else {
+    go_behind_stop::<M, N>(machine, node, table, process, depth);
+    let Ok(steps) = node.run(machine, code.words.as_slice()) else {
         unreachable!()
     };
     let _between = node.runs_on();
-    rest_at::<M, N>(node, &machine, table, process, depth);
+    rest_at::<M, N>(node, machine, table, process, depth);
     let _after = node.kind();
     steps
 }

@@ -34,48 +34,46 @@ fn block_address(block: u32) -> u32
     0x1000_0000 + 512 * block
 }
 
-/// A machine at rest behind the stop at which an activation rests: with the addresses of the frame and of the own object, and with
+/// Puts a machine at rest behind the stop at which an activation rests: with the addresses of the frame and of the own object, and with
 /// what the frame has saved.
-pub(crate) fn behind_stop<M: Machine + Drop, N: NativeKind<M>>(
-    native: &N,
+pub(crate) fn go_behind_stop<M: Machine, N: NativeKind<M>>(
+    machine: &mut M,
     node: &NodeStore,
     table: &StopTable,
     process: Pid,
     depth: u32,
-) -> M
+)
     requires frame { IsFrame (store_of node.now) process depth }
     requires stop { NamesStop table.now.addresses (store_of node.now) process depth }
     requires object { NamesObject (store_of node.now) process depth }
-    ensures { IsBehindStop N.meaning table.now.addresses (store_of node.now) process depth result }
+    ensures { IsBehindStop N.meaning table.now.addresses (store_of node.now) process depth machine.new }
 {
     let operation = node.frame_word(process, depth, OPERATION);
     let stop = node.frame_word(process, depth, STOP);
     let own = node.frame_word(process, depth, OWN_OBJECT);
     let address = table.pc_of(StopId { operation, stop });
-    set_up::<M, N>(native, node, process, depth, own, address + 4)
+    set_up::<M, N>(machine, node, process, depth, own, address + 4);
 }
 
-/// A machine at rest at a place, for an activation.
-fn set_up<M: Machine + Drop, N: NativeKind<M>>(
-    native: &N,
+/// Puts a machine at rest at a place, for an activation.
+fn set_up<M: Machine, N: NativeKind<M>>(
+    machine: &mut M,
     node: &NodeStore,
     process: Pid,
     depth: u32,
     own: Oid,
     place: u32,
-) -> M
+)
     requires frame { IsFrame (store_of node.now) process depth }
     requires object { HasBlock (store_of node.now) (OfObject own) }
-    ensures { IsSetUp N.meaning (store_of node.now) process depth own place result }
+    ensures { IsSetUp N.meaning (store_of node.now) process depth own place machine.new }
 {
-    let mut machine = native.machine();
     let frame_at = block_address(node.block_of_frame(process, depth));
     let own_at = block_address(node.first_block(own));
     machine.set_reg(M::FRAME, frame_at);
     machine.set_reg(M::OWN, own_at);
-    restore::<M, N>(&mut machine, node, process, depth);
+    restore::<M, N>(machine, node, process, depth);
     machine.set_pc(place);
-    machine
 }
 
 /// The homes get the words that a frame has saved.

@@ -15,7 +15,7 @@ use Rattle.ec_cluster_frames.specs.Frames.{tables_on}
 use Rattle.ec_node_frames.specs.Beginning.{HasEntry}
 use Rattle.ec_node_frames.specs.Frames.{HasTables}
 use Rattle.ec_nodes.specs.Held.{Distinct, Fits, Lacks}
-use Rattle.ec_nodes.specs.Store.{text_bytes}
+use Rattle.ec_nodes.specs.Words.{text_bytes}
 use Rattle.ec_nodes.specs.Things.{class_blocks}
 use Rattle.ec_nodes.specs.declared.key.Key.TheVariants.{Frame, Object}
 use Rattle.ec_nodes.specs.declared.room.Lack.{Lack}

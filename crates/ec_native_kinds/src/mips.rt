@@ -19,10 +19,6 @@ impl NativeKind<MipsMachine> for MipsKind {
 
     const HOMES: u32 = 6;
 
-    fn machine(&self) -> MipsMachine {
-        MipsMachine::new()
-    }
-
     ghost means = { mips_means };
 
     ghost registers = { mips_registers };

@@ -19,10 +19,6 @@ impl NativeKind<RvMachine> for RiscvKind {
 
     const HOMES: u32 = 10;
 
-    fn machine(&self) -> RvMachine {
-        RvMachine::new()
-    }
-
     ghost means = { rv_means };
 
     ghost registers = { rv_registers };

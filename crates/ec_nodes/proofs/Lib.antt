@@ -1,11 +1,2 @@
-pub mod Kept
-pub mod Touch
-pub mod Put
+pub mod Keys
 pub mod Procs
-pub mod World
-pub mod Steps
-pub mod Sums
-pub mod Items
-pub mod Texts
-pub mod Ran
-pub mod Create

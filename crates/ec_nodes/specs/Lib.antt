@@ -1,6 +1,3 @@
-pub mod Store
+pub mod Words
 pub mod Things
 pub mod Held
-pub mod Shows
-pub mod Worlds
-pub mod Items

@@ -1,32 +1,10 @@
--- Objects and activations alike: what lies in blocks at the place of an object.
-use Rattle.std.specs.Prelude.{◌≡◌, ◌≢◌, ◌⊎◌, ℕ, ◌+◌, ◌*◌, ◌/◌, max, Bool, false, List, [], ◌∷◌, length, Option, Some, None}
-use Rattle.std.specs.Prelude.{slice_get, if◌then◌else◌}
-use Rattle.ec_world.specs.declared.value.Value.{Value}
+-- How many blocks an object takes, and which activation is at a depth of a process.
+use Rattle.std.specs.Prelude.{ℕ, ◌+◌, ◌/◌, max, List, length, Option, Some, None, slice_get}
 use Rattle.ec_world.specs.declared.object.ObjectRec.{ObjectRec}
-use Rattle.ec_monitors.specs.declared.record.MonitorRec.{MonitorRec}
 use Rattle.ec_world.specs.declared.class.ClassNo.{ClassNo}
 use Rattle.ec_world.specs.declared.class.ClassNo.TheVariants.{Node, Program, Made, Vector}
 use Rattle.ec_world.specs.declared.process.Proc.{Proc}
-use Rattle.ec_world.specs.declared.world.World.{World}
-use Rattle.ec_world.specs.Objects.{object_at}
-use Rattle.ec_ir.specs.declared.activation.IrActivation.{IrActivation}
 use Rattle.ec_world.specs.declared.node.Kind.{Kind}
-use Rattle.ec_nodes.specs.declared.key.Key.{Key}
-use Rattle.ec_nodes.specs.declared.key.Key.TheVariants.{Object, Frame}
-use Rattle.ec_nodes.specs.Store.{Store, Owned, StandsAt, word_of, KeptRow, Grown, Tidy}
-
-pub record Thing : Type 0 where
-  -- the object at whose place it is
-  pub home : ℕ
-  pub blocks : ℕ
-  pub class : Option ClassNo
-  pub fixed : Bool
-  pub monitor : Option MonitorRec
-  -- plain words from word 0 on
-  pub heads : List ℕ
-  pub values : List Value
-  -- the word that value i has on a kind
-  pub spot : Kind → ℕ → Option ℕ
 
 -- how many blocks an object takes: the object of a node none, any other one for each 128 fields, and at least one
 abbrev pub class_blocks : ClassNo → ℕ → ℕ
@@ -38,120 +16,14 @@ class_blocks (Vector of) fields = max 1 ((fields + 127) / 128)
 abbrev pub blocks_of : ObjectRec → ℕ
 blocks_of o = class_blocks o.class (length o.fields)
 
+-- on each kind of machine a value has the word of its own number
 abbrev pub in_order : Kind → ℕ → Option ℕ
 in_order kind i = Some i
-
-abbrev pub object_thing : ℕ → ObjectRec → Thing
-object_thing oid o =
-    record {
-      home = oid;
-      blocks = blocks_of o;
-      class = Some o.class;
-      fixed = o.fixed;
-      monitor = o.monitor;
-      heads = [];
-      values =
-          o.fields;
-      spot = in_order;
-    }
-
-abbrev pub object_if : ℕ → Option ObjectRec → Option Thing
-object_if oid None = None
-object_if oid (Some o) = Some (object_thing oid o)
 
 abbrev pub in_process : {A : Type 0} → Option (Proc A) → ℕ → Option A
 in_process None d = None
 in_process (Some proc) d = slice_get proc.activations d
 
+-- the activation at depth d of process p
 abbrev pub activation_at : {A : Type 0} → List (Proc A) → ℕ → ℕ → Option A
 activation_at procs p d = in_process (slice_get procs p) d
-
-module _ (live : IrActivation → List Value) (spot : IrActivation → Kind → ℕ → Option ℕ) where
-  abbrev pub frame_thing : ℕ → ℕ → IrActivation → Thing
-  frame_thing p d a = record {
-    home = a.own;
-    blocks = 1;
-    class = None;
-    fixed = false;
-    monitor = None;
-    heads = p ∷ d ∷ a.operation ∷ a.at ∷ (if a.pending then 1 else 0) ∷ a.own ∷ [];
-    values = live a;
-    spot = spot a;
-  }
-
-  abbrev pub frame_if : ℕ → ℕ → Option IrActivation → Option Thing
-  frame_if p d None = None
-  frame_if p d (Some a) = Some (frame_thing p d a)
-
-  abbrev pub things_of : World IrActivation → Key → Option Thing
-  things_of w (Object oid) = object_if oid (object_at w.common.objects oid)
-  things_of w (Frame p d) = frame_if p d (activation_at w.processes p d)
-
-pub record Spells (s : Store) (r : Owned) (t : Thing) : Type 0 where
-  pub counted : length r.blocks ≡ t.blocks
-  pub class : r.class ≡ t.class
-  pub fixed : r.fixed ≡ t.fixed
-  pub monitor : r.monitor ≡ t.monitor
-  pub heads : (i n : ℕ) → slice_get t.heads i ≡ Some n → word_of s r.blocks i ≡ Some n
-  pub values : (i : ℕ) (v : Value) → slice_get t.values i ≡ Some v → (at : ℕ) × (t.spot s.kind i ≡ Some at) × StandsAt s r.blocks at v
-
-pub record Shown (s : Store) (key : Key) (t : Thing) : Type 0 where
-  pub row : Owned
-  pub there : s.row key ≡ Some row
-  pub spells : Spells s row t
-
-pub record ShownAt (nodes : ℕ → Option Store) (place : ℕ → Option ℕ) (key : Key) (t : Thing) : Type 0 where
-  pub node : ℕ
-  pub store : Store
-  pub home : place t.home ≡ Some node
-  pub there : nodes node ≡ Some store
-  pub shown : Shown store key t
-
--- each thing is at its place, and nothing else is anywhere
-pub record ShowsThings (nodes : ℕ → Option Store) (things : Key → Option Thing) (place : ℕ → Option ℕ) : Type 0 where
-  pub each : (key : Key) (t : Thing) → things key ≡ Some t → ShownAt nodes place key t
-  pub only : (k : ℕ) (s : Store) (key : Key) (r : Owned) → nodes k ≡ Some s → s.row key ≡ Some r →
-      (t : Thing) × (things key ≡ Some t) × (place t.home ≡ Some k)
-
--- what a store shows of an owner: a thing, or nothing
-abbrev pub ShowsHere : Store → Key → Option Thing → Type 0
-ShowsHere s key None = s.row key ≡ None
-ShowsHere s key (Some t) = Shown s key t
-
-abbrev pub size_of : Option Thing → ℕ
-size_of None = 0
-size_of (Some t) = t.blocks
-
-abbrev pub row_size : Option Owned → ℕ
-row_size None = 0
-row_size (Some r) = length r.blocks
-
--- one owner of a store has changed: it now has this thing, or none; all other owners are as they were
-pub record Puts (s s' : Store) (key : Key) (now : Option Thing) : Type 0 where
-  pub here : ShowsHere s' key now
-  pub others : (other : Key) → other ≢ key → KeptRow s s' other
-  pub grown : Grown s s'
-  pub tidy : Tidy s → Tidy s'
-  pub free : s'.free + size_of now ≡ s.free + row_size (s.row key)
-
--- one node has changed
-pub record NodePut (nodes nodes' : ℕ → Option Store) (k : ℕ) (s s' : Store) : Type 0 where
-  pub before : nodes k ≡ Some s
-  pub after : nodes' k ≡ Some s'
-  pub others : (j : ℕ) → j ≢ k → nodes' j ≡ nodes j
-
--- where a thing is; what isn't there is anywhere
-abbrev pub IsAt : (ℕ → Option ℕ) → ℕ → Option Thing → Type 0
-IsAt place k None = Unit {0}
-IsAt place k (Some t) = place t.home ≡ Some k
-
-pub record ThingPut (things things' : Key → Option Thing) (key : Key) (now : Option Thing) : Type 0 where
-  pub here : things' key ≡ now
-  pub others : (other : Key) → other ≢ key → things' other ≡ things other
-
--- some things at one node have changed
-pub record ThingsPut (place : ℕ → Option ℕ) (k : ℕ) (Touched : Key → Type 0) (things things' : Key → Option Thing) : Type 0 where
-  pub decided : (key : Key) → Touched key ⊎ (Touched key → ⊥)
-  pub others : (key : Key) → (Touched key → ⊥) → things' key ≡ things key
-  pub old_at : (key : Key) → Touched key → IsAt place k (things key)
-  pub new_at : (key : Key) → Touched key → IsAt place k (things' key)

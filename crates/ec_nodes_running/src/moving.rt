@@ -1,8 +1,7 @@
 //! A move by the operator on the nodes of a system.
-ghost use Rattle.std.specs.Prelude.{◌≡◌, ◌<◌, ◌^◌, suc, IfOk, IfSome, IsFalse, IsTrue};
+ghost use Rattle.std.specs.Prelude.{◌≡◌, ◌<◌, ◌^◌, suc, IfOk, IfSome};
 ghost use Rattle.ec_cluster.specs.Cluster.{CodeWorld};
 ghost use Rattle.ec_code.specs.Typing.{Declared};
-ghost use Rattle.ec_kernel.specs.Acts.{Apart, AreTogether};
 ghost use Rattle.ec_nodes_running.specs.Moving.{ShiftedIn, members_seen};
 ghost use Rattle.ec_nodes_running.specs.Standing.{Stands, StandsInSome};
 ghost use Rattle.ec_seen.specs.Decoded.{seen_common};
@@ -11,7 +10,7 @@ ghost use Rattle.ec_world.specs.Sights.{sight_of};
 
 use crate::moves::Shifted;
 use crate::seeing::seen;
-use ec_cluster::cluster::Cluster;
+use ec_kernel::moving::are_together;
 use ec_seen::seen::Seen;
 use ec_system::system::System;
 use ec_world::sight::Sees;
@@ -69,18 +68,4 @@ fn any_fixed(seen: &Seen<'_>, members: &[Oid]) -> bool
         }
     }
     false
-}
-
-/// Whether each of these objects is where the target is.
-fn are_together(cluster: &Cluster, members: &[Oid], target: Oid) -> bool
-    ensures together { IsTrue result → AreTogether cluster.now members.now target }
-    ensures apart { IsFalse result → Apart cluster.now members.now target }
-{
-    let there = cluster.directory.place(target);
-    for member in members {
-        if cluster.directory.place(*member) != there {
-            return false;
-        }
-    }
-    true
 }

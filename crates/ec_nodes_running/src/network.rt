@@ -7,6 +7,7 @@ use crate::turns::{Did, TurnError};
 use crate::{moving, turning};
 use ec_cluster::cluster::Images;
 use ec_code::code::Parts;
+use ec_going::machines::Machines;
 use ec_loading::load as loading;
 use ec_loading::load::LoadError;
 use ec_system::system::System;
@@ -22,6 +23,7 @@ use std::marker::Model;
 #[derive(Drop)]
 pub struct Network {
     system: Option<System>,
+    machines: Machines,
 }
 
 impl Model for Network {
@@ -48,7 +50,10 @@ impl Network {
     pub fn empty() -> Network
         ensures { result ≡ None }
     {
-        Network { system: None }
+        Network {
+            system: None,
+            machines: Machines::new(),
+        }
     }
 
     /// Loads a program with its images onto 1 to 64 nodes of these kinds and sizes (at most 65,536 blocks and 16,777,216 bytes of text), so
@@ -67,6 +72,7 @@ impl Network {
         match loading::load(alloc, parts, images, specs) {
             Ok(system) => Ok(Network {
                 system: Some(system),
+                machines: Machines::new(),
             }),
             Err(e) => Err(e),
         }
@@ -89,7 +95,7 @@ impl Network {
         let Some(system) = &mut self.system else {
             return Err(TurnError::Memory(AllocError));
         };
-        match turning::turn(system, alloc, p) {
+        match turning::turn(system, &mut self.machines, alloc, p) {
             Ok(did) => Ok(did),
             Err(TurnError::Full(lack)) => Err(TurnError::Full(lack)),
             Err(TurnError::Memory(e)) => {

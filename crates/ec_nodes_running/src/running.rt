@@ -8,6 +8,7 @@ ghost use Rattle.ec_nodes_running.specs.Standing.{Stands, StandsInSome};
 
 use ec_cluster_frames::finding::headings_at;
 use ec_going::going::go_on;
+use ec_going::machines::Machines;
 use ec_node_frames::frames::Headings;
 use ec_system::system::{ProcessRow, System};
 use ec_world::process::ProcStatus;
@@ -15,7 +16,7 @@ use ec_world::value::Pid;
 
 /// The activation on top of a process that is Ready goes on to its next stop, where its action is done. Answers how many instructions come
 /// before that stop; nothing where no activation goes on.
-pub(crate) fn run_on(system: &mut System, p: Pid) -> Option<u64>
+pub(crate) fn run_on(system: &mut System, machines: &mut Machines, p: Pid) -> Option<u64>
     requires { StandsInSome system.old }
     ensures some { IfSome result (λ steps. (d : Declared) (w : CodeWorld) → Stands d system.old w →
         WentOn d system.old system.new w p steps) }
@@ -25,7 +26,7 @@ pub(crate) fn run_on(system: &mut System, p: Pid) -> Option<u64>
     if headings.pending {
         return None;
     }
-    Some(go_on(system, p))
+    Some(go_on(system, machines, p))
 }
 
 /// What the headings of the activation on top of a process that is Ready say; nothing where there is none.

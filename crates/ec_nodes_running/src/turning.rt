@@ -8,6 +8,7 @@ ghost use Rattle.ec_nodes_running.specs.Turns.{RefusedIn, TurnedIn};
 
 use crate::running::{run_on, top_of};
 use crate::turns::{Did, TurnError};
+use ec_going::machines::Machines;
 use ec_kernel::acting::act;
 use ec_kernel::acts::{ActError, Acted};
 use ec_system::system::System;
@@ -16,7 +17,12 @@ use std::alloc::Global;
 
 /// The action of the stop at which a process rests, and then the code behind it up to the next stop. A move is only told of. Where a node
 /// lacks room, that is told, and nothing has changed.
-pub(crate) fn turn(system: &mut System, alloc: Global, p: Pid) -> Result<Did, TurnError>
+pub(crate) fn turn(
+    system: &mut System,
+    machines: &mut Machines,
+    alloc: Global,
+    p: Pid,
+) -> Result<Did, TurnError>
     requires { StandsInSome system.old }
     ensures turned { IfOk result (λ did. (d : Declared) (w : CodeWorld) → Stands d system.old w →
         TurnedIn d system.old system.new w p did) }
@@ -28,10 +34,10 @@ pub(crate) fn turn(system: &mut System, alloc: Global, p: Pid) -> Result<Did, Tu
     };
     match act(system, alloc, p) {
         Ok(Acted::Idle) => Ok(Did::Acted {
-            steps: run_if_done(system, p),
+            steps: run_if_done(system, machines, p),
         }),
         Ok(Acted::Done) => Ok(Did::Acted {
-            steps: run_if_done(system, p),
+            steps: run_if_done(system, machines, p),
         }),
         Ok(
             Acted::Moves {
@@ -52,11 +58,11 @@ pub(crate) fn turn(system: &mut System, alloc: Global, p: Pid) -> Result<Did, Tu
 }
 
 /// The code behind a stop up to the next one, where the process may go on. Answers how many instructions have been run.
-fn run_if_done(system: &mut System, p: Pid) -> u64
+fn run_if_done(system: &mut System, machines: &mut Machines, p: Pid) -> u64
     requires { StandsInSome system.old }
     ensures { (d : Declared) (w : CodeWorld) → Stands d system.old w → AfterAction d system.old system.new w p result }
 {
-    match run_on(system, p) {
+    match run_on(system, machines, p) {
         Some(steps) => steps,
         None => 0,
     }

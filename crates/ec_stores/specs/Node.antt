@@ -7,7 +7,7 @@ use Rattle.std.specs.declared.cmp.Ordering.{Ordering}
 use Rattle.ec_base.specs.Bytes.{Bytes}
 use Rattle.ec_memory.specs.Store.{Store as Memory, IsWhole}
 use Rattle.ec_memory.specs.Words.{block_word_at, global_word_at}
-use Rattle.ec_nodes.specs.Store.{text_bytes}
+use Rattle.ec_nodes.specs.Words.{text_bytes}
 use Rattle.ec_nodes.specs.Things.{class_blocks}
 use Rattle.ec_nodes.specs.declared.key.Key.{Key}
 use Rattle.ec_nodes.specs.declared.key.Key.TheVariants.{Object, Frame}

@@ -8,7 +8,7 @@ use Rattle.ec_monitors.specs.declared.record.MonitorRec.{MonitorRec}
 use Rattle.ec_world.specs.declared.node.Kind.{Kind}
 use Rattle.ec_world.specs.Group.{Has}
 use Rattle.ec_nodes.specs.Held.{Distinct}
-use Rattle.ec_nodes.specs.Store.{StandsFor, text_bytes}
+use Rattle.ec_nodes.specs.Words.{StandsFor, text_bytes}
 use Rattle.ec_nodes.specs.declared.key.Key.{Key}
 
 -- what is kept of an owner of blocks: of an object also how many fields or elements it has, its class, whether it is fixed, and

@@ -11,20 +11,20 @@ few_homes : {S : Type 0} (M : MachineMeaning S) (registers frame own first homes
     AreHomeRegisters M registers frame own first homes → M.homes ≤ 20
 few_homes M registers frame own first homes are = let same = are.homes_are in let few = are.few in omega arith
 
-pub behind_stop-machine-requires-clause-frame : goal.behind_stop-machine-requires-clause-frame
-behind_stop-machine-requires-clause-frame g c =
+pub go_behind_stop-requires-clause-frame : goal.go_behind_stop-requires-clause-frame
+go_behind_stop-requires-clause-frame g c =
     let can = c.requires in
     frame_here g.N.NativeKind.meaning c.args.code.now c.args.table.now (store_of c.args.node.now) c.args.process c.args.depth
     can.declared can.program can.homes can.common can.activation can.own can.is_code can.can_step can.shows
 
-pub behind_stop-machine-requires-clause-stop : goal.behind_stop-machine-requires-clause-stop
-behind_stop-machine-requires-clause-stop g c =
+pub go_behind_stop-requires-clause-stop : goal.go_behind_stop-requires-clause-stop
+go_behind_stop-requires-clause-stop g c =
     let can = c.requires in
     names_stop g.N.NativeKind.meaning c.args.code.now c.args.table.now (store_of c.args.node.now) c.args.process c.args.depth
     can.declared can.program can.homes can.common can.activation can.own can.is_code can.can_step can.shows
 
-pub behind_stop-machine-requires-clause-object : goal.behind_stop-machine-requires-clause-object
-behind_stop-machine-requires-clause-object g c =
+pub go_behind_stop-requires-clause-object : goal.go_behind_stop-requires-clause-object
+go_behind_stop-requires-clause-object g c =
     let can = c.requires in
     names_object g.N.NativeKind.meaning c.args.code.now c.args.table.now (store_of c.args.node.now) c.args.process c.args.depth
     can.declared can.program can.homes can.common can.activation can.own can.is_code can.can_step can.shows
@@ -32,20 +32,20 @@ behind_stop-machine-requires-clause-object g c =
 pub run-requires : goal.run-requires
 run-requires g c =
     let can = c.requires in
-    let u = c.behind_stop-machine.result in
+    let u = c.go_behind_stop.new.machine in
     subst (λ (words : List ℕ). Halts (g.M.Machine.goes words) u (bytes_in c.args.node.now)) (sym c.as_slice.ensures)
     (halts_here g.N.NativeKind.meaning c.args.code.now c.args.table.now (store_of c.args.node.now) c.args.process c.args.depth
     can.declared can.program can.homes can.common can.activation can.own can.is_code can.can_step can.shows can.kind
     g.met.N.NativeKind.means.number_is
     (few_homes g.N.NativeKind.meaning _ _ _ _ _ g.met.N.NativeKind.registers) (bytes_in c.args.node.now)
-    c.kind-tidy.ensures.tidy c.runs_on-before.ensures.small c.runs_on-before.ensures.words u c.behind_stop-machine.ensures
+    c.kind-tidy.ensures.tidy c.runs_on-before.ensures.small c.runs_on-before.ensures.words u c.go_behind_stop.ensures
     g.M.Machine.kind g.M.Machine.goes g.M.Machine.stops g.M.Machine.traps g.M.Machine.register g.M.Machine.place g.M.Machine.rests
     g.met.N.NativeKind.means g.met.M.Machine.one_way g.met.M.Machine.apart)
 
 pub unreachable-requires : goal.unreachable-requires
 unreachable-requires g c =
     let can = c.requires in
-    let u = c.behind_stop-machine.result in
+    let u = c.go_behind_stop.new.machine in
     let to = c.run.new.machine in
     let memory = bytes_in c.run.new.self in
     let trapped = subst
@@ -56,7 +56,7 @@ unreachable-requires g c =
     can.declared can.program can.homes can.common can.activation can.own can.is_code can.can_step can.shows can.kind
     g.met.N.NativeKind.means.number_is
     (few_homes g.N.NativeKind.meaning _ _ _ _ _ g.met.N.NativeKind.registers) (bytes_in c.args.node.now)
-    c.kind-tidy.ensures.tidy c.runs_on-before.ensures.small c.runs_on-before.ensures.words u c.behind_stop-machine.ensures
+    c.kind-tidy.ensures.tidy c.runs_on-before.ensures.small c.runs_on-before.ensures.words u c.go_behind_stop.ensures
     g.M.Machine.kind g.M.Machine.goes g.M.Machine.stops g.M.Machine.traps g.M.Machine.register g.M.Machine.place g.M.Machine.rests
     g.met.N.NativeKind.means g.met.M.Machine.one_way g.met.M.Machine.apart trapped.0 to memory c.in_default.field-0 trapped.1 trapped.2
 
@@ -74,7 +74,7 @@ rest_at-requires-clause-frame g c =
 pub rest_at-requires-clause-stop : goal.rest_at-requires-clause-stop
 rest_at-requires-clause-stop g c =
     let can = c.requires in
-    let u = c.behind_stop-machine.result in
+    let u = c.go_behind_stop.new.machine in
     let to = c.run.new.machine in
     let memory = bytes_in c.run.new.self in
     let native = subst
@@ -84,14 +84,14 @@ rest_at-requires-clause-stop g c =
     can.declared can.program can.homes can.common can.activation can.own can.is_code can.can_step can.shows can.kind
     g.met.N.NativeKind.means.number_is
     (few_homes g.N.NativeKind.meaning _ _ _ _ _ g.met.N.NativeKind.registers) (bytes_in c.args.node.now)
-    c.kind-tidy.ensures.tidy c.runs_on-before.ensures.small c.runs_on-before.ensures.words u c.behind_stop-machine.ensures
+    c.kind-tidy.ensures.tidy c.runs_on-before.ensures.small c.runs_on-before.ensures.words u c.go_behind_stop.ensures
     g.M.Machine.kind g.M.Machine.goes g.M.Machine.stops g.M.Machine.traps g.M.Machine.register g.M.Machine.place g.M.Machine.rests
     g.met.N.NativeKind.means g.met.M.Machine.one_way g.met.M.Machine.apart c.in-Ok.steps to memory native
 
 pub returns-clause-leg : goal.returns-clause-leg
 returns-clause-leg g c = λ d p homes common a o is step shows.
     let can = c.requires in
-    let u = c.behind_stop-machine.result in
+    let u = c.go_behind_stop.new.machine in
     let to = c.run.new.machine in
     let memory = bytes_in c.run.new.self in
     let native = subst
@@ -100,7 +100,7 @@ returns-clause-leg g c = λ d p homes common a o is step shows.
     leg_here g.N.NativeKind.meaning c.args.code.now c.args.table.now (store_of c.args.node.now) c.args.process c.args.depth
     d p homes common a o is step shows can.kind g.met.N.NativeKind.means.number_is
     (few_homes g.N.NativeKind.meaning _ _ _ _ _ g.met.N.NativeKind.registers) (bytes_in c.args.node.now)
-    c.kind-tidy.ensures.tidy c.runs_on-before.ensures.small c.runs_on-before.ensures.words u c.behind_stop-machine.ensures
+    c.kind-tidy.ensures.tidy c.runs_on-before.ensures.small c.runs_on-before.ensures.words u c.go_behind_stop.ensures
     g.M.Machine.kind g.M.Machine.goes g.M.Machine.stops g.M.Machine.traps g.M.Machine.register g.M.Machine.place g.M.Machine.rests
     g.met.N.NativeKind.means g.met.M.Machine.one_way g.met.M.Machine.apart c.in-Ok.steps to memory native
     (store_of c.run.new.self) (store_of c.rest_at.new.node) c.in-Ok.ensures.ran c.runs_on-between.ensures.words c.rest_at.ensures
@@ -108,14 +108,14 @@ returns-clause-leg g c = λ d p homes common a o is step shows.
 
 pub returns-clause-native : goal.returns-clause-native
 returns-clause-native g c =
-    let u = c.behind_stop-machine.result in
+    let u = c.go_behind_stop.new.machine in
     let to = c.run.new.machine in
     let memory = bytes_in c.run.new.self in
     record {
       from = u;
       to = to;
       between = c.run.new.self;
-      behind = c.behind_stop-machine.ensures;
+      behind = c.go_behind_stop.ensures;
       native =
           subst
           (λ (words : List ℕ). Native (g.M.Machine.goes words) (g.M.Machine.stops words) u (bytes_in c.args.node.now) c.in-Ok.steps to

@@ -16,9 +16,9 @@ returns g c =
     g.M.Machine.rests g.M.Machine.beside g.met.N.NativeKind.means g.M.Machine.REGISTERS g.M.Machine.FRAME g.M.Machine.OWN
     g.N.NativeKind.FIRST_HOME g.N.NativeKind.HOMES g.met.N.NativeKind.registers (store_of c.args.node.now) c.args.process c.args.depth
     c.args.own c.args.place c.block_of_frame.result c.first_block.result c.block_address-frame_at.result c.block_address-own_at.result
-    c.machine-machine.result c.set_reg.new.self c.set_reg-2.new.self c.restore.new.machine c.set_pc.new.self
+    c.args.machine.now c.set_reg.new.self c.set_reg-2.new.self c.restore.new.machine c.set_pc.new.self
     (subst
-    (λ r. SetsRegister g.M.Machine.register g.M.Machine.place g.M.Machine.rests g.M.Machine.beside c.machine-machine.result
+    (λ r. SetsRegister g.M.Machine.register g.M.Machine.place g.M.Machine.rests g.M.Machine.beside c.args.machine.now
     c.set_reg.new.self r c.block_address-frame_at.result)
     c.FRAME.ensures c.set_reg.ensures)
     (subst

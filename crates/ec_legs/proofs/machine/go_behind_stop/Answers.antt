@@ -2,7 +2,7 @@ use Rattle.std.proofs.Common.{ℕ, Option, refl, sym, ◌∙◌, subst, arith}
 use Rattle.std.specs.Prelude.{IsSome}
 use Rattle.std.proofs.lemmas.Option.{same_Some}
 use Rattle.ec_legs.proofs.Keeping.{owns_word}
-use Rattle.ec_legs.proofs.machine.behind_stop.Goals as goal
+use Rattle.ec_legs.proofs.machine.go_behind_stop.Goals as goal
 use Rattle.ec_stores.specs.Node.{store_of}
 
 pub frame_word-operation-requires : goal.frame_word-operation-requires

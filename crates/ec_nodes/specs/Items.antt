@@ -1,8 +1,0 @@
--- Owners with what they own, as items of a list.
-use Rattle.ec_nodes.specs.declared.key.Key.{Key}
-use Rattle.ec_nodes.specs.Things.{Thing}
-
--- an owner, and the object or activation that it is
-pub record Item : Type 0 where
-  pub key : Key
-  pub thing : Thing
