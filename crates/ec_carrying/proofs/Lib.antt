@@ -1,0 +1,10 @@
+pub mod Once
+pub mod Steps
+pub mod Leaving
+pub mod Places
+pub mod Texts
+pub mod Coming
+pub mod ObjectsComing
+pub mod ActivationsComing
+pub mod SettingOff
+pub mod Going

@@ -1,0 +1,104 @@
+-- Objects get other places, one after another.
+use Rattle.std.proofs.Common.{◌≡◌, ◌≢◌, ℕ, ◌+◌, ◌≤◌, List, [], ◌∷◌, ◌++◌, length, take, Some, refl, sym, ap, ◌∙◌, subst, arith, ⊎_elim}
+use Rattle.std.specs.Prelude.{slice_get}
+use Rattle.ec_base.proofs.Lists.{take_next}
+use Rattle.ec_carrying.specs.Moves.{AreAll, NotAny}
+use Rattle.ec_forward.specs.Directory.{Gives, made_count, place_at}
+use Rattle.ec_forward.specs.Located.{Located, moved_to, with_at}
+use Rattle.ec_forward.specs.declared.directory.Whereabouts.{Whereabouts}
+use Rattle.ec_nodes.proofs.Keys.{same_or_not}
+use Rattle.ec_nodes.specs.Held.{Distinct}
+use Rattle.ec_nodes.specs.declared.key.Key.TheVariants.{Object}
+use Rattle.ec_objects.proofs.Wording.{take_all}
+use Rattle.ec_parcels.proofs.Rising.{map_get}
+use Rattle.ec_parcels.specs.Owners.{object_keys}
+use Rattle.ec_wire.specs.declared.parcel.ObjectPart.{ObjectPart}
+use Rattle.ec_world.proofs.Members.{has_back, has_either, has_first, has_front, has_none, has_one}
+use Rattle.ec_world.specs.Group.{Has}
+
+-- the first i of some objects have gone to a node, and the others are where all were
+pub record Moving (old now : List Whereabouts) (objects : List ObjectPart) (from to i : ℕ) : Type 0 where
+  pub gone : AreAll now (take i objects) to
+  pub left : (j : ℕ) (part : ObjectPart) → i ≤ j → slice_get objects j ≡ Some part → place_at now part.number ≡ Some from
+  pub others : (oid : ℕ) → NotAny (take i objects) oid → place_at now oid ≡ place_at old oid
+  pub count : made_count now ≡ made_count old
+
+-- where objects are by a directory, each of which may have moved
+abbrev located : List Whereabouts → Located
+located d = record { made = made_count d; place = place_at d; moves = λ oid. 1 }
+
+gives_located : (d : List Whereabouts) → Gives d (located d)
+gives_located d = record { made = refl; places = λ oid. refl; moves = λ oid h. omega arith }
+
+with_here : {A : Type 0} (f : ℕ → A) (oid : ℕ) (a : A) → with_at f oid a oid ≡ a
+with_here f oid a = grind arith
+
+with_other : {A : Type 0} (f : ℕ → A) (oid : ℕ) (a : A) (o : ℕ) → o ≢ oid → with_at f oid a o ≡ f o
+with_other f oid a o ne = grind arith
+
+module _ (d d' : List Whereabouts) (oid from to : ℕ) (noted : (w : Located) → Gives d w → Gives d' (moved_to w oid from to)) where
+  moved : Gives d' (moved_to (located d) oid from to)
+  moved = noted (located d) (gives_located d)
+
+  goes_there : place_at d' oid ≡ Some to
+  goes_there = moved.places oid ∙ with_here (place_at d) oid (Some to)
+
+  others_stay : (o : ℕ) → o ≢ oid → place_at d' o ≡ place_at d o
+  others_stay o ne = moved.places o ∙ with_other (place_at d) oid (Some to) o ne
+
+pub none_moved : (d : List Whereabouts) (objects : List ObjectPart) (from to : ℕ) → AreAll d objects from → Moving d d objects from to 0
+none_moved d objects from to there = record {
+  gone = λ part h. absurd (has_none part h);
+  left = λ j part l e. there part (record { at = j; is = e });
+  others = λ oid h. refl;
+  count = refl;
+}
+
+pub next_from : (old now : List Whereabouts) (objects : List ObjectPart) (from to i : ℕ) (part : ObjectPart) →
+    Moving old now objects from to i → slice_get objects i ≡ Some part → place_at now part.number ≡ Some from
+next_from old now objects from to i part so e = so.left i part (omega arith) e
+
+module _ (old now new : List Whereabouts) (objects : List ObjectPart) (from to i : ℕ) (part : ObjectPart)
+    (once : Distinct (object_keys objects)) (so : Moving old now objects from to i) (is : slice_get objects i ≡ Some part)
+    (noted : (w : Located) → Gives now w → Gives new (moved_to w part.number from to)) where
+  key_at : (j : ℕ) (other : ObjectPart) → slice_get objects j ≡ Some other → slice_get (object_keys objects) j ≡ Some (Object other.number)
+  key_at j other e = map_get (λ (o : ObjectPart). Object o.number) objects j other e
+
+  -- objects at two places have two numbers
+  apart : (j : ℕ) (other : ObjectPart) → slice_get objects j ≡ Some other → j ≢ i → other.number ≢ part.number
+  apart j other e ne same =
+      ne (once.once j i (Object part.number) (key_at j other e ∙ ap (λ n. Some (Object n)) same) (key_at i part is))
+
+  next : take (i + 1) objects ≡ take i objects ++ part ∷ []
+  next = take_next objects i part is
+
+  gone_too : (other : ObjectPart) → Has (take i objects ++ part ∷ []) other → place_at new other.number ≡ Some to
+  gone_too other h = ⊎_elim
+      (λ (same : other.number ≡ part.number). ap (place_at new) same ∙ goes_there now new part.number from to noted)
+      (λ (ne : other.number ≢ part.number). ⊎_elim
+      (λ (b : Has (take i objects) other). others_stay now new part.number from to noted other.number ne ∙ so.gone other b)
+      (λ (b : Has (part ∷ []) other). absurd (ne (ap (λ (o : ObjectPart). o.number) (has_one part other b))))
+      (has_either other (take i objects) (part ∷ []) h))
+      (same_or_not other.number part.number)
+
+  pub one_moved : Moving old new objects from to (i + 1)
+  one_moved = record {
+    gone = λ other h. gone_too other (subst (λ (os : List ObjectPart). Has os other) next h);
+    left = λ j other l e.
+        others_stay now new part.number from to noted other.number (apart j other e (λ at. omega arith))
+        ∙ so.left j other (omega arith) e;
+    others = λ oid h.
+        let not : NotAny (take i objects ++ part ∷ []) oid = subst (λ (os : List ObjectPart). NotAny os oid) next h in
+        others_stay now new part.number from to noted oid (λ e. not part (has_back part (take i objects) (part ∷ []) (has_first part []))
+        (sym e))
+        ∙ so.others oid (λ other b. not other (has_front other (take i objects) (part ∷ []) b));
+    count = (moved now new part.number from to noted).made ∙ so.count;
+  }
+
+pub all_moved : (old now : List Whereabouts) (objects : List ObjectPart) (from to i : ℕ) → length objects ≤ i →
+    Moving old now objects from to i → AreAll now objects to × ((oid : ℕ) → NotAny objects oid → place_at now oid ≡ place_at old oid)
+all_moved old now objects from to i all so =
+    let whole = take_all objects i all in (
+      subst (λ (os : List ObjectPart). AreAll now os to) whole so.gone,
+      λ oid h. so.others oid (subst (λ (os : List ObjectPart). NotAny os oid) (sym whole) h),
+    )

@@ -1,0 +1,19 @@
+-- Objects go, then activations, and then the directory has the objects at the other node.
+use Rattle.ec_carrying.proofs.Once.{once_front}
+use Rattle.ec_carrying.proofs.SettingOff.{activations_kept, all_set_off}
+use Rattle.ec_carrying.proofs.carrying.set_off.Goals as goal
+use Rattle.ec_parcels.specs.Owners.{frame_keys, object_keys}
+
+pub take_activations-requires : goal.take_activations-requires
+take_activations-requires c =
+    activations_kept c.args.cluster.now c.take_objects.new.cluster c.args.from c.args.contents.now c.requires.kept c.take_objects.ensures
+
+pub note_moves-requires-clause-once : goal.note_moves-requires-clause-once
+note_moves-requires-clause-once c =
+    once_front (object_keys c.args.contents.now.objects) (frame_keys c.args.contents.now.activations) c.requires.kept.once
+
+pub returns : goal.returns
+returns c =
+    all_set_off c.args.cluster.now c.take_objects.new.cluster c.args.from c.args.contents.now c.requires.kept c.take_objects.ensures
+    c.take_activations.new.cluster c.note_moves.new.directory c.args.to c.take_activations.ensures c.note_moves.ensures.there
+    c.note_moves.ensures.others c.note_moves.ensures.count

@@ -1,0 +1,4 @@
+pub mod Steps
+pub mod Moves
+pub mod Landing
+pub mod Carrying

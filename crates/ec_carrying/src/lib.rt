@@ -1,0 +1,7 @@
+//! The things of a parcel go from one node of a cluster to another.
+#![tactic(auto)]
+
+pub mod carrying;
+mod landing;
+mod moving;
+mod taking;

@@ -1,0 +1,4 @@
+pub mod Types
+pub mod Objects
+pub mod Worlds
+pub mod Numbered

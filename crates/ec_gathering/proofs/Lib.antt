@@ -1,0 +1,11 @@
+pub mod Told
+pub mod Lists
+pub mod Moves
+pub mod Spelled
+pub mod Sending
+pub mod Along
+pub mod Changing
+pub mod Flags
+pub mod Next
+pub mod Coming
+pub mod Gone

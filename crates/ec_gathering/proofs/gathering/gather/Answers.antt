@@ -1,0 +1,129 @@
+-- A group goes, or the node is full.
+use Rattle.std.proofs.Common.{◌≡◌, ◌∙◌, ℕ, List, Option, false, ap, subst, sym, true}
+use Rattle.std.specs.Prelude.{is_some, not}
+use Rattle.ec_cluster.specs.Cluster.{CodeWorld}
+use Rattle.ec_code.specs.Typing.{Declared}
+use Rattle.ec_gathering.proofs.Gone.{brings_these, can_read, fixed_still, fixed_there, has_gone, lacking_these, loosened, target_placed}
+use Rattle.ec_gathering.proofs.Told.{if_none, if_some, none_told, some_told}
+use Rattle.ec_gathering.proofs.gathering.gather.Goals as goal
+use Rattle.ec_gathering.proofs.gathering.gather.Goals.{else-is_none, then-is_none+in_ok-bring}
+use Rattle.ec_gathering.specs.Gathers.{Gathers, LacksFor, MayGather}
+use Rattle.ec_gathering.specs.Shipping.{CanBeRead}
+use Rattle.ec_gathering.specs.declared.shipping.Shipment.{Shipment}
+use Rattle.ec_parcels.specs.Owners.{all_blocks, all_values}
+use Rattle.ec_mover.specs.Classes.{ClassTable}
+use Rattle.ec_needs.specs.Lacks.{LacksRoom}
+use Rattle.ec_nodes.specs.declared.room.Lack.{Lack}
+use Rattle.ec_system.specs.declared.system.System.{System}
+
+pub node_of-to-requires : goal.node_of-to-requires
+node_of-to-requires c =
+    let h = c.requires in
+    target_placed h.declared c.args.system.now h.world c.args.numbers.now c.args.members.now c.args.target c.args.fixes h.may
+
+pub lack_of-requires : goal.lack_of-requires
+lack_of-requires c =
+    let h = c.requires in
+    let s : System = c.args.system.now in
+    let table : ClassTable = c.args.numbers.now in
+    let bs : List Shipment = c.in_ok-shipments.shipments.items in
+    let ships = c.in_ok-shipments.ensures h.declared h.world c.args.target c.args.fixes h.may in
+    subst (λ (ys : List Shipment). CanBeRead table s.cluster c.node_of-to.result ys)
+    (sym {A = List Shipment} c.as_slice-shipments.ensures.value)
+    (can_read h.declared s h.world table c.args.members.now c.args.target c.args.fixes h.may c.node_of-to.result c.node_of-to.ensures
+    c.made-made.ensures.table bs ships)
+
+pub flag-requires : goal.flag-requires
+flag-requires c =
+    let h = c.requires in
+    fixed_there h.declared c.args.system.now h.world c.args.numbers.now c.args.members.now c.args.target c.args.fixes h.may
+
+pub bring-requires : goal.bring-requires
+bring-requires c =
+    let h = c.requires in
+    let s : System = c.args.system.now in
+    let table : ClassTable = c.args.numbers.now in
+    let members : List ℕ = c.args.members.now in
+    let fixes : Option ℕ = c.args.fixes in
+    let bs : List Shipment = c.in_ok-shipments.shipments.items in
+    let ships = c.in_ok-shipments.ensures h.declared h.world c.args.target fixes h.may in
+    let none : is_some c.in_ok-lack.lack ≡ false = c.is_none.ensures ∙ ap not c.if-is_none.true in
+    record {
+      declared = h.declared;
+      world = loosened h.declared s h.world table members c.args.target fixes h.may;
+      members = members;
+      parcels = ships.parcels;
+      brings =
+          brings_these h.declared s h.world table members c.args.target fixes h.may c.node_of-to.result c.node_of-to.ensures
+          c.made-made.ensures.table bs ships c.flag.new.cluster c.flag.ensures.changes c.flag.ensures.directory
+          (c.flag.ensures.shows h.world h.may.lets.runs.mirrors.shows) c.as_slice-shipments.result.now c.as_slice-shipments.ensures.value
+          (λ store e bytes. none_told c.in_ok-lack.lack none (c.in_ok-lack.ensures.none ships.parcels store bytes e));
+    }
+
+pub flag-requires-then-is_none : goal.flag-requires-then-is_none
+flag-requires-then-is_none c =
+    let h = c.requires in
+    let s : System = c.args.system.now in
+    let table : ClassTable = c.args.numbers.now in
+    let members : List ℕ = c.args.members.now in
+    let fixes : Option ℕ = c.args.fixes in
+    let bs : List Shipment = c.in_ok-shipments.shipments.items in
+    let ships = c.in_ok-shipments.ensures h.declared h.world c.args.target fixes h.may in
+    let none : is_some c.in_ok-lack.lack ≡ false = c.is_none.ensures ∙ ap not c.if-is_none.true in
+    let shows = c.flag.ensures.shows h.world h.may.lets.runs.mirrors.shows in
+    let brings =
+    brings_these h.declared s h.world table members c.args.target fixes h.may c.node_of-to.result c.node_of-to.ensures
+    c.made-made.ensures.table bs ships c.flag.new.cluster c.flag.ensures.changes c.flag.ensures.directory shows
+    c.as_slice-shipments.result.now c.as_slice-shipments.ensures.value
+    (λ store e bytes. none_told c.in_ok-lack.lack none (c.in_ok-lack.ensures.none ships.parcels store bytes e)) in
+    fixed_still h.declared s h.world table members c.args.target fixes h.may c.node_of-to.result c.node_of-to.ensures
+    c.made-made.ensures.table bs ships c.flag.new.cluster c.flag.ensures.changes c.flag.ensures.directory shows c.bring.new.cluster
+    (c.in_ok-bring.ensures h.declared (loosened h.declared s h.world table members c.args.target fixes h.may) members ships.parcels brings)
+
+pub returns-clause-done : goal.returns-clause-done
+returns-clause-done c = if_none c.in_ok-lack.lack (λ none d w may.
+    let s : System = c.args.system.now in
+    let table : ClassTable = c.args.numbers.now in
+    let members : List ℕ = c.args.members.now in
+    let fixes : Option ℕ = c.args.fixes in
+    let bs : List Shipment = c.in_ok-shipments.shipments.items in
+    let ships = c.in_ok-shipments.ensures d w c.args.target fixes may in
+    elim c.if-is_none.branch [
+      | then-is_none+in_ok-bring v ↦
+          let shows = v.flag.ensures.shows w may.lets.runs.mirrors.shows in
+          let brings =
+          brings_these d s w table members c.args.target fixes may c.node_of-to.result c.node_of-to.ensures c.made-made.ensures.table bs
+          ships v.flag.new.cluster v.flag.ensures.changes v.flag.ensures.directory shows c.as_slice-shipments.result.now
+          c.as_slice-shipments.ensures.value
+          (λ store e bytes. none_told c.in_ok-lack.lack none (c.in_ok-lack.ensures.none ships.parcels store bytes e)) in
+          let loose : CodeWorld = loosened d s w table members c.args.target fixes may in
+          let brought = v.in_ok-bring.ensures d loose members ships.parcels brings in
+          subst (λ (t : System). Gathers s t w members c.args.target fixes) (sym v.system-is)
+          (has_gone d s w table members c.args.target fixes may c.node_of-to.result c.node_of-to.ensures c.made-made.ensures.table bs ships
+          v.flag.new.cluster v.flag.ensures.changes v.flag.ensures.directory shows v.bring.new.cluster brought
+          v.flag-then-is_none.new.cluster v.flag-then-is_none.ensures.changes v.flag-then-is_none.ensures.directory
+          (v.flag-then-is_none.ensures.shows loose brought.came.shows))
+      | else-is_none v ↦ absurd (let some : is_some c.in_ok-lack.lack ≡ true = c.is_none.ensures ∙ ap not v.if-is_none.false in cc)
+    ])
+
+pub returns-clause-full : goal.returns-clause-full
+returns-clause-full c = if_some (λ (lack : Lack). (c.if-is_none.system ≡ c.args.system.now) × ((d : Declared) (w : CodeWorld) →
+    MayGather d c.args.system.now w c.args.numbers.now c.args.members.now c.args.target c.args.fixes →
+    LacksFor c.args.system.now.cluster w c.args.members.now c.args.target c.args.fixes lack)) c.in_ok-lack.lack (λ lack is.
+    elim c.if-is_none.branch [
+      | then-is_none+in_ok-bring v ↦
+          absurd (let none : is_some c.in_ok-lack.lack ≡ false = c.is_none.ensures ∙ ap not v.if-is_none.true in
+          let some : is_some c.in_ok-lack.lack ≡ true = ap is_some is in cc)
+      | else-is_none v ↦ (
+        v.system-is,
+        λ d w may.
+            let ships = c.in_ok-shipments.ensures d w c.args.target c.args.fixes may in
+            lacking_these d c.args.system.now w c.args.numbers.now c.args.members.now c.args.target c.args.fixes may c.node_of-to.result
+            c.node_of-to.ensures c.made-made.ensures.table c.in_ok-shipments.shipments.items ships lack c.as_slice-shipments.result.now
+            c.as_slice-shipments.ensures.value
+            (λ store e bytes. some_told
+            (λ (told : Lack). LacksRoom store c.node_of-to.result (all_blocks c.args.numbers.now ships.parcels)
+            (all_values ships.parcels) told)
+            c.in_ok-lack.lack lack is (c.in_ok-lack.ensures.some ships.parcels store bytes e)),
+      )
+    ])

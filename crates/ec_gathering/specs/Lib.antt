@@ -1,0 +1,4 @@
+pub mod Gathers
+pub mod Shipping
+pub mod Bringing
+pub mod Laws

@@ -1,0 +1,14 @@
+pub mod Lists
+pub mod Without
+pub mod Things
+pub mod One
+pub mod All
+pub mod Blocks
+pub mod Texts
+pub mod Needs
+pub mod Same
+pub mod Gathered
+pub mod Operands
+pub mod Ended
+pub mod Acted
+pub mod Moved

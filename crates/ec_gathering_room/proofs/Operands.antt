@@ -1,0 +1,35 @@
+-- The operands of a stop that asks for a move: an object and where it is to go, so no texts.
+use Rattle.std.proofs.Common.{◌≡◌, ℕ, zero, suc, List, [], ◌∷◌, Option, Some, subst, arith}
+use Rattle.std.specs.Prelude.{slice_get}
+use Rattle.ec_world.specs.Doings.{doing_of}
+use Rattle.ec_world.specs.Group.{Has}
+use Rattle.ec_world.specs.Sights.{Sight}
+use Rattle.ec_world.specs.declared.doing.Doing.TheVariants.{Moves}
+use Rattle.ec_world.specs.declared.stop.Stop.{Stop}
+use Rattle.ec_world.specs.declared.stop.Who.{Who}
+use Rattle.ec_world.specs.declared.value.Value.{Value}
+use Rattle.ec_world.specs.declared.value.Value.TheVariants.{Ref, Str}
+
+-- two references
+pub record AreReferences (vs : List Value) : Type 0 where
+  pub object : ℕ
+  pub target : ℕ
+  pub are : vs ≡ Ref object ∷ Ref target ∷ []
+
+two_references : (s : Sight) (who : Who) (stop : Stop) (vs : List Value) (members : List ℕ) (target : ℕ) (fixes : Option ℕ) →
+    doing_of s who stop vs ≡ Some (Moves members target fixes) → AreReferences vs
+two_references s who stop vs members target fixes e = grind arith
+
+no_text_in : (object target : ℕ) (text : List ℕ) → Has (Ref object ∷ Ref target ∷ []) (Str text) → ⊥
+no_text_in object target text h = by h.at h.is
+  where
+    by : (i : ℕ) → slice_get (Ref object ∷ Ref target ∷ []) i ≡ Some (Str text) → ⊥
+    by zero e = cc
+    by (suc zero) e = cc
+    by (suc (suc i)) e = cc
+
+pub no_text_moves : (s : Sight) (who : Who) (stop : Stop) (vs : List Value) (members : List ℕ) (target : ℕ) (fixes : Option ℕ) →
+    doing_of s who stop vs ≡ Some (Moves members target fixes) → (text : List ℕ) → Has vs (Str text) → ⊥
+no_text_moves s who stop vs members target fixes e text h =
+    let are = two_references s who stop vs members target fixes e in
+    no_text_in are.object are.target text (subst (λ (us : List Value). Has us (Str text)) are.are h)

@@ -1,0 +1,4 @@
+pub mod Classes
+pub mod Objects
+pub mod Activations
+pub mod Laws

@@ -1,0 +1,14 @@
+pub mod Lacking
+pub mod Sizes
+pub mod Carrying
+pub mod Joining
+pub mod Members
+pub mod Searching
+pub mod Frames
+pub mod Items
+pub mod Sorting
+pub mod Counting
+pub mod Rules
+pub mod ObjectParts
+pub mod ActivationParts
+pub mod Whole

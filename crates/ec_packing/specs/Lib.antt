@@ -1,0 +1,5 @@
+pub mod Room
+pub mod Packing
+pub mod Narrow
+pub mod Blocks
+pub mod Packed

@@ -1,0 +1,3 @@
+pub mod Parcels
+pub mod Owners
+pub mod Laws

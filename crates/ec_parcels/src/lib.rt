@@ -1,0 +1,4 @@
+//! What a parcel of a group holds, and which owners go in it; over definitions alone.
+#![tactic(auto)]
+
+pub mod laws;

@@ -1,0 +1,4 @@
+pub mod Totals
+pub mod Held
+pub mod Turns
+pub mod Others
