@@ -37,6 +37,7 @@ use Rattle.ec_gathering_room.proofs.Gathered.{gathering_full, gone_is_such}
 use Rattle.ec_gathering_room.proofs.Lists.{has_is_in, is_in_has}
 use Rattle.ec_gathering_room.proofs.Same.{fixed_needs}
 use Rattle.ec_gathering_room.specs.Gathering.{ButFixed, CanGather, gathered}
+use Rattle.ec_leaving.specs.Between.{RestsBetween}
 use Rattle.ec_parcels.specs.Owners.{all_blocks, all_values}
 use Rattle.ec_mover.proofs.Numbers.{class_again}
 use Rattle.ec_mover.specs.Classes.{ClassTable, IsClassTable, class_of}
@@ -44,7 +45,6 @@ use Rattle.ec_needs.specs.Lacks.{HasRoomForAll, LacksRoom}
 use Rattle.ec_nodes.specs.declared.room.Lack.{Lack}
 use Rattle.ec_packing.proofs.Carrying.{can_go, entry_of, known}
 use Rattle.ec_packing.proofs.Frames.{is_of}
-use Rattle.ec_packing.specs.Packing.{RestsBetween}
 use Rattle.ec_packing.specs.Room.{AreOfClasses}
 use Rattle.ec_sound.proofs.Carried.{each_get}
 use Rattle.ec_sound.specs.Sound.{SoundProc}
@@ -90,7 +90,7 @@ waits_so d s w table lets = λ process depth a e is rests.
     let k =
     known d p w.common.objects o.proc
     (each_get (SoundProc d p w.common.objects) w.processes process o.proc lets.runs.sound.processes o.is_proc)
-    (each_get (RestsBetween p) w.processes process o.proc lets.rest o.is_proc) depth a o.there in
+    (each_get (RestsBetween p) w.processes process o.proc lets.between.rest o.is_proc) depth a o.there in
     let goes = can_go d p w.common.objects a k in
     let same : entry_of d p w.common.objects a k ≡ e =
     ap (λ (n : Numbered). n.entry) (same_Some

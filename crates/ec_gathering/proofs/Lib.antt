@@ -2,6 +2,7 @@ pub mod Told
 pub mod Lists
 pub mod Moves
 pub mod Spelled
+pub mod Values
 pub mod Sending
 pub mod Along
 pub mod Changing

@@ -12,7 +12,7 @@ use Rattle.ec_code.specs.declared.activation.CodeActivation.{CodeActivation}
 use Rattle.ec_conform.specs.declared.static_type.StaticType.{StaticType}
 use Rattle.ec_fitting.proofs.Asking.{its_stop}
 use Rattle.ec_gathering.specs.Gathers.{MayLeave, LetsGo, MayGather}
-use Rattle.ec_gathering.specs.Laws.{NodesAreFixed}
+use Rattle.ec_leaving.specs.Between.{NodesAreFixed}
 use Rattle.ec_mover.specs.Classes.{ClassTable}
 use Rattle.ec_nodes.proofs.Keys.{same_or_not}
 use Rattle.ec_sound.specs.Values.{HasType, class_in}
@@ -202,9 +202,10 @@ module _ (w : CodeWorld) (nodes : NodesAreFixed w) (fixes : Option ℕ) where
 -- ---- moves for which activations ask
 
 pub asks_may : (d : Declared) (s : System) (w : CodeWorld) (table : ClassTable) (below : List CodeActivation) (top : CodeActivation)
-    (who : Who) (members : List ℕ) (target : ℕ) (fixes : Option ℕ) → LetsGo d s w table → NodesAreFixed w →
+    (who : Who) (members : List ℕ) (target : ℕ) (fixes : Option ℕ) → LetsGo d s w table →
     Asks w below top who (Moves members target fixes) → MayGather d s w table members target fixes
-asks_may d s w table below top who members target fixes lets nodes asks =
+asks_may d s w table below top who members target fixes lets asks =
+    let nodes : NodesAreFixed w = lets.between.nodes in
     let sight : Sight = sight_of w.common in
     let objects : List ObjectRec = w.common.objects in
     let stop = its_stop d s w below top who (Moves members target fixes) lets.runs asks in
@@ -255,9 +256,10 @@ none_fixed_in c ms y e h = none_fixed (sight_of c) ms y (same ms ∙ e) h
     same [] = refl
     same (n ∷ ns) = ap (λ b. fixed_if (object_at c.objects n) || b) (same ns)
 
-pub operator_may : (d : Declared) (s : System) (w : CodeWorld) (table : ClassTable) (oid k : ℕ) → LetsGo d s w table → NodesAreFixed w →
+pub operator_may : (d : Declared) (s : System) (w : CodeWorld) (table : ClassTable) (oid k : ℕ) → LetsGo d s w table →
     is_idle_move w.common oid k ≡ false → MayGather d s w table (group_of w.common oid) (suc k) None
-operator_may d s w table oid k lets nodes moves =
+operator_may d s w table oid k lets moves =
+    let nodes : NodesAreFixed w = lets.between.nodes in
     let m = not_idle w.common oid k moves in
     record {
       lets = lets;

@@ -7,6 +7,7 @@ use Rattle.ec_cluster.specs.Cluster.{CodeWorld, place}
 use Rattle.ec_cluster.specs.declared.cluster.Cluster.{Cluster}
 use Rattle.ec_code.specs.Typing.{Declared}
 use Rattle.ec_gathering.proofs.Lists.{two_more}
+use Rattle.ec_gathering.proofs.Values.{few_go}
 use Rattle.ec_gathering.specs.Gathers.{MayGather}
 use Rattle.ec_gathering.specs.Shipping.{AreShipped, IsShipped, froms}
 use Rattle.ec_gathering.specs.declared.shipping.Shipment.{Shipment}
@@ -35,19 +36,19 @@ module _ (d : Declared) (s : System) (w : CodeWorld) (table : ClassTable) (membe
       let same : leave.object ≡ o = same_Some leave.object o (sym leave.is ∙ is) in
       let other : o.class ≢ Node = subst (λ (x : ObjectRec). x.class ≢ Node) same leave.no_node in
       subst (λ (t : ClassTable). IsSome (number_of t o.class)) (sym may.lets.table_is)
-      (number_some d s.cluster.parts may.lets.runs.steady.fine w may.lets.runs.sound may.lets.vectors oid o is other)
+      (number_some d s.cluster.parts may.lets.runs.steady.fine w may.lets.runs.sound may.lets.between.vectors oid o is other)
 
   pub can_pack : (from : ℕ) → from < length s.cluster.nodes → CanGo d s w table members from
   can_pack from node = record {
     runs = may.lets.runs;
     bare = may.lets.bare;
     typed = may.lets.typed;
-    rest = may.lets.rest;
+    rest = may.lets.between.rest;
     rising = may.rising;
     node = node;
     numbered = λ oid o goes. member_numbered oid o goes.member goes.is;
-    monitors = λ oid o m goes has. may.lets.monitors oid o m goes.is has;
-    few = λ p depth a e goes rests. may.lets.few p depth a e goes.is rests;
+    monitors = λ oid o m goes has. may.lets.between.monitors oid o m goes.is has;
+    few = λ p depth a e goes rests. few_go s.cluster.parts may.lets.few a e rests;
   }
 
 -- ---- one node more

@@ -1,27 +1,21 @@
 -- The first step of a move of a group between nodes: what it asks for, and what it leaves.
-use Rattle.std.specs.Prelude.{◌≡◌, ◌≢◌, ◌≤◌, ℕ, false, List, length, Option, Some, IsSome}
-use Rattle.ec_arrivals.specs.Carried.{carried}
+use Rattle.std.specs.Prelude.{◌≡◌, ◌≢◌, ℕ, false, List, Option, Some, IsSome}
 use Rattle.ec_asking.specs.Bare.{IsBareProgram}
 use Rattle.ec_asking.specs.Typed.{IsTypedOnce}
-use Rattle.ec_class_numbers.specs.Vectors.{VectorsAreMade, table_of}
+use Rattle.ec_class_numbers.specs.Vectors.{table_of}
 use Rattle.ec_cluster.specs.Cluster.{CodeWorld, place}
 use Rattle.ec_cluster.specs.Steps.{Changes, with_common}
 use Rattle.ec_cluster.specs.declared.cluster.Cluster.{Cluster}
 use Rattle.ec_code.specs.Typing.{Declared}
-use Rattle.ec_code.specs.declared.activation.CodeActivation.{CodeActivation}
-use Rattle.ec_code.specs.declared.code.Parts.{Parts}
 use Rattle.ec_forward.specs.Directory.{made_count}
 use Rattle.ec_fullness.specs.Fullness.{IsFull}
 use Rattle.ec_gathering_room.specs.Gathering.{gathered}
-use Rattle.ec_monitors.specs.declared.record.MonitorRec.{MonitorRec}
+use Rattle.ec_leaving.specs.Between.{IsBetween}
 use Rattle.ec_mover.specs.Classes.{ClassTable}
-use Rattle.ec_node_frames.specs.Frames.{RestsAt}
-use Rattle.ec_nodes.specs.Things.{activation_at}
 use Rattle.ec_nodes.specs.declared.room.Lack.{Lack}
-use Rattle.ec_packing.specs.Packing.{AllRest, CanBeSpelled}
-use Rattle.ec_stop_tables.specs.declared.table.StopEntry.{StopEntry}
 use Rattle.ec_system.specs.Systems.{Mirrors, Runs, Strings}
 use Rattle.ec_system.specs.declared.system.System.{System}
+use Rattle.ec_wire_limits.specs.Limits.{CarriesFew}
 use Rattle.ec_world.specs.Group.{Has, IsRising}
 use Rattle.ec_world.specs.Objects.{object_at}
 use Rattle.ec_world.specs.Outcomes.{gone}
@@ -30,28 +24,16 @@ use Rattle.ec_world.specs.declared.object.ObjectRec.{ObjectRec}
 
 -- ---- what is asked for
 
--- the monitor of each object has a spelling on the wire
-abbrev pub MonitorsHaveSpellings : CodeWorld → Type 0
-MonitorsHaveSpellings w =
-    (oid : ℕ) (o : ObjectRec) (m : MonitorRec) → object_at w.common.objects oid ≡ Some o → o.monitor ≡ Some m → CanBeSpelled m
-
--- at most 100 values go with each activation
-abbrev pub FewValuesGo : Parts → CodeWorld → Type 0
-FewValuesGo p w =
-    (process depth : ℕ) (a : CodeActivation) (e : StopEntry) → activation_at w.processes process depth ≡ Some a → RestsAt p a e →
-    length (carried e a.pending) ≤ 100
-
--- A system runs a world from which objects can go to other nodes: it is one between turns, and what goes of it has a spelling on the wire,
--- by the numbers of the program's classes.
+-- A system runs a world between turns, of a program that carries at most 100 values together at each stop. So objects can go from it to
+-- other nodes, by the numbers of the program's classes; on each line of the program a live variable has one type, and the program's own
+-- object has no fields.
 pub record LetsGo (d : Declared) (s : System) (w : CodeWorld) (table : ClassTable) : Type 0 where
   pub runs : Runs d s w
   pub bare : IsBareProgram w.common
   pub typed : IsTypedOnce s.cluster.parts
-  pub rest : AllRest s.cluster.parts w
-  pub monitors : MonitorsHaveSpellings w
-  pub few : FewValuesGo s.cluster.parts w
   pub table_is : table ≡ table_of s.cluster.parts
-  pub vectors : VectorsAreMade s.cluster.parts w
+  pub between : IsBetween s.cluster.parts w
+  pub few : CarriesFew s.cluster.parts
 
 -- A member of a group is an object of the world, and not that of a node. It isn't fixed, unless it is to be fixed then.
 pub record MayLeave (w : CodeWorld) (fixes : Option ℕ) (oid : ℕ) : Type 0 where

@@ -1,5 +1,5 @@
 -- What a move of a group between nodes comes to, and which moves may be done so.
-use Rattle.std.specs.Prelude.{◌≡◌, ℕ, suc, true, false, List, Option, Some, None}
+use Rattle.std.specs.Prelude.{◌≡◌, ℕ, suc, false, List, Option, None}
 use Rattle.ec_cluster.specs.Cluster.{CodeWorld}
 use Rattle.ec_code.specs.Typing.{Declared}
 use Rattle.ec_code.specs.declared.activation.CodeActivation.{CodeActivation}
@@ -10,17 +10,10 @@ use Rattle.ec_system.specs.Steps.{Does}
 use Rattle.ec_system.specs.declared.system.System.{System}
 use Rattle.ec_world.specs.Group.{group_of}
 use Rattle.ec_world.specs.Moves.{is_idle_move}
-use Rattle.ec_world.specs.Objects.{object_at}
 use Rattle.ec_world.specs.Outcomes.{only}
-use Rattle.ec_world.specs.declared.class.ClassNo.TheVariants.{Node}
 use Rattle.ec_world.specs.declared.doing.Doing.TheVariants.{Moves}
-use Rattle.ec_world.specs.declared.object.ObjectRec.{ObjectRec}
 use Rattle.ec_world.specs.declared.stop.Effect.TheVariants.{GoesOn}
 use Rattle.ec_world.specs.declared.stop.Who.{Who}
-
--- the object of each node is fixed
-abbrev pub NodesAreFixed : CodeWorld → Type 0
-NodesAreFixed w = (oid : ℕ) (o : ObjectRec) → object_at w.common.objects oid ≡ Some o → o.class ≡ Node → o.fixed ≡ true
 
 -- ---- which moves may be done
 
@@ -30,7 +23,6 @@ AsksMayGather =
     (d : Declared) (s : System) (w : CodeWorld) (table : ClassTable) (below : List CodeActivation) (top : CodeActivation) (who : Who)
     (members : List ℕ) (target : ℕ) (fixes : Option ℕ) →
     LetsGo d s w table →
-    NodesAreFixed w →
     Asks w below top who (Moves members target fixes) →
     MayGather d s w table members target fixes
 
@@ -39,7 +31,6 @@ abbrev pub OperatorMayGather : Type 0
 OperatorMayGather =
     (d : Declared) (s : System) (w : CodeWorld) (table : ClassTable) (oid k : ℕ) →
     LetsGo d s w table →
-    NodesAreFixed w →
     is_idle_move w.common oid k ≡ false →
     MayGather d s w table (group_of w.common oid) (suc k) None
 

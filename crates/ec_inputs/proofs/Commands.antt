@@ -13,8 +13,9 @@ use Rattle.clap.specs.declared.error.ErrorKind.TheVariants as kinds
 use Rattle.clap.specs.declared.parser.matches.ArgMatches.{ArgMatches}
 use Rattle.clap.specs.declared.parser.matches.SubCommand.{SubCommand}
 use Rattle.clap.specs.declared.parser.matches.ArgMatches.TheViews.{out-ArgMatches, out-SubCommand}
-use Rattle.ec_inputs.specs.Words.{IsBudget, app, check, command_of, mean, run, unless_fault, WordsOf}
-use Rattle.ec_inputs.proofs.Budgets.{budget_found, built_sub, or_none, NamesRun}
+use Rattle.ec_inputs.specs.Words.{IsBudget, IsTrialNumber, app, check, command_of, mean, run, trial, unless_fault, WordsOf}
+use Rattle.ec_inputs.proofs.Given.{or_none}
+use Rattle.ec_inputs.proofs.Subcommands.{NamesRun, NamesTrial, budget_found, built_sub, trial_found}
 
 pub simple : is_simple_and_free app ≡ true
 simple = refl
@@ -53,6 +54,13 @@ found_budget a ws name rows is_run e h f =
     budget_found ws name rows is_run (ap (λ b. fault_of b ws) (sym e) ∙ h (ap is_simple_and_free e ∙ simple))
     (ap (λ b. subcommand_of b ws) (sym e) ∙ sym f)
 
+pub found_trial : (a : App) (ws : List Text) (name : Text) (rows : List Row) → NamesTrial name → a ≡ app
+    → (is_simple_and_free a ≡ true → fault_of a ws ≡ []) → Some (name, rows) ≡ subcommand_of a ws
+    → IsTrialNumber (one_of (codes "number") rows)
+found_trial a ws name rows is_trial e h f =
+    trial_found ws name rows is_trial (ap (λ b. fault_of b ws) (sym e) ∙ h (ap is_simple_and_free e ∙ simple))
+    (ap (λ b. subcommand_of b ws) (sym e) ∙ sym f)
+
 pub pairs : {A B : Type 0} (o : Option (A × B)) (a : A) (b : B) → option_map (λ p. p.0) o ≡ Some a →
     option_map (λ p. p.1) o ≡ Some b → o ≡ Some (a, b)
 pairs None a b e f = cc
@@ -89,17 +97,21 @@ needed rows false e = cc
 named : (stop : Option (Text × List Text)) → is_some (entered (built app) stop) ≡ true
     → is_some (option_and_then command_of (entered (built app) stop)) ≡ true
 named None e = e
-named (Some p) e = go (answers_to p.0 (codes "run", [])) (answers_to p.0 (codes "check", [])) (answers_to p.0 (codes "mean", [])) e
+named (Some p) e =
+    let by = λ (name : Text). answers_to p.0 (name, []) in
+    go (by (codes "run")) (by (codes "check")) (by (codes "mean")) (by (codes "trial")) e
   where
-    found : Bool → Bool → Bool → Option (Text × List Row)
-    found a b d = option_map (λ s. rows_at s p.1)
-        (cond a (Some (built_sub run)) (cond b (Some (built_sub check)) (cond d (Some (built_sub mean)) None)))
+    found : Bool → Bool → Bool → Bool → Option (Text × List Row)
+    found a b c d = option_map (λ s. rows_at s p.1)
+        (cond a (Some (built_sub run)) (cond b (Some (built_sub check))
+        (cond c (Some (built_sub mean)) (cond d (Some (built_sub trial)) None))))
 
-    go : (a b d : Bool) → is_some (found a b d) ≡ true → is_some (option_and_then command_of (found a b d)) ≡ true
-    go true b d h = refl
-    go false true d h = refl
-    go false false true h = refl
-    go false false false h = h
+    go : (a b c d : Bool) → is_some (found a b c d) ≡ true → is_some (option_and_then command_of (found a b c d)) ≡ true
+    go true b c d h = refl
+    go false true c d h = refl
+    go false false true d h = refl
+    go false false false true h = refl
+    go false false false false h = h
 
 pub taken : (words : List Text) → fault_of app words ≡ [] → is_some (WordsOf words) ≡ true
 unfolding WordsOf

@@ -1,8 +1,10 @@
-pub mod Budgets
+pub mod Adding
 pub mod Commands
 pub mod Documents
 pub mod Forms
+pub mod Given
 pub mod Lines
 pub mod Numbers
-pub mod OneNode
 pub mod Reading
+pub mod Sized
+pub mod Subcommands

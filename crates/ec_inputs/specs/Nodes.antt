@@ -25,7 +25,7 @@ longest = 1048576
 
 -- nodes of a file
 abbrev pub most_nodes : ℕ
-most_nodes = 1
+most_nodes = 64
 
 -- bytes of a name
 abbrev pub longest_name : ℕ

@@ -28,6 +28,10 @@ budget = record (new_rule (codes "budget")) {
   parser = Some (vp.Signed (pos 1) (pos 4000000000));
 }
 
+-- a number from 0 to 4,294,967,295 that has to be there
+abbrev pub trial_number : Rule
+trial_number = record (required_word (codes "number")) { parser = Some (vp.Signed (pos 0) (pos 4294967295)) }
+
 -- `NAME SOURCE NODES SCHEDULE [--budget N]`
 abbrev pub run_named : Text → App
 run_named name = with_rule (with_rule (with_rule (with_rule (new_app name)
@@ -45,13 +49,21 @@ check = with_rule (new_app (codes "check")) (required_word (codes "source"))
 abbrev pub mean : App
 mean = run_named (codes "mean")
 
+-- `trial N`
+abbrev pub trial : App
+trial = with_rule (new_app (codes "trial")) trial_number
+
 -- no help and no version, and one of the subcommands has to be there
 abbrev pub without_help : Shape → Shape
 without_help s = record s
     { disable_help_flag = true; disable_help_subcommand = true; disable_version_flag = true; subcommand_required = true }
 
+-- the commands that name files
+abbrev pub of_files : App
+of_files = with_subcommand (with_subcommand (with_subcommand (on_top without_help (new_app (codes "emerald"))) run.top) check.top) mean.top
+
 abbrev pub app : App
-app = with_subcommand (with_subcommand (with_subcommand (on_top without_help (new_app (codes "emerald"))) run.top) check.top) mean.top
+app = with_subcommand of_files trial.top
 
 -- ---- the command and its values
 
@@ -70,6 +82,12 @@ pub data CommandWords : Type 0 where
   Run : RunWords → CommandWords
   Check : CheckWords → CommandWords
   Mean : RunWords → CommandWords
+  -- by the number of the trial
+  Trial : ℕ → CommandWords
+
+-- the most entries of a run where the words don't say, as the option `--budget` has it
+abbrev pub default_budget : ℕ
+default_budget = 1000000
 
 abbrev pub text_at : Text → List Row → Text
 text_at id rows = unwrap_or (first_of id rows) []
@@ -89,9 +107,15 @@ run_words rows = record {
 abbrev pub check_words : List Row → CheckWords
 check_words rows = record { source = text_at (codes "source") rows }
 
--- the text of a number from 1 to 4,000,000,000, by clap's test, as clap reads it
+-- the text of a number in a range, by clap's test, as clap reads it
+abbrev pub IsNumberIn : ℕ → ℕ → Option Text → Type 0
+IsNumberIn low high text = (given : Text) × (text ≡ Some (without_minus given)) × IsSignedIn (pos low) (pos high) given
+
 abbrev pub IsBudget : Option Text → Type 0
-IsBudget text = (given : Text) × (text ≡ Some (without_minus given)) × IsSignedIn (pos 1) (pos 4000000000) given
+IsBudget = IsNumberIn 1 4000000000
+
+abbrev pub IsTrialNumber : Option Text → Type 0
+IsTrialNumber = IsNumberIn 0 4294967295
 
 -- what a subcommand is by its name, with what clap found for its arguments, one line each
 abbrev pub command_named : Text → List Row → Option CommandWords
@@ -99,6 +123,7 @@ command_named name rows =
     if bytes_eq name (codes "run") then Some (Run (run_words rows)) else
     if bytes_eq name (codes "check") then Some (Check (check_words rows)) else
     if bytes_eq name (codes "mean") then Some (Mean (run_words rows)) else
+    if bytes_eq name (codes "trial") then Some (Trial (number_at (codes "number") rows)) else
     None
 
 abbrev pub command_of : Text × List Row → Option CommandWords
@@ -124,9 +149,11 @@ abbrev pub command_in : Command → CommandWords
 command_in (command.Run r) = Run (run_in r)
 command_in (command.Check c) = Check (check_in c)
 command_in (command.Mean r) = Mean (run_in r)
+command_in (command.Trial number) = Trial number
 
--- the budget of a run, or of its meaning, is from 1 to 4,000,000,000, and a check has none
+-- the budget of a run, or of its meaning, is from 1 to 4,000,000,000, and a check or a trial has none
 abbrev pub HasBudget : Command → Type 0
 HasBudget (command.Run r) = (1 ≤ r.budget) × (r.budget ≤ 4000000000)
 HasBudget (command.Check c) = Unit {0}
 HasBudget (command.Mean r) = (1 ≤ r.budget) × (r.budget ≤ 4000000000)
+HasBudget (command.Trial number) = Unit {0}

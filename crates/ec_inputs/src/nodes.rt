@@ -22,7 +22,7 @@ pub enum NodeRule {
     Length,
     /// A TOML document.
     Document,
-    /// One key, `node`, with an array of tables, as many as there may be: one.
+    /// One key, `node`, with an array of 1 to 64 tables.
     Tables,
     /// Each table has the keys `name`, `kind`, `blocks` and `text`, and no other.
     Keys,
@@ -57,7 +57,7 @@ impl From<AllocError> for NodesError {
 const LONGEST: usize = 1_048_576;
 
 /// The most nodes of a node file.
-const MOST_NODES: usize = 1;
+const MOST_NODES: usize = 64;
 
 /// The most bytes of a node's name.
 const LONGEST_NAME: usize = 16;

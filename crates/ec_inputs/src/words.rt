@@ -3,7 +3,7 @@ ghost use Rattle.std.specs.Prelude.{◌≡◌, ◌≤◌, IfOk, IfSome, map, opt
 ghost use Rattle.clap.specs.Words.{app_of, rule_of, rows_of, found_of, one_of};
 ghost use Rattle.clap.specs.declared.Command.{out-Command as fields_of};
 ghost use Rattle.ec_inputs.specs.Words as spec;
-ghost use Rattle.ec_inputs.specs.Words.{WordsOf, IsBudget, HasBudget};
+ghost use Rattle.ec_inputs.specs.Words.{WordsOf, IsBudget, IsTrialNumber, HasBudget};
 
 use clap::error::ErrorKind;
 use clap::{Arg, ArgMatches};
@@ -18,6 +18,8 @@ pub enum Command<'a> {
     Check(CheckCommand<'a>),
     /// `mean SOURCE NODES SCHEDULE [--budget N]`
     Mean(RunCommand<'a>),
+    /// `trial N`, of this number.
+    Trial(u32),
 }
 
 /// The words of a run, or of its meaning.
@@ -39,6 +41,9 @@ pub struct CheckCommand<'a> {
     /// The name of the file with the source.
     pub source: &'a str,
 }
+
+/// The most entries that a run does where the words don't say.
+pub const DEFAULT_BUDGET: u32 = 1_000_000;
 
 /// The command that the words give, the program's own name first, or none.
 /// An error is want of memory.
@@ -65,6 +70,13 @@ pub fn words_of<'a>(alloc: Global, words: &'a [&'a str]) -> Result<Option<Comman
 /// The command line.
 fn emerald<'a>(alloc: Global) -> Result<clap::Command<'a>, AllocError>
     ensures { IfOk result (λ c. app_of c ≡ spec.app) }
+{
+    of_files(alloc)?.subcommand(trial(alloc)?)
+}
+
+/// The commands that name files.
+fn of_files<'a>(alloc: Global) -> Result<clap::Command<'a>, AllocError>
+    ensures { IfOk result (λ c. app_of c ≡ spec.of_files) }
 {
     let plain = clap::Command::new(alloc, "emerald")
         .disable_help_flag(true)
@@ -96,6 +108,13 @@ fn check<'a>(alloc: Global) -> Result<clap::Command<'a>, AllocError>
     clap::Command::new(alloc, "check").arg(required_word(alloc, "source"))
 }
 
+fn trial<'a>(alloc: Global) -> Result<clap::Command<'a>, AllocError>
+    ensures shape { IfOk result (λ c. app_of c ≡ spec.trial) }
+    ensures local { IfOk result (λ c. (fields_of c).has_globals ≡ false) }
+{
+    clap::Command::new(alloc, "trial").arg(trial_number(alloc))
+}
+
 fn required_word<'a>(alloc: Global, name: &'a str) -> Arg<'a>
     ensures rule { rule_of result ≡ spec.required_word name.entry.now }
     ensures local { result.global ≡ false }
@@ -113,10 +132,18 @@ fn budget<'a>(alloc: Global) -> Arg<'a>
         .value_parser(clap::value_parser!(u32).range(1..=4_000_000_000))
 }
 
+fn trial_number<'a>(alloc: Global) -> Arg<'a>
+    ensures rule { rule_of result ≡ spec.trial_number }
+    ensures local { result.global ≡ false }
+{
+    required_word(alloc, "number").value_parser(clap::value_parser!(u32))
+}
+
 /// The command of this name, with what was found for its arguments.
 fn command_of<'a>(name: &str, found: &ArgMatches<'a>) -> Option<Command<'a>>
     requires run { name.now ≡ codes "run" → IsBudget (one_of (codes "budget") (rows_of (found_of found.now))) }
     requires mean { name.now ≡ codes "mean" → IsBudget (one_of (codes "budget") (rows_of (found_of found.now))) }
+    requires trial { name.now ≡ codes "trial" → IsTrialNumber (one_of (codes "number") (rows_of (found_of found.now))) }
     ensures words { option_map spec.command_in result ≡ spec.command_named name.now (rows_of (found_of found.now)) }
     ensures budget { IfSome result HasBudget }
 {
@@ -124,6 +151,7 @@ fn command_of<'a>(name: &str, found: &ArgMatches<'a>) -> Option<Command<'a>>
         "run" => Some(Command::Run(run_of(found))),
         "check" => Some(Command::Check(check_of(found))),
         "mean" => Some(Command::Mean(run_of(found))),
+        "trial" => Some(Command::Trial(trial_number_in(found))),
         _ => None,
     }
 }
@@ -172,4 +200,12 @@ fn budget_in(found: &ArgMatches) -> u32
     ensures most { result ≤ 4000000000 }
 {
     found.get_one::<u32>("budget").unwrap()
+}
+
+/// The number that was found for a trial.
+fn trial_number_in(found: &ArgMatches) -> u32
+    requires { IsTrialNumber (one_of (codes "number") (rows_of (found_of found.now))) }
+    ensures { result ≡ spec.number_at (codes "number") (rows_of (found_of found.now)) }
+{
+    found.get_one::<u32>("number").unwrap()
 }

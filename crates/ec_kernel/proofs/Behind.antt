@@ -1,9 +1,8 @@
 -- The second step of an action, and what both steps come to.
-use Rattle.std.proofs.lemmas.Option.{same_Some}
-use Rattle.std.proofs.Common.{◌≡◌, ℕ, List, [], ◌∷◌, Some, None, sym, ap, ◌∙◌, subst}
+use Rattle.std.proofs.Common.{◌≡◌, ◌⊎◌, ℕ, List, [], ◌∷◌, sym, ap, ◌∙◌, subst}
 use Rattle.std.specs.List.{AllByRecursion as Each}
 use Rattle.ec_asking.specs.Typed.{IsTypedOnce}
-use Rattle.ec_cluster.specs.Cluster.{CodeWorld, place}
+use Rattle.ec_cluster.specs.Cluster.{CodeWorld}
 use Rattle.ec_cluster.specs.Steps.{Changes}
 use Rattle.ec_code.specs.Activations.{code_meaning}
 use Rattle.ec_code.specs.Typing.{Declared}
@@ -13,13 +12,12 @@ use Rattle.ec_fitting.proofs.Keeping.{images_after, steady_after, strings_then}
 use Rattle.ec_fitting.proofs.Roomy.{settles_with_room}
 use Rattle.ec_fitting.specs.Room.{RoomToSettle}
 use Rattle.ec_fitting.specs.Waiters.{BelowStay, WaitersStay}
-use Rattle.ec_forward.specs.Directory.{place_at}
-use Rattle.ec_fullness.proofs.Acting.{action_is, top_is}
+use Rattle.ec_fullness.proofs.Acting.{action_is}
 use Rattle.ec_idle.proofs.Worlds.{action_idle}
 use Rattle.ec_idle.specs.Idle.{IdleProc, IdleWorld}
-use Rattle.ec_kernel.proofs.Rooming.{frames_same}
-use Rattle.ec_kernel.proofs.Strings.{texts_between}
-use Rattle.ec_kernel.specs.Acts.{AsksOfEach, HasActed, MovesInPlace}
+use Rattle.ec_kernel.specs.Acts.{AsksOfEach, HasActed}
+use Rattle.ec_placing.proofs.Settling.{settling_keeps_places}
+use Rattle.ec_placing.specs.Places.{HasPlaces}
 use Rattle.ec_ranges.proofs.Worlds.{action_ranged}
 use Rattle.ec_settling.specs.Settling.{CanBeSettled, SettlesIn}
 use Rattle.ec_sound.proofs.Worlds.{action_sound}
@@ -68,25 +66,24 @@ module _ (d : Declared) (old : System) (w : CodeWorld) (who : Who) (doing : Doin
 
   -- ---- what is then shown
 
+  -- the world behind both steps
+  abbrev behind : CodeWorld
+  behind = world_settled (world_done w who doing) who.process a.below a.top o
+
+  -- Objects are where the world between the steps has them, and each text of it was there before, or is one of the world behind both.
   module _ (new : System) (settled : Settles mid new (world_done w who doing) who.process a.below a.top o)
-      (same : new.cluster.directory ≡ mid.cluster.directory)
-      (stays : (x k : ℕ) → place old.cluster x ≡ Some k → place mid.cluster x ≡ Some k)
-      (comes : (x k : ℕ) → place old.cluster x ≡ None → place mid.cluster x ≡ Some k → place old.cluster who.own ≡ Some k)
-      (together : MovesInPlace old.cluster w who.process) where
-    behind_is : world_settled (world_done w who doing) who.process a.below a.top o ≡ Action code_meaning w who.process
+      (same : new.cluster.directory ≡ mid.cluster.directory) (placed : HasPlaces mid.cluster (world_done w who doing))
+      (between : (k : ℕ) (text : List ℕ) → Strings mid.cluster (world_done w who doing) k text →
+      Strings old.cluster w k text ⊎ Strings new.cluster behind k text) where
+    behind_is : behind ≡ Action code_meaning w who.process
     behind_is =
         ap (world_settled (world_done w who doing) who.process a.below a.top) (sym does.answers)
         ∙ sym (action_is w a.below a.top who doing a.asks)
 
-    after : (x : ℕ) → place new.cluster x ≡ place mid.cluster x
-    after x = ap (λ e. place_at e x) same
-
     texts_then : Changes (Strings new.cluster (Action code_meaning w who.process)) old.cluster new.cluster
     texts_then = subst (λ (x : CodeWorld). Changes (Strings new.cluster x) old.cluster new.cluster) behind_is
-        (strings_then old.cluster mid.cluster new.cluster w (world_done w who doing)
-        (world_settled (world_done w who doing) who.process a.below a.top o) does.texts settled.texts a.goes.runs.mirrors.shows
-        (texts_between old.cluster mid.cluster new.cluster w a.below a.top who doing o a.goes.runs.mirrors.shows
-        (frames_same _ old.cluster mid.cluster does.texts) stays after))
+        (strings_then old.cluster mid.cluster new.cluster w (world_done w who doing) behind does.texts settled.texts
+        a.goes.runs.mirrors.shows between)
 
     runs_then : Runs d new (Action code_meaning w who.process)
     runs_then = record {
@@ -103,14 +100,8 @@ module _ (d : Declared) (old : System) (w : CodeWorld) (who : Who) (doing : Doin
         runs = runs_then;
         idle = action_idle d old.cluster.parts a.goes.runs.steady.fine w who.process a.goes.runs.sound a.goes.idle;
         typed = subst IsTypedOnce (sym texts_then.parts) a.goes.typed;
+        places = subst (HasPlaces new.cluster) behind_is
+            (settling_keeps_places mid.cluster new.cluster (world_done w who doing) who.process a.below a.top o same placed);
       };
       texts = texts_then;
-      places = record {
-        stays = λ x k at. after x ∙ stays x k at;
-        comes = λ x k top none now is.
-            let its : a.top ≡ top = same_Some a.top top (sym (top_is w a.below a.top who doing a.asks) ∙ is) in
-            let own : who.own ≡ top.own = ap (λ (y : Who). y.own) a.asks.who_is ∙ ap (λ (b : CodeActivation). b.own) its in
-            ap (place old.cluster) (sym own) ∙ comes x k none (sym (after x) ∙ now);
-      };
-      together = together;
     }

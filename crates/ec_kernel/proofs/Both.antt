@@ -1,5 +1,5 @@
 -- Both steps of an action.
-use Rattle.std.proofs.Common.{◌≡◌, ℕ, List, Option, Some, None, subst, arith}
+use Rattle.std.proofs.Common.{◌≡◌, ℕ, List, Option, Some, None, ap, subst, arith}
 use Rattle.ec_cluster.specs.Cluster.{CodeWorld}
 use Rattle.ec_cluster.specs.Steps.{Changes, Nothing}
 use Rattle.ec_cluster.specs.declared.cluster.Cluster.{Cluster}
@@ -10,12 +10,13 @@ use Rattle.ec_fitting.proofs.Doings.{doing_is_there}
 use Rattle.ec_fitting.proofs.Roomy.{can_be_done_there}
 use Rattle.ec_fitting.specs.Fitting.{HasNamed, IsMakable}
 use Rattle.ec_fitting.specs.Room.{RoomToDo, RoomToMake, RoomToSettle}
+use Rattle.ec_forward.specs.Directory.{place_at}
 use Rattle.ec_fullness.specs.Room.{HasRoomToMake, RoomFor}
-use Rattle.ec_kernel.proofs.Asking.{no_move_asked}
 use Rattle.ec_kernel.proofs.Behind.{acted_behind, can_settle_behind, settles_behind}
-use Rattle.ec_kernel.proofs.Rooming.{room_behind}
-use Rattle.ec_kernel.proofs.Strings.{comes_there, still_there}
+use Rattle.ec_kernel.proofs.Rooming.{frames_same, room_behind}
+use Rattle.ec_kernel.proofs.Strings.{still_there, texts_between}
 use Rattle.ec_kernel.specs.Acts.{AsksOfEach, HasActed}
+use Rattle.ec_placing.proofs.Doing.{doings_keep_places}
 use Rattle.ec_settling.specs.Settling.{CanBeSettled, SettlesIn}
 use Rattle.ec_system.specs.Steps.{ByClass, CanBeDone, Does, Settles, world_done}
 use Rattle.ec_system.specs.declared.system.System.{System}
@@ -88,5 +89,7 @@ module _ (d : Declared) (old : System) (w : CodeWorld) (who : Who) (doing : Doin
     pub has_acted : (new : System) → Settles mid new (world_done w who doing) who.process a.below a.top o →
         new.cluster.directory ≡ mid.cluster.directory → HasActed d old new w who.process
     has_acted new settled same = acted_behind d old w who doing a mid o does new settled same
-        (still_there old.cluster mid.cluster who.own doing places) (comes_there old.cluster mid.cluster who.own doing places)
-        (no_move_asked old.cluster w a.below a.top who doing a.asks room)
+        (doings_keep_places d old mid w a.below a.top who doing a.goes.runs a.asks places a.goes.places)
+        (texts_between old.cluster mid.cluster new.cluster w a.below a.top who doing o a.goes.runs.mirrors.shows
+        (frames_same _ old.cluster mid.cluster does.texts) (still_there old.cluster mid.cluster who.own doing places)
+        (λ x. ap (λ e. place_at e x) same))

@@ -5,6 +5,6 @@ pub mod Rooming
 pub mod Asking
 pub mod Behind
 pub mod Both
-pub mod Fixing
-pub mod Staying
+pub mod Gathered
+pub mod Finding
 pub mod Told

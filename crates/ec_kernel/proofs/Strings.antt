@@ -9,7 +9,7 @@ use Rattle.ec_cluster.specs.Cluster.{CodeWorld, Shows, frame_of, place}
 use Rattle.ec_cluster.specs.declared.cluster.Cluster.{Cluster}
 use Rattle.ec_code.specs.Activations.{code_meaning}
 use Rattle.ec_code.specs.declared.activation.CodeActivation.{CodeActivation}
-use Rattle.ec_doings.specs.Doings.{OneMore, Places, SamePlaces}
+use Rattle.ec_doings.specs.Doings.{OneMore, Places}
 use Rattle.ec_forward.specs.Directory.{made_count, place_at}
 use Rattle.ec_forward.specs.declared.directory.Whereabouts.{Whereabouts}
 use Rattle.ec_monitors.specs.Monitors.{dropped}
@@ -131,35 +131,6 @@ still_there c c' own (Waits condition) p x k at = ap (λ d. place_at d x) p ∙ 
 still_there c c' own (Signals condition) p x k at = ap (λ d. place_at d x) p ∙ at
 still_there c c' own Finishes p x k at = ap (λ d. place_at d x) p ∙ at
 still_there c c' own (Breaks why line) p x k at = ap (λ d. place_at d x) p ∙ at
-
-more_comes : (c c' : Cluster) (maker : ℕ) → OneMore c c' maker → (x k : ℕ) → place c x ≡ None → place c' x ≡ Some k →
-    place c maker ≡ Some k
-more_comes c c' maker more x k none now = ⊎_elim
-    (λ (same : x ≡ suc (made_count c.directory)). sym more.new ∙ ap (place c') (sym same) ∙ now)
-    (λ (ne : x ≢ suc (made_count c.directory)). absurd (let e : None ≡ Some k = sym none ∙ sym (more.others x ne) ∙ now in cc))
-    (same_or_not x (suc (made_count c.directory)))
-
-pub none_comes : (c c' : Cluster) → SamePlaces c c' → (x k : ℕ) → place c x ≡ None → place c' x ≡ Some k → {A : Type 0} → A
-none_comes c c' same x k none now = absurd (let e : None ≡ Some k = sym none ∙ ap (λ d. place_at d x) (sym same) ∙ now in cc)
-
--- What is new at a node is where the own object of who acts is.
-pub comes_there : (c c' : Cluster) (own : ℕ) (doing : Doing) → Places c c' own doing → (x k : ℕ) → place c x ≡ None →
-    place c' x ≡ Some k → place c own ≡ Some k
-comes_there c c' own (Passes given) p x k none now = none_comes c c' p x k none now
-comes_there c c' own (Prints text) p x k none now = none_comes c c' p x k none now
-comes_there c c' own (Defines index v) p x k none now = none_comes c c' p x k none now
-comes_there c c' own (Stores oid i v) p x k none now = none_comes c c' p x k none now
-comes_there c c' own (Makes class given) p x k none now = more_comes c c' own p x k none now
-comes_there c c' own (MakesVector of n) p x k none now = more_comes c c' own p x k none now
-comes_there c c' own (Invokes op callee args) p x k none now = none_comes c c' p x k none now
-comes_there c c' own (Returns given leaves section) p x k none now = none_comes c c' p x k none now
-comes_there c c' own (Moves members to fixes) p x k none now = absurd p
-comes_there c c' own (Unfixes y) p x k none now = none_comes c c' p x k none now
-comes_there c c' own Enters p x k none now = none_comes c c' p x k none now
-comes_there c c' own (Waits condition) p x k none now = none_comes c c' p x k none now
-comes_there c c' own (Signals condition) p x k none now = none_comes c c' p x k none now
-comes_there c c' own Finishes p x k none now = none_comes c c' p x k none now
-comes_there c c' own (Breaks why line) p x k none now = none_comes c c' p x k none now
 
 module _ (old mid new : Cluster) (w : CodeWorld) (below : List CodeActivation) (top : CodeActivation) (who : Who) (doing : Doing)
     (o : Outcome) (shows : Shows old w) (frames : frame_of mid ≡ frame_of old)

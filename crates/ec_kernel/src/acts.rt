@@ -1,7 +1,5 @@
 //! What an action on nodes comes to.
 use ec_nodes::room::Lack;
-use ec_world::stop::Who;
-use ec_world::value::{Oid, Oids};
 use std::alloc::AllocError;
 
 /// What became of an action.
@@ -11,14 +9,6 @@ pub enum Acted {
     Idle,
     /// It is done, and its effect has come to processes.
     Done,
-    /// These objects, which are not all there, are to go where another one is, and one of them is to be fixed from then on, if any. Nothing
-    /// has changed yet.
-    Moves {
-        who: Who,
-        members: Oids,
-        target: Oid,
-        fixes: Option<Oid>,
-    },
 }
 
 /// Why an action was not done.

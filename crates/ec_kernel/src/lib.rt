@@ -1,7 +1,8 @@
-//! The kernel of a network's nodes: the action of a process is done to them, or a node is full and nothing has changed.
+//! The kernel of a network's nodes: the action of a process is done to them, moves of objects between nodes with it, or a node is full and
+//! nothing has changed.
 #![tactic(auto)]
 
 pub mod acting;
 pub mod acts;
-pub mod moving;
+mod moving;
 mod steps;

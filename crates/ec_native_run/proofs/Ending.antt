@@ -21,7 +21,7 @@ use Rattle.ec_meaning.specs.Programs.{Source}
 use Rattle.ec_meaning.specs.declared.activation.SourceActivation.{SourceActivation}
 use Rattle.ec_native_run.specs.Entries.{Along, Ran}
 use Rattle.ec_native_run.specs.Following.{Follows, FullNext, IsReported}
-use Rattle.ec_native_run.specs.Runs.{EndsAfter, IsOneNode, RunsTo, run_report}
+use Rattle.ec_native_run.specs.Runs.{AreNodes, EndsAfter, RunsTo, run_report}
 use Rattle.ec_native_run.specs.Runs.EndsAfter.{ByItself, AsFull}
 use Rattle.ec_native_run.specs.Runs.RunsTo.{LoadIsFull, RanUntil}
 use Rattle.ec_nodes.specs.declared.room.Lack.{Lack}
@@ -184,15 +184,15 @@ load_full s p images specs schedule budget net lack status written lowered can l
 
 -- ---- before a run
 
--- what an accepted text is lowered to can be loaded onto one node and run there
-pub can_run : (p : Parts) (images : Images) (specs : List NodeSpec) → IsRunnable p images → IsOneNode specs → CanRun p images specs
-can_run p images specs r one = record {
+-- what an accepted text is lowered to can be loaded onto nodes and run there
+pub can_run : (p : Parts) (images : Images) (specs : List NodeSpec) → IsRunnable p images → AreNodes specs → CanRun p images specs
+can_run p images specs r nodes = record {
   loads = record {
     declared = r.declared;
     tables = r.tables;
-    some = omega (arith, one.one);
-    few = omega (arith, one.one);
-    sizes = one.sizes;
+    some = omega (arith, nodes.some);
+    few = nodes.few;
+    sizes = nodes.sizes;
     once = r.once;
     empty = r.empty;
   };
@@ -200,4 +200,5 @@ can_run p images specs r one = record {
   small = r.small;
   classes = r.classes;
   typed = r.typed;
+  few = r.few;
 }

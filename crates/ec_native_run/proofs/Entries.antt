@@ -1,7 +1,7 @@
--- What an entry leaves of one node: that it had room, its size, its texts and the places of its objects.
+-- What an entry leaves of nodes: that each had room, and their sizes and texts.
 use Rattle.std.proofs.Common.{◌≡◌, ◌⊎◌, ◌++◌, ◌∷◌, [], ℕ, inl, ⊎_elim, List, Some, refl, sym, ap, ◌∙◌, subst, arith}
 use Rattle.std.proofs.lemmas.Option.{same_Some}
-use Rattle.std.specs.Prelude.{length, option_map}
+use Rattle.std.specs.Prelude.{option_map}
 use Rattle.ec_base.proofs.Lists.{get_there}
 use Rattle.ec_base.specs.Stack.{below_of, top_of}
 use Rattle.ec_cluster.proofs.Putting.{is_node}
@@ -13,19 +13,18 @@ use Rattle.ec_code.specs.declared.activation.CodeActivation.{CodeActivation}
 use Rattle.ec_code.specs.declared.code.Parts.{Parts}
 use Rattle.ec_going.specs.Going.{Ran, SameRoom}
 use Rattle.ec_native_run.specs.Entries.{Along, EntryOf}
-use Rattle.ec_native_run.specs.Entries.EntryOf.{Idles, Rests, Stays, Turns}
-use Rattle.ec_nodes_running.specs.Moving.{IsThere, NoMove}
+use Rattle.ec_native_run.specs.Entries.EntryOf.{Moves, Rests, Turns}
+use Rattle.ec_nodes_running.specs.Moving.{MovedTo}
 use Rattle.ec_nodes_running.specs.Running.{AfterAction, Rested, WentOn}
 use Rattle.ec_nodes_running.specs.Standing.{Stands}
 use Rattle.ec_nodes_running.specs.Turns.{NoTurn, TurnOf}
-use Rattle.ec_rooms.proofs.Acted.{actions_had}
+use Rattle.ec_placing.specs.Places.{HasPlaces}
+use Rattle.ec_rooms.proofs.Coming.{steps_had}
 use Rattle.ec_rooms.proofs.Nodes.{same_nodes}
-use Rattle.ec_rooms.proofs.OnOne.{one_node}
-use Rattle.ec_rooms.proofs.Worlds.{each_placed}
 use Rattle.ec_rooms.specs.Laws.{HasRoomFor}
 use Rattle.ec_rooms.specs.Rooms.{Strings}
 use Rattle.ec_rooms.specs.Runs.{after_action}
-use Rattle.ec_rooms.specs.Standing.{HavePools, HaveSizes, PlacesEach, ShowsWith}
+use Rattle.ec_rooms.specs.Standing.{HavePools, HaveSizes, ShowsWith}
 use Rattle.ec_stores.specs.Node.{store_of}
 use Rattle.ec_system.specs.declared.system.System.{System}
 use Rattle.ec_things.specs.Store.{Store}
@@ -106,7 +105,7 @@ module _ (specs : List NodeSpec) (Pool : ℕ → List ℕ → Type 0) (old : Sys
 -- ---- what an entry leaves
 
 -- The nodes had room for the action of an entry. They have the program and the sizes that they had, the texts that they had with those of
--- the world after the action, and stand in the world after the entry, whose events place its objects.
+-- the world after the action, and stand in the world after the entry.
 pub record GoneOn (specs : List NodeSpec) (d : Declared) (p : Parts) (old : System) (w : CodeWorld) (e : RunEntry)
     (Pool : ℕ → List ℕ → Type 0) (new : System) : Type 0 where
   pub entry : EntryOf d old new w e
@@ -115,21 +114,23 @@ pub record GoneOn (specs : List NodeSpec) (d : Declared) (p : Parts) (old : Syst
   pub room : HasRoomFor p specs w (after_action w e) Pool
   pub sizes : HaveSizes specs new.cluster
   pub pools : HavePools new.cluster (λ k text. Pool k text ⊎ Strings p (after_action w e) k text)
-  pub places : PlacesEach (after_entry code_meaning (code_silent p) w e)
 
 -- a process with nothing to do has no action
 no_action : (w : CodeWorld) (p : ℕ) (old new : System) → NoTurn old new w p → Action code_meaning w p ≡ w
 no_action w p old new t = ap (λ (xs : List CodeActivation). act_on code_meaning w p (below_of xs) (top_of xs)) t.none
 
-module _ (specs : List NodeSpec) (d : Declared) (old new : System) (w : CodeWorld) (Pool : ℕ → List ℕ → Type 0) (one : length specs ≡ 1)
-    (stands : Stands d old w) (shows : ShowsWith specs old w Pool) (places : PlacesEach w) where
+module _ (specs : List NodeSpec) (d : Declared) (old new : System) (w : CodeWorld) (Pool : ℕ → List ℕ → Type 0) (stands : Stands d old w)
+    (shows : ShowsWith specs old w Pool) where
   abbrev parts : Parts
   parts = old.cluster.parts
 
   -- an action, and then native code
   pub turn_leaves : (p steps : ℕ) → TurnOf d old new w p steps → GoneOn specs d parts old w (ATurn p) Pool new
   turn_leaves p steps t =
-      let had = actions_had Pool d specs old t.middle w p stands.goes shows one places t.acted in
+      let goes = stands.works.goes in
+      let after = t.acted.goes in
+      let had = steps_had Pool d specs old t.middle w (Action code_meaning w p) goes.runs shows goes.places
+      (record { mirrors = after.runs.mirrors; places = after.places; texts = t.acted.texts }) in
       let kept = after_kept specs (λ k text. Pool k text ⊎ Strings parts (Action code_meaning w p) k text) t.middle had.sizes had.pools
       d new (Action code_meaning w p) p steps t.after in
       record {
@@ -139,15 +140,13 @@ module _ (specs : List NodeSpec) (d : Declared) (old new : System) (w : CodeWorl
         room = had.room;
         sizes = kept.sizes;
         pools = kept.pools;
-        places = each_placed.gone_on parts (Action code_meaning w p) p (each_placed.acted w p places);
       }
 
   -- nodes that show the world after the action as they are
   same_leaves : (e : RunEntry) → EntryOf d old new w e → new ≡ old → Stands d old (after_entry code_meaning (code_silent parts) w e) →
-      ShowsWith specs old (after_action w e) Pool → PlacesEach (after_entry code_meaning (code_silent parts) w e) →
-      GoneOn specs d parts old w e Pool new
+      ShowsWith specs old (after_action w e) Pool → HasPlaces old.cluster (after_action w e) → GoneOn specs d parts old w e Pool new
   same_leaves e entry same then shown placed =
-      let was = same_nodes Pool specs old w (after_action w e) shows shown in
+      let was = same_nodes Pool specs old w (after_action w e) shows stands.works.goes.places shown placed in
       record {
         entry = entry;
         parts = ap (λ (s : System). s.cluster.parts) same;
@@ -165,7 +164,6 @@ module _ (specs : List NodeSpec) (d : Declared) (old new : System) (w : CodeWorl
                   (λ (x : Strings parts (after_action w e) k text). was.texts k spec.0 text spec.1 x)
                   h),
             ));
-        places = placed;
       }
 
   -- nothing to do
@@ -173,25 +171,20 @@ module _ (specs : List NodeSpec) (d : Declared) (old new : System) (w : CodeWorl
   rest_leaves p t = same_leaves (ATurn p) (Rests p t) t.same
       (subst (λ (v : CodeWorld). Stands d old v) (sym t.nothing) stands)
       (subst (λ (v : CodeWorld). ShowsWith specs old v Pool) (sym (no_action w p old new t)) shows)
-      (subst (λ (v : CodeWorld). PlacesEach v) (sym t.nothing) places)
+      (subst (λ (v : CodeWorld). HasPlaces old.cluster v) (sym (no_action w p old new t)) stands.works.goes.places)
 
   -- a move by the operator
-  move_leaves : (o k : ℕ) → EntryOf d old new w (AMove o k) → new ≡ old → Stands d old (OperatorMove w o k) →
-      GoneOn specs d parts old w (AMove o k) Pool new
-  move_leaves o k entry same then =
-      let mirrors = then.goes.runs.mirrors in
-      let placed = each_placed.moved w o k places in
-      same_leaves (AMove o k) entry same then
-      (record {
-        mirrors = mirrors;
-        sizes = shows.sizes;
-        placed = one_node old (OperatorMove w o k) mirrors (shows.sizes.nodes ∙ one) placed;
-        pools = shows.pools;
-      })
-      placed
-
-  pub stay_leaves : (o k : ℕ) → IsThere d old w o k → new ≡ old → GoneOn specs d parts old w (AMove o k) Pool new
-  stay_leaves o k t same = move_leaves o k (Stays o k t same) same t.stands
-
-  pub idle_leaves : (o k : ℕ) → NoMove d old w o k → new ≡ old → GoneOn specs d parts old w (AMove o k) Pool new
-  idle_leaves o k t same = move_leaves o k (Idles o k t same) same t.stands
+  pub move_leaves : (o k : ℕ) → MovedTo d old new w o k → GoneOn specs d parts old w (AMove o k) Pool new
+  move_leaves o k moved =
+      let goes = stands.works.goes in
+      let after = moved.stands.works.goes in
+      let had = steps_had Pool d specs old new w (OperatorMove w o k) goes.runs shows goes.places
+      (record { mirrors = after.runs.mirrors; places = after.places; texts = moved.texts }) in
+      record {
+        entry = Moves o k moved;
+        parts = moved.texts.parts;
+        stands = moved.stands;
+        room = had.room;
+        sizes = had.sizes;
+        pools = had.pools;
+      }

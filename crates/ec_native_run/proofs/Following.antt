@@ -1,5 +1,5 @@
 -- A network follows the run: at the load, and from one entry to the next.
-use Rattle.std.proofs.Common.{◌≡◌, ◌⊎◌, ℕ, suc, List, [], ◌∷◌, ◌++◌, length, Option, Some, below_none, below_more, refl, sym}
+use Rattle.std.proofs.Common.{◌≡◌, ◌⊎◌, ℕ, suc, List, [], ◌∷◌, ◌++◌, length, Some, below_none, below_more, refl, sym}
 use Rattle.std.proofs.Common.{ap, subst, ◌∙◌, add-one}
 use Rattle.std.proofs.lemmas.Option.{same_Some}
 use Rattle.ec_cluster.specs.Cluster.{CodeWorld}
@@ -13,36 +13,36 @@ use Rattle.ec_driver.specs.Driver.{IsDone, IsRefused}
 use Rattle.ec_driver.specs.Progress.{IsStep, Progress, advanced, at_start}
 use Rattle.ec_driver.specs.declared.driver.Refusal.{Refusal}
 use Rattle.ec_driver.specs.declared.step.Step.TheVariants.{Does}
+use Rattle.ec_kernel.specs.Acts.{FoundFull}
 use Rattle.ec_loading.specs.Loaded.{Loaded}
 use Rattle.ec_loading.specs.Worlds.{world_first}
-use Rattle.ec_native_run.proofs.Entries.{GoneOn, along_none, along_push, idle_leaves, rest_leaves, stay_leaves, turn_leaves}
-use Rattle.ec_native_run.proofs.OnOne.{never_moves, never_shifts}
+use Rattle.ec_native_run.proofs.Entries.{GoneOn, along_none, along_push, move_leaves, rest_leaves, turn_leaves}
 use Rattle.ec_native_run.specs.Entries.{Along, EntryOf}
 use Rattle.ec_native_run.specs.Following.{Follows, FullNext, HasCome, refusal_of}
 use Rattle.ec_nodes.specs.declared.room.Lack.{Lack}
 use Rattle.ec_nodes.specs.declared.room.Part.{Part}
-use Rattle.ec_nodes_running.specs.Moving.{AsksToShift, IsThere, NoMove}
-use Rattle.ec_nodes_running.specs.Networks.{AreCode, CanRun, ForStanding, Net, NetLoaded, NetRefused, NetTurned}
+use Rattle.ec_native_run.specs.Runs.{AreNodes}
+use Rattle.ec_nodes_running.specs.Networks.{AreCode, CanRun, Net, NetLoaded, NetMoved, NetMoveRefused, NetRefused, NetTurned}
 use Rattle.ec_nodes_running.specs.Standing.{Stands}
-use Rattle.ec_nodes_running.specs.declared.turns.Did.TheVariants.{Acted, Idle, Moves}
-use Rattle.ec_nodes_running.specs.declared.turns.TurnError.TheVariants.{Full}
-use Rattle.ec_rooms.proofs.Acted.{found_full}
+use Rattle.ec_nodes_running.specs.declared.turns.Did.{Did}
+use Rattle.ec_nodes_running.specs.declared.turns.Did.TheVariants.{Acted, Idle}
+use Rattle.ec_nodes_running.specs.declared.turns.TurnError.{TurnError}
+use Rattle.ec_nodes_running.specs.declared.turns.TurnError.TheVariants.{Full, Memory}
+use Rattle.ec_rooms.proofs.Full.{found_full}
 use Rattle.ec_rooms.proofs.Loads.{loads_full}
-use Rattle.ec_rooms.proofs.OnOne.{one_node}
-use Rattle.ec_rooms.proofs.Worlds.{each_placed}
 use Rattle.ec_rooms.specs.Rooms.{FullAt, Literals, Strings, held}
 use Rattle.ec_rooms.specs.Runs.{NextFull, PoolAfter, action_if, after_action, code_run, next_action}
 use Rattle.ec_rooms.specs.Standing.{HavePools}
+use Rattle.ec_sound.proofs.Worlds.{action_sound, move_sound}
+use Rattle.ec_sound.specs.Sound.{SoundWorld}
 use Rattle.ec_system.specs.declared.system.System.{System}
 use Rattle.ec_world.proofs.Entries.{run_world}
 use Rattle.ec_world.specs.Run.{RunState, after_entries, after_entry, statuses_of, stepped}
-use Rattle.ec_world.specs.World.{Action}
 use Rattle.ec_world.specs.declared.node.NodeSpec.{NodeSpec}
 use Rattle.ec_world.specs.declared.process.ProcStatus.{ProcStatus}
 use Rattle.ec_world.specs.declared.run.Entry.{Entry}
 use Rattle.ec_world.specs.declared.run.RunEntry.{RunEntry}
 use Rattle.ec_world.specs.declared.run.RunEntry.TheVariants.{MoveOf as AMove, TurnOf as ATurn}
-use Rattle.ec_world.specs.declared.stop.Who.{Who}
 
 -- ---- texts of pools
 
@@ -58,7 +58,7 @@ pools_more p n schedule k c h = h
 
 -- ---- the load
 
-module _ (p : Parts) (images : Images) (specs : List NodeSpec) (schedule : List Entry) (budget : ℕ) (net : Net) (one : length specs ≡ 1)
+module _ (p : Parts) (images : Images) (specs : List NodeSpec) (schedule : List Entry) (budget : ℕ) (net : Net) (nodes : AreNodes specs)
     (can : CanRun p images specs) (l : NetLoaded p images specs net) where
   abbrev own : Parts
   own = l.start.cluster.parts
@@ -83,7 +83,7 @@ module _ (p : Parts) (images : Images) (specs : List NodeSpec) (schedule : List 
 
   first_come : HasCome specs l.start schedule budget (statuses_of world) (at_start schedule) l.start world
   first_come = record {
-    one = one;
+    nodes = nodes;
     loaded = loaded_is;
     declared = can.loads.declared;
     code = code_is;
@@ -98,11 +98,9 @@ module _ (p : Parts) (images : Images) (specs : List NodeSpec) (schedule : List 
     shows = record {
       mirrors = loaded_is.mirrors;
       sizes = loads_full.sizes own l.start.cluster.images specs l.start loaded_is;
-      placed = one_node l.start world loaded_is.mirrors (l.loaded.nodes ∙ one) (each_placed.first (length specs) own);
       pools = pools_first own (length specs) schedule l.start.cluster
           (loads_full.pools own l.start.cluster.images specs l.start loaded_is);
     };
-    places = each_placed.first (length specs) own;
   }
 
   -- what was just loaded follows the run
@@ -130,9 +128,6 @@ module _ (specs : List NodeSpec) (start : System) (schedule : List Entry) (budge
 
   abbrev Pool : ℕ → List ℕ → Type 0
   Pool = PoolAfter start.cluster.parts (length specs) schedule progress.done
-
-  pub one_here : length now.cluster.nodes ≡ 1
-  one_here = h.shows.sizes.nodes ∙ h.one
 
   module _ (e : RunEntry) (step : IsStep statuses budget progress (Does e)) where
     abbrev next : CodeWorld
@@ -183,7 +178,7 @@ module _ (specs : List NodeSpec) (start : System) (schedule : List Entry) (budge
 
       come_next : HasCome specs start schedule budget (statuses_of next) (advanced progress e) new next
       come_next = record {
-        one = h.one;
+        nodes = h.nodes;
         loaded = h.loaded;
         declared = h.declared;
         code = h.code;
@@ -194,12 +189,10 @@ module _ (specs : List NodeSpec) (start : System) (schedule : List Entry) (budge
         fits = below_more (λ j. (node need free : ℕ) (part : Part) → NextFull parts specs schedule j node part need free → ⊥)
             progress.done h.fits (λ node need free part full. g.room node need free part (full_here node need free part full));
         shows = record {
-          mirrors = g.stands.goes.runs.mirrors;
+          mirrors = g.stands.works.goes.runs.mirrors;
           sizes = g.sizes;
-          placed = one_node new next g.stands.goes.runs.mirrors (g.sizes.nodes ∙ h.one) g.places;
           pools = rw (add-one progress.done) pools_next;
         };
-        places = g.places;
       }
 
 -- ---- what the network answers
@@ -235,20 +228,40 @@ module _ (specs : List NodeSpec) (old : Net) (schedule : List Entry) (budget : �
           },
         )
 
+    -- one that finds a node full leaves the network as it was
+    stays_full : (net' : Net) (new : System) → net' ≡ Some new → (lack : Lack) →
+        SoundWorld f.come.declared f.now.cluster.parts (after_action f.world e) →
+        FoundFull f.now new f.world (after_action f.world e) lack →
+        Follows specs old schedule budget statuses progress net'
+        × FullNext specs old schedule progress.done lack.node lack.part lack.need lack.free
+    stays_full net' new is lack sound found =
+        let same : net ≡ net' = f.is ∙ ap Some (sym found.same) ∙ sym is in
+        let goes = f.come.stands.works.goes in
+        let full = found_full PoolHere f.come.declared specs f.now f.world (after_action f.world e) lack goes.runs sound f.come.shows
+        goes.places found.finds in
+        let its = subst (λ (q : Parts). FullAt specs (held q f.world) (held q (after_action f.world e)) PoolHere
+        (Strings q (after_action f.world e)) lack.node lack.part lack.need lack.free) f.come.parts full in (
+          subst (λ (x : Net). Follows specs old schedule budget statuses progress x) same f,
+          λ start started.
+              let begun : f.start ≡ start = same_Some f.start start (sym f.started ∙ started) in
+              subst (λ (s : System). NextFull s.cluster.parts specs schedule progress.done lack.node lack.part lack.need lack.free) begun
+              (full_next specs f.start schedule budget statuses progress f.now f.world f.come e step lack.node lack.need lack.free
+              lack.part its),
+        )
+
   -- a turn
   module _ (p : ℕ) (step : IsStep statuses budget progress (Does (ATurn p))) (net' : Net) where
     pub turn_acted : (steps : ℕ) → NetTurned net net' p (Acted steps) → GoesTo specs old schedule budget progress (ATurn p) net'
     turn_acted steps turned =
         let t = turned f.come.declared f.now f.world f.is f.come.stands in
         follows_next (ATurn p) step net' t.system t.is
-        (turn_leaves specs f.come.declared f.now t.system f.world PoolHere f.come.one f.come.stands f.come.shows f.come.places p steps
-        t.told)
+        (turn_leaves specs f.come.declared f.now t.system f.world PoolHere f.come.stands f.come.shows p steps t.told)
 
     pub turn_idle : NetTurned net net' p Idle → GoesTo specs old schedule budget progress (ATurn p) net'
     turn_idle turned =
         let t = turned f.come.declared f.now f.world f.is f.come.stands in
         follows_next (ATurn p) step net' t.system t.is
-        (rest_leaves specs f.come.declared f.now t.system f.world PoolHere f.come.one f.come.stands f.come.shows f.come.places p t.told)
+        (rest_leaves specs f.come.declared f.now t.system f.world PoolHere f.come.stands f.come.shows p t.told)
 
     -- one that finds a node full leaves the network as it was
     pub turn_full : (lack : Lack) → NetRefused net net' p (Full lack) →
@@ -256,45 +269,26 @@ module _ (specs : List NodeSpec) (old : Net) (schedule : List Entry) (budget : �
         × FullNext specs old schedule progress.done lack.node lack.part lack.need lack.free
     turn_full lack refused =
         let t = refused.1 f.come.declared f.now f.world f.is f.come.stands in
-        let same : net ≡ net' = f.is ∙ ap Some (sym t.told.same) ∙ sym t.is in
-        let full = found_full PoolHere f.come.declared specs f.now t.system f.world p lack f.come.stands.goes f.come.shows f.come.one
-        f.come.places t.told in
-        let its = subst (λ (q : Parts). FullAt specs (held q f.world) (held q (Action code_meaning f.world p)) PoolHere
-        (Strings q (Action code_meaning f.world p)) lack.node lack.part lack.need lack.free) f.come.parts full in (
-          subst (λ (x : Net). Follows specs old schedule budget statuses progress x) same f,
-          λ start started.
-              let is : f.start ≡ start = same_Some f.start start (sym f.started ∙ started) in
-              subst (λ (s : System). NextFull s.cluster.parts specs schedule progress.done lack.node lack.part lack.need lack.free) is
-              (full_next specs f.start schedule budget statuses progress f.now f.world f.come (ATurn p) step lack.node lack.need lack.free
-              lack.part its),
-        )
-
-  pub turn_stays : (p : ℕ) (net' : Net) (who : Who) (members : List ℕ) (target : ℕ) (fixes : Option ℕ) →
-      NetTurned net net' p (Moves who members target fixes) → ⊥
-  turn_stays p net' who members target fixes turned =
-      let t = turned f.come.declared f.now f.world f.is f.come.stands in
-      never_moves f.come.declared f.now t.system f.world p who members target fixes
-      (one_here specs f.start schedule budget statuses progress f.now f.world f.come) f.come.stands t.told
+        let runs = f.come.stands.works.goes.runs in
+        let sound = action_sound f.come.declared f.now.cluster.parts runs.steady.fine f.world p runs.sound in
+        stays_full (ATurn p) step net' t.system t.is lack sound t.told
 
   -- a move by the operator
-  module _ (o k : ℕ) (step : IsStep statuses budget progress (Does (AMove o k))) where
-    pub move_there : ForStanding net (λ d s w. IsThere d s w o k) → GoesTo specs old schedule budget progress (AMove o k) net
-    move_there told =
-        let t = told f.come.declared f.now f.world f.is f.come.stands in
-        follows_next (AMove o k) step net f.now f.is
-        (stay_leaves specs f.come.declared f.now f.now f.world PoolHere f.come.one f.come.stands f.come.shows f.come.places o k t refl)
+  module _ (o k : ℕ) (step : IsStep statuses budget progress (Does (AMove o k))) (net' : Net) where
+    pub move_done : NetMoved net net' o k → GoesTo specs old schedule budget progress (AMove o k) net'
+    move_done moved =
+        let t = moved f.come.declared f.now f.world f.is f.come.stands in
+        follows_next (AMove o k) step net' t.system t.is
+        (move_leaves specs f.come.declared f.now t.system f.world PoolHere f.come.stands f.come.shows o k t.told)
 
-    pub move_idle : ForStanding net (λ d s w. NoMove d s w o k) → GoesTo specs old schedule budget progress (AMove o k) net
-    move_idle told =
-        let t = told f.come.declared f.now f.world f.is f.come.stands in
-        follows_next (AMove o k) step net f.now f.is
-        (idle_leaves specs f.come.declared f.now f.now f.world PoolHere f.come.one f.come.stands f.come.shows f.come.places o k t refl)
-
-  pub move_stays : (o k : ℕ) (members : List ℕ) → ForStanding net (λ d s w. AsksToShift s w o k members) → ⊥
-  move_stays o k members told =
-      never_shifts f.come.declared f.now f.world o k members
-      (one_here specs f.start schedule budget statuses progress f.now f.world f.come) f.come.stands
-      (told f.come.declared f.now f.world f.is f.come.stands)
+    pub move_full : (lack : Lack) → NetMoveRefused net net' o k (Full lack) →
+        Follows specs old schedule budget statuses progress net'
+        × FullNext specs old schedule progress.done lack.node lack.part lack.need lack.free
+    move_full lack refused =
+        let t = refused.1 f.come.declared f.now f.world f.is f.come.stands in
+        let runs = f.come.stands.works.goes.runs in
+        let sound = move_sound f.come.declared f.now.cluster.parts runs.steady.fine f.world o k runs.sound in
+        stays_full (AMove o k) step net' t.system t.is lack sound t.told
 
 -- ---- entries, as they are given
 
@@ -306,31 +300,37 @@ module _ (specs : List NodeSpec) (net net' : Net) (entry : RunEntry) where
   IsRefusedBy e r = IsRefused (Follows specs) (FullNext specs) e net net' r
 
   module _ (p : ℕ) (is : entry ≡ ATurn p) where
-    pub acted_done : (steps : ℕ) → NetTurned net net' p (Acted steps) → IsDoneBy entry
-    acted_done steps turned =
-        subst (λ (e : RunEntry). IsDoneBy e) (sym is)
-        (λ old schedule budget statuses progress f step.
-        turn_acted specs old schedule budget statuses progress net f p step net' steps turned)
+    turned_done : (did : Did) → NetTurned net net' p did → IsDoneBy (ATurn p)
+    turned_done (Acted steps) turned = λ old schedule budget statuses progress f step.
+        turn_acted specs old schedule budget statuses progress net f p step net' steps turned
+    turned_done Idle turned = λ old schedule budget statuses progress f step.
+        turn_idle specs old schedule budget statuses progress net f p step net' turned
 
-    pub idle_done : NetTurned net net' p Idle → IsDoneBy entry
-    idle_done turned =
-        subst (λ (e : RunEntry). IsDoneBy e) (sym is)
-        (λ old schedule budget statuses progress f step. turn_idle specs old schedule budget statuses progress net f p step net' turned)
+    turned_refused : (e : TurnError) → NetRefused net net' p e → IsRefusedBy (ATurn p) (refusal_of e)
+    turned_refused (Full lack) refused = λ old schedule budget statuses progress f step.
+        turn_full specs old schedule budget statuses progress net f p step net' lack refused
+    turned_refused (Memory e) refused = tt
 
-    pub full_refused : (lack : Lack) (r : Refusal) → r ≡ refusal_of lack → NetRefused net net' p (Full lack) → IsRefusedBy entry r
-    full_refused lack r why refused =
+    pub turn_done : (did : Did) → NetTurned net net' p did → IsDoneBy entry
+    turn_done did turned = subst (λ (e : RunEntry). IsDoneBy e) (sym is) (turned_done did turned)
+
+    pub turn_refused : (e : TurnError) (r : Refusal) → r ≡ refusal_of e → NetRefused net net' p e → IsRefusedBy entry r
+    turn_refused e r why refused =
         subst (λ (x : Refusal). IsRefusedBy entry x) (sym why)
-        (subst (λ (e : RunEntry). IsRefusedBy e (refusal_of lack)) (sym is)
-        (λ old schedule budget statuses progress f step.
-        turn_full specs old schedule budget statuses progress net f p step net' lack refused))
+        (subst (λ (x : RunEntry). IsRefusedBy x (refusal_of e)) (sym is) (turned_refused e refused))
 
-module _ (specs : List NodeSpec) (net : Net) (entry : RunEntry) (o k : ℕ) (is : entry ≡ AMove o k) where
-  pub there_done : ForStanding net (λ d s w. IsThere d s w o k) → IsDone (Follows specs) (FullNext specs) entry net net
-  there_done told =
-      subst (λ (e : RunEntry). IsDone (Follows specs) (FullNext specs) e net net) (sym is)
-      (λ old schedule budget statuses progress f step. move_there specs old schedule budget statuses progress net f o k step told)
+  module _ (o k : ℕ) (is : entry ≡ AMove o k) where
+    moved_refused : (e : TurnError) → NetMoveRefused net net' o k e → IsRefusedBy (AMove o k) (refusal_of e)
+    moved_refused (Full lack) refused = λ old schedule budget statuses progress f step.
+        move_full specs old schedule budget statuses progress net f o k step net' lack refused
+    moved_refused (Memory e) refused = tt
 
-  pub idle_move_done : ForStanding net (λ d s w. NoMove d s w o k) → IsDone (Follows specs) (FullNext specs) entry net net
-  idle_move_done told =
-      subst (λ (e : RunEntry). IsDone (Follows specs) (FullNext specs) e net net) (sym is)
-      (λ old schedule budget statuses progress f step. move_idle specs old schedule budget statuses progress net f o k step told)
+    pub moved_done : NetMoved net net' o k → IsDoneBy entry
+    moved_done moved =
+        subst (λ (e : RunEntry). IsDoneBy e) (sym is)
+        (λ old schedule budget statuses progress f step. move_done specs old schedule budget statuses progress net f o k step net' moved)
+
+    pub move_refused : (e : TurnError) (r : Refusal) → r ≡ refusal_of e → NetMoveRefused net net' o k e → IsRefusedBy entry r
+    move_refused e r why refused =
+        subst (λ (x : Refusal). IsRefusedBy entry x) (sym why)
+        (subst (λ (x : RunEntry). IsRefusedBy x (refusal_of e)) (sym is) (moved_refused e refused))

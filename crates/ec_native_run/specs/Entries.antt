@@ -7,7 +7,7 @@ use Rattle.ec_code.specs.Typing.{Declared}
 use Rattle.ec_code.specs.declared.code.Parts.{Parts}
 use Rattle.ec_loading.specs.Loaded.{Loaded}
 use Rattle.ec_loading.specs.Worlds.{world_first}
-use Rattle.ec_nodes_running.specs.Moving.{IsThere, NoMove}
+use Rattle.ec_nodes_running.specs.Moving.{MovedTo}
 use Rattle.ec_nodes_running.specs.Networks.{AreCode, Net}
 use Rattle.ec_nodes_running.specs.Turns.{NoTurn, TurnOf}
 use Rattle.ec_system.specs.declared.system.System.{System}
@@ -17,13 +17,12 @@ use Rattle.ec_world.specs.declared.run.RunEntry.{RunEntry}
 use Rattle.ec_world.specs.declared.run.RunEntry.TheVariants as entry
 
 -- What an entry does on nodes that stand in a world. A turn is the action of the stop at which a process rests, and then so many
--- instructions of the node's own code up to the next stop; or nothing, where the process has nothing to do. A move by the operator is one
--- of objects that are all there, or idle; the nodes stay as they are.
+-- instructions of the node's own code up to the next stop; or nothing, where the process has nothing to do. A move by the operator brings
+-- a group to a node, unless it is idle.
 pub data EntryOf (d : Declared) (old new : System) (w : CodeWorld) : RunEntry → Type 0 where
   Turns : (p steps : ℕ) → TurnOf d old new w p steps → EntryOf d old new w (entry.TurnOf p)
   Rests : (p : ℕ) → NoTurn old new w p → EntryOf d old new w (entry.TurnOf p)
-  Stays : (o k : ℕ) → IsThere d old w o k → new ≡ old → EntryOf d old new w (entry.MoveOf o k)
-  Idles : (o k : ℕ) → NoMove d old w o k → new ≡ old → EntryOf d old new w (entry.MoveOf o k)
+  Moves : (o k : ℕ) → MovedTo d old new w o k → EntryOf d old new w (entry.MoveOf o k)
 
 -- Entries lead from nodes that stand in a world of a program to others, one entry after the other.
 unfoldable pub Along : Declared → Parts → System → CodeWorld → List RunEntry → System → Type 0

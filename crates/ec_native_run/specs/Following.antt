@@ -12,36 +12,38 @@ use Rattle.ec_loading.specs.Loaded.{Loaded}
 use Rattle.ec_loading.specs.Worlds.{world_first}
 use Rattle.ec_meaning.specs.Programs.{Source}
 use Rattle.ec_native_run.specs.Entries.{Along}
-use Rattle.ec_native_run.specs.Runs.{run_report}
-use Rattle.ec_nodes.specs.declared.room.Lack.{Lack}
+use Rattle.ec_native_run.specs.Runs.{AreNodes, run_report}
 use Rattle.ec_nodes.specs.declared.room.Part.{Part}
 use Rattle.ec_nodes_running.specs.Networks.{AreCode, ForStanding, Net, counts_of}
 use Rattle.ec_nodes_running.specs.Standing.{Stands}
+use Rattle.ec_nodes_running.specs.declared.turns.TurnError.{TurnError}
+use Rattle.ec_nodes_running.specs.declared.turns.TurnError.TheVariants.{Full, Memory}
 use Rattle.ec_report.specs.Status.{status_of}
 use Rattle.ec_report.specs.declared.end.ReportEnd.{ReportEnd}
 use Rattle.ec_report.specs.declared.status.Status.{Status}
 use Rattle.ec_rooms.specs.Runs.{NextFull, NoneFullBefore, PoolAfter, code_run}
-use Rattle.ec_rooms.specs.Standing.{ArePlaced, PlacesEach, ShowsWith}
+use Rattle.ec_rooms.specs.Standing.{ShowsWith}
 use Rattle.ec_system.specs.declared.system.System.{System}
 use Rattle.ec_world.specs.Run.{statuses_of}
 use Rattle.ec_world.specs.declared.node.NodeSpec.{NodeSpec}
 use Rattle.ec_world.specs.declared.process.ProcStatus.{ProcStatus}
 use Rattle.ec_world.specs.declared.run.Entry.{Entry}
 
--- of each world in which a network stands, that has as many nodes as these, and whose objects are where its events have them
-abbrev pub ForPlaced : Net → List NodeSpec → (CodeWorld → Type 0) → Type 0
-ForPlaced net specs P = ForStanding net (λ d s w. w.common.nodes ≡ length specs → ArePlaced s.cluster w → P w)
+-- of each world in which a network stands, that has as many nodes as these
+abbrev pub ForNodes : Net → List NodeSpec → (CodeWorld → Type 0) → Type 0
+ForNodes net specs P = ForStanding net (λ d s w. w.common.nodes ≡ length specs → P w)
 
 -- why an entry wasn't done
-abbrev pub refusal_of : Lack → Refusal
-refusal_of lack = refusals.Full lack.node lack.part lack.need lack.free
+abbrev pub refusal_of : TurnError → Refusal
+refusal_of (Full lack) = refusals.Full lack.node lack.part lack.need lack.free
+refusal_of (Memory e) = refusals.Memory
 
--- From a system that was just loaded on one node, the run of its program along a schedule, within a budget of entries, has come to a system
+-- From a system that was just loaded onto nodes, the run of its program along a schedule, within a budget of entries, has come to a system
 -- that stands in its world, with this progress: entries have led there, each of them found room, and no earlier one was the last. The
--- system has the sizes of the nodes, each object where the events have it, and the texts of the worlds on the way.
+-- system has the sizes of the nodes, and the texts of the worlds on the way.
 pub record HasCome (specs : List NodeSpec) (start : System) (schedule : List Entry) (budget : ℕ) (statuses : List ProcStatus)
     (progress : Progress) (now : System) (w : CodeWorld) : Type 0 where
-  pub one : length specs ≡ 1
+  pub nodes : AreNodes specs
   pub loaded : Loaded start.cluster.parts start.cluster.images specs start
   pub declared : Declared
   pub code : AreCode declared start.cluster.parts start.cluster.images
@@ -53,7 +55,6 @@ pub record HasCome (specs : List NodeSpec) (start : System) (schedule : List Ent
       (code_run start.cluster.parts (length specs) schedule progress.done).done now
   pub fits : NoneFullBefore start.cluster.parts specs schedule progress.done
   pub shows : ShowsWith specs now w (PoolAfter start.cluster.parts (length specs) schedule progress.done)
-  pub places : PlacesEach w
 
 -- so it is for two networks
 pub record Follows (specs : List NodeSpec) (old : Net) (schedule : List Entry) (budget : ℕ) (statuses : List ProcStatus)

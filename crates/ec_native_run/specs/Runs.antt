@@ -1,5 +1,5 @@
 -- What the run of an accepted source by machine code comes to.
-use Rattle.std.specs.Prelude.{◌≡◌, ℕ, List, length, None, Some, slice_get}
+use Rattle.std.specs.Prelude.{◌≡◌, ◌≤◌, ℕ, List, length, None, Some, slice_get}
 use Rattle.ec_code.specs.declared.code.Parts.{Parts}
 use Rattle.ec_loading.specs.Fresh.{IsNodeSize}
 use Rattle.ec_lowered.specs.Lowered.{IsLowered}
@@ -11,6 +11,7 @@ use Rattle.ec_native_run.specs.Entries.{Ran}
 use Rattle.ec_nodes.specs.declared.room.Part.{Part}
 use Rattle.ec_nodes_running.specs.Networks.{Net as NetOfNodes, counts_of}
 use Rattle.ec_plain.specs.Plain.{source_run}
+use Rattle.ec_ranges.specs.Worlds.{most_nodes}
 use Rattle.ec_report.specs.Report.{load_report, node_lines, report}
 use Rattle.ec_report.specs.Status.{status_of}
 use Rattle.ec_report.specs.declared.end.ReportEnd.{ReportEnd}
@@ -29,9 +30,10 @@ use Rattle.ec_world.specs.declared.world.World.{World}
 abbrev pub Net : Type 0
 Net = NetOfNodes
 
--- one node of either kind, of at most 65,536 blocks and 16,777,216 bytes of text
-pub record IsOneNode (specs : List NodeSpec) : Type 0 where
-  pub one : length specs ≡ 1
+-- 1 to 64 nodes of either kind, each of at most 65,536 blocks and 16,777,216 bytes of text
+pub record AreNodes (specs : List NodeSpec) : Type 0 where
+  pub some : 1 ≤ length specs
+  pub few : length specs ≤ most_nodes
   pub sizes : (k : ℕ) (spec : NodeSpec) → slice_get specs k ≡ Some spec → IsNodeSize spec
 
 -- How the run of a source comes to its end: by itself after k entries, or as the next one finds a node full while fewer are done than the

@@ -2,7 +2,7 @@
 ghost use Rattle.std.specs.Prelude.{◌≡◌, ◌++◌, ◌-◌, ◌<◌, ◌^◌, IfOk, IsSome, OnOk, length};
 ghost use Rattle.ec_meaning.specs.ClassNames.{class_name};
 ghost use Rattle.ec_meaning.specs.Sources.{source_of};
-ghost use Rattle.ec_native_run.specs.Following.{ForPlaced};
+ghost use Rattle.ec_native_run.specs.Following.{ForNodes};
 ghost use Rattle.ec_native_run.specs.Runs.{run_report};
 ghost use Rattle.ec_nodes_running.specs.Networks.{ForStanding, counts_of};
 ghost use Rattle.ec_report.specs.ObjectLines.{PushesObject};
@@ -45,7 +45,7 @@ fn push_object(
     out: &mut Vec<u8>,
 ) -> Result<bool, AllocError>
     requires whole { IsSome net.now }
-    ensures { IfOk result (λ there. ForPlaced net.now specs.now (λ w.
+    ensures { IfOk result (λ there. ForNodes net.now specs.now (λ w.
         PushesObject (class_name (source_of program.now)) w specs.now oid out.old.items out.new.items there)) }
 {
     let Some(class) = net.class_of(oid) else {
@@ -69,7 +69,7 @@ fn push_objects(
 ) -> Result<(), AllocError>
     requires whole { IsSome net.now }
     requires few { length specs.now < 2 ^ 32 - 1 }
-    ensures { OnOk result (ForPlaced net.now specs.now (λ w.
+    ensures { OnOk result (ForNodes net.now specs.now (λ w.
         out.new.items ≡ out.old.items ++ lines_of_objects (class_name (source_of program.now)) w specs.now)) }
 {
     let mut oid = specs.len() as u32 + 1;
@@ -96,7 +96,7 @@ pub(crate) fn report(
     requires whole { IsSome net.now }
     requires few { length specs.now < 2 ^ 32 - 1 }
     requires statuses { ForStanding net.now (λ d s w. statuses.now ≡ statuses_of w) }
-    ensures { IfOk result (λ text. ForPlaced net.now specs.now (λ w.
+    ensures { IfOk result (λ text. ForNodes net.now specs.now (λ w.
         text.items ≡ run_report (source_of program.now) w specs.now (counts_of net.now) entries end)) }
 {
     let mut out = Vec::new(alloc);

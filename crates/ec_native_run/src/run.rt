@@ -3,8 +3,8 @@ ghost use Rattle.std.specs.Prelude.{◌≡◌, ◌<◌, ◌-◌, ◌^◌, IfOk, 
 ghost use Rattle.ec_compile.specs.Texts.{IsOfText};
 ghost use Rattle.ec_driver.specs.Progress.{at_start};
 ghost use Rattle.ec_meaning.specs.Sources.{source_of};
-ghost use Rattle.ec_native_run.specs.Following.{Follows, ForPlaced, IsReported};
-ghost use Rattle.ec_native_run.specs.Runs.{IsOneNode, RunsTo, run_report};
+ghost use Rattle.ec_native_run.specs.Following.{Follows, ForNodes, IsReported};
+ghost use Rattle.ec_native_run.specs.Runs.{AreNodes, RunsTo, run_report};
 ghost use Rattle.ec_nodes_running.specs.Networks.{ForStanding, counts_of};
 ghost use Rattle.ec_report.specs.Report as spec;
 ghost use Rattle.ec_report.specs.Status.{status_of};
@@ -12,7 +12,7 @@ ghost use Rattle.ec_report.specs.declared.end.ReportEnd.TheVariants.{IsFull};
 ghost use Rattle.ec_world.specs.Run.{statuses_of};
 ghost use Rattle.ec_world.specs.declared.process.ProcStatus.{ProcStatus as AStatus};
 
-use crate::driver::OnOneNode;
+use crate::driver::OnNodes;
 use crate::processes::statuses_in;
 use crate::report::{load_report, report};
 use ec_driver::drive::{Ended, drive};
@@ -28,7 +28,7 @@ use ec_world::node::NodeSpec;
 use ec_world::run::Entry;
 use std::alloc::{AllocError, Global};
 
-/// Runs a program on one node of either kind along a schedule, for at most so many entries, and reports the end. What has run it is left in
+/// Runs a program on 1 to 64 nodes of either kind along a schedule, for at most so many entries, and reports the end. What has run it is left in
 /// `net`. The error is want of memory, or a table of numbers of 32 bits that is full.
 pub fn run(
     alloc: Global,
@@ -39,7 +39,7 @@ pub fn run(
     net: &mut Network,
 ) -> Result<Answer, AllocError>
     requires accepted { IsOfText (source_of program.now) }
-    requires nodes { IsOneNode specs.now }
+    requires nodes { AreNodes specs.now }
     ensures { IfOk result
         (λ answer. RunsTo (source_of program.now) specs.now schedule.now budget net.old net.new answer.status answer.text.items) }
 {
@@ -87,7 +87,7 @@ fn run_loaded(
     ensures { IfOk result (λ answer.
         IsReported (source_of program.now) specs.now schedule.now budget net.old net.new answer.status answer.text.items) }
 {
-    let driver = OnOneNode { alloc, specs };
+    let driver = OnNodes { alloc, specs };
     let ended = drive(alloc, &driver, net, schedule, budget)?;
     answer_end(alloc, program, specs, net, ended)
 }
@@ -104,7 +104,7 @@ fn answer_end(
     requires few { length specs.now < 2 ^ 32 - 1 }
     ensures status { IfOk result
         (λ answer. ForStanding net.now (λ d s w. answer.status ≡ status_of (statuses_of w) ended.end)) }
-    ensures text { IfOk result (λ answer. ForPlaced net.now specs.now (λ w.
+    ensures text { IfOk result (λ answer. ForNodes net.now specs.now (λ w.
         answer.text.items ≡ run_report (source_of program.now) w specs.now (counts_of net.now) ended.done ended.end)) }
 {
     let statuses = statuses_in(alloc, net)?;

@@ -12,14 +12,18 @@ use Rattle.ec_code.specs.declared.code.Parts.{Parts}
 use Rattle.ec_going.specs.Going.{HasCode, HasLiterals}
 use Rattle.ec_idle.proofs.Worlds.{run_idle}
 use Rattle.ec_idle.specs.Idle.{OfClasses}
+use Rattle.ec_leaving.proofs.Worlds.{first_between}
+use Rattle.ec_leaving.specs.Between.{IsBetween}
 use Rattle.ec_legs.specs.Legs.{IsCodeOf}
 use Rattle.ec_loading.specs.Loaded.{Loaded}
 use Rattle.ec_loading.specs.Worlds.{world_first}
 use Rattle.ec_nodes_running.specs.Networks.{AreCode, CanRun}
-use Rattle.ec_nodes_running.specs.Standing.{Stands}
+use Rattle.ec_nodes_running.specs.Standing.{Stands, Works}
+use Rattle.ec_placing.proofs.First.{first_are_placed}
 use Rattle.ec_ranges.specs.Code.{SmallProgram}
 use Rattle.ec_system.specs.Systems.{Runs}
 use Rattle.ec_system.specs.declared.system.System.{System}
+use Rattle.ec_wire_limits.specs.Limits.{CarriesFew, FewConditions}
 use Rattle.ec_world.specs.declared.node.Kind.TheVariants.{Riscv, Mips}
 use Rattle.ec_world.specs.declared.node.NodeSpec.{NodeSpec}
 use Rattle.mips_words.specs.Meaning.{mips_meaning}
@@ -42,16 +46,27 @@ module _ (p : Parts) (images : Images) (specs : List NodeSpec) (s : System) (loa
       let spec = get_there specs k within in
       (loaded.sizes k spec.0 store spec.1 at).texts i ∙ ap (λ (q : Parts). slice_get q.literals i) (sym loaded.parts) ∙ is
 
-  pub stands_first : (d : Declared) → CanRun p images specs → Runs d s (world_first (length specs) p) → AreCode d p images →
-      Stands d s (world_first (length specs) p)
-  stands_first d can runs code = record {
-    goes = record {
-      runs = runs;
-      idle = run_idle d p (subst (Fine d) loaded.parts runs.steady.fine) (length specs) [];
-      typed = subst IsTypedOnce (sym loaded.parts) can.typed;
-    };
-    code = code_there d code;
-    literals = literals_there;
-    small = subst SmallProgram (sym loaded.parts) can.small;
-    classes = subst OfClasses (sym loaded.parts) can.classes;
-  }
+  module _ (d : Declared) (can : CanRun p images specs) (conditions : FewConditions p) (runs : Runs d s (world_first (length specs) p))
+      (code : AreCode d p images) where
+    works_first : Works d s (world_first (length specs) p)
+    works_first = record {
+      goes = record {
+        runs = runs;
+        idle = run_idle d p (subst (Fine d) loaded.parts runs.steady.fine) (length specs) [];
+        typed = subst IsTypedOnce (sym loaded.parts) can.typed;
+        places = first_are_placed p images specs s loaded;
+      };
+      code = code_there d code;
+      literals = literals_there;
+      small = subst SmallProgram (sym loaded.parts) can.small;
+      classes = subst OfClasses (sym loaded.parts) can.classes;
+      few = subst CarriesFew (sym loaded.parts) can.few;
+      conditions = subst FewConditions (sym loaded.parts) conditions;
+    }
+
+    pub stands_first : Stands d s (world_first (length specs) p)
+    stands_first = record {
+      works = works_first;
+      between = subst (λ (q : Parts). IsBetween q (world_first (length specs) p)) (sym loaded.parts)
+          (first_between d p (subst (Fine d) loaded.parts runs.steady.fine) (length specs));
+    }

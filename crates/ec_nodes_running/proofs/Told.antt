@@ -1,5 +1,5 @@
 -- What an answer tells.
-use Rattle.std.proofs.Common.{◌≡◌, Option, Some, None}
+use Rattle.std.proofs.Common.{◌≡◌, Option, Some, None, subst}
 use Rattle.std.specs.Prelude.{Err, IfNone, IfOk, IfSome, Ok, Result}
 
 pub if_none : {X P Q : Type 0} (r : Option X) → (P → Q) → IfNone r P → IfNone r Q
@@ -21,3 +21,7 @@ from_none (Some x) e h = absurd cc
 pub if_ok : {X E : Type 0} {P Q : X → Type 0} (r : Result X E) → ((x : X) → P x → Q x) → IfOk r P → IfOk r Q
 if_ok (Ok x) f h = f x h
 if_ok (Err e) f h = tt
+
+pub from_some : {X : Type 0} (P : X → Type 0) (r : Option X) (x : X) → r ≡ Some x → IfSome r P → P x
+from_some P None x e h = absurd cc
+from_some P (Some y) x e h = let same : y ≡ x = cc in subst P same h

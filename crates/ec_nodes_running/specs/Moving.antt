@@ -1,11 +1,13 @@
 -- What a move of an object's group to a node by the operator comes to.
-use Rattle.std.specs.Prelude.{◌≡◌, ℕ, suc, ◌||◌, Bool, false, true, if◌then◌else◌, List, Option, Some, None, is_some, nat_lt, not}
+use Rattle.std.specs.Prelude.{ℕ, ◌||◌, Bool, if◌then◌else◌, List, Option, Some, None, is_some, nat_lt, not}
 use Rattle.ec_cluster.specs.Cluster.{CodeWorld}
+use Rattle.ec_cluster.specs.Steps.{Changes}
 use Rattle.ec_code.specs.Typing.{Declared}
-use Rattle.ec_kernel.specs.Acts.{Apart, AreTogether}
+use Rattle.ec_kernel.specs.Acts.{FoundFull}
 use Rattle.ec_nodes_running.specs.Standing.{Stands}
-use Rattle.ec_nodes_running.specs.declared.moves.Shifted.{Shifted}
-use Rattle.ec_nodes_running.specs.declared.moves.Shifted.TheVariants.{Idle, There, Moves}
+use Rattle.ec_nodes_running.specs.declared.turns.TurnError.{TurnError}
+use Rattle.ec_nodes_running.specs.declared.turns.TurnError.TheVariants.{Full, Memory}
+use Rattle.ec_system.specs.Systems.{Strings}
 use Rattle.ec_system.specs.declared.system.System.{System}
 use Rattle.ec_world.specs.Doings.{any_fixed}
 use Rattle.ec_world.specs.Group.{group_of}
@@ -29,24 +31,11 @@ members_moved c o k = if is_idle_move c o k then None else Some (group_of c o)
 
 -- ---- what it comes to
 
--- The move is idle, and the system stands in the world after it, which is the world before it.
-pub record NoMove (d : Declared) (s : System) (w : CodeWorld) (o k : ℕ) : Type 0 where
-  pub idle : is_idle_move w.common o k ≡ true
-  pub stands : Stands d s (OperatorMove w o k)
+-- The system stands in the world after the move, and each node has the texts that it had and those of this world.
+pub record MovedTo (d : Declared) (old new : System) (w : CodeWorld) (o k : ℕ) : Type 0 where
+  pub stands : Stands d new (OperatorMove w o k)
+  pub texts : Changes (Strings new.cluster (OperatorMove w o k)) old.cluster new.cluster
 
--- Each member of the group is where the object of the node is, and the system stands in the world after the move.
-pub record IsThere (d : Declared) (s : System) (w : CodeWorld) (o k : ℕ) : Type 0 where
-  pub moves : is_idle_move w.common o k ≡ false
-  pub together : AreTogether s.cluster (group_of w.common o) (suc k)
-  pub stands : Stands d s (OperatorMove w o k)
-
--- These are the members of the group, and some of them is elsewhere than the object of the node.
-pub record AsksToShift (s : System) (w : CodeWorld) (o k : ℕ) (members : List ℕ) : Type 0 where
-  pub moves : is_idle_move w.common o k ≡ false
-  pub group : members ≡ group_of w.common o
-  pub apart : Apart s.cluster members (suc k)
-
-abbrev pub ShiftedIn : Declared → System → CodeWorld → ℕ → ℕ → Shifted → Type 0
-ShiftedIn d s w o k Idle = NoMove d s w o k
-ShiftedIn d s w o k There = IsThere d s w o k
-ShiftedIn d s w o k (Moves members) = AsksToShift s w o k members
+abbrev pub MoveRefusedIn : System → System → CodeWorld → ℕ → ℕ → TurnError → Type 0
+MoveRefusedIn old new w o k (Full lack) = FoundFull old new w (OperatorMove w o k) lack
+MoveRefusedIn old new w o k (Memory e) = Unit {0}

@@ -11,14 +11,17 @@ use Rattle.ec_idle.specs.Idle.{OfClasses}
 use Rattle.ec_loading.specs.Loaded.{AreImages, Loaded}
 use Rattle.ec_loading.specs.Loading.{CanLoad}
 use Rattle.ec_loading.specs.Worlds.{world_first}
-use Rattle.ec_nodes_running.specs.Standing.{Stands, StandsInSome}
+use Rattle.ec_nodes_running.specs.Moving.{MoveRefusedIn, MovedTo}
+use Rattle.ec_nodes_running.specs.Standing.{HasNumbers, Stands, StandsInSome}
 use Rattle.ec_nodes_running.specs.Turns.{RefusedIn, TurnedIn}
+use Rattle.ec_nodes_running.specs.declared.network.Numbered.{Numbered}
 use Rattle.ec_nodes_running.specs.declared.turns.Did.{Did}
 use Rattle.ec_nodes_running.specs.declared.turns.TurnError.{TurnError}
 use Rattle.ec_nodes_running.specs.declared.turns.TurnError.TheVariants.{Full, Memory}
 use Rattle.ec_ranges.specs.Code.{SmallProgram}
 use Rattle.ec_system.specs.declared.system.System.{System}
 use Rattle.ec_things.specs.Store.{Store}
+use Rattle.ec_wire_limits.specs.Limits.{CarriesFew}
 use Rattle.ec_world.specs.Objects.{object_at}
 use Rattle.ec_world.specs.Sights.{class_of}
 use Rattle.ec_world.specs.declared.class.ClassNo.{ClassNo}
@@ -32,10 +35,13 @@ use Rattle.ec_world.specs.declared.process.ProcStatus.{ProcStatus}
 abbrev pub Net : Type 0
 Net = Option System
 
--- if it is not spent, it stands in some world
-abbrev pub IsStanding : Net → Type 0
-IsStanding None = Unit {0}
-IsStanding (Some s) = StandsInSome s
+abbrev pub system_of : Option Numbered → Net
+system_of = option_map (λ l. l.system)
+
+-- if it is not spent, it stands in some world, and has the numbers of its program's classes
+abbrev pub IsLoaded : Option Numbered → Type 0
+IsLoaded None = Unit {0}
+IsLoaded (Some l) = StandsInSome l.system × HasNumbers l.system l.numbers
 
 -- of each world in which it stands
 abbrev pub ForStanding : Net → (Declared → System → CodeWorld → Type 0) → Type 0
@@ -57,19 +63,31 @@ abbrev pub NetRefused : Net → Net → ℕ → TurnError → Type 0
 NetRefused old new p (Full lack) = IsSome old × ForStanding old (λ d s w. Now new (λ t. RefusedIn s t w p (Full lack)))
 NetRefused old new p (Memory e) = new ≡ None
 
+-- ---- moves by the operator
+
+abbrev pub NetMoved : Net → Net → ℕ → ℕ → Type 0
+NetMoved old new o k = ForStanding old (λ d s w. Now new (λ t. MovedTo d s t w o k))
+
+-- a move is refused as a turn is
+abbrev pub NetMoveRefused : Net → Net → ℕ → ℕ → TurnError → Type 0
+NetMoveRefused old new o k (Full lack) = IsSome old × ForStanding old (λ d s w. Now new (λ t. MoveRefusedIn s t w o k (Full lack)))
+NetMoveRefused old new o k (Memory e) = new ≡ None
+
 -- ---- the load
 
 -- on each kind the images are the code of the program
 abbrev pub AreCode : Declared → Parts → Images → Type 0
 AreCode d p images = (kind : Kind) → IsCodeFor d p images kind
 
--- A program can be loaded with its images, which are its code; what its code has is in range, and each live variable has one type.
+-- A program can be loaded with its images, which are its code; what its code has is in range, each live variable has one type, and few
+-- values go with an activation.
 pub record CanRun (p : Parts) (images : Images) (specs : List NodeSpec) : Type 0 where
   pub loads : CanLoad p images specs
   pub code : AreCode loads.declared p images
   pub small : SmallProgram p
   pub classes : OfClasses p
   pub typed : IsTypedOnce p
+  pub few : CarriesFew p
 
 -- The program is loaded, and the system stands in its first world.
 pub record NetLoaded (p : Parts) (images : Images) (specs : List NodeSpec) (net : Net) : Type 0 where

@@ -7,7 +7,7 @@ use Rattle.ec_code.specs.Typing.{Declared}
 use Rattle.ec_code.specs.declared.activation.CodeActivation.{CodeActivation}
 use Rattle.ec_going.specs.Going.{IsDoneTop, IsFew, Ran, RanNatively}
 use Rattle.ec_node_frames.specs.declared.frames.Headings.{Headings}
-use Rattle.ec_nodes_running.specs.Standing.{Stands}
+use Rattle.ec_nodes_running.specs.Standing.{Works}
 use Rattle.ec_system.specs.Acting.{IsTop}
 use Rattle.ec_system.specs.Systems.{Runs}
 use Rattle.ec_system.specs.declared.system.System.{System}
@@ -41,7 +41,7 @@ gone_on s w p = GoOn code_meaning (code_silent s.cluster.parts) w p
 -- The activation on top, whose action is done, has gone on: the node of its own object has run so many instructions of its own code, and
 -- nothing else has changed but what these do.
 pub record WentOn (d : Declared) (old new : System) (w : CodeWorld) (p steps : ℕ) : Type 0 where
-  pub stands : Stands d new (gone_on old w p)
+  pub works : Works d new (gone_on old w p)
   pub below : List CodeActivation
   pub top : CodeActivation
   pub is_done : IsDoneTop w p below top

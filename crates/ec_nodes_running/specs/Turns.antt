@@ -4,11 +4,11 @@ use Rattle.ec_base.specs.Stack.{top_of}
 use Rattle.ec_cluster.specs.Cluster.{CodeWorld}
 use Rattle.ec_code.specs.Activations.{code_meaning, code_silent}
 use Rattle.ec_code.specs.Typing.{Declared}
-use Rattle.ec_kernel.specs.Acts.{AsksToMove, FoundFull, HasActed}
+use Rattle.ec_kernel.specs.Acts.{FoundFull, HasActed}
 use Rattle.ec_nodes_running.specs.Running.{AfterAction}
 use Rattle.ec_nodes_running.specs.Standing.{Stands}
 use Rattle.ec_nodes_running.specs.declared.turns.Did.{Did}
-use Rattle.ec_nodes_running.specs.declared.turns.Did.TheVariants.{Idle, Acted, Moves}
+use Rattle.ec_nodes_running.specs.declared.turns.Did.TheVariants.{Idle, Acted}
 use Rattle.ec_nodes_running.specs.declared.turns.TurnError.{TurnError}
 use Rattle.ec_nodes_running.specs.declared.turns.TurnError.TheVariants.{Full, Memory}
 use Rattle.ec_system.specs.declared.system.System.{System}
@@ -36,8 +36,7 @@ pub record NoTurn (old new : System) (w : CodeWorld) (p : ℕ) : Type 0 where
 abbrev pub TurnedIn : Declared → System → System → CodeWorld → ℕ → Did → Type 0
 TurnedIn d old new w p Idle = NoTurn old new w p
 TurnedIn d old new w p (Acted steps) = TurnOf d old new w p steps
-TurnedIn d old new w p (Moves who members target fixes) = AsksToMove old new w p who members target fixes
 
 abbrev pub RefusedIn : System → System → CodeWorld → ℕ → TurnError → Type 0
-RefusedIn old new w p (Full lack) = FoundFull old new w p lack
+RefusedIn old new w p (Full lack) = FoundFull old new w (Action code_meaning w p) lack
 RefusedIn old new w p (Memory e) = Unit {0}

@@ -1,8 +1,7 @@
 //! A network of nodes that runs code of the whole language: a turn of a process asks nothing of its caller.
 #![tactic(auto)]
 
-pub mod moves;
-mod moving;
+pub mod moving;
 pub mod network;
 mod running;
 mod seeing;

@@ -1,41 +1,48 @@
 //! A move by the operator on the nodes of a system.
-ghost use Rattle.std.specs.Prelude.{◌≡◌, ◌<◌, ◌^◌, suc, IfOk, IfSome};
+ghost use Rattle.std.specs.Prelude.{◌≡◌, ◌<◌, ◌^◌, suc, IfErr, IfOk, IfSome};
 ghost use Rattle.ec_cluster.specs.Cluster.{CodeWorld};
 ghost use Rattle.ec_code.specs.Typing.{Declared};
-ghost use Rattle.ec_nodes_running.specs.Moving.{ShiftedIn, members_seen};
-ghost use Rattle.ec_nodes_running.specs.Standing.{Stands, StandsInSome};
+ghost use Rattle.ec_nodes_running.specs.Moving.{MoveRefusedIn, MovedTo, members_seen};
+ghost use Rattle.ec_nodes_running.specs.Standing.{HasNumbers, Stands, StandsInSome};
 ghost use Rattle.ec_seen.specs.Decoded.{seen_common};
 ghost use Rattle.ec_world.specs.Doings as spec;
 ghost use Rattle.ec_world.specs.Sights.{sight_of};
 
-use crate::moves::Shifted;
 use crate::seeing::seen;
-use ec_kernel::moving::are_together;
+use crate::turns::TurnError;
+use ec_gathering::gathering::gather;
+use ec_mover::classes::ClassNumbers;
 use ec_seen::seen::Seen;
 use ec_system::system::System;
 use ec_world::sight::Sees;
 use ec_world::value::{NodeNo, Oid, Oids};
 use std::alloc::{AllocError, Global};
 
-/// What a move of an object's group to where the object of a node is comes to. Nothing changes. The error is want of memory.
+/// An object's group goes to where the object of a node is, unless the move is idle. Where the node lacks room for it, that is told, and
+/// nothing has changed.
 pub(crate) fn shift(
-    system: &System,
+    system: &mut System,
+    numbers: &ClassNumbers,
     alloc: Global,
     o: Oid,
     k: NodeNo,
-) -> Result<Shifted, AllocError>
-    requires { StandsInSome system.now }
-    ensures { IfOk result (λ shifted. (d : Declared) (w : CodeWorld) → Stands d system.now w →
-        ShiftedIn d system.now w o k shifted) }
+) -> Result<(), TurnError>
+    requires stands { StandsInSome system.old }
+    requires numbers { HasNumbers system.old numbers.now }
+    ensures moved { IfOk result (λ done. (d : Declared) (w : CodeWorld) → Stands d system.old w → MovedTo d system.old system.new w o k) }
+    ensures refused { IfErr result (λ e. (d : Declared) (w : CodeWorld) → Stands d system.old w →
+        MoveRefusedIn system.old system.new w o k e) }
 {
-    let seen = seen(system);
-    let Some(members) = members_of_move(&seen, alloc, o, k)? else {
-        return Ok(Shifted::Idle);
+    let members = match members_of_move(&seen(system), alloc, o, k) {
+        Ok(Some(members)) => members,
+        Ok(None) => return Ok(()),
+        Err(e) => return Err(TurnError::Memory(e)),
     };
-    if are_together(&system.cluster, members.as_slice(), k + 1) {
-        return Ok(Shifted::There);
+    match gather(system, alloc, numbers, members.as_slice(), k + 1, None) {
+        Ok(None) => Ok(()),
+        Ok(Some(lack)) => Err(TurnError::Full(lack)),
+        Err(e) => Err(TurnError::Memory(e)),
     }
-    Ok(Shifted::Moves { members })
 }
 
 /// The members of an object's group, where the object and the node are there and no member is fixed. The error is want of memory.

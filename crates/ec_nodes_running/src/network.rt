@@ -1,16 +1,18 @@
 //! A network of nodes: what its callers may ask of it.
 ghost use Rattle.std.specs.Prelude.{◌≡◌};
 
-use crate::moves::Shifted;
 use crate::seeing::seen;
 use crate::turns::{Did, TurnError};
 use crate::{moving, turning};
+use ec_class_numbers::numbers::class_numbers;
 use ec_cluster::cluster::Images;
 use ec_code::code::Parts;
 use ec_going::machines::Machines;
 use ec_loading::load as loading;
 use ec_loading::load::LoadError;
+use ec_mover::classes::ClassNumbers;
 use ec_system::system::System;
+use ec_wire_limits::conditions::look_at_conditions;
 use ec_world::class::ClassNo;
 use ec_world::node::NodeSpec;
 use ec_world::process::ProcStatus;
@@ -22,43 +24,49 @@ use std::marker::Model;
 /// Nodes that run a program: its actions by the kernel, and all code between stops on the nodes' own machines.
 #[derive(Drop)]
 pub struct Network {
-    system: Option<System>,
+    loaded: Option<Numbered>,
     machines: Machines,
 }
 
+/// A system, and the numbers of its program's classes on the wire.
+#[derive(Drop)]
+pub(crate) struct Numbered {
+    pub system: System,
+    pub numbers: ClassNumbers,
+}
+
 impl Model for Network {
-    ghost use Rattle.ec_nodes_running.specs.Networks.{IsStanding, Net};
+    ghost use Rattle.ec_nodes_running.specs.Networks.{IsLoaded, Net, system_of};
 
     ghost Value = { Net };
 
-    ghost view = { λ n. n.system };
+    ghost view = { λ n. system_of n.loaded };
 
-    ghost invariant = { λ n. IsStanding n.system };
+    ghost invariant = { λ n. IsLoaded n.loaded };
 }
 
 impl Network {
     ghost use Rattle.std.specs.Prelude.{IfErr, IfOk, IsSome, None, Some, is_some, length};
     ghost use Rattle.ec_loading.specs.Loaded.{WhenFull};
     ghost use Rattle.ec_loading.specs.Loading.{LacksFirst, first_needs};
-    ghost use Rattle.ec_cluster.specs.Cluster.{place};
-    ghost use Rattle.ec_nodes_running.specs.Moving.{ShiftedIn};
-    ghost use Rattle.ec_nodes_running.specs.Networks.{CanRun, ForStanding, NetLoaded, NetRefused, NetTurned};
+    ghost use Rattle.ec_nodes_running.specs.Networks.{CanRun, ForStanding, NetLoaded, NetMoved, NetMoveRefused, NetRefused, NetTurned};
     ghost use Rattle.ec_nodes_running.specs.Networks.{class_at, counts_of, fixed_at, status_at};
     ghost use Rattle.ec_nodes_running.specs.Standing.{StandsInSome};
+    ghost use Rattle.ec_placing.specs.Places.{place_of};
 
     /// A network of no nodes, on which nothing was loaded. It meets its calls as a spent one does.
     pub fn empty() -> Network
         ensures { result ≡ None }
     {
         Network {
-            system: None,
+            loaded: None,
             machines: Machines::new(),
         }
     }
 
     /// Loads a program with its images onto 1 to 64 nodes of these kinds and sizes (at most 65,536 blocks and 16,777,216 bytes of text), so
     /// that process 0 is about to run operation 0. The error is what the first node that lacks room for that lacks, blocks before text; or
-    /// want of memory, which literals of 2^64 bytes or more are too.
+    /// want of memory, which literals of 2^64 bytes or more are too, and 2^32 - 1 classes and vector types or more.
     pub fn load(
         alloc: Global,
         parts: Parts,
@@ -69,9 +77,14 @@ impl Network {
         ensures loaded { IfOk result (λ net. NetLoaded parts images specs.now net) }
         ensures full { WhenFull result (LacksFirst (first_needs parts images (length specs.now)) specs.now) }
     {
+        look_at_conditions(parts.classes.as_slice());
+        let numbers = match class_numbers(alloc, &parts) {
+            Ok(numbers) => numbers,
+            Err(e) => return Err(LoadError::Memory(e)),
+        };
         match loading::load(alloc, parts, images, specs) {
             Ok(system) => Ok(Network {
-                system: Some(system),
+                loaded: Some(Numbered { system, numbers }),
                 machines: Machines::new(),
             }),
             Err(e) => Err(e),
@@ -82,36 +95,48 @@ impl Network {
     pub fn is_whole(&self) -> bool
         ensures { result ≡ is_some self.now }
     {
-        self.system.is_some()
+        self.loaded.is_some()
     }
 
-    /// A turn of a process: the action of the stop at which it rests, then machine code up to the next stop. A move is only told of. Where
-    /// a node lacks room, the least one that does is told, blocks before text, and nothing has changed. Want of memory spends the network,
-    /// and a spent one answers nothing else.
+    /// A turn of a process: the action of the stop at which it rests, then machine code up to the next stop. Where a node lacks room, the
+    /// least one that does is told, blocks before text, and nothing has changed. Want of memory spends the network, and a spent one answers
+    /// nothing else.
     pub fn turn(&mut self, alloc: Global, p: Pid) -> Result<Did, TurnError>
         ensures turned { IfOk result (λ did. IsSome self.old × NetTurned self.old self.new p did) }
         ensures refused { IfErr result (λ e. NetRefused self.old self.new p e) }
     {
-        let Some(system) = &mut self.system else {
+        let Some(loaded) = &mut self.loaded else {
             return Err(TurnError::Memory(AllocError));
         };
-        match turning::turn(system, &mut self.machines, alloc, p) {
+        let Numbered { system, numbers } = loaded;
+        match turning::turn(system, &mut self.machines, numbers, alloc, p) {
             Ok(did) => Ok(did),
             Err(TurnError::Full(lack)) => Err(TurnError::Full(lack)),
             Err(TurnError::Memory(e)) => {
-                self.system = None;
+                self.loaded = None;
                 Err(TurnError::Memory(e))
             }
         }
     }
 
-    /// What a move of an object's group by the operator, to where the object of a node is, comes to. Nothing changes. The error is want of
-    /// memory.
-    pub fn operator_move(&self, alloc: Global, o: Oid, k: NodeNo) -> Result<Shifted, AllocError>
-        requires whole { IsSome self.now }
-        ensures { IfOk result (λ shifted. ForStanding self.now (λ d s w. ShiftedIn d s w o k shifted)) }
+    /// A move of an object's group by the operator to where the object of a node is. Nothing changes where the object or the node isn't
+    /// there, or a member of the group is fixed. It is refused as a turn is.
+    pub fn operator_move(&mut self, alloc: Global, o: Oid, k: NodeNo) -> Result<(), TurnError>
+        ensures moved { IfOk result (λ done. IsSome self.old × NetMoved self.old self.new o k) }
+        ensures refused { IfErr result (λ e. NetMoveRefused self.old self.new o k e) }
     {
-        moving::shift(self.standing(), alloc, o, k)
+        let Some(loaded) = &mut self.loaded else {
+            return Err(TurnError::Memory(AllocError));
+        };
+        let Numbered { system, numbers } = loaded;
+        match moving::shift(system, numbers, alloc, o, k) {
+            Ok(()) => Ok(()),
+            Err(TurnError::Full(lack)) => Err(TurnError::Full(lack)),
+            Err(TurnError::Memory(e)) => {
+                self.loaded = None;
+                Err(TurnError::Memory(e))
+            }
+        }
     }
 
     /// What has been printed.
@@ -153,10 +178,10 @@ impl Network {
         }
     }
 
-    /// The node at which the directory has an object, where it has it.
+    /// The node at which an object is, where it is there.
     pub fn place(&self, oid: Oid) -> Option<NodeNo>
         requires whole { IsSome self.now }
-        ensures { ForStanding self.now (λ d s w. result ≡ place s.cluster oid) }
+        ensures { ForStanding self.now (λ d s w. result ≡ place_of w oid) }
     {
         self.standing().cluster.directory.place(oid)
     }
@@ -165,8 +190,8 @@ impl Network {
     pub fn count_of(&self, k: NodeNo) -> u64
         ensures { result ≡ counts_of self.now k }
     {
-        match &self.system {
-            Some(system) => match system.cluster.nodes.get(k as usize) {
+        match &self.loaded {
+            Some(loaded) => match loaded.system.cluster.nodes.get(k as usize) {
                 Some(node) => node.count(),
                 None => 0,
             },
@@ -180,8 +205,8 @@ impl Network {
         ensures is { self.now ≡ Some result.now }
         ensures stands { StandsInSome result.now }
     {
-        match &self.system {
-            Some(system) => system,
+        match &self.loaded {
+            Some(loaded) => &loaded.system,
             None => unreachable!(),
         }
     }

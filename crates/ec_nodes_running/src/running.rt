@@ -4,7 +4,7 @@ ghost use Rattle.ec_asking.specs.Rows.{depth_if};
 ghost use Rattle.ec_cluster.specs.Cluster.{CodeWorld};
 ghost use Rattle.ec_code.specs.Typing.{Declared};
 ghost use Rattle.ec_nodes_running.specs.Running.{EachTop, HasNoTop, Rested, WentOn};
-ghost use Rattle.ec_nodes_running.specs.Standing.{Stands, StandsInSome};
+ghost use Rattle.ec_nodes_running.specs.Standing.{Works, WorksInSome};
 
 use ec_cluster_frames::finding::headings_at;
 use ec_going::going::go_on;
@@ -17,10 +17,10 @@ use ec_world::value::Pid;
 /// The activation on top of a process that is Ready goes on to its next stop, where its action is done. Answers how many instructions come
 /// before that stop; nothing where no activation goes on.
 pub(crate) fn run_on(system: &mut System, machines: &mut Machines, p: Pid) -> Option<u64>
-    requires { StandsInSome system.old }
-    ensures some { IfSome result (λ steps. (d : Declared) (w : CodeWorld) → Stands d system.old w →
+    requires { WorksInSome system.old }
+    ensures some { IfSome result (λ steps. (d : Declared) (w : CodeWorld) → Works d system.old w →
         WentOn d system.old system.new w p steps) }
-    ensures none { IfNone result ((d : Declared) (w : CodeWorld) → Stands d system.old w → Rested system.old system.new w p) }
+    ensures none { IfNone result ((d : Declared) (w : CodeWorld) → Works d system.old w → Rested system.old system.new w p) }
 {
     let headings = top_of(system, p)?;
     if headings.pending {

@@ -1,7 +1,5 @@
 //! What a turn of a process comes to.
 use ec_nodes::room::Lack;
-use ec_world::stop::Who;
-use ec_world::value::{Oid, Oids};
 use std::alloc::AllocError;
 
 /// What a turn did.
@@ -10,23 +8,13 @@ pub enum Did {
     /// Nothing: the process is not there or not Ready, or it has no activation.
     Idle,
     /// The action of the stop, where it was to be done, and then so many instructions up to the next stop.
-    Acted {
-        steps: u64,
-    },
-    /// These objects, which are not all there, are to go where another one is, and one of them is to be fixed from then on, if any. Nothing
-    /// has changed yet.
-    Moves {
-        who: Who,
-        members: Oids,
-        target: Oid,
-        fixes: Option<Oid>,
-    },
+    Acted { steps: u64 },
 }
 
-/// Why a turn was not taken.
+/// Why a turn was not taken, or a move by the operator not made.
 #[derive(Drop)]
 pub enum TurnError {
-    /// A node lacks room for the action. Nothing has changed.
+    /// A node lacks room for it. Nothing has changed.
     Full(Lack),
     /// There was no memory, or a table of numbers of 32 bits is full; or a call before this one has met that. The network is spent.
     Memory(AllocError),

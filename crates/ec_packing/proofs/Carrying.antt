@@ -1,12 +1,12 @@
 -- The values that go with an activation: each is of a type, and of the kind of its variable.
 use Rattle.std.proofs.Common.{◌≡◌, ◌≢◌, ◌-◌, inl, inr, ⊎_elim, ◌⊎◌, ℕ, zero, suc, Bool, true, false, true≢false, List, [], ◌∷◌, ◌++◌, drop, length}
-use Rattle.std.proofs.Common.{map, Option, Some, None, refl, sym, ap, ◌∙◌, subst, arith}
+use Rattle.std.proofs.Common.{map, Option, Some, None, refl, sym, ap, ◌∙◌, subst}
 use Rattle.std.proofs.lemmas.Option.{same_Some}
 use Rattle.std.specs.List.{AllByRecursion as Each}
 use Rattle.std.specs.Prelude.{if◌then◌else◌, replicate, slice_get}
 use Rattle.ec_activations.proofs.Stops.{in_list, in_without}
 use Rattle.ec_activations.proofs.Words.{typed_variable}
-use Rattle.ec_activations.specs.Frames.{or_nil, stop_of, value_in}
+use Rattle.ec_activations.specs.Frames.{or_nil, value_in}
 use Rattle.ec_arrivals.specs.Carried.{IsCarried, carried}
 use Rattle.ec_asking.proofs.OfKind.{of_kind}
 use Rattle.ec_asking.proofs.Operands.{behind_itself, operand_kinds}
@@ -26,17 +26,16 @@ use Rattle.ec_code.specs.declared.code.Variable.{Variable}
 use Rattle.ec_code.specs.declared.code.Variable.TheVariants.{Named, Temporary}
 use Rattle.ec_conform.specs.declared.static_type.StaticType.{StaticType}
 use Rattle.ec_faithful.specs.Stops.{without}
+use Rattle.ec_leaving.specs.Between.{RestsBetween, StillWaits, TopWaits}
 use Rattle.ec_liveness.proofs.Among.{is_same_self}
 use Rattle.ec_liveness.specs.Live.{stays}
 use Rattle.ec_liveness.specs.Marks.{is_same, is_written}
-use Rattle.ec_node_frames.specs.Frames.{RestsAt as RestsInFrame}
 use Rattle.ec_objects.specs.Kinds.{IsOfKind}
-use Rattle.ec_packing.specs.Packing.{RestsBetween, StillWaits, TopWaits}
 use Rattle.ec_ranges.specs.Values.{AllInRange, InRange}
 use Rattle.ec_ranges.specs.Worlds.{RangedActivation}
 use Rattle.ec_resting.specs.Laws.{its_entry}
 use Rattle.ec_sound.proofs.Carried.{each_append, each_get, each_replicate}
-use Rattle.ec_sound.specs.Sound.{Chain, HoldAll, LiveBehind, RestsAt, SoundDone, SoundPending, SoundProc, SoundTop}
+use Rattle.ec_sound.specs.Sound.{Chain, LiveBehind, RestsAt, SoundDone, SoundPending, SoundProc, SoundTop}
 use Rattle.ec_sound.specs.Sound.{SoundTower, SoundWaiting, TopIs, Waits}
 use Rattle.ec_sound.specs.Values.{AreHeld, HasType, IsOfType, held}
 use Rattle.ec_stop_tables.specs.Entries.{result_of, typed}

@@ -5,7 +5,6 @@ use Rattle.std.proofs.lemmas.List.{length-map}
 use Rattle.std.proofs.lemmas.Option.{same_Some}
 use Rattle.std.specs.Prelude.{IsSome, if◌then◌else◌, option_map, slice_get}
 use Rattle.ec_activations.specs.Frames.{stop_of}
-use Rattle.ec_base.proofs.Lists.{get_within}
 use Rattle.ec_cluster.proofs.Putting.{shown_there}
 use Rattle.ec_cluster.specs.Cluster.{CodeWorld, frame_of, place, stores}
 use Rattle.ec_cluster.specs.Images.{homes_on}
@@ -14,6 +13,7 @@ use Rattle.ec_cluster_frames.proofs.Looking.{here_is_frame}
 use Rattle.ec_cluster_frames.specs.Frames.{tables_on}
 use Rattle.ec_code.specs.Typing.{Declared}
 use Rattle.ec_code.specs.declared.activation.CodeActivation.{CodeActivation}
+use Rattle.ec_leaving.specs.Between.{RestsBetween}
 use Rattle.ec_mover.specs.Activations.{Leaves, activation_part_of}
 use Rattle.ec_mover.specs.Classes.{ClassTable}
 use Rattle.ec_node_frames.specs.Frames.{IsFrame}
@@ -21,7 +21,7 @@ use Rattle.ec_nodes.specs.Things.{activation_at, in_process}
 use Rattle.ec_nodes.specs.declared.key.Key.TheVariants.{Frame}
 use Rattle.ec_packing.proofs.Carrying.{Knows, can_go, carried_good, entry_of, known, rests_of}
 use Rattle.ec_packing.proofs.Members.{is_here_it, here_is}
-use Rattle.ec_packing.specs.Packing.{CanGo, RestsBetween, activation_goes, activation_if, at_stop, depths_if, is_here}
+use Rattle.ec_packing.specs.Packing.{CanGo, activation_goes, activation_if, at_stop, depths_if, is_here}
 use Rattle.ec_ranges.specs.Worlds.{RangedActivation, RangedProc}
 use Rattle.ec_resting.proofs.Entries.{rests_at_an_entry}
 use Rattle.ec_sound.proofs.Carried.{each_get}

@@ -1,18 +1,15 @@
 -- When the things of a group can go from a node, and which things these are, in the order in which a parcel has them.
-use Rattle.std.specs.Prelude.{◌≡◌, ◌≤◌, ◌<◌, ◌^◌, ◌==◌, ◌&&◌, ℕ, zero, suc, Bool, false, if◌then◌else◌, IsSome, List, [], ◌∷◌, ◌++◌, length}
-use Rattle.std.specs.Prelude.{map, Option, Some, None, option_to_list, slice_get}
-use Rattle.std.specs.List.{AllByRecursion as Each, flat_map}
+use Rattle.std.specs.Prelude.{◌≡◌, ◌≤◌, ◌<◌, ◌==◌, ◌&&◌, ℕ, zero, suc, Bool, false, if◌then◌else◌, IsSome, List, [], ◌∷◌, ◌++◌, length}
+use Rattle.std.specs.Prelude.{Option, Some, None, option_to_list, slice_get}
 use Rattle.ec_activations.specs.Frames.{Numbered, stop_of}
-use Rattle.ec_arrivals.specs.Carried.{IsCarried, carried}
+use Rattle.ec_arrivals.specs.Carried.{carried}
 use Rattle.ec_asking.specs.Bare.{IsBareProgram}
 use Rattle.ec_asking.specs.Typed.{IsTypedOnce}
-use Rattle.ec_base.specs.Stack.{below_of, top_of}
 use Rattle.ec_cluster.specs.Cluster.{CodeWorld, place}
 use Rattle.ec_cluster.specs.declared.cluster.Cluster.{Cluster}
 use Rattle.ec_code.specs.Typing.{Declared}
 use Rattle.ec_code.specs.declared.activation.CodeActivation.{CodeActivation}
-use Rattle.ec_code.specs.declared.code.Parts.{Parts}
-use Rattle.ec_monitors.specs.Laws.{HasDepths}
+use Rattle.ec_leaving.specs.Between.{AllRest, CanBeSpelled}
 use Rattle.ec_monitors.specs.declared.record.MonitorRec.{MonitorRec}
 use Rattle.ec_mover.specs.Activations.{activation_part_of}
 use Rattle.ec_mover.specs.Classes.{ClassTable, number_of}
@@ -32,29 +29,6 @@ use Rattle.ec_world.specs.declared.object.ObjectRec.{ObjectRec}
 use Rattle.ec_world.specs.declared.process.Proc.{Proc}
 
 -- ---- when they can go
-
--- nothing has come yet of what its stop gives, where its action is done
-abbrev pub StillWaits : Parts → CodeActivation → Type 0
-StillWaits p a = (e : StopEntry) → RestsAt p a e → IsCarried p a e
-
-abbrev pub TopWaits : Parts → Option CodeActivation → Type 0
-TopWaits p None = Unit {0}
-TopWaits p (Some a) = StillWaits p a
-
--- A process rests as between turns: the action of each activation below another one is done, and nothing has come yet of what the stop
--- of the one on top gives.
-pub record RestsBetween (p : Parts) (proc : Proc CodeActivation) : Type 0 where
-  pub below : Each (λ (a : CodeActivation). a.pending ≡ false) (below_of proc.activations)
-  pub top : TopWaits p (top_of proc.activations)
-
--- so does each process
-abbrev pub AllRest : Parts → CodeWorld → Type 0
-AllRest p w = Each (RestsBetween p) w.processes
-
--- Each that holds the monitor or waits in it has entered it at least once, and 32 bits count its conditions.
-pub record CanBeSpelled (m : MonitorRec) : Type 0 where
-  pub depths : HasDepths m
-  pub conditions : length m.conditions < 2 ^ 32
 
 -- A system runs a world in which the program's own object has no fields, and all processes rest as between turns; on each line of the
 -- program a live variable has one type. The members of a group rise, and they are to go from one of the nodes. Of those that are there the

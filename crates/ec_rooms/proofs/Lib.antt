@@ -1,12 +1,9 @@
-pub mod Counting
-pub mod Stepping
-pub mod Worlds
 pub mod Bytes
 pub mod Fitting
 pub mod Single
-pub mod OnOne
 pub mod Retelling
 pub mod Nodes
 pub mod Loads
 pub mod Full
-pub mod Acted
+pub mod Before
+pub mod Coming

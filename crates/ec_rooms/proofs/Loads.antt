@@ -17,10 +17,11 @@ use Rattle.ec_nodes.proofs.Procs.{get_end}
 use Rattle.ec_nodes.specs.Words.{text_bytes}
 use Rattle.ec_nodes.specs.declared.room.Lack.{Lack}
 use Rattle.ec_nodes.specs.declared.room.Part.{Part}
+use Rattle.ec_placing.specs.Places.{place_of}
 use Rattle.ec_rooms.proofs.Bytes.{bytes_along, none_bytes}
 use Rattle.ec_rooms.proofs.Fitting.{Both, Holds, needs_fit, never_full}
 use Rattle.ec_rooms.specs.Laws.{LoadsAreFull}
-use Rattle.ec_rooms.specs.Rooms.{BytesOf, Literals, LoadFull, NoTexts, held, nothing, place_of}
+use Rattle.ec_rooms.specs.Rooms.{BytesOf, Literals, LoadFull, NoTexts, held, nothing}
 use Rattle.ec_rooms.specs.Standing.{HavePools, HaveSizes}
 use Rattle.ec_system.specs.declared.system.System.{System}
 use Rattle.ec_things.specs.Held.{Held}

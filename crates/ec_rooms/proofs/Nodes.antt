@@ -4,6 +4,7 @@ use Rattle.std.specs.Prelude.{option_map, slice_get}
 use Rattle.ec_base.proofs.Lists.{get_there, get_within}
 use Rattle.ec_cluster.specs.Cluster.{CodeWorld, place, stores}
 use Rattle.ec_nodes.specs.Words.{text_bytes}
+use Rattle.ec_placing.specs.Places.{ArePlaced}
 use Rattle.ec_rooms.proofs.Bytes.{bytes_along, pool_bytes}
 use Rattle.ec_rooms.proofs.Fitting.{Both, Holds, never_full}
 use Rattle.ec_rooms.proofs.Retelling.{held_by, strings_by}
@@ -26,11 +27,12 @@ pub record NodeAt (specs : List NodeSpec) (s : System) (w : CodeWorld) (Pool : �
   pub used_are : BytesOf (Pool k) used
   pub text : used + store.text_free ≡ spec.text
 
-module _ (specs : List NodeSpec) (s : System) (w : CodeWorld) (Pool : ℕ → List ℕ → Type 0) (shows : ShowsWith specs s w Pool) where
+module _ (specs : List NodeSpec) (s : System) (w : CodeWorld) (Pool : ℕ → List ℕ → Type 0) (shows : ShowsWith specs s w Pool)
+    (placed : ArePlaced s.cluster w) where
   held_here : (k : ℕ) (store : Store) → stores s.cluster k ≡ Some store → store.free + held s.cluster.parts w k ≡ store.room
   held_here k store there =
       let room = shows.mirrors.shows.room k store there in
-      let same = held_by s.cluster w (place s.cluster) (λ key t e. shows.placed t.home) k in
+      let same = held_by s.cluster w (place s.cluster) (λ key t e. placed t.home) k in
       omega (arith, room, same)
 
   pub node_here : (k : ℕ) (spec : NodeSpec) (store : Store) → slice_get specs k ≡ Some spec → stores s.cluster k ≡ Some store →
@@ -60,7 +62,7 @@ module _ (specs : List NodeSpec) (s : System) (w : CodeWorld) (Pool : ℕ → Li
       let n = node_at k spec is in
       (shows.pools k n.store text n.there).0
       (strings_in_pool s.cluster w k n.store text shows.mirrors.shows n.there
-      ((strings_by s.cluster w (place s.cluster) (λ key t e. shows.placed t.home) k text).1 h))
+      ((strings_by s.cluster w (place s.cluster) (λ key t e. placed t.home) k text).1 h))
 
   -- What is shown had room: so much is held, and these are the texts.
   pub node_holds : (k : ℕ) (spec : NodeSpec) → slice_get specs k ≡ Some spec → Holds spec (held s.cluster.parts w k) (Pool k)
@@ -76,10 +78,10 @@ module _ (specs : List NodeSpec) (s : System) (w : CodeWorld) (Pool : ℕ → Li
 -- ---- nodes that show another world as they are
 
 pub same_nodes : (Pool : ℕ → List ℕ → Type 0) → SameNodesHaveRoom Pool
-same_nodes Pool specs s w w' before shows = record {
+same_nodes Pool specs s w w' before had shows has = record {
   room = never_full specs (held s.cluster.parts w) (held s.cluster.parts w') Pool (Strings s.cluster.parts w')
       (λ k spec is.
-      let h = node_holds specs s w' Pool shows k spec is in
+      let h = node_holds specs s w' Pool shows has.placed k spec is in
       record {
         blocks_fit = h.blocks_fit;
         bytes = h.bytes;
@@ -88,11 +90,11 @@ same_nodes Pool specs s w w' before shows = record {
               λ x. inl x,
               λ x. ⊎_elim
                   (λ (old : Pool k text). old)
-                  (λ (new : Strings s.cluster.parts w' k text). texts_there specs s w' Pool shows k spec text is new)
+                  (λ (new : Strings s.cluster.parts w' k text). texts_there specs s w' Pool shows has.placed k spec text is new)
                   x,
             ))
             h.bytes_are;
         bytes_fit = h.bytes_fit;
       });
-  texts = λ k spec text is h. texts_there specs s w' Pool shows k spec text is h;
+  texts = λ k spec text is h. texts_there specs s w' Pool shows has.placed k spec text is h;
 }

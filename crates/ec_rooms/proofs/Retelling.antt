@@ -14,7 +14,8 @@ use Rattle.ec_homes.specs.declared.homes.Home.{Home}
 use Rattle.ec_nodes.specs.Things.{activation_at}
 use Rattle.ec_nodes.specs.declared.key.Key.{Key}
 use Rattle.ec_nodes.specs.declared.key.Key.TheVariants.{Frame, Object}
-use Rattle.ec_rooms.specs.Rooms.{Strings, frame, held, place_of}
+use Rattle.ec_placing.specs.Places.{place_of}
+use Rattle.ec_rooms.specs.Rooms.{Strings, frame, held}
 use Rattle.ec_things.specs.Held.{Held}
 use Rattle.ec_things.specs.Texts.{IsHeld}
 use Rattle.ec_things.specs.Things.{Thing, frame_if, things_of}

@@ -15,13 +15,15 @@ use Rattle.ec_rooms.specs.Rooms.{FullAt, Literals, NeedsOf, NoTexts, Strings, he
 use Rattle.ec_rooms.specs.Runs.{PoolAfter, code_run, next_action}
 use Rattle.ec_world.specs.declared.node.NodeSpec.{NodeSpec}
 
-record SameNeeds (n m : Needs) : Type 0 where
+-- the same numbers
+pub record SameNeeds (n m : Needs) : Type 0 where
   pub blocks : n.blocks ≡ m.blocks
   pub free_blocks : n.free_blocks ≡ m.free_blocks
   pub bytes : n.bytes ≡ m.bytes
   pub free_bytes : n.free_bytes ≡ m.free_bytes
 
-same_needs : (spec : NodeSpec) (before after : ℕ) (Pool Wanted : List ℕ → Type 0) (n m : Needs) →
+-- What is needed of a node depends on no order.
+pub same_needs : (spec : NodeSpec) (before after : ℕ) (Pool Wanted : List ℕ → Type 0) (n m : Needs) →
     NeedsOf spec before after Pool Wanted n → NeedsOf spec before after Pool Wanted m → SameNeeds n m
 same_needs spec before after Pool Wanted n m a b =
     let used = bytes_once Pool a.used b.used a.used_is b.used_is in

@@ -1,23 +1,22 @@
 -- What holds of room at nodes that show a world.
 use Rattle.std.specs.Prelude.{◌≡◌, ◌⊎◌, ℕ, List, length, Some, slice_get}
 use Rattle.ec_cluster.specs.Cluster.{CodeWorld}
+use Rattle.ec_cluster.specs.Steps.{Changes}
 use Rattle.ec_cluster.specs.declared.cluster.Images.{Images}
-use Rattle.ec_code.specs.Activations.{code_meaning, code_silent}
 use Rattle.ec_code.specs.Typing.{Declared}
 use Rattle.ec_code.specs.declared.code.Parts.{Parts}
-use Rattle.ec_kernel.specs.Acts.{FoundFull, Goes, HasActed}
 use Rattle.ec_loading.specs.Loaded.{Loaded}
 use Rattle.ec_loading.specs.Loading.{CanLoad, LacksFirst, first_needs}
-use Rattle.ec_loading.specs.Worlds.{world_first}
 use Rattle.ec_nodes.specs.declared.room.Lack.{Lack}
 use Rattle.ec_nodes.specs.declared.room.Part.{Part}
+use Rattle.ec_placing.specs.Full.{FindsFull}
+use Rattle.ec_placing.specs.Places.{HasPlaces}
 use Rattle.ec_rooms.specs.Rooms.{FullAt, Literals, LoadFull, Strings, held}
 use Rattle.ec_rooms.specs.Runs.{NextFull, PoolAfter}
-use Rattle.ec_rooms.specs.Standing.{ArePlaced, HaveSizes, HavePools, PlacesEach, ShowsWith}
-use Rattle.ec_system.specs.Systems.{Mirrors}
+use Rattle.ec_rooms.specs.Standing.{HavePools, HaveSizes, ShowsWith}
+use Rattle.ec_sound.specs.Sound.{SoundWorld}
+use Rattle.ec_system.specs.Systems.{Mirrors, Runs, Strings as Shown}
 use Rattle.ec_system.specs.declared.system.System.{System}
-use Rattle.ec_world.specs.Moves.{OperatorMove}
-use Rattle.ec_world.specs.World.{Action, GoOn}
 use Rattle.ec_world.specs.declared.node.NodeSpec.{NodeSpec}
 use Rattle.ec_world.specs.declared.run.Entry.{Entry}
 
@@ -46,19 +45,6 @@ pub record FullIsOne : Type 0 where
   pub load : (p : Parts) (specs : List NodeSpec) → IsOne (LoadFull p specs)
   pub next : (p : Parts) (specs : List NodeSpec) (schedule : List Entry) (k : ℕ) → IsOne (NextFull p specs schedule k)
 
--- ---- places
-
--- The events of the first world place its objects. They do so after an action, a move by the operator, and silent steps.
-pub record EachIsPlaced : Type 0 where
-  pub first : (n : ℕ) (p : Parts) → PlacesEach (world_first n p)
-  pub acted : (w : CodeWorld) (i : ℕ) → PlacesEach w → PlacesEach (Action code_meaning w i)
-  pub moved : (w : CodeWorld) (o k : ℕ) → PlacesEach w → PlacesEach (OperatorMove w o k)
-  pub gone_on : (p : Parts) (w : CodeWorld) (i : ℕ) → PlacesEach w → PlacesEach (GoOn code_meaning (code_silent p) w i)
-
--- On one node each object is where the events have it.
-abbrev pub OneNodePlaces : Type 0
-OneNodePlaces = (s : System) (w : CodeWorld) → Mirrors s w → length s.cluster.nodes ≡ 1 → PlacesEach w → ArePlaced s.cluster w
-
 -- ---- the load
 
 -- Where a load tells of a lack, it finds no room there; where it has loaded, each node has room, the sizes are those of the nodes, and the
@@ -78,25 +64,30 @@ pub record LoadsAreFull : Type 0 where
 abbrev pub InRuns : ((ℕ → List ℕ → Type 0) → Type 0) → Type 0
 InRuns Law = (p : Parts) (n : ℕ) (schedule : List Entry) (k : ℕ) → Law (PoolAfter p n schedule k)
 
--- Where an action is told to find a node full, it finds no room there.
+-- Where a node is found full for a world to come, it finds no room there.
 abbrev pub FoundIsFull : (ℕ → List ℕ → Type 0) → Type 0
 FoundIsFull Pool =
-    (d : Declared) (specs : List NodeSpec) (s t : System) (w : CodeWorld) (i : ℕ) (lack : Lack) →
-    Goes d s w → ShowsWith specs s w Pool → length specs ≡ 1 → PlacesEach w → FoundFull s t w i lack →
-    FullAt specs (held s.cluster.parts w) (held s.cluster.parts (Action code_meaning w i)) Pool
-    (Strings s.cluster.parts (Action code_meaning w i)) lack.node lack.part lack.need lack.free
+    (d : Declared) (specs : List NodeSpec) (s : System) (w w' : CodeWorld) (lack : Lack) →
+    Runs d s w → SoundWorld d s.cluster.parts w' → ShowsWith specs s w Pool → HasPlaces s.cluster w → FindsFull s.cluster w w' lack →
+    FullAt specs (held s.cluster.parts w) (held s.cluster.parts w') Pool (Strings s.cluster.parts w') lack.node lack.part lack.need
+    lack.free
 
--- Where an action was done, each node had room; the nodes then have the sizes that they had, and the texts that they had with those of the
--- world then.
-pub record ActedHadRoom (specs : List NodeSpec) (s t : System) (w : CodeWorld) (i : ℕ) (Pool : ℕ → List ℕ → Type 0) : Type 0 where
-  pub room : HasRoomFor s.cluster.parts specs w (Action code_meaning w i) Pool
+-- Nodes have come to show another world: each object is where its events have it, and each node has the texts that it had and those of it.
+pub record HaveCome (old new : System) (w' : CodeWorld) : Type 0 where
+  pub mirrors : Mirrors new w'
+  pub places : HasPlaces new.cluster w'
+  pub texts : Changes (Shown new.cluster w') old.cluster new.cluster
+
+-- Where nodes have come to a world, each had room; they then have the sizes that they had, and the texts that they had with those of it.
+pub record HadRoom (specs : List NodeSpec) (s t : System) (w w' : CodeWorld) (Pool : ℕ → List ℕ → Type 0) : Type 0 where
+  pub room : HasRoomFor s.cluster.parts specs w w' Pool
   pub sizes : HaveSizes specs t.cluster
-  pub pools : HavePools t.cluster (λ k text. Pool k text ⊎ Strings s.cluster.parts (Action code_meaning w i) k text)
+  pub pools : HavePools t.cluster (λ k text. Pool k text ⊎ Strings s.cluster.parts w' k text)
 
-abbrev pub ActionsHadRoom : (ℕ → List ℕ → Type 0) → Type 0
-ActionsHadRoom Pool =
-    (d : Declared) (specs : List NodeSpec) (s t : System) (w : CodeWorld) (i : ℕ) →
-    Goes d s w → ShowsWith specs s w Pool → length specs ≡ 1 → PlacesEach w → HasActed d s t w i → ActedHadRoom specs s t w i Pool
+abbrev pub StepsHadRoom : (ℕ → List ℕ → Type 0) → Type 0
+StepsHadRoom Pool =
+    (d : Declared) (specs : List NodeSpec) (s t : System) (w w' : CodeWorld) →
+    Runs d s w → ShowsWith specs s w Pool → HasPlaces s.cluster w → HaveCome s t w' → HadRoom specs s t w w' Pool
 
 -- Where the same nodes show a world and then another, as when nothing is to be done or the operator moves nothing, there was room for it,
 -- and its texts are there.
@@ -108,4 +99,5 @@ pub record WasThere (p : Parts) (specs : List NodeSpec) (w w' : CodeWorld) (Pool
 abbrev pub SameNodesHaveRoom : (ℕ → List ℕ → Type 0) → Type 0
 SameNodesHaveRoom Pool =
     (specs : List NodeSpec) (s : System) (w w' : CodeWorld) →
-    ShowsWith specs s w Pool → ShowsWith specs s w' Pool → WasThere s.cluster.parts specs w w' Pool
+    ShowsWith specs s w Pool → HasPlaces s.cluster w → ShowsWith specs s w' Pool → HasPlaces s.cluster w' →
+    WasThere s.cluster.parts specs w w' Pool

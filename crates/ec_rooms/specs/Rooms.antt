@@ -1,5 +1,5 @@
 -- What a world holds at each node and which texts it has there, by the world and its events alone; and when an entry finds no room.
-use Rattle.std.specs.Prelude.{◌≡◌, ℕ, ◌-◌, ◌<◌, ◌⊎◌, ◌↔◌, List, [], length, Option, Some, slice_get}
+use Rattle.std.specs.Prelude.{◌≡◌, ℕ, ◌-◌, ◌<◌, ◌⊎◌, ◌↔◌, List, [], length, Some, slice_get}
 use Rattle.ec_activations.specs.Frames.{frame_thing}
 use Rattle.ec_cluster.specs.Cluster.{CodeWorld}
 use Rattle.ec_code.specs.declared.activation.CodeActivation.{CodeActivation}
@@ -9,19 +9,15 @@ use Rattle.ec_nodes.specs.Held.{Distinct, Fits, Lacks}
 use Rattle.ec_nodes.specs.Words.{text_bytes}
 use Rattle.ec_nodes.specs.declared.room.Needs.{Needs}
 use Rattle.ec_nodes.specs.declared.room.Part.{Part}
+use Rattle.ec_placing.specs.Places.{place_of}
 use Rattle.ec_things.specs.Held.{Held}
 use Rattle.ec_things.specs.Texts.{IsHeld}
 use Rattle.ec_things.specs.Things.{Thing, things_of}
 use Rattle.ec_world.specs.Group.{Has}
-use Rattle.ec_world.specs.Places.{place_in, places}
 use Rattle.ec_world.specs.declared.node.NodeSpec.{NodeSpec}
 use Rattle.ec_world.specs.declared.value.Value.TheVariants.{Str}
 
 -- ---- what is where
-
--- the node at which an object is, after the events of a world
-abbrev pub place_of : CodeWorld → ℕ → Option ℕ
-place_of w oid = place_in (places w.common.nodes w.common.events) oid
 
 -- An activation as nodes keep it: one block at the place of its own object, with its live values. (Where its words lie depends on the
 -- kind of node; no room does.)

@@ -1,13 +1,11 @@
 -- Nodes of given sizes that show a world, with given texts in their pools.
 use Rattle.std.specs.Prelude.{◌≡◌, ℕ, ◌↔◌, List, length, Some, slice_get}
-use Rattle.ec_cluster.specs.Cluster.{CodeWorld, place, stores}
+use Rattle.ec_cluster.specs.Cluster.{CodeWorld, stores}
 use Rattle.ec_cluster.specs.declared.cluster.Cluster.{Cluster}
-use Rattle.ec_rooms.specs.Rooms.{place_of}
 use Rattle.ec_system.specs.Systems.{Mirrors}
 use Rattle.ec_system.specs.declared.system.System.{System}
 use Rattle.ec_things.specs.Store.{Store}
 use Rattle.ec_things.specs.Texts.{InPool}
-use Rattle.ec_world.specs.Places.{places}
 use Rattle.ec_world.specs.declared.node.NodeSpec.{NodeSpec}
 
 -- as many nodes, of the sizes that were asked for
@@ -20,17 +18,8 @@ pub record HaveSizes (specs : List NodeSpec) (c : Cluster) : Type 0 where
 abbrev pub HavePools : Cluster → (ℕ → List ℕ → Type 0) → Type 0
 HavePools c Pool = (k : ℕ) (s : Store) (text : List ℕ) → stores c k ≡ Some s → InPool s text ↔ Pool k text
 
--- each object is where the events have it
-abbrev pub ArePlaced : Cluster → CodeWorld → Type 0
-ArePlaced c w = (oid : ℕ) → place c oid ≡ place_of w oid
-
--- the events of a world place each of its objects, and no others
-abbrev pub PlacesEach : CodeWorld → Type 0
-PlacesEach w = length (places w.common.nodes w.common.events) ≡ length w.common.objects
-
--- A system of these sizes shows a world, has its objects where its events have them, and has these texts.
+-- A system of these sizes shows a world, and has these texts.
 pub record ShowsWith (specs : List NodeSpec) (s : System) (w : CodeWorld) (Pool : ℕ → List ℕ → Type 0) : Type 0 where
   pub mirrors : Mirrors s w
   pub sizes : HaveSizes specs s.cluster
-  pub placed : ArePlaced s.cluster w
   pub pools : HavePools s.cluster Pool

@@ -1,20 +1,9 @@
 //! What holds of room at nodes that show a world.
-ghost use Rattle.ec_rooms.specs.Laws.{ActionsHadRoom, EachIsPlaced, FoundIsFull, FullIsOne, InRuns, LoadsAreFull};
-ghost use Rattle.ec_rooms.specs.Laws.{OneNodePlaces, SameNodesHaveRoom};
+ghost use Rattle.ec_rooms.specs.Laws.{FoundIsFull, FullIsOne, InRuns, LoadsAreFull, SameNodesHaveRoom, StepsHadRoom};
 
 /// At most one node is the first that lacks room, and it lacks one thing.
 pub fn full_is_one()
     ensures { FullIsOne }
-{}
-
-/// The events of a world place its objects and no others, at the start and after each entry.
-pub fn each_is_placed()
-    ensures { EachIsPlaced }
-{}
-
-/// On one node each object is where the events have it.
-pub fn one_node_places()
-    ensures { OneNodePlaces }
 {}
 
 /// A load is refused where it finds no room, and only there.
@@ -22,14 +11,14 @@ pub fn loads_are_full()
     ensures { LoadsAreFull }
 {}
 
-/// An action that is told to find a node full finds no room there.
+/// Where a node is told to be full for a world to come, this finds no room there.
 pub fn found_is_full()
     ensures { InRuns FoundIsFull }
 {}
 
-/// An action that was done found room at each node.
-pub fn actions_had_room()
-    ensures { InRuns ActionsHadRoom }
+/// A world to which nodes have come found room at each of them.
+pub fn steps_had_room()
+    ensures { InRuns StepsHadRoom }
 {}
 
 /// Nodes that show another world as they are had room for it.

@@ -14,14 +14,17 @@ use Rattle.ec_core_texts.proofs.TextPrograms.{text_has_bytes}
 use Rattle.ec_emission.proofs.Expressions.{found}
 use Rattle.ec_emission.proofs.Literals.{empty_among}
 use Rattle.ec_emission.specs.Expressions.{has_text, literal_from}
+use Rattle.ec_emission_laws.proofs.Cores.{parts_fit}
 use Rattle.ec_faithful.specs.Faithful.{Faithful}
 use Rattle.ec_faithful.specs.Frames.{slots}
 use Rattle.ec_faithful.specs.Machine.{MachineMeaning}
 use Rattle.ec_faithful.specs.Stops.{address_of}
+use Rattle.ec_few_values.proofs.Whole.{carries_few}
 use Rattle.ec_going.specs.Nodes.{IsCodeFor}
 use Rattle.ec_idle.specs.Idle.{HasOperations, OfClasses}
 use Rattle.ec_images.specs.declared.image.Image.{Image}
 use Rattle.ec_lowered.specs.Lowered.{AreOperationsOf, IsLowered, declared_of}
+use Rattle.ec_lowered_code.proofs.Accepting.{is_lowerable}
 use Rattle.ec_lowered_code.proofs.Parts.{made_of}
 use Rattle.ec_meaning.specs.Programs.{Source}
 use Rattle.ec_micro.specs.Speaks.{words_end}
@@ -122,4 +125,6 @@ module _ (s : Source) (text : IsOfText s) (p : Parts) (lowered : IsLowered s p) 
     small = is_small s text p lowered;
     classes = classes_are s text p lowered;
     typed = typed_once s p lowered;
+    few = (let l = is_lowerable s text.program text.core in
+        carries_few s p (parts_fit s l.well_typed l.exits l.drops) lowered (text_has_limits s text p lowered));
   }

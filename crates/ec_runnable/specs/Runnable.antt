@@ -10,11 +10,12 @@ use Rattle.ec_idle.specs.Idle.{OfClasses}
 use Rattle.ec_node_frames.specs.Frames.{HasTables}
 use Rattle.ec_nodes.specs.Held.{Distinct}
 use Rattle.ec_ranges.specs.Code.{SmallProgram}
+use Rattle.ec_wire_limits.specs.Limits.{CarriesFew}
 use Rattle.ec_world.specs.Group.{Has}
 use Rattle.ec_world.specs.declared.node.Kind.{Kind}
 
 -- For each kind of node the images have the code of the program and its stop table. Its literals are texts each once, the empty one among
--- them; what its code names is in range; its operations are of classes or of the program; and each live variable has one type.
+-- them; what its code names is in range; its operations are of classes or of the program; each live variable has one type; and few values go with an activation.
 pub record IsRunnable (p : Parts) (images : Images) : Type 0 where
   pub declared : Declared
   pub code : (kind : Kind) → IsCodeFor declared p images kind
@@ -24,3 +25,4 @@ pub record IsRunnable (p : Parts) (images : Images) : Type 0 where
   pub small : SmallProgram p
   pub classes : OfClasses p
   pub typed : IsTypedOnce p
+  pub few : CarriesFew p

@@ -1,6 +1,6 @@
 -- What is said of files that were judged, by the status.
 use Rattle.std.proofs.Common.{◌≡◌, ◌⊎◌, inl, inr, ℕ, List, Option, Some, None, Ok, Err, refl, sym, ap, subst, ◌∙◌}
-use Rattle.ec_tool.specs.Asked.{name_of, file_limit, AreRead, Takes, Checks}
+use Rattle.ec_tool.specs.Asked.{name_in, name_of, file_limit, AreRead, AreMade, Takes, Checks}
 use Rattle.ec_tool.specs.Promises.{IsRunStatus, EndsWith, IsNoSource, IsNoInput, HasEnded, HasAccepted, IsRun, AreInputs, AreAccepted}
 use Rattle.ec_tool.specs.Promises.IsRunStatus.{Finishes}
 use Rattle.ec_tool.specs.Promises.BreaksRule.{ByNodes, BySchedule}
@@ -51,7 +51,7 @@ module _ (asked : CommandWords) (held : FileOf → List ℕ) (net net' : Net) wh
       absurd ((run_apart (end_status asked s (ends_with asked (held Source) specs entries net net' s t c))).not_input e)
   input_refused (Accepts h n) e = cc
 
-  -- a run or a plain meaning has ended so, or a check has accepted
+  -- a run, a plain meaning or a trial has ended so, or a check has accepted
   judged_ended : {s : Status} {t : List ℕ} → Judged asked held net net' s t → IsRunStatus s →
       HasEnded asked held net net' s t ⊎ ((s ≡ statuses.Finished) × HasAccepted asked held net net' t)
   judged_ended (SourceRefused refusal at r n) e = elim e [ ]
@@ -90,22 +90,47 @@ same_whole : (file : Option (List ℕ)) (limit : ℕ) (a b : List ℕ) → IsWho
 same_whole (Some file) limit a b e f = e ∙ sym f
 same_whole None limit a b e f = absurd e
 
--- each command names its source
-source_named : (asked : CommandWords) → (name : List ℕ) × (name_of asked Source ≡ Some name)
-source_named (command.Run run) = (run.source, refl)
-source_named (command.Mean mean) = (mean.source, refl)
-source_named (command.Check check) = (check.source, refl)
+-- the texts that the command judges are the same
+abbrev pub SameTexts : CommandWords → (FileOf → List ℕ) → (FileOf → List ℕ) → Type 0
+SameTexts (command.Run run) held other = (file : FileOf) → held file ≡ other file
+SameTexts (command.Mean mean) held other = (file : FileOf) → held file ≡ other file
+SameTexts (command.Check check) held other = held Source ≡ other Source
+SameTexts (command.Trial number) held other = (file : FileOf) → held file ≡ other file
+
+-- a file that the command names has one text
+same_read : (content : List ℕ → Option (List ℕ)) (asked : CommandWords) (held other : FileOf → List ℕ) → AreRead content asked held →
+    AreRead content asked other → (file : FileOf) (name : List ℕ) → name_of asked file ≡ Some name → held file ≡ other file
+same_read content asked held other r q file name e =
+    same_whole (content name) file_limit (held file) (other file) (r file name e) (q file name e)
+
+pub same_texts : (content : List ℕ → Option (List ℕ)) (asked : CommandWords) (held other : FileOf → List ℕ) → AreRead content asked held →
+    AreRead content asked other → AreMade asked held → AreMade asked other → SameTexts asked held other
+same_texts content (command.Run run) held other r q m n =
+    λ file. same_read content (command.Run run) held other r q file (name_in run file) refl
+same_texts content (command.Mean mean) held other r q m n =
+    λ file. same_read content (command.Mean mean) held other r q file (name_in mean file) refl
+same_texts content (command.Check check) held other r q m n =
+    same_read content (command.Check check) held other r q Source check.source refl
+same_texts content (command.Trial number) held other r q m n = λ file. m file ∙ sym (n file)
+
+-- among them the source
+same_source : (asked : CommandWords) (held other : FileOf → List ℕ) → SameTexts asked held other → held Source ≡ other Source
+same_source (command.Run run) held other same = same Source
+same_source (command.Mean mean) held other same = same Source
+same_source (command.Check check) held other same = same
+same_source (command.Trial number) held other same = same Source
 
 -- the text of a program that has its meaning is not faulty
 meant_not_faulty : {source : List ℕ} {meant : Meant} {refusal : Refusal} {at : ℕ} → IsMeant source meant → IsFaulty source refusal at → ⊥
 meant_not_faulty m f = not_faulty (record { tokens = m.tokens; program = m.program; is_program = m.is_program }) f
 
 -- what is accepted isn't refused
-no_refusal : (asked : CommandWords) (held : FileOf → List ℕ) (refusal : Refusal) (at : ℕ) → AreAccepted asked held →
+pub no_refusal : (asked : CommandWords) (held : FileOf → List ℕ) (refusal : Refusal) (at : ℕ) → AreAccepted asked held →
     IsFaulty (held Source) refusal at → ⊥
 no_refusal (command.Run run) held refusal at a r = meant_not_faulty a.0.1 r
 no_refusal (command.Mean mean) held refusal at a r = meant_not_faulty a.0.1 r
 no_refusal (command.Check check) held refusal at a r = not_faulty a r
+no_refusal (command.Trial number) held refusal at a r = meant_not_faulty a.0.1 r
 
 no_rule : (nodes : List ℕ) (rule : NodeRule) (held : FileOf → List ℕ) → AreInputs held → nodes ≡ held Nodes → NodesOf nodes ≡ Err rule → ⊥
 no_rule nodes rule held i e m = let y : Err rule ≡ Ok i.specs = sym m ∙ (ap NodesOf e ∙ i.nodes_are) in cc
@@ -116,42 +141,38 @@ no_line schedule rule line held i e m = let y : Err (rule, line) ≡ Ok i.entrie
 
 -- where the same texts are accepted
 module _ (held other : FileOf → List ℕ) (net net' : Net) where
-  nodes_accepted : (asked : CommandWords) →
-      ((file : FileOf) (name : List ℕ) → name_of asked file ≡ Some name → held file ≡ other file) → AreAccepted asked other →
+  pub nodes_accepted : (asked : CommandWords) → SameTexts asked held other → AreAccepted asked other →
       (rule : NodeRule) → Takes asked (held Source) → NodesOf (held Nodes) ≡ Err rule → ⊥
-  nodes_accepted (command.Run run) same a rule takes m = no_rule (held Nodes) rule other a.1 (same Nodes run.nodes refl) m
-  nodes_accepted (command.Mean mean) same a rule takes m = no_rule (held Nodes) rule other a.1 (same Nodes mean.nodes refl) m
+  nodes_accepted (command.Run run) same a rule takes m = no_rule (held Nodes) rule other a.1 (same Nodes) m
+  nodes_accepted (command.Mean mean) same a rule takes m = no_rule (held Nodes) rule other a.1 (same Nodes) m
   nodes_accepted (command.Check check) same a rule takes m = takes
+  nodes_accepted (command.Trial number) same a rule takes m = no_rule (held Nodes) rule other a.1 (same Nodes) m
 
-  schedule_accepted : (asked : CommandWords) →
-      ((file : FileOf) (name : List ℕ) → name_of asked file ≡ Some name → held file ≡ other file) → AreAccepted asked other →
+  pub schedule_accepted : (asked : CommandWords) → SameTexts asked held other → AreAccepted asked other →
       (rule : ScheduleRule) (line : Option ℕ) → Takes asked (held Source) → EntriesOf (held Schedule) ≡ Err (rule, line) → ⊥
-  schedule_accepted (command.Run run) same a rule line takes m =
-      no_line (held Schedule) rule line other a.1 (same Schedule run.schedule refl) m
-  schedule_accepted (command.Mean mean) same a rule line takes m =
-      no_line (held Schedule) rule line other a.1 (same Schedule mean.schedule refl) m
+  schedule_accepted (command.Run run) same a rule line takes m = no_line (held Schedule) rule line other a.1 (same Schedule) m
+  schedule_accepted (command.Mean mean) same a rule line takes m = no_line (held Schedule) rule line other a.1 (same Schedule) m
   schedule_accepted (command.Check check) same a rule line takes m = takes
+  schedule_accepted (command.Trial number) same a rule line takes m = no_line (held Schedule) rule line other a.1 (same Schedule) m
 
   checked_ends : (asked : CommandWords) (source : List ℕ) → Checks asked source → EndsWith asked statuses.Finished
   checked_ends (command.Run run) source h = absurd h
   checked_ends (command.Mean mean) source h = absurd h
   checked_ends (command.Check check) source h = refl
+  checked_ends (command.Trial number) source h = absurd h
 
-  accepted_ends : (asked : CommandWords) →
-      ((file : FileOf) (name : List ℕ) → name_of asked file ≡ Some name → held file ≡ other file) → AreAccepted asked other →
+  accepted_ends : (asked : CommandWords) → SameTexts asked held other → AreAccepted asked other →
       {s : Status} {t : List ℕ} → Judged asked held net net' s t → EndsWith asked s
   accepted_ends asked same a (SourceRefused refusal at r n) =
-      let named = source_named asked in
-      let e : held Source ≡ other Source = same Source named.0 named.1 in
+      let e = same_source asked held other same in
       absurd (no_refusal asked other refusal at a (subst (λ (x : List ℕ). IsFaulty x refusal at) e r))
   accepted_ends asked same a (NodesRefused rule takes m n) = absurd (nodes_accepted asked same a rule takes m)
   accepted_ends asked same a (ScheduleRefused specs rule line takes m k n) = absurd (schedule_accepted asked same a rule line takes k)
   accepted_ends asked same a (IsEnded specs entries s t m k c) = ends_with asked (held Source) specs entries net net' s t c
   accepted_ends asked same a (Accepts h n) = checked_ends asked (held Source) h
 
-  -- files that were read whole and are accepted lead to an end of the command
-  pub ends_of : (content : List ℕ → Option (List ℕ)) (asked : CommandWords) → AreRead content asked held →
-      AreRead content asked other → AreAccepted asked other →
+  -- files that were read whole, or texts that were made, and are accepted lead to an end of the command
+  pub ends_of : (content : List ℕ → Option (List ℕ)) (asked : CommandWords) → AreRead content asked held → AreMade asked held →
+      AreRead content asked other → AreMade asked other → AreAccepted asked other →
       (s : Status) (t : List ℕ) → Judged asked held net net' s t → EndsWith asked s
-  ends_of content asked r q a s t j =
-      accepted_ends asked (λ file name e. same_whole (content name) file_limit (held file) (other file) (r file name e) (q file name e)) a j
+  ends_of content asked r m q n a s t j = accepted_ends asked (same_texts content asked held other r q m n) a j

@@ -1,6 +1,7 @@
 pub mod Statuses
 pub mod Judging
 pub mod Promised
+pub mod Headline
 pub mod Examples
 pub mod Taking
 pub mod Verdicts

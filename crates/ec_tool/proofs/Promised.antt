@@ -1,7 +1,8 @@
 -- What the call promises of each status, from what it comes to.
 use Rattle.std.proofs.Common.{◌≡◌, ◌⊎◌, inl, inr, ⊎_elim, ℕ, List, ◌++◌, Some, None, refl, sym, ap, subst, ◌∙◌}
-use Rattle.ec_tool.specs.Asked.{name_of, AreRead, HasRead}
+use Rattle.ec_tool.specs.Asked.{name_of, AreRead, AreMade, HasRead}
 use Rattle.ec_answers.specs.Lines.{usage_line}
+use Rattle.ec_answers.specs.declared.file.FileOf.{FileOf}
 use Rattle.ec_tool.specs.Promises.{IsRunStatus, EndsWith, HasReadFault, IsNoSource, IsNoInput, HasEnded, HasAccepted, IsRun}
 use Rattle.ec_tool.specs.Promises.{IsAccepted, NoneRisen}
 use Rattle.ec_tool.specs.Promises.IsRunStatus.{Finishes, Fills}
@@ -14,6 +15,7 @@ use Rattle.ec_tool.proofs.Judging.{source_refused, input_refused, by_files, has_
 use Rattle.ec_tool.proofs.Statuses.IsByFiles.{RefusesSource, RefusesInput}
 use Rattle.ec_tool.proofs.Statuses.{IsTold, IsOfFiles, files_apart, run_apart}
 use Rattle.ec_inputs.specs.Words.{CommandWords, WordsOf}
+use Rattle.ec_inputs.specs.Words.{CommandWords as command}
 use Rattle.ec_outside.specs.Fault.{HasRisen}
 use Rattle.ec_report.specs.declared.status.Status.{Status}
 use Rattle.ec_report.specs.declared.status.Status.TheVariants as statuses
@@ -43,6 +45,17 @@ module _ (Told : Type 0) (call : Call) where
       record { asked = asked; file = file; words_are = w; stops = h; text_is = refl }
   verdict_fault (IsJudged read s t q j) e = absurd ((files_apart (by_files read.asked read.held call.net call.net_after j)).not_read e)
 
+  -- a trial names no file at which reading may stop
+  verdict_trial : {s : Status} {t : List ℕ} → Verdict Told call s t → (number : ℕ) → WordsOf call.words ≡ Some (command.Trial number) →
+      s ≡ statuses.ReadFault → ⊥
+  verdict_trial (NoCommand w q n) number e is = cc
+  verdict_trial (ReadFailed asked file w h n) number e is =
+      let same : asked ≡ command.Trial number = cc in
+      let named : name_of (command.Trial number) file ≡ Some h.name =
+      subst (λ (k : CommandWords). name_of k file ≡ Some h.name) same h.name_is in
+      let bad : ⊥ = cc in absurd bad
+  verdict_trial (IsJudged read s t q j) number e is = (files_apart (by_files read.asked read.held call.net call.net_after j)).not_read is
+
   -- no count has risen, or a file wasn't read
   verdict_reads : {s : Status} {t : List ℕ} → Verdict Told call s t → (call.faults_after ≡ call.faults) ⊎ (s ≡ statuses.ReadFault)
   verdict_reads (NoCommand w q n) = inl q
@@ -62,17 +75,34 @@ module _ (Told : Type 0) (call : Call) where
   same_words : (a b : CommandWords) → WordsOf call.words ≡ Some a → WordsOf call.words ≡ Some b → a ≡ b
   same_words a b e f = cc
 
-  verdict_accepted : {s : Status} {t : List ℕ} → Verdict Told call s t → Told → (a : IsAccepted call.words call.content) →
-      NoneRisen a.asked call.faults call.faults_after → EndsWith a.asked s
-  verdict_accepted (NoCommand w q n) told a quiet = let v = a.words_are in cc
-  verdict_accepted (ReadFailed asked file w h n) told a quiet =
+  -- the files that the accepted command names were read, or the texts that it makes are these, and they are judged
+  pub record IsReadFor (asked : CommandWords) (s : Status) (t : List ℕ) : Type 0 where
+    pub held : FileOf → List ℕ
+    pub are_read : AreRead call.content asked held
+    pub are_made : AreMade asked held
+    pub judged : Judged asked held call.net call.net_after s t
+
+  pub verdict_read : {s : Status} {t : List ℕ} → Verdict Told call s t → Told → (a : IsAccepted call.words call.content) →
+      NoneRisen a.asked call.faults call.faults_after → IsReadFor a.asked s t
+  verdict_read (NoCommand w q n) told a quiet = let v = a.words_are in cc
+  verdict_read (ReadFailed asked file w h n) told a quiet =
       let named = subst (λ (k : CommandWords). name_of k file ≡ Some h.name) (same_words asked a.asked w a.words_are) h.name_is in
       absurd (quiet file h.name named h.risen)
-  verdict_accepted (IsJudged read s t q j) told a quiet =
+  verdict_read (IsJudged read s t q j) told a quiet =
       let e : read.asked ≡ a.asked = same_words read.asked a.asked read.words_are a.words_are in
-      ends_of read.held a.held call.net call.net_after call.content a.asked
-      (subst (λ (k : CommandWords). AreRead call.content k read.held) e (read.are_read told)) a.are_read a.are_accepted s t
-      (subst (λ (k : CommandWords). Judged k read.held call.net call.net_after s t) e j)
+      record {
+        held = read.held;
+        are_read = subst (λ (k : CommandWords). AreRead call.content k read.held) e (read.are_read told);
+        are_made = subst (λ (k : CommandWords). AreMade k read.held) e read.are_made;
+        judged = subst (λ (k : CommandWords). Judged k read.held call.net call.net_after s t) e j;
+      }
+
+  verdict_accepted : {s : Status} {t : List ℕ} → Verdict Told call s t → Told → (a : IsAccepted call.words call.content) →
+      NoneRisen a.asked call.faults call.faults_after → EndsWith a.asked s
+  verdict_accepted {s} {t} v told a quiet =
+      let read = verdict_read v told a quiet in
+      ends_of read.held a.held call.net call.net_after call.content a.asked read.are_read read.are_made a.are_read a.are_made
+      a.are_accepted s t read.judged
 
 -- ---- the call
 
@@ -134,6 +164,13 @@ module _ (Told TakenTold : Type 0) (call : Call) (taken taken' : List ℕ) (coun
       (λ (i : (r ≡ statuses.WriteFault) × HasRisen count count'). inr (inr (inl i.0)))
       (result_is a)
 
+  trial : {r : Status} → Ends r → (number : ℕ) → WordsOf call.words ≡ Some (command.Trial number) → r ≡ statuses.ReadFault → ⊥
+  trial (NoMemory m k) number w e = let bad : ⊥ = cc in bad
+  trial (Answered st tx r v a) number w e = ⊎_elim
+      (λ (i : r ≡ st). verdict_trial Told call v number w (sym i ∙ e))
+      (λ (i : (r ≡ statuses.WriteFault) × HasRisen count count'). let k : statuses.WriteFault ≡ statuses.ReadFault = sym i.0 ∙ e in cc)
+      (result_is a)
+
   complete : {r : Status} → Ends r → Told → (a : IsAccepted call.words call.content) →
       NoneRisen a.asked call.faults call.faults_after → ¬ HasRisen count count' →
       EndsWith a.asked r ⊎ (r ≡ statuses.NoMemory)
@@ -184,6 +221,11 @@ pub reads_of : {Told TakenTold : Type 0} {call : Call} {taken taken' : List ℕ}
     (call.faults_after ≡ call.faults) ⊎ ((r ≡ statuses.ReadFault) ⊎ ((r ≡ statuses.WriteFault) ⊎ (r ≡ statuses.NoMemory)))
 reads_of {Told} {TakenTold} {call} {taken} {taken'} {count} {count'} c = reads Told TakenTold call taken taken' count count' c
 
+pub no_read_of : {Told TakenTold : Type 0} {call : Call} {taken taken' : List ℕ} {count count' : ℕ} {r : Status} →
+    Came Told TakenTold call taken taken' count count' r →
+    (number : ℕ) → WordsOf call.words ≡ Some (command.Trial number) → ¬ (r ≡ statuses.ReadFault)
+no_read_of {Told} {TakenTold} {call} {taken} {taken'} {count} {count'} c = trial Told TakenTold call taken taken' count count' c
+
 pub write_fault_of : {Told TakenTold : Type 0} {call : Call} {taken taken' : List ℕ} {count count' : ℕ} {r : Status} →
     Came Told TakenTold call taken taken' count count' r →
     r ≡ statuses.WriteFault → HasRisen count count'
@@ -229,7 +271,7 @@ finished_of {Told} {TakenTold} {call} {taken} {taken'} {count} {count'} c e =
     let read = f.judged.read in
     (f.text, read, has_finished read.asked read.held call.net call.net_after statuses.Finished f.text f.judged.judged Finishes, f.written)
 
--- a status of a run or a plain meaning, other than that of an accepted check
+-- a status of a run, a plain meaning or a trial, other than that of an accepted check
 pub ended_of : {Told TakenTold : Type 0} {call : Call} {taken taken' : List ℕ} {count count' : ℕ} {r : Status} →
     Came Told TakenTold call taken taken' count count' r →
     (s : Status) → IsRunStatus s → (s ≡ statuses.Finished → ⊥) → r ≡ s → (text : List ℕ) × (read : HasRead Told call.words call.content) ×

@@ -1,8 +1,9 @@
 -- The statuses with which commands end, and which of them they are not.
-use Rattle.std.proofs.Common.{◌≡◌, ℕ, Bool, true, false, List, length, refl}
+use Rattle.std.proofs.Common.{◌≡◌, ℕ, Bool, true, false, List, length}
 use Rattle.ec_tool.specs.Asked.{ComesTo}
 use Rattle.ec_tool.specs.Promises.{IsRunStatus, IsPlainStatus, EndsWith, IsRun}
 use Rattle.ec_tool.specs.Promises.IsRunStatus.{Finishes, Fails, Spends, Fills, Sticks}
+use Rattle.ec_tool.specs.Promises.IsRun.{OfFiles, OfTrial}
 use Rattle.ec_tool.specs.Promises.{IsPlainStatus as plainly}
 use Rattle.ec_inputs.specs.Words.{CommandWords}
 use Rattle.ec_inputs.specs.Words.{CommandWords as command}
@@ -62,6 +63,7 @@ pub ends_with : (asked : CommandWords) (source : List ℕ) (specs : List NodeSpe
 ends_with (command.Run run) source specs entries net net' status text c = run_status c.2
 ends_with (command.Mean mean) source specs entries net net' status text c = plain_status c.0 specs entries mean.budget status text c.2
 ends_with (command.Check check) source specs entries net net' status text c = absurd c
+ends_with (command.Trial number) source specs entries net net' status text c = run_status c.2
 
 run_status_from : {status : Status} → IsPlainStatus status → IsRunStatus status
 run_status_from plainly.Finishes = Finishes
@@ -74,6 +76,7 @@ pub end_status : (asked : CommandWords) (status : Status) → EndsWith asked sta
 end_status (command.Run run) status e = e
 end_status (command.Mean mean) status e = run_status_from e
 end_status (command.Check check) status e = rw e Finishes
+end_status (command.Trial number) status e = e
 
 never_full : {status : Status} → IsPlainStatus status → status ≡ statuses.Full → ⊥
 never_full plainly.Finishes e = cc
@@ -85,10 +88,11 @@ never_full plainly.Sticks e = cc
 pub full_is_run : (asked : CommandWords) (source : List ℕ) (specs : List NodeSpec) (entries : List Entry) (net net' : Net)
     (status : Status) (text : List ℕ) →
     ComesTo asked source specs entries net net' status text → status ≡ statuses.Full → IsRun asked
-full_is_run (command.Run run) source specs entries net net' status text c e = (run, refl)
+full_is_run (command.Run run) source specs entries net net' status text c e = OfFiles run
 full_is_run (command.Mean mean) source specs entries net net' status text c e =
     absurd (never_full (plain_status c.0 specs entries mean.budget status text c.2) e)
 full_is_run (command.Check check) source specs entries net net' status text c e = absurd c
+full_is_run (command.Trial number) source specs entries net net' status text c e = OfTrial number
 
 -- ---- statuses apart
 

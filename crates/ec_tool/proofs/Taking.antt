@@ -1,18 +1,19 @@
 -- What is taken to nodes, by the command that asked for it.
-use Rattle.std.proofs.Common.{◌≡◌, ℕ, zero, suc, ◌<◌, List, [], ◌∷◌, Some, Ok, arith, get_or, refl, subst, sym}
+use Rattle.std.proofs.Common.{◌≡◌, ℕ, suc, ◌<◌, List, [], ◌∷◌, Ok, arith, get_or, refl, subst, sym}
 use Rattle.std.specs.List.{AllByRecursion as Each}
-use Rattle.std.specs.Prelude.{slice_get}
 use Rattle.ec_tool.specs.Asked.{Takes, ComesTo}
 use Rattle.ec_check.specs.declared.check.Checked.{Checked}
 use Rattle.ec_compile.specs.Texts.{IsOfText}
-use Rattle.ec_inputs.proofs.OneNode.{IsSized, one_node}
+use Rattle.ec_inputs.proofs.Sized.{IsSized, sized_nodes}
 use Rattle.ec_inputs.specs.Nodes.{NodesOf}
-use Rattle.ec_inputs.specs.Words.{RunWords}
+use Rattle.ec_inputs.specs.Words.{RunWords, CommandWords}
+use Rattle.ec_inputs.specs.Words.{CommandWords as command}
 use Rattle.ec_loading.specs.Fresh.{IsNodeSize}
-use Rattle.ec_native_run.specs.Runs.{IsOneNode, Net}
+use Rattle.ec_native_run.specs.Runs.{AreNodes, Net, RunsTo}
+use Rattle.ec_plain.specs.Plain.{IsPlainRun}
 use Rattle.ec_report.specs.declared.status.Status.{Status}
 use Rattle.ec_sources.specs.Sources.{IsMeant}
-use Rattle.ec_tool.specs.Taking.{WorkComesTo, asked_of, source_in}
+use Rattle.ec_tool.specs.Taking.{AsksFor, WorkComesTo, asked_of, source_in}
 use Rattle.ec_tool.specs.declared.take.Work.{Work}
 use Rattle.ec_tool.specs.declared.take.Work.TheVariants.{Run, Mean}
 use Rattle.ec_world.specs.declared.node.NodeSpec.{NodeSpec}
@@ -20,18 +21,14 @@ use Rattle.ec_world.specs.declared.run.Entry.{Entry}
 
 -- ---- nodes
 
-each_sized : (spec : NodeSpec) → IsSized spec → (k : ℕ) (found : NodeSpec) → slice_get (spec ∷ []) k ≡ Some found → IsNodeSize found
-each_sized spec sized zero found e =
-    let same : spec ≡ found = cc in
-    let text = sized.text in
-    subst IsNodeSize same (record { blocks = sized.blocks; text = omega arith })
-each_sized spec sized (suc k) found e = let bad : ⊥ = cc in absurd bad
+node_size : (spec : NodeSpec) → IsSized spec → IsNodeSize spec
+node_size spec sized = let text = sized.text in record { blocks = sized.blocks; text = omega arith }
 
--- the nodes that are read so far are one
-pub one_node_read : (nodes : List ℕ) (specs : List NodeSpec) → NodesOf nodes ≡ Ok specs → IsOneNode specs
-one_node_read nodes specs e =
-    let one = one_node nodes specs e in
-    subst IsOneNode (sym one.one) (record { one = refl; sizes = each_sized one.spec one.sized })
+-- the nodes that are read are as many as there may be, and none is too large
+pub nodes_read : (nodes : List ℕ) (specs : List NodeSpec) → NodesOf nodes ≡ Ok specs → AreNodes specs
+nodes_read nodes specs e =
+    let read = sized_nodes nodes specs e in
+    record { some = read.some; few = read.few; sizes = λ k spec there. node_size spec (read.each k spec there) }
 
 -- ---- sources
 
@@ -52,15 +49,40 @@ is_of_text text checked small meant = record {
   core = meant.has_core;
 }
 
-pub takes : (work : Work) (words : RunWords) (source : List ℕ) (checked : Checked) → IsMeant source (source_in source checked) →
-    Takes (asked_of work words) source
-takes Run words source checked t = (source_in source checked, t)
-takes Mean words source checked t = (source_in source checked, t)
+-- ---- commands
 
-pub comes_to : (work : Work) (words : RunWords) (source : List ℕ) (checked : Checked) (specs : List NodeSpec) (entries : List Entry)
-    (net net' : Net)
-    (status : Status) (text : List ℕ) → IsMeant source (source_in source checked) →
-    WorkComesTo work (source_in source checked) specs entries words.budget net net' status text →
-    ComesTo (asked_of work words) source specs entries net net' status text
-comes_to Run words source checked specs entries net net' status text t r = (source_in source checked, t, r)
-comes_to Mean words source checked specs entries net net' status text t r = (source_in source checked, t, r.0, r.1)
+-- a command whose files are read asks for its work within its budget
+pub asks_for : (work : Work) (words : RunWords) → AsksFor work words.budget (asked_of work words)
+asks_for Run words = refl
+asks_for Mean words = refl
+
+pub takes : (work : Work) (budget : ℕ) (asked : CommandWords) → AsksFor work budget asked → (source : List ℕ) (checked : Checked) →
+    IsMeant source (source_in source checked) → Takes asked source
+takes Run budget (command.Run run) asks source checked t = (source_in source checked, t)
+takes Run budget (command.Trial number) asks source checked t = (source_in source checked, t)
+takes Run budget (command.Mean mean) asks source checked t = absurd asks
+takes Run budget (command.Check check) asks source checked t = absurd asks
+takes Mean budget (command.Mean mean) asks source checked t = (source_in source checked, t)
+takes Mean budget (command.Run run) asks source checked t = absurd asks
+takes Mean budget (command.Trial number) asks source checked t = absurd asks
+takes Mean budget (command.Check check) asks source checked t = absurd asks
+
+module _ (source : List ℕ) (checked : Checked) (meant : IsMeant source (source_in source checked)) (specs : List NodeSpec)
+    (entries : List Entry) (net net' : Net) (status : Status) (text : List ℕ) where
+  pub comes_to : (work : Work) (budget : ℕ) (asked : CommandWords) → AsksFor work budget asked →
+      WorkComesTo work (source_in source checked) specs entries budget net net' status text →
+      ComesTo asked source specs entries net net' status text
+  comes_to Run budget (command.Run run) asks r =
+      let core = source_in source checked in
+      (core, meant, subst (λ (most : ℕ). RunsTo core specs entries most net net' status text) (sym asks) r)
+  comes_to Run budget (command.Trial number) asks r =
+      let core = source_in source checked in
+      (core, meant, subst (λ (most : ℕ). RunsTo core specs entries most net net' status text) (sym asks) r)
+  comes_to Run budget (command.Mean mean) asks r = absurd asks
+  comes_to Run budget (command.Check check) asks r = absurd asks
+  comes_to Mean budget (command.Mean mean) asks r =
+      let core = source_in source checked in
+      (core, meant, subst (λ (most : ℕ). IsPlainRun core specs entries most status text) (sym asks) r.0, r.1)
+  comes_to Mean budget (command.Run run) asks r = absurd asks
+  comes_to Mean budget (command.Trial number) asks r = absurd asks
+  comes_to Mean budget (command.Check check) asks r = absurd asks

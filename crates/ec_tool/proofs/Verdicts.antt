@@ -1,7 +1,7 @@
 -- From what was read and judged to the verdict of the call.
 use Rattle.std.proofs.Common.{◌≡◌, ℕ, List, Option, Some, None, refl, sym, ap, ◌∙◌, subst}
 use Rattle.std.specs.Prelude.{option_map, IsSome}
-use Rattle.ec_tool.specs.Asked.{name_in, name_of, file_limit, AreRead, EachBefore, OthersStay, StopsAt}
+use Rattle.ec_tool.specs.Asked.{name_in, name_of, file_limit, AreRead, AreMade, EachBefore, OthersStay, StopsAt}
 use Rattle.ec_answers.specs.declared.file.FileOf.{FileOf}
 use Rattle.ec_answers.specs.declared.file.FileOf.TheVariants.{Source, Nodes, Schedule}
 use Rattle.ec_inputs.specs.declared.words.Command.{Command}
@@ -44,6 +44,15 @@ all_read content work words held r file name e =
     let same : Some (name_in words file) ≡ Some name = sym (named work words file) ∙ e in
     let is : name_in words file ≡ name = cc in
     subst (λ (n : List ℕ). IsWhole (content n) file_limit (held file)) is (each_read content words held r file)
+
+-- a command whose files are read makes no text
+pub none_made : (work : Work) (words : RunWords) (held : FileOf → List ℕ) → AreMade (asked_of work words) held
+none_made Run words held = tt
+none_made Mean words held = tt
+
+-- a trial reads no file
+pub none_read : (content : List ℕ → Option (List ℕ)) (number : ℕ) (held : FileOf → List ℕ) → AreRead content (command.Trial number) held
+none_read content number held file name e = let bad : ⊥ = cc in absurd bad
 
 -- a check reads its source alone
 pub source_read : (content : List ℕ → Option (List ℕ)) (check : CheckWords) (source : List ℕ) →

@@ -1,8 +1,9 @@
--- What a command asks: the files that it names, what it wants of a source, and what a source that it takes to nodes comes to there.
+-- What a command asks: the files that it names or the texts that it makes, what it wants of a source, and what a source that it takes to
+-- nodes comes to there.
 use Rattle.std.specs.Prelude.{◌≡◌, ℕ, List, Option, Some, None, IsSome}
 use Rattle.ec_answers.specs.declared.file.FileOf.{FileOf}
 use Rattle.ec_answers.specs.declared.file.FileOf.TheVariants.{Source, Nodes, Schedule}
-use Rattle.ec_inputs.specs.Words.{RunWords, CommandWords, WordsOf}
+use Rattle.ec_inputs.specs.Words.{RunWords, CommandWords, WordsOf, default_budget}
 use Rattle.ec_inputs.specs.Words.{CommandWords as command}
 use Rattle.ec_meaning.specs.Programs.{Source as Meant}
 use Rattle.ec_native_run.specs.Runs.{Net, RunsTo}
@@ -11,6 +12,8 @@ use Rattle.ec_outside.specs.Whole.{IsWhole}
 use Rattle.ec_plain.specs.Plain.{IsPlainRun}
 use Rattle.ec_report.specs.declared.status.Status.{Status}
 use Rattle.ec_sources.specs.Sources.{IsChecked, IsMeant}
+use Rattle.ec_trial.specs.Draws.{drawn_from}
+use Rattle.ec_trial.specs.Texts.{nodes_text, schedule_text, source_text}
 use Rattle.ec_world.specs.declared.node.NodeSpec.{NodeSpec}
 use Rattle.ec_world.specs.declared.run.Entry.{Entry}
 
@@ -22,13 +25,14 @@ name_in words Source = words.source
 name_in words Nodes = words.nodes
 name_in words Schedule = words.schedule
 
--- the name of a file, where the command names one: a check names its source alone
+-- the name of a file, where the command names one: a check names its source alone, and a trial none
 abbrev pub name_of : CommandWords → FileOf → Option (List ℕ)
 name_of (command.Run run) file = Some (name_in run file)
 name_of (command.Mean mean) file = Some (name_in mean file)
 name_of (command.Check check) Source = Some check.source
 name_of (command.Check check) Nodes = None
 name_of (command.Check check) Schedule = None
+name_of (command.Trial number) file = None
 
 -- files are read up to this many bytes
 abbrev pub file_limit : ℕ
@@ -39,12 +43,27 @@ abbrev pub AreRead : (List ℕ → Option (List ℕ)) → CommandWords → (File
 AreRead content asked held = (file : FileOf) (name : List ℕ) → name_of asked file ≡ Some name →
     IsWhole (content name) file_limit (held file)
 
--- The words ask for a command, and these texts were read for its files: they are what the files hold, where the shelf tells it.
+-- the text that a trial makes in the place of a file, by its number
+abbrev pub trial_text : ℕ → FileOf → List ℕ
+trial_text number Source = source_text (drawn_from number)
+trial_text number Nodes = nodes_text (drawn_from number)
+trial_text number Schedule = schedule_text (drawn_from number)
+
+-- the texts of a trial are those that it makes; no other command makes any
+abbrev pub AreMade : CommandWords → (FileOf → List ℕ) → Type 0
+AreMade (command.Run run) held = Unit {0}
+AreMade (command.Mean mean) held = Unit {0}
+AreMade (command.Check check) held = Unit {0}
+AreMade (command.Trial number) held = (file : FileOf) → held file ≡ trial_text number file
+
+-- The words ask for a command, and these texts were read for its files: they are what the files hold, where the shelf tells it. Those of a
+-- trial were made.
 pub record HasRead (Told : Type 0) (words : List (List ℕ)) (content : List ℕ → Option (List ℕ)) : Type 0 where
   pub asked : CommandWords
   pub held : FileOf → List ℕ
   pub words_are : WordsOf words ≡ Some asked
   pub are_read : Told → AreRead content asked held
+  pub are_made : AreMade asked held
 
 -- ---- a read that failed
 
@@ -75,17 +94,22 @@ abbrev pub Takes : CommandWords → List ℕ → Type 0
 Takes (command.Run run) source = (meant : Meant) × IsMeant source meant
 Takes (command.Mean mean) source = (meant : Meant) × IsMeant source meant
 Takes (command.Check check) source = ⊥
+Takes (command.Trial number) source = (meant : Meant) × IsMeant source meant
 
 -- the command asks no more than whether the source is a program's, and it is
 abbrev pub Checks : CommandWords → List ℕ → Type 0
 Checks (command.Run run) source = ⊥
 Checks (command.Mean mean) source = ⊥
 Checks (command.Check check) source = IsChecked source
+Checks (command.Trial number) source = ⊥
 
--- on these nodes along these entries the source comes to this status and this text; a plain meaning leaves the network alone
+-- On these nodes along these entries the source comes to this status and this text; a plain meaning leaves the network alone. A trial is a
+-- run within the budget that a run has where the words don't say.
 abbrev pub ComesTo : CommandWords → List ℕ → List NodeSpec → List Entry → Net → Net → Status → List ℕ → Type 0
 ComesTo (command.Run run) source specs entries net net' status text =
     (meant : Meant) × IsMeant source meant × RunsTo meant specs entries run.budget net net' status text
 ComesTo (command.Mean mean) source specs entries net net' status text =
     (meant : Meant) × IsMeant source meant × IsPlainRun meant specs entries mean.budget status text × (net' ≡ net)
 ComesTo (command.Check check) source specs entries net net' status text = ⊥
+ComesTo (command.Trial number) source specs entries net net' status text =
+    (meant : Meant) × IsMeant source meant × RunsTo meant specs entries default_budget net net' status text

@@ -1,6 +1,6 @@
 -- What the call promises of each status with which it ends: its cause, and what is written.
-use Rattle.std.specs.Prelude.{◌≡◌, ℕ, List, Option, Some, Ok, Err}
-use Rattle.ec_tool.specs.Asked.{name_of, AreRead, StopsAt, Takes, Checks, ComesTo}
+use Rattle.std.specs.Prelude.{◌≡◌, ◌++◌, ℕ, List, Option, Some, Ok, Err}
+use Rattle.ec_tool.specs.Asked.{name_of, AreRead, AreMade, StopsAt, Takes, Checks, ComesTo}
 use Rattle.ec_answers.specs.Lines.{fault_line}
 use Rattle.ec_answers.specs.declared.file.FileOf.{FileOf}
 use Rattle.ec_answers.specs.declared.file.FileOf.TheVariants.{Source, Nodes, Schedule}
@@ -42,6 +42,7 @@ abbrev pub EndsWith : CommandWords → Status → Type 0
 EndsWith (command.Run run) status = IsRunStatus status
 EndsWith (command.Mean mean) status = IsPlainStatus status
 EndsWith (command.Check check) status = status ≡ statuses.Finished
+EndsWith (command.Trial number) status = IsRunStatus status
 
 -- ---- causes, with the text that tells them
 
@@ -72,7 +73,7 @@ pub data BreaksRule (nodes schedule : List ℕ) : List ℕ → Type 0 where
 abbrev pub IsNoInput : CommandWords → (FileOf → List ℕ) → List ℕ → Type 0
 IsNoInput asked held text = Takes asked (held Source) × BreaksRule (held Nodes) (held Schedule) text
 
--- a run or a plain meaning has come to its end
+-- a run, a plain meaning or a trial has come to its end
 pub record HasEnded (asked : CommandWords) (held : FileOf → List ℕ) (net net' : Net) (status : Status) (text : List ℕ) : Type 0 where
   pub specs : List NodeSpec
   pub entries : List Entry
@@ -80,9 +81,10 @@ pub record HasEnded (asked : CommandWords) (held : FileOf → List ℕ) (net net
   pub entries_are : EntriesOf (held Schedule) ≡ Ok entries
   pub comes_to : ComesTo asked (held Source) specs entries net net' status text
 
--- the command is a run
-abbrev pub IsRun : CommandWords → Type 0
-IsRun asked = (run : RunWords) × (asked ≡ command.Run run)
+-- the command is a run, of files or of a trial
+pub data IsRun : CommandWords → Type 0 where
+  OfFiles : (run : RunWords) → IsRun (command.Run run)
+  OfTrial : (number : ℕ) → IsRun (command.Trial number)
 
 -- a check has accepted its source, and left the network as it was
 abbrev pub HasAccepted : CommandWords → (FileOf → List ℕ) → Net → Net → List ℕ → Type 0
@@ -97,20 +99,32 @@ pub record AreInputs (held : FileOf → List ℕ) : Type 0 where
   pub nodes_are : NodesOf (held Nodes) ≡ Ok specs
   pub entries_are : EntriesOf (held Schedule) ≡ Ok entries
 
--- the command accepts what its files hold
+-- the command accepts what its files hold, or the texts that it makes
 abbrev pub AreAccepted : CommandWords → (FileOf → List ℕ) → Type 0
 AreAccepted (command.Run run) held = Takes (command.Run run) (held Source) × AreInputs held
 AreAccepted (command.Mean mean) held = Takes (command.Mean mean) (held Source) × AreInputs held
 AreAccepted (command.Check check) held = Checks (command.Check check) (held Source)
+AreAccepted (command.Trial number) held = Takes (command.Trial number) (held Source) × AreInputs held
 
--- the words ask for a command that accepts what its files hold
+-- the words ask for a command that accepts what its files hold, or the texts that it makes
 pub record IsAccepted (words : List (List ℕ)) (content : List ℕ → Option (List ℕ)) : Type 0 where
   pub asked : CommandWords
   pub held : FileOf → List ℕ
   pub words_are : WordsOf words ≡ Some asked
   pub are_read : AreRead content asked held
+  pub are_made : AreMade asked held
   pub are_accepted : AreAccepted asked held
 
 -- no count of a file that the command names has risen
 abbrev pub NoneRisen : CommandWords → (List ℕ → ℕ) → (List ℕ → ℕ) → Type 0
 NoneRisen asked faults faults' = (file : FileOf) (name : List ℕ) → name_of asked file ≡ Some name → ¬ HasRisen (faults name) (faults' name)
+
+-- ---- the headline
+
+-- A run has come to its end, by itself, or as the budget is spent or a node is full: its status is that of the end, and just the report of
+-- the run of the source's meaning on these nodes along these entries was written, while the nodes' own machine code has led along them.
+pub record HasRun (asked : CommandWords) (held : FileOf → List ℕ) (net net' : Net) (taken taken' : List ℕ) (status : Status) : Type 0 where
+  pub text : List ℕ
+  pub is_end : IsRunStatus status
+  pub ended : HasEnded asked held net net' status text
+  pub written : taken' ≡ taken ++ text

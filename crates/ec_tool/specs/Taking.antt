@@ -1,7 +1,7 @@
 -- A source that is taken to nodes, to be run or for its meaning to be worked out.
 use Rattle.std.specs.Prelude.{◌≡◌, ℕ, List}
 use Rattle.ec_check.specs.declared.check.Checked.{Checked}
-use Rattle.ec_inputs.specs.Words.{RunWords, CommandWords}
+use Rattle.ec_inputs.specs.Words.{RunWords, CommandWords, default_budget}
 use Rattle.ec_inputs.specs.Words.{CommandWords as command}
 use Rattle.ec_meaning.specs.Programs.{Source as Meant}
 use Rattle.ec_native_run.specs.Runs.{Net, RunsTo}
@@ -12,10 +12,17 @@ use Rattle.ec_tool.specs.declared.take.Work.TheVariants.{Run, Mean}
 use Rattle.ec_world.specs.declared.node.NodeSpec.{NodeSpec}
 use Rattle.ec_world.specs.declared.run.Entry.{Entry}
 
--- the command with these words
+-- the command with these words, whose files are read
 abbrev pub asked_of : Work → RunWords → CommandWords
 asked_of Run words = command.Run words
 asked_of Mean words = command.Mean words
+
+-- a command that asks for this work within this budget: a trial asks for a run
+abbrev pub AsksFor : Work → ℕ → CommandWords → Type 0
+AsksFor Run budget (command.Run run) = run.budget ≡ budget
+AsksFor Run budget (command.Trial number) = default_budget ≡ budget
+AsksFor Mean budget (command.Mean mean) = mean.budget ≡ budget
+AsksFor work budget asked = ⊥
 
 -- the source of a text with this core
 abbrev pub source_in : List ℕ → Checked → Meant

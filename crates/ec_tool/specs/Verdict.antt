@@ -21,7 +21,8 @@ use Rattle.ec_world.specs.declared.run.Entry.{Entry}
 
 -- ---- by what the files hold
 
--- What a command whose files were read comes to: its status and its text, by what the files hold, and the network before and after.
+-- What a command whose files were read, or whose texts were made, comes to: its status and its text, by what these hold, and the network
+-- before and after.
 pub data Judged (asked : CommandWords) (held : FileOf → List ℕ) (net net' : Net) : Status → List ℕ → Type 0 where
   SourceRefused : (refusal : Refusal) (at : ℕ) → IsFaulty (held Source) refusal at → net' ≡ net →
       Judged asked held net net' statuses.SourceRefused (refused_line (held Source) refusal at)
@@ -31,7 +32,7 @@ pub data Judged (asked : CommandWords) (held : FileOf → List ℕ) (net net' : 
       NodesOf (held Nodes) ≡ Ok specs →
       EntriesOf (held Schedule) ≡ Err (rule, line) → net' ≡ net →
       Judged asked held net net' statuses.InputRefused (schedule_line rule line)
-  -- a run or a plain meaning comes to its end
+  -- a run, a plain meaning or a trial comes to its end
   IsEnded : (specs : List NodeSpec) (entries : List Entry) (status : Status) (text : List ℕ) → NodesOf (held Nodes) ≡ Ok specs →
       EntriesOf (held Schedule) ≡ Ok entries → ComesTo asked (held Source) specs entries net net' status text →
       Judged asked held net net' status text
@@ -59,7 +60,7 @@ pub data Verdict (Told : Type 0) (call : Call) : Status → List ℕ → Type 0 
   ReadFailed : (asked : CommandWords) (file : FileOf) → WordsOf call.words ≡ Some asked →
       StopsAt Told call.content call.kept call.faults call.faults_after asked file → call.net_after ≡ call.net →
       Verdict Told call statuses.ReadFault (fault_line file)
-  -- each was read, and they are judged
+  -- each was read or made, and they are judged
   IsJudged : (read : HasRead Told call.words call.content) (status : Status) (text : List ℕ) → call.faults_after ≡ call.faults →
       Judged read.asked read.held call.net call.net_after status text → Verdict Told call status text
 

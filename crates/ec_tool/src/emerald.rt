@@ -1,11 +1,11 @@
-//! The call of the program: the files are read, the source is judged and run, and the text is written at the end.
-ghost use Rattle.std.specs.Prelude.{◌≡◌, ◌⊎◌, ℕ, List, ◌++◌, None, map};
+//! The call of the program: the files are read or made, the source is judged and run, and the text is written at the end.
+ghost use Rattle.std.specs.Prelude.{◌≡◌, ◌⊎◌, ℕ, List, ◌++◌, Some, None, map};
 ghost use Rattle.ec_tool.specs.Asked.{HasRead};
 ghost use Rattle.ec_answers.specs.Lines.{usage_line};
 ghost use Rattle.ec_tool.specs.Promises.{EndsWith, HasReadFault, IsNoSource, IsNoInput, HasEnded, HasAccepted, IsRun, IsAccepted};
-ghost use Rattle.ec_tool.specs.Promises.{NoneRisen};
+ghost use Rattle.ec_tool.specs.Promises.{HasRun, NoneRisen};
 ghost use Rattle.ec_tool.specs.Verdict.{Came};
-ghost use Rattle.ec_inputs.specs.Words.{WordsOf};
+ghost use Rattle.ec_inputs.specs.Words.{WordsOf, Trial as ATrial};
 ghost use Rattle.ec_outside.specs.Fault.{HasRisen};
 
 use crate::call::call;
@@ -15,9 +15,9 @@ use ec_outside::sink::Sink;
 use ec_report::status::Status;
 use std::alloc::Global;
 
-/// The program: reads the files that the words name, runs the source that it finds there on the nodes or only judges it, and writes one
-/// text at the end. Every accepted source is run, by the machine code of one node of either kind; what a run leaves of its network stays in
-/// `net`. Nothing is written where there was no memory.
+/// The program: reads the files that the words name or makes those of a trial, runs the source that it has so on the nodes or only judges
+/// it, and writes one text at the end. Every accepted source is run, by the machine code of 1 to 64 nodes of either kind; what a run leaves
+/// of its network stays in `net`. Nothing is written where there was no memory.
 pub fn emerald<'a, F: Shelf, K: Sink>(
     alloc: Global,
     words: &'a [&'a str],
@@ -37,6 +37,15 @@ pub fn emerald<'a, F: Shelf, K: Sink>(
           net_after = net.new;
         })
         (K.taken sink.old) (K.taken sink.new) (K.faults sink.old) (K.faults sink.new) result }
+
+    // The headline: for every accepted source, set of nodes and schedule the bytes written are the report of the source's meaning on them,
+    // with its output, failures and placements, while all code between stops is its node's own machine code, run without a trap; the run
+    // ends early only where the budget is spent, a node is full, or want of memory is answered. So it is where the shelf and the sink tell
+    // what they hold and meet no fault.
+    ensures headline { F.tells shelf.old → K.tells sink.old → (accepted : IsAccepted (map (λ word. word.now) words.now) (F.content shelf.old)) →
+        IsRun accepted.asked → NoneRisen accepted.asked (F.faults shelf.old) (F.faults shelf.new) →
+        ¬ HasRisen (K.faults sink.old) (K.faults sink.new) →
+        HasRun accepted.asked accepted.held net.old net.new (K.taken sink.old) (K.taken sink.new) result ⊎ (result ≡ Status.NoMemory) }
 
     // Each status by itself: its cause, and the text that is written.
     ensures usage { result ≡ Status.Usage → (WordsOf (map (λ word. word.now) words.now) ≡ None) ×
@@ -59,13 +68,13 @@ pub fn emerald<'a, F: Shelf, K: Sink>(
     ensures no_memory { result ≡ Status.NoMemory →
         (K.taken sink.new ≡ K.taken sink.old) × (K.faults sink.new ≡ K.faults sink.old) }
 
-    // A run or a plain meaning without a failure ends so, and an accepted check does.
+    // A run, a plain meaning or a trial without a failure ends so, and an accepted check does.
     ensures finished { result ≡ Status.Finished →
         (text : List ℕ) × (read : HasRead (F.tells shelf.old) (map (λ word. word.now) words.now) (F.content shelf.old)) ×
         (HasEnded read.asked read.held net.old net.new Status.Finished text ⊎ HasAccepted read.asked read.held net.old net.new text) ×
         (K.tells sink.old → K.taken sink.new ≡ K.taken sink.old ++ text) }
 
-    // Only runs and plain meanings end so, and with a full node only runs.
+    // Only runs, plain meanings and trials end so, and with a full node no plain meaning.
     ensures some_failed { result ≡ Status.SomeFailed →
         (text : List ℕ) × (read : HasRead (F.tells shelf.old) (map (λ word. word.now) words.now) (F.content shelf.old)) ×
         HasEnded read.asked read.held net.old net.new Status.SomeFailed text ×
@@ -87,7 +96,13 @@ pub fn emerald<'a, F: Shelf, K: Sink>(
     ensures reads { (F.faults shelf.new ≡ F.faults shelf.old) ⊎
         ((result ≡ Status.ReadFault) ⊎ ((result ≡ Status.WriteFault) ⊎ (result ≡ Status.NoMemory))) }
 
-    // A command that accepts what its files hold comes to its end, where no file and no sink meets a fault and there is memory.
+    // A trial asks nothing of the shelf: what it holds and its counts stay as they are, and no read fails.
+    ensures trial { (number : ℕ) → WordsOf (map (λ word. word.now) words.now) ≡ Some (ATrial number) → shelf.new ≡ shelf.old }
+    ensures no_read { (number : ℕ) → WordsOf (map (λ word. word.now) words.now) ≡ Some (ATrial number) →
+        ¬ (result ≡ Status.ReadFault) }
+
+    // A command that accepts what its files hold, or the texts that it makes, comes to its end, where no file and no sink meets a fault and
+    // there is memory.
     ensures complete { F.tells shelf.old → (accepted : IsAccepted (map (λ word. word.now) words.now) (F.content shelf.old)) →
         NoneRisen accepted.asked (F.faults shelf.old) (F.faults shelf.new) →
         ¬ HasRisen (K.faults sink.old) (K.faults sink.new) →

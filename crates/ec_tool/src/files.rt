@@ -1,7 +1,7 @@
-//! The files of a call, each read whole.
+//! The files of a call, each read whole, and the texts of a trial in their place.
 ghost use Rattle.std.specs.Prelude.{◌≡◌, IfOk, IfErr, OnOk, IsSome};
-ghost use Rattle.ec_tool.specs.Asked.{file_limit, name_in, EachBefore, OthersStay};
-ghost use Rattle.ec_inputs.specs.Words.{run_in};
+ghost use Rattle.ec_tool.specs.Asked.{file_limit, name_in, AreMade, EachBefore, OthersStay};
+ghost use Rattle.ec_inputs.specs.Words.{run_in, Trial as ATrial};
 ghost use Rattle.ec_outside.specs.Fault.{HasRisen};
 ghost use Rattle.ec_outside.specs.Whole.{IsWhole};
 ghost use Rattle.ec_tool.specs.Reading.{AreAllRead, WhenFailed, held_in};
@@ -10,12 +10,13 @@ use ec_answers::file::FileOf;
 use ec_inputs::words::RunCommand;
 use ec_outside::shelf::Shelf;
 use ec_outside::whole::{ReadError, read_whole};
-use std::alloc::Global;
+use ec_trial::trial::trial;
+use std::alloc::{AllocError, Global};
 
 /// Files are read up to this many bytes.
 const FILE_LIMIT: usize = 1_048_577;
 
-/// What the three files hold.
+/// What the three files hold, or the texts of a trial.
 #[derive(Drop)]
 pub(crate) struct Files {
     pub source: Vec<u8>,
@@ -79,4 +80,16 @@ pub(crate) fn read_file<F: Shelf>(
         Err(ReadError::Failed) => Err(Unread::Failed(file)),
         Err(ReadError::Memory) => Err(Unread::Memory),
     }
+}
+
+/// Makes the three texts of a trial.
+pub(crate) fn make_files(alloc: Global, number: u32) -> Result<Files, AllocError>
+    ensures { IfOk result (λ files. AreMade (ATrial number) (held_in files)) }
+{
+    let made = trial(alloc, number)?;
+    Ok(Files {
+        source: made.source.into_vec(),
+        nodes: made.nodes.into_vec(),
+        schedule: made.schedule.into_vec(),
+    })
 }

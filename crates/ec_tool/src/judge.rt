@@ -1,32 +1,32 @@
-//! Files that were read are judged: the source, then the node file, then the schedule. What is taken comes to its end.
+//! Files that were read, or texts that were made, are judged: the source, then the node file, then the schedule. What is taken comes to its
+//! end.
 ghost use Rattle.std.specs.Prelude.{IfOk};
 ghost use Rattle.ec_tool.specs.Verdict.{Judged};
-ghost use Rattle.ec_inputs.specs.Words.{run_in, CheckWords, Check as ACheck};
+ghost use Rattle.ec_inputs.specs.Words.{CheckWords, CommandWords, Check as ACheck};
 ghost use Rattle.ec_native_run.specs.Runs.{Net as ANet};
 ghost use Rattle.ec_tool.specs.Reading.{held_in, only};
-ghost use Rattle.ec_tool.specs.Taking.{asked_of};
+ghost use Rattle.ec_tool.specs.Taking.{AsksFor};
 
 use crate::files::Files;
 use crate::take::{Work, come_to_end};
 use ec_answers::answers::{accepted, nodes_refused, schedule_refused, source_refused};
 use ec_inputs::nodes::{NodesError, read_nodes};
 use ec_inputs::schedule::{ScheduleError, read_schedule};
-use ec_inputs::words::RunCommand;
 use ec_native_run::network::Network;
 use ec_report::answer::Answer;
 use ec_sources::source::{SourceError, check_source, meant_source};
 use std::alloc::{AllocError, Global};
 
-/// Judges the files of a run or a plain meaning, and goes on to its end.
+/// Judges the files of a run or a plain meaning, or the texts of a trial, and goes on to its end within so many entries.
 pub(crate) fn judge(
     alloc: Global,
     work: Work,
-    run: RunCommand,
+    budget: u32,
     files: &Files,
     net: &mut Network,
 ) -> Result<Answer, AllocError>
-    ensures { IfOk result
-        (λ answer. Judged (asked_of work (run_in run.entry)) (held_in files.now) net.old net.new answer.status answer.text.items) }
+    ensures { IfOk result (λ answer. (asked : CommandWords) → AsksFor work budget asked →
+        Judged asked (held_in files.now) net.old net.new answer.status answer.text.items) }
 {
     let checked = match meant_source(alloc, &files.source) {
         Ok(checked) => checked,
@@ -46,7 +46,7 @@ pub(crate) fn judge(
             &files.source,
             &specs,
             &entries,
-            run.budget,
+            budget,
             net,
         ),
         Err(ScheduleError::Refused { rule, line }) => schedule_refused(alloc, rule, line),

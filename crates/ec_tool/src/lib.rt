@@ -1,5 +1,5 @@
-//! The whole program, from files to report: a call's files are read and judged, the source is run or its meaning worked out, and one text
-//! is written.
+//! The whole program, from files to report: a call's files are read, or the texts of a trial made, and judged, the source is run or its
+//! meaning worked out, and one text is written.
 #![tactic(auto)]
 
 mod call;

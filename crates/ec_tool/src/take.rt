@@ -2,7 +2,7 @@
 ghost use Rattle.std.specs.Prelude.{◌≡◌, IfOk};
 ghost use Rattle.ec_compile.specs.Texts.{IsOfText};
 ghost use Rattle.ec_meaning.specs.Sources.{source_of};
-ghost use Rattle.ec_native_run.specs.Runs.{IsOneNode, RunsTo};
+ghost use Rattle.ec_native_run.specs.Runs.{AreNodes, RunsTo};
 ghost use Rattle.ec_plain.specs.Plain.{IsPlainRun};
 ghost use Rattle.ec_sources.specs.Sources.{IsMeant};
 ghost use Rattle.ec_tool.specs.Taking.{WorkComesTo, source_in};
@@ -36,7 +36,7 @@ pub(crate) fn come_to_end(
     net: &mut Network,
 ) -> Result<Answer, AllocError>
     requires meant { IsMeant source.now (source_in source.now checked.now) }
-    requires nodes { IsOneNode specs.now }
+    requires nodes { AreNodes specs.now }
     ensures { IfOk result (λ answer. WorkComesTo work (source_in source.now checked.now) specs.now schedule.now budget net.old net.new
         answer.status answer.text.items) }
 {

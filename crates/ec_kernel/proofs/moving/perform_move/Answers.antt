@@ -1,33 +1,47 @@
--- A move in place is done, and of another one it is told why it isn't.
-use Rattle.std.proofs.Common.{ℕ, List, refl, subst}
-use Rattle.ec_cluster.proofs.Answered.{if_ok}
+-- The group that is asked for may go, and once it has gone, who asked goes on.
+use Rattle.ec_kernel.proofs.Asking.{may_gather}
+use Rattle.ec_kernel.proofs.Finding.{move_finds_full}
+use Rattle.ec_kernel.proofs.Gathered.{has_moved, move_can_settle, move_settles}
+use Rattle.ec_kernel.proofs.Told.{none_told, some_told}
 use Rattle.ec_kernel.proofs.moving.perform_move.Goals as goal
-use Rattle.ec_kernel.specs.Acts.{Apart, AreTogether}
+use Rattle.ec_system.specs.Steps.{world_done}
+use Rattle.ec_world.specs.declared.doing.Doing.TheVariants.{Moves}
 
-pub move_in_place-requires : goal.move_in_place-requires
-move_in_place-requires c = record {
+pub gather-requires : goal.gather-requires
+gather-requires c = record {
   declared = c.requires.0;
   world = c.requires.1.0;
-  members = c.args.members;
-  target = c.args.target;
-  asks = c.requires.1.1;
-  together = subst (λ (members : List ℕ). AreTogether c.args.system.now.cluster members c.args.target) c.as_slice.ensures
-      (c.are_together.ensures.together c.if-are_together.true);
+  may = may_gather c.requires.0 c.args.system.now c.requires.1.0 c.args.numbers.now c.args.who c.args.members.now c.args.target
+      c.args.fixes c.requires.1.1;
 }
 
-pub returns-then-are_together-clause-acted : goal.returns-then-are_together-clause-acted
-returns-then-are_together-clause-acted c = if_ok c.move_in_place.result
-    (λ acted told d w a. told d w c.args.members c.args.target a
-    (subst (λ (members : List ℕ). AreTogether c.args.system.now.cluster members c.args.target) c.as_slice.ensures
-    (c.are_together.ensures.together c.if-are_together.true))) c.move_in_place.ensures.acted
+pub settle-requires : goal.settle-requires
+settle-requires c =
+    let d = c.requires.0 in
+    let w = c.requires.1.0 in
+    let b = c.requires.1.1 in
+    move_can_settle d c.args.system.now w c.args.numbers.now c.args.who c.args.members.now c.args.target c.args.fixes b
+    c.gather.new.system
+    (none_told c.in-Ok-None.field-0 c.in-Ok-None.field-0-is c.in-Ok-None.ensures.done d w
+    (may_gather d c.args.system.now w c.args.numbers.now c.args.who c.args.members.now c.args.target c.args.fixes b))
 
-pub returns-else-are_together-clause-acted : goal.returns-else-are_together-clause-acted
-returns-else-are_together-clause-acted c = λ d w a. record {
-  same = refl;
-  process = refl;
-  below = a.below;
-  top = a.top;
-  asks = a.asks;
-  apart = subst (λ (members : List ℕ). Apart c.args.system.now.cluster members c.args.target) c.as_slice.ensures
-      (c.are_together.ensures.apart c.if-are_together.false);
-}
+pub returns-in-Ok-clause-acted : goal.returns-in-Ok-clause-acted
+returns-in-Ok-clause-acted c = λ d w b.
+    let gathers = none_told c.in-Ok-None.field-0 c.in-Ok-None.field-0-is c.in-Ok-None.ensures.done d w
+    (may_gather d c.args.system.now w c.args.numbers.now c.args.who c.args.members.now c.args.target c.args.fixes b) in
+    has_moved d c.args.system.now w c.args.numbers.now c.args.who c.args.members.now c.args.target c.args.fixes b c.gather.new.system
+    gathers c.settle.new.system
+    (c.in-Ok.ensures.settles d (world_done w c.args.who (Moves c.args.members.now c.args.target c.args.fixes)) b.below b.top
+    (move_settles d c.args.system.now w c.args.numbers.now c.args.who c.args.members.now c.args.target c.args.fixes b c.gather.new.system
+    gathers))
+    c.in-Ok.ensures.directory
+
+pub returns-in-Ok-Some-clause-refused : goal.returns-in-Ok-Some-clause-refused
+returns-in-Ok-Some-clause-refused c = λ d w b.
+    let full = some_told _ c.in-Ok-Some.field-0 c.in-Ok-Some.lack c.in-Ok-Some.field-0-is c.in-Ok-Some.ensures.full in
+    record {
+      same = full.0;
+      finds = move_finds_full d c.args.system.now w c.args.numbers.now c.args.who c.args.members.now c.args.target c.args.fixes b
+          c.in-Ok-Some.lack
+          (full.1 d w (may_gather d c.args.system.now w c.args.numbers.now c.args.who c.args.members.now c.args.target c.args.fixes b));
+    }

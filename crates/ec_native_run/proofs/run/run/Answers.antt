@@ -22,7 +22,7 @@ run_loaded-requires c =
     let specs = c.args.specs.now in
     let can = can_run p images specs c.in_ok-made.ensures.runnable c.requires.nodes in
     record {
-      loaded = first_follows p images specs c.args.schedule.now c.args.budget c.in-Ok.loaded c.requires.nodes.one can
+      loaded = first_follows p images specs c.args.schedule.now c.args.budget c.in-Ok.loaded c.requires.nodes can
           c.in-Ok.ensures.loaded;
     }
 

@@ -1,7 +1,7 @@
 use Rattle.std.proofs.Common.{◌≡◌, ◌∙◌, arith, refl}
 use Rattle.ec_meaning.specs.Sources.{source_of}
 use Rattle.ec_native_run.proofs.run.run_loaded.Goals as goal
-use Rattle.ec_native_run.specs.Following.{ForPlaced, IsReported}
+use Rattle.ec_native_run.specs.Following.{ForNodes, IsReported}
 use Rattle.ec_native_run.specs.Runs.{run_report}
 use Rattle.ec_nodes_running.specs.Networks.{ForStanding, counts_of}
 use Rattle.ec_report.proofs.Lifting.{if_ok_two}
@@ -13,7 +13,7 @@ pub answer_end-requires-clause-whole : goal.answer_end-requires-clause-whole
 answer_end-requires-clause-whole c = rw c.in_ok-ended.ensures.stands.is refl
 
 pub answer_end-requires-clause-few : goal.answer_end-requires-clause-few
-answer_end-requires-clause-few c = omega (arith, c.in_ok-ended.ensures.stands.come.one)
+answer_end-requires-clause-few c = omega (arith, c.in_ok-ended.ensures.stands.come.nodes.few)
 
 pub returns : goal.returns
 returns c =
@@ -26,7 +26,7 @@ returns c =
     let end = c.in_ok-ended.ended.end in
     let shows = f.come.shows in
     if_ok_two (λ (a : Answer). ForStanding net (λ d s w. a.status ≡ status_of (statuses_of w) end))
-    (λ (a : Answer). ForPlaced net specs (λ w. a.text.items ≡ run_report source w specs (counts_of net) done end))
+    (λ (a : Answer). ForNodes net specs (λ w. a.text.items ≡ run_report source w specs (counts_of net) done end))
     (λ (a : Answer). IsReported source specs c.args.schedule.now c.args.budget c.args.net.now net a.status a.text.items)
     c.answer_end.result c.answer_end.ensures.status c.answer_end.ensures.text
     (λ a status text.
@@ -35,5 +35,5 @@ returns c =
       how = end;
       ended = e;
       status_is = status f.come.declared f.now f.world f.is f.come.stands;
-      text_is = text f.come.declared f.now f.world f.is f.come.stands (shows.mirrors.nodes ∙ shows.sizes.nodes) shows.placed;
+      text_is = text f.come.declared f.now f.world f.is f.come.stands (shows.mirrors.nodes ∙ shows.sizes.nodes);
     })

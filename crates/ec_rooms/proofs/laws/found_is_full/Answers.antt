@@ -1,5 +1,5 @@
 -- What is told is so.
-use Rattle.ec_rooms.proofs.Acted.{found_full}
+use Rattle.ec_rooms.proofs.Full.{found_full}
 use Rattle.ec_rooms.specs.Runs.{PoolAfter}
 use Rattle.ec_rooms.proofs.laws.found_is_full.Goals as goal
 

@@ -44,6 +44,7 @@ returns-in-Ok g c =
       words_are = w;
       are_read =
           λ told. source_read content check source (c.in-Ok.ensures.read told);
+      are_made = tt;
     }) s t c.in-Ok.ensures.ok (j check net))
 
 pub returns-in-Err-Failed : goal.returns-in-Err-Failed

@@ -2,13 +2,14 @@ use Rattle.std.proofs.Common.{refl, ℕ, List}
 use Rattle.ec_answers.specs.Lines.{fault_line}
 use Rattle.ec_tool.specs.Verdict.{Judged, Verdict}
 use Rattle.ec_tool.specs.Verdict.Verdict.{ReadFailed, IsJudged}
-use Rattle.ec_inputs.specs.Words.{run_in}
+use Rattle.ec_inputs.specs.Words.{CommandWords, run_in}
 use Rattle.ec_report.proofs.Lifting.{said, implied}
 use Rattle.ec_report.specs.declared.status.Status.{Status}
 use Rattle.ec_report.specs.declared.status.Status.TheVariants as statuses
 use Rattle.ec_tool.specs.Reading.{WhereAsked, held_in}
-use Rattle.ec_tool.specs.Taking.{asked_of}
-use Rattle.ec_tool.proofs.Verdicts.{all_read, stops}
+use Rattle.ec_tool.specs.Taking.{AsksFor, asked_of}
+use Rattle.ec_tool.proofs.Taking.{asks_for}
+use Rattle.ec_tool.proofs.Verdicts.{all_read, none_made, stops}
 use Rattle.ec_tool.proofs.call.answer_on_nodes.Goals as goal
 
 pub returns-in-Ok : goal.returns-in-Ok
@@ -22,7 +23,7 @@ returns-in-Ok g c =
     let net = c.args.net.now in
     let net' = c.judge.new.net in
     let held = held_in c.in-Ok.files in
-    implied (λ (s : Status) (t : List ℕ). Judged asked held net net' s t)
+    implied (λ (s : Status) (t : List ℕ). (any : CommandWords) → AsksFor c.args.work words.budget any → Judged any held net net' s t)
     (λ (s : Status) (t : List ℕ). WhereAsked asked
     (λ ws. Verdict (g.F.Shelf.tells c.args.shelf.now)
     (record {
@@ -43,7 +44,8 @@ returns-in-Ok g c =
       words_are = w;
       are_read =
           λ told. all_read content c.args.work words held (c.in-Ok.ensures.read told);
-    }) s t c.in-Ok.ensures.ok j)
+      are_made = none_made c.args.work words held;
+    }) s t c.in-Ok.ensures.ok (j asked (asks_for c.args.work words)))
 
 pub returns-in-Err-Failed : goal.returns-in-Err-Failed
 returns-in-Err-Failed g c =

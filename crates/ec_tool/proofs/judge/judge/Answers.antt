@@ -1,49 +1,48 @@
 use Rattle.std.proofs.Common.{refl, ℕ, List}
 use Rattle.ec_tool.specs.Verdict.{Judged}
 use Rattle.ec_tool.specs.Verdict.Judged.{SourceRefused, NodesRefused, ScheduleRefused, IsEnded}
-use Rattle.ec_inputs.specs.Words.{run_in}
+use Rattle.ec_inputs.specs.Words.{CommandWords}
 use Rattle.ec_report.proofs.Lifting.{said, implied}
 use Rattle.ec_report.specs.declared.status.Status.{Status}
 use Rattle.ec_report.specs.declared.status.Status.TheVariants as statuses
 use Rattle.ec_sources.specs.Refusals.{nodes_line, schedule_line}
 use Rattle.ec_sources.specs.Sources.{refused_line}
 use Rattle.ec_tool.specs.Reading.{held_in}
-use Rattle.ec_tool.specs.Taking.{WorkComesTo, asked_of, source_in}
-use Rattle.ec_tool.proofs.Taking.{one_node_read, takes, comes_to}
+use Rattle.ec_tool.specs.Taking.{AsksFor, WorkComesTo, source_in}
+use Rattle.ec_tool.proofs.Taking.{nodes_read, takes, comes_to}
 use Rattle.ec_tool.proofs.judge.judge.Goals as goal
 
 pub returns-in-Err-Refused : goal.returns-in-Err-Refused
 returns-in-Err-Refused c =
     let f = c.args.files.now in
     let net = c.args.net.now in
-    let words = run_in c.args.run in
     let source = f.source.items in
     let refused = c.in-Err-Refused.refused in
     let why = rw c.deref.ensures.value at (rw c.in-Err-Refused.field-0-is at c.in-Err-Refused.ensures.refused) in
-    said (λ (s : Status) (t : List ℕ). Judged (asked_of c.args.work words) (held_in f) net net s t) statuses.SourceRefused
+    said (λ (s : Status) (t : List ℕ). (asked : CommandWords) → AsksFor c.args.work c.args.budget asked →
+    Judged asked (held_in f) net net s t) statuses.SourceRefused
     (refused_line source refused.refusal refused.at)
     c.source_refused.result
     (rw (c.deref-in-Err-Refused.ensures.value, c.in-Err-Refused.field-0-is) at c.source_refused.ensures)
-    (SourceRefused refused.refusal refused.at why refl)
+    (λ asked asks. SourceRefused refused.refusal refused.at why refl)
 
 pub returns-in-Err-Refused-read_nodes : goal.returns-in-Err-Refused-read_nodes
 returns-in-Err-Refused-read_nodes c =
     let f = c.args.files.now in
     let net = c.args.net.now in
-    let words = run_in c.args.run in
     let source = f.source.items in
     let rule = c.in-Err-Refused-read_nodes.rule in
     let taken = rw c.deref.ensures.value at c.in-Ok.ensures.meant in
     let broken = rw c.deref-2.ensures.value at (rw c.in-Err-Refused-read_nodes.field-0-is at c.in-Err-Refused-read_nodes.ensures.refused) in
-    said (λ (s : Status) (t : List ℕ). Judged (asked_of c.args.work words) (held_in f) net net s t) statuses.InputRefused (nodes_line rule)
+    said (λ (s : Status) (t : List ℕ). (asked : CommandWords) → AsksFor c.args.work c.args.budget asked →
+    Judged asked (held_in f) net net s t) statuses.InputRefused (nodes_line rule)
     c.nodes_refused.result (rw c.in-Err-Refused-read_nodes.field-0-is at c.nodes_refused.ensures)
-    (NodesRefused rule (takes c.args.work words source c.in-Ok.checked taken) broken refl)
+    (λ asked asks. NodesRefused rule (takes c.args.work c.args.budget asked asks source c.in-Ok.checked taken) broken refl)
 
 pub returns-in-Err-Refused-read_schedule : goal.returns-in-Err-Refused-read_schedule
 returns-in-Err-Refused-read_schedule c =
     let f = c.args.files.now in
     let net = c.args.net.now in
-    let words = run_in c.args.run in
     let source = f.source.items in
     let rule = c.in-Err-Refused-read_schedule.rule in
     let line = c.in-Err-Refused-read_schedule.line in
@@ -51,10 +50,12 @@ returns-in-Err-Refused-read_schedule c =
     let nodes_are = rw c.deref-2.ensures.value at c.in-Ok-read_nodes.ensures.nodes in
     let broken = rw c.deref-3.ensures.value at
     (rw c.in-Err-Refused-read_schedule.field-0-is at c.in-Err-Refused-read_schedule.ensures.refused) in
-    said (λ (s : Status) (t : List ℕ). Judged (asked_of c.args.work words) (held_in f) net net s t) statuses.InputRefused
+    said (λ (s : Status) (t : List ℕ). (asked : CommandWords) → AsksFor c.args.work c.args.budget asked →
+    Judged asked (held_in f) net net s t) statuses.InputRefused
     (schedule_line rule line)
     c.schedule_refused.result (rw c.in-Err-Refused-read_schedule.field-0-is at c.schedule_refused.ensures)
-    (ScheduleRefused c.in-Ok-read_nodes.specs.items rule line (takes c.args.work words source c.in-Ok.checked taken) nodes_are broken refl)
+    (λ asked asks. ScheduleRefused c.in-Ok-read_nodes.specs.items rule line
+    (takes c.args.work c.args.budget asked asks source c.in-Ok.checked taken) nodes_are broken refl)
 
 pub come_to_end-requires-clause-meant : goal.come_to_end-requires-clause-meant
 come_to_end-requires-clause-meant c = rw c.deref-in-Ok-read_schedule.ensures.value (rw c.deref.ensures.value at c.in-Ok.ensures.meant)
@@ -62,14 +63,13 @@ come_to_end-requires-clause-meant c = rw c.deref-in-Ok-read_schedule.ensures.val
 pub come_to_end-requires-clause-nodes : goal.come_to_end-requires-clause-nodes
 come_to_end-requires-clause-nodes c =
     let nodes_are = rw c.deref-2.ensures.value at c.in-Ok-read_nodes.ensures.nodes in
-    rw c.deref-in-Ok-read_schedule-2.ensures.value (one_node_read c.args.files.now.nodes.items c.in-Ok-read_nodes.specs.items nodes_are)
+    rw c.deref-in-Ok-read_schedule-2.ensures.value (nodes_read c.args.files.now.nodes.items c.in-Ok-read_nodes.specs.items nodes_are)
 
 pub returns-in-Ok-read_schedule : goal.returns-in-Ok-read_schedule
 returns-in-Ok-read_schedule c =
     let f = c.args.files.now in
     let net = c.args.net.now in
     let net' = c.come_to_end.new.net in
-    let words = run_in c.args.run in
     let source = f.source.items in
     let checked = c.in-Ok.checked in
     let specs = c.in-Ok-read_nodes.specs.items in
@@ -77,13 +77,13 @@ returns-in-Ok-read_schedule c =
     let taken = rw c.deref.ensures.value at c.in-Ok.ensures.meant in
     let nodes_are = rw c.deref-2.ensures.value at c.in-Ok-read_nodes.ensures.nodes in
     let entries_are = rw c.deref-3.ensures.value at c.in-Ok-read_schedule.ensures.entries in
-    implied (λ (s : Status) (t : List ℕ). WorkComesTo c.args.work (source_in source checked) specs entries c.args.run.budget net net' s t)
-    (λ (s : Status) (t : List ℕ). Judged (asked_of c.args.work words) (held_in f) net net' s t)
+    implied (λ (s : Status) (t : List ℕ). WorkComesTo c.args.work (source_in source checked) specs entries c.args.budget net net' s t)
+    (λ (s : Status) (t : List ℕ). (asked : CommandWords) → AsksFor c.args.work c.args.budget asked → Judged asked (held_in f) net net' s t)
     c.come_to_end.result
     (rw (
       c.deref-in-Ok-read_schedule.ensures.value,
       c.deref-in-Ok-read_schedule-2.ensures.value,
       c.deref-in-Ok-read_schedule-3.ensures.value,
     ) at c.come_to_end.ensures)
-    (λ s t h. IsEnded specs entries s t nodes_are entries_are
-    (comes_to c.args.work words source checked specs entries net net' s t taken h))
+    (λ s t h asked asks. IsEnded specs entries s t nodes_are entries_are
+    (comes_to source checked taken specs entries net net' s t c.args.work c.args.budget asked asks h))

@@ -14,10 +14,10 @@ run-requires-clause-accepted c =
     (is_of_text c.args.source.now c.args.checked.now (λ i. Fits-lt-pow (c.type_inv.source i)) c.requires.meant)
 
 pub run-requires-in-Mean-clause-some : goal.run-requires-in-Mean-clause-some
-run-requires-in-Mean-clause-some c = let one = c.requires.nodes in rw one.one (omega arith)
+run-requires-in-Mean-clause-some c = let some = c.requires.nodes.some in omega arith
 
 pub run-requires-in-Mean-clause-at_most : goal.run-requires-in-Mean-clause-at_most
-run-requires-in-Mean-clause-at_most c = let one = c.requires.nodes in rw one.one (omega arith)
+run-requires-in-Mean-clause-at_most c = c.requires.nodes.few
 
 pub returns-in-Run : goal.returns-in-Run
 returns-in-Run c = rw c.in-Run.is (rw (c.in_ok-program.ensures, c.into.ensures) at c.run.ensures)

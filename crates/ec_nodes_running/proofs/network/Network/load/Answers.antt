@@ -1,29 +1,38 @@
--- What is loaded stands in its first world.
-use Rattle.std.proofs.Common.{length, refl}
+-- What is loaded stands in its first world, and has the numbers of its classes.
+use Rattle.std.proofs.Common.{List, ap, length, refl, subst, sym, ◌∙◌}
+use Rattle.ec_class_numbers.specs.Vectors.{table_of}
+use Rattle.ec_loading.specs.Worlds.{world_first}
 use Rattle.ec_nodes_running.proofs.Loading.{stands_first}
 use Rattle.ec_nodes_running.proofs.network.Network.load.Goals as goal
-use Rattle.ec_loading.specs.Worlds.{world_first}
+use Rattle.ec_wire_limits.specs.Limits.{FewConditionsIn}
+use Rattle.ec_world.specs.declared.class.ClassRec.{ClassRec}
 
 pub load-requires : goal.load-requires
 load-requires c = c.requires.loads
 
-pub returns-in-Ok-clause-loaded : goal.returns-in-Ok-clause-loaded
-returns-in-Ok-clause-loaded c = record {
-  start = c.in-Ok.system;
-  is = refl;
-  loaded = c.in-Ok.ensures.loaded;
-  stands = λ d are code.
-      stands_first c.args.parts c.args.images c.args.specs.now c.in-Ok.system c.in-Ok.ensures.loaded d c.requires
-      (c.in-Ok.ensures.runs d are) code;
-}
+pub returns-in-Ok-load-clause-loaded : goal.returns-in-Ok-load-clause-loaded
+returns-in-Ok-load-clause-loaded c =
+    let conditions = subst (λ (classes : List ClassRec). FewConditionsIn classes) c.as_slice.ensures c.look_at_conditions.ensures in
+    record {
+      start = c.in-Ok-load.system;
+      is = refl;
+      loaded = c.in-Ok-load.ensures.loaded;
+      stands = λ d are code.
+          stands_first c.args.parts c.args.images c.args.specs.now c.in-Ok-load.system c.in-Ok-load.ensures.loaded d c.requires conditions
+          (c.in-Ok-load.ensures.runs d are) code;
+    }
 
 pub invariant_of-result : goal.invariant_of-result
 invariant_of-result c =
-    let d = c.requires.loads.declared in (
-      d,
+    let d = c.requires.loads.declared in
+    let conditions = subst (λ (classes : List ClassRec). FewConditionsIn classes) c.as_slice.ensures c.look_at_conditions.ensures in (
       (
-        world_first (length c.args.specs.now) c.args.parts,
-        stands_first c.args.parts c.args.images c.args.specs.now c.in-Ok.system c.in-Ok.ensures.loaded d c.requires
-            (c.in-Ok.ensures.runs d c.requires.loads.tables) c.requires.code,
+        d,
+        (
+          world_first (length c.args.specs.now) c.args.parts,
+          stands_first c.args.parts c.args.images c.args.specs.now c.in-Ok-load.system c.in-Ok-load.ensures.loaded d c.requires conditions
+              (c.in-Ok-load.ensures.runs d c.requires.loads.tables) c.requires.code,
+        ),
       ),
+      c.in-Ok.ensures ∙ ap table_of (sym c.in-Ok-load.ensures.loaded.parts),
     )

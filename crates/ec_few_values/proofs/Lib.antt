@@ -1,0 +1,11 @@
+pub mod Uses
+pub mod Stops
+pub mod Values
+pub mod Forms
+pub mod Expressions
+pub mod Exits
+pub mod Statements
+pub mod Live
+pub mod Operations
+pub mod Entries
+pub mod Whole

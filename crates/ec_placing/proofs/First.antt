@@ -1,0 +1,11 @@
+-- What has just been loaded is where the first world has it.
+use Rattle.std.proofs.Common.{length, ◌∙◌}
+use Rattle.ec_forward.proofs.Noting.{first_are_at}
+use Rattle.ec_placing.proofs.Worlds.{first_placed}
+use Rattle.ec_placing.specs.Laws.{FirstArePlaced}
+
+pub first_are_placed : FirstArePlaced
+first_are_placed p images specs s loaded = record {
+  each = first_placed (length specs) p;
+  placed = λ oid. loaded.directory.places oid ∙ (first_are_at (length specs)).each oid;
+}

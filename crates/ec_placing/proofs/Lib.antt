@@ -1,0 +1,10 @@
+pub mod Counting
+pub mod Staying
+pub mod Stepping
+pub mod Worlds
+pub mod First
+pub mod Making
+pub mod Doing
+pub mod Settling
+pub mod Moving
+pub mod Refusing
