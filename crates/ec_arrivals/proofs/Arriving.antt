@@ -55,7 +55,7 @@ pub record Made (s m : Store) (process depth : ℕ) (h : Headings) (table : Oper
 
 module _ (s m s' : Store) (process depth : ℕ) (h : Headings) (table : OperationTable) (e : StopEntry) (values : List Value)
     (words frame : List ℕ) (made : Made s m process depth h table (carried e h.pending) values words frame)
-    (placed : PlacedFrame m s' process depth frame) (none : s.row (Frame process depth) ≡ None) where
+    (placed : PlacedFrame m s' process depth h.own frame) (none : s.row (Frame process depth) ≡ None) where
   module _ (d : Declared) (p : Parts) (homes : Kind → List (List Home)) (tables : List OperationTable) (a : CodeActivation)
       (by : HasTables d p s.kind homes tables) (its : slice_get tables h.operation ≡ Some table) (goes : IsCarried p a e)
       (its_heads : AreHeadings p a h) (are : values ≡ values_carried p a e h.pending) where
@@ -157,8 +157,8 @@ module _ (s m s' : Store) (process depth : ℕ) (h : Headings) (table : Operatio
     arrived_puts : Puts s s' (Frame process depth) (Some t)
     arrived_puts =
         puts_after s m s' (Frame process depth) t made.has.only
-        (placed_puts m s' (Frame process depth) (frame_row placed.block) frame t placed.placed
-        (made.has.only.rows (Frame process depth) ∙ none) refl refl refl refl refl heads given)
+        (placed_puts m s' (Frame process depth) (frame_row h.own placed.block) frame t placed.placed
+        (made.has.only.rows (Frame process depth) ∙ none) its_heads.own refl refl refl refl refl heads given)
 
   pub frame_arrives : Arrives s s' table e process depth h values
   frame_arrives d p homes tables a by its goes its_heads are = arrived_puts d p homes tables a by its goes its_heads are

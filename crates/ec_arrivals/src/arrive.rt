@@ -59,7 +59,7 @@ pub fn arrive(
         words[0],
     ];
     let frame = filled(alloc, table, held, words, &heads)?;
-    node.begin(process, depth, frame.as_slice())
+    node.begin(process, depth, headings.own, frame.as_slice())
 }
 
 /// The heading that says whether the action is pending.

@@ -4,3 +4,4 @@ pub mod Acting
 pub mod Creating
 pub mod Defining
 pub mod Answered
+pub mod Before

@@ -16,7 +16,8 @@ use Rattle.ec_doings.specs.Doings.{BringsNothing, OneMore, Places, SamePlaces}
 use Rattle.ec_fitting.specs.Room.{RoomToBegin, RoomToSettle, RoomToTake}
 use Rattle.ec_forward.specs.Directory.{place_at}
 use Rattle.ec_fullness.specs.Room.{HasRoomBelow, HasRoomToMake, RoomFor}
-use Rattle.ec_kernel.proofs.Nodes.{before, free_there, room_in_there, same_texts}
+use Rattle.ec_cluster.proofs.Before.{before}
+use Rattle.ec_kernel.proofs.Nodes.{free_there, room_in_there, same_texts}
 use Rattle.ec_kernel.proofs.Rooms.{texts_fit_there}
 use Rattle.ec_monitors.specs.Monitors.{Granting, entered, left, signalled, waited}
 use Rattle.ec_monitors.specs.declared.record.Entry.{Entry as Within}

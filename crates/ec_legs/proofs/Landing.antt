@@ -265,6 +265,7 @@ module _ {S : Type 0} (M : MachineMeaning S) (code : Code) (table : StopTable) (
       row = frame_row;
       there = row_is (Frame process depth) ∙ shows.frame.there;
       spells = record {
+        home = shows.frame.spells.home;
         counted = shows.frame.spells.counted;
         size = shows.frame.spells.size;
         class = shows.frame.spells.class;
@@ -300,6 +301,7 @@ module _ {S : Type 0} (M : MachineMeaning S) (code : Code) (table : StopTable) (
             row = own_row;
             there = row_is (Object a.own) ∙ shows.object.there;
             spells = record {
+              home = shows.object.spells.home;
               counted = shows.object.spells.counted
                   ∙ sym (ap (λ (k : ClassNo). class_blocks k (length h.object.fields)) h.class ∙ ap (class_blocks o.class) h.size);
               size = shows.object.spells.size ∙ sym h.size;

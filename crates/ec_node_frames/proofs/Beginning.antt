@@ -89,7 +89,7 @@ module _ (s m s' : Store) (process depth operation own : ℕ) (arguments : List 
     (word : ℕ) (first : slice_get words 0 ≡ Some word) (has : HasWords s m (first_values table own arguments) words)
     (filled : IsFilled table (first_held table) words (process ∷ depth ∷ operation ∷ 0 ∷ 1 ∷ own ∷ word ∷ []) frame
     (length (first_held table)))
-    (placed : PlacedFrame m s' process depth frame) (none : s.row (Frame process depth) ≡ None) (entry : HasEntry table) where
+    (placed : PlacedFrame m s' process depth own frame) (none : s.row (Frame process depth) ≡ None) (entry : HasEntry table) where
   module _ (d : Declared) (p : Parts) (homes : Kind → List (List Home)) (tables : List OperationTable)
       (by : HasTables d p s.kind homes tables) (its : slice_get tables operation ≡ Some table) where
     abbrev a : CodeActivation
@@ -179,8 +179,8 @@ module _ (s m s' : Store) (process depth operation own : ℕ) (arguments : List 
     begun_puts : Puts s s' (Frame process depth) (Some t)
     begun_puts =
         puts_after s m s' (Frame process depth) t has.only
-        (placed_puts m s' (Frame process depth) (frame_row placed.block) frame t placed.placed (has.only.rows (Frame process depth) ∙ none)
-        refl refl refl refl refl heads given)
+        (placed_puts m s' (Frame process depth) (frame_row own placed.block) frame t placed.placed (has.only.rows (Frame process depth) ∙ none)
+        refl refl refl refl refl refl heads given)
 
   pub frame_begins : BeginsFrame s s' table process depth operation own arguments
   frame_begins d p homes tables by its = begun_puts d p homes tables by its

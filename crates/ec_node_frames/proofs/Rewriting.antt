@@ -134,6 +134,7 @@ module _ (s s' : Store) (process depth : ℕ) (p : Parts) (homes : Kind → List
         row = shown.row;
         there = re.rows (Frame process depth) ∙ shown.there;
         spells = record {
+          home = shown.spells.home ∙ sym done.own;
           counted = shown.spells.counted;
           size = shown.spells.size;
           class = shown.spells.class;

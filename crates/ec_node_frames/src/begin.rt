@@ -49,7 +49,7 @@ pub fn begin_frame(
     let words = made.as_slice();
     let heads = [process, depth, operation, 0, 1, own, words[0]];
     let frame = filled(alloc, table, held, words, &heads)?;
-    node.begin(process, depth, frame.as_slice())
+    node.begin(process, depth, own, frame.as_slice())
 }
 
 /// The variables that hold something at the entry.

@@ -13,7 +13,7 @@ use Rattle.ec_going.proofs.Keeping.{code_kept, literals_kept, runs_kept}
 use Rattle.ec_going.specs.Going.{GoesIn, HasLiterals, IsDoneTop, IsFew, Ran, RanNatively}
 use Rattle.ec_idle.proofs.Worlds.{go_on_idle}
 use Rattle.ec_idle.specs.Idle.{OfClasses}
-use Rattle.ec_kernel.proofs.Nodes.{before}
+use Rattle.ec_cluster.proofs.Before.{before}
 use Rattle.ec_kernel.specs.Acts.{HasActed}
 use Rattle.ec_node_frames.specs.declared.frames.Headings.{Headings}
 use Rattle.ec_nodes_running.specs.Running.{TopTold, WentOn, gone_on}

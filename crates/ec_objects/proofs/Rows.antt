@@ -37,7 +37,7 @@ module _ (s s' : Store) (oid : ℕ) (now : Owned → Owned) (sets : SetsRow s s'
       by None = refl
       by (Some c) = sets.words c (i % 128)
 
-  module _ (blocks : (now shown.row).blocks ≡ shown.row.blocks) (size : (now shown.row).size ≡ shown.row.size)
+  module _ (home : (now shown.row).home ≡ shown.row.home) (blocks : (now shown.row).blocks ≡ shown.row.blocks) (size : (now shown.row).size ≡ shown.row.size)
       (class : (now shown.row).class ≡ shown.row.class) (fixed : (now shown.row).fixed ≡ o'.fixed)
       (monitor : (now shown.row).monitor ≡ o'.monitor) (fields : o'.fields ≡ o.fields) (same : o'.class ≡ o.class) where
     each : (i : ℕ) (v : Value) → slice_get o.fields i ≡ Some v → (at : ℕ) × (Some i ≡ Some at) × StandsAt s' (now shown.row).blocks at v
@@ -54,6 +54,7 @@ module _ (s s' : Store) (oid : ℕ) (now : Owned → Owned) (sets : SetsRow s s'
 
     spells : Spells s' (now shown.row) (object_thing oid o')
     spells = record {
+      home = home ∙ shown.spells.home;
       counted = ap (λ (bs : List ℕ). length bs) blocks ∙ shown.spells.counted ∙ counted_same;
       size = size ∙ shown.spells.size ∙ ap (λ (fs : List Value). length fs) (sym fields);
       class = class ∙ shown.spells.class ∙ ap Some (sym same);
@@ -84,13 +85,13 @@ module _ (s s' : Store) (oid : ℕ) (now : Owned → Owned) (sets : SetsRow s s'
 pub flag_put : (s s' : Store) (oid : ℕ) (fixed : Bool) → SetsRow s s' (Object oid) (with_fixed fixed) → Tidy s' → (o : ObjectRec) →
     Shown s (Object oid) (object_thing oid o) → Puts s s' (Object oid) (Some (object_thing oid (record o { fixed = fixed })))
 flag_put s s' oid fixed sets tidy o shown = row_put s s' oid (with_fixed fixed) sets tidy o (record o { fixed = fixed }) shown
-    refl refl refl refl shown.spells.monitor refl refl
+    refl refl refl refl refl shown.spells.monitor refl refl
 
 pub monitor_put : (s s' : Store) (oid : ℕ) (m : Option MonitorRec) → SetsRow s s' (Object oid) (with_monitor m) → Tidy s' →
     (o : ObjectRec) → Shown s (Object oid) (object_thing oid o) →
     Puts s s' (Object oid) (Some (object_thing oid (record o { monitor = m })))
 monitor_put s s' oid m sets tidy o shown = row_put s s' oid (with_monitor m) sets tidy o (record o { monitor = m }) shown
-    refl refl refl shown.spells.fixed refl refl refl
+    refl refl refl refl shown.spells.fixed refl refl refl
 
 -- an act on the monitor of an object
 pub acts_on : {A : Type 0} (s s' : Store) (oid : ℕ) (act : MonitorRec → MonitorRec × A) (answer : A) →

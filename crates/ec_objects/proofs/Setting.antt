@@ -111,6 +111,7 @@ module _ (s m s' : Store) (oid field w : ℕ) (v : Value) (has : HasWord s m v w
         row = shown.row;
         there = row_now;
         spells = record {
+          home = shown.spells.home;
           counted = counted;
           size = shown.spells.size ∙ sym long;
           class = shown.spells.class;

@@ -1,5 +1,5 @@
 -- What goes of activations on members of a group.
-use Rattle.std.proofs.Common.{◌≡◌, ◌<◌, ◌≤◌, ◌+◌, ◌^◌, ◌&&◌, ◌⊎◌, ℕ, zero, suc, Bool, true, false, List, [], ◌∷◌, ◌++◌, length, map, Option, Some, None}
+use Rattle.std.proofs.Common.{◌≡◌, ◌<◌, ◌≤◌, ◌&&◌, ℕ, zero, suc, Bool, true, false, List, [], ◌∷◌, length, map, Option, Some, None}
 use Rattle.std.proofs.Common.{refl, sym, ap, ◌∙◌, subst, arith, inl, inr, ⊎_elim}
 use Rattle.std.proofs.lemmas.List.{length-map}
 use Rattle.std.proofs.lemmas.Option.{same_Some}
@@ -8,7 +8,7 @@ use Rattle.ec_activations.specs.Frames.{Held, Numbered, held_in, stop_of, value_
 use Rattle.ec_arrivals.specs.Carried.{carried, values_carried}
 use Rattle.ec_base.proofs.Lists.{get_within}
 use Rattle.ec_cluster.proofs.Putting.{shown_there}
-use Rattle.ec_cluster.specs.Cluster.{CodeWorld, frame_of, place, stores}
+use Rattle.ec_cluster.specs.Cluster.{CodeWorld, frame_of}
 use Rattle.ec_cluster.specs.declared.cluster.Cluster.{Cluster}
 use Rattle.ec_code.specs.Typing.{Declared}
 use Rattle.ec_code.specs.declared.activation.CodeActivation.{CodeActivation}
@@ -18,8 +18,8 @@ use Rattle.ec_mover.specs.Classes.{ClassTable}
 use Rattle.ec_nodes.specs.Things.{activation_at}
 use Rattle.ec_nodes.specs.declared.key.Key.TheVariants.{Frame}
 use Rattle.ec_packing.proofs.Carrying.{IsGood, Knows, can_go, carried_good, entry_of, rests_of}
-use Rattle.ec_packing.proofs.Counting.{few_items, got}
-use Rattle.ec_packing.proofs.Frames.{IsOf, is_of, knows, ranged}
+use Rattle.ec_packing.proofs.Counting.{few_items}
+use Rattle.ec_packing.proofs.Frames.{is_of, knows, ranged}
 use Rattle.ec_packing.proofs.Joining.{has_up_to, up_to_has}
 use Rattle.ec_packing.proofs.Members.{here_is, is_here_it}
 use Rattle.ec_packing.proofs.ObjectParts.{has_if, sorted_if, sorted_one}
@@ -43,7 +43,6 @@ use Rattle.ec_world.proofs.Members.{has_first, has_none, has_one}
 use Rattle.ec_world.specs.Group.{Has, is_in}
 use Rattle.ec_world.specs.declared.class.ClassNo.{ClassNo}
 use Rattle.ec_world.specs.declared.object.ObjectRec.{ObjectRec}
-use Rattle.ec_world.specs.declared.process.Proc.{Proc}
 use Rattle.ec_world.specs.declared.value.Value.{Value}
 
 -- ---- where a part is from

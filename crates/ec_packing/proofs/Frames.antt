@@ -1,5 +1,5 @@
 -- Activations at the node from which a group goes.
-use Rattle.std.proofs.Common.{◌≡◌, ◌&&◌, ℕ, zero, suc, Bool, true, false, List, [], ◌∷◌, length, map, Option, Some, None, refl, sym, ap, ◌∙◌}
+use Rattle.std.proofs.Common.{◌≡◌, ◌&&◌, ℕ, true, List, [], ◌∷◌, length, Option, Some, None, refl, sym, ap, ◌∙◌}
 use Rattle.std.proofs.Common.{subst}
 use Rattle.std.proofs.lemmas.List.{length-map}
 use Rattle.std.proofs.lemmas.Option.{same_Some}
@@ -20,8 +20,8 @@ use Rattle.ec_node_frames.specs.Frames.{IsFrame}
 use Rattle.ec_nodes.specs.Things.{activation_at, in_process}
 use Rattle.ec_nodes.specs.declared.key.Key.TheVariants.{Frame}
 use Rattle.ec_packing.proofs.Carrying.{Knows, can_go, carried_good, entry_of, known, rests_of}
-use Rattle.ec_packing.proofs.Members.{is_here_it, here_is}
-use Rattle.ec_packing.specs.Packing.{CanGo, activation_goes, activation_if, at_stop, depths_if, is_here}
+use Rattle.ec_packing.proofs.Members.{is_here_it}
+use Rattle.ec_packing.specs.Packing.{CanGo, activation_goes, activation_if, at_stop}
 use Rattle.ec_ranges.specs.Worlds.{RangedActivation, RangedProc}
 use Rattle.ec_resting.proofs.Entries.{rests_at_an_entry}
 use Rattle.ec_sound.proofs.Carried.{each_get}
@@ -30,7 +30,6 @@ use Rattle.ec_stop_tables.specs.declared.table.OperationTable.{OperationTable}
 use Rattle.ec_stop_tables.specs.declared.table.StopEntry.{StopEntry}
 use Rattle.ec_stores.specs.Node.{NodeData, store_of}
 use Rattle.ec_system.specs.Systems.{row_of}
-use Rattle.ec_system.specs.declared.system.ProcessRow.{ProcessRow}
 use Rattle.ec_system.specs.declared.system.System.{System}
 use Rattle.ec_things.specs.Things.{Shown, Thing, frame_if}
 use Rattle.ec_world.specs.Group.{is_in}
@@ -76,26 +75,6 @@ module _ (d : Declared) (s : System) (w : CodeWorld) (table : ClassTable) (membe
   module _ (p depth : ℕ) (n : NodeData) (is : slice_get c.nodes from ≡ Some n) where
     stands : stores c from ≡ Some (store_of n)
     stands = ap (option_map store_of) is
-
-    -- where no frame is there, nothing goes
-    pub absent : (store_of n).row (Frame p depth) ≡ None → activation_goes c w members from p depth ≡ []
-    absent none = by (activation_at w.processes p depth) refl
-      where
-        elsewhere : (a : CodeActivation) → activation_at w.processes p depth ≡ Some a → (b : Bool) → is_here c from a.own ≡ b →
-            (if b && is_in a.own members then at_stop c w members from p depth a (stop_of c.parts a) else []) ≡ []
-        elsewhere a e true h =
-            let shown : Shown (store_of n) (Frame p depth) (frame_of c p depth a) =
-            shown_there c w from (store_of n) (Frame p depth) (frame_of c p depth a) can.runs.mirrors.shows
-            (ap (frame_if (frame_of c) p depth) e) (here_is c from a.own h) stands in
-            let both : None ≡ Some shown.row = sym none ∙ shown.there in
-            absurd cc
-        elsewhere a e false h = refl
-
-        by : (x : Option CodeActivation) → activation_at w.processes p depth ≡ x → activation_if c w members from p depth x ≡ []
-        by None e = refl
-        by (Some a) e =
-            ap (λ b. if b && is_in a.own members then at_stop c w members from p depth a (stop_of c.parts a) else []) refl
-            ∙ elsewhere a e (is_here c from a.own) refl
 
     module _ (row : IsSome ((store_of n).row (Frame p depth))) where
       pub frame : IsFrame (store_of n) p depth
@@ -150,11 +129,6 @@ module _ (d : Declared) (s : System) (w : CodeWorld) (table : ClassTable) (membe
           ∙ ap (λ b. if b && is_in activation.own members then at_stop c w members from p depth activation (stop_of c.parts activation)
           else []) (is_here_it c from activation.own there.1.at)
 
-      -- on another object it brings nothing
-      pub other : is_in activation.own members ≡ false → activation_goes c w members from p depth ≡ []
-      other e = its_goes
-          ∙ ap (λ b. if b then at_stop c w members from p depth activation (stop_of c.parts activation) else []) e
-
       pub part_is : is_in activation.own members ≡ true →
           activation_goes c w members from p depth ≡ activation_part_of p depth c.parts activation entry ∷ []
       part_is e = its_goes
@@ -162,20 +136,7 @@ module _ (d : Declared) (s : System) (w : CodeWorld) (table : ClassTable) (membe
           ∙ ap (at_stop c w members from p depth activation)
           (rests_at_an_entry d c.parts w.common.objects activation (rests_of d c.parts w.common.objects activation its)).1
 
-  -- ---- how many activations a process has
-
-  got : {A B : Type 0} (f : A → B) (xs : List A) (i : ℕ) (y : B) → slice_get (map f xs) i ≡ Some y →
-      (x : A) × ((slice_get xs i ≡ Some x) × (f x ≡ y))
-  got f [] i y e = absurd cc
-  got f (x ∷ xs) zero y e = (x, (refl, same_Some (f x) y e))
-  got f (x ∷ xs) (suc i) y e = got f xs i y e
-
-  -- as its row says
-  pub depths_are : (p : ℕ) (row : ProcessRow) → slice_get s.processes p ≡ Some row →
-      row.activations ≡ depths_if (slice_get w.processes p)
-  depths_are p row e =
-      let x = got row_of w.processes p row (ap (λ (rows : List ProcessRow). slice_get rows p) (sym can.runs.mirrors.rows) ∙ e) in
-      ap (λ (r : ProcessRow). r.activations) (sym x.1.1) ∙ ap depths_if (sym x.1.0)
+  -- ---- how many processes there are
 
   pub processes_are : length s.processes ≡ length w.processes
   processes_are = ap length can.runs.mirrors.rows ∙ length-map w.processes row_of

@@ -1,16 +1,22 @@
 -- Lists joined end to end, one after another.
-use Rattle.std.proofs.Common.{◌≡◌, ◌≢◌, ◌≤◌, ◌<◌, ℕ, zero, suc, ◌+◌, List, [], ◌∷◌, ◌++◌, take, Some, refl, sym, ap, ◌∙◌, subst, arith, append_assoc, inl, inr, ⊎_elim}
-use Rattle.std.proofs.Common.{add-one, get_or}
+use Rattle.std.proofs.Common.{◌≡◌, ◌≢◌, ◌≤◌, ◌<◌, ℕ, zero, suc, ◌+◌, List, [], ◌∷◌, ◌++◌, take, Some, refl, sym, ap, ◌∙◌, subst, arith, ⊎_elim}
+use Rattle.std.proofs.Common.{get_or}
 use Rattle.std.proofs.lemmas.List.{append-nil}
 use Rattle.std.proofs.lemmas.List.Concat.{flat_map-append}
 use Rattle.std.proofs.lemmas.Option.{slice_get-get_or}
 use Rattle.std.specs.List.{flat_map}
-use Rattle.std.specs.Prelude.{◌⊎◌, length, slice_get}
-use Rattle.ec_base.proofs.Lists.{get_within, take_next}
+use Rattle.std.specs.Prelude.{length, slice_get}
+use Rattle.ec_base.proofs.Lists.{take_next}
 use Rattle.ec_packing.specs.Packing.{up_to}
 use Rattle.ec_world.proofs.Members.{has_back, has_either, has_first, has_front, has_later, has_none, has_parts}
 use Rattle.ec_things.proofs.Put.{same_or_not}
 use Rattle.ec_world.specs.Group.{Has}
+
+pub take_all : {A : Type 0} (xs : List A) (n : ℕ) → length xs ≤ n → take n xs ≡ xs
+take_all [] zero h = refl
+take_all [] (suc n) h = refl
+take_all (x ∷ xs) zero h = absurd (omega arith)
+take_all {A} (x ∷ xs) (suc n) h = ap (λ (ys : List A). x ∷ ys) (take_all xs n (omega arith))
 
 module _ {A B : Type 0} (f : A → List B) where
   -- what comes of one item more
@@ -29,12 +35,6 @@ module _ {A B : Type 0} (f : A → List B) where
   pub none_joined : (xs : List A) (i : ℕ) (x : A) (old : List B) → slice_get xs i ≡ Some x → old ≡ flat_map f (take i xs) → f x ≡ [] →
       old ≡ flat_map f (take (i + 1) xs)
   none_joined xs i x old e so none = more_joined xs i x old old [] e so none (sym (append-nil old))
-
-  take_all : (xs : List A) (n : ℕ) → length xs ≤ n → take n xs ≡ xs
-  take_all [] zero h = refl
-  take_all [] (suc n) h = refl
-  take_all (x ∷ xs) zero h = absurd (omega arith)
-  take_all (x ∷ xs) (suc n) h = ap (λ (ys : List A). x ∷ ys) (take_all xs n (omega arith))
 
   pub all_joined : (xs : List A) (n : ℕ) → length xs ≤ n → flat_map f (take n xs) ≡ flat_map f xs
   all_joined xs n h = ap (flat_map f) (take_all xs n h)
@@ -71,21 +71,11 @@ module _ {A : Type 0} (f : ℕ → List A) where
       (λ (g : Has (f n) y). (n, (omega arith, g)))
       (has_either y (up_to f n) (f n) h)
 
-module _ {A : Type 0} (f : ℕ → List A) where
-  -- one number more
-  pub more_up_to : (n : ℕ) (front old new more : List A) → old ≡ front ++ up_to f n → f n ≡ more → new ≡ old ++ more →
-      new ≡ front ++ up_to f (n + 1)
-  more_up_to n front old new more so comes is =
-      is ∙ ap (λ (xs : List A). xs ++ more) so ∙ append_assoc front (up_to f n) more
-      ∙ ap (λ (xs : List A). front ++ (up_to f n ++ xs)) (sym comes) ∙ ap (λ m. front ++ up_to f m) (sym (add-one n))
-
-  pub none_up_to : (n : ℕ) (front old : List A) → old ≡ front ++ up_to f n → f n ≡ [] → old ≡ front ++ up_to f (n + 1)
-  none_up_to n front old so none = more_up_to n front old old [] so none (sym (append-nil old))
-
-  pub one_up_to : (n : ℕ) (old new : List A) → old ≡ up_to f n → new ≡ old ++ f n → new ≡ up_to f (n + 1)
-  one_up_to n old new so is = is ∙ ap (λ (xs : List A). xs ++ f n) so ∙ ap (up_to f) (sym (add-one n))
-
 -- ---- a number of a list, as it is read
+
+-- an item of a list, as it is read
+pub item_has : {A : Type 0} (xs : List A) (i : ℕ) (x : A) → x ≡ get_or xs i x → i < length xs → slice_get xs i ≡ Some x
+item_has xs i x is l = slice_get-get_or xs i x l ∙ ap Some (sym is)
 
 pub read_has : (xs : List ℕ) (i : ℕ) → i < length xs → slice_get xs i ≡ Some (get_or xs i 0)
 read_has xs i h = slice_get-get_or xs i 0 h

@@ -12,3 +12,4 @@ pub mod Rules
 pub mod ObjectParts
 pub mod ActivationParts
 pub mod Whole
+pub mod Standing

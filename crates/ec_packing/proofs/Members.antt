@@ -1,12 +1,11 @@
 -- Members of a group at the node from which they go.
-use Rattle.std.proofs.Common.{◌≡◌, ◌<◌, ◌==◌, ℕ, zero, suc, Bool, true, false, List, [], ◌∷◌, ◌++◌, length, Option, Some, None, refl, sym, ap, ◌∙◌, subst}
+use Rattle.std.proofs.Common.{◌≡◌, ◌==◌, ℕ, zero, suc, true, false, List, [], ◌∷◌, length, Option, Some, None, refl, ap, ◌∙◌}
 use Rattle.std.proofs.Common.{arith, eqb-true}
-use Rattle.std.proofs.lemmas.Option.{same_Some}
 use Rattle.std.specs.Prelude.{IsSome, if◌then◌else◌, option_map, option_to_list, slice_get}
 use Rattle.ec_asking.proofs.Programs.{bare_shown, runs_program}
 use Rattle.ec_base.proofs.Lists.{get_there, get_within}
 use Rattle.ec_cluster.proofs.Putting.{shown_there}
-use Rattle.ec_cluster.specs.Cluster.{CodeWorld, frame_of, place, stores}
+use Rattle.ec_cluster.specs.Cluster.{CodeWorld, place}
 use Rattle.ec_cluster.specs.declared.cluster.Cluster.{Cluster}
 use Rattle.ec_code.specs.Typing.{Declared}
 use Rattle.ec_forward.specs.Directory.{place_at}
@@ -19,8 +18,6 @@ use Rattle.ec_parcels.specs.Parcels.{ObjectGoes}
 use Rattle.ec_stores.specs.Node.{NodeData, store_of}
 use Rattle.ec_system.specs.declared.system.System.{System}
 use Rattle.ec_things.specs.Things.{Shown, object_if as thing_if, object_thing}
-use Rattle.ec_wire.specs.declared.parcel.MonitorPart.{MonitorPart}
-use Rattle.ec_wire.specs.declared.parcel.ObjectPart.{ObjectPart}
 use Rattle.ec_world.specs.Group.{Has}
 use Rattle.ec_world.specs.Objects.{object_at}
 use Rattle.ec_world.specs.declared.object.ObjectRec.{ObjectRec}

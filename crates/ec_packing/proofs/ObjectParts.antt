@@ -1,13 +1,13 @@
 -- What goes of members of a group, and of their monitors.
-use Rattle.std.proofs.Common.{◌≡◌, ◌<◌, ◌≤◌, ◌+◌, ◌^◌, ℕ, zero, suc, Bool, true, false, List, [], ◌∷◌, ◌++◌, length, map, Option, Some, None}
+use Rattle.std.proofs.Common.{◌≡◌, ◌<◌, ◌≤◌, ◌^◌, ℕ, zero, suc, Bool, true, false, List, [], ◌∷◌, ◌++◌, length, Option, Some, None}
 use Rattle.std.proofs.Common.{refl, sym, ap, ◌∙◌, subst, arith, ⊎_elim}
 use Rattle.std.proofs.lemmas.List.{length-append, length-map}
 use Rattle.std.proofs.lemmas.List.Elements.{recursion_from_All}
 use Rattle.std.proofs.lemmas.Option.{same_Some}
-use Rattle.std.specs.List.{AllByRecursion as Each, flat_map}
+use Rattle.std.specs.List.{flat_map}
 use Rattle.std.specs.Prelude.{if◌then◌else◌, option_to_list, slice_get}
 use Rattle.ec_base.proofs.Lists.{get_within}
-use Rattle.ec_cluster.specs.Cluster.{CodeWorld, place}
+use Rattle.ec_cluster.specs.Cluster.{CodeWorld}
 use Rattle.ec_cluster.specs.declared.cluster.Cluster.{Cluster}
 use Rattle.ec_code.specs.Fine.{IsFieldOf}
 use Rattle.ec_code_limits.specs.Limits.{HasFewFields}
@@ -24,7 +24,6 @@ use Rattle.ec_packing.proofs.Joining.{has_joined, joined_has}
 use Rattle.ec_packing.proofs.Members.{class, goes, is_here_it, monitor_part_is, number, object, object_part_is}
 use Rattle.ec_packing.proofs.Rules.{IsShort, NumberBefore, ObjectBefore}
 use Rattle.ec_packing.proofs.Sorting.{Sorted, sorted_joined}
-use Rattle.ec_packing.specs.Narrow.{EachIs}
 use Rattle.ec_packing.specs.Packing.{CanGo, is_here, monitor_goes, monitor_if, object_goes, object_if, with_number}
 use Rattle.ec_parcels.specs.Parcels.{IsOfMonitor, IsOfObject, ObjectGoes}
 use Rattle.ec_ranges.specs.Values.{InRange}
@@ -44,7 +43,6 @@ use Rattle.ec_world.specs.Objects.{object_at}
 use Rattle.ec_world.specs.Outcomes.{monitor_if as monitor_in}
 use Rattle.ec_world.specs.declared.class.ClassNo.{ClassNo}
 use Rattle.ec_world.specs.declared.class.ClassNo.TheVariants.{Node, Program, Made, Vector}
-use Rattle.ec_world.specs.declared.class.ClassRec.{ClassRec}
 use Rattle.ec_world.specs.declared.node.Kind.TheVariants.{Riscv}
 use Rattle.ec_world.specs.declared.object.ObjectRec.{ObjectRec}
 use Rattle.ec_world.specs.declared.value.Value.{Value}

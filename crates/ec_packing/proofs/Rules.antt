@@ -1,13 +1,13 @@
 -- Parts that keep the rules of the wire form.
-use Rattle.std.proofs.Common.{◌≡◌, ◌<◌, ◌≤◌, ◌+◌, ◌^◌, ◌&&◌, ◌||◌, ◌⊎◌, ℕ, zero, suc, Bool, true, false, List, [], ◌∷◌, length, take, Option, Some, None}
+use Rattle.std.proofs.Common.{◌≡◌, ◌<◌, ◌≤◌, ◌+◌, ◌^◌, ◌||◌, ◌⊎◌, ℕ, zero, suc, Bool, true, false, List, [], ◌∷◌, length, take, Option, Some, None}
 use Rattle.std.proofs.Common.{refl, sym, ap, ◌∙◌, subst, arith, ⊎_elim}
 use Rattle.std.proofs.lemmas.Bool.{le-ltb, lt-ltb}
 use Rattle.std.proofs.lemmas.Option.{same_Some}
 use Rattle.std.specs.Int.{w32}
-use Rattle.std.specs.Prelude.{FitsSigned, ℤ, pos, negsuc, if◌then◌else◌, nat_lt, option_map, slice_get}
+use Rattle.std.specs.Prelude.{FitsSigned, ℤ, pos, negsuc, if◌then◌else◌, nat_lt, slice_get}
 use Rattle.ec_base.proofs.Lists.{get_there, get_within}
 use Rattle.ec_base.specs.Stack.{top_of}
-use Rattle.ec_code.specs.Typing.{Declared, class_type}
+use Rattle.ec_code.specs.Typing.{Declared}
 use Rattle.ec_conform.specs.declared.static_type.StaticType.{StaticType}
 use Rattle.ec_formats.proofs.ListLaws.{all_fit}
 use Rattle.ec_formats.proofs.Steps.{both}
@@ -20,13 +20,12 @@ use Rattle.ec_monitors.specs.declared.record.MonitorRec.{MonitorRec}
 use Rattle.ec_packing.proofs.Carrying.{IsGood}
 use Rattle.ec_packing.proofs.Sorting.{Sorted, sorted_at, top_taken}
 use Rattle.ec_packing.specs.Narrow.{EachIs, HasBits, IsNarrow, NarrowActivation, NarrowHold, NarrowHolder, NarrowMonitor, NarrowObject, NarrowPart}
-use Rattle.ec_sound.specs.Values.{class_in, own_type}
+use Rattle.ec_sound.specs.Values.{own_type}
 use Rattle.ec_wire.specs.WireForm.{activation, depth_follows, hold, last_number, last_object, monitor, monitor_record, most, object}
 use Rattle.ec_wire.specs.WireForm.{process_follows, value, value_fits}
 use Rattle.ec_wire.specs.declared.parcel.ActivationPart.{ActivationPart}
 use Rattle.ec_wire.specs.declared.parcel.MonitorPart.{MonitorPart}
 use Rattle.ec_wire.specs.declared.parcel.ObjectPart.{ObjectPart}
-use Rattle.ec_world.specs.declared.class.ClassNo.{ClassNo}
 use Rattle.ec_world.specs.declared.object.ObjectRec.{ObjectRec}
 use Rattle.ec_world.specs.declared.value.Value.{Value}
 use Rattle.ec_world.specs.declared.value.Value.TheVariants.{Int, Str, Ref, Nil, Bool as Truth}

@@ -1,5 +1,5 @@
 -- Lists in which each item comes before all that stand behind it.
-use Rattle.std.proofs.Common.{◌≡◌, ◌<◌, ◌+◌, ◌⊎◌, ℕ, zero, suc, List, [], ◌∷◌, ◌++◌, length, map, take, Some, None, refl, sym, ap, ◌∙◌, subst, arith}
+use Rattle.std.proofs.Common.{◌≡◌, ◌<◌, ◌+◌, ℕ, zero, suc, List, [], ◌∷◌, ◌++◌, take, Some, sym, ap, ◌∙◌, subst, arith}
 use Rattle.std.proofs.Common.{⊎_elim}
 use Rattle.std.proofs.lemmas.Option.{same_Some}
 use Rattle.std.specs.List.{flat_map}
@@ -7,7 +7,7 @@ use Rattle.std.specs.Prelude.{slice_get}
 use Rattle.ec_base.specs.Stack.{top_of}
 use Rattle.ec_packing.proofs.Joining.{has_joined, has_up_to}
 use Rattle.ec_packing.specs.Packing.{up_to}
-use Rattle.ec_world.proofs.Members.{has_either, has_first, has_none, has_parts, rising_above, rising_tail}
+use Rattle.ec_world.proofs.Members.{has_either, has_first, rising_above, rising_tail}
 use Rattle.ec_world.specs.Group.{Has, IsRising}
 
 module _ {A : Type 0} (Before : A → A → Type 0) where

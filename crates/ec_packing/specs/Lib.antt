@@ -1,5 +1,6 @@
 pub mod Room
 pub mod Packing
+pub mod Standing
 pub mod Narrow
 pub mod Blocks
 pub mod Packed

@@ -1,21 +1,23 @@
 //! The activations at a node on members of a group: what goes of them.
-ghost use Rattle.std.specs.Prelude.{◌≡◌, ◌++◌, ◌<◌, ◌^◌, IfOk, OnOk, length, option_to_list};
+ghost use Rattle.std.specs.Prelude.{◌≡◌, ◌<◌, ◌^◌, [], ◌∷◌, IfOk, OnOk, length, slice_get, Some};
 ghost use Rattle.ec_cluster.specs.Cluster.{CodeWorld};
 ghost use Rattle.ec_code.specs.Typing.{Declared};
 ghost use Rattle.ec_mover.specs.Classes.{ClassTable};
 ghost use Rattle.ec_packing.specs.Packing.{CanGo, CanGoBySome, activation_goes, process_goes, up_to};
-ghost use Rattle.ec_world.specs.Group.{IsRising, is_in};
+ghost use Rattle.ec_packing.specs.Standing.{AreOnMembers, AreOnOneMore, IsOnMember};
+ghost use Rattle.ec_stores.specs.Node.{NodeData, store_of};
 
 use ec_base::list::Seq;
 use ec_mover::activations::activation_part;
-use ec_node_frames::frames::headings_of;
+use ec_stores::node::NodeStore;
 use ec_system::system::System;
 use ec_wire::parcel::ActivationPart;
 use ec_world::value::{NodeNo, Oid, Pid};
 use std::alloc::{AllocError, Global};
+use std::collections::BTreeSet;
 
-/// What goes of each activation that is at a node on a member, by process and then by depth. The error is want of memory, or that 32 bits
-/// don't count the processes.
+/// What goes of each activation that is at a node on a member, by process and then by depth. It takes the time of the members and of the
+/// activations on them. The error is want of memory, or that 32 bits don't count the processes.
 pub(crate) fn activations_at(
     system: &System,
     alloc: Global,
@@ -28,41 +30,53 @@ pub(crate) fn activations_at(
         parts ≡ up_to (process_goes system.now.cluster w members.now from) (length w.processes)) }
     ensures few { OnOk result (length system.now.processes < 2 ^ 32) }
 {
-    let Ok(count) = u32::try_from(system.processes.len()) else {
+    if system.processes.len() >= 0x1_0000_0000 {
         return Err(AllocError);
-    };
+    }
+    let node = system.cluster.nodes.at(from as usize);
+    let found = on_members(node, alloc, members)?;
     let mut parts = Seq::new(alloc);
-    for process in 0..count {
-        add_process(&mut parts, system, alloc, members, from, process)?;
+    for i in 0..found.len() {
+        let (process, depth) = found[i];
+        let part = part_at(system, alloc, members, from, process, depth)?;
+        parts.push(part)?;
     }
     Ok(parts)
 }
 
-/// What goes of the activations of a process, by their depths, behind the parts that are there. The error is want of memory.
-fn add_process(
-    parts: &mut Seq<ActivationPart>,
-    system: &System,
+/// The activations at a node on members, by process and then by depth. The error is want of memory.
+fn on_members(
+    node: &NodeStore,
     alloc: Global,
     members: &[Oid],
-    from: NodeNo,
-    process: Pid,
-) -> Result<(), AllocError>
-    requires can { CanGoBySome system.now members.now from }
-    requires there { process < length system.now.processes }
-    ensures { OnOk result ((d : Declared) (w : CodeWorld) (table : ClassTable) → CanGo d system.now w table members.now from →
-        parts.new ≡ parts.old ++ process_goes system.now.cluster w members.now from process) }
+) -> Result<Vec<(Pid, u32)>, AllocError>
+    ensures { IfOk result (λ found. AreOnMembers (store_of node.now) members.now found.items) }
 {
-    let count = system.processes.at(process as usize).activations;
-    for depth in 0..count {
-        let Some(part) = part_at(system, alloc, members, from, process, depth)? else {
-            continue;
-        };
-        parts.push(part)?;
+    let mut found = BTreeSet::new(alloc);
+    for i in 0..members.len() {
+        add_on(&mut found, node, alloc, members[i])?;
+    }
+    found.iter().copied().collect(alloc)
+}
+
+/// The activations at a node on an object are found too. The error is want of memory.
+fn add_on(
+    found: &mut BTreeSet<(Pid, u32)>,
+    node: &NodeStore,
+    alloc: Global,
+    oid: Oid,
+) -> Result<(), AllocError>
+    ensures { OnOk result (AreOnOneMore (store_of node.now) oid found.old found.new) }
+{
+    let standing = node.activations_on(alloc, oid)?;
+    for i in 0..standing.len() {
+        let (_, process, depth) = standing[i];
+        found.insert((process, depth))?;
     }
     Ok(())
 }
 
-/// What goes of an activation, if it is at a node on a member. The error is want of memory.
+/// What goes of an activation that is at a node on a member. The error is want of memory.
 fn part_at(
     system: &System,
     alloc: Global,
@@ -70,30 +84,16 @@ fn part_at(
     from: NodeNo,
     process: Pid,
     depth: u32,
-) -> Result<Option<ActivationPart>, AllocError>
-    requires { CanGoBySome system.now members.now from }
+) -> Result<ActivationPart, AllocError>
+    requires can { CanGoBySome system.now members.now from }
+    requires there { (n : NodeData) → slice_get system.now.cluster.nodes from ≡ Some n →
+        IsOnMember (store_of n) members.now (process, depth) }
     ensures { IfOk result (λ part. (d : Declared) (w : CodeWorld) (table : ClassTable) → CanGo d system.now w table members.now from →
-        option_to_list part ≡ activation_goes system.now.cluster w members.now from process depth) }
+        activation_goes system.now.cluster w members.now from process depth ≡ part ∷ []) }
 {
     let cluster = &system.cluster;
     let node = cluster.nodes.at(from as usize);
-    if !node.has_frame(process, depth) {
-        return Ok(None);
-    }
-    let headings = headings_of(node, process, depth);
-    if !is_member(members, headings.own) {
-        return Ok(None);
-    }
     let image = cluster.images.of(node.kind());
     let tables = image.table.operations.as_slice();
-    let part = activation_part(node, alloc, tables, process, depth)?;
-    Ok(Some(part))
-}
-
-/// Whether an object is one of a group's members.
-fn is_member(members: &[Oid], oid: Oid) -> bool
-    requires { IsRising members.now }
-    ensures { result ≡ is_in oid members.now }
-{
-    members.binary_search(&oid).is_ok()
+    activation_part(node, alloc, tables, process, depth)
 }

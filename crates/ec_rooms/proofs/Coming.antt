@@ -3,7 +3,7 @@ use Rattle.std.proofs.Common.{◌≡◌, ◌⊎◌, ℕ, inl, inr, ⊎_elim, Lis
 use Rattle.std.specs.Prelude.{slice_get}
 use Rattle.ec_cluster.specs.Cluster.{CodeWorld, place}
 use Rattle.ec_code.specs.declared.code.Parts.{Parts}
-use Rattle.ec_rooms.proofs.Before.{before}
+use Rattle.ec_cluster.proofs.Before.{before}
 use Rattle.ec_rooms.proofs.Fitting.{Holds, never_full}
 use Rattle.ec_rooms.proofs.Nodes.{node_holds}
 use Rattle.ec_rooms.proofs.Retelling.{strings_by}

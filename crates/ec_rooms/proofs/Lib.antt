@@ -5,5 +5,4 @@ pub mod Retelling
 pub mod Nodes
 pub mod Loads
 pub mod Full
-pub mod Before
 pub mod Coming

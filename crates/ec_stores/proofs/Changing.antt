@@ -27,11 +27,11 @@ module _ (node : NodeData) (old new : BTreeMap ℕ ObjectRow) (oid : ℕ) (row n
   alike : (key : Key) (q : Owned) → row_of after key ≡ Some q → Alike (row_of node) key q
   alike key q e = ⊎_elim
       (λ (same : key ≡ Object oid).
-      let here : row_of after key ≡ Some (owned_object now) = ap (row_of after) same ∙ ap (option_map owned_object) updates.1 in
-      let q_is : q ≡ owned_object now = cc in
+      let here : row_of after key ≡ Some (owned_object oid now) = ap (row_of after) same ∙ ap (option_map (owned_object oid)) updates.1 in
+      let q_is : q ≡ owned_object oid now = cc in
       record {
-        was = owned_object row;
-        there = ap (row_of node) same ∙ ap (λ es. option_map owned_object (object_in es oid)) is ∙ ap (option_map owned_object) (sym was);
+        was = owned_object oid row;
+        there = ap (row_of node) same ∙ ap (λ es. option_map (owned_object oid) (object_in es oid)) is ∙ ap (option_map (owned_object oid)) (sym was);
         blocks = ap (λ (o : Owned). o.blocks) q_is ∙ blocks;
         class = ap (λ (o : Owned). o.class) q_is ∙ ap Some class;
         size = ap (λ (o : Owned). o.size) q_is ∙ size;
@@ -81,6 +81,6 @@ put_back s t u oid m a b = record {
 
 -- the monitor of an object that was found
 pub monitor_found : (s : Store) (oid : ℕ) (row : ObjectRow) (r : Option (Bor MonitorRec)) → option_copied r ≡ row.monitor →
-    s.row (Object oid) ≡ Some (owned_object row) → IfSome r (λ m. MonitorIs s oid m.now)
+    s.row (Object oid) ≡ Some (owned_object oid row) → IfSome r (λ m. MonitorIs s oid m.now)
 monitor_found s oid row None e found = tt
-monitor_found s oid row (Some m) e found = record { row = owned_object row; there = found; is = sym e }
+monitor_found s oid row (Some m) e found = record { row = owned_object oid row; there = found; is = sym e }

@@ -11,7 +11,8 @@ use Rattle.ec_nodes.specs.declared.key.Key.TheVariants.{Object, Frame}
 use Rattle.ec_things.specs.Store.{Owned}
 use Rattle.ec_stores.specs.Changes.{Closed, PlacedFrame, PlacedObject}
 use Rattle.ec_stores.specs.Lists.{FilledList, GivesList}
-use Rattle.ec_stores.specs.Node.{Laid, NodeData, frame_cmp, frame_in, object_in, owned_frame, owned_object, row_of, store_of}
+use Rattle.ec_stores.specs.Node.{Laid, NodeData, object_in, owned_frame, owned_object, row_of, store_of}
+use Rattle.ec_stores.specs.Tables.{SetsFrame, frame_in}
 use Rattle.ec_stores.specs.declared.memory.NodeMemory.{NodeMemory}
 use Rattle.ec_stores.specs.declared.rows.FrameRow.{FrameRow}
 use Rattle.ec_stores.specs.declared.rows.ObjectRow.{ObjectRow}
@@ -41,8 +42,8 @@ module _ (node : NodeData) (m : NodeMemory) (old new : BTreeMap ℕ ObjectRow) (
     (laid : Laid node) (is : node.objects ≡ old.entries) (absent : row_of node (Object oid) ≡ None)
     (updates : Updates nat_cmp old new oid (Some row)) (filled : FilledList node.memory m row.blocks given)
     (many : length row.blocks ≡ class_blocks row.class row.size) (short : length given ≤ 128 * class_blocks row.class row.size) where
-  here : row_of (with_owners node m new.entries node.frames) (Object oid) ≡ Some (owned_object row)
-  here = ap (option_map owned_object) updates.1
+  here : row_of (with_owners node m new.entries node.frames) (Object oid) ≡ Some (owned_object oid row)
+  here = ap (option_map (owned_object oid)) updates.1
 
   there : (other : Key) → other ≢ Object oid → row_of (with_owners node m new.entries node.frames) other ≡ row_of node other
   there = rows_object node m new.entries oid (λ o f. updates.2 o f ∙ ap (λ es. object_in es o) (sym is))
@@ -51,39 +52,39 @@ module _ (node : NodeData) (m : NodeMemory) (old new : BTreeMap ℕ ObjectRow) (
   fits = subst (λ n. length given ≤ 128 * n) (sym many) short
 
   pub laid_created : Laid (with_owners node m new.entries node.frames)
-  laid_created = laid_placed node m new.entries node.frames laid (Object oid) (owned_object row) given absent here there filled fits many
+  laid_created = laid_placed node m new.entries node.frames laid (Object oid) (owned_object oid row) given absent here there filled fits many
 
   pub created : PlacedObject (store_of node) (store_of (with_owners node m new.entries node.frames)) oid row.class row.size row.fixed
       row.monitor given
   created = record {
     blocks = row.blocks;
     many = many;
-    placed = placed node m new.entries node.frames laid (Object oid) (owned_object row) given absent here there filled fits many;
+    placed = placed node m new.entries node.frames laid (Object oid) (owned_object oid row) given absent here there filled fits many;
   }
 
 -- ---- an activation comes
 
-module _ (node : NodeData) (m : NodeMemory) (old new : BTreeMap (ℕ × ℕ) FrameRow) (p d b : ℕ) (blocks given : List ℕ)
-    (laid : Laid node) (is : node.frames ≡ old.entries) (absent : row_of node (Frame p d) ≡ None)
-    (updates : Updates frame_cmp old new (p, d) (Some (record { block = b }))) (filled : FilledList node.memory m blocks given)
+module _ (node : NodeData) (m : NodeMemory) (new : List ((ℕ × ℕ) × FrameRow)) (p d own b : ℕ) (blocks given : List ℕ)
+    (laid : Laid node) (absent : row_of node (Frame p d) ≡ None)
+    (sets : SetsFrame node.frames new p d (Some (record { home = own; block = b }))) (filled : FilledList node.memory m blocks given)
     (one : blocks ≡ b ∷ []) (short : length given ≤ 128) where
-  begins : row_of (with_owners node m node.objects new.entries) (Frame p d) ≡ Some (owned_frame (record { block = b }))
-  begins = ap (option_map owned_frame) updates.1
+  begins : row_of (with_owners node m node.objects new) (Frame p d) ≡ Some (owned_frame (record { home = own; block = b }))
+  begins = ap (option_map owned_frame) sets.here
 
-  beside : (other : Key) → other ≢ Frame p d → row_of (with_owners node m node.objects new.entries) other ≡ row_of node other
-  beside = rows_frame node m new.entries p d (λ q f. updates.2 q f ∙ ap (λ es. frame_in es q.0 q.1) (sym is))
+  beside : (other : Key) → other ≢ Frame p d → row_of (with_owners node m node.objects new) other ≡ row_of node other
+  beside = rows_frame node m new p d sets.others
 
   filled_one : FilledList node.memory m (b ∷ []) given
   filled_one = subst (λ (l : List ℕ). FilledList node.memory m l given) one filled
 
-  pub laid_begun : Laid (with_owners node m node.objects new.entries)
-  laid_begun = laid_placed node m node.objects new.entries laid (Frame p d) (owned_frame (record { block = b })) given absent begins
+  pub laid_begun : Laid (with_owners node m node.objects new)
+  laid_begun = laid_placed node m node.objects new laid (Frame p d) (owned_frame (record { home = own; block = b })) given absent begins
       beside filled_one (omega arith) refl
 
-  pub begun : PlacedFrame (store_of node) (store_of (with_owners node m node.objects new.entries)) p d given
+  pub begun : PlacedFrame (store_of node) (store_of (with_owners node m node.objects new)) p d own given
   begun = record {
     block = b;
-    placed = placed node m node.objects new.entries laid (Frame p d) (owned_frame (record { block = b })) given absent begins beside
+    placed = placed node m node.objects new laid (Frame p d) (owned_frame (record { home = own; block = b })) given absent begins beside
         filled_one (omega arith) refl;
   }
 
@@ -92,37 +93,36 @@ module _ (node : NodeData) (m : NodeMemory) (old new : BTreeMap (ℕ × ℕ) Fra
 module _ (node : NodeData) (m : NodeMemory) (old new : BTreeMap ℕ ObjectRow) (oid : ℕ) (row : ObjectRow) (laid : Laid node)
     (is : node.objects ≡ old.entries) (was : Some row ≡ object_in old.entries oid)
     (updates : Updates nat_cmp old new oid None) (gives : GivesList node.memory m row.blocks) where
-  found : row_of node (Object oid) ≡ Some (owned_object row)
-  found = ap (λ es. option_map owned_object (object_in es oid)) is ∙ found_is owned_object (object_in old.entries oid) row was
+  found : row_of node (Object oid) ≡ Some (owned_object oid row)
+  found = ap (λ es. option_map (owned_object oid) (object_in es oid)) is ∙ found_is (owned_object oid) (object_in old.entries oid) row was
 
   gone : row_of (with_owners node m new.entries node.frames) (Object oid) ≡ None
-  gone = ap (option_map owned_object) updates.1
+  gone = ap (option_map (owned_object oid)) updates.1
 
   stay : (other : Key) → other ≢ Object oid → row_of (with_owners node m new.entries node.frames) other ≡ row_of node other
   stay = rows_object node m new.entries oid (λ o f. updates.2 o f ∙ ap (λ es. object_in es o) (sym is))
 
   pub laid_removed : Laid (with_owners node m new.entries node.frames)
-  laid_removed = laid_closed node m new.entries node.frames laid (Object oid) (owned_object row) found gone stay gives
+  laid_removed = laid_closed node m new.entries node.frames laid (Object oid) (owned_object oid row) found gone stay gives
 
   pub removed : Closed (store_of node) (store_of (with_owners node m new.entries node.frames)) (Object oid)
-  removed = closed node m new.entries node.frames laid (Object oid) (owned_object row) found gone stay gives
+  removed = closed node m new.entries node.frames laid (Object oid) (owned_object oid row) found gone stay gives
 
 -- ---- an activation goes
 
-module _ (node : NodeData) (m : NodeMemory) (old new : BTreeMap (ℕ × ℕ) FrameRow) (p d : ℕ) (row : FrameRow) (laid : Laid node)
-    (is : node.frames ≡ old.entries) (was : Some row ≡ frame_in old.entries p d)
-    (updates : Updates frame_cmp old new (p, d) None) (gives : GivesList node.memory m (row.block ∷ [])) where
+module _ (node : NodeData) (m : NodeMemory) (new : List ((ℕ × ℕ) × FrameRow)) (p d : ℕ) (row : FrameRow) (laid : Laid node)
+    (was : Some row ≡ frame_in node.frames p d) (sets : SetsFrame node.frames new p d None) (gives : GivesList node.memory m (row.block ∷ [])) where
   found_frame : row_of node (Frame p d) ≡ Some (owned_frame row)
-  found_frame = ap (λ es. option_map owned_frame (frame_in es p d)) is ∙ found_is owned_frame (frame_in old.entries p d) row was
+  found_frame = found_is owned_frame (frame_in node.frames p d) row was
 
-  ended : row_of (with_owners node m node.objects new.entries) (Frame p d) ≡ None
-  ended = ap (option_map owned_frame) updates.1
+  ended : row_of (with_owners node m node.objects new) (Frame p d) ≡ None
+  ended = ap (option_map owned_frame) sets.here
 
-  go_on : (other : Key) → other ≢ Frame p d → row_of (with_owners node m node.objects new.entries) other ≡ row_of node other
-  go_on = rows_frame node m new.entries p d (λ q f. updates.2 q f ∙ ap (λ es. frame_in es q.0 q.1) (sym is))
+  go_on : (other : Key) → other ≢ Frame p d → row_of (with_owners node m node.objects new) other ≡ row_of node other
+  go_on = rows_frame node m new p d sets.others
 
-  pub laid_frame_closed : Laid (with_owners node m node.objects new.entries)
-  laid_frame_closed = laid_closed node m node.objects new.entries laid (Frame p d) (owned_frame row) found_frame ended go_on gives
+  pub laid_frame_closed : Laid (with_owners node m node.objects new)
+  laid_frame_closed = laid_closed node m node.objects new laid (Frame p d) (owned_frame row) found_frame ended go_on gives
 
-  pub frame_closed : Closed (store_of node) (store_of (with_owners node m node.objects new.entries)) (Frame p d)
-  frame_closed = closed node m node.objects new.entries laid (Frame p d) (owned_frame row) found_frame ended go_on gives
+  pub frame_closed : Closed (store_of node) (store_of (with_owners node m node.objects new)) (Frame p d)
+  frame_closed = closed node m node.objects new laid (Frame p d) (owned_frame row) found_frame ended go_on gives

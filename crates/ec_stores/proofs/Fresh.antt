@@ -7,8 +7,8 @@ use Rattle.ec_nodes.specs.declared.key.Key.{Key}
 use Rattle.ec_nodes.specs.declared.key.Key.TheVariants.{Object, Frame}
 use Rattle.ec_stores.specs.Changes.{IsFresh}
 use Rattle.ec_stores.specs.Memory.{held, number_of}
-use Rattle.ec_stores.specs.Node.{NodeData, frame_in, object_in, owned_frame, owned_object, row_of, store_of}
-use Rattle.ec_stores.specs.Tables.{TextPool, local_in}
+use Rattle.ec_stores.specs.Node.{NodeData, object_in, owned_frame, owned_object, row_of, store_of}
+use Rattle.ec_stores.specs.Tables.{TextPool, frame_in, local_in}
 use Rattle.ec_stores.specs.declared.rows.FrameRow.{FrameRow}
 use Rattle.ec_stores.specs.declared.rows.ObjectRow.{ObjectRow}
 use Rattle.ec_stores.proofs.Written.{zeros}
@@ -32,7 +32,7 @@ is_fresh node blocks room globals whole new few objects frames locals pool count
 }
   where
     no_row : (key : Key) → row_of node key ≡ None
-    no_row (Object oid) = ap (λ (os : List (ℕ × ObjectRow)). option_map owned_object (object_in os oid)) objects
+    no_row (Object oid) = ap (λ (os : List (ℕ × ObjectRow)). option_map (owned_object oid) (object_in os oid)) objects
     no_row (Frame p d) = ap (λ (fs : List ((ℕ × ℕ) × FrameRow)). option_map owned_frame (frame_in fs p d)) frames
 
     no_local : (i : ℕ) → local_in [] i ≡ None

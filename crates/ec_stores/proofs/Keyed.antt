@@ -8,7 +8,8 @@ use Rattle.std.specs.declared.cmp.Ordering.TheVariants.{Less, Equal, Greater}
 use Rattle.ec_nodes.proofs.Keys.{same_or_not}
 use Rattle.ec_nodes.specs.declared.key.Key.{Key}
 use Rattle.ec_nodes.specs.declared.key.Key.TheVariants.{Object, Frame}
-use Rattle.ec_stores.specs.Node.{NodeData, frame_cmp, frame_in, object_in, owned_frame, owned_object, row_of}
+use Rattle.ec_stores.specs.Node.{NodeData, object_in, owned_frame, owned_object, row_of}
+use Rattle.ec_stores.specs.Tables.{frame_cmp, frame_in}
 use Rattle.ec_stores.specs.declared.memory.NodeMemory.{NodeMemory}
 use Rattle.ec_stores.specs.declared.rows.FrameRow.{FrameRow}
 use Rattle.ec_stores.specs.declared.rows.ObjectRow.{ObjectRow}
@@ -19,12 +20,12 @@ use Rattle.ec_stores.proofs.Placing.{with_owners}
 pub other_object : (a b : ℕ) → b ≢ a → is_at (nat_cmp a) b ≡ false
 other_object a b ne = grind (arith, ne)
 
-not_equal_first : (o x : Ordering) → is_eq o ≡ false → is_eq (ordering_then o x) ≡ false
+pub not_equal_first : (o x : Ordering) → is_eq o ≡ false → is_eq (ordering_then o x) ≡ false
 not_equal_first Less x e = refl
 not_equal_first Equal x e = cc
 not_equal_first Greater x e = refl
 
-not_equal_second : (o x : Ordering) → is_eq x ≡ false → is_eq (ordering_then o x) ≡ false
+pub not_equal_second : (o x : Ordering) → is_eq x ≡ false → is_eq (ordering_then o x) ≡ false
 not_equal_second Less x e = refl
 not_equal_second Equal x e = e
 not_equal_second Greater x e = refl
@@ -42,7 +43,7 @@ module _ (node : NodeData) (m : NodeMemory) where
   pub rows_object : (objects : List (ℕ × ObjectRow)) (oid : ℕ) →
       ((o : ℕ) → is_at (nat_cmp oid) o ≡ false → object_in objects o ≡ object_in node.objects o) →
       (other : Key) → other ≢ Object oid → row_of (with_owners node m objects node.frames) other ≡ row_of node other
-  rows_object objects oid kept (Object o) ne = ap (option_map owned_object) (kept o (other_object oid o (λ e. ne (ap Object e))))
+  rows_object objects oid kept (Object o) ne = ap (option_map (owned_object o)) (kept o (other_object oid o (λ e. ne (ap Object e))))
   rows_object objects oid kept (Frame p d) ne = refl
 
   pub rows_frame : (frames : List ((ℕ × ℕ) × FrameRow)) (p d : ℕ) →

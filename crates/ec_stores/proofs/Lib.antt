@@ -12,3 +12,4 @@ pub mod Fresh
 pub mod Changing
 pub mod Putting
 pub mod Readable
+pub mod Standing

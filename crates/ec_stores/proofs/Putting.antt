@@ -30,14 +30,15 @@ pub record GivenAt (s : Store) (given : List ℕ) (t : Thing) (i : ℕ) (v : Val
   pub stands : Stands s v word
 
 pub placed_puts : (s s' : Store) (key : Key) (row : Owned) (given : List ℕ) (t : Thing) → Placed s s' key row given → s.row key ≡ None →
-    length row.blocks ≡ t.blocks → row.size ≡ t.size → row.class ≡ t.class → row.fixed ≡ t.fixed → row.monitor ≡ t.monitor →
+    row.home ≡ t.home → length row.blocks ≡ t.blocks → row.size ≡ t.size → row.class ≡ t.class → row.fixed ≡ t.fixed → row.monitor ≡ t.monitor →
     ((i n : ℕ) → slice_get t.heads i ≡ Some n → slice_get given i ≡ Some n) →
     ((i : ℕ) (v : Value) → slice_get t.values i ≡ Some v → GivenAt s' given t i v) → Puts s s' key (Some t)
-placed_puts s s' key row given t placed new counted size class fixed monitor heads values = record {
+placed_puts s s' key row given t placed new home counted size class fixed monitor heads values = record {
   here = record {
     row = row;
     there = placed.here;
     spells = record {
+      home = home;
       counted = counted;
       size = size;
       class = class;
@@ -62,8 +63,8 @@ pub created_puts : (s s' : Store) (oid : ℕ) (o : ObjectRec) (words : List ℕ)
     ((i : ℕ) (v : Value) → slice_get o.fields i ≡ Some v → (w : ℕ) × (slice_get words i ≡ Some w) × Stands s' v w) →
     Puts s s' (Object oid) (Some (object_thing oid o))
 created_puts s s' oid o words p new stand =
-    placed_puts s s' (Object oid) (object_row p.blocks (length o.fields) o.class o.fixed o.monitor) words (object_thing oid o) p.placed new
-    p.many refl refl refl refl (λ i n e. cc)
+    placed_puts s s' (Object oid) (object_row oid p.blocks (length o.fields) o.class o.fixed o.monitor) words (object_thing oid o) p.placed new
+    refl p.many refl refl refl refl (λ i n e. cc)
     (λ i v e. let x = stand i v e in record { at = i; word = x.0; spot = refl; there = x.1; stands = x.2 })
 
 -- ---- an owner goes

@@ -9,6 +9,7 @@ use Rattle.ec_nodes.specs.declared.key.Key.TheVariants.{Object, Frame}
 use Rattle.ec_things.specs.Store.{Grown, KeptRow, Owned, Store, Tidy, word_of}
 use Rattle.ec_things.specs.Texts.{InPool}
 use Rattle.ec_things.specs.Things.{row_size}
+use Rattle.ec_world.specs.Group.{Has}
 use Rattle.ec_world.specs.declared.class.ClassNo.{ClassNo}
 use Rattle.ec_world.specs.declared.node.Kind.{Kind}
 use Rattle.ec_stores.specs.declared.rows.Object.{Object as ObjectData}
@@ -45,6 +46,17 @@ pub record FirstBlock (s : Store) (key : Key) (b : ℕ) : Type 0 where
 -- an owner is there, and has a block
 abbrev pub HasBlock : Store → Key → Type 0
 HasBlock s key = (b : ℕ) × FirstBlock s key b
+
+-- an activation is there, on an object
+pub record StandsOn (s : Store) (p d oid : ℕ) : Type 0 where
+  pub row : Owned
+  pub there : s.row (Frame p d) ≡ Some row
+  pub home : row.home ≡ oid
+
+-- these are the activations on an object that are there, each behind the object's number
+pub record HasOn (s : Store) (oid : ℕ) (found : List (ℕ × ℕ × ℕ)) : Type 0 where
+  pub each : (o p d : ℕ) → Has found (o, p, d) → StandsOn s p d oid
+  pub all : (p d : ℕ) → StandsOn s p d oid → Has found (oid, p, d)
 
 -- the monitor of an object
 pub record MonitorIs (s : Store) (oid : ℕ) (m : MonitorRec) : Type 0 where
@@ -134,24 +146,24 @@ pub record Placed (s s' : Store) (key : Key) (row : Owned) (given : List ℕ) : 
   pub free : s'.free + length row.blocks ≡ s.free
   pub tidy : Tidy s'
 
-abbrev pub object_row : List ℕ → ℕ → ClassNo → Bool → Option MonitorRec → Owned
-object_row blocks size class fixed monitor =
-    record { blocks = blocks; size = size; class = Some class; fixed = fixed; monitor = monitor }
+abbrev pub object_row : ℕ → List ℕ → ℕ → ClassNo → Bool → Option MonitorRec → Owned
+object_row oid blocks size class fixed monitor =
+    record { home = oid; blocks = blocks; size = size; class = Some class; fixed = fixed; monitor = monitor }
 
 -- a new object, with as many blocks as its class and size want
 pub record PlacedObject (s s' : Store) (oid : ℕ) (class : ClassNo) (size : ℕ) (fixed : Bool) (monitor : Option MonitorRec)
     (given : List ℕ) : Type 0 where
   pub blocks : List ℕ
   pub many : length blocks ≡ class_blocks class size
-  pub placed : Placed s s' (Object oid) (object_row blocks size class fixed monitor) given
+  pub placed : Placed s s' (Object oid) (object_row oid blocks size class fixed monitor) given
 
-abbrev pub frame_row : ℕ → Owned
-frame_row b = record { blocks = b ∷ []; size = 0; class = None; fixed = false; monitor = None }
+abbrev pub frame_row : ℕ → ℕ → Owned
+frame_row own b = record { home = own; blocks = b ∷ []; size = 0; class = None; fixed = false; monitor = None }
 
--- a new activation, which has one block
-pub record PlacedFrame (s s' : Store) (p d : ℕ) (given : List ℕ) : Type 0 where
+-- a new activation on an object, which has one block
+pub record PlacedFrame (s s' : Store) (p d own : ℕ) (given : List ℕ) : Type 0 where
   pub block : ℕ
-  pub placed : Placed s s' (Frame p d) (frame_row block) given
+  pub placed : Placed s s' (Frame p d) (frame_row own block) given
 
 -- an owner goes, and its blocks are free
 pub record Closed (s s' : Store) (key : Key) : Type 0 where

@@ -2,8 +2,7 @@
 use Rattle.std.specs.Prelude.{◌≡◌, ℕ, ◌+◌, ◌<◌, false, List, [], ◌∷◌, length, Option, Some, None, slice_get, option_map}
 use Rattle.std.specs.BTreeMap.{is_at}
 use Rattle.std.specs.Map.{lookup}
-use Rattle.std.specs.Ordering.{nat_cmp, ordering_then}
-use Rattle.std.specs.declared.cmp.Ordering.{Ordering}
+use Rattle.std.specs.Ordering.{nat_cmp}
 use Rattle.ec_base.specs.Bytes.{Bytes}
 use Rattle.ec_memory.specs.Store.{Store as Memory, IsWhole}
 use Rattle.ec_memory.specs.Words.{block_word_at, global_word_at}
@@ -17,7 +16,7 @@ use Rattle.ec_world.specs.declared.class.ClassNo.{ClassNo}
 use Rattle.ec_world.specs.declared.node.Kind.{Kind}
 use Rattle.ec_stores.specs.Lists.{IsOnce}
 use Rattle.ec_stores.specs.Memory.{byte_in, held, kind_of, word_at}
-use Rattle.ec_stores.specs.Tables.{TextPool, local_in}
+use Rattle.ec_stores.specs.Tables.{TextPool, frame_in, local_in}
 use Rattle.ec_stores.specs.declared.memory.NodeMemory.{NodeMemory}
 use Rattle.ec_stores.specs.declared.rows.FrameRow.{FrameRow}
 use Rattle.ec_stores.specs.declared.rows.ObjectRow.{ObjectRow}
@@ -38,21 +37,21 @@ pub record NodeData : Type 0 where
 abbrev pub object_in : List (ℕ × ObjectRow) → ℕ → Option ObjectRow
 object_in objects oid = lookup (is_at (nat_cmp oid)) objects
 
--- the order of activations: by process, then by depth
-abbrev pub frame_cmp : ℕ × ℕ → ℕ × ℕ → Ordering
-frame_cmp a b = ordering_then (nat_cmp a.0 b.0) (nat_cmp a.1 b.1)
-
-abbrev pub frame_in : List ((ℕ × ℕ) × FrameRow) → ℕ → ℕ → Option FrameRow
-frame_in frames p d = lookup (is_at (frame_cmp (p, d))) frames
-
-abbrev pub owned_object : ObjectRow → Owned
-owned_object r = record { blocks = r.blocks; size = r.size; class = Some r.class; fixed = r.fixed; monitor = r.monitor }
+abbrev pub owned_object : ℕ → ObjectRow → Owned
+owned_object oid r = record {
+  home = oid;
+  blocks = r.blocks;
+  size = r.size;
+  class = Some r.class;
+  fixed = r.fixed;
+  monitor = r.monitor;
+}
 
 abbrev pub owned_frame : FrameRow → Owned
-owned_frame r = record { blocks = r.block ∷ []; size = 0; class = None; fixed = false; monitor = None }
+owned_frame r = record { home = r.home; blocks = r.block ∷ []; size = 0; class = None; fixed = false; monitor = None }
 
 abbrev pub row_of : NodeData → Key → Option Owned
-row_of node (Object oid) = option_map owned_object (object_in node.objects oid)
+row_of node (Object oid) = option_map (owned_object oid) (object_in node.objects oid)
 row_of node (Frame p d) = option_map owned_frame (frame_in node.frames p d)
 
 -- how many blocks an owner has: an activation one

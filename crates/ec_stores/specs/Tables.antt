@@ -1,9 +1,14 @@
--- Local references and texts, found both ways.
-use Rattle.std.specs.Prelude.{◌≡◌, ℕ, zero, suc, ◌^◌, ◌<◌, ◌≤◌, List, length, Option, Some, None, Vec, slice_get}
-use Rattle.std.specs.BTreeMap.{BTreeMap, get, get_by}
+-- Local references and texts, found both ways, and activations, found by process and depth and by their objects.
+use Rattle.std.specs.Prelude.{◌≡◌, ℕ, zero, suc, ◌-◌, ◌^◌, ◌<◌, ◌≤◌, false, true, List, length, Option, Some, None, Vec, slice_get}
+use Rattle.std.specs.BTreeMap.{BTreeMap, get, get_by, is_at}
+use Rattle.std.specs.BTreeSet.{BTreeSet, contains, keys_between}
 use Rattle.std.specs.Cmp.Lexicographic.{slice_cmp}
-use Rattle.std.specs.Ordering.{nat_cmp}
+use Rattle.std.specs.Map.{lookup}
+use Rattle.std.specs.Ordering.{nat_cmp, ordering_then}
+use Rattle.ec_stores.specs.declared.rows.FrameRow.{FrameRow}
+use Rattle.ec_world.specs.Group.{Has}
 use Rattle.std.specs.declared.cmp.Ordering.{Ordering}
+use Rattle.std.specs.declared.ops.Bound.TheVariants.{Included}
 
 -- the object that a local reference names, from 1; 0 is none
 abbrev pub local_in : List ℕ → ℕ → Option ℕ
@@ -15,6 +20,43 @@ pub record AreReferences (words : BTreeMap ℕ ℕ) (named : List ℕ) : Type 0 
   pub each : (i oid : ℕ) → slice_get named i ≡ Some oid → get nat_cmp words oid ≡ Some (suc i)
   pub only : (oid word : ℕ) → get nat_cmp words oid ≡ Some word → local_in named word ≡ Some oid
   pub few : length named < 2 ^ 32
+
+-- ---- activations
+
+-- the order of activations: by process, then by depth
+abbrev pub frame_cmp : ℕ × ℕ → ℕ × ℕ → Ordering
+frame_cmp a b = ordering_then (nat_cmp a.0 b.0) (nat_cmp a.1 b.1)
+
+-- the order of activations with their objects: by object, then by process, then by depth
+abbrev pub standing_cmp : ℕ × ℕ × ℕ → ℕ × ℕ × ℕ → Ordering
+standing_cmp a b = ordering_then (ordering_then (nat_cmp a.0 b.0) (nat_cmp a.1 b.1)) (nat_cmp a.2 b.2)
+
+abbrev pub frame_in : List ((ℕ × ℕ) × FrameRow) → ℕ → ℕ → Option FrameRow
+frame_in frames p d = lookup (is_at (frame_cmp (p, d))) frames
+
+-- a set has each activation behind its object, and nothing else; all numbers have 32 bits
+pub record AreStanding (standing : BTreeSet (ℕ × ℕ × ℕ)) (frames : List ((ℕ × ℕ) × FrameRow)) : Type 0 where
+  pub each : (p d : ℕ) (row : FrameRow) → frame_in frames p d ≡ Some row → contains standing_cmp standing (row.home, p, d) ≡ true
+  pub only : (o p d : ℕ) → contains standing_cmp standing (o, p, d) ≡ true →
+      (row : FrameRow) × (frame_in frames p d ≡ Some row) × (row.home ≡ o)
+  pub small : (p d : ℕ) (row : FrameRow) → frame_in frames p d ≡ Some row → (p < 2 ^ 32) × (d < 2 ^ 32)
+
+-- the keys of a set that are on an object
+abbrev pub keys_on : BTreeSet (ℕ × ℕ × ℕ) → ℕ → List (ℕ × ℕ × ℕ)
+keys_on standing oid =
+    keys_between standing_cmp (Included (oid, 0, 0)) (Included (oid, 2 ^ 32 - 1, 2 ^ 32 - 1)) standing
+
+-- one activation now has this row, or none; every other has the one that it had
+pub record SetsFrame (old new : List ((ℕ × ℕ) × FrameRow)) (p d : ℕ) (row : Option FrameRow) : Type 0 where
+  pub here : frame_in new p d ≡ row
+  pub others : (q : ℕ × ℕ) → is_at (frame_cmp (p, d)) q ≡ false → frame_in new q.0 q.1 ≡ frame_in old q.0 q.1
+
+-- these are the activations on an object, each behind its number
+pub record AreOn (frames : List ((ℕ × ℕ) × FrameRow)) (oid : ℕ) (found : List (ℕ × ℕ × ℕ)) : Type 0 where
+  pub each : (o p d : ℕ) → Has found (o, p, d) → (row : FrameRow) × (frame_in frames p d ≡ Some row) × (row.home ≡ oid)
+  pub all : (p d : ℕ) (row : FrameRow) → frame_in frames p d ≡ Some row → row.home ≡ oid → Has found (oid, p, d)
+
+-- ---- texts
 
 -- texts, each of them once, how many bytes they may have in all, and how many more
 pub record TextPool : Type 0 where

@@ -1,12 +1,13 @@
 //! One node.
 ghost use Rattle.std.specs.Prelude.{◌≡◌, ◌≤◌, ◌^◌, IfOk};
 
+use crate::frames::Frames;
 use crate::memory::NodeMemory;
 use crate::pool::Pool;
 use crate::references::References;
-use crate::rows::{FrameRow, ObjectRow};
+use crate::rows::ObjectRow;
 use ec_world::node::Kind;
-use ec_world::value::{Oid, Pid};
+use ec_world::value::Oid;
 use std::alloc::{AllocError, Global};
 use std::collections::BTreeMap;
 use std::marker::Model;
@@ -18,7 +19,7 @@ pub struct NodeStore {
     pub(crate) kind: Kind,
     pub(crate) memory: NodeMemory,
     pub(crate) objects: BTreeMap<Oid, ObjectRow>,
-    pub(crate) frames: BTreeMap<(Pid, u32), FrameRow>,
+    pub(crate) frames: Frames,
     pub(crate) references: References,
     pub(crate) pool: Pool,
     pub(crate) count: u64,
@@ -61,7 +62,7 @@ impl NodeStore {
             kind,
             memory: NodeMemory::new(alloc, kind, blocks, globals)?,
             objects: BTreeMap::new(alloc),
-            frames: BTreeMap::new(alloc),
+            frames: Frames::new(alloc),
             references: References::new(alloc),
             pool: Pool::new(alloc, room),
             count: 0,

@@ -1,19 +1,20 @@
 //! Objects and activations, which own blocks.
-ghost use Rattle.std.specs.Prelude.{◌≡◌, ◌≤◌, ◌<◌, ◌*◌, length, OnOk, IfSome, IfNone, IsTrue, ◌↔◌, IsSome, None, Some};
+ghost use Rattle.std.specs.Prelude.{◌≡◌, ◌≤◌, ◌<◌, ◌*◌, length, OnOk, IfOk, IfSome, IfNone, IsTrue, ◌↔◌, IsSome, None, Some};
 ghost use Rattle.std.specs.Bool.{OnFalse};
 ghost use Rattle.ec_nodes.specs.Things as spec;
 ghost use Rattle.ec_nodes.specs.declared.key.Key.TheVariants.{Object as OfObject, Frame as OfFrame};
 ghost use Rattle.ec_stores.specs.Node.{store_of};
-ghost use Rattle.ec_stores.specs.Changes.{Closed, FirstBlock, HasBlock, IsObject, LacksMonitor, MonitorIs};
+ghost use Rattle.ec_stores.specs.Changes.{Closed, FirstBlock, HasBlock, HasOn, IsObject, LacksMonitor, MonitorIs};
 ghost use Rattle.ec_stores.specs.Changes.{PlacedFrame, PlacedObject, SetsRow, with_fixed};
 
+use crate::frames::Standing;
 use crate::lists::{give_list, take_filled};
 use crate::node::NodeStore;
 use crate::rows::{FrameRow, Object, ObjectRow, class_blocks};
 use ec_monitors::monitor::Monitor;
 use ec_world::class::ClassNo;
 use ec_world::value::{Oid, Pid};
-use std::alloc::AllocError;
+use std::alloc::{AllocError, Global};
 
 impl NodeStore {
     /// An object, where it is here.
@@ -36,7 +37,15 @@ impl NodeStore {
         ensures there { IsTrue result ↔ IsSome ((store_of self.now).row (OfFrame process depth)) }
         ensures none { OnFalse result ((store_of self.now).row (OfFrame process depth) ≡ None) }
     {
-        self.frames.contains_key(&(process, depth))
+        self.frames.find(process, depth).is_some()
+    }
+
+    /// The activations here on an object, by process and then by depth; it doesn't look at those on other objects. The error is
+    /// want of memory.
+    pub fn activations_on(&self, alloc: Global, oid: Oid) -> Result<Vec<Standing>, AllocError>
+        ensures { IfOk result (λ found. HasOn (store_of self.now) oid found.items) }
+    {
+        self.frames.on(alloc, oid)
     }
 
     /// The first block of an object that has one.
@@ -57,7 +66,7 @@ impl NodeStore {
         ensures first { FirstBlock (store_of self.now) (OfFrame process depth) result }
         ensures small { result < 65536 }
     {
-        match self.frames.get(&(process, depth)) {
+        match self.frames.find(process, depth) {
             Some(row) => row.block,
             None => unreachable!(),
         }
@@ -92,17 +101,24 @@ impl NodeStore {
         Ok(())
     }
 
-    /// A new activation in a free block, which begins with these words, at most 128. The error is want of memory; what the
-    /// store keeps is then left open.
-    pub fn begin(&mut self, process: Pid, depth: u32, words: &[u32]) -> Result<(), AllocError>
+    /// A new activation on an object, in a free block, which begins with these words, at most 128. The error is want of memory;
+    /// what the store keeps is then left open.
+    pub fn begin(
+        &mut self,
+        process: Pid,
+        depth: u32,
+        own: Oid,
+        words: &[u32],
+    ) -> Result<(), AllocError>
         requires new { (store_of self.old).row (OfFrame process depth) ≡ None }
         requires room { 0 < (store_of self.old).free }
         requires short { length words.now ≤ 128 }
-        ensures { OnOk result (PlacedFrame (store_of self.old) (store_of self.new) process depth words.now) }
+        ensures { OnOk result (PlacedFrame (store_of self.old) (store_of self.new) process depth own words.now) }
     {
         let blocks = take_filled(&mut self.memory, self.alloc, 1, words)?;
         let block = *blocks.at(0);
-        self.frames.insert((process, depth), FrameRow { block })?;
+        let row = FrameRow { home: own, block };
+        self.frames.add(process, depth, row)?;
         Ok(())
     }
 
@@ -127,7 +143,7 @@ impl NodeStore {
         requires { IsSome ((store_of self.old).row (OfFrame process depth)) }
         ensures { Closed (store_of self.old) (store_of self.new) (OfFrame process depth) }
     {
-        match self.frames.remove(&(process, depth)) {
+        match self.frames.remove(process, depth) {
             Some(row) => give_list(&mut self.memory, &[row.block]),
             None => unreachable!(),
         }

@@ -5,6 +5,7 @@ ghost use Rattle.ec_nodes.specs.Things as spec;
 use ec_base::list::Seq;
 use ec_monitors::monitor::Monitor;
 use ec_world::class::ClassNo;
+use ec_world::value::Oid;
 
 /// An object: its blocks in the order of its words, how many fields or elements it has, its class, whether it is fixed at its node,
 /// and its monitor, if its class has one.
@@ -17,9 +18,10 @@ pub struct ObjectRow {
     pub monitor: Option<Monitor>,
 }
 
-/// An activation: its block.
+/// An activation: the object that it is on, and its block.
 #[derive(Clone, Copy)]
 pub struct FrameRow {
+    pub home: Oid,
     pub block: u32,
 }
 

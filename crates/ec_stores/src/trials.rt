@@ -70,8 +70,11 @@ fn a_vector_of_129_keeps_its_last_word(rt: HostRuntime) -> Result<(), Fail> {
 fn activations_come_and_go(rt: HostRuntime) -> Result<(), Fail> {
     let mut node = NodeStore::new(rt.alloc(), Kind::Mips, 1, 0, 0)?;
     assert!(rt; !node.has_frame(0, 4));
-    node.begin(0, 4, &[5, 6])?;
+    node.begin(0, 4, 9, &[5, 6])?;
     assert!(rt; !node.has_frame(4, 0));
+    let found = node.activations_on(rt.alloc(), 9)?;
+    assert!(rt; found.as_slice() == [(9, 0, 4)].as_slice());
+    assert_eq!(rt; node.activations_on(rt.alloc(), 4)?.len(), 0);
     node.set_frame_word(0, 4, 1, 8);
     assert_eq!(rt; node.frame_word(0, 4, 1), 8);
     node.close(0, 4);

@@ -36,7 +36,7 @@ impl NodeStore {
         requires { OwnsWord (store_of self.now) (OfFrame process depth) i }
         ensures { WordIs (store_of self.now) (OfFrame process depth) i result }
     {
-        match self.frames.get(&(process, depth)) {
+        match self.frames.find(process, depth) {
             Some(row) => word_of(&self.memory, &[row.block], i),
             None => unreachable!(),
         }
@@ -47,7 +47,7 @@ impl NodeStore {
         requires { OwnsWord (store_of self.old) (OfFrame process depth) i }
         ensures { WritesWord (store_of self.old) (store_of self.new) (OfFrame process depth) i word }
     {
-        match self.frames.get(&(process, depth)) {
+        match self.frames.find(process, depth) {
             Some(row) => set_word_of(&mut self.memory, &[row.block], i, word),
             None => unreachable!(),
         }

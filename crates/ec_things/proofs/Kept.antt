@@ -48,6 +48,7 @@ at_kept s s' blocks at v g w h = record {
 
 pub spells_kept : (s s' : Store) (r : Owned) (t : Thing) → Carries s s' → SameWords s s' r.blocks → Spells s r t → Spells s' r t
 spells_kept s s' r t g w h = record {
+  home = h.home;
   counted = h.counted;
   size = h.size;
   class = h.class;

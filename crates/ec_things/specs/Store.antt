@@ -11,9 +11,10 @@ use Rattle.ec_nodes.specs.Held.{Distinct}
 use Rattle.ec_nodes.specs.Words.{StandsFor, text_bytes}
 use Rattle.ec_nodes.specs.declared.key.Key.{Key}
 
--- what is kept of an owner of blocks: of an object also how many fields or elements it has, its class, whether it is fixed, and
--- its monitor; an activation has none of these
+-- what is kept of an owner of blocks: the object at whose place it is, of an object itself and of an activation the one that it is on;
+-- of an object also how many fields or elements it has, its class, whether it is fixed, and its monitor; an activation has none of these
 pub record Owned : Type 0 where
+  pub home : ℕ
   pub blocks : List ℕ
   pub size : ℕ
   pub class : Option ClassNo

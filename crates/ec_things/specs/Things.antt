@@ -59,8 +59,10 @@ module _ {A : Type 0} (frame : ℕ → ℕ → A → Thing) where
   things_of w (Object oid) = object_if oid (object_at w.common.objects oid)
   things_of w (Frame p d) = frame_if p d (activation_at w.processes p d)
 
--- what a store keeps of an owner is this thing: its blocks, what is kept beside them, its plain words, and a word for each value
+-- what a store keeps of an owner is this thing: its home, its blocks, what is kept beside them, its plain words, and a word for each
+-- value
 pub record Spells (s : Store) (r : Owned) (t : Thing) : Type 0 where
+  pub home : r.home ≡ t.home
   pub counted : length r.blocks ≡ t.blocks
   pub size : r.size ≡ t.size
   pub class : r.class ≡ t.class

@@ -46,7 +46,7 @@ made_words s m process depth h table e values held words frame pending are flag 
 arrives_if : {X E : Type 0} (s m s' : Store) (process depth : ℕ) (h : Headings) (table : OperationTable) (e : StopEntry)
     (values : List Value) (words frame : List ℕ) (r : Result X E) →
     Made s m process depth h table (carried e h.pending) values words frame → s.row (Frame process depth) ≡ None →
-    OnOk r (PlacedFrame m s' process depth frame) → OnOk r (Arrives s s' table e process depth h values)
+    OnOk r (PlacedFrame m s' process depth h.own frame) → OnOk r (Arrives s s' table e process depth h values)
 arrives_if s m s' process depth h table e values words frame (Ok x) made none placed =
     frame_arrives s m s' process depth h table e values words frame made placed none
 arrives_if s m s' process depth h table e values words frame (Err x) made none placed = tt
@@ -54,7 +54,7 @@ arrives_if s m s' process depth h table e values words frame (Err x) made none p
 texts_if : {X E : Type 0} (s m s' : Store) (process depth : ℕ) (h : Headings) (table : OperationTable) (e : StopEntry)
     (values : List Value) (words frame : List ℕ) (r : Result X E) →
     Made s m process depth h table (carried e h.pending) values words frame → s.row (Frame process depth) ≡ None →
-    OnOk r (PlacedFrame m s' process depth frame) → OnOk r (GetsTexts (λ text. Has (Ref h.own ∷ values) (Str text)) s s')
+    OnOk r (PlacedFrame m s' process depth h.own frame) → OnOk r (GetsTexts (λ text. Has (Ref h.own ∷ values) (Str text)) s s')
 texts_if s m s' process depth h table e values words frame (Ok x) made none placed =
     texts_come s m s' process depth h table e values words frame made placed none
 texts_if s m s' process depth h table e values words frame (Err x) made none placed = tt
@@ -75,7 +75,7 @@ returns-clause-puts c =
     c.pending_word-pending.ensures has c.in_ok-frame.ensures in
     arrives_if s m (store_of c.begin.new.self) c.args.process c.args.depth h c.args.table.now c.args.entry.now c.args.values.now words
     c.in_ok-frame.frame.items c.begin.result made c.requires.new
-    (subst (λ (f : List ℕ). OnOk c.begin.result (PlacedFrame m (store_of c.begin.new.self) c.args.process c.args.depth f))
+    (subst (λ (f : List ℕ). OnOk c.begin.result (PlacedFrame m (store_of c.begin.new.self) c.args.process c.args.depth h.own f))
     c.as_slice.ensures.value c.begin.ensures)
 
 pub returns-clause-gets : goal.returns-clause-gets
@@ -91,5 +91,5 @@ returns-clause-gets c =
     c.pending_word-pending.ensures has c.in_ok-frame.ensures in
     texts_if s m (store_of c.begin.new.self) c.args.process c.args.depth h c.args.table.now c.args.entry.now c.args.values.now words
     c.in_ok-frame.frame.items c.begin.result made c.requires.new
-    (subst (λ (f : List ℕ). OnOk c.begin.result (PlacedFrame m (store_of c.begin.new.self) c.args.process c.args.depth f))
+    (subst (λ (f : List ℕ). OnOk c.begin.result (PlacedFrame m (store_of c.begin.new.self) c.args.process c.args.depth h.own f))
     c.as_slice.ensures.value c.begin.ensures)

@@ -51,7 +51,7 @@ made_words s m process depth operation own arguments table values held words fra
 
 begins_if : {X E : Type 0} (s m s' : Store) (process depth operation own : ℕ) (arguments : List Value) (table : OperationTable)
     (words frame : List ℕ) (r : Result X E) → Made s m process depth operation own arguments table words frame →
-    s.row (Frame process depth) ≡ None → HasEntry table → OnOk r (PlacedFrame m s' process depth frame) →
+    s.row (Frame process depth) ≡ None → HasEntry table → OnOk r (PlacedFrame m s' process depth own frame) →
     OnOk r (BeginsFrame s s' table process depth operation own arguments)
 begins_if s m s' process depth operation own arguments table words frame (Ok x) made none entry placed =
     frame_begins s m s' process depth operation own arguments table words frame made.word made.first made.has made.filled placed none entry
@@ -59,7 +59,7 @@ begins_if s m s' process depth operation own arguments table words frame (Err e)
 
 texts_if : {X E : Type 0} (s m s' : Store) (process depth operation own : ℕ) (arguments : List Value) (table : OperationTable)
     (words frame : List ℕ) (r : Result X E) → Made s m process depth operation own arguments table words frame →
-    s.row (Frame process depth) ≡ None → HasEntry table → OnOk r (PlacedFrame m s' process depth frame) →
+    s.row (Frame process depth) ≡ None → HasEntry table → OnOk r (PlacedFrame m s' process depth own frame) →
     OnOk r (GetsTexts (λ text. Has (first_values table own arguments) (Str text)) s s')
 texts_if s m s' process depth operation own arguments table words frame (Ok x) made none entry placed =
     texts_come s m s' process depth operation own arguments table words frame made.word made.first made.has made.filled placed none entry
@@ -91,7 +91,7 @@ returns-clause-puts c =
     (c.as_slice-held.ensures.value ∙ c.in_ok-live.ensures) are (slice_get-get_or words 0 0 low) has c.in_ok-frame.ensures in
     begins_if s m (store_of c.begin.new.self) c.args.process c.args.depth c.args.operation c.args.own c.args.arguments.now c.args.table.now
     words c.in_ok-frame.frame.items c.begin.result made c.requires.new c.requires.entry
-    (subst (λ (f : List ℕ). OnOk c.begin.result (PlacedFrame m (store_of c.begin.new.self) c.args.process c.args.depth f))
+    (subst (λ (f : List ℕ). OnOk c.begin.result (PlacedFrame m (store_of c.begin.new.self) c.args.process c.args.depth c.args.own f))
     c.as_slice-2.ensures.value c.begin.ensures)
 
 pub returns-clause-gets : goal.returns-clause-gets
@@ -109,5 +109,5 @@ returns-clause-gets c =
     (c.as_slice-held.ensures.value ∙ c.in_ok-live.ensures) are (slice_get-get_or words 0 0 low) has c.in_ok-frame.ensures in
     texts_if s m (store_of c.begin.new.self) c.args.process c.args.depth c.args.operation c.args.own c.args.arguments.now c.args.table.now
     words c.in_ok-frame.frame.items c.begin.result made c.requires.new c.requires.entry
-    (subst (λ (f : List ℕ). OnOk c.begin.result (PlacedFrame m (store_of c.begin.new.self) c.args.process c.args.depth f))
+    (subst (λ (f : List ℕ). OnOk c.begin.result (PlacedFrame m (store_of c.begin.new.self) c.args.process c.args.depth c.args.own f))
     c.as_slice-2.ensures.value c.begin.ensures)

@@ -9,8 +9,8 @@ pub returns-clause-small : goal.returns-clause-small
 returns-clause-small c =
     let node = data_of c.self.inside in
     let row = c.in-Some.row.now in
-    let found = found_is owned_object (object_in node.objects c.args.oid) row c.in-Some.ensures.value in
-    let within = c.self.invariant.owners.within (OfObject c.args.oid) (owned_object row) c.at.result.now found
+    let found = found_is (owned_object c.args.oid) (object_in node.objects c.args.oid) row c.in-Some.ensures.value in
+    let within = c.self.invariant.owners.within (OfObject c.args.oid) (owned_object c.args.oid row) c.at.result.now found
     (record { at = 0; is = c.at.ensures }) in
     let few = c.self.invariant.whole.few_blocks in
     omega arith

@@ -13,4 +13,4 @@ returns-in-Some-clause-some c =
     let row = c.in-Some.row.now in
     subst (λ (n : NodeData). IfSome c.as_ref.result (λ m. MonitorIs (store_of n) c.args.oid m.now)) c.self.view_is
     (monitor_found (store_of node) c.args.oid row c.as_ref.result c.as_ref.ensures.value
-    (found_is owned_object (object_in node.objects c.args.oid) row c.in-Some.ensures.value))
+    (found_is (owned_object c.args.oid) (object_in node.objects c.args.oid) row c.in-Some.ensures.value))

@@ -11,13 +11,13 @@ pub returns-in-Some-clause-some : goal.returns-in-Some-clause-some
 returns-in-Some-clause-some c =
     let node = data_of c.self.inside in
     let row = c.in-Some.row.now in
-    let found = found_is owned_object (object_in node.objects c.args.oid) row c.in-Some.ensures.value in
+    let found = found_is (owned_object c.args.oid) (object_in node.objects c.args.oid) row c.in-Some.ensures.value in
     let o : Object = record { class = row.class; size = row.size; fixed = row.fixed } in
     subst (λ (n : NodeData). IsObject (store_of n) c.args.oid o) c.self.view_is (record {
-      row = owned_object row;
+      row = owned_object c.args.oid row;
       there = found;
       class = refl;
       size = refl;
       fixed = refl;
-      blocks = c.self.invariant.owners.counted (OfObject c.args.oid) (owned_object row) found;
+      blocks = c.self.invariant.owners.counted (OfObject c.args.oid) (owned_object c.args.oid row) found;
     })

@@ -16,21 +16,21 @@ pub word_of-requires-clause-blocks_in : goal.word_of-requires-clause-blocks_in
 word_of-requires-clause-blocks_in c =
     let node = data_of c.self.inside in
     let row = c.in-Some.row.now in
-    let found = found_is owned_object (object_in node.objects c.args.oid) row c.in-Some.ensures.value in
+    let found = found_is (owned_object c.args.oid) (object_in node.objects c.args.oid) row c.in-Some.ensures.value in
     subst (λ (l : List ℕ). AllByRecursion (λ b. b < length (held node.memory).links) l) (sym c.as_slice.ensures)
-    (its_in node c.self.invariant (OfObject c.args.oid) (owned_object row) found)
+    (its_in node c.self.invariant (OfObject c.args.oid) (owned_object c.args.oid row) found)
 
 pub returns : goal.returns
 returns c =
     let node = data_of c.self.inside in
     let row = c.in-Some.row.now in
-    let found = found_is owned_object (object_in node.objects c.args.oid) row c.in-Some.ensures.value in
-    let within = owned_within node (OfObject c.args.oid) (owned_object row) c.args.i found
+    let found = found_is (owned_object c.args.oid) (object_in node.objects c.args.oid) row c.in-Some.ensures.value in
+    let within = owned_within node (OfObject c.args.oid) (owned_object c.args.oid row) c.args.i found
     (subst (λ (n : NodeData). OwnsWord (store_of n) (OfObject c.args.oid) c.args.i) (sym c.self.view_is) c.requires) in
-    let read : (b : ℕ) → slice_get (owned_object row).blocks (c.args.i / 128) ≡ Some b →
+    let read : (b : ℕ) → slice_get (owned_object c.args.oid row).blocks (c.args.i / 128) ≡ Some b →
     word_at (kind_of node.memory) node.memory (block_word_at b (c.args.i % 128)) ≡ Some c.word_of.result =
     subst (λ (l : List ℕ). (b : ℕ) → slice_get l (c.args.i / 128) ≡ Some b →
     word_at (kind_of node.memory) node.memory (block_word_at b (c.args.i % 128)) ≡ Some c.word_of.result) c.as_slice.ensures
     c.word_of.ensures in
     subst (λ (n : NodeData). WordIs (store_of n) (OfObject c.args.oid) c.args.i c.word_of.result) c.self.view_is
-    (word_read node c.self.invariant (OfObject c.args.oid) (owned_object row) c.args.i c.word_of.result found within read)
+    (word_read node c.self.invariant (OfObject c.args.oid) (owned_object c.args.oid row) c.args.i c.word_of.result found within read)

@@ -15,25 +15,25 @@ pub give_list-requires-clause-blocks_in : goal.give_list-requires-clause-blocks_
 give_list-requires-clause-blocks_in c =
     let node = data_of c.self.inside in
     let row = c.in-Some.row in
-    let found = found_is owned_object (object_in c.self.inside.objects.entries c.args.oid) row c.in-Some.ensures.value in
+    let found = found_is (owned_object c.args.oid) (object_in c.self.inside.objects.entries c.args.oid) row c.in-Some.ensures.value in
     subst (λ (l : List ℕ). AllByRecursion (λ b. b < length (held node.memory).links) l) (sym c.as_slice.ensures)
-    (its_in node c.self.invariant (OfObject c.args.oid) (owned_object row) found)
+    (its_in node c.self.invariant (OfObject c.args.oid) (owned_object c.args.oid row) found)
 
 pub give_list-requires-clause-once : goal.give_list-requires-clause-once
 give_list-requires-clause-once c =
     let node = data_of c.self.inside in
     let row = c.in-Some.row in
-    let found = found_is owned_object (object_in c.self.inside.objects.entries c.args.oid) row c.in-Some.ensures.value in
+    let found = found_is (owned_object c.args.oid) (object_in c.self.inside.objects.entries c.args.oid) row c.in-Some.ensures.value in
     subst (λ (l : List ℕ). IsOnce l) (sym c.as_slice.ensures)
-    (its_once node c.self.invariant (OfObject c.args.oid) (owned_object row) found)
+    (its_once node c.self.invariant (OfObject c.args.oid) (owned_object c.args.oid row) found)
 
 pub give_list-requires-clause-taken : goal.give_list-requires-clause-taken
 give_list-requires-clause-taken c =
     let node = data_of c.self.inside in
     let row = c.in-Some.row in
-    let found = found_is owned_object (object_in c.self.inside.objects.entries c.args.oid) row c.in-Some.ensures.value in
+    let found = found_is (owned_object c.args.oid) (object_in c.self.inside.objects.entries c.args.oid) row c.in-Some.ensures.value in
     subst (λ (l : List ℕ). (b : ℕ) → Has l b → Has (held node.memory).free b → ⊥) (sym c.as_slice.ensures)
-    (its_taken node c.self.invariant (OfObject c.args.oid) (owned_object row) found)
+    (its_taken node c.self.invariant (OfObject c.args.oid) (owned_object c.args.oid row) found)
 
 pub invariant_of-self : goal.invariant_of-self
 invariant_of-self c =

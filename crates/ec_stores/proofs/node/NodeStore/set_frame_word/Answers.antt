@@ -6,7 +6,8 @@ use Rattle.ec_nodes.specs.declared.key.Key.TheVariants.{Frame as OfFrame}
 use Rattle.ec_stores.specs.Changes.{OwnsWord, WritesWord}
 use Rattle.ec_stores.specs.Inside.{data_of}
 use Rattle.ec_stores.specs.Memory.{kind_of, WritesAt}
-use Rattle.ec_stores.specs.Node.{NodeData, frame_in, owned_frame, store_of}
+use Rattle.ec_stores.specs.Node.{NodeData, owned_frame, store_of}
+use Rattle.ec_stores.specs.Tables.{frame_in}
 use Rattle.ec_stores.proofs.Comings.{found_is}
 use Rattle.ec_stores.proofs.Placing.{its_in}
 use Rattle.ec_stores.proofs.Writing.{laid_same, owned_within, with_memory, writes_word}
@@ -15,8 +16,8 @@ use Rattle.ec_stores.proofs.node.NodeStore.set_frame_word.Goals as goal
 pub set_word_of-requires-clause-blocks_in : goal.set_word_of-requires-clause-blocks_in
 set_word_of-requires-clause-blocks_in c =
     let node = data_of c.self.inside in
-    let row = c.in-Some.row.now in
-    let found = found_is owned_frame (frame_in node.frames c.args.process c.args.depth) row c.in-Some.ensures.value in
+    let row = c.in-Some.row in
+    let found = found_is owned_frame (frame_in node.frames c.args.process c.args.depth) row c.in-Some.ensures in
     its_in node c.self.invariant (OfFrame c.args.process c.args.depth) (owned_frame row) found
 
 pub invariant_of-self : goal.invariant_of-self
@@ -25,8 +26,8 @@ invariant_of-self c = laid_same (data_of c.self.inside) c.set_word_of.new.memory
 pub returns : goal.returns
 returns c =
     let node = data_of c.self.inside in
-    let row = c.in-Some.row.now in
-    let found = found_is owned_frame (frame_in node.frames c.args.process c.args.depth) row c.in-Some.ensures.value in
+    let row = c.in-Some.row in
+    let found = found_is owned_frame (frame_in node.frames c.args.process c.args.depth) row c.in-Some.ensures in
     let few = c.ranges.word in
     let within = owned_within node (OfFrame c.args.process c.args.depth) (owned_frame row) c.args.i found
     (subst (λ (n : NodeData). OwnsWord (store_of n) (OfFrame c.args.process c.args.depth) c.args.i) (sym c.self.view_is) c.requires) in

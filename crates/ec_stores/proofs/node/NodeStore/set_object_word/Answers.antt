@@ -17,9 +17,9 @@ pub set_word_of-requires-clause-blocks_in : goal.set_word_of-requires-clause-blo
 set_word_of-requires-clause-blocks_in c =
     let node = data_of c.self.inside in
     let row = c.in-Some.row.now in
-    let found = found_is owned_object (object_in node.objects c.args.oid) row c.in-Some.ensures.value in
+    let found = found_is (owned_object c.args.oid) (object_in node.objects c.args.oid) row c.in-Some.ensures.value in
     subst (λ (l : List ℕ). AllByRecursion (λ b. b < length (held node.memory).links) l) (sym c.as_slice.ensures)
-    (its_in node c.self.invariant (OfObject c.args.oid) (owned_object row) found)
+    (its_in node c.self.invariant (OfObject c.args.oid) (owned_object c.args.oid row) found)
 
 pub invariant_of-self : goal.invariant_of-self
 invariant_of-self c = laid_same (data_of c.self.inside) c.set_word_of.new.memory c.self.invariant c.set_word_of.ensures.same
@@ -28,12 +28,12 @@ pub returns : goal.returns
 returns c =
     let node = data_of c.self.inside in
     let row = c.in-Some.row.now in
-    let found = found_is owned_object (object_in node.objects c.args.oid) row c.in-Some.ensures.value in
+    let found = found_is (owned_object c.args.oid) (object_in node.objects c.args.oid) row c.in-Some.ensures.value in
     let few = c.ranges.word in
-    let within = owned_within node (OfObject c.args.oid) (owned_object row) c.args.i found
+    let within = owned_within node (OfObject c.args.oid) (owned_object c.args.oid row) c.args.i found
     (subst (λ (n : NodeData). OwnsWord (store_of n) (OfObject c.args.oid) c.args.i) (sym c.self.view_is) c.requires) in
-    let b = get_there (owned_object row).blocks (c.args.i / 128) (omega arith) in
-    let writes : (b : ℕ) → slice_get (owned_object row).blocks (c.args.i / 128) ≡ Some b →
+    let b = get_there (owned_object c.args.oid row).blocks (c.args.i / 128) (omega arith) in
+    let writes : (b : ℕ) → slice_get (owned_object c.args.oid row).blocks (c.args.i / 128) ≡ Some b →
     WritesAt (kind_of node.memory) node.memory c.set_word_of.new.memory (block_word_at b (c.args.i % 128)) c.args.word =
     subst (λ (l : List ℕ). (b : ℕ) → slice_get l (c.args.i / 128) ≡ Some b →
     WritesAt (kind_of node.memory) node.memory c.set_word_of.new.memory (block_word_at b (c.args.i % 128)) c.args.word)
@@ -42,5 +42,5 @@ returns c =
     c.args.i c.args.word)
     c.self.view_is
     (writes_word node c.set_word_of.new.memory c.self.invariant c.set_word_of.ensures.same c.args.word (omega arith)
-    (OfObject c.args.oid) (owned_object row)
+    (OfObject c.args.oid) (owned_object c.args.oid row)
     c.args.i b.0 found b.1 (writes b.0 b.1))
