@@ -40,12 +40,22 @@ module _ {A : Type 0} (Before : A → A → Type 0) where
   sorted_up_to f each h (suc n) = sorted_both (up_to f n) (f n) (sorted_up_to f each h n) (each n)
       (λ x y k g. let z = has_up_to f n x k in h z.0 n x y z.1.0 z.1.1 g)
 
-  -- what comes of rising numbers, in their order
-  pub sorted_joined : (f : ℕ → List A) → ((i : ℕ) → Sorted (f i)) →
-      ((i j : ℕ) (x y : A) → i < j → Has (f i) x → Has (f j) y → Before x y) → (xs : List ℕ) → IsRising xs → Sorted (flat_map f xs)
-  sorted_joined f each h [] r = tt
-  sorted_joined f each h (x ∷ xs) r = sorted_both (f x) (flat_map f xs) (each x) (sorted_joined f each h xs (rising_tail x xs r))
-      (λ u y k g. let z = has_joined f xs y g in h x z.0 u y (rising_above x xs r z.0 z.1.0) k z.1.1)
+-- what comes of keys in order is in order
+module _ {K A : Type 0} (KeyBefore : K → K → Type 0) (Before : A → A → Type 0) (f : K → List A) (each : (k : K) → Sorted Before (f k))
+    (apart : (j k : K) (x y : A) → KeyBefore j k → Has (f j) x → Has (f k) y → Before x y) where
+  pub sorted_over : (ks : List K) → Sorted KeyBefore ks → Sorted Before (flat_map f ks)
+  sorted_over [] s = tt
+  sorted_over (k ∷ ks) s = sorted_both Before (f k) (flat_map f ks) (each k) (sorted_over ks s.1)
+      (λ x y h g. let z = has_joined f ks y g in apart k z.0 x y (s.0 z.0 z.1.0) h z.1.1)
+
+rising_sorted : (xs : List ℕ) → IsRising xs → Sorted (λ i j. i < j) xs
+rising_sorted [] r = tt
+rising_sorted (x ∷ xs) r = (rising_above x xs r, rising_sorted xs (rising_tail x xs r))
+
+-- what comes of rising numbers, in their order
+pub sorted_joined : {A : Type 0} (Before : A → A → Type 0) (f : ℕ → List A) → ((i : ℕ) → Sorted Before (f i)) →
+    ((i j : ℕ) (x y : A) → i < j → Has (f i) x → Has (f j) y → Before x y) → (xs : List ℕ) → IsRising xs → Sorted Before (flat_map f xs)
+sorted_joined Before f each apart xs r = sorted_over (λ i j. i < j) Before f each apart xs (rising_sorted xs r)
 
 -- what stands just before a place
 pub top_taken : {A : Type 0} (xs : List A) (i : ℕ) (x : A) → slice_get xs i ≡ Some x → top_of (take (suc i) xs) ≡ Some x

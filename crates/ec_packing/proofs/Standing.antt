@@ -31,7 +31,7 @@ use Rattle.ec_packing.proofs.Frames.{activation, entry, is_of, leaves_by, part_i
 use Rattle.ec_packing.proofs.Joining.{has_joined, has_up_to, joined_has, up_to_has}
 use Rattle.ec_packing.proofs.Rules.{ActivationBefore}
 use Rattle.ec_packing.proofs.Searching.{has_is_in}
-use Rattle.ec_packing.proofs.Sorting.{Sorted, sorted_both}
+use Rattle.ec_packing.proofs.Sorting.{Sorted, sorted_over}
 use Rattle.ec_packing.specs.Packing.{CanGo, activation_goes, activation_if, depths_if, process_goes, up_to}
 use Rattle.ec_packing.specs.Standing.{AreOnMembers, AreOnOneMore, IsFound, IsOnMember}
 use Rattle.ec_parcels.specs.Parcels.{ActivationGoes}
@@ -81,14 +81,6 @@ module _ {A : Type 0} (Before : A → A → Type 0) (one_way : (x y : A) → Bef
           (λ (k : Has xs z). k)
           (has_parts x z xs (from z (has_later y z ys h)))
 
-module _ {A B : Type 0} (KeyBefore : A → A → Type 0) (Before : B → B → Type 0) (f : A → List B)
-    (each : (k : A) → Sorted Before (f k))
-    (apart : (j k : A) (x y : B) → KeyBefore j k → Has (f j) x → Has (f k) y → Before x y) where
-  pub sorted_over : (ks : List A) → Sorted KeyBefore ks → Sorted Before (flat_map f ks)
-  sorted_over [] s = tt
-  sorted_over (k ∷ ks) s = sorted_both Before (f k) (flat_map f ks) (each k) (sorted_over ks s.1)
-      (λ x y h g. let z = has_joined f ks y g in apart k z.0 x y (s.0 z.0 z.1.0) h z.1.1)
-
 -- ---- keys in order
 
 abbrev pub KeyBefore : ℕ × ℕ → ℕ × ℕ → Type 0
@@ -123,9 +115,9 @@ keys_sorted (k ∷ ks) s = (each_before k ks s.0, keys_sorted ks s.1)
 -- ---- what is found
 
 -- one more is found
-pub one_found : (old new : BTreeSet (ℕ × ℕ)) (p d : ℕ) → Updates frame_cmp old new (p, d) true → (at : ℕ × ℕ) →
-    IsFound new at ↔ (IsFound old at ⊎ (at ≡ (p, d)))
-one_found old new p d updates at = by (is_at (frame_cmp (p, d)) at) refl
+pub one_found : (old new : BTreeSet (ℕ × ℕ)) (k : ℕ × ℕ) → Updates frame_cmp old new k true → (at : ℕ × ℕ) →
+    IsFound new at ↔ (IsFound old at ⊎ (at ≡ k))
+one_found old new (p, d) updates at = by (is_at (frame_cmp (p, d)) at) refl
   where
     by : (b : Bool) → is_at (frame_cmp (p, d)) at ≡ b → IsFound new at ↔ (IsFound old at ⊎ (at ≡ (p, d)))
     by true e =
@@ -184,50 +176,39 @@ all_found s members found are ordered = record {
 }
 
 -- those of a list have been found too
-abbrev pub AreFirst : List (ℕ × ℕ × ℕ) → BTreeSet (ℕ × ℕ) → BTreeSet (ℕ × ℕ) → Type 0
-AreFirst standing old new = (at : ℕ × ℕ) → IsFound new at ↔ (IsFound old at ⊎ ((o : ℕ) × Has {A = ℕ × ℕ × ℕ} standing (o, at.0, at.1)))
+abbrev pub AreFirst : List (ℕ × ℕ) → BTreeSet (ℕ × ℕ) → BTreeSet (ℕ × ℕ) → Type 0
+AreFirst standing old new = (at : ℕ × ℕ) → IsFound new at ↔ (IsFound old at ⊎ Has standing at)
 
 pub none_first : (found : BTreeSet (ℕ × ℕ)) → AreFirst [] found found
-none_first found at = (
-  λ h. inl h,
-  λ h. ⊎_elim (λ (g : IsFound found at). g) (λ (g : (o : ℕ) × Has {A = ℕ × ℕ × ℕ} [] (o, at.0, at.1)). absurd (has_none (g.0, at.0, at.1) g.1)) h,
-)
+none_first found at = (λ h. inl h, λ h. ⊎_elim (λ (g : IsFound found at). g) (λ (g : Has [] at). absurd (has_none at g)) h)
 
-pub more_first : (xs ys : List (ℕ × ℕ × ℕ)) (o p d : ℕ) (old now new : BTreeSet (ℕ × ℕ)) → ys ≡ xs ++ (o, p, d) ∷ [] →
-    AreFirst xs old now → Updates frame_cmp now new (p, d) true → AreFirst ys old new
-more_first xs ys o p d old now new is first updates at =
-    let one = one_found now new p d updates at in (
+pub more_first : (xs ys : List (ℕ × ℕ)) (k : ℕ × ℕ) (old now new : BTreeSet (ℕ × ℕ)) → ys ≡ xs ++ k ∷ [] →
+    AreFirst xs old now → Updates frame_cmp now new k true → AreFirst ys old new
+more_first xs ys k old now new is first updates at =
+    let one = one_found now new k updates at in (
       λ h. ⊎_elim
           (λ (g : IsFound now at). ⊎_elim
-          (λ (k : IsFound old at). inl k)
-          (λ (k : (u : ℕ) × Has {A = ℕ × ℕ × ℕ} xs (u, at.0, at.1)).
-          inr (k.0, subst (λ (l : List (ℕ × ℕ × ℕ)). Has {A = ℕ × ℕ × ℕ} l (k.0, at.0, at.1)) (sym is) (has_front (k.0, at.0, at.1) xs ((o, p, d) ∷ []) k.1)))
+          (λ (was : IsFound old at). inl was)
+          (λ (front : Has xs at). inr (subst (λ (l : List (ℕ × ℕ)). Has l at) (sym is) (has_front at xs (k ∷ []) front)))
           ((first at).0 g))
-          (λ (same : at ≡ (p, d)).
-          inr (
-            o,
-            subst (λ (l : List (ℕ × ℕ × ℕ)). Has {A = ℕ × ℕ × ℕ} l (o, at.0, at.1)) (sym is)
-                (has_back (o, at.0, at.1) xs ((o, p, d) ∷ [])
-                (subst (λ (k : ℕ × ℕ). Has {A = ℕ × ℕ × ℕ} ((o, p, d) ∷ []) (o, k.0, k.1)) (sym same) (has_first (o, p, d) []))),
-          ))
+          (λ (same : at ≡ k).
+          inr (subst (λ (l : List (ℕ × ℕ)). Has l at) (sym is)
+          (has_back at xs (k ∷ []) (subst (λ (j : ℕ × ℕ). Has (k ∷ []) j) (sym same) (has_first k [])))))
           (one.0 h),
       λ h. one.1 (⊎_elim
-          (λ (g : IsFound old at). inl ((first at).1 (inl g)))
-          (λ (g : (u : ℕ) × Has {A = ℕ × ℕ × ℕ} ys (u, at.0, at.1)). ⊎_elim
-          (λ (k : Has {A = ℕ × ℕ × ℕ} xs (g.0, at.0, at.1)). inl ((first at).1 (inr (g.0, k))))
-          (λ (k : Has {A = ℕ × ℕ × ℕ} ((o, p, d) ∷ []) (g.0, at.0, at.1)).
-          let same : (g.0, at.0, at.1) ≡ (o, p, d) = has_one (o, p, d) (g.0, at.0, at.1) k in
-          inr (ap (λ (z : ℕ × ℕ × ℕ). (z.1, z.2)) same))
-          (has_either (g.0, at.0, at.1) xs ((o, p, d) ∷ []) (subst (λ (l : List (ℕ × ℕ × ℕ)). Has {A = ℕ × ℕ × ℕ} l (g.0, at.0, at.1)) is g.1)))
+          (λ (was : IsFound old at). inl ((first at).1 (inl was)))
+          (λ (g : Has ys at). ⊎_elim
+          (λ (front : Has xs at). inl ((first at).1 (inr front)))
+          (λ (back : Has (k ∷ []) at). inr (has_one k at back))
+          (has_either at xs (k ∷ []) (subst (λ (l : List (ℕ × ℕ)). Has l at) is g)))
           h),
     )
 
-pub some_found : (s : Store) (oid : ℕ) (standing : List (ℕ × ℕ × ℕ)) (old new : BTreeSet (ℕ × ℕ)) → HasOn s oid standing →
+pub some_found : (s : Store) (oid : ℕ) (standing : List (ℕ × ℕ)) (old new : BTreeSet (ℕ × ℕ)) → HasOn s oid standing →
     AreFirst standing old new → AreOnOneMore s oid old new
 some_found s oid standing old new has found at = (
-  λ h. ⊎_elim (λ (g : IsFound old at). inl g) (λ (g : (o : ℕ) × Has {A = ℕ × ℕ × ℕ} standing (o, at.0, at.1)). inr (has.each g.0 at.0 at.1 g.1))
-      ((found at).0 h),
-  λ h. (found at).1 (⊎_elim (λ (g : IsFound old at). inl g) (λ (g : StandsOn s at.0 at.1 oid). inr (oid, has.all at.0 at.1 g)) h),
+  λ h. ⊎_elim (λ (g : IsFound old at). inl g) (λ (g : Has standing at). inr ((has.these at).0 g)) ((found at).0 h),
+  λ h. (found at).1 (⊎_elim (λ (g : IsFound old at). inl g) (λ (g : StandsOn s at.0 at.1 oid). inr ((has.these at).1 g)) h),
 )
 
 pub items_if : {X E : Type 0} (s : Store) (members : List ℕ) (found : BTreeSet (ℕ × ℕ)) (r : Result (Vec (ℕ × ℕ) X) E) →

@@ -1,5 +1,5 @@
 //! The activations at a node on members of a group: what goes of them.
-ghost use Rattle.std.specs.Prelude.{◌≡◌, ◌<◌, ◌^◌, [], ◌∷◌, IfOk, OnOk, length, slice_get, Some};
+ghost use Rattle.std.specs.Prelude.{◌≡◌, [], ◌∷◌, IfOk, OnOk, length, slice_get, Some};
 ghost use Rattle.ec_cluster.specs.Cluster.{CodeWorld};
 ghost use Rattle.ec_code.specs.Typing.{Declared};
 ghost use Rattle.ec_mover.specs.Classes.{ClassTable};
@@ -17,7 +17,7 @@ use std::alloc::{AllocError, Global};
 use std::collections::BTreeSet;
 
 /// What goes of each activation that is at a node on a member, by process and then by depth. It takes the time of the members and of the
-/// activations on them. The error is want of memory, or that 32 bits don't count the processes.
+/// activations on them. The error is want of memory.
 pub(crate) fn activations_at(
     system: &System,
     alloc: Global,
@@ -25,14 +25,10 @@ pub(crate) fn activations_at(
     from: NodeNo,
 ) -> Result<Seq<ActivationPart>, AllocError>
     requires { CanGoBySome system.now members.now from }
-    ensures parts { IfOk result (λ parts. (d : Declared) (w : CodeWorld) (table : ClassTable) →
+    ensures { IfOk result (λ parts. (d : Declared) (w : CodeWorld) (table : ClassTable) →
         CanGo d system.now w table members.now from →
         parts ≡ up_to (process_goes system.now.cluster w members.now from) (length w.processes)) }
-    ensures few { OnOk result (length system.now.processes < 2 ^ 32) }
 {
-    if system.processes.len() >= 0x1_0000_0000 {
-        return Err(AllocError);
-    }
     let node = system.cluster.nodes.at(from as usize);
     let found = on_members(node, alloc, members)?;
     let mut parts = Seq::new(alloc);
@@ -70,8 +66,7 @@ fn add_on(
 {
     let standing = node.activations_on(alloc, oid)?;
     for i in 0..standing.len() {
-        let (_, process, depth) = standing[i];
-        found.insert((process, depth))?;
+        found.insert(standing[i])?;
     }
     Ok(())
 }

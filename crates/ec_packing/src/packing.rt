@@ -46,6 +46,9 @@ fn parcel_of(
     ensures { IfOk result (λ parcel. (d : Declared) (w : CodeWorld) → CanGo d system.now w numbers.now members.now from →
         Packs numbers.now system.now.cluster w members.now from parcel) }
 {
+    if system.processes.len() >= 0x1_0000_0000 {
+        return Err(AllocError);
+    }
     let objects = objects_at(system, alloc, numbers, members, from)?;
     let monitors = monitors_at(system, alloc, members, from)?;
     let activations = activations_at(system, alloc, members, from)?;

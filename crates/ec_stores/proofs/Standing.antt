@@ -1,11 +1,13 @@
 -- Activations by process and depth, and again by the objects that they are on.
-use Rattle.std.proofs.Common.{◌≡◌, ◌≢◌, ℕ, ◌-◌, ◌^◌, ◌<◌, ◌&&◌, ◌||◌, Bool, true, false, true≢false, not, List, [], ◌∷◌, Option, Some, None, BTreeMap, Result, Ok, Err, IfOk, Vec, refl}
+use Rattle.std.proofs.Common.{◌≡◌, ◌≢◌, ℕ, ◌-◌, ◌^◌, ◌<◌, ◌&&◌, ◌||◌, Bool, true, false, true≢false, not, List, [], ◌∷◌, map, Option, Some, None, BTreeMap, Result, Ok, Err, IfOk, Vec, refl}
 use Rattle.std.proofs.Common.{sym, ap, ◌∙◌, subst, arith, ⊎_elim}
+use Rattle.std.proofs.lemmas.List.Kept.{IsStrictlySortedBy-filter}
 use Rattle.std.proofs.lemmas.Option.{same_Some}
 use Rattle.std.specs.BTreeMap.{is_at, Updates}
 use Rattle.std.specs.BTreeMap.Range.{range_contains}
-use Rattle.std.specs.BTreeSet.{BTreeSet, Updates as SetUpdates, contains}
-use Rattle.std.specs.List.{filter, list_any}
+use Rattle.std.specs.BTreeSet.{BTreeSet, Updates as SetUpdates, contains, keys_between}
+use Rattle.std.specs.List.{AllByRecursion, filter, list_any}
+use Rattle.std.specs.List.Sorted.{IsStrictlySortedBy}
 use Rattle.std.specs.Prelude.{cond, option_map}
 use Rattle.std.specs.Ordering.{is_eq, is_le, is_lt, nat_cmp, ordering_then}
 use Rattle.std.specs.declared.cmp.Ordering.{Ordering}
@@ -18,7 +20,7 @@ use Rattle.ec_world.proofs.Members.{has_first, has_later, has_none, has_parts}
 use Rattle.ec_world.specs.Group.{Has}
 use Rattle.ec_stores.specs.Changes.{HasOn, StandsOn}
 use Rattle.ec_stores.specs.Node.{NodeData, owned_frame, store_of}
-use Rattle.ec_stores.specs.Tables.{AreOn, AreStanding, SetsFrame, frame_cmp, frame_in, keys_on, standing_cmp}
+use Rattle.ec_stores.specs.Tables.{AreOn, AreStanding, IsOn, SetsFrame, frame_cmp, frame_in, standing_cmp}
 use Rattle.ec_stores.specs.declared.rows.FrameRow.{FrameRow}
 use Rattle.ec_stores.proofs.Keyed.{not_equal_first, not_equal_second, other_frame, other_object}
 
@@ -272,63 +274,125 @@ same_key a b is =
     let d = is_same a.2 b.2 x.1 in
     ap (λ n. (n, a.1, a.2)) o ∙ ap (λ n. (b.0, n, a.2)) p ∙ ap (λ n. (b.0, b.1, n)) d
 
+-- the keys of a set that are on an object
+abbrev pub keys_on : BTreeSet (ℕ × ℕ × ℕ) → ℕ → List (ℕ × ℕ × ℕ)
+keys_on standing oid =
+    keys_between standing_cmp (Included (oid, 0, 0)) (Included (oid, 2 ^ 32 - 1, 2 ^ 32 - 1)) standing
+
+-- an activation's process and depth, without its object
+abbrev pub place_of : ℕ × ℕ × ℕ → ℕ × ℕ
+place_of k = (k.1, k.2)
+
+map_has : {A B : Type 0} (f : A → B) (xs : List A) (y : B) → Has (map f xs) y → (x : A) × Has xs x × (f x ≡ y)
+map_has f [] y h = absurd (has_none y h)
+map_has f (x ∷ xs) y h = ⊎_elim
+    (λ (e : y ≡ f x). (x, has_first x xs, sym e))
+    (λ g. let z = map_has f xs y g in (z.0, has_later x z.0 xs z.1, z.2))
+    (has_parts (f x) y (map f xs) h)
+
+has_map : {A B : Type 0} (f : A → B) (xs : List A) (x : A) → Has xs x → Has (map f xs) (f x)
+has_map f [] x h = absurd (has_none x h)
+has_map {A} {B} f (y ∷ ys) x h = ⊎_elim
+    (λ (e : x ≡ y). subst (λ (z : A). Has (f y ∷ map f ys) (f z)) (sym e) (has_first (f y) (map f ys)))
+    (λ (g : Has ys x). has_later (f y) (f x) (map f ys) (has_map f ys x g))
+    (has_parts y x ys h)
+
+-- ---- keys on one object are in the order of their places
+
+less_there : (oid : ℕ) (j k : ℕ × ℕ × ℕ) → j.0 ≡ oid → k.0 ≡ oid → standing_cmp j k ≡ Less → frame_cmp (place_of j) (place_of k) ≡ Less
+less_there oid j k mine its less =
+    by (nat_cmp j.0 k.0) (nat_cmp j.1 k.1) (nat_cmp j.2 k.2) (ap (λ n. is_eq (nat_cmp j.0 n)) (its ∙ sym mine) ∙ is_itself j.0) less
+  where
+    by : (x y z : Ordering) → is_eq x ≡ true → ordering_then (ordering_then x y) z ≡ Less → ordering_then y z ≡ Less
+    by Less y z e l = cc
+    by Equal y z e l = l
+    by Greater y z e l = cc
+
+each_there : (oid : ℕ) (k : ℕ × ℕ × ℕ) (ks : List (ℕ × ℕ × ℕ)) → k.0 ≡ oid → ((j : ℕ × ℕ × ℕ) → Has ks j → j.0 ≡ oid) →
+    AllByRecursion (λ j. standing_cmp k j ≡ Less) ks → AllByRecursion (λ j. frame_cmp (place_of k) j ≡ Less) (map place_of ks)
+each_there oid k [] mine own all = tt
+each_there oid k (j ∷ js) mine own all = (
+  less_there oid k j mine (own j (has_first j js)) all.0,
+  each_there oid k js mine (λ i h. own i (has_later j i js h)) all.1,
+)
+
+places_sorted : (oid : ℕ) (ks : List (ℕ × ℕ × ℕ)) → ((k : ℕ × ℕ × ℕ) → Has ks k → k.0 ≡ oid) → IsStrictlySortedBy standing_cmp ks →
+    IsStrictlySortedBy frame_cmp (map place_of ks)
+unfolding IsStrictlySortedBy
+places_sorted oid [] own sorted = tt
+places_sorted oid (k ∷ ks) own sorted = (
+  each_there oid k ks (own k (has_first k ks)) (λ j h. own j (has_later k j ks h)) sorted.0,
+  places_sorted oid ks (λ j h. own j (has_later k j ks h)) sorted.1,
+)
+
 module _ (standing : BTreeSet (ℕ × ℕ × ℕ)) (rows : List ((ℕ × ℕ) × FrameRow)) (are : AreStanding standing rows) (oid : ℕ) where
   abbrev inside : ℕ × ℕ × ℕ → Bool
   inside = range_contains standing_cmp (Included (oid, 0, 0)) (Included (oid, 2 ^ 32 - 1, 2 ^ 32 - 1))
 
-  pub those_on : AreOn rows oid (keys_on standing oid)
-  those_on = record {
-    each = λ o p d h.
-        let z = has_filter inside standing.keys (o, p, d) h in
-        let own : o ≡ oid = sym (is_same oid o (between_equal (nat_cmp oid o) (nat_cmp 0 p) (nat_cmp 0 d)
-        (nat_cmp (2 ^ 32 - 1) p) (nat_cmp (2 ^ 32 - 1) d) z.1)) in
-        let r = are.only o p d (has_contains (o, p, d) z.0) in
-        (r.0, r.1, r.2 ∙ own);
-    all = λ p d row is home.
-        let few = are.small p d row is in
-        let c = subst (λ n. contains standing_cmp standing (n, p, d) ≡ true) home (are.each p d row is) in
-        filter_has inside standing.keys (oid, p, d) (contains_has (oid, p, d) c)
-        (equal_between (nat_cmp oid oid) (nat_cmp 0 p) (nat_cmp 0 d) (nat_cmp (2 ^ 32 - 1) p) (nat_cmp (2 ^ 32 - 1) d) (is_itself oid)
-        (from_none p d) (not_past p d few.0 few.1));
-  }
-    where
-      contains_has : (k : ℕ × ℕ × ℕ) → contains standing_cmp standing k ≡ true → Has standing.keys k
-      contains_has k e =
-          let z = any_has (is_at (standing_cmp k)) standing.keys e in
-          subst (λ (x : ℕ × ℕ × ℕ). Has standing.keys x) (sym (same_key k z.0 z.2)) z.1
+  own_key : (k : ℕ × ℕ × ℕ) → Has (keys_on standing oid) k → k.0 ≡ oid
+  own_key (o, p, d) h =
+      let z = has_filter inside standing.keys (o, p, d) h in
+      sym (is_same oid o (between_equal (nat_cmp oid o) (nat_cmp 0 p) (nat_cmp 0 d) (nat_cmp (2 ^ 32 - 1) p) (nat_cmp (2 ^ 32 - 1) d) z.1))
 
+  found_on : (at : ℕ × ℕ) → Has (map place_of (keys_on standing oid)) at → IsOn rows oid at
+  found_on at h =
+      let z = map_has place_of (keys_on standing oid) at h in
+      let k = z.0 in
+      let in_set = has_filter inside standing.keys k z.1 in
+      let r = are.only k.0 k.1 k.2 (has_contains k in_set.0) in
+      subst (IsOn rows oid) z.2 (record { row = r.0; there = r.1; home = r.2 ∙ own_key k z.1 })
+    where
       has_contains : (k : ℕ × ℕ × ℕ) → Has standing.keys k → contains standing_cmp standing k ≡ true
       has_contains k h = has_any (is_at (standing_cmp k)) standing.keys k h (itself k.0 k.1 k.2)
         where
           itself : (o p d : ℕ) → is_at (standing_cmp (o, p, d)) (o, p, d) ≡ true
           itself o p d = grind arith
 
-pub on_if : {X E : Type 0} (standing : BTreeSet (ℕ × ℕ × ℕ)) (rows : List ((ℕ × ℕ) × FrameRow)) (oid : ℕ)
-    (r : Result (Vec (ℕ × ℕ × ℕ) X) E) → AreStanding standing rows → IfOk r (λ found. found.items ≡ keys_on standing oid) →
-    IfOk r (λ found. AreOn rows oid found.items)
-on_if standing rows oid (Ok found) are is = subst (λ (ks : List (ℕ × ℕ × ℕ)). AreOn rows oid ks) (sym is) (those_on standing rows are oid)
-on_if standing rows oid (Err e) are is = tt
+  on_found : (at : ℕ × ℕ) → IsOn rows oid at → Has (map place_of (keys_on standing oid)) at
+  on_found (p, d) on =
+      let few = are.small p d on.row on.there in
+      let c = subst (λ n. contains standing_cmp standing (n, p, d) ≡ true) on.home (are.each p d on.row on.there) in
+      has_map place_of (keys_on standing oid) (oid, p, d) (filter_has inside standing.keys (oid, p, d) (contains_has (oid, p, d) c)
+      (equal_between (nat_cmp oid oid) (nat_cmp 0 p) (nat_cmp 0 d) (nat_cmp (2 ^ 32 - 1) p) (nat_cmp (2 ^ 32 - 1) d) (is_itself oid)
+      (from_none p d) (not_past p d few.0 few.1)))
+    where
+      contains_has : (k : ℕ × ℕ × ℕ) → contains standing_cmp standing k ≡ true → Has standing.keys k
+      contains_has k e =
+          let z = any_has (is_at (standing_cmp k)) standing.keys e in
+          subst (λ (x : ℕ × ℕ × ℕ). Has standing.keys x) (sym (same_key k z.0 z.2)) z.1
+
+  those_on : IsStrictlySortedBy standing_cmp standing.keys → AreOn rows oid (map place_of (keys_on standing oid))
+  those_on sorted = record {
+    these = λ at. (found_on at, on_found at);
+    ordered = places_sorted oid (keys_on standing oid) own_key (IsStrictlySortedBy-filter standing_cmp inside standing.keys sorted);
+  }
+
+  pub on_if : {X E : Type 0} (r : Result (Vec (ℕ × ℕ) X) E) → IsStrictlySortedBy standing_cmp standing.keys →
+      IfOk r (λ found. found.items ≡ map place_of (keys_on standing oid)) → IfOk r (λ found. AreOn rows oid found.items)
+  on_if (Ok found) sorted is = subst (AreOn rows oid) (sym is) (those_on sorted)
+  on_if (Err e) sorted is = tt
 
 -- a store's rows of activations are a node's
 module _ (node : NodeData) (oid : ℕ) where
-  has_on : (found : List (ℕ × ℕ × ℕ)) → AreOn node.frames oid found → HasOn (store_of node) oid found
-  has_on found are = record {
-    each = λ o p d h.
-        let r = are.each o p d h in
-        record { row = owned_frame r.0; there = ap (option_map owned_frame) r.1; home = r.2 };
-    all = λ p d h. by p d (frame_in node.frames p d) refl h;
-  }
-    where
-      by : (p d : ℕ) (x : Option FrameRow) → frame_in node.frames p d ≡ x → StandsOn (store_of node) p d oid → Has found (oid, p, d)
-      by p d None e h =
-          let none : option_map owned_frame (frame_in node.frames p d) ≡ None = ap (option_map owned_frame) e in
-          let there = h.there in
-          absurd (let no : ⊥ = cc in no)
-      by p d (Some r) e h =
-          let is : owned_frame r ≡ h.row = same_Some (owned_frame r) h.row (sym (ap (option_map owned_frame) e) ∙ h.there) in
-          are.all p d r e (ap (λ (o : Owned). o.home) is ∙ h.home)
+  stands_on : (at : ℕ × ℕ) → IsOn node.frames oid at → StandsOn (store_of node) at.0 at.1 oid
+  stands_on at on = record { row = owned_frame on.row; there = ap (option_map owned_frame) on.there; home = on.home }
 
-  pub has_on_if : {X E : Type 0} (r : Result (Vec (ℕ × ℕ × ℕ) X) E) → IfOk r (λ found. AreOn node.frames oid found.items) →
+  is_on : (at : ℕ × ℕ) → StandsOn (store_of node) at.0 at.1 oid → IsOn node.frames oid at
+  is_on at on = by (frame_in node.frames at.0 at.1) refl
+    where
+      by : (x : Option FrameRow) → frame_in node.frames at.0 at.1 ≡ x → IsOn node.frames oid at
+      by None e =
+          let none : option_map owned_frame (frame_in node.frames at.0 at.1) ≡ None = ap (option_map owned_frame) e in
+          let there = on.there in
+          absurd (let no : ⊥ = cc in no)
+      by (Some r) e =
+          let is : owned_frame r ≡ on.row = same_Some (owned_frame r) on.row (sym (ap (option_map owned_frame) e) ∙ on.there) in
+          record { row = r; there = e; home = ap (λ (o : Owned). o.home) is ∙ on.home }
+
+  pub has_on_if : {X E : Type 0} (r : Result (Vec (ℕ × ℕ) X) E) → IfOk r (λ found. AreOn node.frames oid found.items) →
       IfOk r (λ found. HasOn (store_of node) oid found.items)
-  has_on_if (Ok found) are = has_on found.items are
+  has_on_if (Ok found) are = record {
+    these = λ at. (λ h. stands_on at ((are.these at).0 h), λ h. (are.these at).1 (is_on at h));
+    ordered = are.ordered;
+  }
   has_on_if (Err e) are = tt

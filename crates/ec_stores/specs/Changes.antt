@@ -1,6 +1,7 @@
 -- What a call asks of a store, and what it leaves, told of its tables as functions.
 use Rattle.std.specs.Prelude.{◌≡◌, ◌≢◌, ℕ, ◌+◌, ◌-◌, ◌*◌, ◌^◌, min, ◌<◌, ◌≤◌, ◌⊎◌, ◌↔◌, Bool, true, false, List, [], ◌∷◌, length}
 use Rattle.std.specs.Prelude.{Option, Some, None, slice_get}
+use Rattle.std.specs.List.Sorted.{IsStrictlySortedBy}
 use Rattle.ec_monitors.specs.Monitors.{is_held_by}
 use Rattle.ec_monitors.specs.declared.record.MonitorRec.{MonitorRec}
 use Rattle.ec_nodes.specs.Things.{class_blocks}
@@ -12,6 +13,7 @@ use Rattle.ec_things.specs.Things.{row_size}
 use Rattle.ec_world.specs.Group.{Has}
 use Rattle.ec_world.specs.declared.class.ClassNo.{ClassNo}
 use Rattle.ec_world.specs.declared.node.Kind.{Kind}
+use Rattle.ec_stores.specs.Tables.{frame_cmp}
 use Rattle.ec_stores.specs.declared.rows.Object.{Object as ObjectData}
 
 -- ---- what is there
@@ -53,10 +55,10 @@ pub record StandsOn (s : Store) (p d oid : ℕ) : Type 0 where
   pub there : s.row (Frame p d) ≡ Some row
   pub home : row.home ≡ oid
 
--- these are the activations on an object that are there, each behind the object's number
-pub record HasOn (s : Store) (oid : ℕ) (found : List (ℕ × ℕ × ℕ)) : Type 0 where
-  pub each : (o p d : ℕ) → Has found (o, p, d) → StandsOn s p d oid
-  pub all : (p d : ℕ) → StandsOn s p d oid → Has found (oid, p, d)
+-- these are the activations on an object that are there, by process and depth: all of them and each once, by process and then by depth
+pub record HasOn (s : Store) (oid : ℕ) (found : List (ℕ × ℕ)) : Type 0 where
+  pub these : (at : ℕ × ℕ) → Has found at ↔ StandsOn s at.0 at.1 oid
+  pub ordered : IsStrictlySortedBy frame_cmp found
 
 -- the monitor of an object
 pub record MonitorIs (s : Store) (oid : ℕ) (m : MonitorRec) : Type 0 where

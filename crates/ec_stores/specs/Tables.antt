@@ -1,14 +1,14 @@
 -- Local references and texts, found both ways, and activations, found by process and depth and by their objects.
-use Rattle.std.specs.Prelude.{◌≡◌, ℕ, zero, suc, ◌-◌, ◌^◌, ◌<◌, ◌≤◌, false, true, List, length, Option, Some, None, Vec, slice_get}
+use Rattle.std.specs.Prelude.{◌≡◌, ◌↔◌, ℕ, zero, suc, ◌^◌, ◌<◌, ◌≤◌, false, true, List, length, Option, Some, None, Vec, slice_get}
 use Rattle.std.specs.BTreeMap.{BTreeMap, get, get_by, is_at}
-use Rattle.std.specs.BTreeSet.{BTreeSet, contains, keys_between}
+use Rattle.std.specs.BTreeSet.{BTreeSet, contains}
 use Rattle.std.specs.Cmp.Lexicographic.{slice_cmp}
+use Rattle.std.specs.List.Sorted.{IsStrictlySortedBy}
 use Rattle.std.specs.Map.{lookup}
 use Rattle.std.specs.Ordering.{nat_cmp, ordering_then}
 use Rattle.ec_stores.specs.declared.rows.FrameRow.{FrameRow}
 use Rattle.ec_world.specs.Group.{Has}
 use Rattle.std.specs.declared.cmp.Ordering.{Ordering}
-use Rattle.std.specs.declared.ops.Bound.TheVariants.{Included}
 
 -- the object that a local reference names, from 1; 0 is none
 abbrev pub local_in : List ℕ → ℕ → Option ℕ
@@ -41,20 +41,21 @@ pub record AreStanding (standing : BTreeSet (ℕ × ℕ × ℕ)) (frames : List 
       (row : FrameRow) × (frame_in frames p d ≡ Some row) × (row.home ≡ o)
   pub small : (p d : ℕ) (row : FrameRow) → frame_in frames p d ≡ Some row → (p < 2 ^ 32) × (d < 2 ^ 32)
 
--- the keys of a set that are on an object
-abbrev pub keys_on : BTreeSet (ℕ × ℕ × ℕ) → ℕ → List (ℕ × ℕ × ℕ)
-keys_on standing oid =
-    keys_between standing_cmp (Included (oid, 0, 0)) (Included (oid, 2 ^ 32 - 1, 2 ^ 32 - 1)) standing
-
 -- one activation now has this row, or none; every other has the one that it had
 pub record SetsFrame (old new : List ((ℕ × ℕ) × FrameRow)) (p d : ℕ) (row : Option FrameRow) : Type 0 where
   pub here : frame_in new p d ≡ row
   pub others : (q : ℕ × ℕ) → is_at (frame_cmp (p, d)) q ≡ false → frame_in new q.0 q.1 ≡ frame_in old q.0 q.1
 
--- these are the activations on an object, each behind its number
-pub record AreOn (frames : List ((ℕ × ℕ) × FrameRow)) (oid : ℕ) (found : List (ℕ × ℕ × ℕ)) : Type 0 where
-  pub each : (o p d : ℕ) → Has found (o, p, d) → (row : FrameRow) × (frame_in frames p d ≡ Some row) × (row.home ≡ oid)
-  pub all : (p d : ℕ) (row : FrameRow) → frame_in frames p d ≡ Some row → row.home ≡ oid → Has found (oid, p, d)
+-- an activation, told by its process and its depth, is there, on an object
+pub record IsOn (frames : List ((ℕ × ℕ) × FrameRow)) (oid : ℕ) (at : ℕ × ℕ) : Type 0 where
+  pub row : FrameRow
+  pub there : frame_in frames at.0 at.1 ≡ Some row
+  pub home : row.home ≡ oid
+
+-- these are the activations on an object, all of them and each once, by process and then by depth
+pub record AreOn (frames : List ((ℕ × ℕ) × FrameRow)) (oid : ℕ) (found : List (ℕ × ℕ)) : Type 0 where
+  pub these : (at : ℕ × ℕ) → Has found at ↔ IsOn frames oid at
+  pub ordered : IsStrictlySortedBy frame_cmp found
 
 -- ---- texts
 

@@ -1,6 +1,6 @@
 //! The activations at a node, found by process and depth, and by the object that each is on.
 ghost use Rattle.std.specs.Prelude.{◌≡◌, [], IfOk, None, OnErr, OnOk, Some};
-ghost use Rattle.ec_stores.specs.Tables.{AreOn, SetsFrame, frame_in, keys_on};
+ghost use Rattle.ec_stores.specs.Tables.{AreOn, SetsFrame, frame_in};
 
 use crate::rows::FrameRow;
 use ec_world::value::{Oid, Pid};
@@ -8,8 +8,8 @@ use std::alloc::{AllocError, Global};
 use std::collections::{BTreeMap, BTreeSet};
 use std::marker::Model;
 
-/// An activation on an object: the object, the process, and the depth from the bottom (from 0).
-pub type Standing = (Oid, Pid, u32);
+// An activation behind the object that it is on: the object, the process, and the depth from the bottom (from 0).
+type Standing = (Oid, Pid, u32);
 
 /// Rows of activations, and again each activation by its object, so that those on one object are found without a look at the others.
 /// Contracts see the rows.
@@ -77,22 +77,15 @@ impl Frames {
     }
 
     /// The activations on an object, by process and then by depth. The error is want of memory.
-    pub(crate) fn on(&self, alloc: Global, oid: Oid) -> Result<Vec<Standing>, AllocError>
+    pub(crate) fn on(&self, alloc: Global, oid: Oid) -> Result<Vec<(Pid, u32)>, AllocError>
         ensures { IfOk result (λ found. AreOn self.now oid found.items) }
     {
-        standing_on(&self.standing, alloc, oid)
+        let first = (oid, 0, 0);
+        let last = (oid, u32::MAX, u32::MAX);
+        self.standing
+            .range(first..=last)
+            .copied()
+            .map(|(_, process, depth)| (process, depth))
+            .collect(alloc)
     }
-}
-
-// Those of a set that are on an object.
-fn standing_on(
-    standing: &BTreeSet<Standing>,
-    alloc: Global,
-    oid: Oid,
-) -> Result<Vec<Standing>, AllocError>
-    ensures { IfOk result (λ found. found.items ≡ keys_on standing.now oid) }
-{
-    let first = (oid, 0, 0);
-    let last = (oid, u32::MAX, u32::MAX);
-    standing.range(first..=last).copied().collect(alloc)
 }

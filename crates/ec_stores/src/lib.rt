@@ -1,7 +1,7 @@
 //! What one node keeps: its memory in the byte order of its kind, objects, activations, local references and texts.
 #![tactic(auto)]
 
-pub mod frames;
+mod frames;
 mod lists;
 pub mod memory;
 mod monitors;

@@ -7,7 +7,6 @@ ghost use Rattle.ec_stores.specs.Node.{store_of};
 ghost use Rattle.ec_stores.specs.Changes.{Closed, FirstBlock, HasBlock, HasOn, IsObject, LacksMonitor, MonitorIs};
 ghost use Rattle.ec_stores.specs.Changes.{PlacedFrame, PlacedObject, SetsRow, with_fixed};
 
-use crate::frames::Standing;
 use crate::lists::{give_list, take_filled};
 use crate::node::NodeStore;
 use crate::rows::{FrameRow, Object, ObjectRow, class_blocks};
@@ -42,7 +41,7 @@ impl NodeStore {
 
     /// The activations here on an object, by process and then by depth; it doesn't look at those on other objects. The error is
     /// want of memory.
-    pub fn activations_on(&self, alloc: Global, oid: Oid) -> Result<Vec<Standing>, AllocError>
+    pub fn activations_on(&self, alloc: Global, oid: Oid) -> Result<Vec<(Pid, u32)>, AllocError>
         ensures { IfOk result (λ found. HasOn (store_of self.now) oid found.items) }
     {
         self.frames.on(alloc, oid)

@@ -73,7 +73,7 @@ fn activations_come_and_go(rt: HostRuntime) -> Result<(), Fail> {
     node.begin(0, 4, 9, &[5, 6])?;
     assert!(rt; !node.has_frame(4, 0));
     let found = node.activations_on(rt.alloc(), 9)?;
-    assert!(rt; found.as_slice() == [(9, 0, 4)].as_slice());
+    assert!(rt; found.as_slice() == [(0, 4)].as_slice());
     assert_eq!(rt; node.activations_on(rt.alloc(), 4)?.len(), 0);
     node.set_frame_word(0, 4, 1, 8);
     assert_eq!(rt; node.frame_word(0, 4, 1), 8);

@@ -21,8 +21,8 @@ loop-i-preserved c d w table can =
     (item_has c.in_ok-found.found.items c.loop-i.i c.index.result.now c.index.ensures (omega arith)) (c.loop-i.invariant d w table can)
     (c.in_ok-part.ensures d w table can) c.in_ok-push.ensures.ok
 
-pub returns-clause-parts : goal.returns-clause-parts
-returns-clause-parts c d w table can =
+pub returns : goal.returns
+returns c d w table can =
     let s = c.args.system.now in
     let keys = c.in_ok-found.found.items in
     c.loop-i.invariant d w table can

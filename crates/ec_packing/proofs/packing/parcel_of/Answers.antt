@@ -21,7 +21,7 @@ look_at_blocks-requires c =
     let ms = c.args.members.now in
     let table = c.args.numbers.now in
     subst (λ (parts : List ActivationPart). AreThere (store_of c.at-node.result.now) parts)
-    (sym (c.as_slice.ensures ∙ c.in_ok-activations.ensures.parts z.declared z.world table z.goes))
+    (sym (c.as_slice.ensures ∙ c.in_ok-activations.ensures z.declared z.world table z.goes))
     (are_there z.declared s z.world table ms c.args.from z.goes c.at-node.result.now c.at-node.ensures)
 
 pub new-requires : goal.new-requires
@@ -32,7 +32,7 @@ new-requires c =
     let table = c.args.numbers.now in
     let objects = c.in_ok-objects.ensures z.declared z.world z.goes in
     let monitors = c.in_ok-monitors.ensures z.declared z.world table z.goes in
-    let activations = c.in_ok-activations.ensures.parts z.declared z.world table z.goes in
+    let activations = c.in_ok-activations.ensures z.declared z.world table z.goes in
     let x : Contents = record {
       objects = c.in_ok-objects.objects;
       monitors = c.in_ok-monitors.monitors;
@@ -40,8 +40,7 @@ new-requires c =
     } in
     let is : x ≡ contents z.declared s z.world table ms c.args.from z.goes = cc in
     let same = processes_are z.declared s z.world table ms c.args.from z.goes in
-    let few = c.in_ok-activations.ensures.few in
-    let small : length z.world.processes < 2 ^ 32 = omega (arith, same, few) in
+    let small : length z.world.processes < 2 ^ 32 = omega (arith, same, c.if.false) in
     let blocks = subst (λ (parts : List ActivationPart). HaveSmallBlocks (store_of c.at-node.result.now) parts)
     (c.as_slice.ensures ∙ activations) c.look_at_blocks.ensures.blocks in
     subst (λ (y : Contents). KeepsRules y) (sym is)
@@ -55,7 +54,7 @@ returns c d w can =
     let table = c.args.numbers.now in
     let objects = c.in_ok-objects.ensures d w can in
     let monitors = c.in_ok-monitors.ensures d w table can in
-    let activations = c.in_ok-activations.ensures.parts d w table can in
+    let activations = c.in_ok-activations.ensures d w table can in
     let x : Contents = record {
       objects = c.in_ok-objects.objects;
       monitors = c.in_ok-monitors.monitors;
