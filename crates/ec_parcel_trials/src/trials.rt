@@ -1,6 +1,6 @@
-//! A parcel of a half-done sum: it rests behind its call and holds 40, which in the parcel's bytes is made 41. A node that reads these
-//! bytes then has 41 at the variable's home: the bytes decide, and no copy that is kept elsewhere. What is large is never dropped here:
-//! how it is dropped is proved in the crates that do so, and would be proved once more.
+//! A parcel of a half-done sum: the lower of its two activations rests behind a call and holds 40, which in the parcel's bytes is made
+//! 41. A node that reads these bytes then has 41 at the variable's home: the bytes decide, and no copy that is kept elsewhere. What is
+//! large is never dropped here: how it is dropped is proved in the crates that do so, and would be proved once more.
 ghost use Rattle.std.specs.Prelude.{◌<◌, ◌∷◌};
 ghost use Rattle.std.specs.Bool.{OnTrue};
 ghost use Rattle.ec_mover.specs.Activations.{HasStop};
@@ -24,11 +24,12 @@ use std::mem::ManuallyDrop;
 use std::process::Abort;
 use std::test::Fail;
 
-/// The form's name and version; no object, no monitor, one activation. It is that of process 0 at depth 0, rests at stop 1 of operation
-/// 0, whose action is done, on object 1, and holds one value: the integer 40.
+/// The form's name and version; no object, no monitor, one activation, whose bytes are those of the worked saved point of a half-done
+/// sum. It is that of process 0 at depth 1, rests at stop 2 of operation 1, whose action is done, on object 4, and holds one value: the
+/// integer 40.
 const HALF_DONE: [u8; 46] = [
-    0x45, 0x4D, 0x56, 1, 0, 0, 0, 0, 0, 0, 0, 0, 0, 0, 0, 1, 0, 0, 0, 0, 0, 0, 0, 0, 0, 0, 0, 0, 0,
-    0, 0, 1, 0, 0, 0, 0, 1, 0, 0, 0, 1, 1, 0, 0, 0, 40,
+    0x45, 0x4D, 0x56, 1, 0, 0, 0, 0, 0, 0, 0, 0, 0, 0, 0, 1, 0, 0, 0, 0, 0, 0, 0, 1, 0, 0, 0, 1, 0,
+    0, 0, 2, 0, 0, 0, 0, 4, 0, 0, 0, 1, 1, 0, 0, 0, 40,
 ];
 
 /// The home of the one variable on each kind, and the word of a frame that this home has: the first saved register has word 8, the
@@ -52,7 +53,17 @@ fn stop(alloc: Global, place: u32, live: Seq<Live>) -> StopEntry {
     }
 }
 
-/// The table of the one operation, whose entry is its first stop. Behind the second, its call, the one variable is live.
+/// An operation that has its variables at these homes, and these stops.
+fn operation(homes: Seq<Home>, stops: Seq<StopEntry>) -> OperationTable {
+    OperationTable {
+        named: 0,
+        homes,
+        stops,
+    }
+}
+
+/// The tables of two operations. The second has its entry and two calls, one behind the other; behind the second call, its one variable
+/// is live.
 fn tables(alloc: Global, home: Home) -> Result<Seq<OperationTable>, AllocError> {
     let mut live = Seq::new(alloc);
     live.push(Live {
@@ -63,13 +74,11 @@ fn tables(alloc: Global, home: Home) -> Result<Seq<OperationTable>, AllocError> 
     homes.push(home)?;
     let mut stops = Seq::new(alloc);
     stops.push(stop(alloc, 0, Seq::new(alloc)))?;
-    stops.push(stop(alloc, 1, live))?;
+    stops.push(stop(alloc, 1, Seq::new(alloc)))?;
+    stops.push(stop(alloc, 2, live))?;
     let mut tables = Seq::new(alloc);
-    tables.push(OperationTable {
-        named: 0,
-        homes,
-        stops,
-    })?;
+    tables.push(operation(Seq::new(alloc), Seq::new(alloc)))?;
+    tables.push(operation(homes, stops))?;
     Ok(tables)
 }
 

@@ -40,7 +40,7 @@ new-requires c =
     } in
     let is : x ≡ contents z.declared s z.world table ms c.args.from z.goes = cc in
     let same = processes_are z.declared s z.world table ms c.args.from z.goes in
-    let small : length z.world.processes < 2 ^ 32 = omega (arith, same, c.if.false) in
+    let small : length z.world.processes < 2 ^ 32 = omega (arith, same, c.len.ensures, c.if-len-ge4294967296.false) in
     let blocks = subst (λ (parts : List ActivationPart). HaveSmallBlocks (store_of c.at-node.result.now) parts)
     (c.as_slice.ensures ∙ activations) c.look_at_blocks.ensures.blocks in
     subst (λ (y : Contents). KeepsRules y) (sym is)
