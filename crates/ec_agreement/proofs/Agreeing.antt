@@ -7,9 +7,9 @@ use Rattle.ec_code.specs.Activations.{code_meaning, code_silent}
 use Rattle.ec_code.specs.Typing.{Declared, kind_of}
 use Rattle.ec_code.specs.declared.activation.CodeActivation.{CodeActivation}
 use Rattle.ec_code.specs.declared.code.Parts.{Parts}
-use Rattle.ec_following.proofs.Following as following
-use Rattle.ec_following.proofs.Stacks.{ready_alike}
-use Rattle.ec_following.specs.Follows.{Follows, FollowsWorld, IsKept, Stacked, StackedProc}
+use Rattle.ec_world.proofs.Following as following
+use Rattle.ec_world.proofs.Stacks.{ready_alike}
+use Rattle.ec_world.specs.Follows.{Follows, FollowsWorld, IsKept, Stacked, StackedProc}
 use Rattle.ec_meaning.specs.Activations as of_source
 use Rattle.ec_meaning.specs.Activations.{source_meaning}
 use Rattle.ec_meaning.specs.Meaning.{source_silent, source_start}

@@ -1,6 +1,6 @@
 -- Whatever a world does, each object that is there stays there, of the same class.
 use Rattle.std.proofs.Common.{◌≡◌, ℕ, Bool, true, false, List, [], ◌∷◌, replicate, Option, Some, None, refl, subst}
-use Rattle.ec_following.specs.Follows.{IsLater}
+use Rattle.ec_world.specs.Follows.{IsLater}
 use Rattle.ec_monitors.specs.Monitors.{Granting, dropped, entered, left, signalled, waited}
 use Rattle.ec_monitors.specs.declared.record.Entry.{Entry as Within}
 use Rattle.ec_monitors.specs.declared.record.Granted.{Granted}

@@ -12,7 +12,7 @@ use Rattle.ec_code.specs.declared.activation.CodeActivation.{CodeActivation}
 use Rattle.ec_code.specs.declared.code.Operation.{Operation}
 use Rattle.ec_code.specs.declared.code.Parts.{Parts}
 use Rattle.ec_conform.specs.declared.static_type.StaticType.{StaticType}
-use Rattle.ec_following.specs.Follows.{Alike}
+use Rattle.ec_world.specs.Follows.{Alike}
 use Rattle.ec_meaning.specs.Activations as of_source
 use Rattle.ec_meaning.specs.Meaning as meaning
 use Rattle.ec_meaning.specs.Meaning.{Reached, defaults, items_if, source_silent}

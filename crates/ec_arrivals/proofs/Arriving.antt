@@ -21,7 +21,7 @@ use Rattle.ec_node_frames.proofs.Items.{get_map}
 use Rattle.ec_node_frames.specs.Frames.{AreHeadings, HasTables}
 use Rattle.ec_node_frames.specs.Loops.{IsFilled, spot_of}
 use Rattle.ec_node_frames.specs.declared.frames.Headings.{Headings}
-use Rattle.ec_nodes.specs.declared.key.Key.TheVariants.{Frame}
+use Rattle.ec_world.specs.declared.key.Key.TheVariants.{Frame}
 use Rattle.ec_objects.proofs.Gets.{gets_on, gets_words}
 use Rattle.ec_objects.specs.Values.{HasWords}
 use Rattle.ec_stop_tables.specs.declared.table.OperationTable.{OperationTable}

@@ -14,9 +14,9 @@ use Rattle.ec_code.specs.Fine.{Fine, IsFieldOf}
 use Rattle.ec_code.specs.Typing.{Declared, DeclaredClass, element_static, fields_if as types_if, kind_of}
 use Rattle.ec_code.specs.declared.code.Parts.{Parts}
 use Rattle.ec_conform.specs.declared.static_type.StaticType.{StaticType}
-use Rattle.ec_nodes.proofs.Procs.{get_past}
-use Rattle.ec_nodes.specs.Things.{class_blocks}
-use Rattle.ec_nodes.specs.declared.key.Key.TheVariants.{Object}
+use Rattle.ec_world.proofs.Procs.{get_past}
+use Rattle.ec_world.specs.Things.{class_blocks}
+use Rattle.ec_world.specs.declared.key.Key.TheVariants.{Object}
 use Rattle.ec_objects.specs.Kinds.{IsOfKind}
 use Rattle.ec_ranges.specs.Values.{InRange}
 use Rattle.ec_seen.proofs.Reading.{all_can}

@@ -26,7 +26,7 @@ use Rattle.ec_code.specs.declared.code.StopRow.{StopRow}
 use Rattle.ec_faithful.specs.Stops as stops
 use Rattle.ec_node_frames.specs.Finishing.{RestsHere}
 use Rattle.ec_node_frames.specs.Operands.{ActsHere}
-use Rattle.ec_nodes.proofs.Procs.{get_end}
+use Rattle.ec_world.proofs.Procs.{get_end}
 use Rattle.ec_ranges.specs.Values.{AllInRange}
 use Rattle.ec_ranges.specs.Worlds.{RangedActivation, RangedProc}
 use Rattle.ec_resting.proofs.Operands.{held_for_it}

@@ -26,8 +26,8 @@ use Rattle.ec_images.specs.declared.image.Image.{Image}
 use Rattle.ec_mover.proofs.Stops.{part_has_its_stop, part_heads, stop_there, table_there}
 use Rattle.ec_mover.specs.Activations.{HasStop, IsStopOf, activation_part_of, headings_in}
 use Rattle.ec_node_frames.specs.Frames.{AreHeadings, HasTables}
-use Rattle.ec_nodes.specs.declared.key.Key.{Key}
-use Rattle.ec_nodes.specs.declared.key.Key.TheVariants.{Frame}
+use Rattle.ec_world.specs.declared.key.Key.{Key}
+use Rattle.ec_world.specs.declared.key.Key.TheVariants.{Frame}
 use Rattle.ec_objects.proofs.Wording.{take_all}
 use Rattle.ec_parcels.specs.Owners.{among, frame_keys, frame_values}
 use Rattle.ec_stop_tables.specs.declared.table.OperationTable.{OperationTable}

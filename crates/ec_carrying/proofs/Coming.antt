@@ -8,8 +8,8 @@ use Rattle.ec_carrying.specs.Steps.{OnePut, ShowsStaying}
 use Rattle.ec_cluster.specs.Cluster.{CodeWorld, frame_of, place, stores}
 use Rattle.ec_cluster.specs.Steps.{Changes}
 use Rattle.ec_cluster.specs.declared.cluster.Cluster.{Cluster}
-use Rattle.ec_nodes.specs.Held.{Distinct}
-use Rattle.ec_nodes.specs.declared.key.Key.{Key}
+use Rattle.ec_world.specs.Held.{Distinct}
+use Rattle.ec_world.specs.declared.key.Key.{Key}
 use Rattle.ec_parcels.proofs.Keys.{has_among, one_fewer}
 use Rattle.ec_parcels.proofs.Rising.{once_cons, once_first, once_none, once_tail}
 use Rattle.ec_parcels.specs.Owners.{among}

@@ -20,9 +20,9 @@ use Rattle.ec_forward.specs.declared.directory.Whereabouts.{Whereabouts}
 use Rattle.ec_monitors.specs.declared.record.MonitorRec.{MonitorRec}
 use Rattle.ec_mover.proofs.Numbers.{class_again}
 use Rattle.ec_mover.specs.Classes.{ClassTable, IsClassTable, class_of, number_of}
-use Rattle.ec_nodes.specs.Things.{activation_at, class_blocks}
-use Rattle.ec_nodes.specs.declared.key.Key.{Key}
-use Rattle.ec_nodes.specs.declared.key.Key.TheVariants.{Frame, Object}
+use Rattle.ec_world.specs.Things.{activation_at, class_blocks}
+use Rattle.ec_world.specs.declared.key.Key.{Key}
+use Rattle.ec_world.specs.declared.key.Key.TheVariants.{Frame, Object}
 use Rattle.ec_parcels.proofs.Keys.{has_among}
 use Rattle.ec_parcels.proofs.Rising.{few_values, get_mapped, keys_once, map_get}
 use Rattle.ec_parcels.specs.Owners.{among, blocks_in, frame_keys, keys_of, object_keys, values_in}

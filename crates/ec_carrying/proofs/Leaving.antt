@@ -10,8 +10,8 @@ use Rattle.ec_carrying.specs.Steps.{AreKept, OnePut, ShowsStaying, TakenOff, Thi
 use Rattle.ec_cluster.specs.Cluster.{CodeWorld, frame_of, place, stores}
 use Rattle.ec_cluster.specs.Steps.{KeptAt}
 use Rattle.ec_cluster.specs.declared.cluster.Cluster.{Cluster}
-use Rattle.ec_nodes.specs.Held.{Distinct}
-use Rattle.ec_nodes.specs.declared.key.Key.{Key}
+use Rattle.ec_world.specs.Held.{Distinct}
+use Rattle.ec_world.specs.declared.key.Key.{Key}
 use Rattle.ec_objects.proofs.Wording.{take_all}
 use Rattle.ec_parcels.proofs.Keys.{not_among, one_behind}
 use Rattle.ec_parcels.proofs.Rising.{once_first, once_tail}

@@ -20,8 +20,8 @@ use Rattle.ec_forward.specs.declared.directory.Whereabouts.{Whereabouts}
 use Rattle.ec_monitors.specs.declared.record.MonitorRec.{MonitorRec}
 use Rattle.ec_mover.specs.Classes.{ClassTable, class_of}
 use Rattle.ec_mover.specs.Objects.{object_of}
-use Rattle.ec_nodes.specs.declared.key.Key.{Key}
-use Rattle.ec_nodes.specs.declared.key.Key.TheVariants.{Object}
+use Rattle.ec_world.specs.declared.key.Key.{Key}
+use Rattle.ec_world.specs.declared.key.Key.TheVariants.{Object}
 use Rattle.ec_objects.proofs.Wording.{take_all}
 use Rattle.ec_parcels.specs.Owners.{among, blocks_if, blocks_in, frame_keys, frame_values, keys_of, object_blocks, object_keys, object_values, values_in}
 use Rattle.ec_stores.specs.Node.{NodeData, store_of}

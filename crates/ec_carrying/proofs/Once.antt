@@ -1,6 +1,6 @@
 -- Lists in which no item stands twice, cut into two.
 use Rattle.std.proofs.Common.{◌≡◌, List, [], ◌∷◌, ◌++◌, subst, ⊎_elim}
-use Rattle.ec_nodes.specs.Held.{Distinct}
+use Rattle.ec_world.specs.Held.{Distinct}
 use Rattle.ec_parcels.proofs.Rising.{once_cons, once_first, once_none, once_tail}
 use Rattle.ec_world.proofs.Members.{has_back, has_front, has_none, has_parts}
 use Rattle.ec_world.specs.Group.{Has}

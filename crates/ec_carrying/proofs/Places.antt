@@ -6,9 +6,9 @@ use Rattle.ec_carrying.specs.Moves.{AreAll, NotAny}
 use Rattle.ec_forward.specs.Directory.{Gives, made_count, place_at}
 use Rattle.ec_forward.specs.Located.{Located, moved_to, with_at}
 use Rattle.ec_forward.specs.declared.directory.Whereabouts.{Whereabouts}
-use Rattle.ec_nodes.proofs.Keys.{same_or_not}
-use Rattle.ec_nodes.specs.Held.{Distinct}
-use Rattle.ec_nodes.specs.declared.key.Key.TheVariants.{Object}
+use Rattle.ec_world.proofs.Keys.{same_or_not}
+use Rattle.ec_world.specs.Held.{Distinct}
+use Rattle.ec_world.specs.declared.key.Key.TheVariants.{Object}
 use Rattle.ec_objects.proofs.Wording.{take_all}
 use Rattle.ec_parcels.proofs.Rising.{map_get}
 use Rattle.ec_parcels.specs.Owners.{object_keys}

@@ -2,8 +2,8 @@
 use Rattle.std.proofs.Common.{◌≡◌, ◌≢◌, ℕ, ◌+◌, ◌≤◌, ◌⊎◌, List, [], ◌∷◌, ◌++◌, length, Some, refl, sym, ap, subst, arith, inl, inr}
 use Rattle.std.proofs.Common.{⊎_elim}
 use Rattle.std.specs.Prelude.{◌↔◌, slice_get}
-use Rattle.ec_nodes.specs.Held.{Distinct}
-use Rattle.ec_nodes.specs.Words.{text_bytes}
+use Rattle.ec_world.specs.Held.{Distinct}
+use Rattle.ec_world.specs.Words.{text_bytes}
 use Rattle.ec_objects.proofs.Wording.{pool_or_not}
 use Rattle.ec_objects.specs.Values.{TextsFit}
 use Rattle.ec_parcels.proofs.Rising.{once_both, once_cons, once_first, once_tail}

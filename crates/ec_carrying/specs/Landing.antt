@@ -10,9 +10,9 @@ use Rattle.ec_monitors.specs.declared.record.MonitorRec.{MonitorRec}
 use Rattle.ec_mover.specs.Activations.{activation_part_of}
 use Rattle.ec_mover.specs.Classes.{ClassTable, class_of}
 use Rattle.ec_mover.specs.Objects.{object_of}
-use Rattle.ec_nodes.specs.Held.{Distinct}
-use Rattle.ec_nodes.specs.Things.{activation_at, class_blocks}
-use Rattle.ec_nodes.specs.declared.key.Key.{Key}
+use Rattle.ec_world.specs.Held.{Distinct}
+use Rattle.ec_world.specs.Things.{activation_at, class_blocks}
+use Rattle.ec_world.specs.declared.key.Key.{Key}
 use Rattle.ec_objects.specs.Values.{TextsFit}
 use Rattle.ec_stop_tables.specs.declared.table.StopEntry.{StopEntry}
 use Rattle.ec_things.specs.Store.{Store, Tidy}

@@ -3,8 +3,8 @@ use Rattle.std.specs.Prelude.{◌≡◌, ◌≢◌, ℕ, Bool, List, ◌++◌, O
 use Rattle.ec_cluster.specs.Cluster.{CodeWorld, frame_of, place, stores}
 use Rattle.ec_cluster.specs.Steps.{Changes, KeptAt, Nothing}
 use Rattle.ec_cluster.specs.declared.cluster.Cluster.{Cluster}
-use Rattle.ec_nodes.specs.Held.{Distinct}
-use Rattle.ec_nodes.specs.declared.key.Key.{Key}
+use Rattle.ec_world.specs.Held.{Distinct}
+use Rattle.ec_world.specs.declared.key.Key.{Key}
 use Rattle.ec_parcels.specs.Owners.{among}
 use Rattle.ec_things.specs.Store.{Store}
 use Rattle.ec_things.specs.Texts.{GetsTexts}

@@ -2,7 +2,7 @@
 ghost use Rattle.std.specs.Prelude.{◌≡◌, ◌≢◌, ℕ, Some};
 ghost use Rattle.ec_carrying.specs.Moves.{AreAll, NotAny};
 ghost use Rattle.ec_forward.specs.Directory.{made_count, place_at};
-ghost use Rattle.ec_nodes.specs.Held.{Distinct};
+ghost use Rattle.ec_world.specs.Held.{Distinct};
 ghost use Rattle.ec_parcels.specs.Owners.{object_keys};
 
 use ec_base::list::Seq;

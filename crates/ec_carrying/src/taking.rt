@@ -2,7 +2,7 @@
 ghost use Rattle.std.specs.Prelude.{None};
 ghost use Rattle.ec_carrying.specs.Steps.{AreKept, OnePut, TakenOff};
 ghost use Rattle.ec_cluster.specs.Steps.{KeptAt};
-ghost use Rattle.ec_nodes.specs.declared.key.Key.TheVariants.{Frame, Object};
+ghost use Rattle.ec_world.specs.declared.key.Key.TheVariants.{Frame, Object};
 ghost use Rattle.ec_parcels.specs.Owners.{frame_keys, object_keys};
 ghost use Rattle.ec_things.specs.Texts.{NoTexts};
 

@@ -7,7 +7,7 @@ use Rattle.ec_code.specs.declared.code.Parts.{Parts}
 use Rattle.ec_code.specs.Fine.{Fine}
 use Rattle.ec_code.specs.Typing.{Declared}
 use Rattle.ec_mover.specs.Classes.{number_of}
-use Rattle.ec_nodes.specs.Held.{Distinct}
+use Rattle.ec_world.specs.Held.{Distinct}
 use Rattle.ec_sound.specs.Laws.{world_after}
 use Rattle.ec_sound.specs.Sound.{SoundWorld}
 use Rattle.ec_world.specs.Moves.{OperatorMove}

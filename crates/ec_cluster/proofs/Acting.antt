@@ -7,7 +7,7 @@ use Rattle.ec_cluster.specs.Cluster.{CodeWorld, Shows, frame_of, place}
 use Rattle.ec_cluster.specs.Steps.{HasObject, MonitorActs, with_common}
 use Rattle.ec_cluster.specs.declared.cluster.Cluster.{Cluster}
 use Rattle.ec_monitors.specs.declared.record.MonitorRec.{MonitorRec}
-use Rattle.ec_nodes.specs.declared.key.Key.TheVariants.{Object}
+use Rattle.ec_world.specs.declared.key.Key.TheVariants.{Object}
 use Rattle.ec_objects.specs.Acts.{ActsOn}
 use Rattle.ec_stores.specs.Node.{NodeData, store_of}
 use Rattle.ec_things.proofs.Objects.{object_put}

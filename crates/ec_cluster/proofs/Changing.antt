@@ -7,7 +7,7 @@ use Rattle.ec_cluster.proofs.Putting.{node_changes, put_shown, shown_there, with
 use Rattle.ec_cluster.specs.Cluster.{CodeWorld, Shows, frame_of, place, stores}
 use Rattle.ec_cluster.specs.Steps.{Changes, HasField, HasObject, WhereIs, with_common}
 use Rattle.ec_cluster.specs.declared.cluster.Cluster.{Cluster}
-use Rattle.ec_nodes.specs.declared.key.Key.TheVariants.{Object}
+use Rattle.ec_world.specs.declared.key.Key.TheVariants.{Object}
 use Rattle.ec_stores.specs.Node.{NodeData, store_of}
 use Rattle.ec_things.proofs.Objects.{object_put}
 use Rattle.ec_things.specs.Store.{Owned, Store}

@@ -5,7 +5,7 @@ use Rattle.ec_base.proofs.Lists.{get_set_other, get_set_same, get_within, length
 use Rattle.ec_cluster.specs.Cluster.{CodeWorld, Shows, frame_of, place, stores, stores_of}
 use Rattle.ec_cluster.specs.Steps.{Changes, HasObject}
 use Rattle.ec_cluster.specs.declared.cluster.Cluster.{Cluster}
-use Rattle.ec_nodes.specs.declared.key.Key.{Key}
+use Rattle.ec_world.specs.declared.key.Key.{Key}
 use Rattle.ec_stores.specs.Node.{NodeData, store_of}
 use Rattle.ec_things.proofs.Put.{same_or_not}
 use Rattle.ec_things.proofs.World.{one_changed}

@@ -13,8 +13,8 @@ use Rattle.ec_activations.specs.Frames.{frame_thing}
 use Rattle.ec_homes.specs.declared.homes.Home.{Home}
 use Rattle.ec_node_frames.specs.Frames.{AreHeadings, IsFrame}
 use Rattle.ec_node_frames.specs.declared.frames.Headings.{Headings}
-use Rattle.ec_nodes.proofs.Procs.{activation_is}
-use Rattle.ec_nodes.specs.declared.key.Key.TheVariants.{Frame}
+use Rattle.ec_world.proofs.Procs.{activation_is}
+use Rattle.ec_world.specs.declared.key.Key.TheVariants.{Frame}
 use Rattle.ec_stores.specs.Node.{NodeData, owned_frame, store_of}
 use Rattle.ec_stores.specs.Tables.{frame_in}
 use Rattle.ec_stores.specs.declared.rows.FrameRow.{FrameRow}

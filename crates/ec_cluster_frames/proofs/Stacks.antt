@@ -6,8 +6,8 @@ use Rattle.ec_cluster.specs.Cluster.{CodeWorld, Shows, frame_of, place}
 use Rattle.ec_cluster.specs.declared.cluster.Cluster.{Cluster}
 use Rattle.ec_cluster_frames.specs.Frames.{with_one_more, with_stack}
 use Rattle.ec_code.specs.declared.activation.CodeActivation.{CodeActivation}
-use Rattle.ec_nodes.proofs.Procs.{activation_is}
-use Rattle.ec_nodes.specs.declared.key.Key.TheVariants.{Frame}
+use Rattle.ec_world.proofs.Procs.{activation_is}
+use Rattle.ec_world.specs.declared.key.Key.TheVariants.{Frame}
 use Rattle.ec_stores.specs.Node.{NodeData, store_of}
 use Rattle.ec_things.proofs.Began.{process_came}
 use Rattle.ec_things.proofs.Steps.{called, left, stepped}

@@ -5,7 +5,7 @@ use Rattle.ec_cluster.specs.declared.cluster.Cluster.{Cluster}
 use Rattle.ec_code.specs.declared.activation.CodeActivation.{CodeActivation}
 use Rattle.ec_node_frames.specs.Frames.{AreHeadings}
 use Rattle.ec_node_frames.specs.declared.frames.Headings.{Headings}
-use Rattle.ec_nodes.specs.declared.key.Key.TheVariants.{Frame}
+use Rattle.ec_world.specs.declared.key.Key.TheVariants.{Frame}
 use Rattle.ec_things.specs.Store.{Store}
 use Rattle.ec_world.specs.declared.process.Proc.{Proc}
 

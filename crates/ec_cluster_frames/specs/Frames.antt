@@ -8,7 +8,7 @@ use Rattle.ec_code.specs.declared.activation.CodeActivation.{CodeActivation}
 use Rattle.ec_node_frames.specs.Beginning.{HasEntry, first_values}
 use Rattle.ec_node_frames.specs.Finishing.{HasRoomIn}
 use Rattle.ec_node_frames.specs.Frames.{HasTables, IsFrame, RestsAt}
-use Rattle.ec_nodes.specs.declared.key.Key.TheVariants.{Frame}
+use Rattle.ec_world.specs.declared.key.Key.TheVariants.{Frame}
 use Rattle.ec_objects.specs.Values.{TextsFit}
 use Rattle.ec_stop_tables.specs.declared.table.OperationTable.{OperationTable}
 use Rattle.ec_stop_tables.specs.declared.table.StopEntry.{StopEntry}

@@ -5,7 +5,7 @@ ghost use Rattle.ec_world.specs.Run.{statuses_of};
 use ec_code::activation::CodeActivation;
 use ec_driver::driver::{Driver, Refusal};
 use ec_stepping::code::Code;
-use ec_turns::running::Running;
+use ec_world::running::Running;
 use ec_world::process::ProcStatus;
 use ec_world::run::RunEntry;
 use std::alloc::{AllocError, Global};

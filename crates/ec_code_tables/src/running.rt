@@ -12,7 +12,7 @@ use ec_report::answer::Answer;
 use ec_report::lines::{push_end, push_object_line, push_processes, push_turns};
 use ec_report::status::status_after;
 use ec_stepping::code::Code;
-use ec_turns::running::Running;
+use ec_world::running::Running;
 use ec_world::node::NodeSpec;
 use ec_world::places::place_of;
 use ec_world::run::Entry;

@@ -10,7 +10,7 @@ use Rattle.ec_cluster.specs.declared.cluster.Cluster.{Cluster}
 use Rattle.ec_doings.proofs.Objects.{changed_same}
 use Rattle.ec_monitors.specs.Monitors.{Granting, is_held_by}
 use Rattle.ec_monitors.specs.declared.record.MonitorRec.{MonitorRec}
-use Rattle.ec_nodes.specs.declared.key.Key.TheVariants.{Object}
+use Rattle.ec_world.specs.declared.key.Key.TheVariants.{Object}
 use Rattle.ec_stores.specs.Changes.{HasMonitor, HoldsMonitor, LacksMonitor, MonitorIs, WaitsAtMonitor}
 use Rattle.ec_things.specs.Store.{Owned}
 use Rattle.ec_things.specs.Things.{Shown, object_if, object_thing}

@@ -9,8 +9,8 @@ use Rattle.ec_doings.proofs.Counting.{new_place, one_more}
 use Rattle.ec_doings.proofs.Stepping.{done_there, with_cluster}
 use Rattle.ec_forward.specs.Directory.{made_count}
 use Rattle.ec_monitors.specs.declared.record.MonitorRec.{MonitorRec}
-use Rattle.ec_nodes.proofs.Procs.{get_end}
-use Rattle.ec_nodes.specs.declared.key.Key.TheVariants.{Object}
+use Rattle.ec_world.proofs.Procs.{get_end}
+use Rattle.ec_world.specs.declared.key.Key.TheVariants.{Object}
 use Rattle.ec_system.specs.Steps.{ByClass, Does}
 use Rattle.ec_system.specs.Systems.{Mirrors, Strings}
 use Rattle.ec_system.specs.declared.system.System.{System}

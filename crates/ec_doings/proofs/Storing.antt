@@ -12,7 +12,7 @@ use Rattle.ec_doings.proofs.Objects.{changed_here, length_changed}
 use Rattle.ec_doings.proofs.Stepping.{done_nothing, done_there, with_cluster}
 use Rattle.ec_forward.specs.Directory.{made_count, place_at}
 use Rattle.ec_forward.specs.declared.directory.Whereabouts.{Whereabouts}
-use Rattle.ec_nodes.specs.declared.key.Key.TheVariants.{Object}
+use Rattle.ec_world.specs.declared.key.Key.TheVariants.{Object}
 use Rattle.ec_system.specs.Steps.{Does}
 use Rattle.ec_system.specs.Systems.{Mirrors}
 use Rattle.ec_system.specs.declared.system.System.{System}

@@ -4,7 +4,7 @@ use Rattle.ec_world.specs.declared.process.ProcStatus.{ProcStatus}
 use Rattle.ec_world.specs.declared.run.Entry.{Entry}
 use Rattle.ec_world.specs.declared.run.RunEntry.{RunEntry}
 use Rattle.ec_world.specs.Run.{end_by}
-use Rattle.ec_nodes.specs.declared.room.Part.{Part}
+use Rattle.ec_world.specs.declared.room.Part.{Part}
 use Rattle.ec_report.specs.declared.end.ReportEnd.{ReportEnd}
 use Rattle.ec_report.specs.declared.end.ReportEnd.TheVariants.{Ends, IsFull}
 use Rattle.ec_driver.specs.declared.driver.Refusal.{Refusal}

@@ -2,11 +2,11 @@
 ghost use Rattle.std.specs.Prelude.{◌≡◌, IfErr, IfOk, List, OnOk, ℕ};
 ghost use Rattle.ec_world.specs.declared.process.ProcStatus.{ProcStatus as AStatus};
 ghost use Rattle.ec_world.specs.declared.run.Entry.{Entry};
-ghost use Rattle.ec_nodes.specs.declared.room.Part.{Part as APart};
+ghost use Rattle.ec_world.specs.declared.room.Part.{Part as APart};
 ghost use Rattle.ec_driver.specs.Progress.{Progress};
 ghost use Rattle.ec_driver.specs.declared.driver.Refusal.TheVariants.{Memory};
 
-use ec_nodes::room::Part;
+use ec_world::room::Part;
 use ec_world::process::ProcStatus;
 use ec_world::run::RunEntry;
 use ec_world::value::NodeNo;

@@ -20,7 +20,7 @@ use Rattle.ec_meaning.specs.Steps.{Goes, gives, compare, comparing, same_or_not}
 use Rattle.ec_meaning.specs.declared.item.Item.{Item}
 use Rattle.ec_meaning.specs.declared.item.Item.TheVariants as i
 use Rattle.ec_meaning.specs.declared.state.State.{State}
-use Rattle.ec_operators.specs.Same as operators
+use Rattle.ec_world.specs.Same as operators
 use Rattle.ec_stands.specs.Stands as at
 use Rattle.ec_stands.specs.Stands.{Kept, decided}
 use Rattle.ec_world.specs.declared.stop.Order.{Order}

@@ -18,7 +18,7 @@ use Rattle.ec_faithful.specs.Machine.{MachineMeaning}
 use Rattle.ec_homes.specs.declared.homes.Home.{Home}
 use Rattle.ec_homes.specs.declared.homes.Home.TheVariants.{Register, Slot}
 use Rattle.ec_memory.specs.Words.{HasWord, block_word_at, global_word_at, word_in}
-use Rattle.ec_nodes.specs.Words.{StandsFor}
+use Rattle.ec_world.specs.Words.{StandsFor}
 use Rattle.ec_world.specs.declared.value.Value.{Value}
 use Rattle.ec_world.specs.declared.value.Value.TheVariants.{Int, Str, Ref, Nil, Bool as Truth}
 

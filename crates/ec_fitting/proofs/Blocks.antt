@@ -2,7 +2,7 @@
 use Rattle.std.proofs.Common.{◌≡◌, ◌≤◌, ◌+◌, ◌*◌, ◌/◌, max, ℕ, List, length, drop}
 use Rattle.std.proofs.Common.{arith, length-append, length-drop}
 use Rattle.std.proofs.lemmas.List.{length-map}
-use Rattle.ec_nodes.specs.Things.{class_blocks}
+use Rattle.ec_world.specs.Things.{class_blocks}
 use Rattle.ec_world.specs.Values.{default_of, field_defaults, new_fields}
 use Rattle.ec_world.specs.declared.class.ClassNo.TheVariants.{Made, Vector}
 use Rattle.ec_world.specs.declared.class.FieldRec.{FieldRec}

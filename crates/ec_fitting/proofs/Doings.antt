@@ -22,7 +22,7 @@ use Rattle.ec_fitting.proofs.Blocks.{made_fits, new_length, vector_fits}
 use Rattle.ec_fitting.proofs.Shown.{has_constant, has_field, has_object, no_object}
 use Rattle.ec_fitting.specs.Fitting.{HasNamed, IsMakable}
 use Rattle.ec_forward.specs.Directory.{made_count}
-use Rattle.ec_nodes.specs.Things.{class_blocks}
+use Rattle.ec_world.specs.Things.{class_blocks}
 use Rattle.ec_sound.proofs.Carried.{all_two_length, each_get, there}
 use Rattle.ec_sound.specs.Sound.{SoundPending}
 use Rattle.ec_sound.specs.Values.{HasType, class_in}

@@ -11,10 +11,10 @@ use Rattle.ec_cluster_frames.specs.Frames.{HasNode}
 use Rattle.ec_code.specs.declared.activation.CodeActivation.{CodeActivation}
 use Rattle.ec_fitting.specs.Fitting.{HasConstant}
 use Rattle.ec_forward.specs.Directory.{made_count}
-use Rattle.ec_nodes.proofs.Procs.{activation_is, get_past}
-use Rattle.ec_nodes.specs.Things.{blocks_of}
-use Rattle.ec_nodes.specs.declared.key.Key.{Key}
-use Rattle.ec_nodes.specs.declared.key.Key.TheVariants.{Frame, Object}
+use Rattle.ec_world.proofs.Procs.{activation_is, get_past}
+use Rattle.ec_world.specs.Things.{blocks_of}
+use Rattle.ec_world.specs.declared.key.Key.{Key}
+use Rattle.ec_world.specs.declared.key.Key.TheVariants.{Frame, Object}
 use Rattle.ec_things.specs.Store.{Owned, Store}
 use Rattle.ec_things.specs.Things.{ShownAt, frame_if, object_if, object_thing, things_of}
 use Rattle.ec_system.specs.Acting.{IsTop}

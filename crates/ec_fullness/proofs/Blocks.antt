@@ -8,14 +8,14 @@ use Rattle.ec_code.specs.Activations.{finished}
 use Rattle.ec_code.specs.declared.activation.CodeActivation.{CodeActivation}
 use Rattle.ec_fullness.proofs.Stacks.{after, begun_stacks, new_stack, stacks_after}
 use Rattle.ec_node_frames.proofs.Items.{get_map}
-use Rattle.ec_nodes.specs.Held.{if_at, total}
-use Rattle.ec_nodes.specs.Things.{blocks_of}
+use Rattle.ec_world.specs.Held.{if_at, total}
+use Rattle.ec_world.specs.Things.{blocks_of}
 use Rattle.ec_things.proofs.Items.{held_sum, item_is, items, weight}
 use Rattle.ec_things.proofs.Same.{stacks}
 use Rattle.ec_things.proofs.Sums.{summed}
 use Rattle.ec_things.specs.Held.{Held, frame_weight, object_weight, process_weight}
 use Rattle.ec_things.specs.Things.{Thing, things_of}
-use Rattle.ec_nodes.specs.declared.key.Key.{Key}
+use Rattle.ec_world.specs.declared.key.Key.{Key}
 use Rattle.ec_world.specs.Group.{Has}
 use Rattle.ec_world.specs.declared.common.Common.{Common}
 use Rattle.ec_world.specs.declared.doing.Outcome.{Outcome}

@@ -23,10 +23,10 @@ use Rattle.ec_fullness.proofs.Waiting.{goer_waits}
 use Rattle.ec_fullness.specs.Fullness.{Wants, place_then}
 use Rattle.ec_node_frames.specs.Finishing.{IsTaken}
 use Rattle.ec_code.specs.declared.code.Live.{Live}
-use Rattle.ec_nodes.proofs.Procs.{get_end, total_push}
-use Rattle.ec_nodes.specs.Held.{if_at}
-use Rattle.ec_nodes.specs.Things.{blocks_of, class_blocks}
-use Rattle.ec_nodes.specs.declared.key.Key.TheVariants.{Object}
+use Rattle.ec_world.proofs.Procs.{get_end, total_push}
+use Rattle.ec_world.specs.Held.{if_at}
+use Rattle.ec_world.specs.Things.{blocks_of, class_blocks}
+use Rattle.ec_world.specs.declared.key.Key.TheVariants.{Object}
 use Rattle.ec_system.specs.Acting.{Asks}
 use Rattle.ec_system.specs.Systems.{Runs}
 use Rattle.ec_system.specs.declared.system.System.{System}

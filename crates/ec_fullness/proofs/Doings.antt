@@ -23,9 +23,9 @@ use Rattle.ec_monitors.specs.declared.record.Entry.TheVariants.{Entered, Queued}
 use Rattle.ec_monitors.specs.declared.record.Granted.{Granted}
 use Rattle.ec_monitors.specs.declared.record.MonitorRec.{MonitorRec}
 use Rattle.ec_monitors.specs.Monitors.{entered, left, signalled}
-use Rattle.ec_nodes.specs.Held.{if_at}
-use Rattle.ec_nodes.specs.Things.{blocks_of}
-use Rattle.ec_nodes.specs.declared.key.Key.TheVariants.{Object}
+use Rattle.ec_world.specs.Held.{if_at}
+use Rattle.ec_world.specs.Things.{blocks_of}
+use Rattle.ec_world.specs.declared.key.Key.TheVariants.{Object}
 use Rattle.ec_system.specs.Acting.{Asks}
 use Rattle.ec_system.specs.Systems.{Runs}
 use Rattle.ec_system.specs.declared.system.System.{System}

@@ -20,11 +20,11 @@ use Rattle.ec_fullness.proofs.Values.{WaitsAt, finished_before, finished_takes, 
 use Rattle.ec_fullness.specs.Fullness.{Wants}
 use Rattle.ec_node_frames.proofs.Items.{get_front}
 use Rattle.ec_node_frames.specs.Finishing.{IsTaken}
-use Rattle.ec_nodes.proofs.Procs.{activation_is, get_end}
-use Rattle.ec_nodes.specs.Held.{if_at}
-use Rattle.ec_nodes.specs.Things.{activation_at}
-use Rattle.ec_nodes.specs.declared.key.Key.{Key}
-use Rattle.ec_nodes.specs.declared.key.Key.TheVariants.{Frame, Object}
+use Rattle.ec_world.proofs.Procs.{activation_is, get_end}
+use Rattle.ec_world.specs.Held.{if_at}
+use Rattle.ec_world.specs.Things.{activation_at}
+use Rattle.ec_world.specs.declared.key.Key.{Key}
+use Rattle.ec_world.specs.declared.key.Key.TheVariants.{Frame, Object}
 use Rattle.ec_stop_tables.specs.declared.table.StopEntry.{StopEntry}
 use Rattle.ec_things.proofs.Sums.{summed}
 use Rattle.ec_things.specs.Texts.{IsHeld}

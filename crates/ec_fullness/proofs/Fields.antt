@@ -7,7 +7,7 @@ use Rattle.ec_activations.proofs.Stops.{mapped}
 use Rattle.ec_base.proofs.Lists.{get_set_other, get_set_same, get_within}
 use Rattle.ec_cluster.proofs.Changing.{before_suc}
 use Rattle.ec_node_frames.proofs.Items.{get_map}
-use Rattle.ec_nodes.proofs.Procs.{get_but_end, get_end}
+use Rattle.ec_world.proofs.Procs.{get_but_end, get_end}
 use Rattle.ec_things.proofs.Put.{same_or_not}
 use Rattle.ec_world.specs.Group.{Has}
 use Rattle.ec_world.specs.Objects.{changed_if, changed_object, object_at}

@@ -11,10 +11,10 @@ use Rattle.ec_fullness.specs.Fullness.{EachFits, FitsAt, IsFull, NeedsAt, Wants,
 use Rattle.ec_fullness.specs.Room.{HasRoomWith}
 use Rattle.ec_fullness.specs.Told.{LacksAt, LacksFirst}
 use Rattle.ec_needs.specs.Lacks.{HasRoomForAll, LacksRoom, needs_at}
-use Rattle.ec_nodes.proofs.Procs.{get_past}
-use Rattle.ec_nodes.specs.Held.{if_at}
-use Rattle.ec_nodes.specs.declared.key.Key.{Key}
-use Rattle.ec_nodes.specs.declared.room.Lack.{Lack}
+use Rattle.ec_world.proofs.Procs.{get_past}
+use Rattle.ec_world.specs.Held.{if_at}
+use Rattle.ec_world.specs.declared.key.Key.{Key}
+use Rattle.ec_world.specs.declared.room.Lack.{Lack}
 use Rattle.ec_objects.specs.Values.{TextsFit}
 use Rattle.ec_system.proofs.Pools.{strings_in_pool}
 use Rattle.ec_system.specs.Systems.{Strings}

@@ -8,7 +8,7 @@ use Rattle.ec_cluster.specs.Cluster.{CodeWorld}
 use Rattle.ec_code.specs.Activations.{code_meaning}
 use Rattle.ec_code.specs.declared.activation.CodeActivation.{CodeActivation}
 use Rattle.ec_node_frames.proofs.Items.{get_front, get_map, map_both}
-use Rattle.ec_nodes.specs.Things.{activation_at}
+use Rattle.ec_world.specs.Things.{activation_at}
 use Rattle.ec_things.proofs.Same.{stacks}
 use Rattle.ec_world.specs.Outcomes.{all_granted}
 use Rattle.ec_world.specs.World.{all_readied, begun_for, changed, readied, settled}

@@ -13,8 +13,8 @@ use Rattle.ec_fullness.specs.Room.{HasRoomWith}
 use Rattle.ec_fullness.specs.Told.{HaveRoomBefore, LacksFirst, Tells, TellsOfAll, TellsOfMaking, taken}
 use Rattle.ec_needs.specs.Lacks.{HasRoomForAll, LacksRoom}
 use Rattle.ec_node_frames.specs.Beginning.{first_values}
-use Rattle.ec_nodes.specs.Things.{class_blocks}
-use Rattle.ec_nodes.specs.declared.room.Lack.{Lack}
+use Rattle.ec_world.specs.Things.{class_blocks}
+use Rattle.ec_world.specs.declared.room.Lack.{Lack}
 use Rattle.ec_stop_tables.specs.declared.table.OperationTable.{OperationTable}
 use Rattle.ec_stores.specs.Node.{NodeData, store_of}
 use Rattle.ec_things.proofs.Put.{same_or_not}

@@ -37,12 +37,12 @@ use Rattle.ec_node_frames.specs.Beginning.{HasEntry, first_values}
 use Rattle.ec_node_frames.specs.Finishing.{HasRoomIn, IsTaken}
 use Rattle.ec_node_frames.specs.Frames.{RestsAt}
 use Rattle.ec_node_frames.specs.declared.frames.Headings.{Headings}
-use Rattle.ec_nodes.proofs.Procs.{activation_is, get_end}
-use Rattle.ec_nodes.specs.Held.{if_at}
-use Rattle.ec_nodes.specs.Words.{text_bytes}
-use Rattle.ec_nodes.specs.Things.{class_blocks}
-use Rattle.ec_nodes.specs.declared.key.Key.TheVariants.{Frame, Object}
-use Rattle.ec_nodes.specs.declared.room.Lack.{Lack}
+use Rattle.ec_world.proofs.Procs.{activation_is, get_end}
+use Rattle.ec_world.specs.Held.{if_at}
+use Rattle.ec_world.specs.Words.{text_bytes}
+use Rattle.ec_world.specs.Things.{class_blocks}
+use Rattle.ec_world.specs.declared.key.Key.TheVariants.{Frame, Object}
+use Rattle.ec_world.specs.declared.room.Lack.{Lack}
 use Rattle.ec_objects.specs.Values.{HasRoom, TextsFit}
 use Rattle.ec_sound.proofs.Carried.{there}
 use Rattle.ec_sound.proofs.Facts.{call_fits}

@@ -5,9 +5,9 @@ use Rattle.ec_cluster.specs.declared.cluster.Cluster.{Cluster}
 use Rattle.ec_code.specs.Typing.{Declared}
 use Rattle.ec_code.specs.declared.activation.CodeActivation.{CodeActivation}
 use Rattle.ec_forward.specs.Directory.{made_count}
-use Rattle.ec_nodes.specs.Held.{Fits, Lacks}
-use Rattle.ec_nodes.specs.declared.room.Needs.{Needs}
-use Rattle.ec_nodes.specs.declared.room.Part.{Part}
+use Rattle.ec_world.specs.Held.{Fits, Lacks}
+use Rattle.ec_world.specs.declared.room.Needs.{Needs}
+use Rattle.ec_world.specs.declared.room.Part.{Part}
 use Rattle.ec_system.specs.Acting.{Asks}
 use Rattle.ec_system.specs.Systems.{Runs}
 use Rattle.ec_system.specs.declared.system.System.{System}

@@ -9,7 +9,7 @@ use Rattle.ec_code.specs.declared.activation.CodeActivation.{CodeActivation}
 use Rattle.ec_needs.specs.Lacks.{HasRoomForAll}
 use Rattle.ec_node_frames.specs.Beginning.{first_values}
 use Rattle.ec_node_frames.specs.Frames.{RestsAt}
-use Rattle.ec_nodes.specs.Things.{class_blocks}
+use Rattle.ec_world.specs.Things.{class_blocks}
 use Rattle.ec_objects.specs.Values.{HasRoom, TextsFit}
 use Rattle.ec_stop_tables.specs.declared.table.OperationTable.{OperationTable}
 use Rattle.ec_stop_tables.specs.declared.table.StopEntry.{StopEntry}

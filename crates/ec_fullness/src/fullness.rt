@@ -14,7 +14,7 @@ use crate::making::{lack_for_vector, lack_to_make};
 use crate::nodes::{lack_anywhere, lack_at};
 use crate::starting::lack_to_start;
 use crate::taking::{lack_below, lack_to_take};
-use ec_nodes::room::Lack;
+use ec_world::room::Lack;
 use ec_system::system::System;
 use ec_world::doing::Doing;
 use ec_world::stop::Who;

@@ -2,7 +2,7 @@
 ghost use Rattle.std.specs.Prelude.{◌≡◌, ◌++◌, drop, IfOk, OnOk, length, replicate};
 ghost use Rattle.ec_cluster_frames.specs.Frames.{HasNode};
 ghost use Rattle.ec_fullness.specs.Told.{Tells, TellsOfMaking};
-ghost use Rattle.ec_nodes.specs.Things as things;
+ghost use Rattle.ec_world.specs.Things as things;
 ghost use Rattle.ec_world.specs.Objects.{class_at, element_kind};
 ghost use Rattle.ec_world.specs.Values.{default_of, field_defaults, new_fields};
 ghost use Rattle.ec_world.specs.declared.class.ClassNo.TheVariants.{Vector};
@@ -10,7 +10,7 @@ ghost use Rattle.ec_world.specs.declared.class.ClassNo.TheVariants.{Vector};
 use crate::nodes::lack_at;
 use ec_base::list::Seq;
 use ec_cluster::cluster::Cluster;
-use ec_nodes::room::Lack;
+use ec_world::room::Lack;
 use ec_stores::rows::class_blocks;
 use ec_world::class::{ClassNo, FieldRec, VectorType};
 use ec_world::value::{Oid, ValueType, Values, copy_values};

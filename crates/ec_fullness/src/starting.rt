@@ -14,7 +14,7 @@ use ec_cluster::cluster::Cluster;
 use ec_cluster::objects::node_of;
 use ec_code::code::{Live, Variable};
 use ec_needs::lacks::lack_of;
-use ec_nodes::room::Lack;
+use ec_world::room::Lack;
 use ec_stop_tables::table::OperationTable;
 use ec_world::value::{Oid, OpNo, Value};
 use std::alloc::{AllocError, Global};

@@ -10,7 +10,7 @@ use Rattle.ec_gathering_room.specs.Gathering.{ButFixed}
 use Rattle.ec_mover.specs.Activations.{activation_part_of}
 use Rattle.ec_mover.specs.Classes.{ClassTable}
 use Rattle.ec_node_frames.specs.Frames.{RestsAt}
-use Rattle.ec_nodes.specs.Things.{activation_at}
+use Rattle.ec_world.specs.Things.{activation_at}
 use Rattle.ec_parcels.specs.Parcels.{ActivationGoes, IsOfActivation, IsOfMonitor, IsOfObject, ObjectGoes, Packs}
 use Rattle.ec_wire.specs.declared.parcel.ActivationPart.{ActivationPart}
 use Rattle.ec_wire.specs.declared.parcel.Contents.{Contents}

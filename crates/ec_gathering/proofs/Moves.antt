@@ -14,7 +14,7 @@ use Rattle.ec_fitting.proofs.Asking.{its_stop}
 use Rattle.ec_gathering.specs.Gathers.{MayLeave, LetsGo, MayGather}
 use Rattle.ec_leaving.specs.Between.{NodesAreFixed}
 use Rattle.ec_mover.specs.Classes.{ClassTable}
-use Rattle.ec_nodes.proofs.Keys.{same_or_not}
+use Rattle.ec_world.proofs.Keys.{same_or_not}
 use Rattle.ec_sound.specs.Values.{HasType, class_in}
 use Rattle.ec_system.specs.Acting.{Asks}
 use Rattle.ec_system.specs.declared.system.System.{System}

@@ -23,8 +23,8 @@ use Rattle.ec_gathering_room.proofs.One.{text_goes}
 use Rattle.ec_gathering_room.specs.Gathering.{CanGather, PacksAll, gathered}
 use Rattle.ec_mover.specs.Classes.{ClassTable, IsClassTable}
 use Rattle.ec_needs.specs.Lacks.{HasRoomForAll}
-use Rattle.ec_nodes.proofs.Keys.{same_or_not}
-use Rattle.ec_nodes.specs.Held.{Distinct, if_at, total}
+use Rattle.ec_world.proofs.Keys.{same_or_not}
+use Rattle.ec_world.specs.Held.{Distinct, if_at, total}
 use Rattle.ec_parcels.proofs.Rising.{get_mapped, map_get, once_first, once_tail}
 use Rattle.ec_parcels.specs.Owners.{all_blocks, all_values, values_in}
 use Rattle.ec_parcels.specs.Parcels.{Packs}

@@ -12,8 +12,8 @@ use Rattle.ec_gathering.specs.Gathers.{MayGather}
 use Rattle.ec_gathering.specs.Shipping.{AreShipped, IsShipped, froms}
 use Rattle.ec_gathering.specs.declared.shipping.Shipment.{Shipment}
 use Rattle.ec_mover.specs.Classes.{ClassTable, number_of}
-use Rattle.ec_nodes.proofs.Keys.{same_or_not}
-use Rattle.ec_nodes.specs.Held.{Distinct}
+use Rattle.ec_world.proofs.Keys.{same_or_not}
+use Rattle.ec_world.specs.Held.{Distinct}
 use Rattle.ec_packing.specs.Packing.{CanGo}
 use Rattle.ec_parcels.proofs.Rising.{once_both, once_cons, once_none}
 use Rattle.ec_system.specs.declared.system.System.{System}

@@ -12,7 +12,7 @@ use Rattle.ec_fullness.specs.Fullness.{IsFull}
 use Rattle.ec_gathering_room.specs.Gathering.{gathered}
 use Rattle.ec_leaving.specs.Between.{IsBetween}
 use Rattle.ec_mover.specs.Classes.{ClassTable}
-use Rattle.ec_nodes.specs.declared.room.Lack.{Lack}
+use Rattle.ec_world.specs.declared.room.Lack.{Lack}
 use Rattle.ec_system.specs.Systems.{Mirrors, Runs, Strings}
 use Rattle.ec_system.specs.declared.system.System.{System}
 use Rattle.ec_wire_limits.specs.Limits.{CarriesFew}

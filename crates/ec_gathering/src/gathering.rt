@@ -9,7 +9,7 @@ use crate::lacking::lack_of;
 use crate::shipping::ship;
 use ec_cluster::objects::node_of;
 use ec_mover::classes::ClassNumbers;
-use ec_nodes::room::Lack;
+use ec_world::room::Lack;
 use ec_system::system::System;
 use ec_world::value::Oid;
 use std::alloc::{AllocError, Global};

@@ -21,10 +21,10 @@ use Rattle.ec_gathering_room.proofs.Ended.{ended, text_stays}
 use Rattle.ec_gathering_room.proofs.Operands.{no_text_moves}
 use Rattle.ec_gathering_room.proofs.Same.{SameNeeds}
 use Rattle.ec_gathering_room.proofs.Things.{frame_is}
-use Rattle.ec_nodes.proofs.Procs.{activation_here, activation_is, activation_there, get_but_end, get_end}
-use Rattle.ec_nodes.specs.Things.{activation_at}
-use Rattle.ec_nodes.specs.declared.key.Key.{Key}
-use Rattle.ec_nodes.specs.declared.key.Key.TheVariants.{Frame, Object}
+use Rattle.ec_world.proofs.Procs.{activation_here, activation_is, activation_there, get_but_end, get_end}
+use Rattle.ec_world.specs.Things.{activation_at}
+use Rattle.ec_world.specs.declared.key.Key.{Key}
+use Rattle.ec_world.specs.declared.key.Key.TheVariants.{Frame, Object}
 use Rattle.ec_sound.proofs.Facts.{pending_top}
 use Rattle.ec_system.specs.Acting.{Asks}
 use Rattle.ec_system.specs.Systems.{Runs}

@@ -10,8 +10,8 @@ use Rattle.ec_gathering_room.proofs.One.{size, size_sum}
 use Rattle.ec_gathering_room.proofs.Without.{held_without, key_weight, weight_if}
 use Rattle.ec_gathering_room.specs.Gathering.{CanGather, gathered}
 use Rattle.ec_mover.specs.Classes.{ClassTable}
-use Rattle.ec_nodes.specs.Held.{if_at}
-use Rattle.ec_nodes.specs.declared.key.Key.{Key}
+use Rattle.ec_world.specs.Held.{if_at}
+use Rattle.ec_world.specs.declared.key.Key.{Key}
 use Rattle.ec_parcels.proofs.Keys.{not_has}
 use Rattle.ec_parcels.specs.Owners.{all_blocks, among, blocks_in, keys_of}
 use Rattle.ec_things.proofs.Put.{same_or_not}

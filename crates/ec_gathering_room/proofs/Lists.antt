@@ -6,7 +6,7 @@ use Rattle.std.proofs.lemmas.List.Sums.{sum_by-append, sum_by-cons}
 use Rattle.std.specs.List.{flat_map, sum_by}
 use Rattle.std.specs.Prelude.{slice_get}
 use Rattle.ec_base.proofs.Lists.{get_there, get_within}
-use Rattle.ec_nodes.specs.Held.{Distinct}
+use Rattle.ec_world.specs.Held.{Distinct}
 use Rattle.ec_parcels.proofs.Rising.{once_both, once_first, once_none, once_tail}
 use Rattle.ec_world.proofs.Members.{has_back, has_either, has_first, has_front, has_later, has_none, has_parts}
 use Rattle.ec_world.specs.Group.{Has, is_in}

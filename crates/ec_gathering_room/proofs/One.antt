@@ -19,9 +19,9 @@ use Rattle.ec_gathering_room.specs.Gathering.{AllWait}
 use Rattle.ec_mover.proofs.Numbers.{class_again}
 use Rattle.ec_mover.specs.Classes.{ClassTable, IsClassTable, class_of}
 use Rattle.ec_node_frames.proofs.Items.{map_both}
-use Rattle.ec_nodes.specs.Things.{activation_at, class_blocks}
-use Rattle.ec_nodes.specs.declared.key.Key.{Key}
-use Rattle.ec_nodes.specs.declared.key.Key.TheVariants.{Frame, Object}
+use Rattle.ec_world.specs.Things.{activation_at, class_blocks}
+use Rattle.ec_world.specs.declared.key.Key.{Key}
+use Rattle.ec_world.specs.declared.key.Key.TheVariants.{Frame, Object}
 use Rattle.ec_parcels.proofs.Rising.{get_mapped, map_get}
 use Rattle.ec_parcels.specs.Owners.{blocks_if, blocks_in, frame_keys, keys_of, object_blocks, object_keys, values_in}
 use Rattle.ec_parcels.specs.Parcels.{Packs}

@@ -11,12 +11,12 @@ use Rattle.ec_fullness.proofs.Fields.{fields_of, had_fields}
 use Rattle.ec_fullness.specs.Fullness.{EachFits, FitsAt, IsFull, NeedsAt, Wants}
 use Rattle.ec_gathering_room.proofs.Things.{object_is}
 use Rattle.ec_gathering_room.specs.Gathering.{ButFixed}
-use Rattle.ec_nodes.specs.Held.{total}
-use Rattle.ec_nodes.specs.Things.{activation_at, blocks_of}
-use Rattle.ec_nodes.specs.declared.key.Key.{Key}
-use Rattle.ec_nodes.specs.declared.key.Key.TheVariants.{Frame, Object}
-use Rattle.ec_nodes.specs.declared.room.Needs.{Needs}
-use Rattle.ec_nodes.specs.declared.room.Part.{Part}
+use Rattle.ec_world.specs.Held.{total}
+use Rattle.ec_world.specs.Things.{activation_at, blocks_of}
+use Rattle.ec_world.specs.declared.key.Key.{Key}
+use Rattle.ec_world.specs.declared.key.Key.TheVariants.{Frame, Object}
+use Rattle.ec_world.specs.declared.room.Needs.{Needs}
+use Rattle.ec_world.specs.declared.room.Part.{Part}
 use Rattle.ec_things.specs.Held.{Held, process_weight}
 use Rattle.ec_things.specs.Store.{Store}
 use Rattle.ec_things.specs.Texts.{IsHeld}

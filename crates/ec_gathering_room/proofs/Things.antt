@@ -1,9 +1,9 @@
 -- The object or the activation that is a thing of a world.
 use Rattle.std.proofs.Common.{◌≡◌, ℕ, Option, Some, None, refl}
 use Rattle.std.proofs.lemmas.Option.{same_Some}
-use Rattle.ec_nodes.specs.Things.{activation_at}
+use Rattle.ec_world.specs.Things.{activation_at}
 use Rattle.ec_things.specs.Things.{Thing, frame_if, object_if, object_thing, things_of}
-use Rattle.ec_nodes.specs.declared.key.Key.TheVariants.{Frame, Object}
+use Rattle.ec_world.specs.declared.key.Key.TheVariants.{Frame, Object}
 use Rattle.ec_world.specs.Objects.{object_at}
 use Rattle.ec_world.specs.declared.object.ObjectRec.{ObjectRec}
 use Rattle.ec_world.specs.declared.world.World.{World}

@@ -3,8 +3,8 @@ use Rattle.std.proofs.Common.{◌≡◌, ℕ, ◌+◌, List, [], ◌∷◌, Opti
 use Rattle.std.proofs.lemmas.List.Sums.{sum_by-cons}
 use Rattle.std.specs.List.{sum_by}
 use Rattle.std.specs.Prelude.{Bool, if◌then◌else◌}
-use Rattle.ec_nodes.specs.Held.{Distinct, if_at}
-use Rattle.ec_nodes.specs.declared.key.Key.{Key}
+use Rattle.ec_world.specs.Held.{Distinct, if_at}
+use Rattle.ec_world.specs.declared.key.Key.{Key}
 use Rattle.ec_parcels.proofs.Keys.{not_among, one_more}
 use Rattle.ec_parcels.proofs.Rising.{once_first, once_tail}
 use Rattle.ec_parcels.specs.Owners.{among}

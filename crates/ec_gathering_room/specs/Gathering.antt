@@ -6,8 +6,8 @@ use Rattle.ec_cluster.specs.declared.cluster.Cluster.{Cluster}
 use Rattle.ec_code.specs.declared.activation.CodeActivation.{CodeActivation}
 use Rattle.ec_mover.specs.Classes.{ClassTable, IsClassTable}
 use Rattle.ec_node_frames.specs.Frames.{RestsAt}
-use Rattle.ec_nodes.specs.Held.{Distinct}
-use Rattle.ec_nodes.specs.Things.{activation_at}
+use Rattle.ec_world.specs.Held.{Distinct}
+use Rattle.ec_world.specs.Things.{activation_at}
 use Rattle.ec_parcels.specs.Parcels.{Packs}
 use Rattle.ec_stop_tables.specs.declared.table.StopEntry.{StopEntry}
 use Rattle.ec_wire.specs.WireForm.{KeepsRules}

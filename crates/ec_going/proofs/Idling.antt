@@ -11,8 +11,8 @@ use Rattle.ec_code.specs.declared.activation.CodeActivation.{CodeActivation}
 use Rattle.ec_code.specs.declared.code.Parts.{Parts}
 use Rattle.ec_going.specs.Going.{IsDoneTop, IsInOneBlock}
 use Rattle.ec_idle.specs.Idle.{HasOperations, IdleProc, IdleWorld, IsIdle, IsIdleTop, IsPlain, OfClasses}
-use Rattle.ec_nodes.proofs.Procs.{get_end}
-use Rattle.ec_nodes.specs.Things.{class_blocks}
+use Rattle.ec_world.proofs.Procs.{get_end}
+use Rattle.ec_world.specs.Things.{class_blocks}
 use Rattle.ec_sound.proofs.Carried.{each_get, each_object}
 use Rattle.ec_sound.proofs.Facts.{activation_rests}
 use Rattle.ec_sound.specs.Sound.{SoundWorld}

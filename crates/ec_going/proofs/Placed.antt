@@ -18,7 +18,7 @@ use Rattle.ec_going.specs.Going.{GoesIn, HasCode}
 use Rattle.ec_going.specs.Nodes.{EachHasGoneOn, IsCodeFor, SomeSteps, StepsThere}
 use Rattle.ec_legs.specs.Legs.{Leg}
 use Rattle.ec_node_frames.specs.declared.frames.Headings.{Headings}
-use Rattle.ec_nodes.specs.declared.key.Key.TheVariants.{Frame}
+use Rattle.ec_world.specs.declared.key.Key.TheVariants.{Frame}
 use Rattle.ec_stores.specs.Node.{NodeData, store_of}
 use Rattle.ec_system.specs.Systems.{row_of}
 use Rattle.ec_system.specs.declared.system.ProcessRow.{ProcessRow}

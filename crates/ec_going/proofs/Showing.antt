@@ -14,9 +14,9 @@ use Rattle.ec_going.proofs.Ranging.{constant_fits, field_fits}
 use Rattle.ec_going.proofs.Tops.{there, top_sound}
 use Rattle.ec_going.specs.Going.{HasLiterals, IsDoneTop, IsInOneBlock}
 use Rattle.ec_legs.specs.Legs.{ShowsAll}
-use Rattle.ec_nodes.proofs.Procs.{activation_is}
-use Rattle.ec_nodes.specs.Things.{blocks_of, class_blocks}
-use Rattle.ec_nodes.specs.declared.key.Key.TheVariants.{Frame, Object}
+use Rattle.ec_world.proofs.Procs.{activation_is}
+use Rattle.ec_world.specs.Things.{blocks_of, class_blocks}
+use Rattle.ec_world.specs.declared.key.Key.TheVariants.{Frame, Object}
 use Rattle.ec_ranges.specs.Worlds.{RangedWorld}
 use Rattle.ec_sound.proofs.Carried.{IsThere, all_two_length, each_object}
 use Rattle.ec_sound.proofs.Carried as carried

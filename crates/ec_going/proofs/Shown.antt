@@ -16,11 +16,11 @@ use Rattle.ec_going.proofs.Touched.{HasShown, some_shown}
 use Rattle.ec_going.proofs.Walked.{OwnRan, silent_own, silent_ran}
 use Rattle.ec_going.specs.Going.{IsDoneTop}
 use Rattle.ec_legs.specs.Legs.{Leg}
-use Rattle.ec_nodes.proofs.Procs.{activation_here, get_end, total_set}
-use Rattle.ec_nodes.specs.Held.{if_at, total}
-use Rattle.ec_nodes.specs.Things.{blocks_of, class_blocks}
-use Rattle.ec_nodes.specs.declared.key.Key.{Key}
-use Rattle.ec_nodes.specs.declared.key.Key.TheVariants.{Frame, Object}
+use Rattle.ec_world.proofs.Procs.{activation_here, get_end, total_set}
+use Rattle.ec_world.specs.Held.{if_at, total}
+use Rattle.ec_world.specs.Things.{blocks_of, class_blocks}
+use Rattle.ec_world.specs.declared.key.Key.{Key}
+use Rattle.ec_world.specs.declared.key.Key.TheVariants.{Frame, Object}
 use Rattle.ec_stores.specs.Node.{NodeData, store_of}
 use Rattle.ec_things.proofs.Put.{same_or_not}
 use Rattle.ec_things.proofs.Ran.{ran_world, run_puts}

@@ -10,7 +10,7 @@ use Rattle.ec_code.specs.Typing.{Declared}
 use Rattle.ec_code.specs.declared.activation.CodeActivation.{CodeActivation}
 use Rattle.ec_code.specs.declared.code.Parts.{Parts}
 use Rattle.ec_going.specs.Going.{IsDoneTop}
-use Rattle.ec_nodes.proofs.Procs.{get_end}
+use Rattle.ec_world.proofs.Procs.{get_end}
 use Rattle.ec_ranges.specs.Worlds.{RangedActivation, RangedProc, RangedWorld}
 use Rattle.ec_sound.proofs.Carried.{each_get}
 use Rattle.ec_sound.proofs.Worlds.{tower_at}

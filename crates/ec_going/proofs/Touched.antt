@@ -1,7 +1,7 @@
 -- Some things at one node have changed, and it shows them.
 use Rattle.std.proofs.Common.{◌≡◌, ◌≢◌, ℕ, Option, Some, refl, sym, ap, ◌∙◌, subst, ⊎_elim}
 use Rattle.std.proofs.lemmas.Option.{same_Some}
-use Rattle.ec_nodes.specs.declared.key.Key.{Key}
+use Rattle.ec_world.specs.declared.key.Key.{Key}
 use Rattle.ec_things.proofs.Put.{back_by, forth_by, same_or_not}
 use Rattle.ec_things.proofs.Touch.{NodeKept, touch}
 use Rattle.ec_things.specs.Store.{Owned, Store}

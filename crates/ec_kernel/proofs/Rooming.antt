@@ -51,10 +51,10 @@ use Rattle.ec_fullness.proofs.Blocks.{held_is, held_moved, object_sum}
 use Rattle.ec_fullness.proofs.Needs.{fits_without}
 use Rattle.ec_kernel.proofs.Strings.{more_stay}
 use Rattle.ec_node_frames.specs.Beginning.{first_held, first_value}
-use Rattle.ec_nodes.proofs.Procs.{total_push}
-use Rattle.ec_nodes.specs.Held.{if_at}
-use Rattle.ec_nodes.specs.Things.{blocks_of, class_blocks}
-use Rattle.ec_nodes.specs.declared.key.Key.{Key}
+use Rattle.ec_world.proofs.Procs.{total_push}
+use Rattle.ec_world.specs.Held.{if_at}
+use Rattle.ec_world.specs.Things.{blocks_of, class_blocks}
+use Rattle.ec_world.specs.declared.key.Key.{Key}
 use Rattle.ec_things.specs.Held.{object_weight}
 use Rattle.ec_things.specs.Things.{Thing, things_of}
 use Rattle.ec_world.specs.Group.{Has}

@@ -1,7 +1,7 @@
 -- A node whose pool has the same texts has the same room for text.
 use Rattle.std.proofs.Common.{◌≡◌, ◌≤◌, ℕ, List, None, refl, sym, subst, arith, inl, ⊎_elim}
 use Rattle.std.specs.Prelude.{◌↔◌, length}
-use Rattle.ec_nodes.specs.Words.{text_bytes}
+use Rattle.ec_world.specs.Words.{text_bytes}
 use Rattle.ec_objects.specs.Values.{HasRoom, TextsFit}
 use Rattle.ec_things.proofs.Sums.{new_bytes_once}
 use Rattle.ec_things.specs.Store.{Store, Tidy}

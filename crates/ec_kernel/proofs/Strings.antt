@@ -14,8 +14,8 @@ use Rattle.ec_forward.specs.Directory.{made_count, place_at}
 use Rattle.ec_forward.specs.declared.directory.Whereabouts.{Whereabouts}
 use Rattle.ec_monitors.specs.Monitors.{dropped}
 use Rattle.ec_monitors.specs.declared.record.MonitorRec.{MonitorRec}
-use Rattle.ec_nodes.specs.declared.key.Key.{Key}
-use Rattle.ec_nodes.specs.declared.key.Key.TheVariants.{Frame, Object}
+use Rattle.ec_world.specs.declared.key.Key.{Key}
+use Rattle.ec_world.specs.declared.key.Key.TheVariants.{Frame, Object}
 use Rattle.ec_system.specs.Steps.{world_done, world_settled}
 use Rattle.ec_system.specs.Systems.{Strings}
 use Rattle.ec_things.proofs.Put.{same_or_not}

@@ -15,7 +15,7 @@ use Rattle.ec_kernel.specs.declared.acts.Acted.{Acted}
 use Rattle.ec_kernel.specs.declared.acts.Acted.TheVariants as came
 use Rattle.ec_leaving.specs.Between.{IsBetween}
 use Rattle.ec_mover.specs.Classes.{ClassTable}
-use Rattle.ec_nodes.specs.declared.room.Lack.{Lack}
+use Rattle.ec_world.specs.declared.room.Lack.{Lack}
 use Rattle.ec_placing.specs.Full.{FindsFull}
 use Rattle.ec_placing.specs.Places.{HasPlaces}
 use Rattle.ec_system.specs.Acting.{Asks}

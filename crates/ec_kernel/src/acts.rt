@@ -1,5 +1,5 @@
 //! What an action on nodes comes to.
-use ec_nodes::room::Lack;
+use ec_world::room::Lack;
 use std::alloc::AllocError;
 
 /// What became of an action.

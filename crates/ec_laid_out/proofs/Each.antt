@@ -30,7 +30,7 @@ use Rattle.ec_micro.specs.declared.step.Source.{Source}
 use Rattle.ec_micro.specs.declared.step.Source.TheVariants as source
 use Rattle.ec_micro.specs.declared.step.Step.{Step}
 use Rattle.ec_micro.specs.declared.step.Step.TheVariants as step
-use Rattle.ec_nodes.specs.Words.{StandsFor}
+use Rattle.ec_world.specs.Words.{StandsFor}
 use Rattle.ec_world.specs.declared.value.Value.{Value}
 use Rattle.ec_world.specs.declared.value.Value.TheVariants.{Str, Ref, Bool as Truth}
 use Rattle.ec_laid_out.proofs.Operands.{Asked, Found, found_is, holds_live}

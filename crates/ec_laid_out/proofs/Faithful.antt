@@ -29,7 +29,7 @@ use Rattle.ec_micro.specs.Fitting.{CanBeLaidOut, LaidOutIsFaithful}
 use Rattle.ec_micro.specs.Layout.{Vocabularies, home_of, home_or, op_size, ops_of, size_of, vocabulary_of}
 use Rattle.ec_micro.specs.Micro.{Sight}
 use Rattle.ec_micro.specs.Speaks.{Sees, Vocabulary}
-use Rattle.ec_nodes.specs.Words.{StandsFor}
+use Rattle.ec_world.specs.Words.{StandsFor}
 use Rattle.ec_target.specs.Code.{pc_of, word_at}
 use Rattle.ec_world.specs.declared.common.Common.{Common}
 use Rattle.ec_world.specs.declared.value.Value.{Value}

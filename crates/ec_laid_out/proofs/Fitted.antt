@@ -36,7 +36,7 @@ use Rattle.ec_memory.specs.Words.{HasWord, block_word_at, global_word_at, word_i
 use Rattle.ec_micro.specs.Fitting.{CanBeLaidOut}
 use Rattle.ec_micro.specs.Layout.{Vocabularies, home_of, ops_of, vocabulary_of}
 use Rattle.ec_micro.specs.Speaks.{Speaks}
-use Rattle.ec_nodes.specs.Words.{StandsFor}
+use Rattle.ec_world.specs.Words.{StandsFor}
 use Rattle.ec_target.specs.Code.{pc_of}
 use Rattle.ec_target.specs.Runs.{ReadsBack, WritesBytes}
 use Rattle.ec_world.specs.declared.common.Common.{Common}

@@ -22,8 +22,8 @@ use Rattle.ec_micro.specs.declared.step.Question.{Question}
 use Rattle.ec_micro.specs.declared.step.Relation.{Relation}
 use Rattle.ec_micro.specs.declared.step.Source.{Source}
 use Rattle.ec_micro.specs.declared.step.Source.TheVariants as source
-use Rattle.ec_nodes.specs.Words.{StandsFor}
-use Rattle.ec_operators.specs.Same.{are_same, is_same_truth, is_zero}
+use Rattle.ec_world.specs.Words.{StandsFor}
+use Rattle.ec_world.specs.Same.{are_same, is_same_truth, is_zero}
 use Rattle.ec_world.specs.declared.value.Value.{Value}
 use Rattle.ec_world.specs.declared.value.Value.TheVariants.{Int, Nil, Bool as Truth}
 use Rattle.ec_laid_out.proofs.Sites.{Site, named}

@@ -21,7 +21,7 @@ use Rattle.ec_homes.specs.declared.homes.Home.TheVariants.{Register, Slot}
 use Rattle.ec_memory.specs.Words.{HasWord, block_word_at, global_word_at, word_in}
 use Rattle.ec_memory.proofs.Words.{byte_beside, word_other, word_written}
 use Rattle.ec_micro.specs.Micro.{HasHome, Sight, gets, or_zero, read, with_register, with_slot, word_at}
-use Rattle.ec_nodes.specs.Words.{StandsFor}
+use Rattle.ec_world.specs.Words.{StandsFor}
 use Rattle.ec_target.specs.Runs.{ReadsBack, WritesBytes}
 use Rattle.ec_world.specs.declared.common.Common.{Common}
 use Rattle.ec_world.specs.declared.value.Value.{Value}

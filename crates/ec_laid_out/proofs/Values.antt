@@ -16,8 +16,8 @@ use Rattle.ec_code.specs.declared.code.Parts.{Parts}
 use Rattle.ec_faithful.specs.Standing.{AreTables, FitsWord}
 use Rattle.ec_micro.specs.Micro.{CanReckon, reckoned, related}
 use Rattle.ec_micro.specs.declared.step.Relation.TheVariants.{Same, Less}
-use Rattle.ec_nodes.specs.Words.{StandsFor}
-use Rattle.ec_operators.specs.Same.{are_same, is_same_number, is_same_text, is_same_truth, is_zero}
+use Rattle.ec_world.specs.Words.{StandsFor}
+use Rattle.ec_world.specs.Same.{are_same, is_same_number, is_same_text, is_same_truth, is_zero}
 use Rattle.ec_world.specs.declared.value.Value.{Value}
 use Rattle.ec_world.specs.declared.value.Value.TheVariants.{Int, Str, Ref, Nil, Bool as Truth}
 

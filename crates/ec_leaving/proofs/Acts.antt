@@ -10,7 +10,7 @@ use Rattle.ec_monitors.specs.Laws.{HasDepths, KeptByEachAct}
 use Rattle.ec_monitors.specs.Monitors.{Granting, dropped, enter_by, enter_held, entered, is_held_by, left, made, signalled, waited}
 use Rattle.ec_monitors.specs.declared.record.Hold.{Hold}
 use Rattle.ec_monitors.specs.declared.record.MonitorRec.{MonitorRec}
-use Rattle.ec_waiting.proofs.Counting.{if_case}
+use Rattle.ec_world.proofs.Counting.{if_case}
 use Rattle.ec_world.specs.Outcomes.{at_condition, by_holder}
 
 abbrev deep : KeptByEachAct HasDepths

@@ -32,9 +32,9 @@ use Rattle.ec_laid_out.proofs.Stops.{rest_is}
 use Rattle.ec_liveness.specs.Live.{stays}
 use Rattle.ec_memory.specs.Words.{block_word_at, global_word_at, word_in}
 use Rattle.ec_micro.proofs.FineAt.{fine_at}
-use Rattle.ec_nodes.specs.Words.{StandsFor}
-use Rattle.ec_nodes.specs.Things.{blocks_of, class_blocks}
-use Rattle.ec_nodes.specs.declared.key.Key.TheVariants.{Frame, Object}
+use Rattle.ec_world.specs.Words.{StandsFor}
+use Rattle.ec_world.specs.Things.{blocks_of, class_blocks}
+use Rattle.ec_world.specs.declared.key.Key.TheVariants.{Frame, Object}
 use Rattle.ec_stop_tables.specs.Entries.{entries_of}
 use Rattle.ec_stop_tables.specs.Tables.{AreTablesOf, IsTableOf, all_homes}
 use Rattle.ec_stop_tables.specs.declared.table.OperationTable.{OperationTable}

@@ -10,7 +10,7 @@ use Rattle.ec_faithful.specs.Machine.{MachineMeaning}
 use Rattle.ec_faithful.specs.Stops.{address_of}
 use Rattle.ec_faithful.specs.declared.code.Code.{Code}
 use Rattle.ec_homes.specs.declared.homes.Home.{Home}
-use Rattle.ec_nodes.specs.declared.key.Key.TheVariants.{Frame, Object}
+use Rattle.ec_world.specs.declared.key.Key.TheVariants.{Frame, Object}
 use Rattle.ec_stop_tables.specs.Addresses.{address_in}
 use Rattle.ec_stop_tables.specs.Tables.{all_homes}
 use Rattle.ec_stop_tables.specs.declared.table.StopTable.{StopTable}

@@ -2,8 +2,8 @@
 use Rattle.std.proofs.Common.{◌≡◌, ◌≢◌, ℕ, ◌*◌, ◌/◌, ◌%◌, ◌<◌, List, [], ◌∷◌, length, Option, Some, refl, sym, ap, ◌∙◌, arith}
 use Rattle.std.specs.Prelude.{slice_get}
 use Rattle.std.proofs.lemmas.Option.{same_Some}
-use Rattle.ec_nodes.specs.declared.key.Key.{Key}
-use Rattle.ec_nodes.specs.declared.key.Key.TheVariants.{Frame}
+use Rattle.ec_world.specs.declared.key.Key.{Key}
+use Rattle.ec_world.specs.declared.key.Key.TheVariants.{Frame}
 use Rattle.ec_stores.specs.Changes.{FirstBlock, OwnsWord, SameRest, WordIs, WritesWord}
 use Rattle.ec_things.specs.Store.{KeptRow, Owned, Store, word_in, word_of}
 use Rattle.ec_legs.specs.Words.{IsFrame, KeepsWords}

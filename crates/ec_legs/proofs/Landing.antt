@@ -27,10 +27,10 @@ use Rattle.ec_faithful.specs.declared.code.Code.{Code}
 use Rattle.ec_homes.specs.declared.homes.Home.{Home}
 use Rattle.ec_homes.specs.declared.homes.Home.TheVariants.{Register, Slot}
 use Rattle.ec_memory.specs.Words.{block_word_at, global_word_at, word_in}
-use Rattle.ec_nodes.specs.Words.{StandsFor}
-use Rattle.ec_nodes.specs.Things.{class_blocks}
-use Rattle.ec_nodes.specs.declared.key.Key.{Key}
-use Rattle.ec_nodes.specs.declared.key.Key.TheVariants.{Frame, Object}
+use Rattle.ec_world.specs.Words.{StandsFor}
+use Rattle.ec_world.specs.Things.{class_blocks}
+use Rattle.ec_world.specs.declared.key.Key.{Key}
+use Rattle.ec_world.specs.declared.key.Key.TheVariants.{Frame, Object}
 use Rattle.ec_stop_tables.specs.Entries.{entries_of}
 use Rattle.ec_stop_tables.specs.Tables.{all_homes}
 use Rattle.ec_stop_tables.specs.declared.table.StopEntry.{StopEntry}

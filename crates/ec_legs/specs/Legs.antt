@@ -21,9 +21,9 @@ use Rattle.ec_faithful.specs.declared.code.Code.{Code}
 use Rattle.ec_homes.specs.declared.homes.Home.{Home}
 use Rattle.ec_liveness.specs.Live.{stays}
 use Rattle.ec_micro.specs.Speaks.{words_end}
-use Rattle.ec_nodes.specs.Things.{blocks_of}
-use Rattle.ec_nodes.specs.declared.key.Key.{Key}
-use Rattle.ec_nodes.specs.declared.key.Key.TheVariants.{Frame, Object}
+use Rattle.ec_world.specs.Things.{blocks_of}
+use Rattle.ec_world.specs.declared.key.Key.{Key}
+use Rattle.ec_world.specs.declared.key.Key.TheVariants.{Frame, Object}
 use Rattle.ec_stop_tables.specs.Addresses.{address_in}
 use Rattle.ec_stop_tables.specs.Tables.{AreTablesOf, all_homes}
 use Rattle.ec_stop_tables.specs.declared.table.StopTable.{StopTable}

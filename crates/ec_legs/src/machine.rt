@@ -3,7 +3,7 @@ ghost use Rattle.std.specs.Prelude.{◌≡◌, ◌<◌, ℕ, Some};
 ghost use Rattle.ec_faithful.specs.Frames.{block_at};
 ghost use Rattle.ec_legs.specs.Machines.{IsBehindStop, IsSetUp, NamesObject, NamesStop, Restores, RestsWhere, Saves};
 ghost use Rattle.ec_legs.specs.Words.{IsFrame};
-ghost use Rattle.ec_nodes.specs.declared.key.Key.TheVariants.{Object as OfObject};
+ghost use Rattle.ec_world.specs.declared.key.Key.TheVariants.{Object as OfObject};
 ghost use Rattle.ec_stop_tables.specs.Addresses.{address_in};
 ghost use Rattle.ec_stores.specs.Changes.{HasBlock};
 ghost use Rattle.ec_stores.specs.Node.{store_of};

@@ -18,8 +18,8 @@ use Rattle.ec_loading.proofs.Holding.{held_nodes}
 use Rattle.ec_loading.specs.Fresh.{AreAtFirst, IsAtFirst}
 use Rattle.ec_loading.specs.Loading.{IsSet}
 use Rattle.ec_loading.specs.Worlds.{with_objects}
-use Rattle.ec_nodes.specs.declared.key.Key.{Key}
-use Rattle.ec_nodes.specs.declared.key.Key.TheVariants.{Frame, Object}
+use Rattle.ec_world.specs.declared.key.Key.{Key}
+use Rattle.ec_world.specs.declared.key.Key.TheVariants.{Frame, Object}
 use Rattle.ec_stores.specs.Node.{NodeData}
 use Rattle.ec_things.specs.Held.{Held}
 use Rattle.ec_things.specs.Shows.{GlobalStands}

@@ -7,8 +7,8 @@ use Rattle.ec_code.specs.declared.activation.CodeActivation.{CodeActivation}
 use Rattle.ec_code.specs.declared.code.Parts.{Parts}
 use Rattle.ec_homes.specs.declared.homes.Home.{Home}
 use Rattle.ec_loading.specs.Worlds.{first_blocks, first_process, with_first, with_objects}
-use Rattle.ec_nodes.proofs.Procs.{total_push}
-use Rattle.ec_nodes.specs.Held.{if_at, total}
+use Rattle.ec_world.proofs.Procs.{total_push}
+use Rattle.ec_world.specs.Held.{if_at, total}
 use Rattle.ec_things.proofs.World.{if_elsewhere, if_here, if_none}
 use Rattle.ec_things.specs.Held.{Held, object_weight, process_weight}
 use Rattle.ec_things.specs.Things.{Thing}

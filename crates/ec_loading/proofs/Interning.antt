@@ -6,8 +6,8 @@ use Rattle.std.proofs.lemmas.Option.{same_Some}
 use Rattle.ec_base.proofs.Lists.{get_there, get_within, take_next}
 use Rattle.ec_loading.proofs.Keeping.{same_on, same_self}
 use Rattle.ec_loading.specs.Fresh.{Interned}
-use Rattle.ec_nodes.specs.Held.{Distinct}
-use Rattle.ec_nodes.specs.Words.{text_bytes}
+use Rattle.ec_world.specs.Held.{Distinct}
+use Rattle.ec_world.specs.Words.{text_bytes}
 use Rattle.ec_stores.proofs.Naming.{bytes_end}
 use Rattle.ec_stores.specs.Changes.{HasTexts, Interns}
 use Rattle.ec_things.proofs.Put.{same_or_not}

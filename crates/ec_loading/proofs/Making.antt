@@ -13,9 +13,9 @@ use Rattle.ec_forward.specs.Located.{Located, made_at}
 use Rattle.ec_forward.specs.declared.directory.Whereabouts.{Whereabouts}
 use Rattle.ec_loading.proofs.Setting.{gets_none, set_with}
 use Rattle.ec_loading.specs.Loading.{IsSet}
-use Rattle.ec_nodes.proofs.Procs.{get_past}
-use Rattle.ec_nodes.specs.declared.key.Key.TheVariants.{Frame, Object}
-use Rattle.ec_nodes.specs.Things.{activation_at}
+use Rattle.ec_world.proofs.Procs.{get_past}
+use Rattle.ec_world.specs.declared.key.Key.TheVariants.{Frame, Object}
+use Rattle.ec_world.specs.Things.{activation_at}
 use Rattle.ec_objects.specs.Values.{TextsFit}
 use Rattle.ec_stores.proofs.Numbers.{length_more}
 use Rattle.ec_stores.specs.Node.{NodeData, store_of}

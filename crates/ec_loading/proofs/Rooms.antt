@@ -12,10 +12,10 @@ use Rattle.ec_loading.proofs.Holding.{held_first}
 use Rattle.ec_loading.specs.Fresh.{CanHold}
 use Rattle.ec_loading.specs.Loading.{CanLoad, HaveRoom, LacksFirst, counted, first_needs}
 use Rattle.ec_loading.specs.Worlds.{first_blocks, first_place, world_first}
-use Rattle.ec_nodes.specs.Held.{Fits, Lacks}
-use Rattle.ec_nodes.specs.Words.{text_bytes}
-use Rattle.ec_nodes.specs.declared.room.Lack.{Lack}
-use Rattle.ec_nodes.specs.declared.room.Needs.{Needs}
+use Rattle.ec_world.specs.Held.{Fits, Lacks}
+use Rattle.ec_world.specs.Words.{text_bytes}
+use Rattle.ec_world.specs.declared.room.Lack.{Lack}
+use Rattle.ec_world.specs.declared.room.Needs.{Needs}
 use Rattle.ec_things.proofs.Put.{same_or_not}
 use Rattle.ec_things.specs.Held.{Held}
 use Rattle.ec_world.specs.declared.node.Kind.TheVariants.{Riscv}

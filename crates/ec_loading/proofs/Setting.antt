@@ -13,7 +13,7 @@ use Rattle.ec_forward.specs.declared.directory.Whereabouts.{Whereabouts}
 use Rattle.ec_loading.proofs.Keeping.{texts_same}
 use Rattle.ec_loading.specs.Fresh.{HasSize}
 use Rattle.ec_loading.specs.Loading.{IsSet}
-use Rattle.ec_nodes.specs.declared.key.Key.{Key}
+use Rattle.ec_world.specs.declared.key.Key.{Key}
 use Rattle.ec_stores.specs.Node.{NodeData, store_of}
 use Rattle.ec_things.proofs.Put.{same_or_not}
 use Rattle.ec_things.specs.Store.{Store}

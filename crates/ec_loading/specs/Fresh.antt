@@ -3,9 +3,9 @@ use Rattle.std.specs.Prelude.{◌≡◌, ℕ, ◌+◌, ◌^◌, ◌<◌, ◌≤�
 use Rattle.ec_code.specs.Typing.{kind_of}
 use Rattle.ec_code.specs.declared.code.Parts.{Parts}
 use Rattle.ec_conform.specs.declared.static_type.StaticType.{StaticType}
-use Rattle.ec_nodes.specs.Held.{Distinct}
-use Rattle.ec_nodes.specs.Words.{text_bytes}
-use Rattle.ec_nodes.specs.declared.key.Key.{Key}
+use Rattle.ec_world.specs.Held.{Distinct}
+use Rattle.ec_world.specs.Words.{text_bytes}
+use Rattle.ec_world.specs.declared.key.Key.{Key}
 use Rattle.ec_stores.specs.Node.{NodeData, store_of}
 use Rattle.ec_things.specs.Shows.{GlobalStands}
 use Rattle.ec_things.specs.Store.{Store, Tidy}

@@ -13,7 +13,7 @@ use Rattle.ec_loading.specs.Worlds.{world_first}
 use Rattle.ec_loading.specs.declared.load.LoadError.{LoadError}
 use Rattle.ec_loading.specs.declared.load.LoadError.TheVariants.{Full, Memory}
 use Rattle.ec_node_frames.specs.Frames.{HasTables}
-use Rattle.ec_nodes.specs.declared.room.Lack.{Lack}
+use Rattle.ec_world.specs.declared.room.Lack.{Lack}
 use Rattle.ec_system.specs.Systems.{Mirrors, Strings}
 use Rattle.ec_system.specs.declared.system.System.{System}
 use Rattle.ec_things.specs.Store.{Store}

@@ -14,12 +14,12 @@ use Rattle.ec_loading.specs.Worlds.{first_blocks, first_place, world_first}
 use Rattle.ec_cluster_frames.specs.Frames.{tables_on}
 use Rattle.ec_node_frames.specs.Beginning.{HasEntry}
 use Rattle.ec_node_frames.specs.Frames.{HasTables}
-use Rattle.ec_nodes.specs.Held.{Distinct, Fits, Lacks}
-use Rattle.ec_nodes.specs.Words.{text_bytes}
-use Rattle.ec_nodes.specs.Things.{class_blocks}
-use Rattle.ec_nodes.specs.declared.key.Key.TheVariants.{Frame, Object}
-use Rattle.ec_nodes.specs.declared.room.Lack.{Lack}
-use Rattle.ec_nodes.specs.declared.room.Needs.{Needs}
+use Rattle.ec_world.specs.Held.{Distinct, Fits, Lacks}
+use Rattle.ec_world.specs.Words.{text_bytes}
+use Rattle.ec_world.specs.Things.{class_blocks}
+use Rattle.ec_world.specs.declared.key.Key.TheVariants.{Frame, Object}
+use Rattle.ec_world.specs.declared.room.Lack.{Lack}
+use Rattle.ec_world.specs.declared.room.Needs.{Needs}
 use Rattle.ec_stop_tables.specs.declared.table.OperationTable.{OperationTable}
 use Rattle.ec_things.specs.Held.{Held}
 use Rattle.ec_things.specs.Store.{Store}

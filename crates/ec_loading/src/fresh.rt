@@ -2,8 +2,8 @@
 ghost use Rattle.std.specs.Prelude.{◌≡◌, ◌≤◌, ◌<◌, ℕ, [], length, IfOk, OnOk, None, Some, slice_get};
 ghost use Rattle.ec_code.specs.Typing as typing;
 ghost use Rattle.ec_loading.specs.Fresh.{AreAtFirst, CanHold, Defaulted, Interned, IsAtFirst};
-ghost use Rattle.ec_nodes.specs.Held.{Distinct};
-ghost use Rattle.ec_nodes.specs.Words.{text_bytes};
+ghost use Rattle.ec_world.specs.Held.{Distinct};
+ghost use Rattle.ec_world.specs.Words.{text_bytes};
 ghost use Rattle.ec_stores.specs.Node.{store_of};
 ghost use Rattle.ec_things.specs.Texts.{InPool};
 ghost use Rattle.ec_world.specs.declared.node.NodeSpec.{NodeSpec as NodeSpecData};

@@ -5,7 +5,7 @@ ghost use Rattle.ec_forward.specs.Located.{first_made, nodes_made};
 ghost use Rattle.ec_loading.specs.Loaded.{AreImages, Loaded, WhenFull};
 ghost use Rattle.ec_loading.specs.Loading.{CanLoad, HaveRoom, IsSet, LacksFirst, counted, first_needs};
 ghost use Rattle.ec_loading.specs.Worlds.{with_objects, world_first};
-ghost use Rattle.ec_nodes.specs.Words.{text_bytes};
+ghost use Rattle.ec_world.specs.Words.{text_bytes};
 ghost use Rattle.ec_system.specs.Systems.{Runs};
 ghost use Rattle.ec_world.specs.Run as spec;
 
@@ -15,7 +15,7 @@ use ec_base::list::Seq;
 use ec_cluster::cluster::{Cluster, Images};
 use ec_code::code::Parts;
 use ec_forward::directory::Directory;
-use ec_nodes::room::{Lack, Needs, lack_at};
+use ec_world::room::{Lack, Needs, lack_at};
 use ec_system::system::{ProcessRow, System};
 use ec_world::class::ClassNo;
 use ec_world::node::NodeSpec;

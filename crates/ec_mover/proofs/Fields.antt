@@ -5,7 +5,7 @@ use Rattle.std.specs.Prelude.{slice_get}
 use Rattle.ec_base.proofs.Lists.{get_there, get_within}
 use Rattle.ec_mover.specs.Classes.{ClassTable, number_of}
 use Rattle.ec_mover.specs.Objects.{AreFields, FieldReads, GoesAs, HasFields}
-use Rattle.ec_nodes.specs.Things.{class_blocks}
+use Rattle.ec_world.specs.Things.{class_blocks}
 use Rattle.ec_stores.specs.Changes.{IsObject}
 use Rattle.ec_stores.specs.declared.rows.Object.{Object as ObjectData}
 use Rattle.ec_things.specs.Store.{Owned, StandsAt, Store}

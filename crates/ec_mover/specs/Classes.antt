@@ -1,7 +1,7 @@
 -- Numbers of classes on the wire.
 use Rattle.std.specs.Prelude.{ℕ, ◌+◌, ◌-◌, ◌<◌, ◌==◌, List, length, Option, Some, None, if◌then◌else◌, nat_lt, option_map, position}
 use Rattle.std.specs.Prelude.{slice_get}
-use Rattle.ec_nodes.specs.Held.{Distinct}
+use Rattle.ec_world.specs.Held.{Distinct}
 use Rattle.ec_world.specs.Objects.{is_same_vector}
 use Rattle.ec_world.specs.declared.class.ClassNo.{ClassNo}
 use Rattle.ec_world.specs.declared.class.ClassNo.TheVariants.{Node, Program, Made, Vector}

@@ -10,7 +10,7 @@ use Rattle.ec_homes.specs.declared.homes.Home.{Home}
 use Rattle.ec_mover.specs.Activations.{HasStop, IsStopOf, activation_part_of, headings_in}
 use Rattle.ec_mover.specs.Classes.{ClassTable, IsClassTable, class_of, number_of}
 use Rattle.ec_node_frames.specs.Frames.{HasTables}
-use Rattle.ec_nodes.specs.declared.key.Key.TheVariants.{Frame}
+use Rattle.ec_world.specs.declared.key.Key.TheVariants.{Frame}
 use Rattle.ec_stop_tables.specs.declared.table.OperationTable.{OperationTable}
 use Rattle.ec_stop_tables.specs.declared.table.StopEntry.{StopEntry}
 use Rattle.ec_things.specs.Store.{Store}

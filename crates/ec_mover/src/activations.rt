@@ -7,7 +7,7 @@ ghost use Rattle.ec_code.specs.declared.code.Parts.{Parts};
 ghost use Rattle.ec_homes.specs.declared.homes.Home.{Home};
 ghost use Rattle.ec_mover.specs.Activations.{CanLeave, HasStop, IsStopOf, Leaves, activation_part_of, headings_in};
 ghost use Rattle.ec_node_frames.specs.Frames.{IsFrame};
-ghost use Rattle.ec_nodes.specs.declared.key.Key.TheVariants.{Frame as OfFrame};
+ghost use Rattle.ec_world.specs.declared.key.Key.TheVariants.{Frame as OfFrame};
 ghost use Rattle.ec_objects.specs.Values.{TextsFit};
 ghost use Rattle.ec_stop_tables.specs.declared.table.OperationTable.{OperationTable as Table};
 ghost use Rattle.ec_stop_tables.specs.declared.table.StopEntry.{StopEntry as Entry};

@@ -2,7 +2,7 @@
 ghost use Rattle.std.specs.Prelude.{◌≡◌, ◌+◌, ◌<◌, length};
 ghost use Rattle.ec_mover.specs.Classes as spec;
 ghost use Rattle.ec_mover.specs.Classes.{program_number};
-ghost use Rattle.ec_nodes.specs.Held.{Distinct};
+ghost use Rattle.ec_world.specs.Held.{Distinct};
 
 use ec_base::list::Seq;
 use ec_world::class::{ClassNo, VectorType};

@@ -3,8 +3,8 @@ ghost use Rattle.std.specs.Prelude.{◌≡◌, ◌≤◌, ◌<◌, ◌*◌, ◌^
 ghost use Rattle.ec_mover.specs.Classes as numbering;
 ghost use Rattle.ec_mover.specs.Objects.{AreFields, CanGo, FieldReads, GoesAs, HasField, HasFields};
 ghost use Rattle.ec_mover.specs.Objects.{monitor_part_of, object_of, part_of};
-ghost use Rattle.ec_nodes.specs.Things.{class_blocks};
-ghost use Rattle.ec_nodes.specs.declared.key.Key.TheVariants.{Object as OfObject};
+ghost use Rattle.ec_world.specs.Things.{class_blocks};
+ghost use Rattle.ec_world.specs.declared.key.Key.TheVariants.{Object as OfObject};
 ghost use Rattle.ec_objects.specs.Values.{TextsFit};
 ghost use Rattle.ec_seen.specs.Kinds as kinds;
 ghost use Rattle.ec_stores.specs.Changes.{IsObject};

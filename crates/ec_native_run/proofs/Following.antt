@@ -19,8 +19,8 @@ use Rattle.ec_loading.specs.Worlds.{world_first}
 use Rattle.ec_native_run.proofs.Entries.{GoneOn, along_none, along_push, move_leaves, rest_leaves, turn_leaves}
 use Rattle.ec_native_run.specs.Entries.{Along, EntryOf}
 use Rattle.ec_native_run.specs.Following.{Follows, FullNext, HasCome, refusal_of}
-use Rattle.ec_nodes.specs.declared.room.Lack.{Lack}
-use Rattle.ec_nodes.specs.declared.room.Part.{Part}
+use Rattle.ec_world.specs.declared.room.Lack.{Lack}
+use Rattle.ec_world.specs.declared.room.Part.{Part}
 use Rattle.ec_native_run.specs.Runs.{AreNodes}
 use Rattle.ec_nodes_running.specs.Networks.{AreCode, CanRun, Net, NetLoaded, NetMoved, NetMoveRefused, NetRefused, NetTurned}
 use Rattle.ec_nodes_running.specs.Standing.{Stands}

@@ -13,7 +13,7 @@ use Rattle.ec_loading.specs.Worlds.{world_first}
 use Rattle.ec_meaning.specs.Programs.{Source}
 use Rattle.ec_native_run.specs.Entries.{Along}
 use Rattle.ec_native_run.specs.Runs.{AreNodes, run_report}
-use Rattle.ec_nodes.specs.declared.room.Part.{Part}
+use Rattle.ec_world.specs.declared.room.Part.{Part}
 use Rattle.ec_nodes_running.specs.Networks.{AreCode, ForStanding, Net, counts_of}
 use Rattle.ec_nodes_running.specs.Standing.{Stands}
 use Rattle.ec_nodes_running.specs.declared.turns.TurnError.{TurnError}

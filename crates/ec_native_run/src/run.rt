@@ -18,7 +18,7 @@ use crate::report::{load_report, report};
 use ec_driver::drive::{Ended, drive};
 use ec_loading::load::LoadError;
 use ec_meaning::source::Program;
-use ec_nodes::room::Lack;
+use ec_world::room::Lack;
 use ec_nodes_running::network::Network;
 use ec_report::answer::Answer;
 use ec_report::end::ReportEnd;

@@ -1,8 +1,8 @@
 -- What a node lacks for blocks and values that come to it.
 use Rattle.std.specs.Prelude.{◌≡◌, ℕ, ◌≤◌, List}
-use Rattle.ec_nodes.specs.Held.{Lacks}
-use Rattle.ec_nodes.specs.declared.room.Lack.{Lack}
-use Rattle.ec_nodes.specs.declared.room.Needs.{Needs}
+use Rattle.ec_world.specs.Held.{Lacks}
+use Rattle.ec_world.specs.declared.room.Lack.{Lack}
+use Rattle.ec_world.specs.declared.room.Needs.{Needs}
 use Rattle.ec_objects.specs.Values.{TextsFit}
 use Rattle.ec_things.specs.Store.{Store}
 use Rattle.ec_things.specs.Texts.{NewBytes}

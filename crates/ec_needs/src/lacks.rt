@@ -4,7 +4,7 @@ ghost use Rattle.ec_needs.specs.Lacks.{HasRoomForAll, LacksRoom};
 ghost use Rattle.ec_stores.specs.Node.{store_of};
 
 use crate::texts::new_bytes;
-use ec_nodes::room::{Lack, Needs, lack_at};
+use ec_world::room::{Lack, Needs, lack_at};
 use ec_stores::node::NodeStore;
 use ec_world::value::{NodeNo, Value};
 use std::alloc::{AllocError, Global};

@@ -23,7 +23,7 @@ use Rattle.ec_node_frames.proofs.Items.{filled_up, get_map, map_both}
 use Rattle.ec_node_frames.specs.Beginning.{BeginsFrame, HasEntry, first_held, first_held_in, first_value, first_values}
 use Rattle.ec_node_frames.specs.Frames.{HasTables}
 use Rattle.ec_node_frames.specs.Loops.{IsFilled, spot_of}
-use Rattle.ec_nodes.specs.declared.key.Key.TheVariants.{Frame}
+use Rattle.ec_world.specs.declared.key.Key.TheVariants.{Frame}
 use Rattle.ec_objects.proofs.Gets.{gets_on, gets_words}
 use Rattle.ec_objects.specs.Values.{HasWords}
 use Rattle.ec_stop_tables.specs.Entries.{entries_of}

@@ -3,7 +3,7 @@ use Rattle.std.proofs.Common.{◌≡◌, ◌≢◌, ℕ, ◌*◌, ◌/◌, ◌%�
 use Rattle.std.specs.Prelude.{slice_get}
 use Rattle.std.proofs.lemmas.Option.{same_Some}
 use Rattle.ec_base.proofs.Lists.{get_within}
-use Rattle.ec_nodes.specs.declared.key.Key.{Key}
+use Rattle.ec_world.specs.declared.key.Key.{Key}
 use Rattle.ec_objects.proofs.Creating.{kept_on, only_kept}
 use Rattle.ec_objects.proofs.Wording.{grown_on}
 use Rattle.ec_stores.proofs.Putting.{rest_grown}

@@ -24,7 +24,7 @@ use Rattle.ec_node_frames.proofs.Homed.{behind_eight, has_spot, homes_of, its_op
 use Rattle.ec_node_frames.proofs.Items.{get_map, put_beside, put_here}
 use Rattle.ec_node_frames.proofs.Rewriting.{IsDone, IsThere, held_now, live_stood, rewritten_puts, still_stands}
 use Rattle.ec_node_frames.specs.Finishing.{FinishesFrame, Gives, IsTaken, RestsHere}
-use Rattle.ec_nodes.specs.declared.key.Key.TheVariants.{Frame}
+use Rattle.ec_world.specs.declared.key.Key.TheVariants.{Frame}
 use Rattle.ec_objects.proofs.Gets.{gets_on, gets_word}
 use Rattle.ec_objects.specs.Values.{HasWord}
 use Rattle.ec_stop_tables.specs.Tables.{home_in}

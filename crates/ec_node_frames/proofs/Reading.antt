@@ -14,7 +14,7 @@ use Rattle.ec_node_frames.proofs.Items.{get_front, get_map, map_both}
 use Rattle.ec_node_frames.specs.Frames.{IsFrame}
 use Rattle.ec_node_frames.specs.Loops.{spot_of}
 use Rattle.ec_node_frames.specs.Operands.{ActsHere, HasOperand, HasOperands, ReadsAs}
-use Rattle.ec_nodes.specs.declared.key.Key.TheVariants.{Frame}
+use Rattle.ec_world.specs.declared.key.Key.TheVariants.{Frame}
 use Rattle.ec_objects.proofs.Reading.{read_back}
 use Rattle.ec_objects.proofs.Wording.{take_all}
 use Rattle.ec_objects.specs.Values.{value_of}

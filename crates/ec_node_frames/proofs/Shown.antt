@@ -7,7 +7,7 @@ use Rattle.ec_code.specs.declared.activation.CodeActivation.{CodeActivation}
 use Rattle.ec_code.specs.declared.code.Parts.{Parts}
 use Rattle.ec_homes.specs.declared.homes.Home.{Home}
 use Rattle.ec_node_frames.specs.Frames.{AreHeadings, IsFrame}
-use Rattle.ec_nodes.specs.declared.key.Key.TheVariants.{Frame}
+use Rattle.ec_world.specs.declared.key.Key.TheVariants.{Frame}
 use Rattle.ec_stores.specs.Changes.{OwnsWord, WordIs}
 use Rattle.ec_things.specs.Store.{Owned, Store, word_of}
 use Rattle.ec_things.specs.Things.{Shown}

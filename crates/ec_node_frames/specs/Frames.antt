@@ -10,7 +10,7 @@ use Rattle.ec_code_limits.specs.Limits.{HasLimits}
 use Rattle.ec_faithful.specs.Frames.{slots}
 use Rattle.ec_homes.specs.declared.homes.Home.{Home}
 use Rattle.ec_node_frames.specs.declared.frames.Headings.{Headings}
-use Rattle.ec_nodes.specs.declared.key.Key.TheVariants.{Frame}
+use Rattle.ec_world.specs.declared.key.Key.TheVariants.{Frame}
 use Rattle.ec_stop_tables.specs.Tables.{AreTablesOf, all_homes}
 use Rattle.ec_stop_tables.specs.declared.table.OperationTable.{OperationTable}
 use Rattle.ec_stop_tables.specs.declared.table.StopEntry.{StopEntry}

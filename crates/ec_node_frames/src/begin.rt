@@ -4,7 +4,7 @@ ghost use Rattle.ec_node_frames.specs.Beginning as spec;
 ghost use Rattle.ec_node_frames.specs.Beginning.{BeginsFrame, HasEntry};
 ghost use Rattle.ec_node_frames.specs.Frames.{IsFrame};
 ghost use Rattle.ec_node_frames.specs.Loops.{IsFilled};
-ghost use Rattle.ec_nodes.specs.declared.key.Key.TheVariants.{Frame as OfFrame};
+ghost use Rattle.ec_world.specs.declared.key.Key.TheVariants.{Frame as OfFrame};
 ghost use Rattle.ec_objects.specs.Values.{TextsFit};
 ghost use Rattle.ec_stores.specs.Node.{store_of};
 ghost use Rattle.ec_things.specs.Texts.{GetsTexts};

@@ -3,7 +3,7 @@ ghost use Rattle.std.specs.Prelude.{◌<◌, option_copied, OnOk};
 ghost use Rattle.ec_faithful.specs.Frames as spec;
 ghost use Rattle.ec_node_frames.specs.Finishing.{FinishesFrame, Gives, HasRoomIn, IsTaken};
 ghost use Rattle.ec_node_frames.specs.Frames.{IsFrame};
-ghost use Rattle.ec_nodes.specs.declared.key.Key.TheVariants.{Frame as OfFrame};
+ghost use Rattle.ec_world.specs.declared.key.Key.TheVariants.{Frame as OfFrame};
 ghost use Rattle.ec_objects.specs.Values.{HasRoom};
 ghost use Rattle.ec_stop_tables.specs.Tables.{home_in};
 ghost use Rattle.ec_stores.specs.Changes.{SameRest, WritesWord};

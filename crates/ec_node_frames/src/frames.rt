@@ -6,7 +6,7 @@ ghost use Rattle.ec_code.specs.declared.code.Parts.{Parts};
 ghost use Rattle.ec_faithful.specs.Frames as spec;
 ghost use Rattle.ec_homes.specs.declared.homes.Home.{Home as HomeData};
 ghost use Rattle.ec_node_frames.specs.Frames.{AreHeadings, IsFrame};
-ghost use Rattle.ec_nodes.specs.declared.key.Key.TheVariants.{Frame as OfFrame};
+ghost use Rattle.ec_world.specs.declared.key.Key.TheVariants.{Frame as OfFrame};
 ghost use Rattle.ec_stores.specs.Node.{store_of};
 ghost use Rattle.ec_things.specs.Texts.{GetsTexts, NoTexts};
 ghost use Rattle.ec_things.specs.Things.{Puts, Shown};

@@ -5,7 +5,7 @@ use Rattle.std.specs.Prelude.{IsSome}
 use Rattle.ec_class_numbers.specs.Vectors.{table_of}
 use Rattle.ec_cluster.specs.Cluster.{CodeWorld}
 use Rattle.ec_code.specs.Typing.{Declared}
-use Rattle.ec_nodes.specs.declared.room.Lack.{Lack}
+use Rattle.ec_world.specs.declared.room.Lack.{Lack}
 use Rattle.ec_mover.specs.Classes.{ClassTable}
 use Rattle.ec_nodes_running.proofs.Turned.{turn_parts}
 use Rattle.ec_nodes_running.specs.Moving.{MoveRefusedIn, MovedTo}

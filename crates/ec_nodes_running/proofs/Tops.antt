@@ -12,8 +12,8 @@ use Rattle.ec_code.specs.Activations.{code_meaning, code_silent}
 use Rattle.ec_code.specs.Typing.{Declared}
 use Rattle.ec_code.specs.declared.activation.CodeActivation.{CodeActivation}
 use Rattle.ec_node_frames.specs.declared.frames.Headings.{Headings}
-use Rattle.ec_nodes.proofs.Procs.{activation_is}
-use Rattle.ec_nodes.specs.declared.key.Key.TheVariants.{Frame}
+use Rattle.ec_world.proofs.Procs.{activation_is}
+use Rattle.ec_world.specs.declared.key.Key.TheVariants.{Frame}
 use Rattle.ec_nodes_running.specs.Running.{EachTop, HasNoTop, TopTold, Waits, gone_on}
 use Rattle.ec_system.specs.Systems.{Runs, row_of}
 use Rattle.ec_system.specs.declared.system.ProcessRow.{ProcessRow}

@@ -1,5 +1,5 @@
 //! What a turn of a process comes to.
-use ec_nodes::room::Lack;
+use ec_world::room::Lack;
 use std::alloc::AllocError;
 
 /// What a turn did.

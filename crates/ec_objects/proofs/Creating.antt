@@ -2,10 +2,10 @@
 use Rattle.std.proofs.Common.{◌≡◌, ℕ, zero, suc, List, [], ◌∷◌, length, Some, None, refl, sym, ap, ◌∙◌, arith}
 use Rattle.std.specs.Prelude.{slice_get}
 use Rattle.ec_base.proofs.Lists.{get_there, get_within}
-use Rattle.ec_nodes.specs.declared.key.Key.TheVariants.{Object}
+use Rattle.ec_world.specs.declared.key.Key.TheVariants.{Object}
 use Rattle.ec_objects.proofs.Gets.{gets_on, gets_words}
 use Rattle.ec_objects.proofs.Wording.{grown_on}
-use Rattle.ec_nodes.specs.declared.key.Key.{Key}
+use Rattle.ec_world.specs.declared.key.Key.{Key}
 use Rattle.ec_objects.specs.Values.{HasWords, TextsFit}
 use Rattle.ec_stores.proofs.Putting.{created_puts, rest_grown}
 use Rattle.ec_stores.specs.Changes.{OnlyTables, PlacedObject}

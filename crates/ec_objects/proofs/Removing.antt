@@ -3,8 +3,8 @@ use Rattle.std.proofs.Common.{◌≡◌, ◌≢◌, ℕ, zero, suc, ◌+◌, ◌
 use Rattle.std.proofs.Common.{refl, sym, ap, ◌∙◌, arith, ◌⊎◌, inl, inr, ⊎_elim}
 use Rattle.std.specs.Prelude.{slice_get}
 use Rattle.std.specs.List.{remove}
-use Rattle.ec_nodes.specs.Held.{Distinct}
-use Rattle.ec_nodes.specs.Words.{text_bytes}
+use Rattle.ec_world.specs.Held.{Distinct}
+use Rattle.ec_world.specs.Words.{text_bytes}
 use Rattle.ec_world.specs.Group.{Has}
 
 -- where an item of a list with one less stood before

@@ -2,7 +2,7 @@
 use Rattle.std.proofs.Common.{◌≡◌, ◌≢◌, ℕ, suc, ◌+◌, List, ◌∷◌, length, Some, refl, sym, ap, ◌∙◌, subst, arith, ◌⊎◌, inl, inr, ⊎_elim}
 use Rattle.std.specs.Prelude.{slice_get, ◌↔◌}
 use Rattle.std.specs.List.{remove}
-use Rattle.ec_nodes.specs.Words.{text_bytes}
+use Rattle.ec_world.specs.Words.{text_bytes}
 use Rattle.ec_objects.proofs.Removing.{bytes_of_one, bytes_removed, distinct_removed, has_removed, left_was}
 use Rattle.ec_objects.specs.Values.{HasRoom, Spends, TextsFit}
 use Rattle.ec_stores.proofs.Numbers.{first_or}

@@ -3,8 +3,8 @@ use Rattle.std.proofs.Common.{◌≡◌, ◌≢◌, ℕ, ◌/◌, ◌%◌, List,
 use Rattle.std.specs.Prelude.{Bool, length, slice_get}
 use Rattle.std.proofs.lemmas.Option.{same_Some}
 use Rattle.ec_monitors.specs.declared.record.MonitorRec.{MonitorRec}
-use Rattle.ec_nodes.specs.declared.key.Key.{Key}
-use Rattle.ec_nodes.specs.declared.key.Key.TheVariants.{Object}
+use Rattle.ec_world.specs.declared.key.Key.{Key}
+use Rattle.ec_world.specs.declared.key.Key.TheVariants.{Object}
 use Rattle.ec_stores.proofs.Putting.{rest_grown}
 use Rattle.ec_objects.specs.Acts.{ActsOn}
 use Rattle.ec_stores.specs.Changes.{Acts, SameRest, SetsRow, with_fixed, with_monitor}

@@ -3,9 +3,9 @@ use Rattle.std.proofs.Common.{◌≡◌, ◌≢◌, ℕ, ◌*◌, ◌/◌, ◌%�
 use Rattle.std.specs.Prelude.{slice_get, slice_set}
 use Rattle.std.proofs.lemmas.Option.{same_Some}
 use Rattle.ec_base.proofs.Lists.{get_set_other, get_set_same, get_within, length_set}
-use Rattle.ec_nodes.specs.Things.{class_blocks}
-use Rattle.ec_nodes.specs.declared.key.Key.{Key}
-use Rattle.ec_nodes.specs.declared.key.Key.TheVariants.{Object}
+use Rattle.ec_world.specs.Things.{class_blocks}
+use Rattle.ec_world.specs.declared.key.Key.{Key}
+use Rattle.ec_world.specs.declared.key.Key.TheVariants.{Object}
 use Rattle.ec_objects.proofs.Creating.{kept_on, only_kept}
 use Rattle.ec_objects.proofs.Gets.{gets_on, gets_word}
 use Rattle.ec_objects.proofs.Wording.{grown_on}

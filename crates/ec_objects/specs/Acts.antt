@@ -1,7 +1,7 @@
 -- Acts on the monitor of an object that a node shows.
 use Rattle.std.specs.Prelude.{◌≡◌, ℕ, Some}
 use Rattle.ec_monitors.specs.declared.record.MonitorRec.{MonitorRec}
-use Rattle.ec_nodes.specs.declared.key.Key.TheVariants.{Object}
+use Rattle.ec_world.specs.declared.key.Key.TheVariants.{Object}
 use Rattle.ec_things.specs.Store.{Store}
 use Rattle.ec_things.specs.Things.{Puts, Shown, object_thing}
 use Rattle.ec_world.specs.declared.object.ObjectRec.{ObjectRec}

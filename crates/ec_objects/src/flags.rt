@@ -1,6 +1,6 @@
 //! Objects at a node are fixed there, or no more.
 ghost use Rattle.std.specs.Prelude.{IsSome, Some};
-ghost use Rattle.ec_nodes.specs.declared.key.Key.TheVariants.{Object as OfObject};
+ghost use Rattle.ec_world.specs.declared.key.Key.TheVariants.{Object as OfObject};
 ghost use Rattle.ec_stores.specs.Node.{store_of};
 ghost use Rattle.ec_things.specs.Texts.{GetsTexts, NoTexts};
 ghost use Rattle.ec_things.specs.Things.{Puts, Shown, object_thing};

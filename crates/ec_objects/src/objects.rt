@@ -1,7 +1,7 @@
 //! Objects come to a node.
 ghost use Rattle.std.specs.Prelude.{◌≡◌, ◌≤◌, ◌<◌, ◌*◌, ◌^◌, length, None, OnOk, Some};
-ghost use Rattle.ec_nodes.specs.Things as spec;
-ghost use Rattle.ec_nodes.specs.declared.key.Key.TheVariants.{Object as OfObject};
+ghost use Rattle.ec_world.specs.Things as spec;
+ghost use Rattle.ec_world.specs.declared.key.Key.TheVariants.{Object as OfObject};
 ghost use Rattle.ec_objects.specs.Values.{HasRoom, TextsFit};
 ghost use Rattle.ec_stores.specs.Changes.{OwnsWord};
 ghost use Rattle.ec_stores.specs.Node.{store_of};

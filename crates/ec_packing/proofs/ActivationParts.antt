@@ -15,8 +15,8 @@ use Rattle.ec_code.specs.declared.activation.CodeActivation.{CodeActivation}
 use Rattle.ec_code.specs.declared.code.Live.{Live}
 use Rattle.ec_mover.specs.Activations.{activation_part_of}
 use Rattle.ec_mover.specs.Classes.{ClassTable}
-use Rattle.ec_nodes.specs.Things.{activation_at}
-use Rattle.ec_nodes.specs.declared.key.Key.TheVariants.{Frame}
+use Rattle.ec_world.specs.Things.{activation_at}
+use Rattle.ec_world.specs.declared.key.Key.TheVariants.{Frame}
 use Rattle.ec_packing.proofs.Carrying.{IsGood, Knows, can_go, carried_good, entry_of, rests_of}
 use Rattle.ec_packing.proofs.Counting.{few_items}
 use Rattle.ec_packing.proofs.Frames.{is_of, knows, ranged}

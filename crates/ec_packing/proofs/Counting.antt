@@ -6,7 +6,7 @@ use Rattle.std.proofs.lemmas.Map.Steps.{length-le_from_distinct_below}
 use Rattle.std.proofs.lemmas.Option.{same_Some}
 use Rattle.std.specs.List.{AllByRecursion, IsDistinct, list_any}
 use Rattle.std.specs.Prelude.{slice_get}
-use Rattle.ec_nodes.specs.Held.{Distinct}
+use Rattle.ec_world.specs.Held.{Distinct}
 use Rattle.ec_packing.proofs.Sorting.{Sorted, sorted_at}
 use Rattle.ec_world.proofs.Members.{has_first, has_later, has_parts}
 use Rattle.ec_world.specs.Group.{Has}

@@ -17,8 +17,8 @@ use Rattle.ec_leaving.specs.Between.{RestsBetween}
 use Rattle.ec_mover.specs.Activations.{Leaves, activation_part_of}
 use Rattle.ec_mover.specs.Classes.{ClassTable}
 use Rattle.ec_node_frames.specs.Frames.{IsFrame}
-use Rattle.ec_nodes.specs.Things.{activation_at, in_process}
-use Rattle.ec_nodes.specs.declared.key.Key.TheVariants.{Frame}
+use Rattle.ec_world.specs.Things.{activation_at, in_process}
+use Rattle.ec_world.specs.declared.key.Key.TheVariants.{Frame}
 use Rattle.ec_packing.proofs.Carrying.{Knows, can_go, carried_good, entry_of, known, rests_of}
 use Rattle.ec_packing.proofs.Members.{is_here_it}
 use Rattle.ec_packing.specs.Packing.{CanGo, activation_goes, activation_if, at_stop}

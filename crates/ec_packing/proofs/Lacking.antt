@@ -2,9 +2,9 @@
 use Rattle.std.proofs.Common.{◌≡◌, ℕ, List, Option, Some, None, sym, subst}
 use Rattle.std.specs.Prelude.{IfNone, IfSome}
 use Rattle.ec_needs.specs.Lacks.{HasRoomForAll, LacksRoom, needs_at}
-use Rattle.ec_nodes.specs.Held.{Fits, Lacks}
-use Rattle.ec_nodes.specs.declared.room.Lack.{Lack}
-use Rattle.ec_nodes.specs.declared.room.Needs.{Needs}
+use Rattle.ec_world.specs.Held.{Fits, Lacks}
+use Rattle.ec_world.specs.declared.room.Lack.{Lack}
+use Rattle.ec_world.specs.declared.room.Needs.{Needs}
 use Rattle.ec_things.specs.Store.{Store}
 use Rattle.ec_things.specs.Texts.{NewBytes}
 use Rattle.ec_world.specs.Group.{Has}

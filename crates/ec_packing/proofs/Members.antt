@@ -12,7 +12,7 @@ use Rattle.ec_forward.specs.Directory.{place_at}
 use Rattle.ec_forward.specs.declared.directory.Whereabouts.{Whereabouts}
 use Rattle.ec_mover.specs.Classes.{ClassTable, number_of}
 use Rattle.ec_mover.specs.Objects.{GoesAs, monitor_part_of, part_of}
-use Rattle.ec_nodes.specs.declared.key.Key.TheVariants.{Object}
+use Rattle.ec_world.specs.declared.key.Key.TheVariants.{Object}
 use Rattle.ec_packing.specs.Packing.{CanGo, is_at, is_here, monitor_goes, monitor_if, object_goes, object_if, with_number}
 use Rattle.ec_parcels.specs.Parcels.{ObjectGoes}
 use Rattle.ec_stores.specs.Node.{NodeData, store_of}

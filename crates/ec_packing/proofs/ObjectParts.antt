@@ -32,8 +32,8 @@ use Rattle.ec_sound.proofs.Carried.{all_two_length, each_get, each_object}
 use Rattle.ec_sound.specs.Sound.{FineFields, FineObject}
 use Rattle.ec_sound.specs.Values.{HasType}
 use Rattle.ec_system.specs.declared.system.System.{System}
-use Rattle.ec_waiting.proofs.Queues.{queues_tell}
-use Rattle.ec_waiting.specs.Waiting.{QueuesTell, in_conditions, processes_of, queued}
+use Rattle.ec_world.proofs.Queues.{queues_tell}
+use Rattle.ec_world.specs.Waiting.{QueuesTell, in_conditions, processes_of, queued}
 use Rattle.ec_wire.specs.declared.parcel.MonitorPart.{MonitorPart}
 use Rattle.ec_wire.specs.declared.parcel.ObjectPart.{ObjectPart}
 use Rattle.ec_world.proofs.Members.{has_either, has_first, has_none, has_one}

@@ -24,8 +24,8 @@ use Rattle.ec_stop_tables.specs.declared.table.OperationTable.{OperationTable}
 use Rattle.ec_stop_tables.specs.declared.table.StopEntry.{StopEntry}
 use Rattle.ec_world.specs.declared.node.Kind.{Kind}
 use Rattle.ec_mover.specs.Classes.{ClassTable}
-use Rattle.ec_nodes.specs.Things.{activation_at}
-use Rattle.ec_nodes.specs.declared.key.Key.TheVariants.{Frame}
+use Rattle.ec_world.specs.Things.{activation_at}
+use Rattle.ec_world.specs.declared.key.Key.TheVariants.{Frame}
 use Rattle.ec_packing.proofs.ActivationParts.{activation_parts, activations_sorted, part_from, sorted_part, source}
 use Rattle.ec_packing.proofs.Frames.{activation, entry, is_of, leaves_by, part_is, shown}
 use Rattle.ec_packing.proofs.Joining.{has_joined, has_up_to, joined_has, up_to_has}

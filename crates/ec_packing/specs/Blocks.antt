@@ -1,6 +1,6 @@
 -- Blocks of the activations of a parcel at the node from which they go.
 use Rattle.std.specs.Prelude.{◌<◌, ℕ, IsSome, List}
-use Rattle.ec_nodes.specs.declared.key.Key.TheVariants.{Frame}
+use Rattle.ec_world.specs.declared.key.Key.TheVariants.{Frame}
 use Rattle.ec_packing.specs.Narrow.{EachIs}
 use Rattle.ec_stores.specs.Changes.{FirstBlock}
 use Rattle.ec_things.specs.Store.{Store}

@@ -10,7 +10,7 @@ ghost use Rattle.ec_stores.specs.Node.{store_of};
 
 use ec_mover::classes::ClassNumbers;
 use ec_needs::texts::new_bytes;
-use ec_nodes::room::{Lack, Needs, lack_at};
+use ec_world::room::{Lack, Needs, lack_at};
 use ec_stores::node::NodeStore;
 use ec_stores::rows::class_blocks;
 use ec_wire::parcel::{ActivationPart, ObjectPart, Parcel};

@@ -10,9 +10,9 @@ use Rattle.ec_formats.proofs.ListLaws.{each_fits}
 use Rattle.ec_formats.proofs.Steps.{first_of_both, second_of_both}
 use Rattle.ec_formats.specs.Fields.{at_most}
 use Rattle.ec_formats.specs.Lists.{list, list_of}
-use Rattle.ec_nodes.specs.Held.{Distinct}
-use Rattle.ec_nodes.specs.declared.key.Key.{Key}
-use Rattle.ec_nodes.specs.declared.key.Key.TheVariants.{Frame, Object}
+use Rattle.ec_world.specs.Held.{Distinct}
+use Rattle.ec_world.specs.declared.key.Key.{Key}
+use Rattle.ec_world.specs.declared.key.Key.TheVariants.{Frame, Object}
 use Rattle.ec_parcels.specs.Laws.{KeysAreOnce}
 use Rattle.ec_parcels.specs.Owners.{frame_keys, object_keys}
 use Rattle.ec_wire.specs.WireForm.{KeepsRules, activation, depth_follows, last_number, monitor, most, object, process_follows, value}

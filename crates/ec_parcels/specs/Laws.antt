@@ -1,7 +1,7 @@
 -- What holds of the owners in a parcel.
 use Rattle.std.specs.Prelude.{◌≡◌, ◌↔◌, true, false, List, ◌∷◌}
-use Rattle.ec_nodes.specs.Held.{Distinct}
-use Rattle.ec_nodes.specs.declared.key.Key.{Key}
+use Rattle.ec_world.specs.Held.{Distinct}
+use Rattle.ec_world.specs.declared.key.Key.{Key}
 use Rattle.ec_parcels.specs.Owners.{among, keys_of}
 use Rattle.ec_travelling.specs.Travelling.{Turned}
 use Rattle.ec_wire.specs.WireForm.{KeepsRules}

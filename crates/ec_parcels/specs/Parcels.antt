@@ -8,7 +8,7 @@ use Rattle.ec_mover.specs.Activations.{activation_part_of}
 use Rattle.ec_mover.specs.Classes.{ClassTable, number_of}
 use Rattle.ec_mover.specs.Objects.{part_of}
 use Rattle.ec_node_frames.specs.Frames.{RestsAt}
-use Rattle.ec_nodes.specs.Things.{activation_at}
+use Rattle.ec_world.specs.Things.{activation_at}
 use Rattle.ec_stop_tables.specs.declared.table.StopEntry.{StopEntry}
 use Rattle.ec_wire.specs.declared.parcel.ActivationPart.{ActivationPart}
 use Rattle.ec_wire.specs.declared.parcel.Contents.{Contents}

@@ -3,7 +3,7 @@ use Rattle.std.proofs.Common.{◌≡◌, ◌≢◌, ℕ, zero, suc, ⊎_elim, Li
 use Rattle.std.specs.Prelude.{slice_get}
 use Rattle.ec_cluster.specs.Cluster.{CodeWorld}
 use Rattle.ec_cluster.specs.Steps.{with_common}
-use Rattle.ec_nodes.proofs.Procs.{get_but_end, get_end}
+use Rattle.ec_world.proofs.Procs.{get_but_end, get_end}
 use Rattle.ec_placing.proofs.Counting.{one_made, placed_after}
 use Rattle.ec_placing.proofs.Staying.{places_push}
 use Rattle.ec_placing.specs.Places.{PlacesEach, place_of}

@@ -3,7 +3,7 @@ use Rattle.std.specs.Prelude.{ℕ, Option}
 use Rattle.ec_cluster.specs.Cluster.{CodeWorld}
 use Rattle.ec_cluster.specs.declared.cluster.Cluster.{Cluster}
 use Rattle.ec_fullness.specs.Fullness.{IsFull}
-use Rattle.ec_nodes.specs.declared.room.Lack.{Lack}
+use Rattle.ec_world.specs.declared.room.Lack.{Lack}
 use Rattle.ec_placing.specs.Places.{AgreeWith}
 
 -- A node is the first that lacks room for world w' to come after w, with each object of w' where the events of w' have it.

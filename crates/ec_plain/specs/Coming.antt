@@ -8,7 +8,7 @@ use Rattle.ec_meaning.specs.Programs.{Source}
 use Rattle.ec_meaning.specs.Sources.{source_of}
 use Rattle.ec_meaning.specs.declared.activation.SourceActivation.{SourceActivation}
 use Rattle.ec_meaning.specs.declared.meaning.Meaning.{Meaning}
-use Rattle.ec_nodes.specs.declared.room.Part.{Part}
+use Rattle.ec_world.specs.declared.room.Part.{Part}
 use Rattle.ec_world.specs.declared.process.ProcStatus.{ProcStatus}
 use Rattle.ec_world.specs.declared.run.Entry.{Entry}
 use Rattle.ec_world.specs.declared.world.World.{World}

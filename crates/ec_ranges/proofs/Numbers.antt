@@ -10,7 +10,7 @@ use Rattle.std.specs.Prelude.{FitsSigned, int_rem}
 use Rattle.ec_code.specs.Steps.{computed, on_numbers, on_two, unless_zero}
 use Rattle.ec_code.specs.declared.code.Arithmetic.{Arithmetic}
 use Rattle.ec_code.specs.declared.code.Arithmetic.TheVariants.{Sum, Difference, Product, Quotient, Remainder}
-use Rattle.ec_operators.specs.Same.{is_zero}
+use Rattle.ec_world.specs.Same.{is_zero}
 use Rattle.ec_world.specs.declared.value.Value.{Value}
 use Rattle.ec_world.specs.declared.value.Value.TheVariants.{Int}
 use Rattle.ec_ranges.specs.Values.{GivenInRange, InRange}

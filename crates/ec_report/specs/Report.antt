@@ -16,8 +16,8 @@ use Rattle.ec_world.specs.declared.run.RunEnd.TheVariants.{Finished, Stuck, Spen
 use Rattle.ec_world.specs.declared.world.World.{World}
 use Rattle.ec_world.specs.Places.{places, place_in}
 use Rattle.ec_world.specs.Run.{statuses_of}
-use Rattle.ec_nodes.specs.declared.room.Part.{Part}
-use Rattle.ec_nodes.specs.declared.room.Part.TheVariants.{Blocks, Text}
+use Rattle.ec_world.specs.declared.room.Part.{Part}
+use Rattle.ec_world.specs.declared.room.Part.TheVariants.{Blocks, Text}
 use Rattle.ec_report.specs.declared.end.ReportEnd.{ReportEnd}
 use Rattle.ec_report.specs.declared.end.ReportEnd.TheVariants.{Ends, IsFull}
 

@@ -1,5 +1,5 @@
 //! How a run comes to its end, as a report tells it.
-use ec_nodes::room::Part;
+use ec_world::room::Part;
 use ec_world::run::RunEnd;
 use ec_world::value::NodeNo;
 

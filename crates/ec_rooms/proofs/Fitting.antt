@@ -1,10 +1,10 @@
 -- A node that has room for what a world then holds there, and for the texts of its pool and those of that world, doesn't lack any.
 use Rattle.std.proofs.Common.{◌≡◌, ◌≤◌, ◌+◌, ◌⊎◌, ℕ, inl, inr, ⊎_elim, List, Some, arith}
 use Rattle.std.specs.Prelude.{slice_get}
-use Rattle.ec_nodes.specs.Held.{Fits, Lacks}
-use Rattle.ec_nodes.specs.declared.room.Needs.{Needs}
-use Rattle.ec_nodes.specs.declared.room.Part.{Part}
-use Rattle.ec_nodes.specs.declared.room.Part.TheVariants.{Blocks, Text}
+use Rattle.ec_world.specs.Held.{Fits, Lacks}
+use Rattle.ec_world.specs.declared.room.Needs.{Needs}
+use Rattle.ec_world.specs.declared.room.Part.{Part}
+use Rattle.ec_world.specs.declared.room.Part.TheVariants.{Blocks, Text}
 use Rattle.ec_rooms.proofs.Bytes.{bytes_both, bytes_le}
 use Rattle.ec_rooms.specs.Rooms.{BytesOf, FullAt, NeedsOf}
 use Rattle.ec_world.specs.declared.node.NodeSpec.{NodeSpec}

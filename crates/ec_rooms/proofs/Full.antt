@@ -10,12 +10,12 @@ use Rattle.ec_code.specs.Typing.{Declared}
 use Rattle.ec_code.specs.declared.activation.CodeActivation.{CodeActivation}
 use Rattle.ec_code.specs.declared.code.Parts.{Parts}
 use Rattle.ec_fullness.specs.Fullness.{IsFull, NeedsAt}
-use Rattle.ec_nodes.specs.Held.{Fits}
-use Rattle.ec_nodes.specs.Things.{in_process}
-use Rattle.ec_nodes.specs.declared.key.Key.{Key}
-use Rattle.ec_nodes.specs.declared.key.Key.TheVariants.{Frame, Object}
-use Rattle.ec_nodes.specs.declared.room.Needs.{Needs}
-use Rattle.ec_nodes.specs.declared.room.Part.{Part}
+use Rattle.ec_world.specs.Held.{Fits}
+use Rattle.ec_world.specs.Things.{in_process}
+use Rattle.ec_world.specs.declared.key.Key.{Key}
+use Rattle.ec_world.specs.declared.key.Key.TheVariants.{Frame, Object}
+use Rattle.ec_world.specs.declared.room.Needs.{Needs}
+use Rattle.ec_world.specs.declared.room.Part.{Part}
 use Rattle.ec_placing.specs.Places.{AgreeWith, ArePlaced}
 use Rattle.ec_rooms.proofs.Nodes.{NodeAt, node_at}
 use Rattle.ec_rooms.proofs.Retelling.{Agree, held_by, strings_by}

@@ -13,10 +13,10 @@ use Rattle.ec_loading.proofs.Rooms.{program_place}
 use Rattle.ec_loading.specs.Loaded.{Loaded}
 use Rattle.ec_loading.specs.Loading.{CanLoad, HaveRoom, LacksFirst, first_needs}
 use Rattle.ec_loading.specs.Worlds.{first_blocks, first_place, world_first}
-use Rattle.ec_nodes.proofs.Procs.{get_end}
-use Rattle.ec_nodes.specs.Words.{text_bytes}
-use Rattle.ec_nodes.specs.declared.room.Lack.{Lack}
-use Rattle.ec_nodes.specs.declared.room.Part.{Part}
+use Rattle.ec_world.proofs.Procs.{get_end}
+use Rattle.ec_world.specs.Words.{text_bytes}
+use Rattle.ec_world.specs.declared.room.Lack.{Lack}
+use Rattle.ec_world.specs.declared.room.Part.{Part}
 use Rattle.ec_placing.specs.Places.{place_of}
 use Rattle.ec_rooms.proofs.Bytes.{bytes_along, none_bytes}
 use Rattle.ec_rooms.proofs.Fitting.{Both, Holds, needs_fit, never_full}

@@ -3,7 +3,7 @@ use Rattle.std.proofs.Common.{◌≡◌, ◌+◌, ℕ, inl, ⊎_elim, List, Some
 use Rattle.std.specs.Prelude.{option_map, slice_get}
 use Rattle.ec_base.proofs.Lists.{get_there, get_within}
 use Rattle.ec_cluster.specs.Cluster.{CodeWorld, place, stores}
-use Rattle.ec_nodes.specs.Words.{text_bytes}
+use Rattle.ec_world.specs.Words.{text_bytes}
 use Rattle.ec_placing.specs.Places.{ArePlaced}
 use Rattle.ec_rooms.proofs.Bytes.{bytes_along, pool_bytes}
 use Rattle.ec_rooms.proofs.Fitting.{Both, Holds, never_full}

@@ -11,9 +11,9 @@ use Rattle.ec_code.specs.declared.code.Parts.{Parts}
 use Rattle.ec_fullness.proofs.Blocks.{held_moved}
 use Rattle.ec_fullness.specs.Fullness.{Wants}
 use Rattle.ec_homes.specs.declared.homes.Home.{Home}
-use Rattle.ec_nodes.specs.Things.{activation_at}
-use Rattle.ec_nodes.specs.declared.key.Key.{Key}
-use Rattle.ec_nodes.specs.declared.key.Key.TheVariants.{Frame, Object}
+use Rattle.ec_world.specs.Things.{activation_at}
+use Rattle.ec_world.specs.declared.key.Key.{Key}
+use Rattle.ec_world.specs.declared.key.Key.TheVariants.{Frame, Object}
 use Rattle.ec_placing.specs.Places.{place_of}
 use Rattle.ec_rooms.specs.Rooms.{Strings, frame, held}
 use Rattle.ec_things.specs.Held.{Held}

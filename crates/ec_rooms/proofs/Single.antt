@@ -4,10 +4,10 @@ use Rattle.std.proofs.lemmas.Bool.{cases_order}
 use Rattle.std.proofs.lemmas.Option.{same_Some}
 use Rattle.std.specs.Prelude.{length}
 use Rattle.ec_loading.specs.Worlds.{world_first}
-use Rattle.ec_nodes.specs.Held.{Lacks}
-use Rattle.ec_nodes.specs.declared.room.Needs.{Needs}
-use Rattle.ec_nodes.specs.declared.room.Part.{Part}
-use Rattle.ec_nodes.specs.declared.room.Part.TheVariants.{Blocks, Text}
+use Rattle.ec_world.specs.Held.{Lacks}
+use Rattle.ec_world.specs.declared.room.Needs.{Needs}
+use Rattle.ec_world.specs.declared.room.Part.{Part}
+use Rattle.ec_world.specs.declared.room.Part.TheVariants.{Blocks, Text}
 use Rattle.ec_rooms.proofs.Bytes.{bytes_once}
 use Rattle.ec_rooms.proofs.Fitting.{lacks_none}
 use Rattle.ec_rooms.specs.Laws.{FullIsOne, IsOne, SameLack}

@@ -7,8 +7,8 @@ use Rattle.ec_code.specs.Typing.{Declared}
 use Rattle.ec_code.specs.declared.code.Parts.{Parts}
 use Rattle.ec_loading.specs.Loaded.{Loaded}
 use Rattle.ec_loading.specs.Loading.{CanLoad, LacksFirst, first_needs}
-use Rattle.ec_nodes.specs.declared.room.Lack.{Lack}
-use Rattle.ec_nodes.specs.declared.room.Part.{Part}
+use Rattle.ec_world.specs.declared.room.Lack.{Lack}
+use Rattle.ec_world.specs.declared.room.Part.{Part}
 use Rattle.ec_placing.specs.Full.{FindsFull}
 use Rattle.ec_placing.specs.Places.{HasPlaces}
 use Rattle.ec_rooms.specs.Rooms.{FullAt, Literals, LoadFull, Strings, held}

@@ -5,10 +5,10 @@ use Rattle.ec_cluster.specs.Cluster.{CodeWorld}
 use Rattle.ec_code.specs.declared.activation.CodeActivation.{CodeActivation}
 use Rattle.ec_code.specs.declared.code.Parts.{Parts}
 use Rattle.ec_loading.specs.Worlds.{world_first}
-use Rattle.ec_nodes.specs.Held.{Distinct, Fits, Lacks}
-use Rattle.ec_nodes.specs.Words.{text_bytes}
-use Rattle.ec_nodes.specs.declared.room.Needs.{Needs}
-use Rattle.ec_nodes.specs.declared.room.Part.{Part}
+use Rattle.ec_world.specs.Held.{Distinct, Fits, Lacks}
+use Rattle.ec_world.specs.Words.{text_bytes}
+use Rattle.ec_world.specs.declared.room.Needs.{Needs}
+use Rattle.ec_world.specs.declared.room.Part.{Part}
 use Rattle.ec_placing.specs.Places.{place_of}
 use Rattle.ec_things.specs.Held.{Held}
 use Rattle.ec_things.specs.Texts.{IsHeld}

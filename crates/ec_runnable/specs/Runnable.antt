@@ -8,7 +8,7 @@ use Rattle.ec_code.specs.declared.code.Parts.{Parts}
 use Rattle.ec_going.specs.Nodes.{IsCodeFor}
 use Rattle.ec_idle.specs.Idle.{OfClasses}
 use Rattle.ec_node_frames.specs.Frames.{HasTables}
-use Rattle.ec_nodes.specs.Held.{Distinct}
+use Rattle.ec_world.specs.Held.{Distinct}
 use Rattle.ec_ranges.specs.Code.{SmallProgram}
 use Rattle.ec_wire_limits.specs.Limits.{CarriesFew}
 use Rattle.ec_world.specs.Group.{Has}

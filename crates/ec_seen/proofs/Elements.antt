@@ -4,8 +4,8 @@ use Rattle.std.proofs.lemmas.Option.{same_Some}
 use Rattle.std.specs.Prelude.{IsSome, option_map, slice_get}
 use Rattle.ec_activations.specs.Frames.{or_nil}
 use Rattle.ec_cluster.specs.declared.cluster.Cluster.{Cluster}
-use Rattle.ec_nodes.specs.Things.{class_blocks}
-use Rattle.ec_nodes.specs.declared.key.Key.TheVariants.{Object}
+use Rattle.ec_world.specs.Things.{class_blocks}
+use Rattle.ec_world.specs.declared.key.Key.TheVariants.{Object}
 use Rattle.ec_objects.specs.Values.{value_of}
 use Rattle.ec_seen.proofs.Listing.{each-get, each-length, each-past}
 use Rattle.ec_seen.specs.Decoded.{decoded, field_of, fields_of, read_as, seen_common}

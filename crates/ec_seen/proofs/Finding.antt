@@ -8,7 +8,7 @@ use Rattle.ec_cluster.specs.Cluster.{place, stores}
 use Rattle.ec_cluster.specs.Steps.{HasObject}
 use Rattle.ec_cluster.specs.declared.cluster.Cluster.{Cluster}
 use Rattle.ec_forward.specs.Directory.{made_count}
-use Rattle.ec_nodes.specs.declared.key.Key.TheVariants.{Object}
+use Rattle.ec_world.specs.declared.key.Key.TheVariants.{Object}
 use Rattle.ec_seen.proofs.Listing.{each-get, each-length, each-past}
 use Rattle.ec_seen.specs.Decoded.{decoded, decoded_at, fields_of, spelled, spelled_as, spelled_at, store_at}
 use Rattle.ec_seen.specs.Seeing.{CanBeRead, CanBeSeen, IsSeenAt, ObjectCanBeSeen}

@@ -7,7 +7,7 @@ use Rattle.ec_base.proofs.Lists.{get_there}
 use Rattle.ec_cluster.specs.Cluster.{CodeWorld, place, stores}
 use Rattle.ec_cluster.specs.declared.cluster.Cluster.{Cluster}
 use Rattle.ec_monitors.specs.declared.record.MonitorRec.{MonitorRec}
-use Rattle.ec_nodes.specs.declared.key.Key.TheVariants.{Object}
+use Rattle.ec_world.specs.declared.key.Key.TheVariants.{Object}
 use Rattle.ec_objects.proofs.Reading.{read_back}
 use Rattle.ec_seen.proofs.Finding.{spelled_is}
 use Rattle.ec_seen.proofs.Listing.{each-is}

@@ -4,7 +4,7 @@ use Rattle.ec_activations.specs.Frames.{or_nil}
 use Rattle.ec_cluster.specs.Cluster.{place, stores}
 use Rattle.ec_cluster.specs.declared.cluster.Cluster.{Cluster}
 use Rattle.ec_forward.specs.Directory.{made_count}
-use Rattle.ec_nodes.specs.declared.key.Key.TheVariants.{Object}
+use Rattle.ec_world.specs.declared.key.Key.TheVariants.{Object}
 use Rattle.ec_objects.specs.Values.{value_of}
 use Rattle.ec_seen.specs.Kinds.{kind_at}
 use Rattle.ec_things.specs.Store.{Owned, Store, word_of}

@@ -32,7 +32,7 @@ use Rattle.ec_node_frames.proofs.Rewriting.{IsDone, held_now}
 use Rattle.ec_node_frames.specs.Beginning.{HasEntry, first_held, first_held_in, first_value, first_values}
 use Rattle.ec_node_frames.specs.Finishing.{HasRoomIn, IsTaken}
 use Rattle.ec_node_frames.specs.Frames.{RestsAt}
-use Rattle.ec_nodes.specs.Things.{activation_at}
+use Rattle.ec_world.specs.Things.{activation_at}
 use Rattle.ec_settling.proofs.Wording.{frame_string}
 use Rattle.ec_stop_tables.specs.Entries.{entries_of}
 use Rattle.ec_stop_tables.specs.declared.table.OperationTable.{OperationTable}

@@ -16,7 +16,7 @@ use Rattle.ec_code.specs.declared.activation.CodeActivation.{CodeActivation}
 use Rattle.ec_code.specs.declared.code.Parts.{Parts}
 use Rattle.ec_node_frames.specs.Finishing.{IsTaken}
 use Rattle.ec_node_frames.specs.Frames.{HasTables, RestsAt}
-use Rattle.ec_nodes.specs.Things.{activation_at}
+use Rattle.ec_world.specs.Things.{activation_at}
 use Rattle.ec_settling.proofs.Doing.{begun_string, no_room_needed, none_taken}
 use Rattle.ec_settling.proofs.Finished.{ChangesFinished, ShowsFinished, can_finish, finished_changes, finished_shown, finished_string}
 use Rattle.ec_settling.proofs.Owning.{AnswersOwn}

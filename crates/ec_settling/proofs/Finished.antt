@@ -10,7 +10,7 @@ use Rattle.ec_code.specs.Activations.{finished}
 use Rattle.ec_code.specs.Typing.{Declared}
 use Rattle.ec_code.specs.declared.activation.CodeActivation.{CodeActivation}
 use Rattle.ec_node_frames.specs.Finishing.{IsTaken}
-use Rattle.ec_nodes.specs.Things.{activation_at}
+use Rattle.ec_world.specs.Things.{activation_at}
 use Rattle.ec_settling.proofs.Doing.{taken_string}
 use Rattle.ec_settling.proofs.Stacking.{get_at, set_at}
 use Rattle.ec_stop_tables.specs.declared.table.StopEntry.{StopEntry}

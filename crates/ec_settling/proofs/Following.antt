@@ -18,8 +18,8 @@ use Rattle.ec_code.specs.declared.activation.CodeActivation.{CodeActivation}
 use Rattle.ec_forward.specs.Directory.{place_at}
 use Rattle.ec_forward.specs.declared.directory.Whereabouts.{Whereabouts}
 use Rattle.ec_node_frames.proofs.Texts.{no_texts_begun}
-use Rattle.ec_nodes.proofs.Procs.{get_end, get_past}
-use Rattle.ec_nodes.specs.Things.{activation_at, in_process}
+use Rattle.ec_world.proofs.Procs.{get_end, get_past}
+use Rattle.ec_world.specs.Things.{activation_at, in_process}
 use Rattle.ec_settling.proofs.Doing.{begun_string}
 use Rattle.ec_settling.proofs.Freed.{block_free}
 use Rattle.ec_settling.proofs.Mirrored.{mirrors_still}

@@ -13,8 +13,8 @@ use Rattle.ec_code.specs.declared.activation.CodeActivation.{CodeActivation}
 use Rattle.ec_code.specs.declared.code.Parts.{Parts}
 use Rattle.ec_forward.specs.Directory.{place_at}
 use Rattle.ec_forward.specs.declared.directory.Whereabouts.{Whereabouts}
-use Rattle.ec_nodes.proofs.Procs.{total_push, total_set}
-use Rattle.ec_nodes.specs.Held.{if_at, total}
+use Rattle.ec_world.proofs.Procs.{total_push, total_set}
+use Rattle.ec_world.specs.Held.{if_at, total}
 use Rattle.ec_settling.proofs.Stacking.{at_node, get_at, stack_with}
 use Rattle.ec_things.specs.Held.{Held, frame_weight, object_weight, process_weight}
 use Rattle.ec_things.specs.Store.{Store}

@@ -11,7 +11,7 @@ use Rattle.ec_cluster.specs.declared.cluster.Cluster.{Cluster}
 use Rattle.ec_monitors.specs.Monitors.{Granting, dropped, is_held_by}
 use Rattle.ec_monitors.specs.declared.record.Granted.{Granted}
 use Rattle.ec_monitors.specs.declared.record.MonitorRec.{MonitorRec}
-use Rattle.ec_nodes.specs.declared.key.Key.TheVariants.{Object}
+use Rattle.ec_world.specs.declared.key.Key.TheVariants.{Object}
 use Rattle.ec_settling.specs.Taking.{LeavesAlone, with_objects}
 use Rattle.ec_stores.specs.Changes.{HoldsMonitor, LacksMonitor, MonitorIs}
 use Rattle.ec_stores.specs.Node.{NodeData, store_of}

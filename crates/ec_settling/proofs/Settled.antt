@@ -14,9 +14,9 @@ use Rattle.ec_code.specs.Activations.{code_meaning}
 use Rattle.ec_code.specs.Typing.{Declared}
 use Rattle.ec_code.specs.declared.activation.CodeActivation.{CodeActivation}
 use Rattle.ec_node_frames.proofs.Items.{get_front}
-use Rattle.ec_nodes.specs.Things.{activation_at, in_process}
-use Rattle.ec_nodes.specs.declared.key.Key.{Key}
-use Rattle.ec_nodes.specs.declared.key.Key.TheVariants.{Frame, Object}
+use Rattle.ec_world.specs.Things.{activation_at, in_process}
+use Rattle.ec_world.specs.declared.key.Key.{Key}
+use Rattle.ec_world.specs.declared.key.Key.TheVariants.{Frame, Object}
 use Rattle.ec_settling.proofs.Effected.{images_moved}
 use Rattle.ec_settling.proofs.Following.{can_start}
 use Rattle.ec_settling.proofs.Mirrored.{given_length, mirrors_still, world_with}

@@ -12,9 +12,9 @@ use Rattle.ec_cluster_frames.specs.Frames.{FrameAt, with_stack}
 use Rattle.ec_code.specs.Activations.{code_meaning, finished}
 use Rattle.ec_code.specs.declared.activation.CodeActivation.{CodeActivation}
 use Rattle.ec_node_frames.proofs.Shown.{shown_here}
-use Rattle.ec_nodes.proofs.Procs.{activation_is}
-use Rattle.ec_nodes.specs.Things.{activation_at}
-use Rattle.ec_nodes.specs.declared.key.Key.TheVariants.{Frame}
+use Rattle.ec_world.proofs.Procs.{activation_is}
+use Rattle.ec_world.specs.Things.{activation_at}
+use Rattle.ec_world.specs.declared.key.Key.TheVariants.{Frame}
 use Rattle.ec_things.specs.Store.{Owned, Store}
 use Rattle.ec_things.specs.Things.{ShownAt, frame_if, things_of}
 use Rattle.ec_world.specs.World.{finish_top}

@@ -11,9 +11,9 @@ use Rattle.ec_code.specs.declared.activation.CodeActivation.{CodeActivation}
 use Rattle.ec_code.specs.declared.code.Parts.{Parts}
 use Rattle.ec_forward.specs.Directory.{place_at}
 use Rattle.ec_forward.specs.declared.directory.Whereabouts.{Whereabouts}
-use Rattle.ec_nodes.specs.Things.{activation_at}
-use Rattle.ec_nodes.specs.declared.key.Key.{Key}
-use Rattle.ec_nodes.specs.declared.key.Key.TheVariants.{Frame}
+use Rattle.ec_world.specs.Things.{activation_at}
+use Rattle.ec_world.specs.declared.key.Key.{Key}
+use Rattle.ec_world.specs.declared.key.Key.TheVariants.{Frame}
 use Rattle.ec_system.proofs.Pools.{strings_come}
 use Rattle.ec_system.specs.Systems.{Strings}
 use Rattle.ec_things.specs.Texts.{GetsTexts, InPool, IsHeld}

@@ -12,7 +12,7 @@ use Rattle.ec_code.specs.declared.code.Variable.{Variable}
 use Rattle.ec_code.specs.Steps.{Machine, Done, Goes, Rests, Loops, NoCase, act, as_wanted, computed, decides, gives, on_numbers, on_two}
 use Rattle.ec_code.specs.Steps.{operand_at}
 use Rattle.ec_code.specs.Steps.{own_field, passes, rests, stores, tested, variables_at}
-use Rattle.ec_waiting.specs.Waiting.{KeepsMonitors}
+use Rattle.ec_world.specs.Waiting.{KeepsMonitors}
 use Rattle.ec_world.specs.Objects.{object_at, changed_if}
 use Rattle.ec_world.specs.Outcomes.{monitor_if, monitor_of, with_element}
 use Rattle.ec_world.specs.declared.common.Common.{Common}

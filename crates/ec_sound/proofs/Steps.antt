@@ -27,7 +27,7 @@ use Rattle.ec_code.specs.Steps.{computed, operand_at}
 use Rattle.ec_code.specs.Typing.{Declared, boolean, class_type, field_types, integer, string}
 use Rattle.ec_conform.specs.declared.static_type.StaticType.{StaticType}
 use Rattle.ec_conformity.specs.Fits.{Fits}
-use Rattle.ec_operators.specs.Same.{is_same_truth}
+use Rattle.ec_world.specs.Same.{is_same_truth}
 use Rattle.ec_world.specs.Agree.{AllTwo}
 use Rattle.ec_world.specs.Objects.{object_at, changed_object}
 use Rattle.ec_world.specs.Outcomes.{with_element}

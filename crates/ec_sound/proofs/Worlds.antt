@@ -16,9 +16,9 @@ use Rattle.ec_conformity.specs.Known.{IsOfProgram}
 use Rattle.ec_monitors.specs.declared.record.Granted.{Granted}
 use Rattle.ec_monitors.specs.declared.record.MonitorRec.{MonitorRec}
 use Rattle.ec_monitors.specs.Monitors.{dropped}
-use Rattle.ec_waiting.proofs.Worlds.{entries_keep, granted_waits}
-use Rattle.ec_waiting.specs.Laws.{GrantsWaiting}
-use Rattle.ec_waiting.specs.Waiting.{WaitsBeside}
+use Rattle.ec_world.proofs.Worlds.{entries_keep, granted_waits}
+use Rattle.ec_world.specs.Laws.{GrantsWaiting}
+use Rattle.ec_world.specs.Waiting.{WaitsBeside}
 use Rattle.ec_world.specs.Agree.{AllTwo}
 use Rattle.ec_world.specs.Group.{Has}
 use Rattle.ec_world.specs.Moves.{OperatorMove, is_idle_move, moved_common, moved_unless}

@@ -18,7 +18,7 @@ use Rattle.ec_code.specs.Steps.{with_itself}
 use Rattle.ec_code.specs.Typing.{Declared, element_static, field_types}
 use Rattle.ec_conform.specs.declared.static_type.StaticType.{StaticType}
 use Rattle.ec_conformity.specs.Fits.{Fits}
-use Rattle.ec_waiting.specs.Waiting.{AreBlocked}
+use Rattle.ec_world.specs.Waiting.{AreBlocked}
 use Rattle.ec_world.specs.Agree.{AllTwo}
 use Rattle.ec_world.specs.Outcomes.{Acted, Done}
 use Rattle.ec_world.specs.declared.class.ClassNo.{ClassNo}

@@ -29,7 +29,7 @@ use Rattle.ec_meaning.specs.Steps.{pushed, step, value_at}
 use Rattle.ec_meaning.specs.declared.item.Item.{Item}
 use Rattle.ec_meaning.specs.declared.item.Item.TheVariants as i
 use Rattle.ec_meaning.specs.declared.state.State.{State}
-use Rattle.ec_operators.specs.Same as same
+use Rattle.ec_world.specs.Same as same
 use Rattle.ec_stands.proofs.Holding.{said_is}
 use Rattle.ec_stands.proofs.Meeting.{Fits, IsAt, Matched, Meets, Routine, at_place, by_op, done, fits_kept, fits_push, gives_on, is_last}
 use Rattle.ec_stands.proofs.Meeting.{itself, left, next, settled}

@@ -2,7 +2,7 @@
 use Rattle.std.proofs.Common.{◌≡◌, ℕ, List, [], ◌∷◌, Bool, true, false, ◌&&◌, if◌then◌else◌, refl}
 use lib.Dec.{eqb}
 use lib.Pointwise.{pointwise}
-use Rattle.ec_operators.specs.Same.{is_same_text}
+use Rattle.ec_world.specs.Same.{is_same_text}
 
 by_first : (first p q : Bool) → p ≡ q → (first && p) ≡ (if first then q else false)
 by_first true p q e = e

@@ -1,7 +1,7 @@
 //! Tests.
 ghost use Rattle.std.specs.Prelude.{◌≡◌, IfOk};
 ghost use Rattle.ec_code.specs.Steps as spec;
-ghost use Rattle.ec_operators.specs.Same as same;
+ghost use Rattle.ec_world.specs.Same as same;
 ghost use Rattle.ec_stepping.specs.Stepping.{as_machine};
 
 use crate::machine::Machine;

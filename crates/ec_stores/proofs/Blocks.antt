@@ -9,7 +9,7 @@ use Rattle.ec_memory.specs.Words.{block_word_at}
 use Rattle.ec_memory.proofs.Chains.{chain-one, all_back, apart_back}
 use Rattle.ec_memory.proofs.Places.{block_word_even, same_block_word}
 use Rattle.ec_memory.proofs.Whole.{few_apart, whole_given}
-use Rattle.ec_nodes.proofs.Keys.{same_or_not}
+use Rattle.ec_world.proofs.Keys.{same_or_not}
 use Rattle.ec_world.specs.Group.{Has}
 use Rattle.ec_world.specs.declared.node.Kind.{Kind}
 use Rattle.ec_stores.specs.Memory.{held, word_at, same_memory, same_memory_on, SameMemory, WritesAt, TakesFirst, TakesOne}

@@ -5,9 +5,9 @@ use Rattle.std.specs.Prelude.{IfSome, option_map}
 use Rattle.std.specs.BTreeMap.{UpdatesBy}
 use Rattle.std.specs.Ordering.{nat_cmp}
 use Rattle.ec_monitors.specs.declared.record.MonitorRec.{MonitorRec}
-use Rattle.ec_nodes.proofs.Keys.{key_or_not}
-use Rattle.ec_nodes.specs.declared.key.Key.{Key}
-use Rattle.ec_nodes.specs.declared.key.Key.TheVariants.{Object}
+use Rattle.ec_world.proofs.Keys.{key_or_not}
+use Rattle.ec_world.specs.declared.key.Key.{Key}
+use Rattle.ec_world.specs.declared.key.Key.TheVariants.{Object}
 use Rattle.ec_things.specs.Store.{Owned, Store}
 use Rattle.ec_stores.specs.Changes.{MonitorIs, SameRest, SetsRow, with_monitor}
 use Rattle.ec_stores.specs.Memory.{held}

@@ -5,9 +5,9 @@ use Rattle.std.specs.Bool.{OnFalse}
 use Rattle.std.specs.Prelude.{◌↔◌, IsSome, IsTrue, is_some, option_map}
 use Rattle.std.specs.BTreeMap.{Updates}
 use Rattle.std.specs.Ordering.{nat_cmp}
-use Rattle.ec_nodes.specs.Things.{class_blocks}
-use Rattle.ec_nodes.specs.declared.key.Key.{Key}
-use Rattle.ec_nodes.specs.declared.key.Key.TheVariants.{Object, Frame}
+use Rattle.ec_world.specs.Things.{class_blocks}
+use Rattle.ec_world.specs.declared.key.Key.{Key}
+use Rattle.ec_world.specs.declared.key.Key.TheVariants.{Object, Frame}
 use Rattle.ec_things.specs.Store.{Owned}
 use Rattle.ec_stores.specs.Changes.{Closed, PlacedFrame, PlacedObject}
 use Rattle.ec_stores.specs.Lists.{FilledList, GivesList}

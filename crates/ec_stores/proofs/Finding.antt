@@ -8,8 +8,8 @@ use Rattle.std.specs.Cmp.Lexicographic.{bytes_decides, slice_cmp}
 use Rattle.std.specs.Map.{KeepsOthers}
 use Rattle.std.specs.Ordering.{is_eq, nat_cmp}
 use Rattle.std.proofs.lemmas.Map.Text.{is_eq-slice_cmp}
-use Rattle.ec_nodes.proofs.Procs.{get_end}
-use Rattle.ec_nodes.proofs.Keys.{same_or_not}
+use Rattle.ec_world.proofs.Procs.{get_end}
+use Rattle.ec_world.proofs.Keys.{same_or_not}
 use Rattle.ec_stores.specs.Tables.{ArePlaces, AreReferences, by_bytes, get_bytes, local_in}
 use Rattle.ec_stores.proofs.Numbers.{end_or, kept_end, length_more}
 use Rattle.ec_stores.proofs.Keyed.{other_object}

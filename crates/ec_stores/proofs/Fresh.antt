@@ -3,8 +3,8 @@ use Rattle.std.proofs.Common.{◌≡◌, ℕ, zero, suc, ◌≤◌, List, [], No
 use Rattle.std.specs.Prelude.{option_map, slice_get}
 use Rattle.ec_memory.specs.Store.{IsNew, IsWhole}
 use Rattle.ec_memory.proofs.Places.{new_global_word}
-use Rattle.ec_nodes.specs.declared.key.Key.{Key}
-use Rattle.ec_nodes.specs.declared.key.Key.TheVariants.{Object, Frame}
+use Rattle.ec_world.specs.declared.key.Key.{Key}
+use Rattle.ec_world.specs.declared.key.Key.TheVariants.{Object, Frame}
 use Rattle.ec_stores.specs.Changes.{IsFresh}
 use Rattle.ec_stores.specs.Memory.{held, number_of}
 use Rattle.ec_stores.specs.Node.{NodeData, object_in, owned_frame, owned_object, row_of, store_of}

@@ -5,9 +5,9 @@ use Rattle.std.specs.BTreeMap.{is_at}
 use Rattle.std.specs.Ordering.{is_eq, nat_cmp, ordering_then}
 use Rattle.std.specs.declared.cmp.Ordering.{Ordering}
 use Rattle.std.specs.declared.cmp.Ordering.TheVariants.{Less, Equal, Greater}
-use Rattle.ec_nodes.proofs.Keys.{same_or_not}
-use Rattle.ec_nodes.specs.declared.key.Key.{Key}
-use Rattle.ec_nodes.specs.declared.key.Key.TheVariants.{Object, Frame}
+use Rattle.ec_world.proofs.Keys.{same_or_not}
+use Rattle.ec_world.specs.declared.key.Key.{Key}
+use Rattle.ec_world.specs.declared.key.Key.TheVariants.{Object, Frame}
 use Rattle.ec_stores.specs.Node.{NodeData, object_in, owned_frame, owned_object, row_of}
 use Rattle.ec_stores.specs.Tables.{frame_cmp, frame_in}
 use Rattle.ec_stores.specs.declared.memory.NodeMemory.{NodeMemory}

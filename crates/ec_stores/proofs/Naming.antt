@@ -3,8 +3,8 @@ use Rattle.std.proofs.Common.{◌≡◌, ◌≢◌, ℕ, zero, suc, ◌+◌, ◌
 use Rattle.std.proofs.Common.{arith, inl, inr, ⊎_elim}
 use Rattle.std.specs.Prelude.{slice_get}
 use Rattle.ec_base.proofs.Lists.{get_there}
-use Rattle.ec_nodes.proofs.Procs.{get_end, get_past}
-use Rattle.ec_nodes.specs.Words.{text_bytes}
+use Rattle.ec_world.proofs.Procs.{get_end, get_past}
+use Rattle.ec_world.specs.Words.{text_bytes}
 use Rattle.ec_things.specs.Texts.{InPool}
 use Rattle.ec_stores.specs.Changes.{Interns, OnlyTables, Refers}
 use Rattle.ec_stores.specs.Node.{Laid, NodeData, store_of}

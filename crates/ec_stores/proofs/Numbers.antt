@@ -5,8 +5,8 @@ use Rattle.std.specs.Prelude.{slice_get, take}
 use Rattle.std.specs.List.{AllByRecursion}
 use Rattle.ec_base.proofs.Lists.{get_within}
 use Rattle.ec_memory.specs.Store.{AreApart}
-use Rattle.ec_nodes.proofs.Procs.{get_end, get_but_end}
-use Rattle.ec_nodes.proofs.Keys.{same_or_not}
+use Rattle.ec_world.proofs.Procs.{get_end, get_but_end}
+use Rattle.ec_world.proofs.Keys.{same_or_not}
 use Rattle.ec_world.specs.Group.{Has}
 use Rattle.ec_stores.specs.Lists.{IsOnce}
 

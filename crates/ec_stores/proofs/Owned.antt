@@ -1,8 +1,8 @@
 -- The blocks of owners: one more comes, one goes, or all stay.
 use Rattle.std.proofs.Common.{◌≡◌, ◌≢◌, ℕ, ◌<◌, List, length, Option, Some, None, refl, sym, ap, ◌∙◌, subst, ◌⊎◌, inl, inr, ⊎_elim}
 use Rattle.ec_memory.specs.Store.{Store as Memory}
-use Rattle.ec_nodes.proofs.Keys.{key_or_not}
-use Rattle.ec_nodes.specs.declared.key.Key.{Key}
+use Rattle.ec_world.proofs.Keys.{key_or_not}
+use Rattle.ec_world.specs.declared.key.Key.{Key}
 use Rattle.ec_things.specs.Store.{Owned}
 use Rattle.ec_world.specs.Group.{Has}
 use Rattle.ec_stores.specs.Lists.{IsOnce}

@@ -9,7 +9,7 @@ use Rattle.ec_memory.specs.Words.{block_word_at, global_word_at}
 use Rattle.ec_memory.proofs.Words.{word_there}
 use Rattle.ec_memory.proofs.Places.{block_word_there, block_word_even, global_word_even, same_block_word, block_global_apart}
 use Rattle.ec_memory.proofs.Whole.{whole_same}
-use Rattle.ec_nodes.specs.declared.key.Key.{Key}
+use Rattle.ec_world.specs.declared.key.Key.{Key}
 use Rattle.ec_things.specs.Store.{Owned, Tidy, word_of, word_in as word_in_store}
 use Rattle.ec_things.specs.Things.{row_size}
 use Rattle.ec_world.specs.Group.{Has}

@@ -1,8 +1,8 @@
 -- What a call leaves of a store is one owner changed, which is now this thing or none.
 use Rattle.std.proofs.Common.{◌≡◌, ℕ, List, length, Some, None, refl, ap, ◌∙◌, arith}
 use Rattle.std.specs.Prelude.{slice_get}
-use Rattle.ec_nodes.specs.declared.key.Key.{Key}
-use Rattle.ec_nodes.specs.declared.key.Key.TheVariants.{Object}
+use Rattle.ec_world.specs.declared.key.Key.{Key}
+use Rattle.ec_world.specs.declared.key.Key.TheVariants.{Object}
 use Rattle.ec_things.specs.Store.{Grown, Owned, Stands, Store}
 use Rattle.ec_things.specs.Things.{Puts, Thing, object_thing, row_size}
 use Rattle.ec_world.specs.declared.object.ObjectRec.{ObjectRec}

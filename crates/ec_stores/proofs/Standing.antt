@@ -13,8 +13,8 @@ use Rattle.std.specs.Ordering.{is_eq, is_le, is_lt, nat_cmp, ordering_then}
 use Rattle.std.specs.declared.cmp.Ordering.{Ordering}
 use Rattle.std.specs.declared.cmp.Ordering.TheVariants.{Less, Equal, Greater}
 use Rattle.std.specs.declared.ops.Bound.TheVariants.{Included}
-use Rattle.ec_nodes.proofs.Keys.{key_or_not, same_or_not}
-use Rattle.ec_nodes.specs.declared.key.Key.TheVariants.{Frame}
+use Rattle.ec_world.proofs.Keys.{key_or_not, same_or_not}
+use Rattle.ec_world.specs.declared.key.Key.TheVariants.{Frame}
 use Rattle.ec_things.specs.Store.{Owned}
 use Rattle.ec_world.proofs.Members.{has_first, has_later, has_none, has_parts}
 use Rattle.ec_world.specs.Group.{Has}

@@ -11,7 +11,7 @@ use Rattle.ec_memory.specs.Words.{HasWord, block_word_at, global_word_at}
 use Rattle.ec_memory.proofs.Places.{block_global_apart, block_word_even, global_word_even, same_block_word, same_global_word}
 use Rattle.ec_memory.proofs.Whole.{whole_same}
 use Rattle.ec_memory.proofs.Words.{each_there}
-use Rattle.ec_nodes.specs.declared.key.Key.{Key}
+use Rattle.ec_world.specs.declared.key.Key.{Key}
 use Rattle.ec_things.specs.Store.{Owned, word_of, word_in as word_in_store}
 use Rattle.ec_world.specs.Group.{Has}
 use Rattle.ec_stores.specs.Changes.{OwnsWord, WordIs, WritesGlobal, WritesWord}

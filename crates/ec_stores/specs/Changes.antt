@@ -4,9 +4,9 @@ use Rattle.std.specs.Prelude.{Option, Some, None, slice_get}
 use Rattle.std.specs.List.Sorted.{IsStrictlySortedBy}
 use Rattle.ec_monitors.specs.Monitors.{is_held_by}
 use Rattle.ec_monitors.specs.declared.record.MonitorRec.{MonitorRec}
-use Rattle.ec_nodes.specs.Things.{class_blocks}
-use Rattle.ec_nodes.specs.declared.key.Key.{Key}
-use Rattle.ec_nodes.specs.declared.key.Key.TheVariants.{Object, Frame}
+use Rattle.ec_world.specs.Things.{class_blocks}
+use Rattle.ec_world.specs.declared.key.Key.{Key}
+use Rattle.ec_world.specs.declared.key.Key.TheVariants.{Object, Frame}
 use Rattle.ec_things.specs.Store.{Grown, KeptRow, Owned, Store, Tidy, word_of}
 use Rattle.ec_things.specs.Texts.{InPool}
 use Rattle.ec_things.specs.Things.{row_size}

@@ -2,7 +2,7 @@
 use Rattle.std.specs.Prelude.{◌≡◌, ℕ, ◌<◌, ◌^◌, List, Some}
 use Rattle.ec_base.specs.Bytes.{Bytes}
 use Rattle.ec_memory.specs.Words.{HasWord, block_word_at, global_word_at, word_in}
-use Rattle.ec_nodes.specs.declared.key.Key.{Key}
+use Rattle.ec_world.specs.declared.key.Key.{Key}
 use Rattle.ec_stores.specs.Memory.{number_of}
 use Rattle.ec_things.specs.Store.{Owned, Store}
 use Rattle.ec_world.specs.Group.{Has}

@@ -1,7 +1,7 @@
 //! The monitors of objects.
 ghost use Rattle.std.specs.Prelude.{◌≡◌, ◌<◌, IfOk, IfSome, IfNone, IsSome, None, OnErr, Some, length};
 ghost use Rattle.ec_monitors.specs.Monitors.{dropped, entered, left, signalled, waited};
-ghost use Rattle.ec_nodes.specs.declared.key.Key.TheVariants.{Object as OfObject};
+ghost use Rattle.ec_world.specs.declared.key.Key.TheVariants.{Object as OfObject};
 ghost use Rattle.ec_stores.specs.Node.{store_of};
 ghost use Rattle.ec_stores.specs.Changes.{Acts, HasMonitor, HoldsMonitor, LacksMonitor, MonitorIs, SameRows, SetsRow, WaitsAtMonitor};
 ghost use Rattle.ec_stores.specs.Changes.{with_monitor};

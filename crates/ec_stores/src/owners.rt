@@ -1,8 +1,8 @@
 //! Objects and activations, which own blocks.
 ghost use Rattle.std.specs.Prelude.{◌≡◌, ◌≤◌, ◌<◌, ◌*◌, length, OnOk, IfOk, IfSome, IfNone, IsTrue, ◌↔◌, IsSome, None, Some};
 ghost use Rattle.std.specs.Bool.{OnFalse};
-ghost use Rattle.ec_nodes.specs.Things as spec;
-ghost use Rattle.ec_nodes.specs.declared.key.Key.TheVariants.{Object as OfObject, Frame as OfFrame};
+ghost use Rattle.ec_world.specs.Things as spec;
+ghost use Rattle.ec_world.specs.declared.key.Key.TheVariants.{Object as OfObject, Frame as OfFrame};
 ghost use Rattle.ec_stores.specs.Node.{store_of};
 ghost use Rattle.ec_stores.specs.Changes.{Closed, FirstBlock, HasBlock, HasOn, IsObject, LacksMonitor, MonitorIs};
 ghost use Rattle.ec_stores.specs.Changes.{PlacedFrame, PlacedObject, SetsRow, with_fixed};

@@ -1,6 +1,6 @@
 //! What is kept of owners of blocks beside their words.
 ghost use Rattle.std.specs.Prelude.{◌≡◌, ◌+◌, ◌/◌, max};
-ghost use Rattle.ec_nodes.specs.Things as spec;
+ghost use Rattle.ec_world.specs.Things as spec;
 
 use ec_base::list::Seq;
 use ec_monitors::monitor::Monitor;

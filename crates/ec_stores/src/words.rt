@@ -1,6 +1,6 @@
 //! The words of owners, and constants.
 ghost use Rattle.std.specs.Prelude.{◌≡◌, ◌<◌, IsSome, Some};
-ghost use Rattle.ec_nodes.specs.declared.key.Key.TheVariants.{Object as OfObject, Frame as OfFrame};
+ghost use Rattle.ec_world.specs.declared.key.Key.TheVariants.{Object as OfObject, Frame as OfFrame};
 ghost use Rattle.ec_stores.specs.Node.{store_of};
 ghost use Rattle.ec_stores.specs.Changes.{OwnsWord, WordIs, WritesGlobal, WritesWord};
 

@@ -1,11 +1,11 @@
 -- A process has come, with one activation.
 use Rattle.std.proofs.Common.{◌≡◌, ◌≢◌, ⊎_elim, ℕ, zero, suc, ◌+◌, [], ◌∷◌, ◌++◌, length, Option, Some, None, refl, sym, ap, ◌∙◌, arith}
 use Rattle.std.specs.Prelude.{slice_get}
-use Rattle.ec_nodes.proofs.Procs.{get_but_end, get_end, get_past, total_push}
-use Rattle.ec_nodes.specs.Held.{if_at, total}
-use Rattle.ec_nodes.specs.Things.{activation_at, in_process}
-use Rattle.ec_nodes.specs.declared.key.Key.{Key}
-use Rattle.ec_nodes.specs.declared.key.Key.TheVariants.{Frame, Object}
+use Rattle.ec_world.proofs.Procs.{get_but_end, get_end, get_past, total_push}
+use Rattle.ec_world.specs.Held.{if_at, total}
+use Rattle.ec_world.specs.Things.{activation_at, in_process}
+use Rattle.ec_world.specs.declared.key.Key.{Key}
+use Rattle.ec_world.specs.declared.key.Key.TheVariants.{Frame, Object}
 use Rattle.ec_things.proofs.Put.{same_or_not}
 use Rattle.ec_things.proofs.World.{if_none}
 use Rattle.ec_things.specs.Changes.{WorldPut}

@@ -3,19 +3,19 @@ use Rattle.std.proofs.Common.{◌≡◌, ◌≢◌, ℕ, zero, suc, ◌+◌, Lis
 use Rattle.std.proofs.Common.{◌∙◌, arith}
 use Rattle.ec_world.specs.declared.object.ObjectRec.{ObjectRec}
 use Rattle.ec_world.specs.declared.world.World.{World}
-use Rattle.ec_nodes.specs.declared.key.Key.{Key}
-use Rattle.ec_nodes.specs.declared.key.Key.TheVariants.{Object, Frame}
+use Rattle.ec_world.specs.declared.key.Key.{Key}
+use Rattle.ec_world.specs.declared.key.Key.TheVariants.{Object, Frame}
 use Rattle.ec_things.specs.Store.{Store}
 use Rattle.ec_world.specs.Group.{Has}
 use Rattle.ec_things.specs.Things.{Thing, things_of, object_thing, object_if}
-use Rattle.ec_nodes.specs.Things.{blocks_of}
-use Rattle.ec_nodes.specs.Held.{if_at, total}
+use Rattle.ec_world.specs.Things.{blocks_of}
+use Rattle.ec_world.specs.Held.{if_at, total}
 use Rattle.ec_things.specs.Held.{object_weight}
 use Rattle.ec_things.specs.Shows.{ShowsWorld}
 use Rattle.ec_things.specs.Changes.{WorldPut}
 use Rattle.ec_things.proofs.Sums.{summed}
 use Rattle.ec_things.proofs.Items.{items, item_is, held_sum, weight}
-use Rattle.ec_nodes.proofs.Procs.{get_end, get_past, get_but_end, total_push}
+use Rattle.ec_world.proofs.Procs.{get_end, get_past, get_but_end, total_push}
 use Rattle.ec_things.proofs.World.{if_none}
 
 summed_same : {A : Type 0} (f g : A → ℕ) (xs : List A) → ((x : A) → Has xs x → f x ≡ g x) → summed f xs ≡ summed g xs

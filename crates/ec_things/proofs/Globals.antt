@@ -2,7 +2,7 @@
 use Rattle.std.proofs.Common.{◌≡◌, ◌≢◌, ⊎_elim, ℕ, ◌<◌, List, Option, Some, sym, ◌∙◌, subst, arith}
 use Rattle.std.specs.Prelude.{length, slice_get, slice_set}
 use Rattle.ec_base.proofs.Lists.{get_set_other, get_set_same}
-use Rattle.ec_nodes.specs.declared.key.Key.{Key}
+use Rattle.ec_world.specs.declared.key.Key.{Key}
 use Rattle.ec_things.proofs.Kept.{Carries, shown_kept, stands_kept}
 use Rattle.ec_things.proofs.Put.{same_or_not}
 use Rattle.ec_things.specs.Changes.{PutsGlobal, PutsGlobals}

@@ -5,12 +5,12 @@ use Rattle.std.specs.Prelude.{slice_get}
 use Rattle.ec_world.specs.declared.object.ObjectRec.{ObjectRec}
 use Rattle.ec_world.specs.declared.process.Proc.{Proc}
 use Rattle.ec_world.specs.declared.world.World.{World}
-use Rattle.ec_nodes.specs.declared.key.Key.TheVariants.{Object, Frame}
+use Rattle.ec_world.specs.declared.key.Key.TheVariants.{Object, Frame}
 use Rattle.ec_world.specs.Group.{Has}
 use Rattle.ec_things.specs.Things.{Thing, things_of, object_thing, object_if, frame_if}
-use Rattle.ec_nodes.specs.Things.{activation_at}
+use Rattle.ec_world.specs.Things.{activation_at}
 use Rattle.ec_things.specs.Items.{Item}
-use Rattle.ec_nodes.specs.Held.{if_at, total}
+use Rattle.ec_world.specs.Held.{if_at, total}
 use Rattle.ec_things.specs.Held.{Held, object_weight, process_weight, frame_weight}
 use Rattle.ec_things.proofs.Sums.{summed}
 

@@ -4,7 +4,7 @@ use Rattle.std.proofs.Common.{None, refl, ap, ◌∙◌, arith}
 use Rattle.std.specs.Prelude.{slice_get}
 use Rattle.ec_world.specs.declared.value.Value.{Value}
 use Rattle.ec_world.specs.declared.value.Value.TheVariants.{Int, Str, Ref, Nil, Bool as Truth}
-use Rattle.ec_nodes.specs.declared.key.Key.{Key}
+use Rattle.ec_world.specs.declared.key.Key.{Key}
 use Rattle.ec_things.specs.Store.{Store, Owned, Stands, StandsAt, Grown, KeptRow, word_in, word_of}
 use Rattle.ec_world.specs.Group.{Has}
 use Rattle.ec_things.specs.Things.{Thing, Spells, Shown}

@@ -2,10 +2,10 @@
 use Rattle.std.proofs.Common.{◌≡◌, ◌≢◌, ℕ, zero, suc, ◌+◌, Option, Some, refl, ap, arith}
 use Rattle.std.specs.Prelude.{slice_get, slice_set}
 use Rattle.ec_base.proofs.Lists.{get_set_other, get_set_same, get_within}
-use Rattle.ec_nodes.proofs.Procs.{total_set}
-use Rattle.ec_nodes.specs.Held.{if_at, total}
-use Rattle.ec_nodes.specs.declared.key.Key.{Key}
-use Rattle.ec_nodes.specs.declared.key.Key.TheVariants.{Frame, Object}
+use Rattle.ec_world.proofs.Procs.{total_set}
+use Rattle.ec_world.specs.Held.{if_at, total}
+use Rattle.ec_world.specs.declared.key.Key.{Key}
+use Rattle.ec_world.specs.declared.key.Key.TheVariants.{Frame, Object}
 use Rattle.ec_things.specs.Changes.{WorldPut}
 use Rattle.ec_things.specs.Held.{object_weight}
 use Rattle.ec_things.specs.Things.{Thing, object_if, object_thing, things_of}

@@ -1,8 +1,8 @@
 -- One owner at one node has changed.
 use Rattle.std.proofs.Common.{◌≡◌, ◌≢◌, ℕ, zero, suc, Option, Some, None, refl, sym, ap, ◌∙◌, subst}
 use Rattle.std.proofs.Common.{arith, ◌⊎◌, inl, inr, ⊎_elim}
-use Rattle.ec_nodes.specs.declared.key.Key.{Key}
-use Rattle.ec_nodes.specs.declared.key.Key.TheVariants.{Object, Frame}
+use Rattle.ec_world.specs.declared.key.Key.{Key}
+use Rattle.ec_world.specs.declared.key.Key.TheVariants.{Object, Frame}
 use Rattle.ec_things.specs.Store.{Store, Owned, Tidy}
 use Rattle.ec_things.specs.Things.{Thing, ShownAt, ShowsThings, ShowsHere, Puts, NodePut, ThingPut, IsAt}
 use Rattle.ec_things.proofs.Touch.{NodeKept, NodeAfter, touch}

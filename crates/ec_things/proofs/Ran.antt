@@ -6,12 +6,12 @@ use Rattle.ec_world.specs.declared.object.ObjectRec.{ObjectRec}
 use Rattle.ec_world.specs.declared.process.Proc.{Proc}
 use Rattle.ec_world.specs.declared.world.World.{World}
 use Rattle.ec_base.proofs.Lists.{get_set_same, get_set_other, get_within}
-use Rattle.ec_nodes.specs.declared.key.Key.{Key}
-use Rattle.ec_nodes.specs.declared.key.Key.TheVariants.{Object, Frame}
+use Rattle.ec_world.specs.declared.key.Key.{Key}
+use Rattle.ec_world.specs.declared.key.Key.TheVariants.{Object, Frame}
 use Rattle.ec_things.specs.Things.{Thing, ThingsPut, things_of, frame_if, object_if, object_thing}
-use Rattle.ec_nodes.specs.Things.{activation_at, blocks_of}
+use Rattle.ec_world.specs.Things.{activation_at, blocks_of}
 use Rattle.ec_things.proofs.Put.{same_or_not, key_or_not}
-use Rattle.ec_nodes.proofs.Procs.{activation_here, activation_there, activation_is}
+use Rattle.ec_world.proofs.Procs.{activation_here, activation_there, activation_is}
 
 -- the world after: object i + 1 and the activation at depth d of process p are others
 abbrev pub ran_world : {A : Type 0} → World A → ℕ → ObjectRec → ℕ → Proc A → World A

@@ -1,10 +1,10 @@
 -- What nodes show doesn't depend on how a world is told: only its things, its constants and what is held matter.
 use Rattle.std.proofs.Common.{◌≡◌, ℕ, zero, suc, ◌+◌, List, [], ◌∷◌, Option, refl, sym, ap, ◌∙◌, arith, subst}
 use Rattle.std.specs.Prelude.{map, slice_get}
-use Rattle.ec_nodes.specs.Held.{total}
-use Rattle.ec_nodes.specs.Things.{activation_at}
-use Rattle.ec_nodes.specs.declared.key.Key.{Key}
-use Rattle.ec_nodes.specs.declared.key.Key.TheVariants.{Frame, Object}
+use Rattle.ec_world.specs.Held.{total}
+use Rattle.ec_world.specs.Things.{activation_at}
+use Rattle.ec_world.specs.declared.key.Key.{Key}
+use Rattle.ec_world.specs.declared.key.Key.TheVariants.{Frame, Object}
 use Rattle.ec_things.specs.Held.{Held, object_weight, process_weight}
 use Rattle.ec_things.specs.Shows.{Shows, ShowsWorld}
 use Rattle.ec_things.specs.Store.{Store}

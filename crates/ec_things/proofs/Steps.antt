@@ -6,14 +6,14 @@ use Rattle.ec_world.specs.declared.common.Common.{Common}
 use Rattle.ec_world.specs.declared.process.Proc.{Proc}
 use Rattle.ec_world.specs.declared.world.World.{World}
 use Rattle.ec_base.proofs.Lists.{get_set_same, get_set_other, get_within}
-use Rattle.ec_nodes.specs.declared.key.Key.{Key}
-use Rattle.ec_nodes.specs.declared.key.Key.TheVariants.{Object, Frame}
+use Rattle.ec_world.specs.declared.key.Key.{Key}
+use Rattle.ec_world.specs.declared.key.Key.TheVariants.{Object, Frame}
 use Rattle.ec_things.specs.Things.{Thing, ThingPut, things_of, frame_if}
-use Rattle.ec_nodes.specs.Things.{activation_at}
-use Rattle.ec_nodes.specs.Held.{if_at, total}
+use Rattle.ec_world.specs.Things.{activation_at}
+use Rattle.ec_world.specs.Held.{if_at, total}
 use Rattle.ec_things.specs.Held.{Held, process_weight, frame_weight}
 use Rattle.ec_things.proofs.Put.{same_or_not}
-use Rattle.ec_nodes.proofs.Procs.{activation_here, activation_there, activation_is, get_end, get_past, get_but_end, total_set, total_push}
+use Rattle.ec_world.proofs.Procs.{activation_here, activation_there, activation_is, get_end, get_past, get_but_end, total_set, total_push}
 use Rattle.ec_things.specs.Changes.{WorldPut}
 use Rattle.ec_things.proofs.World.{if_none}
 

@@ -1,7 +1,7 @@
 -- The texts of a thing that a node shows are in its pool.
 use Rattle.std.proofs.Common.{ℕ, List}
 use Rattle.ec_world.specs.declared.value.Value.TheVariants.{Str}
-use Rattle.ec_nodes.specs.declared.key.Key.{Key}
+use Rattle.ec_world.specs.declared.key.Key.{Key}
 use Rattle.ec_things.specs.Store.{Store}
 use Rattle.ec_world.specs.Group.{Has}
 use Rattle.ec_things.specs.Things.{Thing, Shown}

@@ -1,7 +1,7 @@
 -- Some owners have changed, and nothing else.
 use Rattle.std.proofs.Common.{◌≡◌, ℕ, Option, Some, sym, ap, ◌∙◌}
 use Rattle.std.proofs.Common.{◌⊎◌, ⊎_elim}
-use Rattle.ec_nodes.specs.declared.key.Key.{Key}
+use Rattle.ec_world.specs.declared.key.Key.{Key}
 use Rattle.ec_things.specs.Store.{Store, Owned, Grown, KeptRow}
 use Rattle.ec_things.specs.Things.{Thing, ShownAt, ShowsThings}
 use Rattle.ec_things.proofs.Kept.{carries_of, shown_kept}

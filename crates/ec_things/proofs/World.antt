@@ -4,11 +4,11 @@ use Rattle.std.proofs.Common.{arith, ⊎_elim}
 use Rattle.std.specs.Prelude.{slice_get}
 use Rattle.ec_world.specs.declared.value.Value.{Value}
 use Rattle.ec_world.specs.declared.world.World.{World}
-use Rattle.ec_nodes.specs.declared.key.Key.{Key}
+use Rattle.ec_world.specs.declared.key.Key.{Key}
 use Rattle.ec_things.specs.Store.{Store, Owned, Grown}
 use Rattle.ec_things.specs.Things.{Thing, ShowsThings, Puts, NodePut, ThingPut, IsAt, things_of}
 use Rattle.ec_things.specs.Things.{size_of, row_size}
-use Rattle.ec_nodes.specs.Held.{if_at}
+use Rattle.ec_world.specs.Held.{if_at}
 use Rattle.ec_things.specs.Held.{Held}
 use Rattle.ec_things.specs.Shows.{GlobalStands, Shows, ShowsWorld}
 use Rattle.ec_things.specs.Changes.{WorldPut}

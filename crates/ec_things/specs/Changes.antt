@@ -1,7 +1,7 @@
 -- What an entry changes of a world, one thing at a time, and of the nodes that show it.
 use Rattle.std.specs.Prelude.{◌≡◌, ◌≢◌, ℕ, ◌+◌, List, Option, Some}
-use Rattle.ec_nodes.specs.Held.{if_at}
-use Rattle.ec_nodes.specs.declared.key.Key.{Key}
+use Rattle.ec_world.specs.Held.{if_at}
+use Rattle.ec_world.specs.declared.key.Key.{Key}
 use Rattle.ec_things.specs.Held.{Held}
 use Rattle.ec_things.specs.Shows.{GlobalStands}
 use Rattle.ec_things.specs.Store.{KeptRow, Store, Tidy}

@@ -1,6 +1,6 @@
 -- How many blocks a world holds at a node.
 use Rattle.std.specs.Prelude.{ℕ, suc, ◌+◌, Option}
-use Rattle.ec_nodes.specs.Held.{if_at, total}
+use Rattle.ec_world.specs.Held.{if_at, total}
 use Rattle.ec_things.specs.Things.{Thing, object_thing}
 use Rattle.ec_world.specs.declared.object.ObjectRec.{ObjectRec}
 use Rattle.ec_world.specs.declared.process.Proc.{Proc}

@@ -1,5 +1,5 @@
 -- Owners with what they own, as items of a list.
-use Rattle.ec_nodes.specs.declared.key.Key.{Key}
+use Rattle.ec_world.specs.declared.key.Key.{Key}
 use Rattle.ec_things.specs.Things.{Thing}
 
 -- an owner, and the object or activation that it is

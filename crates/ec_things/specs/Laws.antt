@@ -1,7 +1,7 @@
 -- What nodes show after one change.
 use Rattle.std.specs.Prelude.{◌≡◌, ℕ, ◌+◌, ◌<◌, List, Option, Some, length, slice_set}
-use Rattle.ec_nodes.specs.Held.{if_at}
-use Rattle.ec_nodes.specs.declared.key.Key.{Key}
+use Rattle.ec_world.specs.Held.{if_at}
+use Rattle.ec_world.specs.declared.key.Key.{Key}
 use Rattle.ec_things.specs.Changes.{PutsGlobals}
 use Rattle.ec_things.specs.Shows.{Shows}
 use Rattle.ec_things.specs.Store.{Store}

@@ -1,6 +1,6 @@
 -- When nodes show a world: each object and each activation of it stands at its place as words, and nothing else stands anywhere.
 use Rattle.std.specs.Prelude.{◌≡◌, ℕ, ◌+◌, List, Option, Some, slice_get}
-use Rattle.ec_nodes.specs.declared.key.Key.{Key}
+use Rattle.ec_world.specs.declared.key.Key.{Key}
 use Rattle.ec_things.specs.Held.{Held}
 use Rattle.ec_things.specs.Store.{Store, Stands, Tidy}
 use Rattle.ec_things.specs.Things.{ShowsThings, Thing, things_of}

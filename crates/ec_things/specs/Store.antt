@@ -7,9 +7,9 @@ use Rattle.ec_world.specs.declared.class.ClassNo.{ClassNo}
 use Rattle.ec_monitors.specs.declared.record.MonitorRec.{MonitorRec}
 use Rattle.ec_world.specs.declared.node.Kind.{Kind}
 use Rattle.ec_world.specs.Group.{Has}
-use Rattle.ec_nodes.specs.Held.{Distinct}
-use Rattle.ec_nodes.specs.Words.{StandsFor, text_bytes}
-use Rattle.ec_nodes.specs.declared.key.Key.{Key}
+use Rattle.ec_world.specs.Held.{Distinct}
+use Rattle.ec_world.specs.Words.{StandsFor, text_bytes}
+use Rattle.ec_world.specs.declared.key.Key.{Key}
 
 -- what is kept of an owner of blocks: the object at whose place it is, of an object itself and of an activation the one that it is on;
 -- of an object also how many fields or elements it has, its class, whether it is fixed, and its monitor; an activation has none of these

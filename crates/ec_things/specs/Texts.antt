@@ -1,8 +1,8 @@
 -- The texts that a world wants at a node, and those that are new there.
 use Rattle.std.specs.Prelude.{◌≡◌, ◌⊎◌, ℕ, ◌↔◌, List, Option, Some}
-use Rattle.ec_nodes.specs.Held.{Distinct}
-use Rattle.ec_nodes.specs.Words.{text_bytes}
-use Rattle.ec_nodes.specs.declared.key.Key.{Key}
+use Rattle.ec_world.specs.Held.{Distinct}
+use Rattle.ec_world.specs.Words.{text_bytes}
+use Rattle.ec_world.specs.declared.key.Key.{Key}
 use Rattle.ec_things.specs.Store.{Store}
 use Rattle.ec_things.specs.Things.{Thing}
 use Rattle.ec_world.specs.Group.{Has}

@@ -8,9 +8,9 @@ use Rattle.ec_world.specs.declared.class.ClassNo.{ClassNo}
 use Rattle.ec_world.specs.declared.world.World.{World}
 use Rattle.ec_world.specs.Objects.{object_at}
 use Rattle.ec_world.specs.declared.node.Kind.{Kind}
-use Rattle.ec_nodes.specs.declared.key.Key.{Key}
-use Rattle.ec_nodes.specs.declared.key.Key.TheVariants.{Object, Frame}
-use Rattle.ec_nodes.specs.Things.{activation_at, blocks_of, in_order}
+use Rattle.ec_world.specs.declared.key.Key.{Key}
+use Rattle.ec_world.specs.declared.key.Key.TheVariants.{Object, Frame}
+use Rattle.ec_world.specs.Things.{activation_at, blocks_of, in_order}
 use Rattle.ec_things.specs.Store.{Store, Owned, StandsAt, word_of, KeptRow, Grown, Tidy}
 
 -- an object or an activation, as a node keeps it

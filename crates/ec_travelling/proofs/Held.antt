@@ -1,11 +1,11 @@
 -- What is held of all that stays, where other owners travel or stand elsewhere.
 use Rattle.std.proofs.Common.{◌≡◌, ℕ, zero, suc, ◌+◌, List, Option, Some, None, refl, ap, ◌∙◌, arith}
 use Rattle.std.specs.Prelude.{Bool, slice_get, if◌then◌else◌}
-use Rattle.ec_nodes.proofs.Procs.{activation_is}
-use Rattle.ec_nodes.specs.Held.{if_at, total}
-use Rattle.ec_nodes.specs.Things.{in_process}
-use Rattle.ec_nodes.specs.declared.key.Key.{Key}
-use Rattle.ec_nodes.specs.declared.key.Key.TheVariants.{Object, Frame}
+use Rattle.ec_world.proofs.Procs.{activation_is}
+use Rattle.ec_world.specs.Held.{if_at, total}
+use Rattle.ec_world.specs.Things.{in_process}
+use Rattle.ec_world.specs.declared.key.Key.{Key}
+use Rattle.ec_world.specs.declared.key.Key.TheVariants.{Object, Frame}
 use Rattle.ec_things.specs.Things.{Thing, frame_if, object_if, object_thing, things_of}
 use Rattle.ec_travelling.proofs.Totals.{total_but, total_same}
 use Rattle.ec_travelling.specs.Travelling.{HeldBut, Turned, frame_weight, object_weight, process_weight, weight_but}

@@ -2,12 +2,12 @@
 use Rattle.std.proofs.Common.{◌≡◌, ◌≢◌, ℕ, zero, suc, ◌+◌, Option, Some, None, refl, sym, ap, ◌∙◌, subst, arith, ⊎_elim}
 use Rattle.std.specs.Prelude.{Bool, true, false, if◌then◌else◌, slice_get, slice_set}
 use Rattle.ec_base.proofs.Lists.{get_set_other}
-use Rattle.ec_nodes.proofs.Keys.{same_or_not}
-use Rattle.ec_nodes.proofs.Procs.{total_set}
-use Rattle.ec_nodes.specs.Held.{if_at, total}
-use Rattle.ec_nodes.specs.Things.{activation_at}
-use Rattle.ec_nodes.specs.declared.key.Key.{Key}
-use Rattle.ec_nodes.specs.declared.key.Key.TheVariants.{Frame, Object}
+use Rattle.ec_world.proofs.Keys.{same_or_not}
+use Rattle.ec_world.proofs.Procs.{total_set}
+use Rattle.ec_world.specs.Held.{if_at, total}
+use Rattle.ec_world.specs.Things.{activation_at}
+use Rattle.ec_world.specs.declared.key.Key.{Key}
+use Rattle.ec_world.specs.declared.key.Key.TheVariants.{Frame, Object}
 use Rattle.ec_things.proofs.Same.{same_things}
 use Rattle.ec_things.specs.Shows.{Shows}
 use Rattle.ec_things.specs.Store.{Owned}

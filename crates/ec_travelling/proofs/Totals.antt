@@ -1,7 +1,7 @@
 -- Sums of two functions that agree on all items of a list, or on all but one.
 use Rattle.std.proofs.Common.{◌≡◌, ◌≢◌, ℕ, zero, suc, ◌+◌, List, [], ◌∷◌, Some, refl, arith}
 use Rattle.std.specs.Prelude.{slice_get}
-use Rattle.ec_nodes.specs.Held.{total}
+use Rattle.ec_world.specs.Held.{total}
 
 module _ {A : Type 0} (f g : ℕ → A → ℕ) where
   -- they agree on each item

@@ -1,8 +1,8 @@
 -- One thing takes off, or lands.
 use Rattle.std.proofs.Common.{◌≡◌, ℕ, ◌+◌, Option, Some, None, refl, ap, ◌∙◌, arith}
 use Rattle.std.specs.Prelude.{Bool, true, false, if◌then◌else◌}
-use Rattle.ec_nodes.specs.Held.{if_at}
-use Rattle.ec_nodes.specs.declared.key.Key.{Key}
+use Rattle.ec_world.specs.Held.{if_at}
+use Rattle.ec_world.specs.declared.key.Key.{Key}
 use Rattle.ec_things.proofs.World.{if_none, put_one}
 use Rattle.ec_things.specs.Store.{Store}
 use Rattle.ec_things.specs.Things.{IsAt, NodePut, Puts, Thing, ThingPut, size_of, things_of}

@@ -1,7 +1,7 @@
 -- What nodes show while objects and activations travel between them.
 use Rattle.std.specs.Prelude.{◌≡◌, ℕ, suc, ◌↔◌, Bool, true, false, Option, Some, None, slice_get, slice_set}
-use Rattle.ec_nodes.specs.declared.key.Key.{Key}
-use Rattle.ec_nodes.specs.declared.key.Key.TheVariants.{Object}
+use Rattle.ec_world.specs.declared.key.Key.{Key}
+use Rattle.ec_world.specs.declared.key.Key.TheVariants.{Object}
 use Rattle.ec_things.specs.Shows.{ShowsWorld}
 use Rattle.ec_things.specs.Store.{Store}
 use Rattle.ec_things.specs.Things.{NodePut, Puts, Thing, things_of}

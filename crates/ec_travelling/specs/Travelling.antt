@@ -1,8 +1,8 @@
 -- When nodes show a world but for what travels: what has been taken away at one node and not yet put at another.
 use Rattle.std.specs.Prelude.{◌≡◌, ◌≢◌, ℕ, suc, ◌+◌, Bool, false, if◌then◌else◌, Option, None}
-use Rattle.ec_nodes.specs.Held.{if_at, total}
-use Rattle.ec_nodes.specs.declared.key.Key.{Key}
-use Rattle.ec_nodes.specs.declared.key.Key.TheVariants.{Object, Frame}
+use Rattle.ec_world.specs.Held.{if_at, total}
+use Rattle.ec_world.specs.declared.key.Key.{Key}
+use Rattle.ec_world.specs.declared.key.Key.TheVariants.{Object, Frame}
 use Rattle.ec_things.specs.Shows.{Shows}
 use Rattle.ec_things.specs.Store.{Store}
 use Rattle.ec_things.specs.Things.{Thing, object_thing, things_of}

@@ -16,3 +16,15 @@ pub mod Placement
 pub mod Members
 pub mod Rounds
 pub mod Searching
+pub mod Keys
+pub mod Procs
+pub mod Counting
+pub mod Acts
+pub mod Objects
+pub mod Processes
+pub mod DoingsLemmas
+pub mod Worlds
+pub mod Queues
+pub mod Stacks
+pub mod Following
+pub mod Advancing

@@ -15,3 +15,11 @@ pub mod Run
 pub mod Agree
 pub mod Simulation
 pub mod Search
+pub mod Words
+pub mod Things
+pub mod Held
+pub mod Waiting
+pub mod Laws
+pub mod Follows
+pub mod Same
+pub mod Turning

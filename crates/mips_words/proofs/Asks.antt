@@ -11,7 +11,7 @@ use Rattle.ec_micro.specs.Speaks.{AskLaw, Ends, HasAt, JumpLaw, words_end}
 use Rattle.ec_micro.specs.declared.step.Question.{Question}
 use Rattle.ec_micro.specs.declared.step.Relation.{Relation}
 use Rattle.ec_micro.specs.declared.step.Relation.TheVariants.{Less, Same}
-use Rattle.ec_operators.specs.Same.{is_same_truth}
+use Rattle.ec_world.specs.Same.{is_same_truth}
 use Rattle.ec_target.specs.Code.{pc_of}
 use Rattle.mips_isa.specs.declared.field.Sixteen.{Sixteen}
 use Rattle.mips_isa.specs.declared.field.Target.{Target}

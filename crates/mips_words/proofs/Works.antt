@@ -15,7 +15,7 @@ use Rattle.ec_micro.specs.declared.step.Relation.{Relation}
 use Rattle.ec_micro.specs.declared.step.Relation.TheVariants.{Less, Same}
 use Rattle.ec_micro.specs.declared.step.Source.{Source}
 use Rattle.ec_micro.specs.declared.step.Source.TheVariants as source
-use Rattle.ec_operators.specs.Same.{is_same_truth}
+use Rattle.ec_world.specs.Same.{is_same_truth}
 use Rattle.ec_target.proofs.Running.{leads_first, leads_one}
 use Rattle.ec_target.specs.Code.{pc_of, word_at}
 use Rattle.mips_isa.specs.Parts.{low_of}

@@ -11,7 +11,7 @@ use Rattle.ec_micro.specs.declared.step.Relation.{Relation}
 use Rattle.ec_micro.specs.declared.step.Relation.TheVariants.{Less, Same}
 use Rattle.ec_micro.specs.declared.step.Source.{Source}
 use Rattle.ec_micro.specs.declared.step.Source.TheVariants.{Home, Word}
-use Rattle.ec_operators.specs.Same.{is_same_truth}
+use Rattle.ec_world.specs.Same.{is_same_truth}
 use Rattle.rv_isa.specs.declared.field.Register.{Register}
 use Rattle.rv_isa.specs.declared.field.Twelve.{Twelve}
 use Rattle.rv_isa.specs.declared.instr.Immediate.TheVariants.{Slti, Sltiu, Xori}

@@ -11,7 +11,7 @@ use Rattle.ec_micro.specs.Speaks.{Ends, HasAt, Sees, words_end}
 use Rattle.ec_micro.specs.declared.step.Question.{Question}
 use Rattle.ec_micro.specs.declared.step.Relation.{Relation}
 use Rattle.ec_micro.specs.declared.step.Relation.TheVariants.{Less, Same}
-use Rattle.ec_operators.specs.Same.{is_same_truth}
+use Rattle.ec_world.specs.Same.{is_same_truth}
 use Rattle.ec_target.proofs.Running.{leads_append, leads_first, leads_more, leads_one}
 use Rattle.ec_target.specs.Code.{pc_of, word_at}
 use Rattle.rv_isa.specs.Parts.{high_of, low_of}

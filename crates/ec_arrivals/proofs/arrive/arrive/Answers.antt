@@ -9,7 +9,7 @@ use Rattle.ec_arrivals.specs.Carried.{carried}
 use Rattle.ec_code.specs.declared.code.Live.{Live}
 use Rattle.ec_node_frames.specs.Loops.{IsFilled}
 use Rattle.ec_node_frames.specs.declared.frames.Headings.{Headings}
-use Rattle.ec_nodes.specs.declared.key.Key.TheVariants.{Frame}
+use Rattle.ec_world.specs.declared.key.Key.TheVariants.{Frame}
 use Rattle.ec_objects.specs.Values.{HasWords}
 use Rattle.ec_stop_tables.specs.declared.table.OperationTable.{OperationTable}
 use Rattle.ec_stop_tables.specs.declared.table.StopEntry.{StopEntry}

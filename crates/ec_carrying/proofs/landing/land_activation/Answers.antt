@@ -8,7 +8,7 @@ use Rattle.ec_carrying.proofs.Texts.{no_text_fits}
 use Rattle.ec_carrying.proofs.landing.land_activation.Goals as goal
 use Rattle.ec_cluster.proofs.Answered.{on_ok_two}
 use Rattle.ec_cluster.specs.Cluster.{frame_of}
-use Rattle.ec_nodes.specs.declared.key.Key.TheVariants.{Frame}
+use Rattle.ec_world.specs.declared.key.Key.TheVariants.{Frame}
 use Rattle.ec_objects.specs.Values.{TextsFit}
 use Rattle.ec_stores.specs.Node.{store_of}
 use Rattle.ec_things.specs.Store.{Store}

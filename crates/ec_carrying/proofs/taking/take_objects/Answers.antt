@@ -3,7 +3,7 @@ use Rattle.std.proofs.Common.{arith}
 use Rattle.std.proofs.lemmas.List.{length-map}
 use Rattle.ec_carrying.proofs.Leaving.{all_taken, first_is_kept, none_taken, one_taken}
 use Rattle.ec_carrying.proofs.taking.take_objects.Goals as goal
-use Rattle.ec_nodes.specs.declared.key.Key.TheVariants.{Object}
+use Rattle.ec_world.specs.declared.key.Key.TheVariants.{Object}
 use Rattle.ec_parcels.proofs.Rising.{map_get}
 use Rattle.ec_parcels.specs.Owners.{object_keys}
 use Rattle.ec_wire.specs.declared.parcel.ObjectPart.{ObjectPart}

@@ -5,7 +5,7 @@ use Rattle.ec_cluster.specs.Cluster.{place}
 use Rattle.ec_cluster.specs.Steps.{Nothing}
 use Rattle.ec_cluster_frames.proofs.Stacks.{frame_went}
 use Rattle.ec_cluster_frames.proofs.frames.close.Goals as goal
-use Rattle.ec_nodes.specs.declared.key.Key.TheVariants.{Frame}
+use Rattle.ec_world.specs.declared.key.Key.TheVariants.{Frame}
 use Rattle.ec_stores.specs.Node.{store_of}
 use Rattle.ec_things.specs.Things.{Puts}
 

@@ -13,8 +13,8 @@ use Rattle.ec_fullness.proofs.fullness.fullness.Goals as goal
 use Rattle.ec_fullness.specs.Fullness.{StaysPut}
 use Rattle.ec_fullness.specs.Told.{Tells, TellsOfAll, TellsOfMaking, TellsOfOne, taken}
 use Rattle.ec_node_frames.specs.Beginning.{first_values}
-use Rattle.ec_nodes.specs.Things.{class_blocks}
-use Rattle.ec_nodes.specs.declared.room.Lack.{Lack}
+use Rattle.ec_world.specs.Things.{class_blocks}
+use Rattle.ec_world.specs.declared.room.Lack.{Lack}
 use Rattle.ec_stop_tables.specs.declared.table.OperationTable.{OperationTable}
 use Rattle.ec_stop_tables.specs.declared.table.StopEntry.{StopEntry}
 use Rattle.ec_system.specs.Acting.{Asks}

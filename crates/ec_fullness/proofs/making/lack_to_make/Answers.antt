@@ -5,7 +5,7 @@ use Rattle.ec_cluster.proofs.Answered.{if_ok}
 use Rattle.ec_fullness.proofs.Telling.{made_told}
 use Rattle.ec_fullness.proofs.making.lack_to_make.Goals as goal
 use Rattle.ec_fullness.specs.Told.{Tells}
-use Rattle.ec_nodes.specs.Things.{class_blocks}
+use Rattle.ec_world.specs.Things.{class_blocks}
 use Rattle.ec_world.specs.declared.class.ClassNo.TheVariants.{Made}
 use Rattle.ec_world.specs.declared.value.Value.{Value}
 

@@ -3,7 +3,7 @@ use Rattle.ec_legs.proofs.Keeping.{frame_kept, frame_written, owns_word}
 use Rattle.ec_legs.proofs.Registers.{rests_where}
 use Rattle.ec_legs.proofs.machine.rest_at.Goals as goal
 use Rattle.ec_legs.specs.Machines.{IsUnsaved}
-use Rattle.ec_nodes.specs.declared.key.Key.TheVariants.{Frame}
+use Rattle.ec_world.specs.declared.key.Key.TheVariants.{Frame}
 use Rattle.ec_stop_tables.specs.Addresses.{address_in}
 use Rattle.ec_stores.specs.Node.{store_of}
 

@@ -3,7 +3,7 @@ use Rattle.ec_legs.proofs.Keeping.{frame_kept, owns_word}
 use Rattle.ec_legs.proofs.Registers.{saves_more, saves_none}
 use Rattle.ec_legs.proofs.machine.save.Goals as goal
 use Rattle.ec_legs.specs.Machines.{IsUnsaved, Saves}
-use Rattle.ec_nodes.specs.declared.key.Key.TheVariants.{Frame}
+use Rattle.ec_world.specs.declared.key.Key.TheVariants.{Frame}
 use Rattle.ec_stores.specs.Node.{store_of}
 
 pub read_reg-word-requires : goal.read_reg-word-requires

@@ -1,7 +1,7 @@
 -- The bytes of the texts so far, and those of the texts that are left, are all.
 use Rattle.std.proofs.Common.{◌^◌, ◌≤◌, Option, Some, None, arith}
 use Rattle.std.specs.Prelude.{IfNone}
-use Rattle.ec_nodes.specs.Words.{text_bytes}
+use Rattle.ec_world.specs.Words.{text_bytes}
 use Rattle.ec_loading.proofs.Rooms.{next_bytes}
 use Rattle.ec_loading.proofs.load.bytes_in.Goals as goal
 

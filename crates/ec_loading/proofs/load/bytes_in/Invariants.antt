@@ -1,5 +1,5 @@
 use Rattle.std.proofs.Common.{◌≡◌, ◌+◌, drop}
-use Rattle.ec_nodes.specs.Words.{text_bytes}
+use Rattle.ec_world.specs.Words.{text_bytes}
 use Rattle.ec_loading.proofs.load.bytes_in.Given as goal
 
 abbrev pub invariant-loop-i : goal.invariant-loop-i

@@ -4,8 +4,8 @@ use Rattle.std.proofs.lemmas.Option.{slice_get-get_or}
 use Rattle.ec_loading.proofs.Rooms.{none_lacks, one_has_room}
 use Rattle.ec_loading.proofs.load.first_lack.Goals as goal
 use Rattle.ec_loading.specs.Loading.{counted}
-use Rattle.ec_nodes.specs.Held.{Fits}
-use Rattle.ec_nodes.specs.declared.room.Needs.{Needs}
+use Rattle.ec_world.specs.Held.{Fits}
+use Rattle.ec_world.specs.declared.room.Needs.{Needs}
 
 pub loop-k-init : goal.loop-k-init
 loop-k-init c = none_lacks (counted c.args.bytes) c.args.specs.now

@@ -4,7 +4,7 @@ use Rattle.std.specs.Prelude.{OnOk}
 use Rattle.ec_monitors.specs.declared.record.MonitorRec.{MonitorRec}
 use Rattle.ec_mover.proofs.objects.put_object.Goals as goal
 use Rattle.ec_mover.specs.Objects.{object_of}
-use Rattle.ec_nodes.specs.declared.key.Key.TheVariants.{Object}
+use Rattle.ec_world.specs.declared.key.Key.TheVariants.{Object}
 use Rattle.ec_objects.specs.Values.{TextsFit}
 use Rattle.ec_stores.specs.Node.{store_of}
 use Rattle.ec_things.specs.Texts.{GetsTexts}

@@ -7,7 +7,7 @@ use Rattle.ec_node_frames.proofs.Beginning.{frame_begins, texts_come}
 use Rattle.ec_node_frames.proofs.begin.begin_frame.Goals as goal
 use Rattle.ec_node_frames.specs.Beginning.{BeginsFrame, HasEntry, first_held, first_value, first_values}
 use Rattle.ec_node_frames.specs.Loops.{IsFilled}
-use Rattle.ec_nodes.specs.declared.key.Key.TheVariants.{Frame}
+use Rattle.ec_world.specs.declared.key.Key.TheVariants.{Frame}
 use Rattle.ec_objects.specs.Values.{HasWords, TextsFit}
 use Rattle.ec_stop_tables.specs.declared.table.OperationTable.{OperationTable}
 use Rattle.ec_stores.specs.Changes.{PlacedFrame}

@@ -2,7 +2,7 @@
 use Rattle.std.proofs.Common.{lit<}
 use Rattle.ec_node_frames.proofs.Shown.{frame_kept, owns_word}
 use Rattle.ec_node_frames.proofs.finish.end_action.Goals as goal
-use Rattle.ec_nodes.specs.declared.key.Key.TheVariants.{Frame}
+use Rattle.ec_world.specs.declared.key.Key.TheVariants.{Frame}
 use Rattle.ec_stores.specs.Node.{store_of}
 
 pub set_frame_word-requires : goal.set_frame_word-requires

@@ -3,7 +3,7 @@ use Rattle.std.proofs.Common.{◌<◌, ap, ◌∙◌, subst}
 use Rattle.ec_faithful.specs.Frames.{home_word}
 use Rattle.ec_node_frames.proofs.Shown.{frame_kept}
 use Rattle.ec_node_frames.proofs.finish.give.Goals as goal
-use Rattle.ec_nodes.specs.declared.key.Key.TheVariants.{Frame}
+use Rattle.ec_world.specs.declared.key.Key.TheVariants.{Frame}
 use Rattle.ec_stores.specs.Changes.{WritesWord}
 use Rattle.ec_stores.specs.Node.{store_of}
 

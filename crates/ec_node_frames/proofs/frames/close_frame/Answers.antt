@@ -2,7 +2,7 @@
 use Rattle.ec_node_frames.proofs.Changes.{none_got}
 use Rattle.ec_node_frames.proofs.Shown.{is_here}
 use Rattle.ec_node_frames.proofs.frames.close_frame.Goals as goal
-use Rattle.ec_nodes.specs.declared.key.Key.TheVariants.{Frame}
+use Rattle.ec_world.specs.declared.key.Key.TheVariants.{Frame}
 use Rattle.ec_stores.proofs.Putting.{closed_puts}
 use Rattle.ec_stores.specs.Node.{store_of}
 use Rattle.ec_things.specs.Texts.{NoTexts}

@@ -1,7 +1,7 @@
 -- The words that were made stand for the fields.
 use Rattle.std.proofs.Common.{◌≡◌, ℕ, List, Some, None, sym, ◌∙◌, subst}
 use Rattle.std.specs.Prelude.{length, Ok, Err, OnOk, Result}
-use Rattle.ec_nodes.specs.declared.key.Key.TheVariants.{Object}
+use Rattle.ec_world.specs.declared.key.Key.TheVariants.{Object}
 use Rattle.ec_objects.proofs.Creating.{object_comes, object_texts}
 use Rattle.ec_objects.proofs.objects.create_object.Goals as goal
 use Rattle.ec_objects.specs.Values.{HasWords}

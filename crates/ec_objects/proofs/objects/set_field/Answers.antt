@@ -1,6 +1,6 @@
 -- The word that was made stands for the value.
 use Rattle.std.proofs.Common.{◌∙◌}
-use Rattle.ec_nodes.specs.declared.key.Key.TheVariants.{Object}
+use Rattle.ec_world.specs.declared.key.Key.TheVariants.{Object}
 use Rattle.ec_objects.proofs.Setting.{field_put, field_texts}
 use Rattle.ec_objects.proofs.objects.set_field.Goals as goal
 use Rattle.ec_stores.specs.Node.{store_of}

@@ -1,6 +1,6 @@
 -- A new node has no activation.
 use Rattle.std.proofs.Common.{◌≡◌, None, sym, subst}
-use Rattle.ec_nodes.specs.declared.key.Key.TheVariants.{Frame}
+use Rattle.ec_world.specs.declared.key.Key.TheVariants.{Frame}
 use Rattle.ec_parcel_trials.proofs.trials.word_after.Goals as goal
 use Rattle.ec_stores.specs.Node.{NodeData, store_of}
 

@@ -1,7 +1,7 @@
 -- Nothing is there yet, and no field is a text.
 use Rattle.ec_objects.proofs.Creating.{no_texts_fit}
 use Rattle.ec_objects.proofs.objects.tests.an_object_has_its_words.Goals as goal
-use Rattle.ec_nodes.specs.declared.key.Key.TheVariants.{Object}
+use Rattle.ec_world.specs.declared.key.Key.TheVariants.{Object}
 use Rattle.ec_stores.specs.Node.{store_of}
 
 pub create_object-requires-clause-new : goal.create_object-requires-clause-new

@@ -1,5 +1,5 @@
 use Rattle.std.proofs.Common.{arith, refl, subst}
-use Rattle.ec_nodes.specs.declared.key.Key.TheVariants.{Frame as OfFrame}
+use Rattle.ec_world.specs.declared.key.Key.TheVariants.{Frame as OfFrame}
 use Rattle.ec_stores.specs.Changes.{FirstBlock}
 use Rattle.ec_stores.specs.Inside.{data_of}
 use Rattle.ec_stores.specs.Node.{NodeData, owned_frame, store_of}

@@ -1,5 +1,5 @@
 use Rattle.std.proofs.Common.{◌≡◌, ℕ, List, None, refl, sym, ◌∙◌, subst}
-use Rattle.ec_nodes.specs.declared.key.Key.TheVariants.{Object as OfObject}
+use Rattle.ec_world.specs.declared.key.Key.TheVariants.{Object as OfObject}
 use Rattle.ec_stores.specs.Changes.{PlacedObject}
 use Rattle.ec_stores.specs.Inside.{data_of}
 use Rattle.ec_stores.specs.Node.{Laid, NodeData, row_of, store_of}

@@ -1,5 +1,5 @@
 use Rattle.std.proofs.Common.{arith}
-use Rattle.ec_nodes.specs.declared.key.Key.TheVariants.{Object as OfObject}
+use Rattle.ec_world.specs.declared.key.Key.TheVariants.{Object as OfObject}
 use Rattle.ec_stores.specs.Inside.{data_of}
 use Rattle.ec_stores.specs.Node.{object_in, owned_object}
 use Rattle.ec_stores.proofs.Comings.{found_is}

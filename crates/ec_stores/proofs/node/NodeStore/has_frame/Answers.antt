@@ -1,7 +1,7 @@
 use Rattle.std.proofs.Common.{◌≡◌, None, ap, ◌∙◌, subst}
 use Rattle.std.specs.Bool.{OnFalse}
 use Rattle.std.specs.Prelude.{◌↔◌, IsSome, IsTrue, is_some}
-use Rattle.ec_nodes.specs.declared.key.Key.TheVariants.{Frame as OfFrame}
+use Rattle.ec_world.specs.declared.key.Key.TheVariants.{Frame as OfFrame}
 use Rattle.ec_stores.specs.Inside.{data_of}
 use Rattle.ec_stores.specs.Node.{NodeData, owned_frame, row_of}
 use Rattle.ec_stores.specs.Tables.{frame_in}

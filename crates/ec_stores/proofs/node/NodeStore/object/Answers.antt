@@ -1,5 +1,5 @@
 use Rattle.std.proofs.Common.{refl, subst}
-use Rattle.ec_nodes.specs.declared.key.Key.TheVariants.{Object as OfObject}
+use Rattle.ec_world.specs.declared.key.Key.TheVariants.{Object as OfObject}
 use Rattle.ec_stores.specs.Changes.{IsObject}
 use Rattle.ec_stores.specs.Inside.{data_of}
 use Rattle.ec_stores.specs.Node.{NodeData, object_in, owned_object, store_of}

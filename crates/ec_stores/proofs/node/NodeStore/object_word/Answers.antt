@@ -2,7 +2,7 @@ use Rattle.std.proofs.Common.{◌≡◌, ◌<◌, ◌/◌, ◌%◌, List, ℕ, l
 use Rattle.std.specs.List.{AllByRecursion}
 use Rattle.std.specs.Prelude.{slice_get}
 use Rattle.ec_memory.specs.Words.{block_word_at}
-use Rattle.ec_nodes.specs.declared.key.Key.TheVariants.{Object as OfObject}
+use Rattle.ec_world.specs.declared.key.Key.TheVariants.{Object as OfObject}
 use Rattle.ec_stores.specs.Changes.{OwnsWord, WordIs}
 use Rattle.ec_stores.specs.Inside.{data_of}
 use Rattle.ec_stores.specs.Memory.{held, kind_of, word_at}

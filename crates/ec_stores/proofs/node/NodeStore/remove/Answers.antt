@@ -1,6 +1,6 @@
 use Rattle.std.proofs.Common.{◌<◌, List, ℕ, length, refl, sym, subst}
 use Rattle.std.specs.List.{AllByRecursion}
-use Rattle.ec_nodes.specs.declared.key.Key.TheVariants.{Object as OfObject}
+use Rattle.ec_world.specs.declared.key.Key.TheVariants.{Object as OfObject}
 use Rattle.ec_world.specs.Group.{Has}
 use Rattle.ec_stores.specs.Changes.{Closed}
 use Rattle.ec_stores.specs.Inside.{data_of}

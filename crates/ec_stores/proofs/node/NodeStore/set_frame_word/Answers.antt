@@ -2,7 +2,7 @@ use Rattle.std.proofs.Common.{◌≡◌, ◌/◌, ◌%◌, ℕ, Some, sym, subst
 use Rattle.std.specs.Prelude.{slice_get}
 use Rattle.ec_base.proofs.Lists.{get_there}
 use Rattle.ec_memory.specs.Words.{block_word_at}
-use Rattle.ec_nodes.specs.declared.key.Key.TheVariants.{Frame as OfFrame}
+use Rattle.ec_world.specs.declared.key.Key.TheVariants.{Frame as OfFrame}
 use Rattle.ec_stores.specs.Changes.{OwnsWord, WritesWord}
 use Rattle.ec_stores.specs.Inside.{data_of}
 use Rattle.ec_stores.specs.Memory.{kind_of, WritesAt}

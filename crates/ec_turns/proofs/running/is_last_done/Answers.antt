@@ -1,6 +1,0 @@
-use Rattle.std.proofs.Common.{arith}
-use Rattle.ec_turns.proofs.Advancing.{has_top}
-use Rattle.ec_turns.proofs.running.is_last_done.Goals as goal
-
-pub last-requires : goal.last-requires
-last-requires g c = has_top c.args.activations.now (omega arith)

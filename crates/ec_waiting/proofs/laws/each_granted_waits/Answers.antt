@@ -1,5 +1,0 @@
-use Rattle.ec_waiting.proofs.Worlds.{granted_waits}
-use Rattle.ec_waiting.proofs.laws.each_granted_waits.Goals as goal
-
-pub returns : goal.returns
-returns g c = granted_waits g.A.Activation.meaning

@@ -1,5 +1,0 @@
-use Rattle.ec_waiting.proofs.Queues.{queues_tell}
-use Rattle.ec_waiting.proofs.laws.each_queue_tells.Goals as goal
-
-pub returns : goal.returns
-returns g c = queues_tell

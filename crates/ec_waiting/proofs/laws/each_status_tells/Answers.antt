@@ -1,5 +1,0 @@
-use Rattle.ec_waiting.proofs.Queues.{statuses_tell}
-use Rattle.ec_waiting.proofs.laws.each_status_tells.Goals as goal
-
-pub returns : goal.returns
-returns g c = statuses_tell

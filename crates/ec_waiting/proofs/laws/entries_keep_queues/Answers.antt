@@ -1,5 +1,0 @@
-use Rattle.ec_waiting.proofs.Worlds.{entries_keep}
-use Rattle.ec_waiting.proofs.laws.entries_keep_queues.Goals as goal
-
-pub returns : goal.returns
-returns g c = entries_keep g.A.Activation.meaning

@@ -1,5 +1,0 @@
-use Rattle.ec_waiting.proofs.Queues.{unblocked_nowhere}
-use Rattle.ec_waiting.proofs.laws.unblocked_wait_nowhere.Goals as goal
-
-pub returns : goal.returns
-returns g c = unblocked_nowhere

@@ -1,4 +1,0 @@
-//! Who waits for a monitor: its queues tell what the statuses of processes tell, in each world of each run.
-#![tactic(auto)]
-
-pub mod laws;
