@@ -3,7 +3,7 @@ ghost use Rattle.std.specs.Prelude.{◌≡◌};
 ghost use Rattle.ec_world.specs.Run.{statuses_of};
 
 use ec_code::activation::CodeActivation;
-use ec_driver::driver::{Driver, Refusal};
+use ec_report::driver::{Driver, Refusal};
 use ec_stepping::code::Code;
 use ec_world::running::Running;
 use ec_world::process::ProcStatus;

@@ -4,7 +4,7 @@ ghost use Rattle.std.specs.Prelude.{◌≤◌, length};
 use crate::driver::{CodeRun, Stepwise};
 use ec_base::list::Seq;
 use ec_code::code::Parts;
-use ec_driver::drive::{Ended, drive};
+use ec_report::drive::{Ended, drive};
 use ec_lowering::lower::lower;
 use ec_meaning::source::Program;
 use ec_meaning::types::kind_of;

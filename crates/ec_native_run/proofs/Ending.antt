@@ -8,9 +8,9 @@ use Rattle.ec_code.specs.Activations.{code_meaning, code_silent}
 use Rattle.ec_code.specs.declared.code.Parts.{Parts}
 use Rattle.ec_compile.proofs.Texts.{text_is_accepted}
 use Rattle.ec_compile.specs.Texts.{IsOfText}
-use Rattle.ec_driver.proofs.Coming.{end_here, run_ends}
-use Rattle.ec_driver.specs.Driver.{EndsAs}
-use Rattle.ec_driver.specs.Progress.{Progress}
+use Rattle.ec_report.proofs.Coming.{end_here, run_ends}
+use Rattle.ec_report.specs.Driver.{EndsAs}
+use Rattle.ec_report.specs.Progress.{Progress}
 use Rattle.ec_loading.specs.Loading.{CanLoad, LacksFirst, first_needs}
 use Rattle.ec_loading.specs.Worlds.{world_first}
 use Rattle.ec_lowered.specs.Lowered.{IsLowered}

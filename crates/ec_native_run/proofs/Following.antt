@@ -8,11 +8,11 @@ use Rattle.ec_cluster.specs.declared.cluster.Images.{Images}
 use Rattle.ec_code.specs.Activations.{code_meaning, code_silent}
 use Rattle.ec_code.specs.declared.activation.CodeActivation.{CodeActivation}
 use Rattle.ec_code.specs.declared.code.Parts.{Parts}
-use Rattle.ec_driver.proofs.Coming.{comes_first, comes_next, entry_is, run_more, run_start_is}
-use Rattle.ec_driver.specs.Driver.{IsDone, IsRefused}
-use Rattle.ec_driver.specs.Progress.{IsStep, Progress, advanced, at_start}
-use Rattle.ec_driver.specs.declared.driver.Refusal.{Refusal}
-use Rattle.ec_driver.specs.declared.step.Step.TheVariants.{Does}
+use Rattle.ec_report.proofs.Coming.{comes_first, comes_next, entry_is, run_more, run_start_is}
+use Rattle.ec_report.specs.Driver.{IsDone, IsRefused}
+use Rattle.ec_report.specs.Progress.{IsStep, Progress, advanced, at_start}
+use Rattle.ec_report.specs.declared.driver.Refusal.{Refusal}
+use Rattle.ec_report.specs.declared.step.Step.TheVariants.{Does}
 use Rattle.ec_kernel.specs.Acts.{FoundFull}
 use Rattle.ec_loading.specs.Loaded.{Loaded}
 use Rattle.ec_loading.specs.Worlds.{world_first}

@@ -3,11 +3,11 @@ use Rattle.std.specs.Prelude.{◌≡◌, ℕ, List, length, Some}
 use Rattle.ec_cluster.specs.Cluster.{CodeWorld}
 use Rattle.ec_code.specs.Activations.{code_meaning, code_silent}
 use Rattle.ec_code.specs.Typing.{Declared}
-use Rattle.ec_driver.specs.Comes.{Comes}
-use Rattle.ec_driver.specs.Driver.{HasEnded}
-use Rattle.ec_driver.specs.Progress.{Progress}
-use Rattle.ec_driver.specs.declared.driver.Refusal.{Refusal}
-use Rattle.ec_driver.specs.declared.driver.Refusal.TheVariants as refusals
+use Rattle.ec_report.specs.Comes.{Comes}
+use Rattle.ec_report.specs.Driver.{HasEnded}
+use Rattle.ec_report.specs.Progress.{Progress}
+use Rattle.ec_report.specs.declared.driver.Refusal.{Refusal}
+use Rattle.ec_report.specs.declared.driver.Refusal.TheVariants as refusals
 use Rattle.ec_loading.specs.Loaded.{Loaded}
 use Rattle.ec_loading.specs.Worlds.{world_first}
 use Rattle.ec_meaning.specs.Programs.{Source}

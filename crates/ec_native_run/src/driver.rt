@@ -4,7 +4,7 @@ ghost use Rattle.ec_native_run.specs.Following as spec;
 ghost use Rattle.ec_native_run.specs.Following.{Follows, FullNext};
 
 use crate::processes::statuses_in;
-use ec_driver::driver::{Driver, Refusal};
+use ec_report::driver::{Driver, Refusal};
 use ec_nodes_running::network::Network;
 use ec_nodes_running::turns::TurnError;
 use ec_world::node::NodeSpec;

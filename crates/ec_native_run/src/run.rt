@@ -1,7 +1,7 @@
 //! The run of the program of an accepted text.
 ghost use Rattle.std.specs.Prelude.{◌≡◌, ◌<◌, ◌-◌, ◌^◌, IfOk, IsSome, List, length};
 ghost use Rattle.ec_compile.specs.Texts.{IsOfText};
-ghost use Rattle.ec_driver.specs.Progress.{at_start};
+ghost use Rattle.ec_report.specs.Progress.{at_start};
 ghost use Rattle.ec_meaning.specs.Sources.{source_of};
 ghost use Rattle.ec_native_run.specs.Following.{Follows, ForNodes, IsReported};
 ghost use Rattle.ec_native_run.specs.Runs.{AreNodes, RunsTo, run_report};
@@ -15,7 +15,7 @@ ghost use Rattle.ec_world.specs.declared.process.ProcStatus.{ProcStatus as AStat
 use crate::driver::OnNodes;
 use crate::processes::statuses_in;
 use crate::report::{load_report, report};
-use ec_driver::drive::{Ended, drive};
+use ec_report::drive::{Ended, drive};
 use ec_loading::load::LoadError;
 use ec_meaning::source::Program;
 use ec_world::room::Lack;

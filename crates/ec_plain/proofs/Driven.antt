@@ -1,9 +1,9 @@
 -- A plain run that is driven: its start, its entries and its end.
 use Rattle.std.proofs.Common.{◌≡◌, ℕ, ◌+◌, List, [], length, refl, sym, ap, subst, ◌∙◌}
-use Rattle.ec_driver.specs.Driver.{EndsAs, HasEnded}
-use Rattle.ec_driver.specs.Progress.{IsStep, Progress, advanced, at_start}
-use Rattle.ec_driver.specs.declared.step.Step.TheVariants.{Stops, Does}
-use Rattle.ec_driver.proofs.Coming.{comes_first, comes_next, run_ends}
+use Rattle.ec_report.specs.Driver.{EndsAs, HasEnded}
+use Rattle.ec_report.specs.Progress.{IsStep, Progress, advanced, at_start}
+use Rattle.ec_report.specs.declared.step.Step.TheVariants.{Stops, Does}
+use Rattle.ec_report.proofs.Coming.{comes_first, comes_next, run_ends}
 use Rattle.ec_meaning.specs.Activations.{source_meaning}
 use Rattle.ec_meaning.specs.ClassNames.{class_name}
 use Rattle.ec_meaning.specs.Meaning.{source_silent, source_start}

@@ -1,7 +1,7 @@
 -- The worlds to which a plain run comes.
 use Rattle.std.specs.Prelude.{◌≡◌, ℕ, List}
-use Rattle.ec_driver.specs.Comes.{Comes}
-use Rattle.ec_driver.specs.Progress.{Progress}
+use Rattle.ec_report.specs.Comes.{Comes}
+use Rattle.ec_report.specs.Progress.{Progress}
 use Rattle.ec_meaning.specs.Activations.{source_meaning}
 use Rattle.ec_meaning.specs.Meaning.{source_silent, source_start}
 use Rattle.ec_meaning.specs.Programs.{Source}

@@ -3,7 +3,7 @@ ghost use Rattle.std.specs.Prelude.{◌≡◌, IfOk};
 ghost use Rattle.ec_plain.specs.Coming.{MeaningComes, NeverFull};
 ghost use Rattle.ec_world.specs.Run.{statuses_of};
 
-use ec_driver::driver::{Driver, Refusal};
+use ec_report::driver::{Driver, Refusal};
 use ec_meaning::meaning::Meaning;
 use ec_world::process::ProcStatus;
 use ec_world::run::RunEntry;

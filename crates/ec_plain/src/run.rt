@@ -9,7 +9,7 @@ ghost use Rattle.ec_world.specs.Run.{statuses_of};
 
 use crate::driver::{Plainly, statuses_in};
 use crate::report::report;
-use ec_driver::drive::{Ended, drive};
+use ec_report::drive::{Ended, drive};
 use ec_meaning::meaning::Meaning;
 use ec_meaning::source::Program;
 use ec_report::answer::Answer;

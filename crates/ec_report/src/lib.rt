@@ -1,8 +1,15 @@
 //! What is told of a run: the lines of its report and its status.
+//!
+//! The driver of runs: it does the entries of a schedule in order, and then round robin, up to the end. What is driven is a
+//! plain meaning, or a network.
 #![tactic(auto)]
 
 pub mod answer;
+pub mod course;
+pub mod drive;
+pub mod driver;
 pub mod end;
 pub mod lines;
 pub mod processes;
 pub mod status;
+pub mod step;

@@ -1,8 +1,8 @@
 use Rattle.std.proofs.Common.{sym, ap, ◌∙◌}
 use Rattle.std.proofs.Common.{arith, List, Bool}
 use Rattle.ec_world.specs.Run.{next_ready_of}
-use Rattle.ec_driver.proofs.Choosing.{step_finished, step_stuck, step_spent, step_turn}
-use Rattle.ec_driver.proofs.step.robin_step.Goals as goal
+use Rattle.ec_report.proofs.Choosing.{step_finished, step_stuck, step_spent, step_turn}
+use Rattle.ec_report.proofs.step.robin_step.Goals as goal
 
 pub returns-then-are_over : goal.returns-then-are_over
 returns-then-are_over c = step_finished c.args.statuses.now c.args.budget c.args.done c.args.last (sym c.if-are_over.ensures)

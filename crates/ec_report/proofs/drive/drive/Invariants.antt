@@ -1,6 +1,6 @@
 use Rattle.std.proofs.Common.{◌-◌, List}
 use Rattle.ec_world.specs.declared.process.ProcStatus.{ProcStatus}
-use Rattle.ec_driver.proofs.drive.drive.Given as goal
+use Rattle.ec_report.proofs.drive.drive.Given as goal
 
 -- the run has come so far
 abbrev pub invariant-entries : goal.invariant-entries

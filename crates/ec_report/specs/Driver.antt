@@ -7,10 +7,10 @@ use Rattle.ec_world.specs.Run.{end_by}
 use Rattle.ec_world.specs.declared.room.Part.{Part}
 use Rattle.ec_report.specs.declared.end.ReportEnd.{ReportEnd}
 use Rattle.ec_report.specs.declared.end.ReportEnd.TheVariants.{Ends, IsFull}
-use Rattle.ec_driver.specs.declared.driver.Refusal.{Refusal}
-use Rattle.ec_driver.specs.declared.driver.Refusal.TheVariants.{Full, Memory}
-use Rattle.ec_driver.specs.declared.step.Step.TheVariants.{Stops, Does}
-use Rattle.ec_driver.specs.Progress.{Progress, IsStep, advanced}
+use Rattle.ec_report.specs.declared.driver.Refusal.{Refusal}
+use Rattle.ec_report.specs.declared.driver.Refusal.TheVariants.{Full, Memory}
+use Rattle.ec_report.specs.declared.step.Step.TheVariants.{Stops, Does}
+use Rattle.ec_report.specs.Progress.{Progress, IsStep, advanced}
 
 -- the end of a run whose next entry was refused
 abbrev pub IsFullEnd : Refusal → ReportEnd → Type 0

@@ -1,9 +1,9 @@
 //! What comes next in a run.
 ghost use Rattle.std.specs.Prelude.{◌≡◌, ◌≤◌, ◌^◌, [], map, length};
 ghost use Rattle.ec_world.specs.Run.{is_ready};
-ghost use Rattle.ec_driver.specs.Progress.{IsStep};
+ghost use Rattle.ec_report.specs.Progress.{IsStep};
 
-use ec_report::processes::are_over;
+use crate::processes::are_over;
 use ec_world::process::ProcStatus;
 use ec_world::robin::next_ready;
 use ec_world::run::{RunEnd, RunEntry};

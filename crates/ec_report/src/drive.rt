@@ -1,13 +1,13 @@
 //! The driver: entries are done up to the end of the run.
 ghost use Rattle.std.specs.Prelude.{IfOk, List};
 ghost use Rattle.ec_world.specs.declared.process.ProcStatus.{ProcStatus};
-ghost use Rattle.ec_driver.specs.Driver.{HasEnded, IsFullEnd};
-ghost use Rattle.ec_driver.specs.Progress.{at_start};
+ghost use Rattle.ec_report.specs.Driver.{HasEnded, IsFullEnd};
+ghost use Rattle.ec_report.specs.Progress.{at_start};
 
 use crate::course::Course;
 use crate::driver::{Driver, Refusal};
 use crate::step::Step;
-use ec_report::end::ReportEnd;
+use crate::end::ReportEnd;
 use ec_world::run::Entry;
 use std::alloc::{AllocError, Global};
 

@@ -6,7 +6,7 @@ use Rattle.ec_world.specs.declared.run.Entry.{Entry}
 use Rattle.ec_world.specs.declared.run.Entry.TheVariants.{Turn, Move}
 use Rattle.ec_world.specs.declared.run.RunEntry.{RunEntry}
 use Rattle.ec_world.specs.Run.{entries_of, expanded, tail_of}
-use Rattle.ec_driver.specs.Lines.{HasLeft, entry_count, entry_of, first_of, left_of}
+use Rattle.ec_report.specs.Lines.{HasLeft, entry_count, entry_of, first_of, left_of}
 
 -- one of equal entries is taken, or all of them
 one_taken : (x : RunEntry) (ys : List RunEntry) (n t : ℕ) → t < n → drop t (replicate n x ++ ys) ≡ x ∷ drop (suc t) (replicate n x ++ ys)

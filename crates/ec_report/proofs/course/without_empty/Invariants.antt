@@ -1,6 +1,6 @@
 use Rattle.std.proofs.Common.{◌≡◌, length}
 use Rattle.ec_world.specs.Run.{expanded}
-use Rattle.ec_driver.proofs.course.without_empty.Given as goal
+use Rattle.ec_report.proofs.course.without_empty.Given as goal
 
 -- no entry is left out so far
 abbrev pub invariant-empty : goal.invariant-empty

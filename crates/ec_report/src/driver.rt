@@ -3,8 +3,8 @@ ghost use Rattle.std.specs.Prelude.{◌≡◌, IfErr, IfOk, List, OnOk, ℕ};
 ghost use Rattle.ec_world.specs.declared.process.ProcStatus.{ProcStatus as AStatus};
 ghost use Rattle.ec_world.specs.declared.run.Entry.{Entry};
 ghost use Rattle.ec_world.specs.declared.room.Part.{Part as APart};
-ghost use Rattle.ec_driver.specs.Progress.{Progress};
-ghost use Rattle.ec_driver.specs.declared.driver.Refusal.TheVariants.{Memory};
+ghost use Rattle.ec_report.specs.Progress.{Progress};
+ghost use Rattle.ec_report.specs.declared.driver.Refusal.TheVariants.{Memory};
 
 use ec_world::room::Part;
 use ec_world::process::ProcStatus;
@@ -36,7 +36,7 @@ impl From<AllocError> for Refusal {
 
 /// How entries are done on a state.
 pub trait Driver<S> {
-    ghost use Rattle.ec_driver.specs.Driver.{AreStatuses, IsDone, IsNext, IsOnWay, IsRefused};
+    ghost use Rattle.ec_report.specs.Driver.{AreStatuses, IsDone, IsNext, IsOnWay, IsRefused};
 
     ghost Stands: { Self → S → List Entry → ℕ → List AStatus → Progress → S → Type 0 };
 

@@ -1,11 +1,11 @@
 //! How far a run is along its schedule.
 ghost use Rattle.std.specs.Prelude.{◌≡◌, ◌+◌, ◌-◌, ◌<◌, ◌^◌, [], IfOk};
 ghost use Rattle.ec_world.specs.Run.{expanded, last_of, tail_of};
-ghost use Rattle.ec_driver.specs.Progress.{IsStep, advanced, at_start};
-ghost use Rattle.ec_driver.specs.Lines.{HasLeft, begins_empty, entry_count, entry_of, first_of, left_of};
+ghost use Rattle.ec_report.specs.Progress.{IsStep, advanced, at_start};
+ghost use Rattle.ec_report.specs.Lines.{HasLeft, begins_empty, entry_count, entry_of, first_of, left_of};
 
 use crate::step::{Step, robin_step};
-use ec_report::processes::ready_ones;
+use crate::processes::ready_ones;
 use ec_world::process::ProcStatus;
 use ec_world::run::{Entry, RunEnd, RunEntry};
 use ec_world::value::Pid;
@@ -26,8 +26,8 @@ pub struct Course<'a> {
 }
 
 impl<'a> Model for Course<'a> {
-    ghost use Rattle.ec_driver.specs.Progress.{Progress};
-    ghost use Rattle.ec_driver.specs.Lines.{HasLeft, left_of};
+    ghost use Rattle.ec_report.specs.Progress.{Progress};
+    ghost use Rattle.ec_report.specs.Lines.{HasLeft, left_of};
 
     ghost Value = { Progress };
 

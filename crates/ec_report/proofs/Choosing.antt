@@ -8,8 +8,8 @@ use Rattle.ec_world.specs.declared.process.ProcStatus.{ProcStatus}
 use Rattle.ec_world.specs.declared.run.RunEnd.TheVariants.{Finished, Stuck, Spent}
 use Rattle.ec_world.specs.Run.{is_ready, is_over, all_true, first_true, or_else, next_ready_of, robin_entry, spent_if, end_by}
 use Rattle.ec_world.specs.declared.run.RunEntry.TheVariants.{TurnOf}
-use Rattle.ec_driver.specs.declared.step.Step.TheVariants.{Stops, Does}
-use Rattle.ec_driver.specs.Progress.{IsStep}
+use Rattle.ec_report.specs.declared.step.Step.TheVariants.{Stops, Does}
+use Rattle.ec_report.specs.Progress.{IsStep}
 
 all_true-map : (f : ProcStatus → Bool) (ss : List ProcStatus) → all_true (map f ss) ≡ list_all f ss
 all_true-map f [] = refl

@@ -4,8 +4,8 @@ use Rattle.ec_world.specs.declared.process.ProcStatus.{ProcStatus}
 use Rattle.ec_world.specs.declared.run.Entry.{Entry}
 use Rattle.ec_world.specs.declared.run.RunEntry.{RunEntry}
 use Rattle.ec_world.specs.Run.{end_by, expanded, last_of, next_entry, tail_of}
-use Rattle.ec_driver.specs.declared.step.Step.{Step}
-use Rattle.ec_driver.specs.declared.step.Step.TheVariants.{Stops, Does}
+use Rattle.ec_report.specs.declared.step.Step.{Step}
+use Rattle.ec_report.specs.declared.step.Step.TheVariants.{Stops, Does}
 
 -- what is left of the schedule, the process of the last turn, and how many entries are done
 pub record Progress : Type 0 where

@@ -10,9 +10,9 @@ use Rattle.ec_world.specs.declared.world.World.{World}
 use Rattle.ec_world.specs.Meaning.{ActivationMeaning}
 use Rattle.ec_world.specs.Run.{Reaches, Run, RunState, after_entry, end_by, end_of, expanded, last_of, next_entry, run_after}
 use Rattle.ec_world.specs.Run.{statuses_of, stepped, tail_of}
-use Rattle.ec_driver.specs.Comes.{Comes}
-use Rattle.ec_driver.specs.Progress.{IsStep, Progress, advanced, at_start}
-use Rattle.ec_driver.specs.declared.step.Step.TheVariants.{Stops, Does}
+use Rattle.ec_report.specs.Comes.{Comes}
+use Rattle.ec_report.specs.Progress.{IsStep, Progress, advanced, at_start}
+use Rattle.ec_report.specs.declared.step.Step.TheVariants.{Stops, Does}
 
 module _ {A : Type 0} (M : ActivationMeaning A) (advance : Common → A → Common × A) (w : World A) (schedule : List Entry) where
   pub run_start_is : run_after M advance w schedule 0 ≡ record { world = w; left = expanded schedule; last = None; done = [] }

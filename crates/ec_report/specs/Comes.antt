@@ -6,7 +6,7 @@ use Rattle.ec_world.specs.declared.run.Entry.{Entry}
 use Rattle.ec_world.specs.declared.world.World.{World}
 use Rattle.ec_world.specs.Meaning.{ActivationMeaning}
 use Rattle.ec_world.specs.Run.{end_of, run_after, statuses_of}
-use Rattle.ec_driver.specs.Progress.{Progress}
+use Rattle.ec_report.specs.Progress.{Progress}
 
 -- The run from a world along a schedule comes to world v, where the processes have these statuses, with this progress;
 -- within a budget of entries it has not ended before.

@@ -1,4 +1,0 @@
-pub mod Progress
-pub mod Lines
-pub mod Driver
-pub mod Comes
