@@ -1,4 +1,7 @@
 //! The tree of a source text. Places stand where a fault or a failure is told at.
+//!
+//! Folds over the tree of a source: what each part becomes, of what the parts within it become; and what holds of each part.
+//! Definitions and lemmas alone.
 #![tactic(auto)]
 
 use sqlite_items::{Boxed, Items};
@@ -297,3 +300,5 @@ pub struct Constant {
 pub struct Program {
     pub constants: Items<Constant>,
 }
+
+

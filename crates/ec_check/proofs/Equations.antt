@@ -23,11 +23,11 @@ use Rattle.ec_check.specs.Tree.{expression_step, link_step, member_step, stateme
 use Rattle.ec_check.specs.Tree.{body_step, factor_step, object_step, operation_step, process_step, parts}
 use Rattle.ec_check.specs.Tree.{part_of, link_of, member_of, statement_of, addend_of, arm_of, block_of, body_of, factor_of}
 use Rattle.ec_check.specs.Tree.{object_of, operation_of, process_of}
-use Rattle.ec_tree_folds.specs.Layers as layers
-use Rattle.ec_tree_folds.specs.Layers.{body_with}
-use Rattle.ec_tree_folds.proofs.Rolled.{expression_stepped, statement_stepped, addend_stepped, arm_stepped, block_stepped}
-use Rattle.ec_tree_folds.proofs.Rolled.{body_stepped, factor_stepped, object_stepped, operation_stepped, process_stepped}
-use Rattle.ec_tree_folds.proofs.Rolled.{link_has, member_has}
+use Rattle.ec_ast.specs.Layers as layers
+use Rattle.ec_ast.specs.Layers.{body_with}
+use Rattle.ec_ast.proofs.Rolled.{expression_stepped, statement_stepped, addend_stepped, arm_stepped, block_stepped}
+use Rattle.ec_ast.proofs.Rolled.{body_stepped, factor_stepped, object_stepped, operation_stepped, process_stepped}
+use Rattle.ec_ast.proofs.Rolled.{link_has, member_has}
 
 -- ---- the layer at the top, with its parts made
 

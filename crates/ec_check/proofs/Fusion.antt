@@ -25,7 +25,7 @@ use Rattle.ec_check.proofs.Rolled.{body_mapped, factor_mapped, object_mapped, op
 use Rattle.ec_check.proofs.Rolled.{part_rolled, link_rolled, member_rolled, statement_rolled, addend_rolled, arm_rolled}
 use Rattle.ec_check.proofs.Rolled.{block_rolled, body_rolled, factor_rolled, object_rolled, operation_rolled, process_rolled}
 use Rattle.ec_rules.proofs.Equations.{rolled as ruled}
-use Rattle.ec_tree_folds.specs.Layers as layers
+use Rattle.ec_ast.specs.Layers as layers
 use Rattle.ec_check.specs.Layers.{expression_judged, statement_judged}
 use Rattle.ec_check.specs.Parts.{Part, Piece, StatementPart}
 use Rattle.ec_check.specs.Parts.{link_judged, member_judged, addend_judged, arm_judged, body_judged, factor_judged}
@@ -40,12 +40,12 @@ use Rattle.ec_rules.specs.Judging.{block_finished}
 use Rattle.ec_rules.specs.Parts as judged
 use Rattle.ec_rules.specs.Parts.{class_with}
 use Rattle.ec_rules.specs.Tree as judged_tree
-use Rattle.ec_tree_folds.proofs.Claims.{Claims, Passes, Held, ExpressionWith, LinkWith, MemberWith, StatementWith, AddendWith}
-use Rattle.ec_tree_folds.proofs.Claims.{ArmWith, BlockWith, BodyWith, FactorWith, ObjectWith, OperationWith, ProcessWith, bare_expression}
-use Rattle.ec_tree_folds.proofs.Claims.{bare_link, bare_member, bare_statement, bare_addend, bare_arm, bare_block, bare_body, bare_factor}
-use Rattle.ec_tree_folds.proofs.Claims.{bare_object, bare_operation, bare_process, expression_holds, link_holds}
-use Rattle.ec_tree_folds.proofs.Claims.{statement_holds, body_holds, object_holds}
-use Rattle.ec_tree_folds.proofs.Claims.{operation_holds}
+use Rattle.ec_ast.proofs.Claims.{Claims, Passes, Held, ExpressionWith, LinkWith, MemberWith, StatementWith, AddendWith}
+use Rattle.ec_ast.proofs.Claims.{ArmWith, BlockWith, BodyWith, FactorWith, ObjectWith, OperationWith, ProcessWith, bare_expression}
+use Rattle.ec_ast.proofs.Claims.{bare_link, bare_member, bare_statement, bare_addend, bare_arm, bare_block, bare_body, bare_factor}
+use Rattle.ec_ast.proofs.Claims.{bare_object, bare_operation, bare_process, expression_holds, link_holds}
+use Rattle.ec_ast.proofs.Claims.{statement_holds, body_holds, object_holds}
+use Rattle.ec_ast.proofs.Claims.{operation_holds}
 
 -- ---- that the static rules know the same of a part
 

@@ -22,7 +22,7 @@ use Rattle.ec_rules.specs.Judging.{expression_part, form_in_parentheses, form_ne
 use Rattle.ec_rules.specs.Parts as judged
 use Rattle.ec_scopes.specs.declared.scope.Scope.{Scope}
 use Rattle.ec_check.proofs.GoodParts.{IsGoodPart, IsGoodLink, IsGoodAddend, IsGoodFactor, good}
-use Rattle.ec_tree_folds.proofs.Claims.{Held, trees, ExpressionWith, bare_expression}
+use Rattle.ec_ast.proofs.Claims.{Held, trees, ExpressionWith, bare_expression}
 
 -- ---- lists of good parts
 

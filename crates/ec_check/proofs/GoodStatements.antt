@@ -25,7 +25,7 @@ use Rattle.ec_rules.specs.Statements.{piece_of_arm}
 use Rattle.ec_scopes.specs.declared.scope.Scope.{Scope}
 use Rattle.ec_scopes.specs.Scopes.{declaring, in_a_loop}
 use Rattle.ec_check.proofs.GoodParts.{IsGoodStatement, IsGoodArm, IsGoodBlock, good}
-use Rattle.ec_tree_folds.proofs.Claims.{Held, trees, StatementWith, ArmWith, BlockWith, bare_statement, bare_arm, bare_block}
+use Rattle.ec_ast.proofs.Claims.{Held, trees, StatementWith, ArmWith, BlockWith, bare_statement, bare_arm, bare_block}
 
 -- ---- the types within
 

@@ -41,10 +41,10 @@ use Rattle.ec_scopes.specs.declared.scope.Scope.{Scope}
 use Rattle.ec_scopes.specs.Scopes.{in_a_process}
 use Rattle.ec_check.proofs.GoodParts.{IsGoodPart, IsGoodLink, IsGoodMember, IsGoodStatement, IsGoodAddend, IsGoodBlock}
 use Rattle.ec_check.proofs.GoodParts.{IsGoodBody, IsGoodFactor, IsGoodObject, IsGoodOperation, IsGoodProcess, good}
-use Rattle.ec_tree_folds.proofs.Claims.{Passes, Held, trees, LinkWith, MemberWith, AddendWith, BodyWith, FactorWith, ObjectWith}
-use Rattle.ec_tree_folds.proofs.Claims.{OperationWith, ProcessWith, bare_link, bare_member, bare_addend, bare_body, bare_factor}
-use Rattle.ec_tree_folds.proofs.Claims.{bare_object, bare_operation, bare_process, expression_holds, statement_holds, block_holds}
-use Rattle.ec_tree_folds.proofs.Claims.{body_holds}
+use Rattle.ec_ast.proofs.Claims.{Passes, Held, trees, LinkWith, MemberWith, AddendWith, BodyWith, FactorWith, ObjectWith}
+use Rattle.ec_ast.proofs.Claims.{OperationWith, ProcessWith, bare_link, bare_member, bare_addend, bare_body, bare_factor}
+use Rattle.ec_ast.proofs.Claims.{bare_object, bare_operation, bare_process, expression_holds, statement_holds, block_holds}
+use Rattle.ec_ast.proofs.Claims.{body_holds}
 
 -- ---- links
 

@@ -18,7 +18,7 @@ use Rattle.ec_check.specs.Tree.{part_of, link_of, member_of, statement_of, adden
 use Rattle.ec_check.specs.Tree.{object_of, operation_of, process_of}
 use Rattle.ec_conform.specs.Declarations.{in_expression, in_link, in_member, in_statement, in_addend, in_arm, in_block, in_body}
 use Rattle.ec_conform.specs.Declarations.{in_factor, in_constructor, in_process}
-use Rattle.ec_tree_folds.proofs.Claims.{Claims}
+use Rattle.ec_ast.proofs.Claims.{Claims}
 
 -- ---- each kind of part
 

@@ -16,7 +16,7 @@ use Rattle.ec_check.proofs.RangedParts.{RangedBody}
 use Rattle.ec_check.proofs.RangedParts.{RangedFactor, RangedConstructor, RangedOperation, RangedProcess}
 use Rattle.ec_check.specs.Tree.{part_of, link_of, member_of, statement_of, addend_of, arm_of, block_of, body_of, factor_of}
 use Rattle.ec_check.specs.Tree.{object_of, operation_of, process_of}
-use Rattle.ec_tree_folds.proofs.Claims.{Claims}
+use Rattle.ec_ast.proofs.Claims.{Claims}
 
 -- ---- each kind of part
 

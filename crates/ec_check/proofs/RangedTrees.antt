@@ -30,11 +30,11 @@ use Rattle.ec_check.specs.Tree.{part_of, link_of, member_of, statement_of, adden
 use Rattle.ec_check.proofs.RangedHeld.{IsRangedPart, IsRangedLink, IsRangedMember, IsRangedStatement, IsRangedAddend, IsRangedArm}
 use Rattle.ec_check.proofs.RangedHeld.{IsRangedBlock, IsRangedBody, IsRangedFactor, IsRangedObject, IsRangedOperation, IsRangedProcess}
 use Rattle.ec_check.proofs.RangedHeld.{ranged}
-use Rattle.ec_tree_folds.proofs.Claims.{Passes, Held, ExpressionWith, LinkWith, MemberWith, StatementWith, AddendWith, ArmWith}
-use Rattle.ec_tree_folds.proofs.Claims.{BlockWith, BodyWith, FactorWith, ObjectWith, OperationWith, ProcessWith, bare_expression}
-use Rattle.ec_tree_folds.proofs.Claims.{bare_link, bare_member, bare_statement, bare_addend, bare_arm, bare_block, bare_body, bare_factor}
-use Rattle.ec_tree_folds.proofs.Claims.{bare_object, bare_operation, bare_process, expression_holds, statement_holds, block_holds}
-use Rattle.ec_tree_folds.proofs.Claims.{body_holds}
+use Rattle.ec_ast.proofs.Claims.{Passes, Held, ExpressionWith, LinkWith, MemberWith, StatementWith, AddendWith, ArmWith}
+use Rattle.ec_ast.proofs.Claims.{BlockWith, BodyWith, FactorWith, ObjectWith, OperationWith, ProcessWith, bare_expression}
+use Rattle.ec_ast.proofs.Claims.{bare_link, bare_member, bare_statement, bare_addend, bare_arm, bare_block, bare_body, bare_factor}
+use Rattle.ec_ast.proofs.Claims.{bare_object, bare_operation, bare_process, expression_holds, statement_holds, block_holds}
+use Rattle.ec_ast.proofs.Claims.{body_holds}
 
 -- ---- lists of parts
 

@@ -18,10 +18,10 @@ use Rattle.ec_check.specs.Tree.{expression_step, link_step, member_step, stateme
 use Rattle.ec_check.specs.Tree.{body_step, factor_step, object_step, operation_step, process_step, steps, parts}
 use Rattle.ec_check.specs.Tree.{part_of, link_of, member_of, statement_of, addend_of, arm_of, block_of, body_of, factor_of}
 use Rattle.ec_check.specs.Tree.{object_of, operation_of, process_of}
-pub use Rattle.ec_tree_folds.specs.Kinds.{ExpressionLayer, LinkLayer, MemberLayer, StatementLayer, AddendLayer, ArmLayer, BlockLayer}
-pub use Rattle.ec_tree_folds.specs.Kinds.{BodyLayer, FactorLayer, ObjectLayer, OperationLayer, ProcessLayer}
-use Rattle.ec_tree_folds.specs.Layers as layers
-use Rattle.ec_tree_folds.proofs.Rolled.{Rolled, folds_are_rolled}
+pub use Rattle.ec_ast.specs.Kinds.{ExpressionLayer, LinkLayer, MemberLayer, StatementLayer, AddendLayer, ArmLayer, BlockLayer}
+pub use Rattle.ec_ast.specs.Kinds.{BodyLayer, FactorLayer, ObjectLayer, OperationLayer, ProcessLayer}
+use Rattle.ec_ast.specs.Layers as layers
+use Rattle.ec_ast.proofs.Rolled.{Rolled, folds_are_rolled}
 
 pub rolled : Rolled steps parts
 unfolding part_of link_of member_of statement_of addend_of arm_of block_of body_of factor_of object_of operation_of process_of

@@ -16,9 +16,9 @@ use Rattle.ec_core.specs.declared.Operation.{Operation}
 use Rattle.ec_core.specs.declared.Statement.{Statement}
 use Rattle.ec_rules.specs.Parts as judged
 use Rattle.ec_scopes.specs.declared.scope.Scope.{Scope}
-use Rattle.ec_tree_folds.specs.Kinds.{Kinds, ExpressionOf, LinkOf, MemberOf, StatementOf, AddendOf, ArmOf, BlockOf, BodyOf, FactorOf}
-use Rattle.ec_tree_folds.specs.Kinds.{ObjectOf, OperationOf, ProcessOf}
-use Rattle.ec_tree_folds.specs.Layers.{Maps}
+use Rattle.ec_ast.specs.Kinds.{Kinds, ExpressionOf, LinkOf, MemberOf, StatementOf, AddendOf, ArmOf, BlockOf, BodyOf, FactorOf}
+use Rattle.ec_ast.specs.Kinds.{ObjectOf, OperationOf, ProcessOf}
+use Rattle.ec_ast.specs.Layers.{Maps}
 
 -- classes and object constructors, and operations
 pub record Made : Type 0 where

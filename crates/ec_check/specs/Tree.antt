@@ -26,11 +26,11 @@ use Rattle.ec_check.specs.Typing.{expression_within, statement_within, statement
 use Rattle.ec_core.specs.declared.Block.{roll-Block}
 use Rattle.ec_rules.specs.Judging.{block_finished, expression_part, statement_part}
 use Rattle.ec_rules.specs.Parts.{class_with}
-use Rattle.ec_tree_folds.specs.Folds.{Steps, expression_folded, link_folded, member_folded, statement_folded, addend_folded}
-use Rattle.ec_tree_folds.specs.Folds.{arm_folded, block_folded, body_folded, factor_folded, object_folded, operation_folded}
-use Rattle.ec_tree_folds.specs.Folds.{process_folded}
-use Rattle.ec_tree_folds.specs.Kinds.{tree}
-use Rattle.ec_tree_folds.specs.Layers.{Maps}
+use Rattle.ec_ast.specs.Folds.{Steps, expression_folded, link_folded, member_folded, statement_folded, addend_folded}
+use Rattle.ec_ast.specs.Folds.{arm_folded, block_folded, body_folded, factor_folded, object_folded, operation_folded}
+use Rattle.ec_ast.specs.Folds.{process_folded}
+use Rattle.ec_ast.specs.Kinds.{tree}
+use Rattle.ec_ast.specs.Layers.{Maps}
 
 -- ---- steps
 

@@ -58,10 +58,10 @@ use Rattle.ec_rules.specs.Statements.{piece_of_arm}
 use Rattle.ec_rules.specs.declared.StaticFault.{StaticFault}
 use Rattle.ec_scopes.specs.declared.scope.Scope.{Scope}
 use Rattle.ec_scopes.specs.Scopes.{declaring, in_a_loop, in_a_process}
-use Rattle.ec_tree_folds.proofs.Claims.{Passes, Held, trees, ExpressionWith, LinkWith, MemberWith, StatementWith, AddendWith, ArmWith}
-use Rattle.ec_tree_folds.proofs.Claims.{BlockWith, BodyWith, FactorWith, ObjectWith, OperationWith, ProcessWith, bare_expression}
-use Rattle.ec_tree_folds.proofs.Claims.{bare_link, bare_member, bare_statement, bare_addend, bare_arm, bare_block, bare_body, bare_factor}
-use Rattle.ec_tree_folds.proofs.Claims.{bare_object, bare_operation, bare_process, expression_holds, body_holds}
+use Rattle.ec_ast.proofs.Claims.{Passes, Held, trees, ExpressionWith, LinkWith, MemberWith, StatementWith, AddendWith, ArmWith}
+use Rattle.ec_ast.proofs.Claims.{BlockWith, BodyWith, FactorWith, ObjectWith, OperationWith, ProcessWith, bare_expression}
+use Rattle.ec_ast.proofs.Claims.{bare_link, bare_member, bare_statement, bare_addend, bare_arm, bare_block, bare_body, bare_factor}
+use Rattle.ec_ast.proofs.Claims.{bare_object, bare_operation, bare_process, expression_holds, body_holds}
 
 -- ---- expressions
 

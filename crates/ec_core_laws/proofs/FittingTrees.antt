@@ -32,14 +32,14 @@ use Rattle.ec_core_laws.specs.Numbers.{statement_numbers, arm_numbers, block_num
 use Rattle.ec_core_laws.specs.TreeNumbers.{Numbers, joined, kinds, steps, Fits, expression_numbers, link_numbers, member_numbers}
 use Rattle.ec_core_laws.specs.TreeNumbers.{body_numbers, statement_numbers as numbers_of_statement}
 use Rattle.ec_rules.specs.Judging.{expression_part, statement_part}
-use Rattle.ec_tree_folds.proofs.Claims.{Claims, Passes, Held, trees as bare_trees, ExpressionWith, LinkWith, MemberWith, StatementWith}
-use Rattle.ec_tree_folds.proofs.Claims.{AddendWith, ArmWith, BlockWith, BodyWith, FactorWith, ObjectWith, OperationWith, ProcessWith}
-use Rattle.ec_tree_folds.proofs.Claims.{bare_expression, bare_link, bare_member, bare_statement, bare_addend, bare_arm, bare_block}
-use Rattle.ec_tree_folds.proofs.Claims.{bare_body, bare_factor, bare_object, bare_operation, bare_process, expression_holds, body_holds}
-use Rattle.ec_tree_folds.proofs.Rolled.{Rolled, folded, folds_are_rolled}
-use Rattle.ec_tree_folds.specs.Kinds.{tree}
-use Rattle.ec_tree_folds.specs.Layers as layers
-use Rattle.ec_tree_folds.specs.Layers.{Maps}
+use Rattle.ec_ast.proofs.Claims.{Claims, Passes, Held, trees as bare_trees, ExpressionWith, LinkWith, MemberWith, StatementWith}
+use Rattle.ec_ast.proofs.Claims.{AddendWith, ArmWith, BlockWith, BodyWith, FactorWith, ObjectWith, OperationWith, ProcessWith}
+use Rattle.ec_ast.proofs.Claims.{bare_expression, bare_link, bare_member, bare_statement, bare_addend, bare_arm, bare_block}
+use Rattle.ec_ast.proofs.Claims.{bare_body, bare_factor, bare_object, bare_operation, bare_process, expression_holds, body_holds}
+use Rattle.ec_ast.proofs.Rolled.{Rolled, folded, folds_are_rolled}
+use Rattle.ec_ast.specs.Kinds.{tree}
+use Rattle.ec_ast.specs.Layers as layers
+use Rattle.ec_ast.specs.Layers.{Maps}
 
 -- the numbers in a part of each kind
 abbrev pub numbers : Maps tree kinds

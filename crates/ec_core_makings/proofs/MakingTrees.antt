@@ -25,11 +25,11 @@ use Rattle.ec_core_makings.proofs.MakingParts.{PartMakes, StatementMakes, PieceM
 use Rattle.ec_core_makings.proofs.MakingParts.{AddendHas, ArmHas, PieceHas, ProcessHas, OperationHas, MemberHas, BodyHas}
 use Rattle.ec_core_makings.proofs.MakingParts.{ObjectHas, ExpressionHas, StatementHas}
 use Rattle.ec_core_makings.proofs.MakingStatements.{statement_makes, block_makes}
-use Rattle.ec_tree_folds.proofs.Claims.{Claims, Passes, Held, trees as bare_trees, ExpressionWith, LinkWith, MemberWith}
-use Rattle.ec_tree_folds.proofs.Claims.{StatementWith, AddendWith, ArmWith, BlockWith, BodyWith, FactorWith, ObjectWith}
-use Rattle.ec_tree_folds.proofs.Claims.{OperationWith, ProcessWith, bare_expression, bare_link, bare_member, bare_statement}
-use Rattle.ec_tree_folds.proofs.Claims.{bare_addend, bare_arm, bare_block, bare_body, bare_factor, bare_object}
-use Rattle.ec_tree_folds.proofs.Claims.{bare_operation, bare_process, expression_holds, body_holds}
+use Rattle.ec_ast.proofs.Claims.{Claims, Passes, Held, trees as bare_trees, ExpressionWith, LinkWith, MemberWith}
+use Rattle.ec_ast.proofs.Claims.{StatementWith, AddendWith, ArmWith, BlockWith, BodyWith, FactorWith, ObjectWith}
+use Rattle.ec_ast.proofs.Claims.{OperationWith, ProcessWith, bare_expression, bare_link, bare_member, bare_statement}
+use Rattle.ec_ast.proofs.Claims.{bare_addend, bare_arm, bare_block, bare_body, bare_factor, bare_object}
+use Rattle.ec_ast.proofs.Claims.{bare_operation, bare_process, expression_holds, body_holds}
 
 -- ---- what is claimed of each part of a tree
 

@@ -48,10 +48,10 @@ use Rattle.ec_rules.specs.Parts as judged
 use Rattle.ec_rules.specs.Statements.{piece_of_arm}
 use Rattle.ec_scopes.specs.declared.scope.Scope.{Scope}
 use Rattle.ec_scopes.specs.Scopes.{declaring, in_a_loop, in_a_process}
-use Rattle.ec_tree_folds.proofs.Claims.{Claims, Passes, Held, trees, ExpressionWith, LinkWith, MemberWith, StatementWith, AddendWith}
-use Rattle.ec_tree_folds.proofs.Claims.{ArmWith, BlockWith, BodyWith, FactorWith, ObjectWith, OperationWith, ProcessWith}
-use Rattle.ec_tree_folds.proofs.Claims.{bare_expression, bare_link, bare_member, bare_statement, bare_addend, bare_arm, bare_block}
-use Rattle.ec_tree_folds.proofs.Claims.{bare_body, bare_factor, bare_object, bare_operation, bare_process, expression_holds, body_holds}
+use Rattle.ec_ast.proofs.Claims.{Claims, Passes, Held, trees, ExpressionWith, LinkWith, MemberWith, StatementWith, AddendWith}
+use Rattle.ec_ast.proofs.Claims.{ArmWith, BlockWith, BodyWith, FactorWith, ObjectWith, OperationWith, ProcessWith}
+use Rattle.ec_ast.proofs.Claims.{bare_expression, bare_link, bare_member, bare_statement, bare_addend, bare_arm, bare_block}
+use Rattle.ec_ast.proofs.Claims.{bare_body, bare_factor, bare_object, bare_operation, bare_process, expression_holds, body_holds}
 
 -- ---- what is claimed of a part of each kind
 

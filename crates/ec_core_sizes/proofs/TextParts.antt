@@ -29,11 +29,11 @@ use Rattle.ec_parser.specs.HasTree.{Ending, IsInvocation, a_call, a_field, a_nam
 use Rattle.ec_parser.specs.Chains.{or_of, and_of, sum_of, term_of, postfix_of}
 use Rattle.ec_places.proofs.Among as among
 use Rattle.ec_places.proofs.Among.{Among}
-use Rattle.ec_tree_folds.proofs.Rolled.{Rolled, folded, folds_are_rolled}
-use Rattle.ec_tree_folds.specs.Kinds.{ExpressionLayer, LinkLayer, MemberLayer, StatementLayer, AddendLayer, ArmLayer, BlockLayer}
-use Rattle.ec_tree_folds.specs.Kinds.{BodyLayer, FactorLayer, ObjectLayer, OperationLayer, ProcessLayer, tree}
-use Rattle.ec_tree_folds.specs.Layers as layers
-use Rattle.ec_tree_folds.specs.Layers.{Maps}
+use Rattle.ec_ast.proofs.Rolled.{Rolled, folded, folds_are_rolled}
+use Rattle.ec_ast.specs.Kinds.{ExpressionLayer, LinkLayer, MemberLayer, StatementLayer, AddendLayer, ArmLayer, BlockLayer}
+use Rattle.ec_ast.specs.Kinds.{BodyLayer, FactorLayer, ObjectLayer, OperationLayer, ProcessLayer, tree}
+use Rattle.ec_ast.specs.Layers as layers
+use Rattle.ec_ast.specs.Layers.{Maps}
 
 -- The first list goes on to the second one, with at least so many tokens up to there.
 pub record Taken (ts us : List Token) (n : ℕ) : Type 0 where

@@ -64,8 +64,8 @@ use Rattle.ec_core_ties.specs.Ties.{with_links}
 use Rattle.ec_names.specs.Names.{Text}
 use Rattle.ec_rules.specs.Parts.{Holder}
 use Rattle.ec_scopes.specs.declared.scope.Scope.{Scope}
-use Rattle.ec_tree_folds.specs.Kinds.{MemberLayer}
-use Rattle.ec_tree_folds.specs.Layers as layers
+use Rattle.ec_ast.specs.Kinds.{MemberLayer}
+use Rattle.ec_ast.specs.Layers as layers
 
 -- ---- forms that weigh less in the core
 

@@ -35,8 +35,8 @@ use Rattle.ec_core_sizes.specs.Captures.{block_captures, captures_of_statement, 
 use Rattle.ec_core_sizes.specs.Limits.{captured_by, captures_of_operations, size_of_operations}
 use Rattle.ec_core_sizes.specs.TreeNodes.{expression_nodes, statement_nodes}
 use Rattle.ec_core_ties.specs.Ties.{just, with_links}
-use Rattle.ec_tree_folds.specs.Kinds.{ExpressionLayer, StatementLayer}
-use Rattle.ec_tree_folds.specs.Layers as layers
+use Rattle.ec_ast.specs.Kinds.{ExpressionLayer, StatementLayer}
+use Rattle.ec_ast.specs.Layers as layers
 
 -- A part has this size and captures so many values. With all that is made within it it has no more nodes than the tree has there,
 -- and captures no more values than the classes that are made there capture names.

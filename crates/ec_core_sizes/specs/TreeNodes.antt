@@ -8,8 +8,8 @@ use Rattle.ec_ast.specs.declared.Expression.{Expression}
 use Rattle.ec_ast.specs.declared.Expression.TheOpen.{Expression-F, Link-F, Member-F, Statement-F}
 use Rattle.ec_ast.specs.declared.Program.{Program}
 use Rattle.ec_core_laws.specs.Measures.{all_of, all_behind, if_there}
-use Rattle.ec_tree_folds.specs.Folds.{Steps, expression_folded, body_folded}
-use Rattle.ec_tree_folds.specs.Kinds.{Kinds, ExpressionOf, LinkOf, MemberOf, StatementOf, BodyOf}
+use Rattle.ec_ast.specs.Folds.{Steps, expression_folded, body_folded}
+use Rattle.ec_ast.specs.Kinds.{Kinds, ExpressionOf, LinkOf, MemberOf, StatementOf, BodyOf}
 
 -- each part becomes the number of its nodes
 abbrev pub kinds : Kinds

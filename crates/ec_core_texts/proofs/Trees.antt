@@ -33,14 +33,14 @@ use Rattle.ec_core_texts.proofs.Statements.{statement_core_fits, statements_fit}
 use Rattle.ec_core_texts.specs.TreeTexts.{kinds, steps, IsBytes, expression_texts, link_texts, member_texts, body_texts}
 use Rattle.ec_core_texts.specs.TreeTexts.{statement_texts as texts_of_statement_layer}
 use Rattle.ec_rules.specs.Judging.{expression_part, statement_part}
-use Rattle.ec_tree_folds.proofs.Claims.{AddendWith, ArmWith, BlockWith, BodyWith, FactorWith, ObjectWith, OperationWith, ProcessWith}
-use Rattle.ec_tree_folds.proofs.Claims.{Claims, Passes, Held, trees as bare_trees, ExpressionWith, LinkWith, MemberWith, StatementWith}
-use Rattle.ec_tree_folds.proofs.Claims.{bare_body, bare_factor, bare_object, bare_operation, bare_process, expression_holds, body_holds}
-use Rattle.ec_tree_folds.proofs.Claims.{bare_expression, bare_link, bare_member, bare_statement, bare_addend, bare_arm, bare_block}
-use Rattle.ec_tree_folds.proofs.Rolled.{Rolled, folded, folds_are_rolled}
-use Rattle.ec_tree_folds.specs.Kinds.{tree}
-use Rattle.ec_tree_folds.specs.Layers as layers
-use Rattle.ec_tree_folds.specs.Layers.{Maps}
+use Rattle.ec_ast.proofs.Claims.{AddendWith, ArmWith, BlockWith, BodyWith, FactorWith, ObjectWith, OperationWith, ProcessWith}
+use Rattle.ec_ast.proofs.Claims.{Claims, Passes, Held, trees as bare_trees, ExpressionWith, LinkWith, MemberWith, StatementWith}
+use Rattle.ec_ast.proofs.Claims.{bare_body, bare_factor, bare_object, bare_operation, bare_process, expression_holds, body_holds}
+use Rattle.ec_ast.proofs.Claims.{bare_expression, bare_link, bare_member, bare_statement, bare_addend, bare_arm, bare_block}
+use Rattle.ec_ast.proofs.Rolled.{Rolled, folded, folds_are_rolled}
+use Rattle.ec_ast.specs.Kinds.{tree}
+use Rattle.ec_ast.specs.Layers as layers
+use Rattle.ec_ast.specs.Layers.{Maps}
 
 -- the texts in a part of each kind
 abbrev pub texts : Maps tree kinds

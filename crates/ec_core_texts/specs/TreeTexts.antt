@@ -10,8 +10,8 @@ use Rattle.ec_ast.specs.declared.Expression.TheOpen.{Expression-F, Link-F, Membe
 use Rattle.ec_ast.specs.declared.Program.{Program}
 use Rattle.ec_core_laws.specs.Literals.{Texts, joined, if_there}
 use Rattle.ec_names.specs.Names.{Text}
-use Rattle.ec_tree_folds.specs.Folds.{Steps, expression_folded, body_folded}
-use Rattle.ec_tree_folds.specs.Kinds.{Kinds, ExpressionOf, LinkOf, MemberOf, StatementOf, BodyOf}
+use Rattle.ec_ast.specs.Folds.{Steps, expression_folded, body_folded}
+use Rattle.ec_ast.specs.Kinds.{Kinds, ExpressionOf, LinkOf, MemberOf, StatementOf, BodyOf}
 
 -- each part becomes the texts in it, in order
 abbrev pub kinds : Kinds

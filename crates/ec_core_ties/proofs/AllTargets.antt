@@ -2,9 +2,9 @@
 use Rattle.std.proofs.Common.{◌≡◌, Bool, true, [], ◌∷◌, ◌++◌, All}
 use Rattle.std.proofs.lemmas.List.Elements.{All-nil, All-cons, All-head, All-tail}
 use Rattle.ec_core_ties.specs.Targets.{Targets, kinds, steps}
-use Rattle.ec_tree_folds.proofs.Rolled.{Rolled, folded, folds_are_rolled}
-use Rattle.ec_tree_folds.specs.Kinds.{tree}
-use Rattle.ec_tree_folds.specs.Layers.{Maps}
+use Rattle.ec_ast.proofs.Rolled.{Rolled, folded, folds_are_rolled}
+use Rattle.ec_ast.specs.Kinds.{tree}
+use Rattle.ec_ast.specs.Layers.{Maps}
 
 -- ---- each assignment has a target
 

@@ -11,8 +11,8 @@ use Rattle.ec_base.specs.Stack.{top_of}
 use Rattle.ec_check.proofs.Every.{not_both}
 use Rattle.ec_core_ties.proofs.AllTargets.{said, rolled}
 use Rattle.ec_core_ties.specs.Targets.{Part, ends_in_index, is_index, is_target}
-use Rattle.ec_tree_folds.specs.Kinds.{ExpressionLayer, LinkLayer}
-use Rattle.ec_tree_folds.specs.Layers as layers
+use Rattle.ec_ast.specs.Kinds.{ExpressionLayer, LinkLayer}
+use Rattle.ec_ast.specs.Layers as layers
 
 data IsIndex : Link → Type 0 where
   index : (number : Expression) (at : Span) → IsIndex (tree_link.Index number at)

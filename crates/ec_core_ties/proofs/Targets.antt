@@ -30,7 +30,7 @@ use Rattle.ec_rules.specs.Calls.{type_of_receiver}
 use Rattle.ec_rules.specs.Forms.{Form, Literal, Negated, Constructor, Vector, Created, Itself, NameAlone, Other}
 use Rattle.ec_rules.specs.Parts.{value_in}
 use Rattle.ec_scopes.specs.Scopes.{class_named}
-use Rattle.ec_tree_folds.proofs.Layers as layers
+use Rattle.ec_ast.proofs.Layers as layers
 
 abbrev pub is_index : CoreLink-F CoreExpression CoreLink CoreAddend CoreFactor → Bool
 is_index (CoreLink-F.Element number of at) = true

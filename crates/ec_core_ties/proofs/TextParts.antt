@@ -26,9 +26,9 @@ use Rattle.ec_core_ties.specs.Targets.{Targets, Part, joined, if_there, all_with
 use Rattle.ec_core_ties.specs.Targets.{ends_in_index, is_target, is_index}
 use Rattle.ec_core_ties.specs.Targets.{within_expression, within_link, within_member, within_statement, within_body}
 use Rattle.ec_parser.specs.Chains.{or_of, and_of, sum_of, term_of, postfix_of}
-use Rattle.ec_tree_folds.specs.Kinds.{ExpressionLayer, LinkLayer, MemberLayer, StatementLayer, AddendLayer, ArmLayer}
-use Rattle.ec_tree_folds.specs.Kinds.{BlockLayer, BodyLayer, FactorLayer, ObjectLayer, OperationLayer, ProcessLayer}
-use Rattle.ec_tree_folds.specs.Layers as layers
+use Rattle.ec_ast.specs.Kinds.{ExpressionLayer, LinkLayer, MemberLayer, StatementLayer, AddendLayer, ArmLayer}
+use Rattle.ec_ast.specs.Kinds.{BlockLayer, BodyLayer, FactorLayer, ObjectLayer, OperationLayer, ProcessLayer}
+use Rattle.ec_ast.specs.Layers as layers
 
 -- ---- one layer of each kind of part: a variant, by the equation that it is rolled of its layer, and a struct
 

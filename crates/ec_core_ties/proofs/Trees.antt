@@ -21,14 +21,14 @@ use Rattle.ec_core_ties.proofs.AllTargets.{AreTargets, first_target, later_targe
 use Rattle.ec_core_ties.proofs.AllTargets.{said, rolled}
 use Rattle.ec_core_ties.specs.Targets.{Targets, Part, joined, all_within}
 use Rattle.ec_core_ties.specs.Targets.{within_expression, within_link, within_member, within_statement, within_body}
-use Rattle.ec_tree_folds.proofs.Claims.{Claims, Passes, Held, trees, expression_holds, body_holds}
-use Rattle.ec_tree_folds.proofs.Claims.{ExpressionWith, LinkWith, MemberWith, StatementWith, AddendWith, ArmWith}
-use Rattle.ec_tree_folds.proofs.Claims.{BlockWith, BodyWith, FactorWith, ObjectWith, OperationWith, ProcessWith}
-use Rattle.ec_tree_folds.proofs.Claims.{bare_expression, bare_link, bare_member, bare_statement, bare_addend, bare_arm}
-use Rattle.ec_tree_folds.proofs.Claims.{bare_block, bare_body, bare_factor, bare_object, bare_operation, bare_process}
-use Rattle.ec_tree_folds.specs.Kinds.{ExpressionLayer, LinkLayer, MemberLayer, StatementLayer, AddendLayer, ArmLayer}
-use Rattle.ec_tree_folds.specs.Kinds.{BlockLayer, BodyLayer, FactorLayer, ObjectLayer, OperationLayer, ProcessLayer}
-use Rattle.ec_tree_folds.specs.Layers as layers
+use Rattle.ec_ast.proofs.Claims.{Claims, Passes, Held, trees, expression_holds, body_holds}
+use Rattle.ec_ast.proofs.Claims.{ExpressionWith, LinkWith, MemberWith, StatementWith, AddendWith, ArmWith}
+use Rattle.ec_ast.proofs.Claims.{BlockWith, BodyWith, FactorWith, ObjectWith, OperationWith, ProcessWith}
+use Rattle.ec_ast.proofs.Claims.{bare_expression, bare_link, bare_member, bare_statement, bare_addend, bare_arm}
+use Rattle.ec_ast.proofs.Claims.{bare_block, bare_body, bare_factor, bare_object, bare_operation, bare_process}
+use Rattle.ec_ast.specs.Kinds.{ExpressionLayer, LinkLayer, MemberLayer, StatementLayer, AddendLayer, ArmLayer}
+use Rattle.ec_ast.specs.Kinds.{BlockLayer, BodyLayer, FactorLayer, ObjectLayer, OperationLayer, ProcessLayer}
+use Rattle.ec_ast.specs.Layers as layers
 
 -- besides, an assignment has a target
 abbrev pub HasTarget : StatementLayer → Type 0

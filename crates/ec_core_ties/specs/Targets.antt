@@ -8,8 +8,8 @@ use Rattle.ec_ast.specs.declared.Expression.{Expression}
 use Rattle.ec_ast.specs.declared.Expression.TheOpen.{Expression-F, Link-F, Member-F, Statement-F}
 use Rattle.ec_ast.specs.declared.Program.{Program}
 use Rattle.ec_base.specs.Stack.{top_of}
-use Rattle.ec_tree_folds.specs.Folds.{Steps, expression_folded, body_folded}
-use Rattle.ec_tree_folds.specs.Kinds.{Kinds, ExpressionOf, LinkOf, MemberOf, StatementOf, BodyOf}
+use Rattle.ec_ast.specs.Folds.{Steps, expression_folded, body_folded}
+use Rattle.ec_ast.specs.Kinds.{Kinds, ExpressionOf, LinkOf, MemberOf, StatementOf, BodyOf}
 
 -- for each of several assignments, whether it has a target
 abbrev pub Targets : Type 0

@@ -20,11 +20,11 @@ use Rattle.ec_rules.specs.Judging.{expression_part, link_part, member_part, stat
 use Rattle.ec_rules.specs.Judging.{block_piece, body_part, factor_part, object_part, operation_part, process_part}
 use Rattle.ec_rules.specs.Tree.{part_of, link_of, member_of, statement_of, addend_of, arm_of, steps, parts}
 use Rattle.ec_rules.specs.Tree.{block_of, body_of, factor_of, object_of, operation_of, process_of, layer_of, statement_layer}
-use Rattle.ec_tree_folds.specs.Layers.{addend_mapped, arm_mapped, block_mapped, factor_mapped, object_mapped, operation_mapped}
-use Rattle.ec_tree_folds.specs.Layers.{process_mapped, body_with}
-use Rattle.ec_tree_folds.proofs.Rolled.{Rolled, folds_are_rolled, expression_stepped, statement_stepped, addend_stepped}
-use Rattle.ec_tree_folds.proofs.Rolled.{arm_stepped, block_stepped, body_stepped, factor_stepped, object_stepped}
-use Rattle.ec_tree_folds.proofs.Rolled.{operation_stepped, process_stepped, link_has, member_has}
+use Rattle.ec_ast.specs.Layers.{addend_mapped, arm_mapped, block_mapped, factor_mapped, object_mapped, operation_mapped}
+use Rattle.ec_ast.specs.Layers.{process_mapped, body_with}
+use Rattle.ec_ast.proofs.Rolled.{Rolled, folds_are_rolled, expression_stepped, statement_stepped, addend_stepped}
+use Rattle.ec_ast.proofs.Rolled.{arm_stepped, block_stepped, body_stepped, factor_stepped, object_stepped}
+use Rattle.ec_ast.proofs.Rolled.{operation_stepped, process_stepped, link_has, member_has}
 
 pub rolled : Rolled steps parts
 unfolding part_of link_of member_of statement_of addend_of arm_of block_of body_of factor_of object_of operation_of process_of

@@ -22,12 +22,12 @@ use Rattle.ec_rules.specs.Judging.{body_part, factor_part, object_part, operatio
 use Rattle.ec_rules.specs.Parts.{Part, LinkPart, MemberPart, StatementPart, AddendPart, ArmPart, Piece, BodyPart, FactorPart}
 use Rattle.ec_rules.specs.Parts.{Holder, ObjectPart, OperationPart, ProcessPart, ValuePart, expression, class, typeobject}
 use Rattle.ec_rules.specs.Parts.{ConstantPart, AnExpression, AStatement, kinds, class_with}
-use Rattle.ec_tree_folds.specs.Folds.{Steps, expression_folded, link_folded, member_folded, statement_folded, addend_folded}
-use Rattle.ec_tree_folds.specs.Folds.{arm_folded, block_folded, body_folded, factor_folded, object_folded, operation_folded}
-use Rattle.ec_tree_folds.specs.Folds.{process_folded}
-use Rattle.ec_tree_folds.specs.Kinds.{tree}
-use Rattle.ec_tree_folds.specs.Layers as layers
-use Rattle.ec_tree_folds.specs.Layers.{Maps}
+use Rattle.ec_ast.specs.Folds.{Steps, expression_folded, link_folded, member_folded, statement_folded, addend_folded}
+use Rattle.ec_ast.specs.Folds.{arm_folded, block_folded, body_folded, factor_folded, object_folded, operation_folded}
+use Rattle.ec_ast.specs.Folds.{process_folded}
+use Rattle.ec_ast.specs.Kinds.{tree}
+use Rattle.ec_ast.specs.Layers as layers
+use Rattle.ec_ast.specs.Layers.{Maps}
 
 abbrev pub steps : Steps kinds
 steps = record {

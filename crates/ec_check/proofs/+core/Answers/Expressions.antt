@@ -4,7 +4,7 @@ use Rattle.ec_ast.specs.declared.Addend.{out-Addend}
 use Rattle.ec_ast.specs.declared.Factor.{out-Factor}
 use Rattle.ec_check.proofs.Along.{along_first, found_end, found_next, made_in, over_end, over_next}
 use Rattle.ec_check.proofs.Blocks.{on_ok}
-use Rattle.ec_tree_folds.proofs.Layers as layers
+use Rattle.ec_ast.proofs.Layers as layers
 use Rattle.ec_check.proofs.Forms.{core_is, has_made}
 use Rattle.ec_check.proofs.HolderBodies.{holder_made}
 use Rattle.ec_check.proofs.Operands.{addend_cored, addend_made, chain_cored, chain_has_made, compare_cored, compare_made, factor_cored}

@@ -4,7 +4,7 @@ use Rattle.std.proofs.lemmas.List.{drop_all}
 use Rattle.ec_check.proofs.Along.{AlongStatements, found_end, gone_end, gone_first, statement_next, drop_more}
 use Rattle.ec_check.proofs.Blocks as blocks
 use Rattle.ec_check.proofs.Blocks.{on_ok}
-use Rattle.ec_tree_folds.proofs.Layers as layers
+use Rattle.ec_ast.proofs.Layers as layers
 use Rattle.ec_check.proofs.Forms.{behind_none, has_gone, has_only_made, statement_core_is}
 use Rattle.ec_check.proofs.Fusion.{same_part}
 use Rattle.ec_check.proofs.Steps.{gone_same, kept, then_in, unmade}

@@ -13,7 +13,7 @@ use Rattle.ec_rules.specs.Parts.{AddendPart, FactorPart, value_in, values_in}
 use Rattle.ec_rules.specs.Rules.{ended, noted}
 use Rattle.ec_rules.specs.Tree.{addend_of, factor_of, layer_of, link_of, part_of, parts}
 use Rattle.ec_rules.specs.declared.operands.Wanted.TheVariants as wanted
-use Rattle.ec_tree_folds.proofs.Layers as tree_layers
+use Rattle.ec_ast.proofs.Layers as tree_layers
 use Rattle.ec_rules.proofs.Equations.{addend_step, factor_step}
 use Rattle.ec_judge.proofs.Along as along
 use Rattle.ec_judge.proofs.Chains.{chain_looked, chain_walk}

@@ -5,7 +5,7 @@ use Rattle.ec_rules.specs.Judging as spec
 use Rattle.ec_rules.specs.Tree.{part_of, link_of, parts}
 use Rattle.ec_rules.proofs.Equations as of_form
 use Rattle.ec_rules.proofs.Forms.{form_at}
-use Rattle.ec_tree_folds.proofs.Layers as layers
+use Rattle.ec_ast.proofs.Layers as layers
 use Rattle.ec_rules.proofs.form.+form_of.Goals as goal
 
 pub returns-in-Number : goal.returns-in-Number

@@ -12,14 +12,14 @@ use Rattle.ec_ast.specs.declared.Factor.{Factor, roll-Factor, ind-Factor}
 use Rattle.ec_ast.specs.declared.ObjectConstructor.{ObjectConstructor, roll-ObjectConstructor, ind-ObjectConstructor}
 use Rattle.ec_ast.specs.declared.Operation.{Operation, roll-Operation, ind-Operation}
 use Rattle.ec_ast.specs.declared.ProcessSection.{ProcessSection, roll-ProcessSection, ind-ProcessSection}
-use Rattle.ec_tree_folds.specs.Kinds.{Kinds, tree}
-use Rattle.ec_tree_folds.specs.Kinds.{ExpressionOf, LinkOf, MemberOf, StatementOf, AddendOf, ArmOf, BlockOf, BodyOf, FactorOf}
-use Rattle.ec_tree_folds.specs.Kinds.{ObjectOf, OperationOf, ProcessOf}
-use Rattle.ec_tree_folds.specs.Kinds.{ExpressionLayer, LinkLayer, MemberLayer, StatementLayer, AddendLayer, ArmLayer, BlockLayer}
-use Rattle.ec_tree_folds.specs.Kinds.{BodyLayer, FactorLayer, ObjectLayer, OperationLayer, ProcessLayer}
-use Rattle.ec_tree_folds.specs.Layers.{Maps, expression_mapped, link_mapped, member_mapped, statement_mapped, addend_mapped}
-use Rattle.ec_tree_folds.specs.Layers.{arm_mapped, block_mapped, body_mapped, factor_mapped, object_mapped, operation_mapped}
-use Rattle.ec_tree_folds.specs.Layers.{process_mapped}
+use Rattle.ec_ast.specs.Kinds.{Kinds, tree}
+use Rattle.ec_ast.specs.Kinds.{ExpressionOf, LinkOf, MemberOf, StatementOf, AddendOf, ArmOf, BlockOf, BodyOf, FactorOf}
+use Rattle.ec_ast.specs.Kinds.{ObjectOf, OperationOf, ProcessOf}
+use Rattle.ec_ast.specs.Kinds.{ExpressionLayer, LinkLayer, MemberLayer, StatementLayer, AddendLayer, ArmLayer, BlockLayer}
+use Rattle.ec_ast.specs.Kinds.{BodyLayer, FactorLayer, ObjectLayer, OperationLayer, ProcessLayer}
+use Rattle.ec_ast.specs.Layers.{Maps, expression_mapped, link_mapped, member_mapped, statement_mapped, addend_mapped}
+use Rattle.ec_ast.specs.Layers.{arm_mapped, block_mapped, body_mapped, factor_mapped, object_mapped, operation_mapped}
+use Rattle.ec_ast.specs.Layers.{process_mapped}
 
 -- a claim of the parts of each kind
 pub record Claims : Type 1 where

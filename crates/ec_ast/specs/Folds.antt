@@ -11,9 +11,9 @@ use Rattle.ec_ast.specs.declared.Factor.{Factor, fold-Factor}
 use Rattle.ec_ast.specs.declared.ObjectConstructor.{ObjectConstructor, fold-ObjectConstructor}
 use Rattle.ec_ast.specs.declared.Operation.{Operation, fold-Operation}
 use Rattle.ec_ast.specs.declared.ProcessSection.{ProcessSection, fold-ProcessSection}
-use Rattle.ec_tree_folds.specs.Kinds.{Kinds}
-use Rattle.ec_tree_folds.specs.Kinds.{ExpressionOf, LinkOf, MemberOf, StatementOf, AddendOf, ArmOf, BlockOf, BodyOf, FactorOf}
-use Rattle.ec_tree_folds.specs.Kinds.{ObjectOf, OperationOf, ProcessOf}
+use Rattle.ec_ast.specs.Kinds.{Kinds}
+use Rattle.ec_ast.specs.Kinds.{ExpressionOf, LinkOf, MemberOf, StatementOf, AddendOf, ArmOf, BlockOf, BodyOf, FactorOf}
+use Rattle.ec_ast.specs.Kinds.{ObjectOf, OperationOf, ProcessOf}
 
 -- a step for each kind of part
 pub record Steps (k : Kinds) : Type 0 where

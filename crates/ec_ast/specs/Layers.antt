@@ -15,9 +15,9 @@ use Rattle.ec_ast.specs.declared.ProcessSection.{map-ProcessSection}
 use Rattle.ec_ast.specs.declared.Expression.{Expression, out-Expression}
 use Rattle.ec_ast.specs.declared.Statement.{Statement, out-Statement}
 use Rattle.ec_ast.specs.declared.Expression.TheOpen.{Expression-F, Member-F, Statement-F}
-use Rattle.ec_tree_folds.specs.Kinds.{Kinds, tree}
-use Rattle.ec_tree_folds.specs.Kinds.{ExpressionOf, LinkOf, MemberOf, StatementOf, AddendOf, ArmOf, BlockOf, BodyOf, FactorOf}
-use Rattle.ec_tree_folds.specs.Kinds.{ObjectOf, OperationOf, ProcessOf}
+use Rattle.ec_ast.specs.Kinds.{Kinds, tree}
+use Rattle.ec_ast.specs.Kinds.{ExpressionOf, LinkOf, MemberOf, StatementOf, AddendOf, ArmOf, BlockOf, BodyOf, FactorOf}
+use Rattle.ec_ast.specs.Kinds.{ObjectOf, OperationOf, ProcessOf}
 
 -- a function of the parts of each kind
 pub record Maps (k l : Kinds) : Type 0 where

@@ -15,17 +15,17 @@ use Rattle.ec_ast.specs.declared.Operation.{Operation, roll-Operation, out-Opera
 use Rattle.ec_ast.specs.declared.ProcessSection.{ProcessSection, roll-ProcessSection, out-ProcessSection, roll-out-ProcessSection}
 use Rattle.ec_ast.specs.declared.ProcessSection.{fold-roll-ProcessSection}
 use Rattle.ec_ast.specs.declared.Expression.TheOpen.{Expression-F, Member-F, Statement-F}
-use Rattle.ec_tree_folds.specs.Kinds.{Kinds, tree}
-use Rattle.ec_tree_folds.specs.Kinds.{ExpressionOf, MemberOf, StatementOf, BodyOf}
-use Rattle.ec_tree_folds.specs.Kinds.{ExpressionLayer, LinkLayer, MemberLayer, StatementLayer, AddendLayer, ArmLayer, BlockLayer}
-use Rattle.ec_tree_folds.specs.Kinds.{BodyLayer, FactorLayer, ObjectLayer, OperationLayer, ProcessLayer}
-use Rattle.ec_tree_folds.specs.Folds.{Steps, expression_folded, link_folded, member_folded, statement_folded, addend_folded}
-use Rattle.ec_tree_folds.specs.Folds.{arm_folded, block_folded, body_folded, factor_folded, object_folded, operation_folded}
-use Rattle.ec_tree_folds.specs.Folds.{process_folded}
-use Rattle.ec_tree_folds.specs.Layers.{Maps, expression_mapped, link_mapped, member_mapped, statement_mapped, addend_mapped}
-use Rattle.ec_tree_folds.specs.Layers.{arm_mapped, block_mapped, body_mapped, factor_mapped, object_mapped, operation_mapped}
-use Rattle.ec_tree_folds.specs.Layers.{process_mapped, expression_with, statement_with, member_with, body_with, layer_of}
-use Rattle.ec_tree_folds.specs.Layers.{statement_layer}
+use Rattle.ec_ast.specs.Kinds.{Kinds, tree}
+use Rattle.ec_ast.specs.Kinds.{ExpressionOf, MemberOf, StatementOf, BodyOf}
+use Rattle.ec_ast.specs.Kinds.{ExpressionLayer, LinkLayer, MemberLayer, StatementLayer, AddendLayer, ArmLayer, BlockLayer}
+use Rattle.ec_ast.specs.Kinds.{BodyLayer, FactorLayer, ObjectLayer, OperationLayer, ProcessLayer}
+use Rattle.ec_ast.specs.Folds.{Steps, expression_folded, link_folded, member_folded, statement_folded, addend_folded}
+use Rattle.ec_ast.specs.Folds.{arm_folded, block_folded, body_folded, factor_folded, object_folded, operation_folded}
+use Rattle.ec_ast.specs.Folds.{process_folded}
+use Rattle.ec_ast.specs.Layers.{Maps, expression_mapped, link_mapped, member_mapped, statement_mapped, addend_mapped}
+use Rattle.ec_ast.specs.Layers.{arm_mapped, block_mapped, body_mapped, factor_mapped, object_mapped, operation_mapped}
+use Rattle.ec_ast.specs.Layers.{process_mapped, expression_with, statement_with, member_with, body_with, layer_of}
+use Rattle.ec_ast.specs.Layers.{statement_layer}
 
 -- ---- of a part that is made of a layer
 

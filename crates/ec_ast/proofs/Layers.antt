@@ -17,8 +17,8 @@ use Rattle.ec_ast.specs.declared.Addend.{Addend}
 use Rattle.ec_ast.specs.declared.Arm.{Arm}
 use Rattle.ec_ast.specs.declared.Block.{Block}
 use Rattle.ec_ast.specs.declared.ObjectConstructor.{ObjectConstructor}
-use Rattle.ec_tree_folds.specs.Kinds.{Kinds, tree, ExpressionLayer, StatementLayer}
-use Rattle.ec_tree_folds.specs.Layers.{Maps, expression_with, statement_with, layer_of, statement_layer}
+use Rattle.ec_ast.specs.Kinds.{Kinds, tree, ExpressionLayer, StatementLayer}
+use Rattle.ec_ast.specs.Layers.{Maps, expression_with, statement_with, layer_of, statement_layer}
 
 module _ {k : Kinds} (m : Maps tree k) where
   -- ---- expressions
