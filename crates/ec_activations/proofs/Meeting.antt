@@ -13,7 +13,7 @@ use Rattle.ec_code.specs.declared.code.Operation.{Operation}
 use Rattle.ec_code.specs.declared.code.Parts.{Parts}
 use Rattle.ec_code.specs.declared.code.StopRow.{StopRow}
 use Rattle.ec_code.specs.declared.code.Variable.{Variable}
-use Rattle.ec_conform.specs.declared.static_type.StaticType.{StaticType}
+use Rattle.ec_types.specs.declared.conform.static_type.StaticType.{StaticType}
 use Rattle.ec_activations.proofs.Stops.{in_without}
 use Rattle.ec_faithful.specs.Stops.{live_list, stop_of}
 use Rattle.ec_homes.specs.Meeting.{Meet, all_if, live_first, live_in, met_at, met_behind, met_by}

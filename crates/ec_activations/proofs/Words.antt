@@ -14,7 +14,7 @@ use Rattle.ec_code.specs.declared.code.Parts.{Parts}
 use Rattle.ec_code.specs.declared.code.Variable.{Variable}
 use Rattle.ec_faithful.specs.Frames.{home_word, own_reference}
 use Rattle.ec_code_limits.specs.Limits.{HasColumn}
-use Rattle.ec_conform.specs.declared.static_type.StaticType.{StaticType}
+use Rattle.ec_types.specs.declared.conform.static_type.StaticType.{StaticType}
 use Rattle.ec_homes.specs.Homes.{AreHomes, IsWithin, column}
 use Rattle.ec_homes.specs.Meeting.{Meet}
 use Rattle.ec_homes.specs.declared.homes.Home.{Home}

@@ -18,7 +18,7 @@ ghost use Rattle.ec_world.specs.declared.value.Value.{Value as ValueData};
 
 use ec_base::list::Seq;
 use ec_code::code::Live;
-use ec_conform::static_type::{Plain, StaticType};
+use ec_types::conform::static_type::{Plain, StaticType};
 use ec_homes::homes::Home;
 use ec_objects::values::value_of;
 use ec_stop_tables::table::{OperationTable, StopEntry};

@@ -5,14 +5,14 @@ use Rattle.std.specs.Prelude.{option_map, slice_get}
 use Rattle.ec_code.specs.Typing as typing
 use Rattle.ec_code.specs.Typing.{Declared, DeclaredClass, boolean, class_type, element_static, integer, kind_of, plain_static, string}
 use Rattle.ec_code.specs.Typing.{type_if}
-use Rattle.ec_conform.specs.Conforms.{Relation, asks_nothing, conforms_in, plain_conforms}
-use Rattle.ec_conform.specs.Types.{element_from, is_reference}
-use Rattle.ec_conform.specs.declared.named_type.NamedType.{NamedType}
-use Rattle.ec_conform.specs.declared.static_type.Plain.{Plain as PlainStatic}
-use Rattle.ec_conform.specs.declared.static_type.Plain.TheVariants as static
-use Rattle.ec_conform.specs.declared.static_type.StaticType.{StaticType}
-use Rattle.ec_conform.specs.declared.static_type.StaticType.TheVariants as type
-use Rattle.ec_conformity.specs.Known.{IsOfProgram}
+use Rattle.ec_types.specs.Conforms.{Relation, asks_nothing, conforms_in, plain_conforms}
+use Rattle.ec_types.specs.Types.{element_from, is_reference}
+use Rattle.ec_types.specs.declared.conform.named_type.NamedType.{NamedType}
+use Rattle.ec_types.specs.declared.conform.static_type.Plain.{Plain as PlainStatic}
+use Rattle.ec_types.specs.declared.conform.static_type.Plain.TheVariants as static
+use Rattle.ec_types.specs.declared.conform.static_type.StaticType.{StaticType}
+use Rattle.ec_types.specs.declared.conform.static_type.StaticType.TheVariants as type
+use Rattle.ec_types.specs.Known.{IsOfProgram}
 use Rattle.ec_objects.specs.Kinds.{IsOfKind}
 use Rattle.ec_ranges.specs.Values.{InRange}
 use Rattle.ec_sound.specs.Values.{HasType, class_in, own_type}

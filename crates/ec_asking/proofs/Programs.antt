@@ -13,7 +13,7 @@ use Rattle.ec_cluster.specs.declared.cluster.Cluster.{Cluster}
 use Rattle.ec_code.specs.Fine.{Fine, IsFieldOf}
 use Rattle.ec_code.specs.Typing.{Declared, DeclaredClass, element_static, fields_if as types_if, kind_of}
 use Rattle.ec_code.specs.declared.code.Parts.{Parts}
-use Rattle.ec_conform.specs.declared.static_type.StaticType.{StaticType}
+use Rattle.ec_types.specs.declared.conform.static_type.StaticType.{StaticType}
 use Rattle.ec_world.proofs.Procs.{get_past}
 use Rattle.ec_world.specs.Things.{class_blocks}
 use Rattle.ec_world.specs.declared.key.Key.TheVariants.{Object}

@@ -12,15 +12,15 @@ use Rattle.ec_check.proofs.WellPrograms.{program_well}
 use Rattle.ec_check.proofs.WellTrees.{well_part, well_body}
 use Rattle.ec_check.specs.Accepted.{HasCore}
 use Rattle.ec_check.specs.Program.{core_in, core_of, types_of_program}
-use Rattle.ec_conform.specs.Declarations.{declarations_of}
-use Rattle.ec_conform.specs.Table.{Table, IsTable}
+use Rattle.ec_types.specs.Declarations.{declarations_of}
+use Rattle.ec_types.specs.Table.{Table, IsTable}
 use Rattle.ec_core.specs.declared.Core.{Core}
 use Rattle.ec_rules.proofs.Order.{first_in_order}
 use Rattle.ec_rules.specs.Faults.{StaticFaults, faults_of_constants, faults_of_program, scope_of_program}
 use Rattle.ec_rules.specs.Rules.{least_of}
 use Rattle.ec_rules.specs.Tree.{constant_part}
 use Rattle.ec_rules.specs.declared.StaticFault.{StaticFault}
-use Rattle.ec_scopes.specs.declared.scope.Scope.{Scope}
+use Rattle.ec_types.specs.declared.scopes.scope.Scope.{Scope}
 
 pub empty_if : (xs : List StaticFault) → slice_get xs 0 ≡ None → xs ≡ []
 empty_if [] e = refl

@@ -7,8 +7,8 @@ use Rattle.ec_check.specs.Parts.{Made, StatementPart, both_made, nothing_made}
 use Rattle.ec_check.specs.Places.{Env}
 use Rattle.ec_check.specs.Resolving.{behind, behind_all, locals_of_statements, statements_made}
 use Rattle.ec_check.specs.declared.resolver.Resolver.{Resolver}
-use Rattle.ec_conform.specs.declared.static_type.StaticType.{StaticType}
-use Rattle.ec_scopes.specs.declared.scope.Scope.{Scope}
+use Rattle.ec_types.specs.declared.conform.static_type.StaticType.{StaticType}
+use Rattle.ec_types.specs.declared.scopes.scope.Scope.{Scope}
 
 -- ---- what is left of a list
 

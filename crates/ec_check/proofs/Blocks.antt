@@ -20,15 +20,15 @@ use Rattle.ec_check.specs.Resolving.{locals_of_arms, locals_of_block}
 use Rattle.ec_check.specs.Resolving.{initially_made, locals_of_choice, locals_of_statements, statements_core, statements_made}
 use Rattle.ec_check.specs.Tree.{arm_of, block_of, part_of, statement_of}
 use Rattle.ec_check.specs.declared.resolver.Resolver.{Resolver}
-use Rattle.ec_conform.specs.declared.static_type.StaticType.{StaticType}
+use Rattle.ec_types.specs.declared.conform.static_type.StaticType.{StaticType}
 use Rattle.ec_core.specs.declared.Arm.{Arm as CoreArm, roll-Arm}
 use Rattle.ec_core.specs.declared.Block.{Block as CoreBlock, roll-Block}
 use Rattle.ec_core.specs.declared.Expression.{Expression as CoreExpression}
 use Rattle.ec_core.specs.declared.Statement.{Statement as CoreStatement}
-use Rattle.ec_scopes.proofs.Scopes.{declaring-declaring, declaring-none, forgetting-declaring, looping-loop}
-use Rattle.ec_scopes.specs.Scopes.{declaring, forgetting, in_a_loop, innermost, is_in_loop, locals_of, looping}
-use Rattle.ec_scopes.specs.declared.entries.Entry.{Entry}
-use Rattle.ec_scopes.specs.declared.scope.Scope.{Scope}
+use Rattle.ec_types.proofs.ScopesLemmas.{declaring-declaring, declaring-none, forgetting-declaring, looping-loop}
+use Rattle.ec_types.specs.Scopes.{declaring, forgetting, in_a_loop, innermost, is_in_loop, locals_of, looping}
+use Rattle.ec_types.specs.declared.scopes.entries.Entry.{Entry}
+use Rattle.ec_types.specs.declared.scopes.scope.Scope.{Scope}
 
 -- ---- results
 

@@ -18,17 +18,17 @@ use Rattle.ec_check.specs.Resolving.{just_operation, member_made, operation_core
 use Rattle.ec_check.specs.Tree.{block_of, operation_of, operation_step, process_of, process_step}
 use Rattle.ec_check.specs.declared.resolver.Resolver.{Resolver}
 use Rattle.ec_check.specs.declared.variables.Variables.{Variables}
-use Rattle.ec_conform.specs.declared.static_type.StaticType.{StaticType}
+use Rattle.ec_types.specs.declared.conform.static_type.StaticType.{StaticType}
 use Rattle.ec_core.specs.declared.Block.{Block}
 use Rattle.ec_core.specs.declared.Class.{Class}
 use Rattle.ec_core.specs.declared.Kind.{Kind}
 use Rattle.ec_core.specs.declared.Kind.TheVariants as kind
 use Rattle.ec_core.specs.declared.Operation.{Operation}
-use Rattle.ec_names.specs.Names.{Text}
+use Rattle.ec_types.specs.Names.{Text}
 use Rattle.ec_rules.specs.Members.{scope_of_operation}
-use Rattle.ec_scopes.proofs.Scopes.{forgetting-declaring}
-use Rattle.ec_scopes.specs.Scopes.{forgetting, in_a_process, innermost, locals_of}
-use Rattle.ec_scopes.specs.declared.scope.Scope.{Scope}
+use Rattle.ec_types.proofs.ScopesLemmas.{forgetting-declaring}
+use Rattle.ec_types.specs.Scopes.{forgetting, in_a_process, innermost, locals_of}
+use Rattle.ec_types.specs.declared.scopes.scope.Scope.{Scope}
 
 -- of what succeeds
 pub on_ok : {T E P Q : Type 0} (result : Result T E) → (P → Q) → OnOk result P → OnOk result Q

@@ -6,14 +6,14 @@ use Rattle.ec_ast.specs.declared.Name.{Name}
 use Rattle.ec_base.proofs.Stacks.{below_of-push}
 use Rattle.ec_check.proofs.Every.{Every, every_joined, every_left, every_right, none_left, none_right, either, not_both}
 use Rattle.ec_check.proofs.FoundPlaces.{held_out, outward}
-use Rattle.ec_names.specs.Names.{Text, has_name}
+use Rattle.ec_types.specs.Names.{Text, has_name}
 use Rattle.ec_rules.specs.Captures.{Use, use_of, captured_behind, captured, use_outside, uses_outside}
-use Rattle.ec_scopes.proofs.Innermost.{below_of-change}
-use Rattle.ec_scopes.specs.declared.object.Object.{Object}
-use Rattle.ec_scopes.specs.declared.scope.Found.{Found}
-use Rattle.ec_scopes.specs.declared.scope.Found.TheVariants as found
-use Rattle.ec_scopes.specs.declared.scope.Scope.{Scope}
-use Rattle.ec_scopes.specs.Scopes.{find, outside, change_innermost, within}
+use Rattle.ec_types.proofs.Innermost.{below_of-change}
+use Rattle.ec_types.specs.declared.scopes.object.Object.{Object}
+use Rattle.ec_types.specs.declared.scopes.scope.Found.{Found}
+use Rattle.ec_types.specs.declared.scopes.scope.Found.TheVariants as found
+use Rattle.ec_types.specs.declared.scopes.scope.Scope.{Scope}
+use Rattle.ec_types.specs.Scopes.{find, outside, change_innermost, within}
 
 -- ---- uses one behind another
 

@@ -5,12 +5,12 @@ use Rattle.std.specs.List.{slice_get}
 use Rattle.ec_check.proofs.Every.{Every, every_weaker}
 use Rattle.ec_places.specs.Rising.{IsRising}
 use Rattle.ec_check.specs.Resolving.{numbers_from}
-use Rattle.ec_conform.specs.Conforms.{operations_at}
-use Rattle.ec_conform.specs.Table.{Table, IsTable}
-use Rattle.ec_conform.specs.Types.{number_from, number_at, places_of, type_with, operations_from}
-use Rattle.ec_conform.specs.declared.declared.DeclaredType.{DeclaredType}
-use Rattle.ec_conform.specs.declared.declared.Declarations.{Declarations}
-use Rattle.ec_names.specs.Names.{Text}
+use Rattle.ec_types.specs.Conforms.{operations_at}
+use Rattle.ec_types.specs.Table.{Table, IsTable}
+use Rattle.ec_types.specs.Types.{number_from, number_at, places_of, type_with, operations_from}
+use Rattle.ec_types.specs.declared.conform.declared.DeclaredType.{DeclaredType}
+use Rattle.ec_types.specs.declared.conform.declared.Declarations.{Declarations}
+use Rattle.ec_types.specs.Names.{Text}
 
 -- ---- numbers below others
 

@@ -9,11 +9,11 @@ use Rattle.ec_check.proofs.Every.{Every, every_weaker, every_unmap}
 use Rattle.ec_check.proofs.NumberedPrograms.{objects_of, fewer_of, every_map, constants_numbered}
 use Rattle.ec_check.proofs.WellParts.{ConformsToItself}
 use Rattle.ec_check.specs.Program.{outermost, core_of}
-use Rattle.ec_conform.specs.Declarations.{declarations_of}
-use Rattle.ec_conform.specs.Table.{Table, IsTable}
-use Rattle.ec_conform.specs.Types.{names_of, number_from, number_at, places_of, type_with}
-use Rattle.ec_conform.specs.declared.declared.DeclaredType.{DeclaredType}
-use Rattle.ec_conform.specs.declared.declared.Declarations.{Declarations}
+use Rattle.ec_types.specs.Declarations.{declarations_of}
+use Rattle.ec_types.specs.Table.{Table, IsTable}
+use Rattle.ec_types.specs.Types.{names_of, number_from, number_at, places_of, type_with}
+use Rattle.ec_types.specs.declared.conform.declared.DeclaredType.{DeclaredType}
+use Rattle.ec_types.specs.declared.conform.declared.Declarations.{Declarations}
 use Rattle.ec_core.specs.declared.Class.{Class}
 
 -- ---- numbers of types

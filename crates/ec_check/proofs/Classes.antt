@@ -12,18 +12,18 @@ use Rattle.ec_check.specs.Parts.{BodyPart, Holder, holder_judged}
 use Rattle.ec_check.specs.Places.{type_found}
 use Rattle.ec_check.specs.Resolving.{class_with, conditions_in, field_of, number_of_holder, parameter_field}
 use Rattle.ec_check.specs.Tree.{body_of, class_part, member_of}
-use Rattle.ec_conform.specs.declared.static_type.StaticType.{StaticType}
+use Rattle.ec_types.specs.declared.conform.static_type.StaticType.{StaticType}
 use Rattle.ec_core.specs.declared.Class.{Class as CoreClass}
 use Rattle.ec_core.specs.declared.Field.{Field}
 use Rattle.ec_judge.specs.Holders.{holder_with, holder_of as holder_seen}
 use Rattle.ec_judge.specs.declared.holders.Heading.{Heading}
-use Rattle.ec_names.specs.Names.{Text}
+use Rattle.ec_types.specs.Names.{Text}
 use Rattle.ec_rules.specs.Lists.{each}
 use Rattle.ec_rules.specs.Members.{scope_of}
 use Rattle.ec_rules.specs.Parts as judged
 use Rattle.ec_rules.specs.Tree.{class_part as judged_class}
-use Rattle.ec_scopes.specs.Scopes.{find}
-use Rattle.ec_scopes.specs.declared.scope.Scope.{Scope}
+use Rattle.ec_types.specs.Scopes.{find}
+use Rattle.ec_types.specs.declared.scopes.scope.Scope.{Scope}
 
 pub same_holder : (heading : Heading) (body : Body) → holder_judged (holder_of heading body) ≡ holder_seen heading body
 same_holder heading body = ap (holder_with heading) (same_body body)

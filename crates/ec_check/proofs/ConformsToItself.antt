@@ -12,22 +12,22 @@ use Rattle.ec_check.proofs.FirstNames.{same_itself}
 use Rattle.ec_check.proofs.FoundPlaces.{first_below}
 use Rattle.ec_check.proofs.WellParts.{ConformsToItself}
 use Rattle.ec_check.proofs.WellValues.{both_hold, first_of_two, second_of_two, same_plain}
-use Rattle.ec_conform.specs.Conforms.{Relation, operations_in, operations_at, conforms_in, parameters_fit, results_fit, stands_for}
-use Rattle.ec_conform.specs.Conforms.{has_operation, has_operations}
-use Rattle.ec_conform.specs.Conforms.{meets, IsClosed}
-use Rattle.ec_conform.specs.Table.{Table, IsTable}
-use Rattle.ec_conform.specs.Types.{named, vector_of, type_with_number, written, type_of, operation_of, operation_names}
-use Rattle.ec_conform.specs.Types.{operations_from, type_with}
-use Rattle.ec_conform.specs.Types.{names_of, types_of}
-use Rattle.ec_conform.specs.declared.declared.DeclaredType.{DeclaredType}
-use Rattle.ec_conform.specs.declared.declared.Declarations.{Declarations}
-use Rattle.ec_conform.specs.declared.named_type.NamedType.{NamedType}
-use Rattle.ec_conform.specs.declared.operations.NamedOperation.{NamedOperation}
-use Rattle.ec_conform.specs.declared.static_type.Plain.{Plain as PlainType}
-use Rattle.ec_conform.specs.declared.static_type.Plain.TheVariants.{Integer, Boolean, String, Any, Node, Named}
-use Rattle.ec_conform.specs.declared.static_type.StaticType.{StaticType}
-use Rattle.ec_conform.specs.declared.static_type.StaticType.TheVariants.{Plain, Vector, Nil, Unknown}
-use Rattle.ec_names.specs.Names.{Text, is_same, first_named, has_name}
+use Rattle.ec_types.specs.Conforms.{Relation, operations_in, operations_at, conforms_in, parameters_fit, results_fit, stands_for}
+use Rattle.ec_types.specs.Conforms.{has_operation, has_operations}
+use Rattle.ec_types.specs.Conforms.{meets, IsClosed}
+use Rattle.ec_types.specs.Table.{Table, IsTable}
+use Rattle.ec_types.specs.Types.{named, vector_of, type_with_number, written, type_of, operation_of, operation_names}
+use Rattle.ec_types.specs.Types.{operations_from, type_with}
+use Rattle.ec_types.specs.Types.{names_of, types_of}
+use Rattle.ec_types.specs.declared.conform.declared.DeclaredType.{DeclaredType}
+use Rattle.ec_types.specs.declared.conform.declared.Declarations.{Declarations}
+use Rattle.ec_types.specs.declared.conform.named_type.NamedType.{NamedType}
+use Rattle.ec_types.specs.declared.conform.operations.NamedOperation.{NamedOperation}
+use Rattle.ec_types.specs.declared.conform.static_type.Plain.{Plain as PlainType}
+use Rattle.ec_types.specs.declared.conform.static_type.Plain.TheVariants.{Integer, Boolean, String, Any, Node, Named}
+use Rattle.ec_types.specs.declared.conform.static_type.StaticType.{StaticType}
+use Rattle.ec_types.specs.declared.conform.static_type.StaticType.TheVariants.{Plain, Vector, Nil, Unknown}
+use Rattle.ec_types.specs.Names.{Text, is_same, first_named, has_name}
 
 -- ---- types whose numbers are those of declared types
 

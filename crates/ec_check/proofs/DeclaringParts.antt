@@ -9,13 +9,13 @@ use Rattle.ec_check.proofs.Every.{Every, every_joined, every_unmap, none_left, n
 use Rattle.ec_check.specs.Parts.{Part, Piece, StatementPart, LinkPart, FactorPart, AddendPart, ArmPart, ProcessPart, OperationPart}
 use Rattle.ec_check.specs.Parts.{MemberPart, BodyPart, Holder, ObjectPart, link_judged, arm_judged, process_judged, operation_judged}
 use Rattle.ec_check.specs.Parts.{member_judged, holder_judged}
-use Rattle.ec_conform.specs.Declarations as conform
-use Rattle.ec_conform.specs.Declarations.{both, joined, nothing, if_there, operation_at, within_members, operations_behind}
-use Rattle.ec_conform.specs.Declarations.{object_of, signature_with}
-use Rattle.ec_conform.specs.Table.{Table}
-use Rattle.ec_conform.specs.declared.declared.Declarations.{Declarations}
-use Rattle.ec_conform.specs.declared.declared.DeclaredType.{DeclaredType}
-use Rattle.ec_names.specs.Names.{Text, has_name}
+use Rattle.ec_types.specs.Declarations as conform
+use Rattle.ec_types.specs.Declarations.{both, joined, nothing, if_there, operation_at, within_members, operations_behind}
+use Rattle.ec_types.specs.Declarations.{object_of, signature_with}
+use Rattle.ec_types.specs.Table.{Table}
+use Rattle.ec_types.specs.declared.conform.declared.Declarations.{Declarations}
+use Rattle.ec_types.specs.declared.conform.declared.DeclaredType.{DeclaredType}
+use Rattle.ec_types.specs.Names.{Text, has_name}
 use Rattle.ec_rules.specs.Calls.{Receiver, link_parts, is_last, faults_of_links, behind, is_clean_after, class_created, receiver_if}
 use Rattle.ec_rules.specs.Calls.{faults_of_head, chain_faults}
 use Rattle.ec_rules.specs.Forms.{Form, Literal, Negated, Constructor, Vector, Created, Itself, NameAlone, Other}
@@ -26,8 +26,8 @@ use Rattle.ec_rules.specs.Names.{unknown_types}
 use Rattle.ec_rules.specs.Parts as judged
 use Rattle.ec_rules.specs.Parts.{faults_in, value_in}
 use Rattle.ec_rules.specs.Statements.{piece_of_arm}
-use Rattle.ec_scopes.specs.declared.scope.Scope.{Scope}
-use Rattle.ec_conform.specs.declared.static_type.StaticType.{StaticType}
+use Rattle.ec_types.specs.declared.scopes.scope.Scope.{Scope}
+use Rattle.ec_types.specs.declared.conform.static_type.StaticType.{StaticType}
 
 -- ---- types whose operations have known results
 

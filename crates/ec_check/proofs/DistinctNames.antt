@@ -9,10 +9,10 @@ use Rattle.ec_ast.specs.declared.Span.{Span}
 use Rattle.ec_check.proofs.Every.{none_left, none_right, not_both}
 use Rattle.ec_check.proofs.RangedParts.{map_both}
 use Rattle.ec_check.specs.Operations.{AreDistinct}
-use Rattle.ec_conform.proofs.Names.{is_same_symmetric, has_name_more}
-use Rattle.ec_conform.specs.Types.{operation_names, operation_of, operations_from}
-use Rattle.ec_conform.specs.declared.operations.NamedOperation.{NamedOperation}
-use Rattle.ec_names.specs.Names.{Text, is_same, has_name}
+use Rattle.ec_types.proofs.NamesLemmas.{is_same_symmetric, has_name_more}
+use Rattle.ec_types.specs.Types.{operation_names, operation_of, operations_from}
+use Rattle.ec_types.specs.declared.conform.operations.NamedOperation.{NamedOperation}
+use Rattle.ec_types.specs.Names.{Text, is_same, has_name}
 use Rattle.ec_rules.specs.Doubled.{doubled_behind}
 use Rattle.ec_rules.specs.Members.{parameter_names}
 use Rattle.ec_rules.specs.Rules.{fault_if}

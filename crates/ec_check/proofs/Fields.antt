@@ -11,7 +11,7 @@ use Rattle.ec_check.specs.Resolving.{statements_core, statements_made, locals_of
 use Rattle.ec_check.specs.Tree.{part_of, statement_of, block_of, expression_step, statement_step, block_step}
 use Rattle.ec_check.specs.Typing.{expression_within}
 use Rattle.ec_core.specs.declared.Block.{roll-Block}
-use Rattle.ec_scopes.specs.declared.scope.Scope.{Scope}
+use Rattle.ec_types.specs.declared.scopes.scope.Scope.{Scope}
 
 pub part_core : (x : Expression) (env : Env) → (part_of x).core env ≡ core_of_expression (layer_of x) env
 unfolding expression_step

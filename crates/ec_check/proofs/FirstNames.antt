@@ -6,9 +6,9 @@ use Rattle.std.specs.Cmp.Lexicographic.{bytes_decides}
 use Rattle.std.proofs.lemmas.List.{length-map, map-append}
 use Rattle.ec_check.proofs.WellValues.{first_of_two, second_of_two}
 use Rattle.ec_check.specs.Places.{number_or, number_named, names_of}
-use Rattle.ec_conform.proofs.Names.{first_kept, first_new, has_name_more}
-use Rattle.ec_names.specs.Names.{Text, is_same, first_from, first_named, has_name}
-use Rattle.ec_scopes.specs.declared.entries.Entry.{Entry}
+use Rattle.ec_types.proofs.NamesLemmas.{first_kept, first_new, has_name_more}
+use Rattle.ec_types.specs.Names.{Text, is_same, first_from, first_named, has_name}
+use Rattle.ec_types.specs.declared.scopes.entries.Entry.{Entry}
 
 -- ---- tests
 

@@ -18,18 +18,18 @@ use Rattle.ec_check.specs.Resolving.{at_start, env_of_operation, field_of, param
 use Rattle.ec_check.specs.Resolving.{class_core, captures_of, env_of_body}
 use Rattle.ec_core.specs.declared.Class.{Class}
 use Rattle.ec_core.specs.declared.Operation.{Operation}
-use Rattle.ec_names.specs.Names.{Text, has_name}
+use Rattle.ec_types.specs.Names.{Text, has_name}
 use Rattle.ec_rules.specs.Lists.{each}
 use Rattle.ec_rules.specs.Members as rules
 use Rattle.ec_rules.specs.Members.{parameter_entries, result_entries, fields_in, first_members, members_of, member_name}
 use Rattle.ec_rules.specs.Members.{object_with, scope_of_names, scope_of}
 use Rattle.ec_rules.specs.Parts as judged
-use Rattle.ec_scopes.proofs.Innermost.{top_of-change}
-use Rattle.ec_scopes.specs.declared.entries.Entry.{Entry}
-use Rattle.ec_scopes.specs.declared.object.Object.{Object}
-use Rattle.ec_scopes.specs.declared.scope.Scope.{Scope}
-use Rattle.ec_scopes.specs.Scopes.{innermost, locals_of, change_innermost, with_locals, at_loop, at_process, declaring, in_a_loop}
-use Rattle.ec_scopes.specs.Scopes.{in_a_process}
+use Rattle.ec_types.proofs.Innermost.{top_of-change}
+use Rattle.ec_types.specs.declared.scopes.entries.Entry.{Entry}
+use Rattle.ec_types.specs.declared.scopes.object.Object.{Object}
+use Rattle.ec_types.specs.declared.scopes.scope.Scope.{Scope}
+use Rattle.ec_types.specs.Scopes.{innermost, locals_of, change_innermost, with_locals, at_loop, at_process, declaring, in_a_loop}
+use Rattle.ec_types.specs.Scopes.{in_a_process}
 
 -- ---- the innermost object, changed
 

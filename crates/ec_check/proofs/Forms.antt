@@ -14,12 +14,12 @@ use Rattle.ec_check.specs.Places.{Env}
 use Rattle.ec_check.specs.Resolving.{behind, core_of_expression, core_of_statement, expression_made, further, locals_of, statement_made}
 use Rattle.ec_check.specs.Tree.{part_of, statement_of, statement_step}
 use Rattle.ec_check.specs.declared.resolver.Resolver.{Resolver}
-use Rattle.ec_conform.specs.declared.static_type.StaticType.{StaticType}
+use Rattle.ec_types.specs.declared.conform.static_type.StaticType.{StaticType}
 use Rattle.ec_rules.specs.Judging.{entries_of, statement_part}
-use Rattle.ec_scopes.proofs.Scopes.{declaring-none}
-use Rattle.ec_scopes.specs.Scopes.{declaring}
-use Rattle.ec_scopes.specs.declared.entries.Entry.{Entry}
-use Rattle.ec_scopes.specs.declared.scope.Scope.{Scope}
+use Rattle.ec_types.proofs.ScopesLemmas.{declaring-none}
+use Rattle.ec_types.specs.Scopes.{declaring}
+use Rattle.ec_types.specs.declared.scopes.entries.Entry.{Entry}
+use Rattle.ec_types.specs.declared.scopes.scope.Scope.{Scope}
 
 -- ---- expressions
 

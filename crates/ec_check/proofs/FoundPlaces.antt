@@ -10,20 +10,20 @@ use Rattle.ec_check.specs.Places.{Env, number_or, number_named, names_of, fields
 use Rattle.ec_check.specs.Places.{place_found, place_of}
 use Rattle.ec_core.specs.declared.Class.{Class}
 use Rattle.ec_core.specs.declared.Place.TheVariants as place
-use Rattle.ec_names.specs.Names.{Text, first_from, first_named, has_name, is_same}
+use Rattle.ec_types.specs.Names.{Text, first_from, first_named, has_name, is_same}
 use Rattle.ec_rules.specs.Names.{is_found}
-use Rattle.ec_scopes.specs.declared.entries.Entry.{Entry}
-use Rattle.ec_scopes.specs.declared.globals.ClassMeant.{ClassMeant}
-use Rattle.ec_scopes.specs.declared.globals.Global.{Global}
-use Rattle.ec_scopes.specs.declared.globals.Meaning.{Meaning}
-use Rattle.ec_scopes.specs.declared.globals.Meaning.TheVariants as means
-use Rattle.ec_scopes.specs.declared.object.Object.{Object}
-use Rattle.ec_scopes.specs.declared.scope.Found.{Found}
-use Rattle.ec_scopes.specs.declared.scope.Found.TheVariants as found
-use Rattle.ec_scopes.specs.declared.scope.Scope.{Scope}
-use Rattle.ec_scopes.specs.Scopes.{entry_named, meaning_named, found_meaning, held_or, found_within, find, class_meant}
-use Rattle.ec_scopes.specs.Scopes.{unless_value, class_named}
-use Rattle.ec_scopes.specs.Scopes.{innermost, locals_of, is_local, outside}
+use Rattle.ec_types.specs.declared.scopes.entries.Entry.{Entry}
+use Rattle.ec_types.specs.declared.scopes.globals.ClassMeant.{ClassMeant}
+use Rattle.ec_types.specs.declared.scopes.globals.Global.{Global}
+use Rattle.ec_types.specs.declared.scopes.globals.Meaning.{Meaning}
+use Rattle.ec_types.specs.declared.scopes.globals.Meaning.TheVariants as means
+use Rattle.ec_types.specs.declared.scopes.object.Object.{Object}
+use Rattle.ec_types.specs.declared.scopes.scope.Found.{Found}
+use Rattle.ec_types.specs.declared.scopes.scope.Found.TheVariants as found
+use Rattle.ec_types.specs.declared.scopes.scope.Scope.{Scope}
+use Rattle.ec_types.specs.Scopes.{entry_named, meaning_named, found_meaning, held_or, found_within, find, class_meant}
+use Rattle.ec_types.specs.Scopes.{unless_value, class_named}
+use Rattle.ec_types.specs.Scopes.{innermost, locals_of, is_local, outside}
 
 -- ---- how many objects further out something is found
 

@@ -13,14 +13,14 @@ use Rattle.ec_check.proofs.SoundParts.{SoundPart, SoundLink, SoundFactor, SoundA
 use Rattle.ec_check.specs.Layers.{expression_judged}
 use Rattle.ec_check.specs.Parts.{link_judged, factor_judged, addend_judged}
 use Rattle.ec_check.specs.Tree.{expression_step, part_of, link_of, factor_of, addend_of}
-use Rattle.ec_conform.specs.Declarations as conform
-use Rattle.ec_conform.specs.Declarations.{joined, in_expression, in_link, in_factor, in_addend}
-use Rattle.ec_conform.specs.declared.declared.Declarations.{Declarations}
+use Rattle.ec_types.specs.Declarations as conform
+use Rattle.ec_types.specs.Declarations.{joined, in_expression, in_link, in_factor, in_addend}
+use Rattle.ec_types.specs.declared.conform.declared.Declarations.{Declarations}
 use Rattle.ec_rules.specs.Calls.{is_word}
 use Rattle.ec_rules.specs.Forms.{Form, Literal, Created, NameAlone, Other}
 use Rattle.ec_rules.specs.Judging.{expression_part, form_in_parentheses, form_negated, form_of_chain, form_of, faults_of}
 use Rattle.ec_rules.specs.Parts as judged
-use Rattle.ec_scopes.specs.declared.scope.Scope.{Scope}
+use Rattle.ec_types.specs.declared.scopes.scope.Scope.{Scope}
 use Rattle.ec_check.proofs.GoodParts.{IsGoodPart, IsGoodLink, IsGoodAddend, IsGoodFactor, good}
 use Rattle.ec_ast.proofs.Claims.{Held, trees, ExpressionWith, bare_expression}
 

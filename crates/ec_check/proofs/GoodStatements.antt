@@ -16,14 +16,14 @@ use Rattle.ec_check.proofs.SoundStatements.{SoundParts, statement_is_sound, bloc
 use Rattle.ec_check.specs.Layers.{statement_judged}
 use Rattle.ec_check.specs.Parts.{StatementPart, arm_judged}
 use Rattle.ec_check.specs.Tree.{statement_step, arm_step, block_step, statement_of, arm_of, block_of}
-use Rattle.ec_conform.specs.Declarations as conform
-use Rattle.ec_conform.specs.Declarations.{joined, nothing, in_expression, in_statement, in_arm, in_block}
-use Rattle.ec_conform.specs.declared.declared.Declarations.{Declarations}
+use Rattle.ec_types.specs.Declarations as conform
+use Rattle.ec_types.specs.Declarations.{joined, nothing, in_expression, in_statement, in_arm, in_block}
+use Rattle.ec_types.specs.declared.conform.declared.Declarations.{Declarations}
 use Rattle.ec_rules.specs.Judging.{statement_part, statement_finished, block_finished}
 use Rattle.ec_rules.specs.Parts as judged
 use Rattle.ec_rules.specs.Statements.{piece_of_arm}
-use Rattle.ec_scopes.specs.declared.scope.Scope.{Scope}
-use Rattle.ec_scopes.specs.Scopes.{declaring, in_a_loop}
+use Rattle.ec_types.specs.declared.scopes.scope.Scope.{Scope}
+use Rattle.ec_types.specs.Scopes.{declaring, in_a_loop}
 use Rattle.ec_check.proofs.GoodParts.{IsGoodStatement, IsGoodArm, IsGoodBlock, good}
 use Rattle.ec_ast.proofs.Claims.{Held, trees, StatementWith, ArmWith, BlockWith, bare_statement, bare_arm, bare_block}
 

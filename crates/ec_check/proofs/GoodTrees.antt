@@ -31,14 +31,14 @@ use Rattle.ec_check.proofs.SoundParts.{SoundLink, SoundMember, SoundAddend, Soun
 use Rattle.ec_check.proofs.SoundParts.{SoundOperation, SoundProcess}
 use Rattle.ec_check.specs.Tree.{link_step, member_step, addend_step, body_step, factor_step, object_step, operation_step, process_step}
 use Rattle.ec_check.specs.Tree.{part_of, member_of}
-use Rattle.ec_conform.specs.Declarations as conform
-use Rattle.ec_conform.specs.Declarations.{both, within_members, nothing, in_expression, in_link, in_member, in_addend, in_block, in_body}
-use Rattle.ec_conform.specs.Declarations.{in_factor, in_constructor, in_process}
-use Rattle.ec_conform.specs.declared.declared.Declarations.{Declarations}
+use Rattle.ec_types.specs.Declarations as conform
+use Rattle.ec_types.specs.Declarations.{both, within_members, nothing, in_expression, in_link, in_member, in_addend, in_block, in_body}
+use Rattle.ec_types.specs.Declarations.{in_factor, in_constructor, in_process}
+use Rattle.ec_types.specs.declared.conform.declared.Declarations.{Declarations}
 use Rattle.ec_rules.specs.Judging.{members_finished}
 use Rattle.ec_check.specs.Parts.{member_judged}
-use Rattle.ec_scopes.specs.declared.scope.Scope.{Scope}
-use Rattle.ec_scopes.specs.Scopes.{in_a_process}
+use Rattle.ec_types.specs.declared.scopes.scope.Scope.{Scope}
+use Rattle.ec_types.specs.Scopes.{in_a_process}
 use Rattle.ec_check.proofs.GoodParts.{IsGoodPart, IsGoodLink, IsGoodMember, IsGoodStatement, IsGoodAddend, IsGoodBlock}
 use Rattle.ec_check.proofs.GoodParts.{IsGoodBody, IsGoodFactor, IsGoodObject, IsGoodOperation, IsGoodProcess, good}
 use Rattle.ec_ast.proofs.Claims.{Passes, Held, trees, LinkWith, MemberWith, AddendWith, BodyWith, FactorWith, ObjectWith}

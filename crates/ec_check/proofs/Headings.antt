@@ -8,10 +8,10 @@ use Rattle.ec_check.specs.Parts.{nothing_made}
 use Rattle.ec_check.specs.Places.{Env}
 use Rattle.ec_check.specs.Resolving.{behind_heading, heading_entries, heading_types, numbers_from, result_written, types_written}
 use Rattle.ec_check.specs.declared.resolver.Resolver.{Resolver}
-use Rattle.ec_conform.specs.declared.static_type.StaticType.{StaticType}
-use Rattle.ec_names.specs.Names.{Text}
-use Rattle.ec_scopes.specs.Scopes.{declaring, written_in}
-use Rattle.ec_scopes.specs.declared.scope.Scope.{Scope}
+use Rattle.ec_types.specs.declared.conform.static_type.StaticType.{StaticType}
+use Rattle.ec_types.specs.Names.{Text}
+use Rattle.ec_types.specs.Scopes.{declaring, written_in}
+use Rattle.ec_types.specs.declared.scopes.scope.Scope.{Scope}
 
 pub numbers_joined : (from a b : ℕ) → numbers_from from a ++ numbers_from (from + a) b ≡ numbers_from from (a + b)
 numbers_joined from zero b = let e : from + 0 ≡ from = omega arith in let f : 0 + b ≡ b =

@@ -28,7 +28,7 @@ use Rattle.ec_check.specs.Resolving as spec
 use Rattle.ec_check.specs.Tree.{block_of, body_of, body_step, member_of, object_of, object_step, process_of}
 use Rattle.ec_check.specs.declared.resolver.Resolver.{Resolver}
 use Rattle.ec_check.specs.declared.variables.Variables.{Variables}
-use Rattle.ec_conform.specs.Types.{number_at}
+use Rattle.ec_types.specs.Types.{number_at}
 use Rattle.ec_core.specs.declared.Block.{Block, roll-Block}
 use Rattle.ec_core.specs.declared.Class.{Class}
 use Rattle.ec_core.specs.declared.Expression.TheVariants as e
@@ -40,16 +40,16 @@ use Rattle.ec_judge.proofs.Walks.{walked_scope}
 use Rattle.ec_judge.specs.Holders.{holder_of as holder_seen, over_holder}
 use Rattle.ec_judge.specs.declared.holders.Heading.{Heading}
 use Rattle.ec_judge.specs.declared.walk.Walk.{Walk}
-use Rattle.ec_names.specs.Names.{Text}
+use Rattle.ec_types.specs.Names.{Text}
 use Rattle.ec_rules.specs.Captures.{captured, uses_outside}
 use Rattle.ec_rules.specs.Judging.{faults_in_holder, uses_within}
 use Rattle.ec_rules.specs.Lists.{each}
 use Rattle.ec_rules.specs.Members.{fields_of, object_with, scope_of}
 use Rattle.ec_rules.specs.Parts as judged
 use Rattle.ec_rules.specs.Tree.{object_of as object_seen}
-use Rattle.ec_scopes.proofs.Scopes.{outside-process, outside-within}
-use Rattle.ec_scopes.specs.Scopes.{outside}
-use Rattle.ec_scopes.specs.declared.scope.Scope.{Scope}
+use Rattle.ec_types.proofs.ScopesLemmas.{outside-process, outside-within}
+use Rattle.ec_types.specs.Scopes.{outside}
+use Rattle.ec_types.specs.declared.scopes.scope.Scope.{Scope}
 
 -- ---- bodies
 

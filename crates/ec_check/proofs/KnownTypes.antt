@@ -6,11 +6,11 @@ use Rattle.ec_ast.specs.declared.Span.{Span}
 use Rattle.ec_ast.specs.declared.TypeName.{TypeName, roll-TypeName, map-TypeName, fold-roll-TypeName, ind-TypeName}
 use Rattle.ec_ast.specs.declared.TypeName.TheOpen.{TypeName-F}
 use Rattle.ec_check.proofs.Every.{none_left}
-use Rattle.ec_conform.specs.Table.{Table}
-use Rattle.ec_conform.specs.Types.{known, type_of, type_with_number, vector_of, element_of, written}
-use Rattle.ec_conform.specs.declared.static_type.StaticType.{StaticType}
-use Rattle.ec_conform.specs.declared.static_type.StaticType.TheVariants.{Plain, Vector, Nil, Unknown}
-use Rattle.ec_names.specs.Names.{first_named}
+use Rattle.ec_types.specs.Table.{Table}
+use Rattle.ec_types.specs.Types.{known, type_of, type_with_number, vector_of, element_of, written}
+use Rattle.ec_types.specs.declared.conform.static_type.StaticType.{StaticType}
+use Rattle.ec_types.specs.declared.conform.static_type.StaticType.TheVariants.{Plain, Vector, Nil, Unknown}
+use Rattle.ec_types.specs.Names.{first_named}
 use Rattle.ec_rules.specs.Lists.{each}
 use Rattle.ec_rules.specs.Names.{unknown_type, unknown_types}
 use Rattle.ec_rules.specs.Rules.{fault_unless, is_clean}

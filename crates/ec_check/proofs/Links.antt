@@ -21,7 +21,7 @@ use Rattle.ec_core.specs.declared.Link.{Link as CoreLink}
 use Rattle.ec_core.specs.declared.Link.TheVariants as core
 use Rattle.ec_rules.specs.Calls.{Receiver, Creation, Own, Typed, callee, link_type, receiver, result_of, type_indexed, type_of_receiver}
 use Rattle.ec_rules.specs.Tree as judged
-use Rattle.ec_scopes.specs.declared.scope.Scope.{Scope}
+use Rattle.ec_types.specs.declared.scopes.scope.Scope.{Scope}
 
 -- ---- what parts make, one list behind another
 

@@ -12,13 +12,13 @@ use Rattle.ec_check.proofs.OwnOperations.{all_behind, own_are_new, signatures_ar
 use Rattle.ec_check.specs.Parts.{Holder, MemberPart, holder_judged, member_judged, process_judged}
 use Rattle.ec_check.specs.Places.{Env}
 use Rattle.ec_check.specs.Resolving.{body_made, class_core, env_of_body, holder_made, initial_operation, number_of_holder}
-use Rattle.ec_conform.specs.Conforms.{operations_at}
-use Rattle.ec_conform.specs.Declarations as conform
-use Rattle.ec_conform.specs.Declarations.{object_of, operations_behind, within_members}
-use Rattle.ec_conform.specs.Types.{operations_from}
-use Rattle.ec_conform.specs.declared.declared.DeclaredType.{DeclaredType}
+use Rattle.ec_types.specs.Conforms.{operations_at}
+use Rattle.ec_types.specs.Declarations as conform
+use Rattle.ec_types.specs.Declarations.{object_of, operations_behind, within_members}
+use Rattle.ec_types.specs.Types.{operations_from}
+use Rattle.ec_types.specs.declared.conform.declared.DeclaredType.{DeclaredType}
 use Rattle.ec_core.specs.declared.Class.{Class}
-use Rattle.ec_names.specs.Names.{Text}
+use Rattle.ec_types.specs.Names.{Text}
 use Rattle.ec_rules.specs.Captures.{captured}
 use Rattle.ec_rules.specs.Doubled.{doubled_in_body}
 use Rattle.ec_rules.specs.EndNames.{end_of_holder}
@@ -30,7 +30,7 @@ use Rattle.ec_rules.specs.Members.{scope_of}
 use Rattle.ec_rules.specs.Names.{unknown_in_parameters}
 use Rattle.ec_rules.specs.Parts as judged
 use Rattle.ec_rules.specs.declared.StaticFault.{StaticFault}
-use Rattle.ec_scopes.specs.declared.scope.Scope.{Scope}
+use Rattle.ec_types.specs.declared.scopes.scope.Scope.{Scope}
 
 -- ---- its operations
 

@@ -15,11 +15,11 @@ use Rattle.ec_check.specs.Parts.{arm_judged, process_judged, member_judged, hold
 use Rattle.ec_check.specs.Places.{Env}
 use Rattle.ec_check.specs.Resolving.{all_made, member_made, members_made, initially_made, process_made, holder_made, link_parts}
 use Rattle.ec_check.specs.Resolving.{parts_of_links, chain_parts, parts_of_chain}
-use Rattle.ec_conform.specs.Declarations as conform
-use Rattle.ec_conform.specs.Declarations.{both, joined, within_members}
-use Rattle.ec_conform.specs.declared.declared.Declarations.{Declarations}
-use Rattle.ec_conform.specs.declared.declared.DeclaredType.{DeclaredType}
-use Rattle.ec_conform.specs.declared.static_type.StaticType.{StaticType}
+use Rattle.ec_types.specs.Declarations as conform
+use Rattle.ec_types.specs.Declarations.{both, joined, within_members}
+use Rattle.ec_types.specs.declared.conform.declared.Declarations.{Declarations}
+use Rattle.ec_types.specs.declared.conform.declared.DeclaredType.{DeclaredType}
+use Rattle.ec_types.specs.declared.conform.static_type.StaticType.{StaticType}
 use Rattle.ec_core.specs.declared.Class.{Class}
 use Rattle.ec_core.specs.declared.Operation.{Operation}
 use Rattle.ec_rules.specs.Calls.{Receiver, class_created, receiver_if, is_creation, faults_of_head, chain_faults}
@@ -30,8 +30,8 @@ use Rattle.ec_rules.specs.Parts as judged
 use Rattle.ec_rules.specs.Parts.{faults_in, value_in}
 use Rattle.ec_rules.specs.Statements.{piece_of_arm}
 use Rattle.ec_rules.specs.declared.StaticFault.{StaticFault}
-use Rattle.ec_scopes.specs.Scopes.{class_named}
-use Rattle.ec_scopes.specs.declared.scope.Scope.{Scope}
+use Rattle.ec_types.specs.Scopes.{class_named}
+use Rattle.ec_types.specs.declared.scopes.scope.Scope.{Scope}
 
 -- ---- each kind of part
 

@@ -13,9 +13,9 @@ use Rattle.ec_check.specs.Operations.{is_of_class, operations_of_class, exported
 use Rattle.ec_check.specs.Parts.{Made, nothing_made, both_made}
 use Rattle.ec_check.specs.Resolving.{just_operation}
 use Rattle.ec_check.specs.WellTyped.{is_named}
-use Rattle.ec_conform.specs.Conforms.{operations_at}
-use Rattle.ec_conform.specs.Table.{Table}
-use Rattle.ec_conform.specs.declared.declared.DeclaredType.{DeclaredType}
+use Rattle.ec_types.specs.Conforms.{operations_at}
+use Rattle.ec_types.specs.Table.{Table}
+use Rattle.ec_types.specs.declared.conform.declared.DeclaredType.{DeclaredType}
 use Rattle.ec_core.specs.declared.Class.{Class}
 use Rattle.ec_core.specs.declared.Operation.{Operation}
 use Rattle.ec_rules.specs.declared.StaticFault.{StaticFault}

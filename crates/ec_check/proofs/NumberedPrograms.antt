@@ -20,16 +20,16 @@ use Rattle.ec_check.specs.Operations.{HasItsOperations}
 use Rattle.ec_places.specs.Rising.{IsRising}
 use Rattle.ec_check.specs.Program.{constant_made, constants_made, outermost, core_of}
 use Rattle.ec_check.specs.Tree.{class_part}
-use Rattle.ec_conform.specs.Declarations.{joined, in_expression, in_class, in_body, in_value, declarations_of}
-use Rattle.ec_conform.specs.Table.{Table, IsTable}
-use Rattle.ec_conform.specs.Types.{number_at, places_of}
-use Rattle.ec_conform.specs.declared.declared.DeclaredType.{DeclaredType}
+use Rattle.ec_types.specs.Declarations.{joined, in_expression, in_class, in_body, in_value, declarations_of}
+use Rattle.ec_types.specs.Table.{Table, IsTable}
+use Rattle.ec_types.specs.Types.{number_at, places_of}
+use Rattle.ec_types.specs.declared.conform.declared.DeclaredType.{DeclaredType}
 use Rattle.ec_rules.specs.Faults.{faults_in_constant, faults_of_program, StaticFaults}
 use Rattle.ec_rules.specs.Judging.{faults_in_holder}
 use Rattle.ec_rules.specs.Lists.{each}
 use Rattle.ec_rules.specs.Parts.{faults_in}
 use Rattle.ec_rules.specs.Tree.{constant_part, value_part}
-use Rattle.ec_scopes.specs.declared.scope.Scope.{Scope}
+use Rattle.ec_types.specs.declared.scopes.scope.Scope.{Scope}
 
 -- ---- the types that classes and object constructors declare
 

@@ -45,10 +45,10 @@ use Rattle.ec_check.specs.Tree.{expression_step, link_step, member_step, stateme
 use Rattle.ec_check.specs.Tree.{body_step, factor_step}
 use Rattle.ec_check.specs.Tree.{object_step, operation_step, process_step}
 use Rattle.ec_check.specs.Tree.{part_of, link_of, member_of, statement_of, addend_of, arm_of, block_of, factor_of, process_of}
-use Rattle.ec_conform.specs.Declarations as conform
-use Rattle.ec_conform.specs.Declarations.{joined, in_expression, in_link, in_member, in_statement, in_addend, in_arm, in_block, in_body}
-use Rattle.ec_conform.specs.Declarations.{in_factor, in_constructor, in_process}
-use Rattle.ec_conform.specs.declared.declared.Declarations.{Declarations}
+use Rattle.ec_types.specs.Declarations as conform
+use Rattle.ec_types.specs.Declarations.{joined, in_expression, in_link, in_member, in_statement, in_addend, in_arm, in_block, in_body}
+use Rattle.ec_types.specs.Declarations.{in_factor, in_constructor, in_process}
+use Rattle.ec_types.specs.declared.conform.declared.Declarations.{Declarations}
 use Rattle.ec_rules.specs.Judging.{expression_part, statement_part, faults_of, statement_finished, block_finished}
 use Rattle.ec_rules.specs.Lists.{each}
 use Rattle.ec_rules.specs.Members.{scope_of_operation}
@@ -56,8 +56,8 @@ use Rattle.ec_rules.specs.Parts as judged
 use Rattle.ec_rules.specs.Parts.{faults_in}
 use Rattle.ec_rules.specs.Statements.{piece_of_arm}
 use Rattle.ec_rules.specs.declared.StaticFault.{StaticFault}
-use Rattle.ec_scopes.specs.declared.scope.Scope.{Scope}
-use Rattle.ec_scopes.specs.Scopes.{declaring, in_a_loop, in_a_process}
+use Rattle.ec_types.specs.declared.scopes.scope.Scope.{Scope}
+use Rattle.ec_types.specs.Scopes.{declaring, in_a_loop, in_a_process}
 use Rattle.ec_check.proofs.NumberedHeld.{IsNumberedPart, IsNumberedLink, IsNumberedMember, IsNumberedStatement, IsNumberedAddend}
 use Rattle.ec_check.proofs.NumberedHeld.{IsNumberedArm, IsNumberedBlock, IsNumberedBody, IsNumberedFactor, IsNumberedObject}
 use Rattle.ec_check.proofs.NumberedHeld.{IsNumberedOperation, IsNumberedProcess, numbered}

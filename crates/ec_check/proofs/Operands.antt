@@ -27,7 +27,7 @@ use Rattle.ec_judge.specs.declared.walk.Walk.{Walk}
 use Rattle.ec_rules.specs.Calls.{Receiver, receiver}
 use Rattle.ec_rules.specs.Parts.{value_in}
 use Rattle.ec_rules.specs.Tree as judged
-use Rattle.ec_scopes.specs.declared.scope.Scope.{Scope}
+use Rattle.ec_types.specs.declared.scopes.scope.Scope.{Scope}
 
 pub one_made : (old new : Resolver) (seen x : Expression) → seen ≡ x → HasMade old new ((part_of seen).made old.walk.scope) →
     HasMade old new (all_made old.walk.scope (map part_of (x ∷ [])))

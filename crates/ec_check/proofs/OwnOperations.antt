@@ -14,16 +14,16 @@ use Rattle.ec_check.specs.Parts.{OperationPart, MemberPart, variable, constant, 
 use Rattle.ec_check.specs.Places.{Env}
 use Rattle.ec_check.specs.Resolving.{types_written, result_written, operation_core}
 use Rattle.ec_check.specs.WellTyped.{result_of}
-use Rattle.ec_conform.specs.Declarations as conform
-use Rattle.ec_conform.specs.Declarations.{operations_behind, signature_with}
-use Rattle.ec_conform.specs.Types.{type_of, operation_of}
-use Rattle.ec_conform.specs.declared.operations.NamedOperation.{NamedOperation}
-use Rattle.ec_conform.specs.declared.static_type.StaticType.{StaticType}
+use Rattle.ec_types.specs.Declarations as conform
+use Rattle.ec_types.specs.Declarations.{operations_behind, signature_with}
+use Rattle.ec_types.specs.Types.{type_of, operation_of}
+use Rattle.ec_types.specs.declared.conform.operations.NamedOperation.{NamedOperation}
+use Rattle.ec_types.specs.declared.conform.static_type.StaticType.{StaticType}
 use Rattle.ec_core.specs.declared.Operation.{Operation}
-use Rattle.ec_names.specs.Names.{Text, has_name}
+use Rattle.ec_types.specs.Names.{Text, has_name}
 use Rattle.ec_rules.specs.Lists.{each}
 use Rattle.ec_rules.specs.Members.{member_name, scope_of_operation}
-use Rattle.ec_scopes.specs.declared.scope.Scope.{Scope}
+use Rattle.ec_types.specs.declared.scopes.scope.Scope.{Scope}
 
 -- ---- what a member is
 

@@ -18,7 +18,7 @@ use Rattle.ec_check.specs.Places.{Env, type_or}
 use Rattle.ec_check.specs.Resolving.{all_made, cores_of, builtin_of, called, link_core, links_core, chained, number_of_class}
 use Rattle.ec_check.specs.Resolving.{arguments_in, created, chain_core}
 use Rattle.ec_check.specs.Resolving.{link_parts, parts_of_links, chain_parts}
-use Rattle.ec_conform.specs.declared.static_type.StaticType.{StaticType}
+use Rattle.ec_types.specs.declared.conform.static_type.StaticType.{StaticType}
 use Rattle.ec_core.specs.declared.Builtin.{Builtin}
 use Rattle.ec_core.specs.declared.Expression.{Expression}
 use Rattle.ec_core.specs.declared.Expression.TheOpen.{Expression-F as Core-F, Link-F as CoreLink-F}
@@ -34,9 +34,9 @@ use Rattle.ec_rules.specs.Judging.{uses_of_head}
 use Rattle.ec_rules.specs.Lists.{each}
 use Rattle.ec_rules.specs.Parts as judged
 use Rattle.ec_rules.specs.Parts.{uses_in, faults_in, value_in, values_in}
-use Rattle.ec_scopes.specs.declared.globals.ClassMeant.{ClassMeant}
-use Rattle.ec_scopes.specs.declared.scope.Scope.{Scope}
-use Rattle.ec_scopes.specs.Scopes.{class_named}
+use Rattle.ec_types.specs.declared.scopes.globals.ClassMeant.{ClassMeant}
+use Rattle.ec_types.specs.declared.scopes.scope.Scope.{Scope}
+use Rattle.ec_types.specs.Scopes.{class_named}
 
 -- ---- the parts of links
 

@@ -20,11 +20,11 @@ use Rattle.ec_check.specs.Places.{Env, place_of}
 use Rattle.ec_check.specs.Resolving.{all_made, cores_of, core_of_expression, expression_made, parts_of_links, holder_made}
 use Rattle.ec_check.specs.Resolving.{compared_in, factor_core, addend_core, captures_of, number_of_holder, class_core}
 use Rattle.ec_check.specs.Tree.{expression_step}
-use Rattle.ec_conform.specs.Types.{vector_of}
+use Rattle.ec_types.specs.Types.{vector_of}
 use Rattle.ec_core.specs.declared.Expression.{Expression}
 use Rattle.ec_core.specs.declared.Expression.TheOpen.{Expression-F as Core-F}
 use Rattle.ec_core.specs.declared.Expression.TheVariants as e
-use Rattle.ec_names.specs.Names.{Text}
+use Rattle.ec_types.specs.Names.{Text}
 use Rattle.ec_rules.specs.Calls.{Receiver, Creation, Own, Typed, receiver, faults_of_head}
 use Rattle.ec_rules.specs.Captures.{Use, uses_outside}
 use Rattle.ec_rules.specs.Judging.{expression_part, uses_of, uses_of_head, faults_of, uses_within, faults_in_holder}
@@ -34,8 +34,8 @@ use Rattle.ec_rules.specs.Parts as judged
 use Rattle.ec_rules.specs.Parts.{uses_in, faults_in}
 use Rattle.ec_rules.specs.Rules.{is_clean}
 use Rattle.ec_rules.specs.declared.StaticFault.{StaticFault}
-use Rattle.ec_scopes.specs.declared.scope.Scope.{Scope}
-use Rattle.ec_scopes.specs.Scopes.{find, written_in}
+use Rattle.ec_types.specs.declared.scopes.scope.Scope.{Scope}
+use Rattle.ec_types.specs.Scopes.{find, written_in}
 
 -- ---- the parts of an expression
 

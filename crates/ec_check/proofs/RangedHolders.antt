@@ -28,7 +28,7 @@ use Rattle.ec_core.specs.declared.Operation.{Operation}
 use Rattle.ec_core.specs.declared.Place.TheVariants as place
 use Rattle.ec_core.specs.declared.Statement.TheOpen.{Statement-F as Core-F}
 use Rattle.ec_core.specs.declared.Statement.TheVariants as s
-use Rattle.ec_names.specs.Names.{first_named}
+use Rattle.ec_types.specs.Names.{first_named}
 use Rattle.ec_rules.specs.Captures.{Use, uses_outside}
 use Rattle.ec_rules.specs.Judging.{member_finished, members_finished, finished_if, process_finished, body_finished}
 use Rattle.ec_rules.specs.Judging.{faults_in_holder, uses_within}
@@ -36,8 +36,8 @@ use Rattle.ec_rules.specs.Lists.{each}
 use Rattle.ec_rules.specs.Members as rules
 use Rattle.ec_rules.specs.Members.{parameter_entries, result_entries, scope_of, scope_of_operation, object_with}
 use Rattle.ec_rules.specs.Parts as judged
-use Rattle.ec_scopes.specs.declared.scope.Scope.{Scope}
-use Rattle.ec_scopes.specs.Scopes.{innermost, in_a_process, outside, with_locals, at_process}
+use Rattle.ec_types.specs.declared.scopes.scope.Scope.{Scope}
+use Rattle.ec_types.specs.Scopes.{innermost, in_a_process, outside, with_locals, at_process}
 
 -- ---- what is used in a body
 

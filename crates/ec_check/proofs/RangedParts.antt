@@ -17,7 +17,7 @@ use Rattle.ec_rules.specs.Lists.{each}
 use Rattle.ec_rules.specs.Parts as judged
 use Rattle.ec_rules.specs.Parts.{uses_in, faults_in}
 use Rattle.ec_rules.specs.declared.StaticFault.{StaticFault}
-use Rattle.ec_scopes.specs.declared.scope.Scope.{Scope}
+use Rattle.ec_types.specs.declared.scopes.scope.Scope.{Scope}
 
 abbrev pub ClassesWithin : Whole → List Class → Type 0
 ClassesWithin whole cs = Every (Contains whole.classes) cs

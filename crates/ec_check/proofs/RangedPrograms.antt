@@ -22,7 +22,7 @@ use Rattle.ec_check.specs.Places.{Env}
 use Rattle.ec_check.specs.Program.{constant_core, constant_made, constants_core, constants_made, outermost, core_in, core_of}
 use Rattle.ec_check.specs.Resolving.{env_in, class_core}
 use Rattle.ec_check.specs.Tree.{class_part, part_of}
-use Rattle.ec_conform.specs.Table.{Table}
+use Rattle.ec_types.specs.Table.{Table}
 use Rattle.ec_core.specs.declared.Constant.{Constant as CoreConstant}
 use Rattle.ec_rules.specs.Captures.{Use, uses_outside}
 use Rattle.ec_rules.specs.Faults.{meaning_of, globals_in, scope_with, scope_of_names, faults_in_constant, faults_of_program, StaticFaults}
@@ -32,9 +32,9 @@ use Rattle.ec_rules.specs.Rules.{is_before, insert, in_order}
 use Rattle.ec_rules.specs.Tree as judged_tree
 use Rattle.ec_rules.specs.Tree.{constant_part, constant_parts, value_part}
 use Rattle.ec_rules.specs.declared.StaticFault.{StaticFault}
-use Rattle.ec_scopes.specs.declared.globals.Global.{Global}
-use Rattle.ec_scopes.specs.declared.scope.Scope.{Scope}
-use Rattle.ec_scopes.specs.Scopes.{outside, written_in}
+use Rattle.ec_types.specs.declared.scopes.globals.Global.{Global}
+use Rattle.ec_types.specs.declared.scopes.scope.Scope.{Scope}
+use Rattle.ec_types.specs.Scopes.{outside, written_in}
 
 -- ---- faults in their order
 

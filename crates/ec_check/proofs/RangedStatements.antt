@@ -37,7 +37,7 @@ use Rattle.ec_core.specs.declared.Link.{Link, out-Link, roll-out-Link}
 use Rattle.ec_core.specs.declared.Statement.{Statement}
 use Rattle.ec_core.specs.declared.Statement.TheOpen.{Statement-F as CoreStatement-F}
 use Rattle.ec_core.specs.declared.Statement.TheVariants as s
-use Rattle.ec_names.specs.Names.{Text}
+use Rattle.ec_types.specs.Names.{Text}
 use Rattle.ec_rules.specs.Captures.{Use, uses_outside}
 use Rattle.ec_rules.specs.Assignments.{assignment_in_statement}
 use Rattle.ec_rules.specs.Conditions.{condition_in_statement}
@@ -50,9 +50,9 @@ use Rattle.ec_rules.specs.Lists.{each}
 use Rattle.ec_rules.specs.Parts as judged
 use Rattle.ec_rules.specs.Statements.{piece_of_arm, pieces_of_block}
 use Rattle.ec_rules.specs.declared.StaticFault.{StaticFault}
-use Rattle.ec_scopes.specs.declared.object.Object.{Object}
-use Rattle.ec_scopes.specs.declared.scope.Scope.{Scope}
-use Rattle.ec_scopes.specs.Scopes.{declaring, in_a_loop, innermost, may_use, may_use_in, with_locals, at_loop}
+use Rattle.ec_types.specs.declared.scopes.object.Object.{Object}
+use Rattle.ec_types.specs.declared.scopes.scope.Scope.{Scope}
+use Rattle.ec_types.specs.Scopes.{declaring, in_a_loop, innermost, may_use, may_use_in, with_locals, at_loop}
 
 -- ---- the parts of a statement
 

@@ -4,7 +4,7 @@ use Rattle.ec_ast.specs.declared.Name.{Name}
 use Rattle.ec_check.proofs.CapturedNames.{some_not_none}
 use Rattle.ec_check.proofs.Every.{Every, every_joined, every_weaker, either}
 use Rattle.ec_check.proofs.FirstNames.{still_there, last_there}
-use Rattle.ec_names.specs.Names.{Text, has_name}
+use Rattle.ec_types.specs.Names.{Text, has_name}
 use Rattle.ec_rules.specs.Captures.{Use, captured_behind, captured, use_outside, uses_outside}
 
 -- The name that is used is among these.

@@ -15,8 +15,8 @@ use Rattle.ec_check.specs.Layers.{expression_judged}
 use Rattle.ec_check.specs.Parts.{Part, AnExpression, link_judged, factor_judged, addend_judged}
 use Rattle.ec_check.specs.Tree.{expression_step}
 use Rattle.ec_check.specs.Typing.{types_in, all_types, expression_within}
-use Rattle.ec_conform.specs.Types.{vector_of}
-use Rattle.ec_conform.specs.declared.static_type.StaticType.{StaticType}
+use Rattle.ec_types.specs.Types.{vector_of}
+use Rattle.ec_types.specs.declared.conform.static_type.StaticType.{StaticType}
 use Rattle.ec_rules.specs.Calls.{is_word}
 use Rattle.ec_rules.specs.Forms.{Form, Literal, Negated, Constructor, Vector, Created, Itself, NameAlone, Other}
 use Rattle.ec_rules.specs.Judging.{expression_part, form_in_parentheses, form_negated, form_of_chain, form_of, type_of, type_of_sum}
@@ -24,8 +24,8 @@ use Rattle.ec_rules.specs.Judging.{faults_of}
 use Rattle.ec_rules.specs.Lists.{each}
 use Rattle.ec_rules.specs.Operands.{result_type}
 use Rattle.ec_rules.specs.Parts as judged
-use Rattle.ec_scopes.specs.declared.scope.Scope.{Scope}
-use Rattle.ec_scopes.specs.Scopes.{find, written_in}
+use Rattle.ec_types.specs.declared.scopes.scope.Scope.{Scope}
+use Rattle.ec_types.specs.Scopes.{find, written_in}
 
 -- ---- the parts of an expression are sound
 

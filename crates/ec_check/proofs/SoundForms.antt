@@ -7,8 +7,8 @@ use Rattle.ec_ast.specs.declared.Name.{Name}
 use Rattle.ec_ast.specs.declared.Parameter.{Parameter}
 use Rattle.ec_ast.specs.declared.TypeName.{TypeName}
 use Rattle.ec_check.proofs.KnownTypes.{HasType, is_written, written_has_type, vector_is_written, test_holds, type_is_known}
-use Rattle.ec_conform.specs.Table.{Table}
-use Rattle.ec_names.specs.Names.{Text, is_same}
+use Rattle.ec_types.specs.Table.{Table}
+use Rattle.ec_types.specs.Names.{Text, is_same}
 use Rattle.ec_rules.specs.Faults.{meaning_of, globals_in}
 use Rattle.ec_rules.specs.Forms.{Form, Literal, Negated, Constructor, Vector, Created, Itself, NameAlone, Other}
 use Rattle.ec_rules.specs.Lists.{each, each_of}
@@ -18,16 +18,16 @@ use Rattle.ec_rules.specs.Names.{is_found, unknown_types}
 use Rattle.ec_rules.specs.Operands.{wrong_constant}
 use Rattle.ec_rules.specs.Parts.{Part, MemberPart, variable, constant, condition, operation, Holder, ConstantPart, ValuePart}
 use Rattle.ec_rules.specs.Parts.{expression, class, typeobject}
-use Rattle.ec_scopes.specs.declared.globals.ClassMeant.{ClassMeant}
-use Rattle.ec_scopes.specs.declared.entries.Entry.{Entry}
-use Rattle.ec_scopes.specs.declared.scope.Found.{Found}
-use Rattle.ec_scopes.specs.declared.scope.Found.TheVariants as found
-use Rattle.ec_scopes.specs.declared.globals.Global.{Global}
-use Rattle.ec_scopes.specs.declared.globals.Meaning.{Meaning}
-use Rattle.ec_scopes.specs.declared.object.Object.{Object}
-use Rattle.ec_scopes.specs.declared.scope.Scope.{Scope}
-use Rattle.ec_scopes.specs.Scopes.{entry_named, meaning_named, found_meaning, held_or, found_within, innermost, class_meant}
-use Rattle.ec_scopes.specs.Scopes.{unless_value, class_named, written_in}
+use Rattle.ec_types.specs.declared.scopes.globals.ClassMeant.{ClassMeant}
+use Rattle.ec_types.specs.declared.scopes.entries.Entry.{Entry}
+use Rattle.ec_types.specs.declared.scopes.scope.Found.{Found}
+use Rattle.ec_types.specs.declared.scopes.scope.Found.TheVariants as found
+use Rattle.ec_types.specs.declared.scopes.globals.Global.{Global}
+use Rattle.ec_types.specs.declared.scopes.globals.Meaning.{Meaning}
+use Rattle.ec_types.specs.declared.scopes.object.Object.{Object}
+use Rattle.ec_types.specs.declared.scopes.scope.Scope.{Scope}
+use Rattle.ec_types.specs.Scopes.{entry_named, meaning_named, found_meaning, held_or, found_within, innermost, class_meant}
+use Rattle.ec_types.specs.Scopes.{unless_value, class_named, written_in}
 
 -- ---- names of entries
 

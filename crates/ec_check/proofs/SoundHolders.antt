@@ -10,7 +10,7 @@ use Rattle.ec_check.proofs.SoundScopes.{sound_declaring, sound_in_a_process}
 use Rattle.ec_check.specs.Parts.{Piece, ProcessPart, MemberPart, variable, constant, condition, operation, Holder}
 use Rattle.ec_check.specs.Parts.{member_judged, operation_judged, process_judged, holder_judged}
 use Rattle.ec_check.specs.Typing.{block_within, process_within, member_within, holder_within}
-use Rattle.ec_names.specs.Names.{Text, has_name}
+use Rattle.ec_types.specs.Names.{Text, has_name}
 use Rattle.ec_rules.specs.Judging.{member_finished, members_finished, finished_if, process_finished, faults_in_holder}
 use Rattle.ec_rules.specs.Lists.{each, each_of}
 use Rattle.ec_rules.specs.Members.{parameter_entries, result_entries, fields_in, operations_in, field_names, fields_of}
@@ -18,8 +18,8 @@ use Rattle.ec_rules.specs.Members.{scope_of_names, scope_of}
 use Rattle.ec_rules.specs.Members.{scope_of_operation, first_members, members_of, member_name, object_with}
 use Rattle.ec_rules.specs.Names.{unknown_types, unknown_in_parameters, unknown_in_operation}
 use Rattle.ec_rules.specs.Parts as judged
-use Rattle.ec_scopes.specs.declared.scope.Scope.{Scope}
-use Rattle.ec_scopes.specs.Scopes.{written_in, in_a_process}
+use Rattle.ec_types.specs.declared.scopes.scope.Scope.{Scope}
+use Rattle.ec_types.specs.Scopes.{written_in, in_a_process}
 
 -- ---- parameters and results
 

@@ -8,14 +8,14 @@ use Rattle.ec_check.proofs.KnownTypes.{HasType, KnownIfThere, still_known, eleme
 use Rattle.ec_check.proofs.SoundForms.{SoundForm}
 use Rattle.ec_check.proofs.SoundScopes.{SoundTable, SoundScope, KnownResult, found_operation, operations_of_type}
 use Rattle.ec_check.proofs.SoundScopes.{own_operation_is_known, self_has_type}
-use Rattle.ec_conform.specs.Conforms.{operations_at}
-use Rattle.ec_conform.specs.Table.{Table}
-use Rattle.ec_conform.specs.Types.{operation_named}
-use Rattle.ec_conform.specs.declared.operations.NamedOperation.{NamedOperation}
-use Rattle.ec_conform.specs.declared.static_type.Plain.{Plain as PlainType}
-use Rattle.ec_conform.specs.declared.static_type.Plain.TheVariants.{Integer, Boolean, String, Any, Node, Named}
-use Rattle.ec_conform.specs.declared.static_type.StaticType.{StaticType}
-use Rattle.ec_conform.specs.declared.static_type.StaticType.TheVariants.{Plain, Vector, Nil, Unknown}
+use Rattle.ec_types.specs.Conforms.{operations_at}
+use Rattle.ec_types.specs.Table.{Table}
+use Rattle.ec_types.specs.Types.{operation_named}
+use Rattle.ec_types.specs.declared.conform.operations.NamedOperation.{NamedOperation}
+use Rattle.ec_types.specs.declared.conform.static_type.Plain.{Plain as PlainType}
+use Rattle.ec_types.specs.declared.conform.static_type.Plain.TheVariants.{Integer, Boolean, String, Any, Node, Named}
+use Rattle.ec_types.specs.declared.conform.static_type.StaticType.{StaticType}
+use Rattle.ec_types.specs.declared.conform.static_type.StaticType.TheVariants.{Plain, Vector, Nil, Unknown}
 use Rattle.ec_rules.specs.Calls.{Receiver, Creation, Own, Typed, is_word, is_creation, class_created, receiver_if, receiver}
 use Rattle.ec_rules.specs.Calls.{Callee, Called, Missing, Whatever, called_as, callee_if, callee_of_string, callee_of_plain, callee_of_type}
 use Rattle.ec_rules.specs.Calls.{callee_of_self, callee_of_class, callee, no_operation, wrong_arity}
@@ -25,10 +25,10 @@ use Rattle.ec_rules.specs.Parts.{Part, LinkPart, call, index, value_in, values_i
 use Rattle.ec_rules.specs.Types.{integer, string, fits}
 use Rattle.ec_rules.specs.declared.judged.Judged.{Judged}
 use Rattle.ec_rules.specs.declared.operands.Wanted.TheVariants as wanted
-use Rattle.ec_scopes.specs.declared.globals.ClassMeant.{ClassMeant}
-use Rattle.ec_scopes.specs.declared.object.Object.{Object}
-use Rattle.ec_scopes.specs.declared.scope.Scope.{Scope}
-use Rattle.ec_scopes.specs.Scopes.{class_named, innermost, own_operation}
+use Rattle.ec_types.specs.declared.scopes.globals.ClassMeant.{ClassMeant}
+use Rattle.ec_types.specs.declared.scopes.object.Object.{Object}
+use Rattle.ec_types.specs.declared.scopes.scope.Scope.{Scope}
+use Rattle.ec_types.specs.Scopes.{class_named, innermost, own_operation}
 
 -- ---- what is called
 

@@ -22,13 +22,13 @@ use Rattle.ec_check.proofs.SoundScopes.{SoundScope, SoundTable, SoundType, Sound
 use Rattle.ec_check.specs.Parts.{holder_judged}
 use Rattle.ec_check.specs.Program.{outermost, value_within, types_of_program}
 use Rattle.ec_check.specs.Tree.{class_part}
-use Rattle.ec_conform.specs.Declarations.{joined, in_value, in_body, declarations_of}
-use Rattle.ec_conform.specs.Table.{Table, IsTable}
-use Rattle.ec_conform.specs.Types.{type_of, operation_of, operation_names, operations_from, type_with}
-use Rattle.ec_conform.specs.declared.declared.DeclaredType.{DeclaredType}
-use Rattle.ec_conform.specs.declared.declared.Declarations.{Declarations}
-use Rattle.ec_conform.specs.declared.operations.NamedOperation.{NamedOperation}
-use Rattle.ec_names.specs.Names.{has_name}
+use Rattle.ec_types.specs.Declarations.{joined, in_value, in_body, declarations_of}
+use Rattle.ec_types.specs.Table.{Table, IsTable}
+use Rattle.ec_types.specs.Types.{type_of, operation_of, operation_names, operations_from, type_with}
+use Rattle.ec_types.specs.declared.conform.declared.DeclaredType.{DeclaredType}
+use Rattle.ec_types.specs.declared.conform.declared.Declarations.{Declarations}
+use Rattle.ec_types.specs.declared.conform.operations.NamedOperation.{NamedOperation}
+use Rattle.ec_types.specs.Names.{has_name}
 use Rattle.ec_rules.specs.Faults.{meaning_of, globals_in, scope_with, scope_of_names, scope_of_program, faults_in_constant}
 use Rattle.ec_rules.specs.Faults.{faults_of_program, StaticFaults}
 use Rattle.ec_rules.specs.Judging.{faults_in_holder}
@@ -40,7 +40,7 @@ use Rattle.ec_rules.specs.Rules.{is_before, insert, in_order}
 use Rattle.ec_rules.specs.Tree as judged_tree
 use Rattle.ec_rules.specs.Tree.{constant_part, constant_parts, value_part}
 use Rattle.ec_rules.specs.declared.StaticFault.{StaticFault}
-use Rattle.ec_scopes.specs.declared.scope.Scope.{Scope}
+use Rattle.ec_types.specs.declared.scopes.scope.Scope.{Scope}
 
 -- ---- faults in their order
 

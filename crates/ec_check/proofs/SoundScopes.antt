@@ -3,27 +3,27 @@ use Rattle.std.proofs.Common.{◌≡◌, ℕ, zero, suc, true, List, [], ◌∷�
 use Rattle.ec_base.specs.Stack.{top_of}
 use Rattle.ec_check.proofs.Every.{Every, Where, every_joined, either}
 use Rattle.ec_check.proofs.KnownTypes.{HasType, KnownIfThere, still_known}
-use Rattle.ec_conform.specs.Conforms.{operations_at}
-use Rattle.ec_conform.specs.Conforms as conforming
-use Rattle.ec_conform.specs.Table.{Table}
-use Rattle.ec_conform.specs.Types.{operation_named}
-use Rattle.ec_conform.specs.declared.named_type.NamedType.{NamedType}
-use Rattle.ec_conform.specs.declared.operations.NamedOperation.{NamedOperation}
-use Rattle.ec_names.specs.Names.{Text, is_same}
+use Rattle.ec_types.specs.Conforms.{operations_at}
+use Rattle.ec_types.specs.Conforms as conforming
+use Rattle.ec_types.specs.Table.{Table}
+use Rattle.ec_types.specs.Types.{operation_named}
+use Rattle.ec_types.specs.declared.conform.named_type.NamedType.{NamedType}
+use Rattle.ec_types.specs.declared.conform.operations.NamedOperation.{NamedOperation}
+use Rattle.ec_types.specs.Names.{Text, is_same}
 use Rattle.ec_rules.specs.Calls.{type_of_object, type_of_self}
 use Rattle.ec_rules.specs.Judging.{type_found}
 use Rattle.ec_rules.specs.Names.{is_found}
-use Rattle.ec_scopes.specs.declared.entries.Entry.{Entry}
-use Rattle.ec_scopes.specs.declared.scope.Found.{Found}
-use Rattle.ec_scopes.specs.declared.scope.Found.TheVariants as found
-use Rattle.ec_scopes.specs.declared.globals.Global.{Global}
-use Rattle.ec_scopes.specs.declared.globals.Meaning.{Meaning}
-use Rattle.ec_scopes.specs.declared.globals.Meaning.TheVariants as means
-use Rattle.ec_scopes.specs.declared.object.Object.{Object}
-use Rattle.ec_scopes.specs.declared.scope.Scope.{Scope}
-use Rattle.ec_scopes.specs.Scopes.{entry_named, meaning_named, found_meaning, held_or, found_within, find, innermost}
-use Rattle.ec_scopes.specs.Scopes.{own_operation_of, own_operation}
-use Rattle.ec_scopes.specs.Scopes.{within, change_innermost, with_locals, at_loop, at_process, declaring, in_a_loop, in_a_process}
+use Rattle.ec_types.specs.declared.scopes.entries.Entry.{Entry}
+use Rattle.ec_types.specs.declared.scopes.scope.Found.{Found}
+use Rattle.ec_types.specs.declared.scopes.scope.Found.TheVariants as found
+use Rattle.ec_types.specs.declared.scopes.globals.Global.{Global}
+use Rattle.ec_types.specs.declared.scopes.globals.Meaning.{Meaning}
+use Rattle.ec_types.specs.declared.scopes.globals.Meaning.TheVariants as means
+use Rattle.ec_types.specs.declared.scopes.object.Object.{Object}
+use Rattle.ec_types.specs.declared.scopes.scope.Scope.{Scope}
+use Rattle.ec_types.specs.Scopes.{entry_named, meaning_named, found_meaning, held_or, found_within, find, innermost}
+use Rattle.ec_types.specs.Scopes.{own_operation_of, own_operation}
+use Rattle.ec_types.specs.Scopes.{within, change_innermost, with_locals, at_loop, at_process, declaring, in_a_loop, in_a_process}
 
 -- ---- operations
 

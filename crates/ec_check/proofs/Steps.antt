@@ -5,12 +5,12 @@ use Rattle.ec_check.specs.Making.{HasGone, HasMade, env_of, made_of}
 use Rattle.ec_check.specs.Parts.{Made, both_made, nothing_made}
 use Rattle.ec_check.specs.Places.{Env}
 use Rattle.ec_check.specs.declared.resolver.Resolver.{Resolver}
-use Rattle.ec_conform.specs.declared.static_type.StaticType.{StaticType}
+use Rattle.ec_types.specs.declared.conform.static_type.StaticType.{StaticType}
 use Rattle.ec_core.specs.declared.Class.{Class}
 use Rattle.ec_core.specs.declared.Operation.{Operation}
 use Rattle.ec_judge.specs.declared.walk.Walk.{Walk}
-use Rattle.ec_names.specs.Names.{Text}
-use Rattle.ec_scopes.specs.declared.scope.Scope.{Scope}
+use Rattle.ec_types.specs.Names.{Text}
+use Rattle.ec_types.specs.declared.scopes.scope.Scope.{Scope}
 
 abbrev env_with : Scope → List Text → List ℕ → ℕ → Env
 env_with scope captures numbers count = record { scope = scope; captures = captures; numbers = numbers; count = count }

@@ -17,13 +17,13 @@ use Rattle.ec_check.specs.Places.{Env, field_named, fields_of, number_named, nam
 use Rattle.ec_check.specs.Resolving.{stored, field_stored, field_of, parameter_field, member_made, members_made, env_of_body, class_core}
 use Rattle.ec_check.specs.WellTyped.{Site, typed, goes_in, goes_in_if}
 use Rattle.ec_check.specs.WellTyped.{is_well_statement, all_well}
-use Rattle.ec_conform.specs.declared.static_type.StaticType.{StaticType}
+use Rattle.ec_types.specs.declared.conform.static_type.StaticType.{StaticType}
 use Rattle.ec_core.specs.declared.Expression.{Expression}
 use Rattle.ec_core.specs.declared.Field.{Field}
 use Rattle.ec_core.specs.declared.Place.TheVariants as place
 use Rattle.ec_core.specs.declared.Statement.TheOpen.{Statement-F as Core-F}
 use Rattle.ec_core.specs.declared.Statement.TheVariants as s
-use Rattle.ec_names.specs.Names.{Text, has_name}
+use Rattle.ec_types.specs.Names.{Text, has_name}
 use Rattle.ec_rules.specs.Doubled.{doubled_behind, doubled_in_body}
 use Rattle.ec_rules.specs.Judging.{member_finished, members_finished}
 use Rattle.ec_rules.specs.Lists.{each}
@@ -32,9 +32,9 @@ use Rattle.ec_rules.specs.Members.{constant_type, constant_entry, variable_entry
 use Rattle.ec_rules.specs.Members.{object_with, scope_of_names, scope_of}
 use Rattle.ec_rules.specs.Parts as judged
 use Rattle.ec_rules.specs.Parts.{value_in}
-use Rattle.ec_scopes.specs.declared.entries.Entry.{Entry}
-use Rattle.ec_scopes.specs.declared.scope.Scope.{Scope}
-use Rattle.ec_scopes.specs.Scopes.{innermost, written_in}
+use Rattle.ec_types.specs.declared.scopes.entries.Entry.{Entry}
+use Rattle.ec_types.specs.declared.scopes.scope.Scope.{Scope}
+use Rattle.ec_types.specs.Scopes.{innermost, written_in}
 
 -- ---- the field of each member
 

@@ -15,26 +15,26 @@ use Rattle.ec_check.specs.Places.{Env, fields_of, names_of, number_named, field_
 use Rattle.ec_check.specs.Places.{held_place, place_found, place_of}
 use Rattle.ec_check.specs.Resolving.{behind, further, in_scope}
 use Rattle.ec_check.specs.WellTyped.{Site, type_at}
-use Rattle.ec_conform.specs.Types.{operation_named}
-use Rattle.ec_conform.specs.declared.operations.NamedOperation.{NamedOperation}
-use Rattle.ec_conform.specs.declared.static_type.StaticType.{StaticType}
+use Rattle.ec_types.specs.Types.{operation_named}
+use Rattle.ec_types.specs.declared.conform.operations.NamedOperation.{NamedOperation}
+use Rattle.ec_types.specs.declared.conform.static_type.StaticType.{StaticType}
 use Rattle.ec_core.specs.declared.Core.{Core}
 use Rattle.ec_core.specs.declared.Place.TheVariants as place
-use Rattle.ec_names.specs.Names.{Text, has_name, is_same}
+use Rattle.ec_types.specs.Names.{Text, has_name, is_same}
 use Rattle.ec_rules.specs.Names.{is_found}
-use Rattle.ec_scopes.proofs.Innermost.{top_of-change}
-use Rattle.ec_scopes.specs.declared.entries.Entry.{Entry}
-use Rattle.ec_scopes.specs.declared.globals.ClassMeant.{ClassMeant}
-use Rattle.ec_scopes.specs.declared.globals.Global.{Global}
-use Rattle.ec_scopes.specs.declared.globals.Meaning.{Meaning}
-use Rattle.ec_scopes.specs.declared.globals.Meaning.TheVariants as means
-use Rattle.ec_scopes.specs.declared.object.Object.{Object}
-use Rattle.ec_scopes.specs.declared.scope.Found.{Found}
-use Rattle.ec_scopes.specs.declared.scope.Found.TheVariants as found
-use Rattle.ec_scopes.specs.declared.scope.Scope.{Scope}
-use Rattle.ec_scopes.specs.Scopes.{entry_named, meaning_named, find, class_meant, unless_value, class_named}
-use Rattle.ec_scopes.specs.Scopes.{own_operation_of, own_operation, innermost, is_local, locals_of, outside}
-use Rattle.ec_scopes.specs.Scopes.{change_innermost, with_locals, at_loop, in_a_loop}
+use Rattle.ec_types.proofs.Innermost.{top_of-change}
+use Rattle.ec_types.specs.declared.scopes.entries.Entry.{Entry}
+use Rattle.ec_types.specs.declared.scopes.globals.ClassMeant.{ClassMeant}
+use Rattle.ec_types.specs.declared.scopes.globals.Global.{Global}
+use Rattle.ec_types.specs.declared.scopes.globals.Meaning.{Meaning}
+use Rattle.ec_types.specs.declared.scopes.globals.Meaning.TheVariants as means
+use Rattle.ec_types.specs.declared.scopes.object.Object.{Object}
+use Rattle.ec_types.specs.declared.scopes.scope.Found.{Found}
+use Rattle.ec_types.specs.declared.scopes.scope.Found.TheVariants as found
+use Rattle.ec_types.specs.declared.scopes.scope.Scope.{Scope}
+use Rattle.ec_types.specs.Scopes.{entry_named, meaning_named, find, class_meant, unless_value, class_named}
+use Rattle.ec_types.specs.Scopes.{own_operation_of, own_operation, innermost, is_local, locals_of, outside}
+use Rattle.ec_types.specs.Scopes.{change_innermost, with_locals, at_loop, in_a_loop}
 
 -- ---- places
 

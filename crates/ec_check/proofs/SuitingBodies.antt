@@ -21,13 +21,13 @@ use Rattle.ec_check.specs.Resolving.{env_of_operation}
 use Rattle.ec_check.specs.Resolving.{operation_core, field_of, parameter_field, member_made, members_made, captures_of, env_of_body}
 use Rattle.ec_check.specs.Resolving.{class_core}
 use Rattle.ec_check.specs.WellTyped.{site_in}
-use Rattle.ec_conform.specs.Table.{Table}
-use Rattle.ec_conform.specs.declared.static_type.StaticType.{StaticType}
+use Rattle.ec_types.specs.Table.{Table}
+use Rattle.ec_types.specs.declared.conform.static_type.StaticType.{StaticType}
 use Rattle.ec_core.specs.declared.Class.{Class}
 use Rattle.ec_core.specs.declared.Core.{Core}
 use Rattle.ec_core.specs.declared.Field.{Field}
 use Rattle.ec_core.specs.declared.Operation.{Operation}
-use Rattle.ec_names.specs.Names.{Text, has_name}
+use Rattle.ec_types.specs.Names.{Text, has_name}
 use Rattle.ec_rules.specs.Doubled.{doubled_behind, doubled_in_body}
 use Rattle.ec_rules.specs.Forms.{Form}
 use Rattle.ec_rules.specs.Lists.{each}
@@ -36,11 +36,11 @@ use Rattle.ec_rules.specs.Members.{constant_type, first_members, members_of, mem
 use Rattle.ec_rules.specs.Members.{operations_in, operation_with, fields_in, field_names, object_with, scope_of_names, scope_of}
 use Rattle.ec_rules.specs.Parts as judged
 use Rattle.ec_ast.specs.declared.TypeName.{TypeName}
-use Rattle.ec_scopes.proofs.Innermost.{top_of-change}
-use Rattle.ec_scopes.specs.declared.entries.Entry.{Entry}
-use Rattle.ec_scopes.specs.declared.object.Object.{Object}
-use Rattle.ec_scopes.specs.declared.scope.Scope.{Scope}
-use Rattle.ec_scopes.specs.Scopes.{innermost, locals_of, outside, find, with_locals, at_process, declaring, in_a_process, written_in}
+use Rattle.ec_types.proofs.Innermost.{top_of-change}
+use Rattle.ec_types.specs.declared.scopes.entries.Entry.{Entry}
+use Rattle.ec_types.specs.declared.scopes.object.Object.{Object}
+use Rattle.ec_types.specs.declared.scopes.scope.Scope.{Scope}
+use Rattle.ec_types.specs.Scopes.{innermost, locals_of, outside, find, with_locals, at_process, declaring, in_a_process, written_in}
 
 -- ---- variables by their numbers
 

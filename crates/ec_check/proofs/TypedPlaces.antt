@@ -6,16 +6,16 @@ use Rattle.ec_check.proofs.FoundTypes.{find_same}
 use Rattle.ec_check.proofs.WellParts.{AreNumbered, AreCaptured, AreFields, ValueIs, ValuesAre}
 use Rattle.ec_check.specs.Places.{number_or, number_named, names_of, number_at_or, type_or, type_found}
 use Rattle.ec_check.specs.WellTyped.{constant_type_at}
-use Rattle.ec_conform.specs.declared.static_type.StaticType.{StaticType}
+use Rattle.ec_types.specs.declared.conform.static_type.StaticType.{StaticType}
 use Rattle.ec_core.specs.declared.Core.{Core}
-use Rattle.ec_names.specs.Names.{Text, is_same, first_from, first_named, has_name}
-use Rattle.ec_scopes.proofs.Named.{entry_found, entry_missing, entry_of_second}
-use Rattle.ec_scopes.specs.declared.entries.Entry.{Entry}
-use Rattle.ec_scopes.specs.declared.globals.Global.{Global}
-use Rattle.ec_scopes.specs.declared.globals.Meaning.{Meaning}
-use Rattle.ec_scopes.specs.declared.globals.Meaning.TheVariants as means
-use Rattle.ec_scopes.specs.declared.scope.Scope.{Scope}
-use Rattle.ec_scopes.specs.Scopes.{entry_named, meaning_named, find}
+use Rattle.ec_types.specs.Names.{Text, is_same, first_from, first_named, has_name}
+use Rattle.ec_types.proofs.Named.{entry_found, entry_missing, entry_of_second}
+use Rattle.ec_types.specs.declared.scopes.entries.Entry.{Entry}
+use Rattle.ec_types.specs.declared.scopes.globals.Global.{Global}
+use Rattle.ec_types.specs.declared.scopes.globals.Meaning.{Meaning}
+use Rattle.ec_types.specs.declared.scopes.globals.Meaning.TheVariants as means
+use Rattle.ec_types.specs.declared.scopes.scope.Scope.{Scope}
+use Rattle.ec_types.specs.Scopes.{entry_named, meaning_named, find}
 
 -- ---- the first entry with a name
 

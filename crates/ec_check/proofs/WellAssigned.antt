@@ -8,8 +8,8 @@ use Rattle.ec_check.proofs.WellValues.{both_hold, result_is}
 use Rattle.ec_check.specs.Resolving.{chained, element_set, element_set_if, assigned}
 use Rattle.ec_check.specs.WellTyped.{Site, Typed as TypedValue, typed, typed_link, expression_typed, link_typed, along, goes_in, goes_in_if}
 use Rattle.ec_check.specs.WellTyped.{conforms_if, is_of, is_element, is_same_result, goes_in_vector, is_well_statement}
-use Rattle.ec_conform.specs.Types.{element_of}
-use Rattle.ec_conform.specs.declared.static_type.StaticType.{StaticType}
+use Rattle.ec_types.specs.Types.{element_of}
+use Rattle.ec_types.specs.declared.conform.static_type.StaticType.{StaticType}
 use Rattle.ec_core.specs.declared.Addend.{Addend}
 use Rattle.ec_core.specs.declared.Expression.{Expression}
 use Rattle.ec_core.specs.declared.Expression.TheOpen.{Expression-F as Core-F, Link-F as CoreLink-F}

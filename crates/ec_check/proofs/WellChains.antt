@@ -19,12 +19,12 @@ use Rattle.ec_check.specs.Places.{Env}
 use Rattle.ec_check.specs.Resolving.{all_made, cores_of, builtin_of, called, link_core, links_core, chained, number_of_class, chain_core}
 use Rattle.ec_check.specs.Resolving.{link_parts, parts_of_links, chain_parts}
 use Rattle.ec_check.specs.WellTyped.{Site, Typed as TypedValue, typed, typed_link, along}
-use Rattle.ec_conform.specs.Types.{named}
-use Rattle.ec_conform.specs.declared.operations.NamedOperation.{NamedOperation}
-use Rattle.ec_conform.specs.declared.static_type.StaticType.{StaticType}
+use Rattle.ec_types.specs.Types.{named}
+use Rattle.ec_types.specs.declared.conform.operations.NamedOperation.{NamedOperation}
+use Rattle.ec_types.specs.declared.conform.static_type.StaticType.{StaticType}
 use Rattle.ec_core.specs.declared.Expression.TheOpen.{Expression-F as Core-F}
 use Rattle.ec_core.specs.declared.Expression.TheVariants as core
-use Rattle.ec_names.specs.Names.{is_same}
+use Rattle.ec_types.specs.Names.{is_same}
 use Rattle.ec_rules.specs.Calls.{Receiver, Creation, Own, Typed, class_created, receiver_if, receiver, callee_of_class}
 use Rattle.ec_rules.specs.Calls.{callee_of_type, callee_of_self, call_faults, link_type, link_faults, faults_of_links, faults_of_head}
 use Rattle.ec_rules.specs.Calls.{result_of, type_of_object, type_of_self, type_of_links, type_unless, chain_faults, chain_type}
@@ -36,9 +36,9 @@ use Rattle.ec_rules.specs.Lists.{each}
 use Rattle.ec_rules.specs.Parts as judged
 use Rattle.ec_rules.specs.Parts.{value_in, values_in, uses_in, faults_in}
 use Rattle.ec_rules.specs.Rules.{is_clean}
-use Rattle.ec_scopes.specs.declared.object.Object.{Object}
-use Rattle.ec_scopes.specs.declared.scope.Scope.{Scope}
-use Rattle.ec_scopes.specs.Scopes.{class_named, innermost, own_operation_of}
+use Rattle.ec_types.specs.declared.scopes.object.Object.{Object}
+use Rattle.ec_types.specs.declared.scopes.scope.Scope.{Scope}
+use Rattle.ec_types.specs.Scopes.{class_named, innermost, own_operation_of}
 
 -- ---- one link
 

@@ -22,9 +22,9 @@ use Rattle.ec_check.specs.Resolving.{factor_core, addend_core, number_of_holder,
 use Rattle.ec_check.specs.Tree.{expression_step}
 use Rattle.ec_check.specs.WellTyped.{Site, Typed as TypedValue, TypedAddend, typed_if, typed, typed_addend, typed_factor, is_of}
 use Rattle.ec_check.specs.WellTyped.{all_are, added}
-use Rattle.ec_conform.specs.Types.{known, named, vector_of}
-use Rattle.ec_conform.specs.declared.static_type.StaticType.TheVariants.{Plain, Vector, Nil, Unknown}
-use Rattle.ec_conform.specs.declared.static_type.StaticType.{StaticType}
+use Rattle.ec_types.specs.Types.{known, named, vector_of}
+use Rattle.ec_types.specs.declared.conform.static_type.StaticType.TheVariants.{Plain, Vector, Nil, Unknown}
+use Rattle.ec_types.specs.declared.conform.static_type.StaticType.{StaticType}
 use Rattle.ec_core.specs.declared.Expression.TheOpen.{Expression-F as Core-F}
 use Rattle.ec_core.specs.declared.Expression.TheVariants as e
 use Rattle.ec_core.specs.declared.Expression.{Expression}
@@ -45,8 +45,8 @@ use Rattle.ec_rules.specs.declared.Rule.TheVariants.{Mismatch}
 use Rattle.ec_rules.specs.Types.{type_place, boolean, integer, string, node, is_vector, takes, fits}
 use Rattle.ec_rules.specs.declared.StaticFault.{StaticFault}
 use Rattle.ec_rules.specs.declared.operands.Wanted.TheVariants as wanted
-use Rattle.ec_scopes.specs.Scopes.{written_in}
-use Rattle.ec_scopes.specs.declared.scope.Scope.{Scope}
+use Rattle.ec_types.specs.Scopes.{written_in}
+use Rattle.ec_types.specs.declared.scopes.scope.Scope.{Scope}
 use Rattle.std.proofs.Common.{if◌then◌else◌}
 use Rattle.std.proofs.Common.{◌≡◌, Bool, true, false, ◌&&◌, List, [], ◌∷◌, ◌++◌, map, codes, Option, Some, None, refl, sym, ap, ◌∙◌, subst}
 

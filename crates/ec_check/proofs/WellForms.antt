@@ -15,10 +15,10 @@ use Rattle.ec_check.proofs.WellParts.{Suits, ClassStands, ConformsToItself, Glob
 use Rattle.ec_check.proofs.WellValues.{both_hold, same_plain}
 use Rattle.ec_check.specs.Places.{Env, type_or}
 use Rattle.ec_check.specs.WellTyped.{Site, Typed as TypedValue, conforms_if, goes_in}
-use Rattle.ec_conform.specs.Table.{Table, conforms}
-use Rattle.ec_conform.specs.Types.{named, vector_of}
-use Rattle.ec_conform.specs.declared.static_type.StaticType.{StaticType}
-use Rattle.ec_conform.specs.declared.static_type.StaticType.TheVariants.{Plain, Vector, Nil, Unknown}
+use Rattle.ec_types.specs.Table.{Table, conforms}
+use Rattle.ec_types.specs.Types.{named, vector_of}
+use Rattle.ec_types.specs.declared.conform.static_type.StaticType.{StaticType}
+use Rattle.ec_types.specs.declared.conform.static_type.StaticType.TheVariants.{Plain, Vector, Nil, Unknown}
 use Rattle.ec_core.specs.declared.Class.{Class}
 use Rattle.ec_core.specs.declared.Core.{Core}
 use Rattle.ec_rules.specs.Calls.{Receiver, Creation, class_created, receiver_if, is_word, callee_of_class, result_of}
@@ -28,10 +28,10 @@ use Rattle.ec_rules.specs.Judging.{form_in_parentheses, form_negated, form_of_ch
 use Rattle.ec_rules.specs.Members.{form_type, type_created}
 use Rattle.ec_rules.specs.Parts as judged
 use Rattle.ec_rules.specs.Types.{integer}
-use Rattle.ec_scopes.specs.declared.globals.ClassMeant.{ClassMeant}
-use Rattle.ec_scopes.specs.declared.globals.Global.{Global}
-use Rattle.ec_scopes.specs.declared.scope.Scope.{Scope}
-use Rattle.ec_scopes.specs.Scopes.{class_named}
+use Rattle.ec_types.specs.declared.scopes.globals.ClassMeant.{ClassMeant}
+use Rattle.ec_types.specs.declared.scopes.globals.Global.{Global}
+use Rattle.ec_types.specs.declared.scopes.scope.Scope.{Scope}
+use Rattle.ec_types.specs.Scopes.{class_named}
 
 -- The value goes into a place of the type that a form names, where it names one.
 abbrev pub Goes : Table → Scope → Form → TypedValue → Type 0

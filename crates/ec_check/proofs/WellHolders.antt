@@ -23,7 +23,7 @@ use Rattle.ec_check.specs.Resolving.{initial_block, initial_operation, locals_of
 use Rattle.ec_check.specs.Resolving.{env_of_body, env_in, class_core, holder_made, captures_of}
 use Rattle.ec_check.specs.WellTyped.{Site, site_in, is_well_block, is_well_statement}
 use Rattle.ec_check.specs.WellTyped.{all_well, IsWellOperation}
-use Rattle.ec_conform.specs.Table.{Table}
+use Rattle.ec_types.specs.Table.{Table}
 use Rattle.ec_core.specs.declared.Block.{Block, out-Block, roll-out-Block}
 use Rattle.ec_core.specs.declared.Class.{Class}
 use Rattle.ec_core.specs.declared.Core.{Core}
@@ -38,8 +38,8 @@ use Rattle.ec_rules.specs.Lists.{each}
 use Rattle.ec_rules.specs.Members.{scope_of, scope_of_operation}
 use Rattle.ec_rules.specs.Names.{unknown_in_parameters}
 use Rattle.ec_rules.specs.Parts as judged
-use Rattle.ec_scopes.specs.declared.scope.Scope.{Scope}
-use Rattle.ec_scopes.specs.Scopes.{in_a_process}
+use Rattle.ec_types.specs.declared.scopes.scope.Scope.{Scope}
+use Rattle.ec_types.specs.Scopes.{in_a_process}
 
 -- ---- blocks
 

@@ -23,17 +23,17 @@ use Rattle.ec_check.specs.Resolving.{holder_made}
 use Rattle.ec_check.specs.Resolving.{captures_of, number_of_holder, class_core}
 use Rattle.ec_check.specs.WellTyped.{Site, typed_if, typed, type_at}
 use Rattle.ec_check.specs.WellTyped.{are_captured, is_same_result}
-use Rattle.ec_conform.specs.Types.{named}
+use Rattle.ec_types.specs.Types.{named}
 use Rattle.ec_core.specs.declared.Expression.TheOpen.{Expression-F as Core-F}
 use Rattle.ec_core.specs.declared.Expression.TheVariants as e
-use Rattle.ec_names.specs.Names.{Text, has_name}
+use Rattle.ec_types.specs.Names.{Text, has_name}
 use Rattle.ec_rules.specs.Captures.{Use, use_of, use_outside, uses_outside}
 use Rattle.ec_rules.specs.Judging.{uses_within, faults_in_holder}
 use Rattle.ec_rules.specs.Judging as judging
 use Rattle.ec_rules.specs.Names.{is_found}
-use Rattle.ec_scopes.specs.declared.scope.Found.{Found}
-use Rattle.ec_scopes.specs.declared.scope.Found.TheVariants as found
-use Rattle.ec_scopes.specs.Scopes.{find}
+use Rattle.ec_types.specs.declared.scopes.scope.Found.{Found}
+use Rattle.ec_types.specs.declared.scopes.scope.Found.TheVariants as found
+use Rattle.ec_types.specs.Scopes.{find}
 
 -- ---- names
 

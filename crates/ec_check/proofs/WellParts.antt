@@ -11,29 +11,29 @@ use Rattle.ec_check.specs.Parts.{OperationPart, MemberPart, variable, constant, 
 use Rattle.ec_check.specs.Places.{Env, fields_of, type_found, type_or}
 use Rattle.ec_check.specs.WellTyped.{Site, typed, is_well_statement, is_well_block, IsWellOperation, constant_type_at}
 use Rattle.ec_check.specs.WellTyped.{parameters_of_class, parameters_of, result_of, is_named, goes_in}
-use Rattle.ec_conform.specs.Table.{Table, conforms}
-use Rattle.ec_conform.specs.Types.{named}
-use Rattle.ec_conform.specs.declared.operations.NamedOperation.{NamedOperation}
-use Rattle.ec_conform.specs.declared.static_type.StaticType.{StaticType}
+use Rattle.ec_types.specs.Table.{Table, conforms}
+use Rattle.ec_types.specs.Types.{named}
+use Rattle.ec_types.specs.declared.conform.operations.NamedOperation.{NamedOperation}
+use Rattle.ec_types.specs.declared.conform.static_type.StaticType.{StaticType}
 use Rattle.ec_core.specs.declared.Class.{Class}
 use Rattle.ec_core.specs.declared.Core.{Core}
 use Rattle.ec_core.specs.declared.Expression.{Expression}
 use Rattle.ec_core.specs.declared.Expression.TheVariants as e
 use Rattle.ec_core.specs.declared.Operation.{Operation}
-use Rattle.ec_names.specs.Names.{Text, has_name}
+use Rattle.ec_types.specs.Names.{Text, has_name}
 use Rattle.ec_rules.specs.Captures.{Use, uses_outside}
 use Rattle.ec_rules.specs.Forms.{Itself}
 use Rattle.ec_rules.specs.Members.{form_type}
 use Rattle.ec_rules.specs.Parts.{value_in, uses_in, faults_in}
 use Rattle.ec_rules.specs.declared.StaticFault.{StaticFault}
-use Rattle.ec_scopes.specs.declared.entries.Entry.{Entry}
-use Rattle.ec_scopes.specs.declared.globals.ClassMeant.{ClassMeant}
-use Rattle.ec_scopes.specs.declared.globals.Global.{Global}
-use Rattle.ec_scopes.specs.declared.globals.Meaning.{Meaning}
-use Rattle.ec_scopes.specs.declared.globals.Meaning.TheVariants as means
-use Rattle.ec_scopes.specs.declared.object.Object.{Object}
-use Rattle.ec_scopes.specs.declared.scope.Scope.{Scope}
-use Rattle.ec_scopes.specs.Scopes.{find, innermost, locals_of, outside}
+use Rattle.ec_types.specs.declared.scopes.entries.Entry.{Entry}
+use Rattle.ec_types.specs.declared.scopes.globals.ClassMeant.{ClassMeant}
+use Rattle.ec_types.specs.declared.scopes.globals.Global.{Global}
+use Rattle.ec_types.specs.declared.scopes.globals.Meaning.{Meaning}
+use Rattle.ec_types.specs.declared.scopes.globals.Meaning.TheVariants as means
+use Rattle.ec_types.specs.declared.scopes.object.Object.{Object}
+use Rattle.ec_types.specs.declared.scopes.scope.Scope.{Scope}
+use Rattle.ec_types.specs.Scopes.{find, innermost, locals_of, outside}
 
 -- ---- types of variables
 

@@ -28,9 +28,9 @@ use Rattle.ec_check.specs.Program.{constant_core, constant_made, constants_core,
 use Rattle.ec_check.specs.Resolving.{env_in, class_core, parameter_field}
 use Rattle.ec_check.specs.Tree.{class_part, part_of, body_of}
 use Rattle.ec_check.specs.WellTyped.{IsWellTyped, IsWellOperation, IsWellConstant, site_outside, constant_type_at}
-use Rattle.ec_conform.specs.Declarations.{declarations_of}
-use Rattle.ec_conform.specs.Table.{Table, IsTable}
-use Rattle.ec_conform.specs.declared.static_type.StaticType.{StaticType}
+use Rattle.ec_types.specs.Declarations.{declarations_of}
+use Rattle.ec_types.specs.Table.{Table, IsTable}
+use Rattle.ec_types.specs.declared.conform.static_type.StaticType.{StaticType}
 use Rattle.ec_core.specs.declared.Constant.{Constant as CoreConstant}
 use Rattle.ec_core.specs.declared.Core.{Core}
 use Rattle.ec_core.specs.declared.Field.{Field}
@@ -43,9 +43,9 @@ use Rattle.ec_rules.specs.Parts as judged
 use Rattle.ec_rules.specs.Parts.{faults_in, value_in}
 use Rattle.ec_rules.specs.Tree as judged_tree
 use Rattle.ec_rules.specs.Tree.{constant_part, constant_parts, value_part}
-use Rattle.ec_scopes.specs.declared.globals.Global.{Global}
-use Rattle.ec_scopes.specs.declared.scope.Scope.{Scope}
-use Rattle.ec_scopes.specs.Scopes.{outside, written_in}
+use Rattle.ec_types.specs.declared.scopes.globals.Global.{Global}
+use Rattle.ec_types.specs.declared.scopes.scope.Scope.{Scope}
+use Rattle.ec_types.specs.Scopes.{outside, written_in}
 
 -- ---- constants by their numbers
 

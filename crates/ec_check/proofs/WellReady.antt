@@ -13,14 +13,14 @@ use Rattle.ec_check.specs.Parts.{Made, Part, both_made}
 use Rattle.ec_check.specs.Places.{Env, type_or}
 use Rattle.ec_check.specs.Resolving.{all_made, cores_of}
 use Rattle.ec_check.specs.WellTyped.{Site, typed, goes_in, IsWellOperation}
-use Rattle.ec_names.specs.Names.{Text}
+use Rattle.ec_types.specs.Names.{Text}
 use Rattle.ec_rules.specs.Captures.{Use, uses_outside}
 use Rattle.ec_rules.specs.Lists.{each}
 use Rattle.ec_rules.specs.Members.{constant_type}
 use Rattle.ec_rules.specs.Operands.{must_conform, wrong_constant}
 use Rattle.ec_rules.specs.Parts.{value_in, values_in, uses_in, faults_in}
 use Rattle.ec_rules.specs.declared.StaticFault.{StaticFault}
-use Rattle.ec_scopes.specs.Scopes.{written_in}
+use Rattle.ec_types.specs.Scopes.{written_in}
 
 -- ---- one part behind another
 

@@ -27,7 +27,7 @@ use Rattle.ec_check.specs.Tree.{statement_step, block_step}
 use Rattle.ec_check.specs.WellTyped.{Site, typed, is_of, goes_in, goes_in_if, holds_if, all_well, is_well_if, are_references}
 use Rattle.ec_check.specs.WellTyped.{IsWellOperation}
 use Rattle.ec_check.specs.WellTyped.{is_well_statement, is_well_arm, is_well_block}
-use Rattle.ec_conform.specs.declared.static_type.StaticType.{StaticType}
+use Rattle.ec_types.specs.declared.conform.static_type.StaticType.{StaticType}
 use Rattle.ec_core.specs.declared.Arm.{Arm}
 use Rattle.ec_core.specs.declared.Block.{Block}
 use Rattle.ec_core.specs.declared.Expression.{Expression, out-Expression}
@@ -47,8 +47,8 @@ use Rattle.ec_rules.specs.Statements.{piece_of_arm, pieces_of_block}
 use Rattle.ec_rules.specs.declared.StaticFault.{StaticFault}
 use Rattle.ec_rules.specs.declared.operands.Wanted.{Wanted}
 use Rattle.ec_rules.specs.declared.operands.Wanted.TheVariants as wanted
-use Rattle.ec_scopes.specs.declared.scope.Scope.{Scope}
-use Rattle.ec_scopes.specs.Scopes.{declaring, in_a_loop, written_in}
+use Rattle.ec_types.specs.declared.scopes.scope.Scope.{Scope}
+use Rattle.ec_types.specs.Scopes.{declaring, in_a_loop, written_in}
 
 -- ---- the parts of a statement
 

@@ -13,12 +13,12 @@ use Rattle.ec_check.specs.Places.{type_or}
 use Rattle.ec_check.specs.Resolving.{compared_of}
 use Rattle.ec_check.specs.WellTyped.{Typed as TypedValue, is_taken, is_of, all_are, is_same_result, conforms_if, goes_in, go_in}
 use Rattle.ec_check.specs.WellTyped.{some_class, some_operation, are_compared, wanted_of}
-use Rattle.ec_conform.specs.Table.{Table}
-use Rattle.ec_conform.specs.Types.{is_reference_type, is_same, is_same_type, known}
-use Rattle.ec_conform.specs.declared.static_type.Plain.{Plain as PlainType}
-use Rattle.ec_conform.specs.declared.static_type.Plain.TheVariants.{Integer, Boolean, String, Any, Node, Named}
-use Rattle.ec_conform.specs.declared.static_type.StaticType.{StaticType}
-use Rattle.ec_conform.specs.declared.static_type.StaticType.TheVariants.{Plain, Vector, Nil, Unknown}
+use Rattle.ec_types.specs.Table.{Table}
+use Rattle.ec_types.specs.Types.{is_reference_type, is_same, is_same_type, known}
+use Rattle.ec_types.specs.declared.conform.static_type.Plain.{Plain as PlainType}
+use Rattle.ec_types.specs.declared.conform.static_type.Plain.TheVariants.{Integer, Boolean, String, Any, Node, Named}
+use Rattle.ec_types.specs.declared.conform.static_type.StaticType.{StaticType}
+use Rattle.ec_types.specs.declared.conform.static_type.StaticType.TheVariants.{Plain, Vector, Nil, Unknown}
 use Rattle.ec_core.specs.declared.Class.{Class}
 use Rattle.ec_core.specs.declared.Operation.{Operation}
 use Rattle.ec_rules.specs.Calls.{wrong_arguments_for}

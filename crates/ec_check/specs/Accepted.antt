@@ -7,9 +7,9 @@ use Rattle.ec_check.specs.Program.{core_of, types_of_program}
 use Rattle.ec_check.specs.WellTyped.{IsWellTyped}
 use Rattle.ec_check.specs.declared.check.CheckError.{CheckError}
 use Rattle.ec_check.specs.declared.check.CheckError.TheVariants.{Fault, Memory}
-use Rattle.ec_conform.specs.Declarations.{declarations_of}
-use Rattle.ec_conform.specs.Table.{Table, IsTable}
-use Rattle.ec_conform.specs.Types.{places_of}
+use Rattle.ec_types.specs.Declarations.{declarations_of}
+use Rattle.ec_types.specs.Table.{Table, IsTable}
+use Rattle.ec_types.specs.Types.{places_of}
 use Rattle.ec_core.specs.declared.Class.{Class}
 use Rattle.ec_core.specs.declared.Core.{Core}
 use Rattle.ec_places.specs.Rising.{IsRising}

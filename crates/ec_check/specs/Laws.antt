@@ -5,9 +5,9 @@ use Rattle.ec_check.specs.Numbers.{IsInRange}
 use Rattle.ec_check.specs.Operations.{HasItsOperations}
 use Rattle.ec_check.specs.Program.{core_of, types_of_program}
 use Rattle.ec_check.specs.WellTyped.{IsWellTyped}
-use Rattle.ec_conform.specs.Declarations.{declarations_of}
-use Rattle.ec_conform.specs.Table.{Table, IsTable}
-use Rattle.ec_conform.specs.Types.{places_of}
+use Rattle.ec_types.specs.Declarations.{declarations_of}
+use Rattle.ec_types.specs.Table.{Table, IsTable}
+use Rattle.ec_types.specs.Types.{places_of}
 use Rattle.ec_places.specs.Rising.{IsRising}
 use Rattle.ec_rules.specs.Faults.{StaticFaults}
 

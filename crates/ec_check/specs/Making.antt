@@ -6,7 +6,7 @@ use Rattle.ec_check.specs.Places.{Env}
 use Rattle.ec_check.specs.Tree.{body_of}
 use Rattle.ec_check.specs.declared.resolver.Resolver.{Resolver}
 use Rattle.ec_check.specs.declared.resolver.Made.{Made as MadeLent}
-use Rattle.ec_conform.specs.declared.static_type.StaticType.{StaticType}
+use Rattle.ec_types.specs.declared.conform.static_type.StaticType.{StaticType}
 use Rattle.ec_judge.specs.Holders.{holder_with}
 use Rattle.ec_judge.specs.declared.holders.Heading.{Heading}
 

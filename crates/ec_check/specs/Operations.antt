@@ -1,13 +1,13 @@
 -- The operations that each class of a core has.
 use Rattle.std.specs.Prelude.{◌≡◌, ℕ, ◌==◌, ◌&&◌, Bool, false, if◌then◌else◌, List, [], ◌∷◌, ◌++◌, map}
 use Rattle.ec_check.specs.WellTyped.{is_named, parameters_of, result_of}
-use Rattle.ec_conform.specs.Conforms.{operations_at}
-use Rattle.ec_conform.specs.Table.{Table}
-use Rattle.ec_conform.specs.declared.operations.NamedOperation.{NamedOperation}
+use Rattle.ec_types.specs.Conforms.{operations_at}
+use Rattle.ec_types.specs.Table.{Table}
+use Rattle.ec_types.specs.declared.conform.operations.NamedOperation.{NamedOperation}
 use Rattle.ec_core.specs.declared.Class.{Class}
 use Rattle.ec_core.specs.declared.Core.{Core}
 use Rattle.ec_core.specs.declared.Operation.{Operation}
-use Rattle.ec_names.specs.Names.{Text, has_name}
+use Rattle.ec_types.specs.Names.{Text, has_name}
 
 -- ---- the operations of a class
 

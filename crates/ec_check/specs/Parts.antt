@@ -8,14 +8,14 @@ use Rattle.ec_ast.specs.declared.Parameter.{Parameter}
 use Rattle.ec_ast.specs.declared.Span.{Span}
 use Rattle.ec_ast.specs.declared.TypeName.{TypeName}
 use Rattle.ec_check.specs.Places.{Env}
-use Rattle.ec_conform.specs.declared.static_type.StaticType.{StaticType}
+use Rattle.ec_types.specs.declared.conform.static_type.StaticType.{StaticType}
 use Rattle.ec_core.specs.declared.Block.{Block}
 use Rattle.ec_core.specs.declared.Class.{Class}
 use Rattle.ec_core.specs.declared.Expression.{Expression}
 use Rattle.ec_core.specs.declared.Operation.{Operation}
 use Rattle.ec_core.specs.declared.Statement.{Statement}
 use Rattle.ec_rules.specs.Parts as judged
-use Rattle.ec_scopes.specs.declared.scope.Scope.{Scope}
+use Rattle.ec_types.specs.declared.scopes.scope.Scope.{Scope}
 use Rattle.ec_ast.specs.Kinds.{Kinds, ExpressionOf, LinkOf, MemberOf, StatementOf, AddendOf, ArmOf, BlockOf, BodyOf, FactorOf}
 use Rattle.ec_ast.specs.Kinds.{ObjectOf, OperationOf, ProcessOf}
 use Rattle.ec_ast.specs.Layers.{Maps}

@@ -2,15 +2,15 @@
 use Rattle.std.specs.Prelude.{ℕ, zero, suc, List, [], map, Option, Some, None, if◌then◌else◌, slice_get}
 use Rattle.ec_core.specs.declared.Place.{Place}
 use Rattle.ec_core.specs.declared.Place.TheVariants.{Variable, Captured, Field, Constant}
-use Rattle.ec_conform.specs.declared.static_type.StaticType.{StaticType}
-use Rattle.ec_conform.specs.declared.static_type.StaticType.TheVariants.{Unknown}
-use Rattle.ec_names.specs.Names.{Text, first_named}
-use Rattle.ec_scopes.specs.declared.entries.Entry.{Entry}
-use Rattle.ec_scopes.specs.declared.object.Object.{Object}
-use Rattle.ec_scopes.specs.declared.scope.Found.{Found}
-use Rattle.ec_scopes.specs.declared.scope.Found.TheVariants.{Held, Constant as FoundConstant, Nothing}
-use Rattle.ec_scopes.specs.declared.scope.Scope.{Scope}
-use Rattle.ec_scopes.specs.Scopes.{find, innermost, is_local, locals_of}
+use Rattle.ec_types.specs.declared.conform.static_type.StaticType.{StaticType}
+use Rattle.ec_types.specs.declared.conform.static_type.StaticType.TheVariants.{Unknown}
+use Rattle.ec_types.specs.Names.{Text, first_named}
+use Rattle.ec_types.specs.declared.scopes.entries.Entry.{Entry}
+use Rattle.ec_types.specs.declared.scopes.object.Object.{Object}
+use Rattle.ec_types.specs.declared.scopes.scope.Found.{Found}
+use Rattle.ec_types.specs.declared.scopes.scope.Found.TheVariants.{Held, Constant as FoundConstant, Nothing}
+use Rattle.ec_types.specs.declared.scopes.scope.Scope.{Scope}
+use Rattle.ec_types.specs.Scopes.{find, innermost, is_local, locals_of}
 
 -- A place of a program: what is in scope there; the names that the own object captures, all of them; the numbers of the
 -- parameters, the result and the locals in scope; and how many variables the operation has before the place.

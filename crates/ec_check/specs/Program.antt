@@ -9,14 +9,14 @@ use Rattle.ec_check.specs.Places.{Env, type_or}
 use Rattle.ec_check.specs.Resolving.{env_in, holder_made}
 use Rattle.ec_check.specs.Tree.{class_part, part_of}
 use Rattle.ec_check.specs.Typing.{Types, holder_within, types_in}
-use Rattle.ec_conform.specs.Table.{Table}
+use Rattle.ec_types.specs.Table.{Table}
 use Rattle.ec_core.specs.declared.Constant.{Constant}
 use Rattle.ec_core.specs.declared.Core.{Core}
 use Rattle.ec_rules.specs.Faults.{scope_of_program}
 use Rattle.ec_rules.specs.Lists.{each}
 use Rattle.ec_rules.specs.Members.{constant_type}
 use Rattle.ec_rules.specs.Tree.{constant_parts}
-use Rattle.ec_scopes.specs.declared.scope.Scope.{Scope}
+use Rattle.ec_types.specs.declared.scopes.scope.Scope.{Scope}
 
 -- A constant with a value, by its number among all; classes and typeobjects have none.
 abbrev pub constant_core : Env → ℕ → ConstantTree → ConstantValue → List Constant

@@ -9,10 +9,10 @@ use Rattle.ec_check.specs.Parts.{Made, nothing_made, both_made, Part, Piece, Sta
 use Rattle.ec_check.specs.Parts.{ArmPart, ProcessPart, OperationPart, MemberPart, variable, constant, condition, operation, BodyPart}
 use Rattle.ec_check.specs.Parts.{Holder, AnExpression, AStatement, link_judged, operation_judged, holder_judged}
 use Rattle.ec_check.specs.Places.{Env, condition_named, field_named, place_of, type_or, type_found}
-use Rattle.ec_conform.specs.Types.{number_at, vector_of}
-use Rattle.ec_conform.specs.declared.static_type.Plain.TheVariants.{Integer, Boolean, String}
-use Rattle.ec_conform.specs.declared.static_type.StaticType.{StaticType}
-use Rattle.ec_conform.specs.declared.static_type.StaticType.TheVariants.{Plain, Vector}
+use Rattle.ec_types.specs.Types.{number_at, vector_of}
+use Rattle.ec_types.specs.declared.conform.static_type.Plain.TheVariants.{Integer, Boolean, String}
+use Rattle.ec_types.specs.declared.conform.static_type.StaticType.{StaticType}
+use Rattle.ec_types.specs.declared.conform.static_type.StaticType.TheVariants.{Plain, Vector}
 use Rattle.ec_core.specs.declared.Addend.{Addend, roll-Addend}
 use Rattle.ec_core.specs.declared.Arm.{Arm, roll-Arm}
 use Rattle.ec_core.specs.declared.Block.{Block, roll-Block, out-Block}
@@ -33,7 +33,7 @@ use Rattle.ec_core.specs.declared.Operation.{Operation}
 use Rattle.ec_core.specs.declared.Place.TheVariants as place
 use Rattle.ec_core.specs.declared.Statement.{Statement}
 use Rattle.ec_core.specs.declared.Statement.TheVariants as s
-use Rattle.ec_names.specs.Names.{Text}
+use Rattle.ec_types.specs.Names.{Text}
 use Rattle.ec_rules.specs.Calls.{Receiver, Creation, Own, Typed, callee, is_word, link_type, receiver, result_of, type_indexed}
 use Rattle.ec_rules.specs.Calls.{type_of_receiver}
 use Rattle.ec_rules.specs.Captures.{captured}
@@ -41,10 +41,10 @@ use Rattle.ec_rules.specs.Judging.{uses_within}
 use Rattle.ec_rules.specs.Lists.{each}
 use Rattle.ec_rules.specs.Parts.{value_in}
 use Rattle.ec_rules.specs.Members.{constant_type, parameter_entries, result_entries, scope_of, scope_of_operation}
-use Rattle.ec_scopes.specs.Scopes.{class_named, declaring, find, in_a_loop, in_a_process, written_in}
-use Rattle.ec_scopes.specs.declared.entries.Entry.{Entry}
-use Rattle.ec_scopes.specs.declared.globals.ClassMeant.{ClassMeant}
-use Rattle.ec_scopes.specs.declared.scope.Scope.{Scope}
+use Rattle.ec_types.specs.Scopes.{class_named, declaring, find, in_a_loop, in_a_process, written_in}
+use Rattle.ec_types.specs.declared.scopes.entries.Entry.{Entry}
+use Rattle.ec_types.specs.declared.scopes.globals.ClassMeant.{ClassMeant}
+use Rattle.ec_types.specs.declared.scopes.scope.Scope.{Scope}
 
 -- ---- calls and indices
 

@@ -5,13 +5,13 @@ use Rattle.ec_ast.specs.declared.Expression.TheOpen.{Expression-F, Statement-F}
 use Rattle.ec_check.specs.Parts.{Part, Piece, StatementPart, LinkPart, ArmPart, ProcessPart, MemberPart, variable, constant}
 use Rattle.ec_check.specs.Parts.{condition, operation, Holder, AnExpression, AStatement, link_judged, operation_judged, holder_judged}
 use Rattle.ec_check.specs.Resolving.{parts_of}
-use Rattle.ec_conform.specs.declared.static_type.StaticType.{StaticType}
+use Rattle.ec_types.specs.declared.conform.static_type.StaticType.{StaticType}
 use Rattle.ec_rules.specs.Calls.{Receiver, Typed, link_type, receiver}
 use Rattle.ec_rules.specs.Lists.{each}
 use Rattle.ec_rules.specs.Members.{scope_of, scope_of_operation}
 use Rattle.ec_rules.specs.Parts.{value_in}
-use Rattle.ec_scopes.specs.Scopes.{declaring, in_a_loop, in_a_process}
-use Rattle.ec_scopes.specs.declared.scope.Scope.{Scope}
+use Rattle.ec_types.specs.Scopes.{declaring, in_a_loop, in_a_process}
+use Rattle.ec_types.specs.declared.scopes.scope.Scope.{Scope}
 
 abbrev pub Types : Type 0
 Types = List (Option StaticType)

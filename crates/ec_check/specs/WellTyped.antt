@@ -4,13 +4,13 @@ use Rattle.std.specs.Prelude.{◌≡◌, ℕ, ◌==◌, ◌&&◌, ◌||◌, Bool
 use Rattle.std.specs.Prelude.{Option, Some, None, option_map, option_and_then, is_some, All, Any}
 use Rattle.ec_ast.specs.declared.Additive.{Additive}
 use Rattle.ec_ast.specs.declared.Comparison.{Comparison}
-use Rattle.ec_conform.specs.Conforms.{operations_at}
-use Rattle.ec_conform.specs.Table.{Table, conforms}
-use Rattle.ec_conform.specs.Types.{element_of, is_same_type, known, named, operation_named}
-use Rattle.ec_conform.specs.declared.operations.NamedOperation.{NamedOperation}
-use Rattle.ec_conform.specs.declared.static_type.Plain.TheVariants.{Named}
-use Rattle.ec_conform.specs.declared.static_type.StaticType.{StaticType}
-use Rattle.ec_conform.specs.declared.static_type.StaticType.TheVariants.{Plain, Nil}
+use Rattle.ec_types.specs.Conforms.{operations_at}
+use Rattle.ec_types.specs.Table.{Table, conforms}
+use Rattle.ec_types.specs.Types.{element_of, is_same_type, known, named, operation_named}
+use Rattle.ec_types.specs.declared.conform.operations.NamedOperation.{NamedOperation}
+use Rattle.ec_types.specs.declared.conform.static_type.Plain.TheVariants.{Named}
+use Rattle.ec_types.specs.declared.conform.static_type.StaticType.{StaticType}
+use Rattle.ec_types.specs.declared.conform.static_type.StaticType.TheVariants.{Plain, Nil}
 use Rattle.ec_core.specs.declared.Addend.{Addend, fold-Addend}
 use Rattle.ec_core.specs.declared.Builtin.{Builtin}
 use Rattle.ec_core.specs.declared.Builtin.TheVariants.{AsString, Length, GetSlice, Size}
@@ -32,7 +32,7 @@ use Rattle.ec_core.specs.declared.Statement.{Statement, fold-Statement}
 use Rattle.ec_core.specs.declared.Statement.TheOpen.{Statement-F, Arm-F, Block-F}
 use Rattle.ec_core.specs.declared.Arm.{Arm, fold-Arm}
 use Rattle.ec_core.specs.declared.Block.{Block, fold-Block}
-use Rattle.ec_names.specs.Names.{Text, is_same as is_same_name}
+use Rattle.ec_types.specs.Names.{Text, is_same as is_same_name}
 use Rattle.ec_rules.specs.Operands.{are_alike, can_compare, operand_of, result_type}
 use Rattle.ec_rules.specs.Types.{boolean, integer, node, string, is_vector, takes}
 use Rattle.ec_rules.specs.declared.operands.Wanted.{Wanted}

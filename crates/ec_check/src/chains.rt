@@ -7,19 +7,19 @@ ghost use Rattle.ec_check.specs.Tree.{link_of, part_of};
 ghost use Rattle.ec_core.specs.declared.Link.{out-Link};
 ghost use Rattle.ec_rules.specs.Calls as calls;
 ghost use Rattle.ec_rules.specs.Tree as judged;
-ghost use Rattle.ec_scopes.specs.Scopes.{class_named};
+ghost use Rattle.ec_types.specs.Scopes.{class_named};
 
 use crate::expressions::{resolve, resolve_all};
 use crate::resolver::{Resolver, type_or};
 use ec_ast::{self as tree, Name};
-use ec_conform::static_type::{Plain, StaticType};
+use ec_types::conform::static_type::{Plain, StaticType};
 use ec_core::{Builtin, Expression, Link};
 use ec_judge::expressions::value;
 use ec_judge::links::{class_created, receiver_of_form};
 use ec_judge::walk::Walk;
 use ec_rules::calls::{Receiver, callee_of, is_word, result_of, type_indexed, type_of_receiver};
 use ec_rules::form::form_of;
-use ec_scopes::Scope;
+use ec_types::scopes::Scope;
 use sqlite_items::{Boxed, Items};
 use std::alloc::{AllocError, Global};
 

@@ -2,12 +2,12 @@
 ghost use Rattle.std.specs.Prelude.{◌≡◌, IfErr, IfOk};
 ghost use Rattle.ec_check.specs.Accepted.{HasCore, IsRefused};
 ghost use Rattle.ec_check.specs.declared.check.CheckError.TheVariants.{Memory};
-ghost use Rattle.ec_conform.specs.Declarations.{declarations_of};
-ghost use Rattle.ec_conform.specs.Table.{IsTable};
+ghost use Rattle.ec_types.specs.Declarations.{declarations_of};
+ghost use Rattle.ec_types.specs.Table.{IsTable};
 
 use crate::program::core_of;
 use ec_ast::Program;
-use ec_conform::TypeTable;
+use ec_types::conform::TypeTable;
 use ec_core::Core;
 use ec_judge::program::{judged_program, scope_of};
 use ec_rules::StaticFault;

@@ -3,20 +3,20 @@ ghost use Rattle.std.specs.Prelude.{◌≡◌, IfOk, OnOk, map};
 ghost use Rattle.ec_check.specs.Making.{HasMade, env_of};
 ghost use Rattle.ec_check.specs.Resolving as spec;
 ghost use Rattle.ec_check.specs.Tree.{addend_of, factor_of, part_of};
-ghost use Rattle.ec_conform.specs.Types as types;
+ghost use Rattle.ec_types.specs.Types as types;
 ghost use Rattle.ec_rules.specs.Parts.{value_in};
 ghost use Rattle.ec_rules.specs.Tree as judged;
-ghost use Rattle.ec_scopes.specs.Scopes.{written_in};
+ghost use Rattle.ec_types.specs.Scopes.{written_in};
 
 use crate::chains::{receiver_before, resolve_behind, resolve_head};
 use crate::holders::resolve_object;
 use crate::resolver::Resolver;
 use ec_ast::{self as tree, Text, TypeName};
-use ec_conform::static_type::{Plain, StaticType, vector_of};
+use ec_types::conform::static_type::{Plain, StaticType, vector_of};
 use ec_core::{Addend, Compared, Expression, Factor};
 use ec_judge::expressions::value;
 use ec_judge::walk::Walk;
-use ec_scopes::Scope;
+use ec_types::scopes::Scope;
 use sqlite_items::{Boxed, Items};
 use std::alloc::{AllocError, Global};
 

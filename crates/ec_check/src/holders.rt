@@ -9,19 +9,19 @@ ghost use Rattle.ec_check.specs.Tree.{member_of, object_of, operation_of, proces
 ghost use Rattle.ec_core.specs.declared.Expression.TheVariants as e;
 ghost use Rattle.ec_rules.specs.Lists.{each};
 ghost use Rattle.ec_rules.specs.Members.{scope_of};
-ghost use Rattle.ec_scopes.specs.Scopes.{find};
+ghost use Rattle.ec_types.specs.Scopes.{find};
 
 use crate::expressions::resolve;
 use crate::resolver::{Resolver, type_or};
 use crate::statements::{resolve_block, resolve_block_if, resolve_if};
 use crate::variables::Variables;
 use ec_ast::{self as tree, Name, Parameter};
-use ec_conform::static_type::StaticType;
+use ec_types::conform::static_type::StaticType;
 use ec_core::{Block, Class, Expression, Field, Kind, Operation, Place, Statement};
 use ec_judge::holders::{Heading, declare_heading, enter_body, judge_holder};
-use ec_names::Names;
+use ec_types::names::Names;
 use ec_rules::form::{constant_type, form_of};
-use ec_scopes::{Found, Scope};
+use ec_types::scopes::{Found, Scope};
 use sqlite_items::Items;
 use std::alloc::{AllocError, Global};
 

@@ -4,11 +4,11 @@ ghost use Rattle.ec_check.specs.Making.{env_of};
 ghost use Rattle.ec_check.specs.Places as spec;
 
 use crate::variables::Variables;
-use ec_conform::static_type::StaticType;
+use ec_types::conform::static_type::StaticType;
 use ec_core::{Class, Operation, Place};
 use ec_judge::walk::Walk;
-use ec_names::Names;
-use ec_scopes::{Entries, Found};
+use ec_types::names::Names;
+use ec_types::scopes::{Entries, Found};
 use sqlite_items::Items;
 use std::alloc::AllocError;
 

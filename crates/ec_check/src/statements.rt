@@ -12,12 +12,12 @@ ghost use Rattle.ec_core.specs.declared.Link.{out-Link};
 ghost use Rattle.ec_core.specs.declared.Statement.TheVariants as s;
 ghost use Rattle.ec_rules.specs.Members as members;
 ghost use Rattle.ec_rules.specs.Members.{constant_entry, variable_entry};
-ghost use Rattle.ec_scopes.specs.Scopes.{in_a_loop};
+ghost use Rattle.ec_types.specs.Scopes.{in_a_loop};
 
 use crate::expressions::resolve;
 use crate::resolver::{Resolver, type_or};
 use ec_ast::{self as tree, Name, TypeName};
-use ec_conform::static_type::StaticType;
+use ec_types::conform::static_type::StaticType;
 use ec_core::{Arm, At, Block, Expression, Link, Statement};
 use ec_judge::blocks::entry;
 use ec_rules::form::{constant_type, form_of};

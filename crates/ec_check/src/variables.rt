@@ -3,7 +3,7 @@ ghost use Rattle.std.specs.Prelude.{◌≡◌, ◌++◌, [], ◌∷◌, length, 
 ghost use Rattle.ec_check.specs.Places as spec;
 
 use crate::resolver::number_or;
-use ec_conform::static_type::StaticType;
+use ec_types::conform::static_type::StaticType;
 use sqlite_items::Items;
 use std::alloc::{AllocError, Global};
 

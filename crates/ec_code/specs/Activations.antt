@@ -8,7 +8,7 @@ use Rattle.ec_code.specs.declared.code.Parts.{Parts}
 use Rattle.ec_code.specs.declared.code.Variable.{Variable}
 use Rattle.ec_code.specs.declared.code.Variable.TheVariants.{Named, Temporary}
 use Rattle.ec_code.specs.Steps.{Machine, Done, Goes, Rests, Loops, NoCase, act, put}
-use Rattle.ec_conform.specs.declared.static_type.StaticType.{StaticType}
+use Rattle.ec_types.specs.declared.conform.static_type.StaticType.{StaticType}
 use Rattle.ec_world.specs.declared.common.Common.{Common}
 use Rattle.ec_world.specs.declared.stop.Stop.{Stop}
 use Rattle.ec_world.specs.declared.stop.Stop.TheVariants as stop

@@ -19,15 +19,15 @@ use Rattle.ec_code.specs.declared.code.Variable.{Variable}
 use Rattle.ec_code.specs.declared.code.Variable.TheVariants.{Named}
 use Rattle.ec_code.specs.Typing.{Declared, DeclaredClass, integer, boolean, string, any, node, vector_static, class_type}
 use Rattle.ec_code.specs.Typing.{field_types, viewed, kind_of}
-use Rattle.ec_conform.specs.Conforms.{Conforms, operations_at, is_none, most_types}
-use Rattle.ec_conform.specs.Types.{named, element_from}
-use Rattle.ec_conform.specs.declared.operations.NamedOperation.{NamedOperation}
-use Rattle.ec_conform.specs.declared.static_type.Plain.TheVariants as static
-use Rattle.ec_conform.specs.declared.static_type.StaticType.{StaticType}
-use Rattle.ec_conform.specs.declared.static_type.StaticType.TheVariants as type
-use Rattle.ec_conformity.specs.Fits.{Fits}
-use Rattle.ec_conformity.specs.Known.{IsOfProgram, NoneUnknown}
-use Rattle.ec_names.specs.Names.{Text, first_named}
+use Rattle.ec_types.specs.Conforms.{Conforms, operations_at, is_none, most_types}
+use Rattle.ec_types.specs.Types.{named, element_from}
+use Rattle.ec_types.specs.declared.conform.operations.NamedOperation.{NamedOperation}
+use Rattle.ec_types.specs.declared.conform.static_type.Plain.TheVariants as static
+use Rattle.ec_types.specs.declared.conform.static_type.StaticType.{StaticType}
+use Rattle.ec_types.specs.declared.conform.static_type.StaticType.TheVariants as type
+use Rattle.ec_types.specs.Fits.{Fits}
+use Rattle.ec_types.specs.Known.{IsOfProgram, NoneUnknown}
+use Rattle.ec_types.specs.Names.{Text, first_named}
 use Rattle.ec_world.specs.Agree.{AllTwo}
 use Rattle.ec_world.specs.Doings.{conditions_of, runs_inside}
 use Rattle.ec_world.specs.Objects.{operation_named, true_at}

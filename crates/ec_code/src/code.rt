@@ -1,6 +1,6 @@
 //! Three-address code: what an operation of an object does between its stops, and at them.
 use ec_base::list::Seq;
-use ec_conform::static_type::StaticType;
+use ec_types::conform::static_type::StaticType;
 use ec_world::class::{ClassNo, Classes};
 use ec_world::stop::Stop;
 use ec_world::value::Text;

@@ -10,7 +10,7 @@ use Rattle.ec_code.specs.declared.code.Variable.TheVariants as variable
 use Rattle.ec_code_sizes.proofs.Forms.{IsKept}
 use Rattle.ec_code_sizes.proofs.Sized.{Asked, Sized, alone_reads, alone_within}
 use Rattle.ec_code_sizes.proofs.Within.{Reach, Within, join, more, nothing, one, step, temporaries_reach}
-use Rattle.ec_conform.specs.declared.static_type.StaticType.{StaticType}
+use Rattle.ec_types.specs.declared.conform.static_type.StaticType.{StaticType}
 use Rattle.ec_core.specs.declared.Place.{Place}
 use Rattle.ec_core.specs.declared.Place.TheVariants as place
 use Rattle.ec_emission.specs.Expressions.{Condition, Emitted, all_code, operand_code, operand_of}

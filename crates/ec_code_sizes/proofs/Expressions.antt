@@ -11,7 +11,7 @@ use Rattle.ec_code_sizes.proofs.Forms.{IsCounted, comparison_sized, fetch_all_wi
 use Rattle.ec_code_sizes.proofs.Forms.{multiplied_applies, negated_sized, read_sized, stop_within, then_stop_sized}
 use Rattle.ec_code_sizes.proofs.Sized.{Applies, Follows, Holds, Sized, as_leaf_sized, by_code_sized, kept_holds}
 use Rattle.ec_code_sizes.proofs.Within.{Within, into_reaches, join, more, nothing, one, step, temporaries_reach}
-use Rattle.ec_conform.specs.Types.{named}
+use Rattle.ec_types.specs.Types.{named}
 use Rattle.ec_core.specs.declared.Addend.{Addend, roll-Addend, map-Addend, fold-Addend, fold-roll-Addend}
 use Rattle.ec_core.specs.declared.Expression.{Expression, roll-Expression, map-Expression, ind-Expression, fold-roll-Expression}
 use Rattle.ec_core.specs.declared.Expression.TheOpen.{Expression-F, Link-F, Addend-F, Factor-F}

@@ -23,7 +23,7 @@ use Rattle.ec_code_sizes.proofs.Sized.{Applies, Holds, Sized, alone_reads, alone
 use Rattle.ec_code_sizes.proofs.Sized.{by_condition_sized, code_or_within, operand_reads, pair_reads, pair_turned}
 use Rattle.ec_code_sizes.proofs.Sized.{pair_within}
 use Rattle.ec_code_sizes.proofs.Within.{Reach, Within, join, more, nothing, one, step, temporaries_reach}
-use Rattle.ec_conform.specs.declared.static_type.StaticType.{StaticType}
+use Rattle.ec_types.specs.declared.conform.static_type.StaticType.{StaticType}
 use Rattle.ec_core.specs.declared.Place.{Place}
 use Rattle.ec_core.specs.declared.Place.TheVariants as place
 use Rattle.ec_emission.specs.Expressions.{Emitted, by_code, by_condition, calculated, compared_pair, comparison, divided, fetch}

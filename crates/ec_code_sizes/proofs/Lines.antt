@@ -9,7 +9,7 @@ use Rattle.ec_code.specs.declared.code.Variable.TheVariants.{Named, Temporary}
 use Rattle.ec_code.specs.Fine.{IsIn}
 use Rattle.ec_code_limits.specs.Limits.{HasColumn, HasColumns}
 use Rattle.ec_code_sizes.proofs.Within.{Reach, StepReaches}
-use Rattle.ec_conform.specs.declared.static_type.StaticType.{StaticType}
+use Rattle.ec_types.specs.declared.conform.static_type.StaticType.{StaticType}
 use Rattle.ec_homes.specs.Homes.{HasItsVariables, IsVariable}
 use Rattle.ec_homes.specs.Meeting.{all_if, live_first, live_in, met_at, met_behind, met_by}
 use Rattle.ec_liveness.proofs.Among.{among_in, in_append, same_is}

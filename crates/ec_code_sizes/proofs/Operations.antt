@@ -11,7 +11,7 @@ use Rattle.ec_code_sizes.proofs.Forms.{IsCounted}
 use Rattle.ec_code_sizes.proofs.Sized.{Sized}
 use Rattle.ec_code_sizes.proofs.Statements.{block_short}
 use Rattle.ec_code_sizes.proofs.Within.{Within, join, more, nothing, one, step, temporaries_reach}
-use Rattle.ec_conform.specs.declared.static_type.StaticType.{StaticType}
+use Rattle.ec_types.specs.declared.conform.static_type.StaticType.{StaticType}
 use Rattle.ec_core.specs.declared.Constant.{Constant}
 use Rattle.ec_core.specs.declared.Kind.{Kind}
 use Rattle.ec_core.specs.declared.Kind.TheVariants as kind

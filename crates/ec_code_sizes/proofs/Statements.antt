@@ -12,7 +12,7 @@ use Rattle.ec_code_sizes.proofs.Expressions.{is_sized}
 use Rattle.ec_code_sizes.proofs.Forms.{IsCounted}
 use Rattle.ec_code_sizes.proofs.Sized.{Sized}
 use Rattle.ec_code_sizes.proofs.Within.{Within, join, more, nothing, one, step}
-use Rattle.ec_conform.specs.declared.static_type.StaticType.{StaticType}
+use Rattle.ec_types.specs.declared.conform.static_type.StaticType.{StaticType}
 use Rattle.ec_core.specs.declared.Arm.{Arm, roll-Arm, map-Arm, fold-Arm, fold-roll-Arm}
 use Rattle.ec_core.specs.declared.Block.{Block, roll-Block, map-Block, fold-roll-Block, ind-Block}
 use Rattle.ec_core.specs.declared.Expression.{Expression}

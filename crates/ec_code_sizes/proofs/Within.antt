@@ -5,7 +5,7 @@ use Rattle.ec_check.proofs.Every.{Every, Where, every_joined}
 use Rattle.ec_code.specs.declared.code.Op.{Op}
 use Rattle.ec_code.specs.declared.code.Variable.{Variable}
 use Rattle.ec_code.specs.declared.code.Variable.TheVariants.{Named, Temporary}
-use Rattle.ec_conform.specs.declared.static_type.StaticType.{StaticType}
+use Rattle.ec_types.specs.declared.conform.static_type.StaticType.{StaticType}
 use Rattle.ec_liveness.specs.Live.{reads, writes}
 use Rattle.ec_stands.specs.Rows.{into_if, temporaries}
 

@@ -17,8 +17,8 @@ use Rattle.ec_code.specs.declared.code.Test.TheVariants as test
 use Rattle.ec_code_limits.specs.Limits.{HasLimits}
 use Rattle.ec_code_sizes.proofs.Whole.{has_limits}
 use Rattle.ec_compile.specs.Texts.{IsOfText}
-use Rattle.ec_conform.specs.Declarations.{declarations_of}
-use Rattle.ec_conform.specs.Types.{places_of}
+use Rattle.ec_types.specs.Declarations.{declarations_of}
+use Rattle.ec_types.specs.Types.{places_of}
 use Rattle.ec_core_laws.proofs.TextPrograms.{text_has_small_numbers}
 use Rattle.ec_core_texts.proofs.TextPrograms.{text_has_bytes}
 use Rattle.ec_lowered.specs.Lowered.{IsLowered, declared_of}

@@ -3,7 +3,7 @@
 #![tactic(auto)]
 
 use ec_ast::{Additive, Comparison, Multiplicative, Text};
-use ec_conform::static_type::StaticType;
+use ec_types::conform::static_type::StaticType;
 use sqlite_items::{Boxed, Items};
 
 /// Where a value is kept.

@@ -20,8 +20,8 @@ use Rattle.ec_check.specs.Resolving.{assigned, chained, element_set, element_set
 use Rattle.ec_check.specs.Resolving.{locals_of_arms, core_of_statement, behind}
 use Rattle.ec_check.specs.Resolving.{statements_core, at_start, env_in, env_of_body, env_of_operation, field_stored, initially_core}
 use Rattle.ec_check.specs.Tree.{statement_step, block_step}
-use Rattle.ec_conform.specs.Declarations.{declarations_of}
-use Rattle.ec_conform.specs.Table.{Table, IsTable}
+use Rattle.ec_types.specs.Declarations.{declarations_of}
+use Rattle.ec_types.specs.Table.{Table, IsTable}
 use Rattle.ec_core.specs.declared.Block.{out-Block}
 use Rattle.ec_core.specs.declared.Class.{Class}
 use Rattle.ec_core.specs.declared.Addend.{Addend}
@@ -51,8 +51,8 @@ use Rattle.ec_rules.specs.Lists.{each}
 use Rattle.ec_rules.specs.Names.{unknown_in_operation}
 use Rattle.ec_rules.specs.Parts as judged
 use Rattle.ec_rules.specs.Statements.{piece_of_arm, pieces_of_block}
-use Rattle.ec_scopes.specs.declared.scope.Scope.{Scope}
-use Rattle.ec_scopes.specs.Scopes.{in_a_loop, in_a_process}
+use Rattle.ec_types.specs.declared.scopes.scope.Scope.{Scope}
+use Rattle.ec_types.specs.Scopes.{in_a_loop, in_a_process}
 
 -- ---- each kind of part
 

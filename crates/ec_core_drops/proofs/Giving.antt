@@ -15,8 +15,8 @@ use Rattle.ec_check.specs.Places.{Env, place_of}
 use Rattle.ec_check.specs.Resolving.{called, link_core, links_core, chained, chain_core, core_of_expression, number_of_class}
 use Rattle.ec_check.specs.Resolving.{arguments_in, factor_core, addend_core, cores_of, captures_of, number_of_holder, compared_in}
 use Rattle.ec_check.specs.Tree.{expression_step}
-use Rattle.ec_conform.specs.Types.{vector_of}
-use Rattle.ec_conform.specs.declared.static_type.StaticType.{StaticType}
+use Rattle.ec_types.specs.Types.{vector_of}
+use Rattle.ec_types.specs.declared.conform.static_type.StaticType.{StaticType}
 use Rattle.ec_core.specs.declared.Addend.{Addend}
 use Rattle.ec_core.specs.declared.Builtin.{Builtin}
 use Rattle.ec_core.specs.declared.Expression.{Expression, roll-Expression, out-Expression, out-roll-Expression, map-Expression}
@@ -35,8 +35,8 @@ use Rattle.ec_rules.specs.Calls.{is_clean_after, type_unless, type_of_links, fau
 use Rattle.ec_rules.specs.Judging.{faults_of, expression_part}
 use Rattle.ec_rules.specs.Parts as judged
 use Rattle.ec_rules.specs.Parts.{faults_in}
-use Rattle.ec_scopes.specs.Scopes.{class_named, written_in}
-use Rattle.ec_scopes.specs.declared.scope.Scope.{Scope}
+use Rattle.ec_types.specs.Scopes.{class_named, written_in}
+use Rattle.ec_types.specs.declared.scopes.scope.Scope.{Scope}
 
 -- ---- each kind of part
 

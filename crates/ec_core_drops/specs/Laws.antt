@@ -2,8 +2,8 @@
 use Rattle.std.specs.Prelude.{◌≡◌, []}
 use Rattle.ec_ast.specs.declared.Program.{Program}
 use Rattle.ec_check.specs.Program.{core_of}
-use Rattle.ec_conform.specs.Declarations.{declarations_of}
-use Rattle.ec_conform.specs.Table.{Table, IsTable}
+use Rattle.ec_types.specs.Declarations.{declarations_of}
+use Rattle.ec_types.specs.Table.{Table, IsTable}
 use Rattle.ec_emission_laws.specs.Dropped.{DropsCalls}
 use Rattle.ec_rules.specs.Faults.{StaticFaults}
 

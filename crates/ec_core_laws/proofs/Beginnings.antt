@@ -7,8 +7,8 @@ use Rattle.ec_check.proofs.Every.{Every, every_weaker, all_of, not_both}
 use Rattle.ec_check.specs.Parts.{Made, both_made, OperationPart, ProcessPart, Holder}
 use Rattle.ec_check.specs.Program.{constants_made, outermost, core_of}
 use Rattle.ec_check.specs.Resolving.{just_operation, number_of_holder}
-use Rattle.ec_conform.specs.Declarations.{declarations_of}
-use Rattle.ec_conform.specs.Table.{Table, IsTable}
+use Rattle.ec_types.specs.Declarations.{declarations_of}
+use Rattle.ec_types.specs.Table.{Table, IsTable}
 use Rattle.ec_core.specs.declared.Class.{Class}
 use Rattle.ec_core.specs.declared.Kind.{Kind}
 use Rattle.ec_core.specs.declared.Operation.{Operation}
@@ -17,7 +17,7 @@ use Rattle.ec_core_laws.proofs.Programs.{made_holds}
 use Rattle.ec_core_laws.specs.Beginnings.{is_initial, is_process, count_of_class, BeginsOnce}
 use Rattle.ec_places.specs.Rising.{IsRising}
 use Rattle.ec_rules.specs.Faults.{StaticFaults}
-use Rattle.ec_scopes.specs.declared.scope.Scope.{Scope}
+use Rattle.ec_types.specs.declared.scopes.scope.Scope.{Scope}
 
 -- ---- how many classes have a number
 

@@ -8,7 +8,7 @@ use Rattle.ec_check.specs.Parts.{member_judged, operation_judged, holder_judged}
 use Rattle.ec_check.specs.Resolving.{condition_count, conditions_in}
 use Rattle.ec_core.specs.declared.Class.{Class}
 use Rattle.ec_core_laws.proofs.Operations.{Known, OperationFaultless, ProcessFaultless, scope_in}
-use Rattle.ec_names.specs.Names.{Text, has_name}
+use Rattle.ec_types.specs.Names.{Text, has_name}
 use Rattle.ec_rules.specs.Doubled.{doubled_in_operation}
 use Rattle.ec_rules.specs.EndNames.{end_of_operation}
 use Rattle.ec_rules.specs.Judging.{finished_if, first_finished, members_finished, member_faults, operation_faults}
@@ -17,11 +17,11 @@ use Rattle.ec_rules.specs.Lists.{each}
 use Rattle.ec_rules.specs.Members as rules
 use Rattle.ec_rules.specs.Members.{first_members, member_name, object_with, scope_of_operation}
 use Rattle.ec_rules.specs.Parts as judged
-use Rattle.ec_scopes.proofs.Innermost.{top_of-change}
-use Rattle.ec_scopes.specs.declared.entries.Entry.{Entry}
-use Rattle.ec_scopes.specs.declared.object.Object.{Object}
-use Rattle.ec_scopes.specs.declared.scope.Scope.{Scope}
-use Rattle.ec_scopes.specs.Scopes.{innermost, with_locals, at_loop, at_process, declaring, in_a_loop, in_a_process}
+use Rattle.ec_types.proofs.Innermost.{top_of-change}
+use Rattle.ec_types.specs.declared.scopes.entries.Entry.{Entry}
+use Rattle.ec_types.specs.declared.scopes.object.Object.{Object}
+use Rattle.ec_types.specs.declared.scopes.scope.Scope.{Scope}
+use Rattle.ec_types.specs.Scopes.{innermost, with_locals, at_loop, at_process, declaring, in_a_loop, in_a_process}
 
 -- ---- faults
 

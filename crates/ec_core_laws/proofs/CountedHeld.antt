@@ -16,8 +16,8 @@ use Rattle.ec_core_laws.proofs.CountedKinds.{CountedPart, CountedLink, CountedMe
 use Rattle.ec_core_laws.proofs.CountedKinds.{CountedPiece, CountedBody, CountedFactor, CountedObject, CountedOperation, CountedProcess}
 use Rattle.ec_check.specs.Tree.{part_of, link_of, member_of, statement_of, addend_of, arm_of, block_of, body_of, factor_of}
 use Rattle.ec_check.specs.Tree.{object_of, operation_of, process_of}
-use Rattle.ec_conform.specs.Declarations.{in_expression, in_link, in_member, in_statement, in_addend, in_arm, in_block, in_body}
-use Rattle.ec_conform.specs.Declarations.{in_factor, in_constructor, in_process}
+use Rattle.ec_types.specs.Declarations.{in_expression, in_link, in_member, in_statement, in_addend, in_arm, in_block, in_body}
+use Rattle.ec_types.specs.Declarations.{in_factor, in_constructor, in_process}
 use Rattle.ec_ast.proofs.Claims.{Claims}
 
 -- ---- each kind of part

@@ -6,8 +6,8 @@ use Rattle.ec_check.specs.Parts.{Holder, both_made, holder_judged}
 use Rattle.ec_check.specs.Resolving.{class_core, env_of_body, holder_made, initial_operation, initially_made, members_made}
 use Rattle.ec_check.specs.Resolving.{number_of_holder}
 use Rattle.ec_check.specs.Resolving.{process_made}
-use Rattle.ec_conform.specs.Declarations as conform
-use Rattle.ec_conform.specs.Declarations.{both, object_of, object_with, within_members}
+use Rattle.ec_types.specs.Declarations as conform
+use Rattle.ec_types.specs.Declarations.{both, object_of, object_with, within_members}
 use Rattle.ec_core_laws.proofs.CountedKinds.{CountedBody, members_counted}
 use Rattle.ec_core_laws.proofs.CountedParts.{Counted, OperationFits, both_counted, object_counted}
 use Rattle.ec_rules.specs.Captures.{captured}
@@ -18,7 +18,7 @@ use Rattle.ec_rules.specs.Limits.{many_fields, many_operations, many_types, meas
 use Rattle.ec_rules.specs.Members.{scope_of}
 use Rattle.ec_rules.specs.Names.{unknown_in_parameters}
 use Rattle.ec_rules.specs.Parts as judged
-use Rattle.ec_scopes.specs.declared.scope.Scope.{Scope}
+use Rattle.ec_types.specs.declared.scopes.scope.Scope.{Scope}
 
 -- ---- its body
 

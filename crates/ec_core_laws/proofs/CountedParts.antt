@@ -7,14 +7,14 @@ use Rattle.ec_ast.specs.declared.Span.{Span}
 use Rattle.ec_check.proofs.Every.{Every, every_joined, none_left, none_right}
 use Rattle.ec_check.specs.Parts.{Made, nothing_made, both_made}
 use Rattle.ec_check.specs.Resolving.{just_class, just_operation}
-use Rattle.ec_conform.specs.Declarations as conform
-use Rattle.ec_conform.specs.Declarations.{both, nothing, object_with, operation_at}
-use Rattle.ec_conform.specs.Table.{Table}
-use Rattle.ec_conform.specs.declared.declared.Declarations.{Declarations}
-use Rattle.ec_conform.specs.declared.declared.DeclaredType.{DeclaredType}
+use Rattle.ec_types.specs.Declarations as conform
+use Rattle.ec_types.specs.Declarations.{both, nothing, object_with, operation_at}
+use Rattle.ec_types.specs.Table.{Table}
+use Rattle.ec_types.specs.declared.conform.declared.Declarations.{Declarations}
+use Rattle.ec_types.specs.declared.conform.declared.DeclaredType.{DeclaredType}
 use Rattle.ec_core.specs.declared.Class.{Class}
 use Rattle.ec_core.specs.declared.Operation.{Operation}
-use Rattle.ec_names.specs.Names.{Text}
+use Rattle.ec_types.specs.Names.{Text}
 use Rattle.ec_rules.specs.Limits.{many_types, many_operations}
 use Rattle.ec_rules.specs.declared.StaticFault.{StaticFault}
 

@@ -15,9 +15,9 @@ use Rattle.ec_check.proofs.Fusion.{same_part, same_class}
 use Rattle.ec_check.proofs.RangedPrograms.{none_in_order}
 use Rattle.ec_check.specs.Program.{constant_made, constants_made, core_of, outermost}
 use Rattle.ec_check.specs.Tree.{class_part}
-use Rattle.ec_conform.specs.Declarations.{declarations_of, in_body, in_value, joined}
-use Rattle.ec_conform.specs.Table.{Table, IsTable}
-use Rattle.ec_conform.specs.declared.declared.DeclaredType.{DeclaredType}
+use Rattle.ec_types.specs.Declarations.{declarations_of, in_body, in_value, joined}
+use Rattle.ec_types.specs.Table.{Table, IsTable}
+use Rattle.ec_types.specs.declared.conform.declared.DeclaredType.{DeclaredType}
 use Rattle.ec_core_laws.proofs.CountedHolders.{holder_counted}
 use Rattle.ec_core_laws.proofs.CountedParts.{Counted, TypeFits, OperationFits, nothing_counted, counted_within, both_counted}
 use Rattle.ec_core_laws.proofs.CountedTrees.{counted_part, counted_body}
@@ -31,7 +31,7 @@ use Rattle.ec_rules.specs.Parts.{faults_in}
 use Rattle.ec_rules.specs.Rules.{fault_if}
 use Rattle.ec_rules.specs.Tree.{constant_part, constant_parts, value_part}
 use Rattle.ec_rules.specs.declared.Rule.{Rule}
-use Rattle.ec_scopes.specs.declared.scope.Scope.{Scope}
+use Rattle.ec_types.specs.declared.scopes.scope.Scope.{Scope}
 
 -- ---- constants
 

@@ -29,10 +29,10 @@ use Rattle.ec_check.specs.Resolving.{expression_made, statement_made, statements
 use Rattle.ec_check.specs.Tree.{expression_step, link_step, member_step, statement_step, addend_step, arm_step, block_step, body_step}
 use Rattle.ec_check.specs.Tree.{factor_step, object_step, operation_step, process_step}
 use Rattle.ec_check.specs.Tree.{part_of, link_of, member_of, statement_of, addend_of, arm_of, block_of, factor_of}
-use Rattle.ec_conform.specs.Declarations as conform
-use Rattle.ec_conform.specs.Declarations.{both, joined, nothing, in_expression, in_link, in_member, in_statement, in_addend, in_arm}
-use Rattle.ec_conform.specs.Declarations.{in_block, in_body, in_factor, in_constructor, in_process}
-use Rattle.ec_conform.specs.declared.declared.Declarations.{Declarations}
+use Rattle.ec_types.specs.Declarations as conform
+use Rattle.ec_types.specs.Declarations.{both, joined, nothing, in_expression, in_link, in_member, in_statement, in_addend, in_arm}
+use Rattle.ec_types.specs.Declarations.{in_block, in_body, in_factor, in_constructor, in_process}
+use Rattle.ec_types.specs.declared.conform.declared.Declarations.{Declarations}
 use Rattle.ec_core_laws.proofs.CountedHeld.{IsCountedPart, IsCountedLink, IsCountedMember, IsCountedStatement, IsCountedAddend}
 use Rattle.ec_core_laws.proofs.CountedHeld.{IsCountedArm, IsCountedBlock, IsCountedBody, IsCountedFactor, IsCountedObject}
 use Rattle.ec_core_laws.proofs.CountedHeld.{IsCountedOperation, IsCountedProcess, counted}
@@ -56,8 +56,8 @@ use Rattle.ec_rules.specs.Parts as judged
 use Rattle.ec_rules.specs.Parts.{faults_in}
 use Rattle.ec_rules.specs.Statements.{piece_of_arm}
 use Rattle.ec_rules.specs.declared.StaticFault.{StaticFault}
-use Rattle.ec_scopes.specs.declared.scope.Scope.{Scope}
-use Rattle.ec_scopes.specs.Scopes.{declaring, in_a_loop, in_a_process}
+use Rattle.ec_types.specs.declared.scopes.scope.Scope.{Scope}
+use Rattle.ec_types.specs.Scopes.{declaring, in_a_loop, in_a_process}
 use Rattle.ec_ast.proofs.Claims.{Passes, Held, trees, ExpressionWith, LinkWith, MemberWith, StatementWith, AddendWith, ArmWith}
 use Rattle.ec_ast.proofs.Claims.{BlockWith, BodyWith, FactorWith, ObjectWith, OperationWith, ProcessWith, bare_expression}
 use Rattle.ec_ast.proofs.Claims.{bare_link, bare_member, bare_statement, bare_addend, bare_arm, bare_block, bare_body, bare_factor}

@@ -25,7 +25,7 @@ use Rattle.ec_core_laws.proofs.Trees as trees
 use Rattle.ec_core_laws.specs.Numbers.{expression_numbers, link_numbers, addend_numbers, factor_numbers, statement_numbers, arm_numbers}
 use Rattle.ec_core_laws.specs.Numbers.{block_numbers, numbers_in, numbers_in_link, numbers_in_statement, numbers_in_arm, numbers_in_block}
 use Rattle.ec_core_laws.specs.TreeNumbers.{Numbers, joined, Fits}
-use Rattle.ec_scopes.specs.Scopes.{in_a_loop}
+use Rattle.ec_types.specs.Scopes.{in_a_loop}
 
 pub has : (x : Statement) (y : Core-F Statement Arm Block) → roll-Statement y ≡ x →
     AllFit

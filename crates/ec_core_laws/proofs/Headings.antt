@@ -6,15 +6,15 @@ use Rattle.ec_ast.specs.declared.Program.{Program}
 use Rattle.ec_check.specs.Parts.{operation_judged}
 use Rattle.ec_check.specs.Program.{core_of}
 use Rattle.ec_check.specs.Resolving.{types_written, result_written, heading_types}
-use Rattle.ec_conform.specs.Declarations.{declarations_of}
-use Rattle.ec_conform.specs.Table.{Table, IsTable}
-use Rattle.ec_conform.specs.declared.static_type.StaticType.{StaticType}
+use Rattle.ec_types.specs.Declarations.{declarations_of}
+use Rattle.ec_types.specs.Table.{Table, IsTable}
+use Rattle.ec_types.specs.declared.conform.static_type.StaticType.{StaticType}
 use Rattle.ec_core_laws.proofs.Operations.{scope_in}
 use Rattle.ec_core_laws.proofs.Programs.{each_operation}
 use Rattle.ec_core_laws.specs.Headings.{HeadingFits, result_count}
 use Rattle.ec_rules.specs.Faults.{StaticFaults}
 use Rattle.ec_rules.specs.Members.{scope_of_operation}
-use Rattle.ec_scopes.specs.declared.scope.Scope.{Scope}
+use Rattle.ec_types.specs.declared.scopes.scope.Scope.{Scope}
 
 result_counted : (scope : Scope) (result : Option Parameter) → length (result_written scope result) ≡ result_count (is_some result)
 result_counted scope None = refl

@@ -13,12 +13,12 @@ use Rattle.ec_check.specs.WellTyped.{type_has, own_has, call_typed, are_none, ar
 use Rattle.ec_check.specs.WellTyped.{parameters_of, result_of}
 use Rattle.ec_check.specs.WellTyped.{holds_if, all_well, goes_in_if, are_references, type_at, statement_is_well, is_well_statement}
 use Rattle.ec_check.specs.WellTyped.{is_well_arm, is_well_block, site_in, site_outside, IsWellOperation, IsWellConstant, IsWellTyped}
-use Rattle.ec_conform.specs.Table.{Table}
-use Rattle.ec_conform.specs.Types.{element_of, known}
-use Rattle.ec_conform.specs.declared.operations.NamedOperation.{NamedOperation}
-use Rattle.ec_conform.specs.declared.static_type.Plain.TheVariants.{Integer, Boolean, String, Any, Node, Named}
-use Rattle.ec_conform.specs.declared.static_type.StaticType.{StaticType}
-use Rattle.ec_conform.specs.declared.static_type.StaticType.TheVariants.{Plain, Vector, Nil, Unknown}
+use Rattle.ec_types.specs.Table.{Table}
+use Rattle.ec_types.specs.Types.{element_of, known}
+use Rattle.ec_types.specs.declared.conform.operations.NamedOperation.{NamedOperation}
+use Rattle.ec_types.specs.declared.conform.static_type.Plain.TheVariants.{Integer, Boolean, String, Any, Node, Named}
+use Rattle.ec_types.specs.declared.conform.static_type.StaticType.{StaticType}
+use Rattle.ec_types.specs.declared.conform.static_type.StaticType.TheVariants.{Plain, Vector, Nil, Unknown}
 use Rattle.ec_core.specs.declared.Addend.{Addend, roll-Addend, map-Addend}
 use Rattle.ec_core.specs.declared.Arm.{Arm, roll-Arm, map-Arm, fold-roll-Arm}
 use Rattle.ec_core.specs.declared.Block.{Block, roll-Block, map-Block, fold-roll-Block, ind-Block}
@@ -39,7 +39,7 @@ use Rattle.ec_core_laws.specs.Known.{is_known, is_known_if, all_known, expressio
 use Rattle.ec_core_laws.specs.Known.{knows, knows_link, knows_addend, knows_factor}
 use Rattle.ec_core_laws.specs.Known.{knows_if, statement_known, arm_known, block_known, knows_statement, knows_arm, knows_block}
 use Rattle.ec_core_laws.specs.Known.{KnowsConstant, KnowsItsTypes}
-use Rattle.ec_names.specs.Names.{Text, is_same as is_same_name}
+use Rattle.ec_types.specs.Names.{Text, is_same as is_same_name}
 use Rattle.ec_rules.specs.Types.{is_vector, takes}
 use Rattle.ec_rules.specs.declared.operands.Wanted.{Wanted}
 use Rattle.ec_rules.specs.declared.operands.Wanted.TheVariants as wanted

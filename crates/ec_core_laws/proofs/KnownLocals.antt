@@ -11,15 +11,15 @@ use Rattle.ec_check.specs.Parts.{Part, Piece, StatementPart, ArmPart, BodyPart, 
 use Rattle.ec_check.specs.Places.{type_or}
 use Rattle.ec_check.specs.Resolving.{locals_of, locals_of_arms, locals_of_block, locals_of_statements}
 use Rattle.ec_check.specs.Tree.{expression_step, statement_step, block_step}
-use Rattle.ec_conform.specs.declared.static_type.StaticType.{StaticType}
+use Rattle.ec_types.specs.declared.conform.static_type.StaticType.{StaticType}
 use Rattle.ec_core_laws.proofs.SoundLayers.{statement_parts_sound}
 use Rattle.ec_core_laws.proofs.Trees.{IsPiece, IsBody}
 use Rattle.ec_core_laws.proofs.Trees as trees
 use Rattle.ec_rules.specs.Judging.{statement_part, statement_finished, entries_of, block_finished, finished_if}
 use Rattle.ec_rules.specs.Parts as judged
 use Rattle.ec_rules.specs.Statements.{piece_of_arm, pieces_of_block}
-use Rattle.ec_scopes.specs.declared.scope.Scope.{Scope}
-use Rattle.ec_scopes.specs.Scopes.{declaring, in_a_loop}
+use Rattle.ec_types.specs.declared.scopes.scope.Scope.{Scope}
+use Rattle.ec_types.specs.Scopes.{declaring, in_a_loop}
 
 abbrev pub IsTyped : StaticType → Type 0
 IsTyped of = HasType (Some of)

@@ -26,10 +26,10 @@ use Rattle.ec_check.specs.Program.{constant_core, constants_core, core_of, outer
 use Rattle.ec_check.specs.Resolving.{captures_of, class_core, env_in, field_of, heading_types, parameter_field, result_written}
 use Rattle.ec_check.specs.Resolving.{types_written}
 use Rattle.ec_check.specs.Tree.{part_of}
-use Rattle.ec_conform.specs.Declarations.{declarations_of}
-use Rattle.ec_conform.specs.Table.{Table, IsTable}
-use Rattle.ec_conform.specs.declared.static_type.StaticType.{StaticType}
-use Rattle.ec_conform.specs.declared.static_type.StaticType.TheVariants.{Plain, Vector, Nil, Unknown}
+use Rattle.ec_types.specs.Declarations.{declarations_of}
+use Rattle.ec_types.specs.Table.{Table, IsTable}
+use Rattle.ec_types.specs.declared.conform.static_type.StaticType.{StaticType}
+use Rattle.ec_types.specs.declared.conform.static_type.StaticType.TheVariants.{Plain, Vector, Nil, Unknown}
 use Rattle.ec_core.specs.declared.Class.{Class}
 use Rattle.ec_core.specs.declared.Constant.{Constant as CoreConstant}
 use Rattle.ec_core.specs.declared.Field.{Field}
@@ -40,7 +40,7 @@ use Rattle.ec_core_laws.proofs.Operations.{first_of, named_of, process_of, proce
 use Rattle.ec_core_laws.proofs.Programs.{Faultless, constants_faultless, made_holds}
 use Rattle.ec_core_laws.proofs.Trees.{IsPiece}
 use Rattle.ec_core_laws.specs.KnownPlaces.{IsKnown, KnowsVariables, KnowsClass, KnowsItsPlaces}
-use Rattle.ec_names.specs.Names.{Text}
+use Rattle.ec_types.specs.Names.{Text}
 use Rattle.ec_rules.specs.Captures.{Use, uses_outside}
 use Rattle.ec_rules.specs.Faults.{faults_in_constant, StaticFaults}
 use Rattle.ec_rules.specs.Judging.{member_finished, members_finished, uses_within}
@@ -50,10 +50,10 @@ use Rattle.ec_rules.specs.Names.{is_found, unknown_in_operation, unknown_in_para
 use Rattle.ec_rules.specs.Operands.{wrong_constant}
 use Rattle.ec_rules.specs.Parts.{faults_in}
 use Rattle.ec_rules.specs.Tree.{value_part}
-use Rattle.ec_scopes.specs.declared.scope.Found.{Found}
-use Rattle.ec_scopes.specs.declared.scope.Found.TheVariants as found
-use Rattle.ec_scopes.specs.declared.scope.Scope.{Scope}
-use Rattle.ec_scopes.specs.Scopes.{find, in_a_process}
+use Rattle.ec_types.specs.declared.scopes.scope.Found.{Found}
+use Rattle.ec_types.specs.declared.scopes.scope.Found.TheVariants as found
+use Rattle.ec_types.specs.declared.scopes.scope.Scope.{Scope}
+use Rattle.ec_types.specs.Scopes.{find, in_a_process}
 
 -- ---- types and lists of them
 

@@ -27,10 +27,10 @@ use Rattle.ec_check.specs.Resolving.{link_parts}
 use Rattle.ec_check.specs.Resolving.{element_set, element_set_if, assigned, further, in_scope, arms_core, locals_of_arms, core_of_statement}
 use Rattle.ec_check.specs.Resolving.{behind, statements_core, at_start, env_in, env_of_body, env_of_operation, field_stored, initially_core}
 use Rattle.ec_check.specs.Tree.{expression_step, statement_step, block_step, part_of}
-use Rattle.ec_conform.specs.Declarations.{declarations_of}
-use Rattle.ec_conform.specs.Table.{Table, IsTable}
-use Rattle.ec_conform.specs.Types.{vector_of}
-use Rattle.ec_conform.specs.declared.static_type.StaticType.{StaticType}
+use Rattle.ec_types.specs.Declarations.{declarations_of}
+use Rattle.ec_types.specs.Table.{Table, IsTable}
+use Rattle.ec_types.specs.Types.{vector_of}
+use Rattle.ec_types.specs.declared.conform.static_type.StaticType.{StaticType}
 use Rattle.ec_core.specs.declared.Addend.{Addend}
 use Rattle.ec_core.specs.declared.Arm.{Arm}
 use Rattle.ec_core.specs.declared.Block.{Block, out-Block}
@@ -74,8 +74,8 @@ use Rattle.ec_rules.specs.Statements.{piece_of_arm, pieces_of_block}
 use Rattle.ec_rules.specs.Tree.{value_part}
 use Rattle.ec_rules.specs.declared.Rule.{Rule}
 use Rattle.ec_rules.specs.declared.StaticFault.{StaticFault}
-use Rattle.ec_scopes.specs.declared.scope.Scope.{Scope}
-use Rattle.ec_scopes.specs.Scopes.{class_named, written_in, in_a_loop, in_a_process}
+use Rattle.ec_types.specs.declared.scopes.scope.Scope.{Scope}
+use Rattle.ec_types.specs.Scopes.{class_named, written_in, in_a_loop, in_a_process}
 
 abbrev AreShort : Texts → Type 0
 AreShort ts = Every IsShort ts

@@ -39,8 +39,8 @@ use Rattle.ec_rules.specs.Parts.{faults_in}
 use Rattle.ec_rules.specs.Rules.{is_clean}
 use Rattle.ec_rules.specs.Statements.{piece_of_arm, pieces_of_block}
 use Rattle.ec_rules.specs.declared.StaticFault.{StaticFault}
-use Rattle.ec_scopes.specs.declared.scope.Scope.{Scope}
-use Rattle.ec_scopes.specs.Scopes.{declaring, in_a_loop, in_a_process}
+use Rattle.ec_types.specs.declared.scopes.scope.Scope.{Scope}
+use Rattle.ec_types.specs.Scopes.{declaring, in_a_loop, in_a_process}
 
 -- ---- a class or an object constructor of an accepted program
 

@@ -15,8 +15,8 @@ use Rattle.ec_check.proofs.SoundScopes.{SoundScope}
 use Rattle.ec_check.specs.Parts.{Made, ProcessPart, OperationPart, Holder}
 use Rattle.ec_check.specs.Program.{constant_made, constants_made, outermost, core_of}
 use Rattle.ec_check.specs.Tree.{class_part}
-use Rattle.ec_conform.specs.Declarations.{declarations_of}
-use Rattle.ec_conform.specs.Table.{Table, IsTable}
+use Rattle.ec_types.specs.Declarations.{declarations_of}
+use Rattle.ec_types.specs.Table.{Table, IsTable}
 use Rattle.ec_core.specs.declared.Class.{Class}
 use Rattle.ec_core.specs.declared.Operation.{Operation}
 use Rattle.ec_core_laws.proofs.Operations.{Known, Steps, OperationFaultless, ProcessFaultless, first_of, named_of, process_of, process_with}
@@ -26,7 +26,7 @@ use Rattle.ec_rules.specs.Faults.{faults_in_constant, faults_of_program, StaticF
 use Rattle.ec_rules.specs.Judging.{faults_in_holder}
 use Rattle.ec_rules.specs.Parts.{faults_in}
 use Rattle.ec_rules.specs.Tree.{constant_part, constant_parts, value_part}
-use Rattle.ec_scopes.specs.declared.scope.Scope.{Scope}
+use Rattle.ec_types.specs.declared.scopes.scope.Scope.{Scope}
 
 abbrev pub Faultless : Scope → Constant → Type 0
 Faultless scope c = faults_in_constant scope c.name c.of (value_part c.value) ≡ []

@@ -14,8 +14,8 @@ use Rattle.ec_check.specs.Resolving.{cores_of, builtin_of, called, link_core, li
 use Rattle.ec_check.specs.Resolving.{chain_core, compared_in}
 use Rattle.ec_check.specs.Resolving.{factor_core, addend_core, captures_of, number_of_holder, core_of_expression}
 use Rattle.ec_check.specs.Tree.{expression_step}
-use Rattle.ec_conform.specs.Types.{vector_of}
-use Rattle.ec_conform.specs.declared.static_type.StaticType.{StaticType}
+use Rattle.ec_types.specs.Types.{vector_of}
+use Rattle.ec_types.specs.declared.conform.static_type.StaticType.{StaticType}
 use Rattle.ec_core.specs.declared.Addend.{Addend}
 use Rattle.ec_core.specs.declared.Builtin.{Builtin}
 use Rattle.ec_core.specs.declared.Expression.{Expression, roll-Expression, map-Expression}
@@ -43,8 +43,8 @@ use Rattle.ec_rules.specs.Nodes.{nodes_of, link_nodes, total_nodes}
 use Rattle.ec_rules.specs.Parts as judged
 use Rattle.ec_rules.specs.Parts.{value_in, values_in}
 use Rattle.ec_rules.specs.declared.judged.Judged.{Judged}
-use Rattle.ec_scopes.specs.declared.scope.Scope.{Scope}
-use Rattle.ec_scopes.specs.Scopes.{class_named, written_in}
+use Rattle.ec_types.specs.declared.scopes.scope.Scope.{Scope}
+use Rattle.ec_types.specs.Scopes.{class_named, written_in}
 
 -- ---- what is shown of an expression
 

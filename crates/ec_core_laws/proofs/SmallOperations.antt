@@ -12,8 +12,8 @@ use Rattle.ec_check.specs.Places.{Env, field_named}
 use Rattle.ec_check.specs.Program.{core_of}
 use Rattle.ec_check.specs.Resolving.{at_start, env_in, env_of_body, env_of_operation, field_stored, initially_core, locals_of_block}
 use Rattle.ec_check.specs.Resolving.{types_written, result_written, heading_types}
-use Rattle.ec_conform.specs.Declarations.{declarations_of}
-use Rattle.ec_conform.specs.Table.{Table, IsTable}
+use Rattle.ec_types.specs.Declarations.{declarations_of}
+use Rattle.ec_types.specs.Table.{Table, IsTable}
 use Rattle.ec_core.specs.declared.Class.{Class}
 use Rattle.ec_core.specs.declared.Place.TheVariants as place
 use Rattle.ec_core.specs.declared.Statement.{Statement}
@@ -41,8 +41,8 @@ use Rattle.ec_rules.specs.Parts as judged
 use Rattle.ec_rules.specs.Rules.{fault_if}
 use Rattle.ec_rules.specs.declared.Rule.{Rule}
 use Rattle.ec_rules.specs.declared.judged.Done.{Done}
-use Rattle.ec_scopes.specs.declared.scope.Scope.{Scope}
-use Rattle.ec_scopes.specs.Scopes.{in_a_process}
+use Rattle.ec_types.specs.declared.scopes.scope.Scope.{Scope}
+use Rattle.ec_types.specs.Scopes.{in_a_process}
 
 -- ---- limits that no fault is beyond
 

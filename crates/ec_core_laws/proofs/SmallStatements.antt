@@ -12,7 +12,7 @@ use Rattle.ec_check.specs.Resolving.{chained, element_set, element_set_if, assig
 use Rattle.ec_check.specs.Resolving.{locals_of}
 use Rattle.ec_check.specs.Resolving.{core_of_statement, behind, statements_core, locals_of_statements}
 use Rattle.ec_check.specs.Tree.{statement_step, block_step}
-use Rattle.ec_conform.specs.declared.static_type.StaticType.{StaticType}
+use Rattle.ec_types.specs.declared.conform.static_type.StaticType.{StaticType}
 use Rattle.ec_core.specs.declared.Addend.{Addend}
 use Rattle.ec_core.specs.declared.Arm.{Arm}
 use Rattle.ec_core.specs.declared.Block.{Block}
@@ -45,8 +45,8 @@ use Rattle.ec_rules.specs.Lists.{greatest, plus, total}
 use Rattle.ec_rules.specs.Parts as judged
 use Rattle.ec_rules.specs.Statements.{piece_of_arm, pieces_of_block, assigned_height}
 use Rattle.ec_rules.specs.declared.judged.Done.{Done}
-use Rattle.ec_scopes.specs.declared.scope.Scope.{Scope}
-use Rattle.ec_scopes.specs.Scopes.{declaring, in_a_loop}
+use Rattle.ec_types.specs.declared.scopes.scope.Scope.{Scope}
+use Rattle.ec_types.specs.Scopes.{declaring, in_a_loop}
 
 -- It is small, and has no more locals than these, where they are within the limit.
 pub record SmallDone (s h l : ℕ) (done : Done) : Type 0 where

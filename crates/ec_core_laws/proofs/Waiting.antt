@@ -19,8 +19,8 @@ use Rattle.ec_check.specs.Resolving.{assigned, further, in_scope, arms_core, loc
 use Rattle.ec_check.specs.Resolving.{at_start, env_in, env_of_body, env_of_operation, heading_entries, field_stored, initially_core}
 use Rattle.ec_check.specs.Resolving.{class_core}
 use Rattle.ec_check.specs.Tree.{expression_step, statement_step, block_step}
-use Rattle.ec_conform.specs.Declarations.{declarations_of}
-use Rattle.ec_conform.specs.Table.{Table, IsTable}
+use Rattle.ec_types.specs.Declarations.{declarations_of}
+use Rattle.ec_types.specs.Table.{Table, IsTable}
 use Rattle.ec_core.specs.declared.Arm.{Arm}
 use Rattle.ec_core.specs.declared.Block.{Block, out-Block}
 use Rattle.ec_core.specs.declared.Class.{Class}
@@ -54,10 +54,10 @@ use Rattle.ec_rules.specs.Operands.{wrong_in_statement}
 use Rattle.ec_rules.specs.Parts as judged
 use Rattle.ec_rules.specs.Statements.{piece_of_arm, pieces_of_block}
 use Rattle.ec_rules.specs.declared.StaticFault.{StaticFault}
-use Rattle.ec_scopes.specs.declared.entries.Entry.{Entry}
-use Rattle.ec_scopes.specs.declared.object.Object.{Object}
-use Rattle.ec_scopes.specs.declared.scope.Scope.{Scope}
-use Rattle.ec_scopes.specs.Scopes.{innermost, may_use_in, with_locals, at_loop, at_process, declaring, in_a_loop, in_a_process}
+use Rattle.ec_types.specs.declared.scopes.entries.Entry.{Entry}
+use Rattle.ec_types.specs.declared.scopes.object.Object.{Object}
+use Rattle.ec_types.specs.declared.scopes.scope.Scope.{Scope}
+use Rattle.ec_types.specs.Scopes.{innermost, may_use_in, with_locals, at_loop, at_process, declaring, in_a_loop, in_a_process}
 
 -- ---- conditions of an object that a place in it may use
 

@@ -1,7 +1,7 @@
 -- No type in the code of the core is unknown.
 use Rattle.std.specs.Prelude.{◌≡◌, ◌&&◌, Bool, true, false, List, [], ◌∷◌, Option, Some, None, All}
-use Rattle.ec_conform.specs.declared.static_type.StaticType.{StaticType}
-use Rattle.ec_conform.specs.declared.static_type.StaticType.TheVariants.{Plain, Vector, Nil, Unknown}
+use Rattle.ec_types.specs.declared.conform.static_type.StaticType.{StaticType}
+use Rattle.ec_types.specs.declared.conform.static_type.StaticType.TheVariants.{Plain, Vector, Nil, Unknown}
 use Rattle.ec_core.specs.declared.Addend.{Addend, fold-Addend}
 use Rattle.ec_core.specs.declared.Arm.{Arm, fold-Arm}
 use Rattle.ec_core.specs.declared.Block.{Block, fold-Block}

@@ -1,7 +1,7 @@
 -- No type by which the core keeps a value is unknown: of the variables of its operations, of the fields and the captured names
 -- of its classes, and of its constants.
 use Rattle.std.specs.Prelude.{◌≡◌, true, All}
-use Rattle.ec_conform.specs.declared.static_type.StaticType.{StaticType}
+use Rattle.ec_types.specs.declared.conform.static_type.StaticType.{StaticType}
 use Rattle.ec_core.specs.declared.Class.{Class}
 use Rattle.ec_core.specs.declared.Constant.{Constant}
 use Rattle.ec_core.specs.declared.Core.{Core}

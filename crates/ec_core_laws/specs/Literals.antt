@@ -12,7 +12,7 @@ use Rattle.ec_core.specs.declared.Link.{Link, fold-Link}
 use Rattle.ec_core.specs.declared.Operation.{Operation}
 use Rattle.ec_core.specs.declared.Statement.{Statement, fold-Statement}
 use Rattle.ec_core.specs.declared.Statement.TheOpen.{Statement-F, Arm-F, Block-F}
-use Rattle.ec_names.specs.Names.{Text}
+use Rattle.ec_types.specs.Names.{Text}
 
 abbrev pub Texts : Type 0
 Texts = List Text

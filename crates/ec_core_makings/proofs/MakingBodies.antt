@@ -24,8 +24,8 @@ use Rattle.ec_core_makings.proofs.MakingParts.{one_more}
 use Rattle.ec_core_makings.specs.Makings.{HoldsOneOfTwo, BeginsBare}
 use Rattle.ec_rules.specs.Lists.{each}
 use Rattle.ec_rules.specs.Members.{scope_of_operation}
-use Rattle.ec_scopes.specs.declared.scope.Scope.{Scope}
-use Rattle.ec_scopes.specs.Scopes.{in_a_process}
+use Rattle.ec_types.specs.declared.scopes.scope.Scope.{Scope}
+use Rattle.ec_types.specs.Scopes.{in_a_process}
 
 -- ---- members: the values of the fields, and what is made within them
 

@@ -14,7 +14,7 @@ use Rattle.ec_check.specs.Places.{Env, type_or}
 use Rattle.ec_check.specs.Resolving.{all_made, cores_of, builtin_of, called, link_core, links_core, chained}
 use Rattle.ec_check.specs.Resolving.{number_of_class, arguments_in, created, chain_core, link_parts, parts_of_links}
 use Rattle.ec_check.specs.Resolving.{chain_parts}
-use Rattle.ec_conform.specs.declared.static_type.StaticType.{StaticType}
+use Rattle.ec_types.specs.declared.conform.static_type.StaticType.{StaticType}
 use Rattle.ec_core.specs.declared.Addend.{Addend}
 use Rattle.ec_core.specs.declared.Builtin.{Builtin}
 use Rattle.ec_core.specs.declared.Class.{Class}
@@ -26,20 +26,20 @@ use Rattle.ec_core.specs.declared.Link.{Link, out-Link, roll-out-Link}
 use Rattle.ec_core.specs.declared.Link.TheVariants as l
 use Rattle.ec_core_makings.proofs.MakingParts.{IsCreated, IsThere, MeaningIsThere, IsGlobal, Taken, Makes, PartHas, LinkHas}
 use Rattle.ec_core_makings.proofs.MakingParts.{same_make, parts_make}
-use Rattle.ec_names.specs.Names.{Text, is_same}
+use Rattle.ec_types.specs.Names.{Text, is_same}
 use Rattle.ec_rules.specs.Calls.{Receiver, Creation, Own, Typed, callee, class_created, is_creation, link_type, receiver_if}
 use Rattle.ec_rules.specs.Calls.{result_of, type_indexed, type_of_receiver}
 use Rattle.ec_rules.specs.Forms.{Form, Literal, Negated, Constructor, Vector, Created as CreatedForm, Itself, NameAlone}
 use Rattle.ec_rules.specs.Forms.{Other}
 use Rattle.ec_rules.specs.Parts as judged
-use Rattle.ec_scopes.specs.declared.globals.ClassMeant.{ClassMeant}
-use Rattle.ec_scopes.specs.declared.globals.Global.{Global}
-use Rattle.ec_scopes.specs.declared.globals.Meaning.{Meaning}
-use Rattle.ec_scopes.specs.declared.globals.Meaning.TheVariants as means
-use Rattle.ec_scopes.specs.declared.scope.Found.{Found}
-use Rattle.ec_scopes.specs.declared.scope.Found.TheVariants as found
-use Rattle.ec_scopes.specs.declared.scope.Scope.{Scope}
-use Rattle.ec_scopes.specs.Scopes.{class_meant, class_named, find, meaning_named, unless_value}
+use Rattle.ec_types.specs.declared.scopes.globals.ClassMeant.{ClassMeant}
+use Rattle.ec_types.specs.declared.scopes.globals.Global.{Global}
+use Rattle.ec_types.specs.declared.scopes.globals.Meaning.{Meaning}
+use Rattle.ec_types.specs.declared.scopes.globals.Meaning.TheVariants as means
+use Rattle.ec_types.specs.declared.scopes.scope.Found.{Found}
+use Rattle.ec_types.specs.declared.scopes.scope.Found.TheVariants as found
+use Rattle.ec_types.specs.declared.scopes.scope.Scope.{Scope}
+use Rattle.ec_types.specs.Scopes.{class_meant, class_named, find, meaning_named, unless_value}
 
 -- ---- the class that a creation names
 

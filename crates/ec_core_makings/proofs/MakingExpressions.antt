@@ -11,7 +11,7 @@ use Rattle.ec_check.specs.Places.{Env, place_of}
 use Rattle.ec_check.specs.Resolving.{addend_core, all_made, captures_of, class_core, compared_in, core_of_expression}
 use Rattle.ec_check.specs.Resolving.{cores_of, expression_made, factor_core, holder_made, number_of_holder}
 use Rattle.ec_check.specs.Tree.{expression_step}
-use Rattle.ec_conform.specs.Types.{vector_of}
+use Rattle.ec_types.specs.Types.{vector_of}
 use Rattle.ec_core.specs.declared.Class.{Class}
 use Rattle.ec_core.specs.declared.Expression.{Expression}
 use Rattle.ec_core.specs.declared.Expression.TheOpen.{Expression-F as Core-F}
@@ -24,7 +24,7 @@ use Rattle.ec_core_makings.proofs.MakingParts.{AddendHas, BodyHas, ExpressionHas
 use Rattle.ec_rules.specs.Calls.{receiver}
 use Rattle.ec_rules.specs.Judging.{expression_part}
 use Rattle.ec_rules.specs.Parts.{value_in}
-use Rattle.ec_scopes.specs.Scopes.{written_in}
+use Rattle.ec_types.specs.Scopes.{written_in}
 
 -- ---- the parts of an expression
 

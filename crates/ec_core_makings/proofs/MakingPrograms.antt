@@ -22,7 +22,7 @@ use Rattle.ec_check.specs.Program.{constant_core, constant_made, constants_core,
 use Rattle.ec_check.specs.Program.{outermost}
 use Rattle.ec_check.specs.Resolving.{captures_of, class_core, env_in}
 use Rattle.ec_check.specs.Tree.{class_part, part_of}
-use Rattle.ec_conform.specs.Table.{Table}
+use Rattle.ec_types.specs.Table.{Table}
 use Rattle.ec_core.specs.declared.Class.{Class}
 use Rattle.ec_core.specs.declared.Constant.{Constant as CoreConstant}
 use Rattle.ec_core.specs.declared.Operation.{Operation}
@@ -31,15 +31,15 @@ use Rattle.ec_core_makings.proofs.MakingParts.{IsCreated, IsThere, IsGlobal, Mea
 use Rattle.ec_core_makings.proofs.MakingParts.{first_taken, second_taken, none_make, both_make}
 use Rattle.ec_core_makings.proofs.MakingTrees.{making_part, making_body}
 use Rattle.ec_core_makings.specs.Makings.{HoldsOneOfTwo, MakesRight, BeginsBare, IsMadeRight}
-use Rattle.ec_names.specs.Names.{Text}
+use Rattle.ec_types.specs.Names.{Text}
 use Rattle.ec_places.specs.Rising.{IsRising}
 use Rattle.ec_rules.specs.Captures.{Use, uses_outside}
 use Rattle.ec_rules.specs.Faults.{globals_in, meaning_of, scope_of_names, scope_with}
 use Rattle.ec_rules.specs.Judging.{uses_within}
 use Rattle.ec_rules.specs.Tree.{constant_part, constant_parts, value_part}
-use Rattle.ec_scopes.specs.declared.globals.Global.{Global}
-use Rattle.ec_scopes.specs.declared.scope.Scope.{Scope}
-use Rattle.ec_scopes.specs.Scopes.{find}
+use Rattle.ec_types.specs.declared.scopes.globals.Global.{Global}
+use Rattle.ec_types.specs.declared.scopes.scope.Scope.{Scope}
+use Rattle.ec_types.specs.Scopes.{find}
 
 -- ---- the classes at the top of a program capture nothing
 

@@ -30,8 +30,8 @@ use Rattle.ec_core_makings.proofs.MakingParts.{IsThere, Taken, Makes, StatementM
 use Rattle.ec_core_makings.proofs.MakingParts.{StatementHas, first_taken, second_taken, none_make, both_make, same_make}
 use Rattle.ec_core_makings.proofs.MakingParts.{one_more}
 use Rattle.ec_rules.specs.Judging.{statement_part}
-use Rattle.ec_scopes.specs.declared.scope.Scope.{Scope}
-use Rattle.ec_scopes.specs.Scopes.{declaring, in_a_loop}
+use Rattle.ec_types.specs.declared.scopes.scope.Scope.{Scope}
+use Rattle.ec_types.specs.Scopes.{declaring, in_a_loop}
 
 -- ---- what is assigned to
 

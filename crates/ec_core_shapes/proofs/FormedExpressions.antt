@@ -10,13 +10,13 @@ use Rattle.ec_check.specs.WellTyped.{Site, Typed, AfterLink, TypedAddend, typed,
 use Rattle.ec_check.specs.WellTyped.{link_typed, along, added, all_are, go_in, some_class, some_operation, is_own}
 use Rattle.ec_check.specs.WellTyped.{can_be_called, fits_operation, type_has, own_has, call_typed, are_none, are_two_integers}
 use Rattle.ec_check.specs.WellTyped.{are_captured, is_named, parameters_of_class, parameters_of, result_of, type_at}
-use Rattle.ec_conform.specs.Conforms.{operations_at}
-use Rattle.ec_conform.specs.Table.{Table}
-use Rattle.ec_conform.specs.Types.{operation_named}
-use Rattle.ec_conform.specs.declared.operations.NamedOperation.{NamedOperation}
-use Rattle.ec_conform.specs.declared.static_type.Plain.TheVariants.{Integer, Boolean, String, Any, Node, Named}
-use Rattle.ec_conform.specs.declared.static_type.StaticType.{StaticType}
-use Rattle.ec_conform.specs.declared.static_type.StaticType.TheVariants.{Plain, Vector, Nil, Unknown}
+use Rattle.ec_types.specs.Conforms.{operations_at}
+use Rattle.ec_types.specs.Table.{Table}
+use Rattle.ec_types.specs.Types.{operation_named}
+use Rattle.ec_types.specs.declared.conform.operations.NamedOperation.{NamedOperation}
+use Rattle.ec_types.specs.declared.conform.static_type.Plain.TheVariants.{Integer, Boolean, String, Any, Node, Named}
+use Rattle.ec_types.specs.declared.conform.static_type.StaticType.{StaticType}
+use Rattle.ec_types.specs.declared.conform.static_type.StaticType.TheVariants.{Plain, Vector, Nil, Unknown}
 use Rattle.ec_core.specs.declared.Addend.{Addend, roll-Addend, map-Addend}
 use Rattle.ec_core.specs.declared.Builtin.{Builtin}
 use Rattle.ec_core.specs.declared.Builtin.TheVariants.{AsString, Length, GetSlice, Size}
@@ -34,7 +34,7 @@ use Rattle.ec_core_shapes.proofs.Sites.{own_result, place_is_of}
 use Rattle.ec_core_shapes.proofs.Types.{IsBelow, element_is_of, reference_is_of, result_is_of, vector_is_of, where_result}
 use Rattle.ec_core_shapes.specs.Formed.{IsOf, is_of_if, all_formed, expression_formed, link_formed, addend_formed}
 use Rattle.ec_core_shapes.specs.Formed.{factor_formed, formed_expression, formed_link, formed_addend, formed_factor}
-use Rattle.ec_names.specs.Names.{Text, is_same as is_same_name}
+use Rattle.ec_types.specs.Names.{Text, is_same as is_same_name}
 use Rattle.ec_rules.specs.Operands.{result_type}
 use Rattle.ec_rules.specs.declared.operands.Wanted.{Wanted}
 use Rattle.ec_rules.specs.declared.operands.Wanted.TheVariants as wanted

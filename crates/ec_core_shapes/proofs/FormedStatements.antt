@@ -6,9 +6,9 @@ use Rattle.ec_check.proofs.TypedRolled.{well_layer, statement_rolled, arm_rolled
 use Rattle.ec_check.proofs.WellValues.{both_hold}
 use Rattle.ec_check.specs.WellTyped.{Site, Typed, typed, is_of as is_wanted, holds_if, all_well, goes_in_if, are_references, type_at}
 use Rattle.ec_check.specs.WellTyped.{statement_is_well, is_well_statement, is_well_arm, is_well_block}
-use Rattle.ec_conform.specs.Table.{Table}
-use Rattle.ec_conform.specs.Types.{element_of}
-use Rattle.ec_conform.specs.declared.static_type.StaticType.{StaticType}
+use Rattle.ec_types.specs.Table.{Table}
+use Rattle.ec_types.specs.Types.{element_of}
+use Rattle.ec_types.specs.declared.conform.static_type.StaticType.{StaticType}
 use Rattle.ec_core.specs.declared.Arm.{Arm, roll-Arm, map-Arm, fold-roll-Arm}
 use Rattle.ec_core.specs.declared.Block.{Block, roll-Block, map-Block, fold-roll-Block, ind-Block}
 use Rattle.ec_core.specs.declared.Expression.{Expression}

@@ -5,26 +5,26 @@ use Rattle.ec_ast.specs.declared.TypeName.{TypeName}
 use Rattle.ec_check.proofs.Every.{Every, Where, every_joined, either}
 use Rattle.ec_check.specs.Places.{type_or, type_found}
 use Rattle.ec_check.specs.Resolving.{types_written, result_written, heading_types}
-use Rattle.ec_conform.specs.Table.{Table}
-use Rattle.ec_conform.specs.Types.{number_at}
+use Rattle.ec_types.specs.Table.{Table}
+use Rattle.ec_types.specs.Types.{number_at}
 use Rattle.ec_core_shapes.proofs.Types.{IsBelow, class_is_of, vector_below, type_is_written}
-use Rattle.ec_names.specs.Names.{Text, is_same}
+use Rattle.ec_types.specs.Names.{Text, is_same}
 use Rattle.ec_rules.specs.Forms.{Form, Literal, Negated, Constructor, Vector, Created, Itself, NameAlone, Other}
 use Rattle.ec_rules.specs.Members.{type_created, form_type, constant_type, parameter_entries, result_entries}
 use Rattle.ec_rules.specs.Members.{scope_of_operation}
 use Rattle.ec_rules.specs.Parts as judged
-use Rattle.ec_scopes.specs.declared.entries.Entry.{Entry}
-use Rattle.ec_scopes.specs.declared.globals.ClassMeant.{ClassMeant}
-use Rattle.ec_scopes.specs.declared.globals.Global.{Global}
-use Rattle.ec_scopes.specs.declared.globals.Meaning.{Meaning}
-use Rattle.ec_scopes.specs.declared.globals.Meaning.TheVariants as means
-use Rattle.ec_scopes.specs.declared.object.Object.{Object}
-use Rattle.ec_scopes.specs.declared.scope.Found.{Found}
-use Rattle.ec_scopes.specs.declared.scope.Found.TheVariants as found
-use Rattle.ec_scopes.specs.declared.scope.Scope.{Scope}
-use Rattle.ec_scopes.specs.Scopes.{entry_named, meaning_named, found_meaning, held_or, found_within, find, class_meant, unless_value}
-use Rattle.ec_scopes.specs.Scopes.{class_named, written_in, within, change_innermost, with_locals, at_loop, at_process, declaring}
-use Rattle.ec_scopes.specs.Scopes.{in_a_loop, in_a_process}
+use Rattle.ec_types.specs.declared.scopes.entries.Entry.{Entry}
+use Rattle.ec_types.specs.declared.scopes.globals.ClassMeant.{ClassMeant}
+use Rattle.ec_types.specs.declared.scopes.globals.Global.{Global}
+use Rattle.ec_types.specs.declared.scopes.globals.Meaning.{Meaning}
+use Rattle.ec_types.specs.declared.scopes.globals.Meaning.TheVariants as means
+use Rattle.ec_types.specs.declared.scopes.object.Object.{Object}
+use Rattle.ec_types.specs.declared.scopes.scope.Found.{Found}
+use Rattle.ec_types.specs.declared.scopes.scope.Found.TheVariants as found
+use Rattle.ec_types.specs.declared.scopes.scope.Scope.{Scope}
+use Rattle.ec_types.specs.Scopes.{entry_named, meaning_named, found_meaning, held_or, found_within, find, class_meant, unless_value}
+use Rattle.ec_types.specs.Scopes.{class_named, written_in, within, change_innermost, with_locals, at_loop, at_process, declaring}
+use Rattle.ec_types.specs.Scopes.{in_a_loop, in_a_process}
 
 abbrev pub EntryBelow : ℕ → Entry → Type 0
 EntryBelow types e = IsBelow types (type_or e.of)

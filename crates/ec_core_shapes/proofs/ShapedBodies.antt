@@ -28,13 +28,13 @@ use Rattle.ec_core_shapes.proofs.ShapedStatements.{has}
 use Rattle.ec_core_shapes.proofs.Shapes.{statement_shaped, arm_shaped, block_shaped, shaped_statement, shaped_block}
 use Rattle.ec_core_shapes.proofs.Shapes.{IsShapedStatement, OperationShaped, ClassBelow, MadeShaped, NumbersBelow}
 use Rattle.ec_core_shapes.proofs.Types.{IsBelow}
-use Rattle.ec_names.specs.Names.{Text, has_name}
+use Rattle.ec_types.specs.Names.{Text, has_name}
 use Rattle.ec_rules.specs.Lists.{each}
 use Rattle.ec_rules.specs.Members.{fields_in, fields_of, first_members, member_name, members_of, object_with, parameter_entries}
 use Rattle.ec_rules.specs.Members.{scope_of, scope_of_names, scope_of_operation}
 use Rattle.ec_rules.specs.Parts as judged
-use Rattle.ec_scopes.specs.declared.scope.Scope.{Scope}
-use Rattle.ec_scopes.specs.Scopes.{find, in_a_process}
+use Rattle.ec_types.specs.declared.scopes.scope.Scope.{Scope}
+use Rattle.ec_types.specs.Scopes.{find, in_a_process}
 
 module _ (types : ℕ) where
   abbrev FieldBelow : Field → Type 0

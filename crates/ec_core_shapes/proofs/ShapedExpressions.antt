@@ -8,8 +8,8 @@ use Rattle.ec_check.specs.Parts.{Part, LinkPart, call, index, FactorPart, Addend
 use Rattle.ec_check.specs.Places.{Env, place_of, type_or}
 use Rattle.ec_check.specs.Resolving.{cores_of, builtin_of, called, link_core, links_core, chained, number_of_class, arguments_in, created}
 use Rattle.ec_check.specs.Resolving.{chain_core, compared_in, factor_core, addend_core, captures_of, number_of_holder, core_of_expression}
-use Rattle.ec_conform.specs.Types.{vector_of}
-use Rattle.ec_conform.specs.declared.static_type.StaticType.{StaticType}
+use Rattle.ec_types.specs.Types.{vector_of}
+use Rattle.ec_types.specs.declared.conform.static_type.StaticType.{StaticType}
 use Rattle.ec_core.specs.declared.Addend.{Addend}
 use Rattle.ec_core.specs.declared.Builtin.{Builtin}
 use Rattle.ec_core.specs.declared.Compared.{Compared}
@@ -28,7 +28,7 @@ use Rattle.ec_core_shapes.proofs.Types.{vector_below, type_is_written}
 use Rattle.ec_core_shapes.specs.Formed.{all_formed, some_formed}
 use Rattle.ec_rules.specs.Calls.{Receiver, Creation, Own, Typed, callee, receiver, link_type, type_of_receiver, type_indexed}
 use Rattle.ec_rules.specs.Calls as calls
-use Rattle.ec_scopes.specs.Scopes.{class_named, written_in}
+use Rattle.ec_types.specs.Scopes.{class_named, written_in}
 
 module _ (types : ℕ) where
   -- ---- lists

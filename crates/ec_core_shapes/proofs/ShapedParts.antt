@@ -12,7 +12,7 @@ use Rattle.ec_core_shapes.proofs.Shapes.{shaped_block, IsShaped, IsShapedStateme
 use Rattle.ec_core_shapes.proofs.Shapes.{NumberBelow, NumbersBelow}
 use Rattle.ec_core_shapes.proofs.Types.{IsBelow}
 use Rattle.ec_core_shapes.specs.Formed.{all_formed}
-use Rattle.ec_scopes.specs.declared.scope.Scope.{Scope}
+use Rattle.ec_types.specs.declared.scopes.scope.Scope.{Scope}
 
 pub record PartShaped (types : ℕ) (p : Part) : Type 0 where
   pub core : (env : Env) → NamesFit types env.scope → IsShaped types (p.core env)

@@ -16,11 +16,11 @@ use Rattle.ec_check.specs.Places.{Env}
 use Rattle.ec_check.specs.Program.{constant_core, constant_made, constants_core, constants_made, core_of, outermost}
 use Rattle.ec_check.specs.Resolving.{env_in}
 use Rattle.ec_check.specs.Tree.{class_part, part_of}
-use Rattle.ec_conform.specs.Conforms.{Conforms}
-use Rattle.ec_conform.specs.Declarations.{declarations_of}
-use Rattle.ec_conform.specs.Table.{Table, IsTable}
-use Rattle.ec_conform.specs.Types.{named, names_of, type_with}
-use Rattle.ec_conform.specs.declared.declared.DeclaredType.{DeclaredType}
+use Rattle.ec_types.specs.Conforms.{Conforms}
+use Rattle.ec_types.specs.Declarations.{declarations_of}
+use Rattle.ec_types.specs.Table.{Table, IsTable}
+use Rattle.ec_types.specs.Types.{named, names_of, type_with}
+use Rattle.ec_types.specs.declared.conform.declared.DeclaredType.{DeclaredType}
 use Rattle.ec_core.specs.declared.Class.{Class}
 use Rattle.ec_core.specs.declared.Constant.{Constant as CoreConstant}
 use Rattle.ec_core.specs.declared.Core.{Core}
@@ -34,8 +34,8 @@ use Rattle.ec_rules.specs.Faults.{globals_in, meaning_of, scope_of_names, scope_
 use Rattle.ec_rules.specs.Parts as judged
 use Rattle.ec_rules.specs.Tree as judged_tree
 use Rattle.ec_rules.specs.Tree.{constant_part, constant_parts, value_part}
-use Rattle.ec_scopes.specs.declared.globals.Global.{Global}
-use Rattle.ec_scopes.specs.declared.scope.Scope.{Scope}
+use Rattle.ec_types.specs.declared.scopes.globals.Global.{Global}
+use Rattle.ec_types.specs.declared.scopes.scope.Scope.{Scope}
 
 -- ---- a whole core
 

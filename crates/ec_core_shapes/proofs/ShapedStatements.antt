@@ -27,7 +27,7 @@ use Rattle.ec_core_shapes.proofs.Shapes.{expression_shaped, link_shaped, addend_
 use Rattle.ec_core_shapes.proofs.Shapes.{statement_shaped, arm_shaped, block_shaped, shaped_statement, shaped_arm, shaped_block}
 use Rattle.ec_core_shapes.proofs.Shapes.{IsShaped, IsShapedLink, IsShapedStatement}
 use Rattle.ec_core_shapes.specs.Formed.{all_formed}
-use Rattle.ec_scopes.specs.Scopes.{in_a_loop}
+use Rattle.ec_types.specs.Scopes.{in_a_loop}
 
 module _ (types : ℕ) where
   pub has : (x : Statement) (y : Core-F Statement Arm Block) → roll-Statement y ≡ x →

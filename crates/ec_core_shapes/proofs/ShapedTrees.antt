@@ -11,7 +11,7 @@ use Rattle.ec_check.specs.Resolving.{all_made, arms_made, chain_parts, expressio
 use Rattle.ec_check.specs.Resolving.{locals_of, locals_of_arms, locals_of_block, locals_of_statements, parts_of_links}
 use Rattle.ec_check.specs.Resolving.{statement_made, statements_made}
 use Rattle.ec_check.specs.Tree.{expression_step, statement_step, block_step, part_of, body_of}
-use Rattle.ec_conform.specs.Table.{Table}
+use Rattle.ec_types.specs.Table.{Table}
 use Rattle.ec_core_laws.proofs.Statements.{block_is}
 use Rattle.ec_core_laws.proofs.Trees as trees
 use Rattle.ec_core_shapes.proofs.Scopes.{EntryBelow, ScopeBelow, FormBelow, below_declaring, below_in_a_loop, constant_below}
@@ -28,8 +28,8 @@ use Rattle.ec_rules.specs.Calls.{Receiver, Creation, Own, Typed, is_word, receiv
 use Rattle.ec_rules.specs.Forms.{Form, Literal, Negated, Constructor, Vector, Created, Itself, NameAlone, Other}
 use Rattle.ec_rules.specs.Judging.{entries_of, expression_part, form_in_parentheses, form_negated, form_of, form_of_chain, statement_part}
 use Rattle.ec_rules.specs.Parts as judged
-use Rattle.ec_scopes.specs.declared.scope.Scope.{Scope}
-use Rattle.ec_scopes.specs.Scopes.{declaring, in_a_loop}
+use Rattle.ec_types.specs.declared.scopes.scope.Scope.{Scope}
+use Rattle.ec_types.specs.Scopes.{declaring, in_a_loop}
 
 module _ (types : ℕ) where
   -- ---- forms

@@ -28,10 +28,10 @@ use Rattle.ec_check.specs.Tree.{expression_step, link_step, member_step, stateme
 use Rattle.ec_check.specs.Tree.{factor_step, object_step, operation_step, process_step}
 use Rattle.ec_check.specs.Tree.{part_of, link_of, member_of, statement_of, addend_of, arm_of, block_of, body_of, factor_of}
 use Rattle.ec_check.specs.Tree.{object_of, operation_of, process_of}
-use Rattle.ec_conform.specs.Declarations as conform
-use Rattle.ec_conform.specs.Declarations.{both, joined, nothing, within_members, in_expression, in_link, in_member, in_statement}
-use Rattle.ec_conform.specs.Declarations.{in_addend, in_arm, in_block, in_body, in_factor, in_constructor, in_process}
-use Rattle.ec_conform.specs.declared.declared.Declarations.{Declarations}
+use Rattle.ec_types.specs.Declarations as conform
+use Rattle.ec_types.specs.Declarations.{both, joined, nothing, within_members, in_expression, in_link, in_member, in_statement}
+use Rattle.ec_types.specs.Declarations.{in_addend, in_arm, in_block, in_body, in_factor, in_constructor, in_process}
+use Rattle.ec_types.specs.declared.conform.declared.Declarations.{Declarations}
 use Rattle.ec_core_shapes.proofs.Signatures as signatures
 use Rattle.ec_core_shapes.proofs.Signatures.{KnowsTypes, KnowsMember, KnowsBody, KnowingPart, KnowingLink, KnowingFactor, KnowingAddend}
 use Rattle.ec_core_shapes.proofs.Signatures.{KnowingArm, KnowingPiece, KnowingStatement, KnowingProcess, KnowingMember}
@@ -46,8 +46,8 @@ use Rattle.ec_places.proofs.DeclaredRolled.{operation_declares, process_declares
 use Rattle.ec_rules.specs.Judging.{expression_part, statement_part, faults_of, statement_finished, block_finished, members_finished}
 use Rattle.ec_rules.specs.Parts as judged
 use Rattle.ec_rules.specs.Statements.{piece_of_arm}
-use Rattle.ec_scopes.specs.declared.scope.Scope.{Scope}
-use Rattle.ec_scopes.specs.Scopes.{declaring, in_a_loop, in_a_process}
+use Rattle.ec_types.specs.declared.scopes.scope.Scope.{Scope}
+use Rattle.ec_types.specs.Scopes.{declaring, in_a_loop, in_a_process}
 use Rattle.ec_ast.proofs.Claims.{Claims, Passes, Held, trees, ExpressionWith, LinkWith, MemberWith, StatementWith, AddendWith}
 use Rattle.ec_ast.proofs.Claims.{ArmWith, BlockWith, BodyWith, FactorWith, ObjectWith, OperationWith, ProcessWith}
 use Rattle.ec_ast.proofs.Claims.{bare_expression, bare_link, bare_member, bare_statement, bare_addend, bare_arm, bare_block}

@@ -6,11 +6,11 @@ use Rattle.ec_ast.specs.declared.Signature.{Signature}
 use Rattle.ec_ast.specs.declared.TypeName.{TypeName}
 use Rattle.ec_check.proofs.Every.{Every, Where, every_joined, either, first_holds, not_both}
 use Rattle.ec_check.specs.WellTyped.{Site, constant_type_at, type_at, result_of, some_class}
-use Rattle.ec_conform.specs.Conforms.{operations_at}
-use Rattle.ec_conform.specs.Types.{named, operation_named, operation_names, operation_of, operations_from, type_of, type_with}
-use Rattle.ec_conform.specs.declared.declared.DeclaredType.{DeclaredType}
-use Rattle.ec_conform.specs.declared.named_type.NamedType.{NamedType}
-use Rattle.ec_conform.specs.declared.operations.NamedOperation.{NamedOperation}
+use Rattle.ec_types.specs.Conforms.{operations_at}
+use Rattle.ec_types.specs.Types.{named, operation_named, operation_names, operation_of, operations_from, type_of, type_with}
+use Rattle.ec_types.specs.declared.conform.declared.DeclaredType.{DeclaredType}
+use Rattle.ec_types.specs.declared.conform.named_type.NamedType.{NamedType}
+use Rattle.ec_types.specs.declared.conform.operations.NamedOperation.{NamedOperation}
 use Rattle.ec_core.specs.declared.Class.{Class}
 use Rattle.ec_core.specs.declared.Constant.{Constant as CoreConstant}
 use Rattle.ec_core.specs.declared.Operation.{Operation}
@@ -19,7 +19,7 @@ use Rattle.ec_core.specs.declared.Place.TheVariants as place
 use Rattle.ec_core_shapes.proofs.Shapes.{NumberBelow}
 use Rattle.ec_core_shapes.proofs.Types.{IsBelow, class_is_of, where_got}
 use Rattle.ec_core_shapes.specs.Formed.{IsOf}
-use Rattle.ec_names.specs.Names.{Text, has_name, is_same}
+use Rattle.ec_types.specs.Names.{Text, has_name, is_same}
 
 -- what an operation takes and gives names nothing beyond the program's types
 pub record NamedBelow (types : ℕ) (o : NamedOperation) : Type 0 where

@@ -20,16 +20,16 @@ use Rattle.ec_check.proofs.RangedPrograms.{none_in_order}
 use Rattle.ec_check.proofs.SoundPrograms.{Faultless, constants_are_faultless, class_without_faults}
 use Rattle.ec_check.specs.Program.{constant_made, constants_made, outermost}
 use Rattle.ec_check.specs.Tree.{class_part}
-use Rattle.ec_conform.specs.Conforms.{most_types}
-use Rattle.ec_conform.specs.Declarations.{declarations_of, in_body, in_value, joined}
-use Rattle.ec_conform.specs.Table.{Table, IsTable}
-use Rattle.ec_conform.specs.Types.{names_of, operation_names, operation_of, operations_from, type_of, type_with}
-use Rattle.ec_conform.specs.declared.declared.DeclaredType.{DeclaredType}
-use Rattle.ec_conform.specs.declared.named_type.NamedType.{NamedType}
-use Rattle.ec_conform.specs.declared.operations.NamedOperation.{NamedOperation}
-use Rattle.ec_conform.specs.declared.static_type.StaticType.{StaticType}
-use Rattle.ec_conform.specs.declared.static_type.StaticType.TheVariants.{Plain, Vector, Nil, Unknown}
-use Rattle.ec_conformity.specs.Known.{IsOfProgram, IsOperationOfProgram, NoneUnknown}
+use Rattle.ec_types.specs.Conforms.{most_types}
+use Rattle.ec_types.specs.Declarations.{declarations_of, in_body, in_value, joined}
+use Rattle.ec_types.specs.Table.{Table, IsTable}
+use Rattle.ec_types.specs.Types.{names_of, operation_names, operation_of, operations_from, type_of, type_with}
+use Rattle.ec_types.specs.declared.conform.declared.DeclaredType.{DeclaredType}
+use Rattle.ec_types.specs.declared.conform.named_type.NamedType.{NamedType}
+use Rattle.ec_types.specs.declared.conform.operations.NamedOperation.{NamedOperation}
+use Rattle.ec_types.specs.declared.conform.static_type.StaticType.{StaticType}
+use Rattle.ec_types.specs.declared.conform.static_type.StaticType.TheVariants.{Plain, Vector, Nil, Unknown}
+use Rattle.ec_types.specs.Known.{IsOfProgram, IsOperationOfProgram, NoneUnknown}
 use Rattle.ec_core_laws.proofs.CountedHolders.{holder_counted}
 use Rattle.ec_core_laws.proofs.CountedParts.{Counted, TypeFits, nothing_counted, counted_within, both_counted}
 use Rattle.ec_core_laws.proofs.CountedTrees.{counted_part, counted_body}
@@ -38,7 +38,7 @@ use Rattle.ec_core_shapes.proofs.Signatures.{KnownSignature, KnowsDeclared, Know
 use Rattle.ec_core_shapes.proofs.SignedTrees.{knowing_part, knowing_body}
 use Rattle.ec_core_shapes.proofs.Types.{IsBelow, type_is_written, type_of_program}
 use Rattle.ec_core_shapes.specs.Formed.{IsOf}
-use Rattle.ec_names.specs.Names.{has_name}
+use Rattle.ec_types.specs.Names.{has_name}
 use Rattle.ec_rules.specs.Doubled.{doubled_type}
 use Rattle.ec_rules.specs.Faults.{faults_in_constant, faults_in_typeobject, faults_of_program, StaticFaults}
 use Rattle.ec_rules.specs.Judging.{faults_in_holder, type_faults}
@@ -49,7 +49,7 @@ use Rattle.ec_rules.specs.Parts.{faults_in}
 use Rattle.ec_rules.specs.Rules.{fault_if}
 use Rattle.ec_rules.specs.Tree.{constant_part, constant_parts, value_part}
 use Rattle.ec_rules.specs.declared.Rule.{Rule}
-use Rattle.ec_scopes.specs.declared.scope.Scope.{Scope}
+use Rattle.ec_types.specs.declared.scopes.scope.Scope.{Scope}
 
 -- ---- operations that take and give types of the program
 

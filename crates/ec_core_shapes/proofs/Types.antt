@@ -8,16 +8,16 @@ use Rattle.ec_check.proofs.Every.{Every, Where, not_both}
 use Rattle.ec_check.proofs.FoundPlaces.{first_below}
 use Rattle.ec_check.proofs.WellValues.{result_is}
 use Rattle.ec_check.specs.WellTyped.{is_same_result}
-use Rattle.ec_conform.specs.Types.{element_from, element_of, known, named, type_of, type_with_number, vector_of, written}
-use Rattle.ec_conform.specs.declared.named_type.NamedType.{NamedType}
-use Rattle.ec_conform.specs.declared.static_type.Plain.{Plain as PlainType}
-use Rattle.ec_conform.specs.declared.static_type.Plain.TheVariants.{Integer, Boolean, String, Any, Node, Named}
-use Rattle.ec_conform.specs.declared.static_type.StaticType.{StaticType}
-use Rattle.ec_conform.specs.declared.static_type.StaticType.TheVariants.{Plain, Vector, Nil, Unknown}
-use Rattle.ec_conformity.specs.Known.{IsPlainOfProgram, IsOfProgram}
+use Rattle.ec_types.specs.Types.{element_from, element_of, known, named, type_of, type_with_number, vector_of, written}
+use Rattle.ec_types.specs.declared.conform.named_type.NamedType.{NamedType}
+use Rattle.ec_types.specs.declared.conform.static_type.Plain.{Plain as PlainType}
+use Rattle.ec_types.specs.declared.conform.static_type.Plain.TheVariants.{Integer, Boolean, String, Any, Node, Named}
+use Rattle.ec_types.specs.declared.conform.static_type.StaticType.{StaticType}
+use Rattle.ec_types.specs.declared.conform.static_type.StaticType.TheVariants.{Plain, Vector, Nil, Unknown}
+use Rattle.ec_types.specs.Known.{IsPlainOfProgram, IsOfProgram}
 use Rattle.ec_core_laws.specs.Known.{is_known}
 use Rattle.ec_core_shapes.specs.Formed.{is_plain_of, is_of, is_of_if, is_not_nil, IsOf}
-use Rattle.ec_names.specs.Names.{Text, first_named}
+use Rattle.ec_types.specs.Names.{Text, first_named}
 use Rattle.ec_rules.specs.Types.{is_vector, takes}
 use Rattle.ec_rules.specs.declared.operands.Wanted.TheVariants as wanted
 

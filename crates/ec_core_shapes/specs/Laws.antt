@@ -2,10 +2,10 @@
 use Rattle.std.specs.Prelude.{◌≡◌, ◌≤◌, [], length}
 use Rattle.ec_ast.specs.declared.Program.{Program}
 use Rattle.ec_check.specs.Program.{core_of}
-use Rattle.ec_conform.specs.Conforms.{most_types}
-use Rattle.ec_conform.specs.Declarations.{declarations_of}
-use Rattle.ec_conform.specs.Table.{Table, IsTable}
-use Rattle.ec_conformity.specs.Known.{NoneUnknown}
+use Rattle.ec_types.specs.Conforms.{most_types}
+use Rattle.ec_types.specs.Declarations.{declarations_of}
+use Rattle.ec_types.specs.Table.{Table, IsTable}
+use Rattle.ec_types.specs.Known.{NoneUnknown}
 use Rattle.ec_core_shapes.specs.Formed.{IsFormed}
 use Rattle.ec_rules.specs.Faults.{StaticFaults}
 

@@ -13,7 +13,7 @@ use Rattle.ec_check.specs.Places.{Env}
 use Rattle.ec_check.specs.Program.{constant_core, constants_core, core_of, outermost}
 use Rattle.ec_check.specs.Resolving.{env_in}
 use Rattle.ec_check.specs.Tree.{part_of}
-use Rattle.ec_conform.specs.Table.{Table}
+use Rattle.ec_types.specs.Table.{Table}
 use Rattle.ec_core.specs.declared.Constant.{Constant as CoreConstant}
 use Rattle.ec_core_laws.proofs.Small.{Small}
 use Rattle.ec_core_laws.proofs.SmallExpressions as expressions

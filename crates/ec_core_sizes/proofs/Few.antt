@@ -10,8 +10,8 @@ use Rattle.ec_check.specs.Parts.{Holder, Made, MemberPart, OperationPart, condit
 use Rattle.ec_check.specs.Parts.{holder_judged, member_judged, operation_judged}
 use Rattle.ec_check.specs.Program.{core_of}
 use Rattle.ec_check.specs.Resolving.{captures_of, class_core, condition_count, conditions_in, field_of, parameter_field}
-use Rattle.ec_conform.specs.Declarations.{declarations_of}
-use Rattle.ec_conform.specs.Table.{Table, IsTable}
+use Rattle.ec_types.specs.Declarations.{declarations_of}
+use Rattle.ec_types.specs.Table.{Table, IsTable}
 use Rattle.ec_core.specs.declared.Class.{Class}
 use Rattle.ec_core_laws.proofs.Operations.{Known, OperationFaultless, Steps, named_of, scope_in}
 use Rattle.ec_core_laws.proofs.Programs.{each_operation, made_holds}
@@ -28,7 +28,7 @@ use Rattle.ec_rules.specs.Parts as judged
 use Rattle.ec_rules.specs.Rules.{fault, fault_if}
 use Rattle.ec_rules.specs.declared.Rule.{Rule}
 use Rattle.ec_rules.specs.declared.Rule.TheVariants.{ManyFields, ManyParameters}
-use Rattle.ec_scopes.specs.declared.scope.Scope.{Scope}
+use Rattle.ec_types.specs.declared.scopes.scope.Scope.{Scope}
 
 none_breaks : (b : Bool) (rule : Rule) (at : Span) → fault_if b rule at ≡ [] → b ≡ false
 none_breaks true rule at e = cc

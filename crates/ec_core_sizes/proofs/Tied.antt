@@ -24,7 +24,7 @@ use Rattle.ec_ast.specs.declared.Statement.TheVariants as tree_statement
 use Rattle.ec_base.specs.Stack.{below_of, top_of}
 use Rattle.ec_check.specs.Parts.{Made, both_made}
 use Rattle.ec_check.specs.Places.{Env}
-use Rattle.ec_conform.specs.declared.static_type.StaticType.{StaticType}
+use Rattle.ec_types.specs.declared.conform.static_type.StaticType.{StaticType}
 use Rattle.ec_core.specs.declared.Addend.{Addend as CoreAddend, roll-Addend as core_addend}
 use Rattle.ec_core.specs.declared.Arm.{Arm as CoreArm, roll-Arm as core_arm}
 use Rattle.ec_core.specs.declared.Block.{Block as CoreBlock, roll-Block as core_block}
@@ -61,9 +61,9 @@ use Rattle.ec_core_ties.specs.Ties as ties
 use Rattle.ec_core_ties.specs.Ties.{TiedExpression, AreTied, AreLinks, AreFactors, AreAddends, TiedStatement, AreArms, IsElse, TiedBlock}
 use Rattle.ec_core_ties.specs.Ties.{AreStatements, AreMembers, IsInitially, IsProcess, TiedHolder, AreConstants, captures_of as names_of}
 use Rattle.ec_core_ties.specs.Ties.{with_links}
-use Rattle.ec_names.specs.Names.{Text}
+use Rattle.ec_types.specs.Names.{Text}
 use Rattle.ec_rules.specs.Parts.{Holder}
-use Rattle.ec_scopes.specs.declared.scope.Scope.{Scope}
+use Rattle.ec_types.specs.declared.scopes.scope.Scope.{Scope}
 use Rattle.ec_ast.specs.Kinds.{MemberLayer}
 use Rattle.ec_ast.specs.Layers as layers
 

@@ -2,7 +2,7 @@
 use Rattle.std.proofs.Common.{◌≡◌, ◌≤◌, List, [], length, arith}
 use Rattle.ec_ast.specs.declared.Program.{Program}
 use Rattle.ec_check.specs.Program.{core_of}
-use Rattle.ec_conform.specs.Table.{Table}
+use Rattle.ec_types.specs.Table.{Table}
 use Rattle.ec_core.specs.declared.Core.{Core}
 use Rattle.ec_core_sizes.proofs.TextPrograms.{nodes_fit}
 use Rattle.ec_core_sizes.proofs.Tied.{constants}

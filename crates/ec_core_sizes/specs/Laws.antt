@@ -2,8 +2,8 @@
 use Rattle.std.specs.Prelude.{◌≡◌, ◌≤◌, All, List, [], length}
 use Rattle.ec_ast.specs.declared.Program.{Program}
 use Rattle.ec_check.specs.Program.{core_of}
-use Rattle.ec_conform.specs.Declarations.{declarations_of}
-use Rattle.ec_conform.specs.Table.{Table, IsTable}
+use Rattle.ec_types.specs.Declarations.{declarations_of}
+use Rattle.ec_types.specs.Table.{Table, IsTable}
 use Rattle.ec_core_sizes.specs.Constants.{HasSmallConstants}
 use Rattle.ec_core_sizes.specs.Limits.{HasFewFields, HasFewParameters, captured_by, captures_of_core, size_of_core}
 use Rattle.ec_lexer.specs.declared.token.Token.{Token}

@@ -26,8 +26,8 @@ use Rattle.ec_core_texts.proofs.Statements.{has}
 use Rattle.ec_rules.specs.Calls.{Receiver, Creation, Own, Typed, receiver}
 use Rattle.ec_rules.specs.Lists.{each}
 use Rattle.ec_rules.specs.Members.{scope_of_operation}
-use Rattle.ec_scopes.specs.Scopes.{declaring, in_a_loop, in_a_process}
-use Rattle.ec_scopes.specs.declared.scope.Scope.{Scope}
+use Rattle.ec_types.specs.Scopes.{declaring, in_a_loop, in_a_process}
+use Rattle.ec_types.specs.declared.scopes.scope.Scope.{Scope}
 
 pub both_fit : (a b : Made) → MadeFits a → MadeFits b → MadeFits (both_made a b)
 both_fit a b h k = every_joined OperationFits a.operations b.operations h k

@@ -10,7 +10,7 @@ use Rattle.ec_check.specs.Places.{Env}
 use Rattle.ec_check.specs.Program.{constant_core, constant_made, constants_core, constants_made, core_of, outermost}
 use Rattle.ec_check.specs.Resolving.{env_in}
 use Rattle.ec_check.specs.Tree.{class_part, part_of}
-use Rattle.ec_conform.specs.Table.{Table}
+use Rattle.ec_types.specs.Table.{Table}
 use Rattle.ec_core.specs.declared.Constant.{Constant as CoreConstant}
 use Rattle.ec_core.specs.declared.Operation.{Operation}
 use Rattle.ec_core_laws.specs.Literals.{texts_of, texts_of_block, Texts, joined}
@@ -19,7 +19,7 @@ use Rattle.ec_core_texts.proofs.Made.{both_fit, holder_fits}
 use Rattle.ec_core_texts.proofs.Trees.{fitting_part, fitting_body}
 use Rattle.ec_core_texts.specs.TreeTexts.{IsBytes, HasBytes, texts_of_value, texts_of_program}
 use Rattle.ec_core_texts.specs.CoreTexts.{HasByteTexts}
-use Rattle.ec_scopes.specs.declared.scope.Scope.{Scope}
+use Rattle.ec_types.specs.declared.scopes.scope.Scope.{Scope}
 
 every_of : {A : Type 0} (P : A → Type 0) (xs : List A) → All P xs → Every P xs
 every_of P [] h = tt

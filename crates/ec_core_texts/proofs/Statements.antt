@@ -25,7 +25,7 @@ use Rattle.ec_core_laws.specs.Literals.{texts_of, texts_of_link, texts_of_statem
 use Rattle.ec_core_texts.proofs.Expressions.{AllFit, Fit, FitLink, FitStatement, PartFits, StatementFits, PieceFits, PartHas, ArmHas}
 use Rattle.ec_core_texts.proofs.Expressions.{PieceHas, each_fits, layer_texts, link_layer_texts, chained_fits}
 use Rattle.ec_core_texts.specs.TreeTexts.{IsBytes}
-use Rattle.ec_scopes.specs.Scopes.{in_a_loop}
+use Rattle.ec_types.specs.Scopes.{in_a_loop}
 
 pub has : (x : Statement) (y : Core-F Statement Arm Block) → roll-Statement y ≡ x →
     AllFit

@@ -2,7 +2,7 @@
 use Rattle.std.specs.Prelude.{ℕ, List}
 use Rattle.ec_ast.specs.declared.Program.{Program}
 use Rattle.ec_check.specs.Program.{core_of}
-use Rattle.ec_conform.specs.Table.{Table}
+use Rattle.ec_types.specs.Table.{Table}
 use Rattle.ec_core_texts.specs.CoreTexts.{HasByteTexts}
 use Rattle.ec_core_texts.specs.TreeTexts.{HasBytes, IsBytes}
 use Rattle.ec_lexer.specs.Tokens.{HasTokens}

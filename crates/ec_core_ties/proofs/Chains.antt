@@ -17,7 +17,7 @@ use Rattle.ec_check.specs.Places.{Env}
 use Rattle.ec_check.specs.Resolving.{all_made, cores_of, links_core, chained, number_of_class, chain_core, chain_of}
 use Rattle.ec_check.specs.Resolving.{parts_of_links, chain_parts, parts_of_chain}
 use Rattle.ec_check.specs.Tree.{part_of, link_of, link_step, expression_step}
-use Rattle.ec_conform.specs.declared.static_type.StaticType.{StaticType}
+use Rattle.ec_types.specs.declared.conform.static_type.StaticType.{StaticType}
 use Rattle.ec_core.specs.declared.Expression.{Expression as CoreExpression}
 use Rattle.ec_core.specs.declared.Expression.TheVariants as e
 use Rattle.ec_core.specs.declared.Link.{Link as CoreLink}
@@ -36,8 +36,8 @@ use Rattle.ec_rules.specs.Lists.{each}
 use Rattle.ec_rules.specs.Parts as judged
 use Rattle.ec_rules.specs.Parts.{value_in, uses_in, faults_in}
 use Rattle.ec_rules.specs.Rules.{is_clean}
-use Rattle.ec_scopes.specs.declared.globals.ClassMeant.{ClassMeant}
-use Rattle.ec_scopes.specs.Scopes.{class_named}
+use Rattle.ec_types.specs.declared.scopes.globals.ClassMeant.{ClassMeant}
+use Rattle.ec_types.specs.Scopes.{class_named}
 
 -- ---- a name alone
 

@@ -6,10 +6,10 @@ use Rattle.ec_ast.specs.declared.Program.{Program}
 use Rattle.ec_check.proofs.Every.{Every, every_unmap, all_of}
 use Rattle.ec_check.proofs.NumberedPrograms.{constants_numbered, every_map, fewer_of}
 use Rattle.ec_check.specs.Program.{core_of, outermost}
-use Rattle.ec_conform.specs.Declarations.{declarations_of}
-use Rattle.ec_conform.specs.Table.{Table, IsTable}
-use Rattle.ec_conform.specs.Types.{number_at, number_from, places_of}
-use Rattle.ec_conform.specs.declared.declared.DeclaredType.{DeclaredType}
+use Rattle.ec_types.specs.Declarations.{declarations_of}
+use Rattle.ec_types.specs.Table.{Table, IsTable}
+use Rattle.ec_types.specs.Types.{number_at, number_from, places_of}
+use Rattle.ec_types.specs.declared.conform.declared.DeclaredType.{DeclaredType}
 use Rattle.ec_core.specs.declared.Class.{Class}
 
 -- A place that is among places has a number there.

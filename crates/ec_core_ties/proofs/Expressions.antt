@@ -33,15 +33,15 @@ use Rattle.ec_core_ties.specs.Names.{AreFor, StandsFor}
 use Rattle.ec_core_ties.specs.Names as names
 use Rattle.ec_core_ties.specs.Ties as ties
 use Rattle.ec_core_ties.specs.Ties.{TiedExpression, TiedHolder, number_of}
-use Rattle.ec_names.specs.Names.{Text, has_name}
+use Rattle.ec_types.specs.Names.{Text, has_name}
 use Rattle.ec_rules.specs.Captures.{Use, use_of, use_outside, uses_outside}
 use Rattle.ec_rules.specs.Judging.{expression_part, faults_of, faults_in_holder, uses_of, uses_within}
 use Rattle.ec_rules.specs.Parts as judged
 use Rattle.ec_rules.specs.Tree as judged_tree
 use Rattle.ec_rules.specs.declared.StaticFault.{StaticFault}
-use Rattle.ec_scopes.specs.declared.scope.Found.{Found}
-use Rattle.ec_scopes.specs.declared.scope.Found.TheVariants as found
-use Rattle.ec_scopes.specs.Scopes.{find}
+use Rattle.ec_types.specs.declared.scopes.scope.Found.{Found}
+use Rattle.ec_types.specs.declared.scopes.scope.Found.TheVariants as found
+use Rattle.ec_types.specs.Scopes.{find}
 
 -- ---- names
 

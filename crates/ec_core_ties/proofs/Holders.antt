@@ -30,7 +30,7 @@ use Rattle.ec_check.specs.Resolving.{heading_entries, heading_types, types_writt
 use Rattle.ec_check.specs.Resolving.{initially_made, locals_of_block}
 use Rattle.ec_check.specs.Resolving.{process_made, number_of_holder, captures_of, holder_made}
 use Rattle.ec_check.specs.Tree.{part_of, block_of, body_of, body_step, member_of, member_step, operation_of, operation_step, process_of}
-use Rattle.ec_conform.specs.declared.static_type.StaticType.{StaticType}
+use Rattle.ec_types.specs.declared.conform.static_type.StaticType.{StaticType}
 use Rattle.ec_core.specs.declared.Block.{roll-out-Block as roll-out-core-block}
 use Rattle.ec_core.specs.declared.Field.{Field}
 use Rattle.ec_core.specs.declared.Statement.{Statement as CoreStatement}
@@ -40,7 +40,7 @@ use Rattle.ec_core_ties.proofs.Trees as trees
 use Rattle.ec_core_ties.specs.Names.{numbered}
 use Rattle.ec_core_ties.specs.Ties as ties
 use Rattle.ec_core_ties.specs.Ties.{AreMembers, IsInitially, IsProcess, TiedBlock, TiedHolder, behind_heading}
-use Rattle.ec_names.specs.Names.{Text, has_name}
+use Rattle.ec_types.specs.Names.{Text, has_name}
 use Rattle.ec_rules.specs.Captures.{captured}
 use Rattle.ec_rules.specs.Doubled.{doubled_in_body}
 use Rattle.ec_rules.specs.EndNames.{end_of_holder}
@@ -55,9 +55,9 @@ use Rattle.ec_rules.specs.Names.{unknown_in_parameters}
 use Rattle.ec_rules.specs.Operands.{wrong_constant}
 use Rattle.ec_rules.specs.Parts as judged
 use Rattle.ec_rules.specs.Tree as judged_tree
-use Rattle.ec_scopes.specs.declared.entries.Entry.{Entry}
-use Rattle.ec_scopes.specs.declared.scope.Scope.{Scope}
-use Rattle.ec_scopes.specs.Scopes.{at_process, declaring, in_a_process, innermost, locals_of}
+use Rattle.ec_types.specs.declared.scopes.entries.Entry.{Entry}
+use Rattle.ec_types.specs.declared.scopes.scope.Scope.{Scope}
+use Rattle.ec_types.specs.Scopes.{at_process, declaring, in_a_process, innermost, locals_of}
 
 -- ---- types of consts
 

@@ -22,9 +22,9 @@ use Rattle.ec_check.specs.Parts.{addend_judged}
 use Rattle.ec_check.specs.Places.{Env}
 use Rattle.ec_check.specs.Resolving.{all_made, cores_of, builtin_of, called, links_core, factor_core, addend_core, parts_of_links}
 use Rattle.ec_check.specs.Tree.{part_of, link_of, factor_of, addend_of, link_step}
-use Rattle.ec_conform.specs.declared.static_type.Plain.TheVariants.{Integer, Boolean, String, Any, Node, Named}
-use Rattle.ec_conform.specs.declared.static_type.StaticType.{StaticType}
-use Rattle.ec_conform.specs.declared.static_type.StaticType.TheVariants.{Plain, Vector, Nil, Unknown}
+use Rattle.ec_types.specs.declared.conform.static_type.Plain.TheVariants.{Integer, Boolean, String, Any, Node, Named}
+use Rattle.ec_types.specs.declared.conform.static_type.StaticType.{StaticType}
+use Rattle.ec_types.specs.declared.conform.static_type.StaticType.TheVariants.{Plain, Vector, Nil, Unknown}
 use Rattle.ec_core.specs.declared.Builtin.{Builtin}
 use Rattle.ec_core.specs.declared.Builtin.TheVariants.{AsString, Length, GetSlice, Size}
 use Rattle.ec_core.specs.declared.Expression.{Expression as CoreExpression}
@@ -41,9 +41,9 @@ use Rattle.ec_rules.specs.Captures.{uses_outside}
 use Rattle.ec_rules.specs.Lists.{each}
 use Rattle.ec_rules.specs.Parts as judged
 use Rattle.ec_rules.specs.Parts.{uses_in, faults_in}
-use Rattle.ec_scopes.specs.declared.object.Object.{Object}
-use Rattle.ec_scopes.specs.declared.scope.Scope.{Scope}
-use Rattle.ec_scopes.specs.Scopes.{innermost}
+use Rattle.ec_types.specs.declared.scopes.object.Object.{Object}
+use Rattle.ec_types.specs.declared.scopes.scope.Scope.{Scope}
+use Rattle.ec_types.specs.Scopes.{innermost}
 use Rattle.std.specs.Prelude.{codes}
 
 abbrev pub LinkTied : Link → Type 0

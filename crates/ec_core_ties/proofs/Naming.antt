@@ -11,18 +11,18 @@ use Rattle.ec_check.proofs.WellValues.{first_of_two, second_of_two}
 use Rattle.ec_check.specs.Places.{Env, number_or, number_named, names_of, fields_of, conditions_of, number_at_or, held_place}
 use Rattle.ec_check.specs.Places.{place_found, place_of}
 use Rattle.ec_check.specs.Places.{field_named, condition_named}
-use Rattle.ec_conform.proofs.Names.{has_name_more}
+use Rattle.ec_types.proofs.NamesLemmas.{has_name_more}
 use Rattle.ec_core.specs.declared.Place.TheVariants as place
 use Rattle.ec_core_ties.specs.Names.{IsCondition, IsField, StandsFor, local, field, captured, constant}
-use Rattle.ec_names.specs.Names.{Text, first_from, first_named, has_name, is_same}
+use Rattle.ec_types.specs.Names.{Text, first_from, first_named, has_name, is_same}
 use Rattle.ec_rules.specs.Names.{is_found}
-use Rattle.ec_scopes.specs.declared.entries.Entry.{Entry}
-use Rattle.ec_scopes.specs.declared.globals.Global.{Global}
-use Rattle.ec_scopes.specs.declared.object.Object.{Object}
-use Rattle.ec_scopes.specs.declared.scope.Found.{Found}
-use Rattle.ec_scopes.specs.declared.scope.Found.TheVariants as found
-use Rattle.ec_scopes.specs.declared.scope.Held.{Held}
-use Rattle.ec_scopes.specs.Scopes.{entry_named, meaning_named, find, innermost, locals_of, may_use, may_use_in}
+use Rattle.ec_types.specs.declared.scopes.entries.Entry.{Entry}
+use Rattle.ec_types.specs.declared.scopes.globals.Global.{Global}
+use Rattle.ec_types.specs.declared.scopes.object.Object.{Object}
+use Rattle.ec_types.specs.declared.scopes.scope.Found.{Found}
+use Rattle.ec_types.specs.declared.scopes.scope.Found.TheVariants as found
+use Rattle.ec_types.specs.declared.scopes.scope.Held.{Held}
+use Rattle.ec_types.specs.Scopes.{entry_named, meaning_named, find, innermost, locals_of, may_use, may_use_in}
 
 -- ---- numbers of names
 

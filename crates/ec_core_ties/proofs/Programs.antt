@@ -17,7 +17,7 @@ use Rattle.ec_check.specs.Places.{Env}
 use Rattle.ec_check.specs.Program.{constants_core, constants_made, outermost, core_of}
 use Rattle.ec_check.specs.Resolving.{env_in, holder_made}
 use Rattle.ec_check.specs.Tree.{class_part, part_of}
-use Rattle.ec_conform.specs.Table.{Table}
+use Rattle.ec_types.specs.Table.{Table}
 use Rattle.ec_core_ties.proofs.AllTargets.{AreTargets, left_targets, right_targets, are_all}
 use Rattle.ec_core_ties.proofs.Expressions.{expression_has}
 use Rattle.ec_core_ties.proofs.Holders.{constant_is_typed, holder_tied}
@@ -34,9 +34,9 @@ use Rattle.ec_rules.specs.Judging.{faults_in_holder}
 use Rattle.ec_rules.specs.Operands.{wrong_constant}
 use Rattle.ec_rules.specs.Parts.{faults_in}
 use Rattle.ec_rules.specs.Tree.{constant_part, constant_parts, value_part}
-use Rattle.ec_scopes.specs.declared.globals.Global.{Global}
-use Rattle.ec_scopes.specs.declared.scope.Scope.{Scope}
-use Rattle.ec_scopes.specs.Scopes.{outside}
+use Rattle.ec_types.specs.declared.scopes.globals.Global.{Global}
+use Rattle.ec_types.specs.declared.scopes.scope.Scope.{Scope}
+use Rattle.ec_types.specs.Scopes.{outside}
 
 part_tied : (x : Expression) → AreTargets (targets_in x) → PartTied x
 part_tied = trees.part_has PartTied StatementTied BlockTied expression_has statement_has block_has

@@ -44,7 +44,7 @@ use Rattle.ec_core_ties.specs.Names.{numbered}
 use Rattle.ec_core_ties.specs.Names as names
 use Rattle.ec_core_ties.specs.Ties as ties
 use Rattle.ec_core_ties.specs.Ties.{TiedExpression, TiedStatement, TiedBlock, AreArms, IsElse, AreStatements}
-use Rattle.ec_names.specs.Names.{Text}
+use Rattle.ec_types.specs.Names.{Text}
 use Rattle.ec_rules.specs.Captures.{Use}
 use Rattle.ec_rules.specs.Judging.{block_finished, entries_of, statement_finished, statement_part}
 use Rattle.ec_rules.specs.Lists.{each}
@@ -54,10 +54,10 @@ use Rattle.ec_rules.specs.Statements.{piece_of_arm, pieces_of_block}
 use Rattle.ec_rules.specs.Tree as judged_tree
 use Rattle.ec_rules.specs.declared.StaticFault.{StaticFault}
 use Rattle.ec_rules.specs.declared.operands.Wanted.TheVariants as wanted
-use Rattle.ec_scopes.specs.declared.entries.Entry.{Entry}
-use Rattle.ec_scopes.specs.declared.scope.Scope.{Scope}
-use Rattle.ec_scopes.specs.Scopes.{at_loop, declaring, in_a_loop, innermost}
-use Rattle.ec_scopes.specs.Scopes as scopes
+use Rattle.ec_types.specs.declared.scopes.entries.Entry.{Entry}
+use Rattle.ec_types.specs.declared.scopes.scope.Scope.{Scope}
+use Rattle.ec_types.specs.Scopes.{at_loop, declaring, in_a_loop, innermost}
+use Rattle.ec_types.specs.Scopes as scopes
 
 -- ---- the parts of a statement
 

@@ -14,7 +14,7 @@ use Rattle.ec_check.specs.Places.{Env, place_of, type_or}
 use Rattle.ec_check.specs.Resolving.{arguments_in, chain_core, chain_of, chained, core_of_expression, link_core, links_core}
 use Rattle.ec_check.specs.Resolving.{number_of_class}
 use Rattle.ec_check.specs.Tree.{part_of, link_of, parts}
-use Rattle.ec_conform.specs.declared.static_type.StaticType.{StaticType}
+use Rattle.ec_types.specs.declared.conform.static_type.StaticType.{StaticType}
 use Rattle.ec_core.specs.declared.Addend.{Addend as CoreAddend}
 use Rattle.ec_core.specs.declared.Expression.{Expression as CoreExpression, out-Expression, out-roll-Expression}
 use Rattle.ec_core.specs.declared.Expression.TheOpen.{Expression-F as Core-F, Link-F as CoreLink-F}
@@ -29,7 +29,7 @@ use Rattle.ec_rules.specs.Calls.{Receiver, Creation, Own, Typed, class_created, 
 use Rattle.ec_rules.specs.Calls.{type_of_receiver}
 use Rattle.ec_rules.specs.Forms.{Form, Literal, Negated, Constructor, Vector, Created, Itself, NameAlone, Other}
 use Rattle.ec_rules.specs.Parts.{value_in}
-use Rattle.ec_scopes.specs.Scopes.{class_named}
+use Rattle.ec_types.specs.Scopes.{class_named}
 use Rattle.ec_ast.proofs.Layers as layers
 
 abbrev pub is_index : CoreLink-F CoreExpression CoreLink CoreAddend CoreFactor → Bool

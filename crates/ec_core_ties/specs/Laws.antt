@@ -3,8 +3,8 @@ use Rattle.std.specs.Prelude.{◌≡◌, ◌<◌, All, List, [], length}
 use Rattle.ec_ast.specs.declared.Program.{Program}
 use Rattle.ec_check.specs.Places.{Env}
 use Rattle.ec_check.specs.Program.{core_of}
-use Rattle.ec_conform.specs.Declarations.{declarations_of}
-use Rattle.ec_conform.specs.Table.{Table, IsTable}
+use Rattle.ec_types.specs.Declarations.{declarations_of}
+use Rattle.ec_types.specs.Table.{Table, IsTable}
 use Rattle.ec_core.specs.declared.Class.{Class}
 use Rattle.ec_core.specs.declared.Core.{Core}
 use Rattle.ec_core_ties.specs.Targets.{HasTargets}

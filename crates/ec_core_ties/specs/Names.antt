@@ -1,15 +1,15 @@
 -- What a name stands for in the core, at a place of the text.
 use Rattle.std.specs.Prelude.{◌≡◌, ℕ, suc, ◌+◌, false, List, [], ◌∷◌, ◌++◌, map, Option, Some, slice_get}
 use Rattle.ec_check.specs.Places.{Env}
-use Rattle.ec_conform.specs.declared.static_type.StaticType.{StaticType}
+use Rattle.ec_types.specs.declared.conform.static_type.StaticType.{StaticType}
 use Rattle.ec_core.specs.declared.Place.{Place}
 use Rattle.ec_core.specs.declared.Place.TheVariants as place
-use Rattle.ec_names.specs.Names.{Text, first_named, has_name}
-use Rattle.ec_scopes.specs.declared.entries.Entry.{Entry}
-use Rattle.ec_scopes.specs.declared.object.Object.{Object}
-use Rattle.ec_scopes.specs.declared.scope.Found.TheVariants as found
-use Rattle.ec_scopes.specs.declared.scope.Held.{Held}
-use Rattle.ec_scopes.specs.Scopes.{declaring, find, innermost}
+use Rattle.ec_types.specs.Names.{Text, first_named, has_name}
+use Rattle.ec_types.specs.declared.scopes.entries.Entry.{Entry}
+use Rattle.ec_types.specs.declared.scopes.object.Object.{Object}
+use Rattle.ec_types.specs.declared.scopes.scope.Found.TheVariants as found
+use Rattle.ec_types.specs.declared.scopes.scope.Held.{Held}
+use Rattle.ec_types.specs.Scopes.{declaring, find, innermost}
 
 -- A place of the text is an `Env`: what is in scope there; the names that the own object captures, in the order of first use;
 -- the numbers of the locals in scope, in the order of their declarations; and how many variables the operation has before it.

@@ -35,8 +35,8 @@ use Rattle.ec_ast.specs.declared.Typeobject.{Typeobject}
 use Rattle.ec_base.specs.Stack.{top_of, below_of}
 use Rattle.ec_check.specs.Parts.{Made, nothing_made, both_made}
 use Rattle.ec_check.specs.Places.{Env}
-use Rattle.ec_conform.specs.Types.{number_at, vector_of}
-use Rattle.ec_conform.specs.declared.static_type.StaticType.{StaticType}
+use Rattle.ec_types.specs.Types.{number_at, vector_of}
+use Rattle.ec_types.specs.declared.conform.static_type.StaticType.{StaticType}
 use Rattle.ec_core.specs.declared.Addend.{Addend as CoreAddend, roll-Addend as core_addend}
 use Rattle.ec_core.specs.declared.Arm.{Arm as CoreArm, roll-Arm as core_arm}
 use Rattle.ec_core.specs.declared.Block.{Block as CoreBlock, roll-Block as core_block}
@@ -58,15 +58,15 @@ use Rattle.ec_core.specs.declared.Place.TheVariants as place
 use Rattle.ec_core.specs.declared.Statement.{Statement as CoreStatement}
 use Rattle.ec_core.specs.declared.Statement.TheVariants as s
 use Rattle.ec_core_ties.specs.Names.{AreFor, IsCondition, IsField, StandsFor, behind, further}
-use Rattle.ec_names.specs.Names.{Text, is_same}
+use Rattle.ec_types.specs.Names.{Text, is_same}
 use Rattle.ec_rules.specs.Captures.{captured}
 use Rattle.ec_rules.specs.Judging.{uses_within}
 use Rattle.ec_rules.specs.Members.{constant_type, parameter_entries, result_entries, scope_of}
 use Rattle.ec_rules.specs.Parts.{Holder}
 use Rattle.ec_rules.specs.Tree.{class_part, object_of, part_of, statement_of}
-use Rattle.ec_scopes.specs.declared.globals.ClassMeant.{ClassMeant}
-use Rattle.ec_scopes.specs.declared.scope.Scope.{Scope}
-use Rattle.ec_scopes.specs.Scopes.{class_named, in_a_loop, in_a_process, written_in}
+use Rattle.ec_types.specs.declared.scopes.globals.ClassMeant.{ClassMeant}
+use Rattle.ec_types.specs.declared.scopes.scope.Scope.{Scope}
+use Rattle.ec_types.specs.Scopes.{class_named, in_a_loop, in_a_process, written_in}
 
 -- ---- calls and indices
 

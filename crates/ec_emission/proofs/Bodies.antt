@@ -4,7 +4,7 @@ use Rattle.std.proofs.Common.{sym, ap, ◌∙◌, subst, arith, length-append}
 use Rattle.std.specs.Prelude.{slice_get}
 use Rattle.ec_code.specs.declared.code.Op.{Op}
 use Rattle.ec_code.specs.declared.code.Op.TheVariants as op
-use Rattle.ec_conform.specs.declared.static_type.StaticType.{StaticType}
+use Rattle.ec_types.specs.declared.conform.static_type.StaticType.{StaticType}
 use Rattle.ec_core.specs.declared.Arm.{Arm, roll-Arm, map-Arm, out-roll-Arm, fold-Arm, fold-roll-Arm}
 use Rattle.ec_core.specs.declared.Block.{Block, roll-Block, map-Block, out-roll-Block, fold-roll-Block, ind-Block}
 use Rattle.ec_core.specs.declared.Place.TheVariants as place

@@ -3,7 +3,7 @@ use Rattle.std.proofs.Common.{◌≡◌, suc, Bool, true, false, ◌&&◌, List,
 use Rattle.std.proofs.Common.{subst}
 use Rattle.ec_code.specs.declared.code.Op.{Op}
 use Rattle.ec_code.specs.declared.code.Op.TheVariants as op
-use Rattle.ec_conform.specs.declared.static_type.StaticType.{StaticType}
+use Rattle.ec_types.specs.declared.conform.static_type.StaticType.{StaticType}
 use Rattle.ec_core.specs.declared.Expression.{Expression}
 use Rattle.ec_core.specs.declared.Link.{Link}
 use Rattle.ec_emission.proofs.Forms.{Emits, Good, AllGood, given, value, both_true, not_true, by_its_code, all_held, same_number}

@@ -7,7 +7,7 @@ use Rattle.ec_code.specs.Steps.{Machine, Goes, with_variable, act, gives}
 use Rattle.ec_code.specs.declared.code.Line.{Line}
 use Rattle.ec_code.specs.declared.code.Op.{Op}
 use Rattle.ec_code.specs.declared.code.Variable.TheVariants as variable
-use Rattle.ec_conform.specs.declared.static_type.StaticType.{StaticType}
+use Rattle.ec_types.specs.declared.conform.static_type.StaticType.{StaticType}
 use Rattle.ec_core.specs.declared.Operation.{Operation}
 use Rattle.ec_emission.proofs.Expressions.{found}
 use Rattle.ec_emission.proofs.Forms.{both_true, not_true}

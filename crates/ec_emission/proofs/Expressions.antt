@@ -4,8 +4,8 @@ use Rattle.std.proofs.Common.{Some, None, refl, sym, ap, ap₂, ◌∙◌, subst
 use Rattle.std.specs.Prelude.{slice_get}
 use Rattle.ec_code.specs.declared.code.Op.TheVariants as op
 use Rattle.ec_code.specs.declared.code.Variable.TheVariants as variable
-use Rattle.ec_conform.specs.Types.{named}
-use Rattle.ec_conform.specs.declared.static_type.StaticType.{StaticType}
+use Rattle.ec_types.specs.Types.{named}
+use Rattle.ec_types.specs.declared.conform.static_type.StaticType.{StaticType}
 use Rattle.ec_core.specs.declared.Addend.{Addend, roll-Addend, fold-Addend, map-Addend, out-roll-Addend, fold-roll-Addend}
 use Rattle.ec_core.specs.declared.Expression.{Expression, roll-Expression, out-roll-Expression, map-Expression}
 use Rattle.ec_core.specs.declared.Expression.{ind-Expression, fold-roll-Expression}

@@ -8,7 +8,7 @@ use Rattle.ec_code.specs.declared.code.Operand.{Operand}
 use Rattle.ec_code.specs.declared.code.Operand.TheVariants as operand
 use Rattle.ec_code.specs.declared.code.StopRow.{StopRow}
 use Rattle.ec_code.specs.declared.code.Variable.TheVariants as variable
-use Rattle.ec_conform.specs.declared.static_type.StaticType.{StaticType}
+use Rattle.ec_types.specs.declared.conform.static_type.StaticType.{StaticType}
 use Rattle.ec_core.specs.declared.Block.{Block, fold-Block}
 use Rattle.ec_core.specs.declared.Constant.{Constant}
 use Rattle.ec_core.specs.declared.Expression.{Expression}

@@ -9,11 +9,11 @@ use Rattle.ec_check.specs.WellTyped.{Site, Typed, AfterLink, TypedAddend, typed,
 use Rattle.ec_check.specs.WellTyped.{expression_typed, link_typed, along, added, is_of, all_are, go_in, some_class, some_operation}
 use Rattle.ec_check.specs.WellTyped.{is_own, is_element, can_be_called, can_invoke, fits_operation, type_has, own_has, are_none}
 use Rattle.ec_check.specs.WellTyped.{are_two_integers, parameters_of_class, parameters_of, result_of, is_named}
-use Rattle.ec_conform.specs.Table.{Table}
-use Rattle.ec_conform.specs.declared.operations.NamedOperation.{NamedOperation}
-use Rattle.ec_conform.specs.declared.static_type.Plain.TheVariants.{Integer, Boolean, String, Any, Node, Named}
-use Rattle.ec_conform.specs.declared.static_type.StaticType.{StaticType}
-use Rattle.ec_conform.specs.declared.static_type.StaticType.TheVariants.{Plain, Vector, Nil, Unknown}
+use Rattle.ec_types.specs.Table.{Table}
+use Rattle.ec_types.specs.declared.conform.operations.NamedOperation.{NamedOperation}
+use Rattle.ec_types.specs.declared.conform.static_type.Plain.TheVariants.{Integer, Boolean, String, Any, Node, Named}
+use Rattle.ec_types.specs.declared.conform.static_type.StaticType.{StaticType}
+use Rattle.ec_types.specs.declared.conform.static_type.StaticType.TheVariants.{Plain, Vector, Nil, Unknown}
 use Rattle.ec_core.specs.declared.Addend.{Addend, roll-Addend, map-Addend, fold-Addend, fold-roll-Addend}
 use Rattle.ec_core.specs.declared.Builtin.TheVariants.{AsString, Length, GetSlice, Size}
 use Rattle.ec_core.specs.declared.Class.{Class}
@@ -34,7 +34,7 @@ use Rattle.ec_emission_laws.proofs.Values.{receiver_some, compared_some, own_som
 use Rattle.ec_emission_laws.specs.Dropped.{last_gives, expression_gives, link_gives, addend_gives, factor_gives, gives_value}
 use Rattle.ec_emission_laws.specs.Dropped.{link_gives_value, has_link, may_be_dropped}
 use Rattle.ec_meaning.specs.Programs.{Source}
-use Rattle.ec_names.specs.Names.{Text, is_same as is_same_name}
+use Rattle.ec_types.specs.Names.{Text, is_same as is_same_name}
 use Rattle.ec_rules.specs.Operands.{operand_of}
 use Rattle.ec_rules.specs.Types.{is_vector}
 use Rattle.ec_rules.specs.declared.operands.Wanted.{Wanted}

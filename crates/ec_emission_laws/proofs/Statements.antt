@@ -7,8 +7,8 @@ use Rattle.ec_check.proofs.WellValues.{both_hold}
 use Rattle.ec_check.specs.WellTyped.{Site, typed, type_at, is_of, all_well, are_references, statement_is_well}
 use Rattle.ec_check.specs.WellTyped.{is_well_statement, is_well_arm, is_well_block}
 use Rattle.ec_code.specs.declared.code.Op.{Op}
-use Rattle.ec_conform.specs.Types.{element_of}
-use Rattle.ec_conform.specs.declared.static_type.StaticType.{StaticType}
+use Rattle.ec_types.specs.Types.{element_of}
+use Rattle.ec_types.specs.declared.conform.static_type.StaticType.{StaticType}
 use Rattle.ec_core.specs.declared.Arm.{Arm, roll-Arm, map-Arm, fold-Arm, fold-roll-Arm}
 use Rattle.ec_core.specs.declared.Block.{Block, roll-Block, map-Block, fold-roll-Block, ind-Block}
 use Rattle.ec_core.specs.declared.Expression.{Expression}

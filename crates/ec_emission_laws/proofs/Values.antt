@@ -5,11 +5,11 @@ use Rattle.ec_ast.specs.declared.Comparison.{Comparison}
 use Rattle.ec_check.proofs.Every.{not_both, first_holds, second_holds}
 use Rattle.ec_check.specs.WellTyped.{Typed, TypedAddend, typed_if, is_of, is_taken, is_same_result, conforms_if, goes_in, goes_in_if}
 use Rattle.ec_check.specs.WellTyped.{type_has, added, are_compared}
-use Rattle.ec_conform.specs.Table.{Table}
-use Rattle.ec_conform.specs.Types.{element_of, named}
-use Rattle.ec_conform.specs.declared.static_type.StaticType.{StaticType}
+use Rattle.ec_types.specs.Table.{Table}
+use Rattle.ec_types.specs.Types.{element_of, named}
+use Rattle.ec_types.specs.declared.conform.static_type.StaticType.{StaticType}
 use Rattle.ec_core.specs.declared.Compared.{Compared}
-use Rattle.ec_names.specs.Names.{Text}
+use Rattle.ec_types.specs.Names.{Text}
 use Rattle.ec_rules.specs.Operands.{operand_of, result_type}
 use Rattle.ec_rules.specs.declared.operands.Wanted.{Wanted}
 

@@ -18,8 +18,8 @@ use Rattle.ec_code.specs.declared.code.StopRow.{StopRow}
 use Rattle.ec_code.specs.declared.code.Test.TheVariants as test
 use Rattle.ec_code.specs.declared.code.Variable.{Variable}
 use Rattle.ec_code.specs.declared.code.Variable.TheVariants as variable
-use Rattle.ec_conform.specs.Types.{named}
-use Rattle.ec_conform.specs.declared.static_type.StaticType.{StaticType}
+use Rattle.ec_types.specs.Types.{named}
+use Rattle.ec_types.specs.declared.conform.static_type.StaticType.{StaticType}
 use Rattle.ec_core.specs.declared.Compared.{Compared}
 use Rattle.ec_core.specs.declared.Addend.{Addend, out-Addend, fold-Addend}
 use Rattle.ec_core.specs.declared.Expression.{Expression, out-Expression}

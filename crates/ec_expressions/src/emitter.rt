@@ -6,7 +6,7 @@ ghost use Rattle.ec_meaning.specs.Types as static_types;
 
 use crate::tables::Tables;
 use ec_code::code::{Op, Operand, Variable};
-use ec_conform::static_type::StaticType;
+use ec_types::conform::static_type::StaticType;
 use ec_core::{At, Place};
 use ec_literals::literals::Literals;
 use ec_meaning::types::{number_of, viewed_as};

@@ -5,7 +5,7 @@ ghost use Rattle.ec_stands.specs.Rows as spec;
 use crate::backward::Backward;
 use ec_base::list::Seq;
 use ec_code::code::{Op, StopRow, Variable};
-use ec_conform::static_type::StaticType;
+use ec_types::conform::static_type::StaticType;
 use ec_world::process::Cause;
 use ec_world::stop::Stop;
 use std::alloc::{AllocError, Global};

@@ -9,7 +9,7 @@ use Rattle.ec_code.specs.declared.code.Operation.{Operation}
 use Rattle.ec_code.specs.declared.code.Parts.{Parts}
 use Rattle.ec_code.specs.declared.code.StopRow.{StopRow}
 use Rattle.ec_code.specs.declared.code.Variable.{Variable}
-use Rattle.ec_conform.specs.declared.static_type.StaticType.{StaticType}
+use Rattle.ec_types.specs.declared.conform.static_type.StaticType.{StaticType}
 use Rattle.ec_faithful.specs.Machine.{MachineMeaning}
 use Rattle.ec_faithful.specs.Standing.{AreTables, FieldsStand, Fits, HasWhatIsSet, IsBeside, Lives}
 use Rattle.ec_faithful.specs.Stops.{IsStopAt, address_of, home_in, live_list, stop_at, stop_places, words_before, words_in_all, words_of}

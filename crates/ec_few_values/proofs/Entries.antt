@@ -13,7 +13,7 @@ use Rattle.ec_code.specs.declared.code.StopRow.{StopRow}
 use Rattle.ec_code.specs.declared.code.Variable.{Variable}
 use Rattle.ec_code.specs.declared.code.Variable.TheVariants.{Named, Temporary}
 use Rattle.ec_code_limits.specs.Limits.{HasColumn, HasColumns}
-use Rattle.ec_conform.specs.declared.static_type.StaticType.{StaticType}
+use Rattle.ec_types.specs.declared.conform.static_type.StaticType.{StaticType}
 use Rattle.ec_faithful.specs.Stops.{live_list, stop_of, without}
 use Rattle.ec_few_values.proofs.Live.{IsUsed, clear_here, live_used, unwritten}
 use Rattle.ec_few_values.proofs.Uses.{AreClear, IsAbove, IsClear, but_for_written, each_in, uses, uses_at, uses_dropped}

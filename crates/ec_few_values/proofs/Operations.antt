@@ -3,7 +3,7 @@ use Rattle.std.proofs.Common.{◌≡◌, ℕ, suc, Bool, true, false, List, [], 
 use Rattle.std.proofs.lemmas.Bool.{and_parts}
 use Rattle.ec_code.specs.declared.code.Op.{Op}
 use Rattle.ec_code.specs.declared.code.Op.TheVariants as op
-use Rattle.ec_conform.specs.declared.static_type.StaticType.{StaticType}
+use Rattle.ec_types.specs.declared.conform.static_type.StaticType.{StaticType}
 use Rattle.ec_core.specs.declared.Constant.{Constant}
 use Rattle.ec_core.specs.declared.Kind.{Kind}
 use Rattle.ec_core.specs.declared.Kind.TheVariants as kind

@@ -7,7 +7,7 @@ use Rattle.ec_code.specs.declared.code.Op.{Op}
 use Rattle.ec_code.specs.declared.code.Op.TheVariants as op
 use Rattle.ec_code.specs.declared.code.Variable.{Variable}
 use Rattle.ec_code.specs.declared.code.Variable.TheVariants.{Temporary}
-use Rattle.ec_conform.specs.declared.static_type.StaticType.{StaticType}
+use Rattle.ec_types.specs.declared.conform.static_type.StaticType.{StaticType}
 use Rattle.ec_emission.specs.Expressions.{gives_result}
 use Rattle.ec_few_values.proofs.Uses.{AreHeld, From, IsAbove, IsClearStep, IsHeld, Leads, Within, below}
 use Rattle.ec_few_values.proofs.Uses.{but_for, but_for_held, but_for_written, each_joined, each_weaker}

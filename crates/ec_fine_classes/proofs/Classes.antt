@@ -12,15 +12,15 @@ use Rattle.ec_code.specs.declared.code.Operation.{Operation as Lowered}
 use Rattle.ec_code.specs.declared.code.Parts.{Parts}
 use Rattle.ec_code.specs.Fine.{IsIn, Begins, Creates, FineClass, Implements, IsFieldOf, IsNameOf, number_if}
 use Rattle.ec_code.specs.Typing.{DeclaredClass, kind_of as kind_in_code, plain_kind as plain_in_code}
-use Rattle.ec_conform.specs.Conforms.{Conforms, operations_at}
-use Rattle.ec_conform.specs.Table.{conforms}
-use Rattle.ec_conform.specs.Types.{named}
-use Rattle.ec_conform.specs.declared.operations.NamedOperation.{NamedOperation}
-use Rattle.ec_conform.specs.declared.static_type.Plain.{Plain as PlainStatic}
-use Rattle.ec_conform.specs.declared.static_type.Plain.TheVariants as static
-use Rattle.ec_conform.specs.declared.static_type.StaticType.{StaticType}
-use Rattle.ec_conform.specs.declared.static_type.StaticType.TheVariants as type
-use Rattle.ec_conformity.specs.Known.{IsOfProgram}
+use Rattle.ec_types.specs.Conforms.{Conforms, operations_at}
+use Rattle.ec_types.specs.Table.{conforms}
+use Rattle.ec_types.specs.Types.{named}
+use Rattle.ec_types.specs.declared.conform.operations.NamedOperation.{NamedOperation}
+use Rattle.ec_types.specs.declared.conform.static_type.Plain.{Plain as PlainStatic}
+use Rattle.ec_types.specs.declared.conform.static_type.Plain.TheVariants as static
+use Rattle.ec_types.specs.declared.conform.static_type.StaticType.{StaticType}
+use Rattle.ec_types.specs.declared.conform.static_type.StaticType.TheVariants as type
+use Rattle.ec_types.specs.Known.{IsOfProgram}
 use Rattle.ec_core.specs.declared.Class.{Class}
 use Rattle.ec_core.specs.declared.Constant.{Constant}
 use Rattle.ec_core.specs.declared.Field.{Field}
@@ -41,7 +41,7 @@ use Rattle.ec_meaning.specs.Programs.{Source, captured_field, class_number, clas
 use Rattle.ec_meaning.specs.Programs.{number_or}
 use Rattle.ec_meaning.specs.Programs.{numbers_to, operation_names}
 use Rattle.ec_meaning.specs.Types.{kind_of, plain_kind}
-use Rattle.ec_names.specs.Names.{first_named}
+use Rattle.ec_types.specs.Names.{first_named}
 use Rattle.ec_world.specs.Agree.{AllTwo}
 use Rattle.ec_world.specs.Objects.{true_at}
 use Rattle.ec_world.specs.declared.class.ClassNo.TheVariants.{Made}

@@ -9,14 +9,14 @@ use Rattle.ec_check.proofs.FirstNames.{same_itself}
 use Rattle.ec_check.specs.Operations.{AreDistinct, as_seen, exported_of, operations_of_class}
 use Rattle.ec_check.specs.WellTyped.{is_named as is_named_kind}
 use Rattle.ec_code.specs.Fine.{IsIn}
-use Rattle.ec_conform.proofs.Names.{same_number, has_name_more, has_name_same}
-use Rattle.ec_conform.specs.declared.operations.NamedOperation.{NamedOperation}
+use Rattle.ec_types.proofs.NamesLemmas.{same_number, has_name_more, has_name_same}
+use Rattle.ec_types.specs.declared.conform.operations.NamedOperation.{NamedOperation}
 use Rattle.ec_core.specs.declared.Kind.{Kind}
 use Rattle.ec_core.specs.declared.Kind.TheVariants as kind
 use Rattle.ec_core.specs.declared.Operation.{Operation}
 use Rattle.ec_fine_classes.proofs.Finding.{no_some, same_some}
 use Rattle.ec_meaning.specs.Programs.{Source, is_named, name_number, number_or, operation_names, operations_from}
-use Rattle.ec_names.specs.Names.{Text, is_same, first_named, has_name}
+use Rattle.ec_types.specs.Names.{Text, is_same, first_named, has_name}
 use Rattle.ec_world.specs.Objects.{operation_named}
 use Rattle.ec_world.specs.declared.class.OperationRec.{OperationRec}
 

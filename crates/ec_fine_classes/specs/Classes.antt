@@ -5,8 +5,8 @@ use Rattle.std.specs.Prelude.{◌≡◌, ℕ, Some, slice_get}
 use Rattle.ec_code.specs.declared.code.Parts.{Parts}
 use Rattle.ec_code.specs.Fine.{Begins, FineClass}
 use Rattle.ec_code.specs.Typing.{DeclaredClass}
-use Rattle.ec_conform.specs.declared.static_type.StaticType.{StaticType}
-use Rattle.ec_conformity.specs.Known.{IsOfProgram}
+use Rattle.ec_types.specs.declared.conform.static_type.StaticType.{StaticType}
+use Rattle.ec_types.specs.Known.{IsOfProgram}
 use Rattle.ec_lowered.specs.Lowered.{declared_of}
 use Rattle.ec_meaning.specs.Programs.{Source}
 use Rattle.ec_world.specs.declared.class.ClassNo.TheVariants.{Program}

@@ -1,10 +1,10 @@
 -- What the typing of a source's classes rests on. It holds of the core of every accepted program.
 use Rattle.std.specs.Prelude.{◌≡◌, ◌↔◌, ◌<◌, true, map, length, All}
 use Rattle.ec_check.specs.Operations.{HasItsOperations}
-use Rattle.ec_conform.specs.Conforms.{Conforms}
-use Rattle.ec_conform.specs.Table.{conforms}
-use Rattle.ec_conform.specs.declared.static_type.StaticType.{StaticType}
-use Rattle.ec_conformity.specs.Known.{IsOfProgram}
+use Rattle.ec_types.specs.Conforms.{Conforms}
+use Rattle.ec_types.specs.Table.{conforms}
+use Rattle.ec_types.specs.declared.conform.static_type.StaticType.{StaticType}
+use Rattle.ec_types.specs.Known.{IsOfProgram}
 use Rattle.ec_core.specs.declared.Class.{Class}
 use Rattle.ec_core.specs.declared.Constant.{Constant}
 use Rattle.ec_core.specs.declared.Field.{Field}

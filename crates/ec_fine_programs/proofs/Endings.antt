@@ -7,7 +7,7 @@ use Rattle.ec_code.specs.declared.code.Op.TheVariants as op
 use Rattle.ec_code.specs.declared.code.StopRow.{StopRow}
 use Rattle.ec_code.specs.declared.code.Variable.{Variable}
 use Rattle.ec_code.specs.Fine.{Behind, GoesOn, Has, IsTaken, divisor_at, live_at}
-use Rattle.ec_conform.specs.declared.static_type.StaticType.{StaticType}
+use Rattle.ec_types.specs.declared.conform.static_type.StaticType.{StaticType}
 use Rattle.ec_emission.specs.Statements.{defaults_from, entry}
 use Rattle.ec_fineness.proofs.Pieces.{Setting, Agrees, From, Leads, Piece, around_of, go_on, one_step, silent}
 use Rattle.ec_fineness.proofs.Shown.{frame, live_in}

@@ -10,9 +10,9 @@ use Rattle.ec_code.specs.declared.code.Parts.{Parts}
 use Rattle.ec_code.specs.declared.code.Variable.TheVariants.{Named}
 use Rattle.ec_code.specs.Fine.{GivesBack, Has}
 use Rattle.ec_code.specs.Typing.{class_type}
-use Rattle.ec_conform.specs.Types.{named}
-use Rattle.ec_conform.specs.declared.static_type.StaticType.{StaticType}
-use Rattle.ec_conformity.specs.Known.{IsOfProgram, NoneUnknown}
+use Rattle.ec_types.specs.Types.{named}
+use Rattle.ec_types.specs.declared.conform.static_type.StaticType.{StaticType}
+use Rattle.ec_types.specs.Known.{IsOfProgram, NoneUnknown}
 use Rattle.ec_core.specs.declared.Kind.{Kind}
 use Rattle.ec_core.specs.declared.Kind.TheVariants as kind
 use Rattle.ec_core.specs.declared.Operation.{Operation}

@@ -10,7 +10,7 @@ use Rattle.ec_code.specs.declared.code.Variable.TheVariants.{Named}
 use Rattle.ec_check.specs.Numbers.{Number}
 use Rattle.ec_check.specs.WellTyped.{Site}
 use Rattle.ec_code.specs.Fine.{FineEntry, FineOperation, FineRow, Has, IsIn, live_at}
-use Rattle.ec_conform.specs.declared.static_type.StaticType.{StaticType}
+use Rattle.ec_types.specs.declared.conform.static_type.StaticType.{StaticType}
 use Rattle.ec_core.specs.declared.Operation.{Operation}
 use Rattle.ec_core_laws.specs.Headings.{result_count}
 use Rattle.ec_emission.specs.Literals.{literals_of}

@@ -10,7 +10,7 @@ use Rattle.ec_code.specs.declared.code.Op.{Op}
 use Rattle.ec_code.specs.declared.code.Variable.{Variable}
 use Rattle.ec_code.specs.declared.code.Variable.TheVariants.{Named}
 use Rattle.ec_code.specs.Fine.{Has, Passes, divisor_at, live_at}
-use Rattle.ec_conform.specs.declared.static_type.StaticType.{StaticType}
+use Rattle.ec_types.specs.declared.conform.static_type.StaticType.{StaticType}
 use Rattle.ec_fineness.proofs.Frames.{Held, Frame, context, fewer_held, in_frame, named_in}
 use Rattle.ec_fineness.proofs.Narrowed.{live_dropped}
 use Rattle.ec_fineness.proofs.Pieces.{Setting, Agrees, From, Piece, around_of, opened_divisor, opened_live, opened_long}

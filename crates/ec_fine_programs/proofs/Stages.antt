@@ -7,14 +7,14 @@ use Rattle.ec_check.specs.WellTyped.{Site, Typed, conforms_if, goes_in, goes_in_
 use Rattle.ec_code.specs.declared.code.Op.{Op}
 use Rattle.ec_code.specs.Fine.{FineCondition}
 use Rattle.ec_code.specs.Typing.{field_types}
-use Rattle.ec_conform.specs.Conforms.{Conforms}
-use Rattle.ec_conform.specs.Table.{Table, conforms}
-use Rattle.ec_conform.specs.Types.{element_from, element_of}
-use Rattle.ec_conform.specs.declared.named_type.NamedType.{NamedType}
-use Rattle.ec_conform.specs.declared.static_type.Plain.{Plain as PlainStatic}
-use Rattle.ec_conform.specs.declared.static_type.StaticType.{StaticType}
-use Rattle.ec_conform.specs.declared.static_type.StaticType.TheVariants as type
-use Rattle.ec_conformity.specs.Known.{IsOfProgram, NoneUnknown}
+use Rattle.ec_types.specs.Conforms.{Conforms}
+use Rattle.ec_types.specs.Table.{Table, conforms}
+use Rattle.ec_types.specs.Types.{element_from, element_of}
+use Rattle.ec_types.specs.declared.conform.named_type.NamedType.{NamedType}
+use Rattle.ec_types.specs.declared.conform.static_type.Plain.{Plain as PlainStatic}
+use Rattle.ec_types.specs.declared.conform.static_type.StaticType.{StaticType}
+use Rattle.ec_types.specs.declared.conform.static_type.StaticType.TheVariants as type
+use Rattle.ec_types.specs.Known.{IsOfProgram, NoneUnknown}
 use Rattle.ec_core.specs.declared.Expression.{Expression}
 use Rattle.ec_core_shapes.specs.Formed.{formed_expression}
 use Rattle.ec_emission.proofs.Forms.{both_true, not_true}

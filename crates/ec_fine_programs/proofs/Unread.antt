@@ -12,7 +12,7 @@ use Rattle.ec_code.specs.declared.code.Op.TheVariants as op
 use Rattle.ec_code.specs.declared.code.Variable.{Variable}
 use Rattle.ec_code.specs.Fine.{Behind, FineTop, Has, IsTaken, Passes, Tells, Writes, divisor_at, divisor_of, live_at}
 use Rattle.ec_code.specs.Typing.{boolean, class_type, integer, string}
-use Rattle.ec_conform.specs.declared.static_type.StaticType.{StaticType}
+use Rattle.ec_types.specs.declared.conform.static_type.StaticType.{StaticType}
 use Rattle.ec_fineness.proofs.Frames.{Held, Frame}
 use Rattle.ec_fineness.proofs.Narrowed.{live_dropped}
 use Rattle.ec_fineness.proofs.Pieces.{Setting, FineSteps, From, IsFineAt, LeadsTo, Piece}

@@ -2,7 +2,7 @@
 use Rattle.std.proofs.Common.{List, [], ◌∷◌, ◌++◌, length, None}
 use Rattle.ec_code.specs.declared.code.Op.TheVariants as op
 use Rattle.ec_code.specs.Fine.{FineStop}
-use Rattle.ec_conform.specs.declared.static_type.StaticType.{StaticType}
+use Rattle.ec_types.specs.declared.conform.static_type.StaticType.{StaticType}
 use Rattle.ec_emission.specs.Expressions.{Emitted, all_code}
 use Rattle.ec_fineness.proofs.Forms.{AllWork, all_lead}
 use Rattle.ec_fineness.proofs.Pieces.{Setting, Piece, go_on}

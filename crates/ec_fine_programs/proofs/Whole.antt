@@ -11,8 +11,8 @@ use Rattle.ec_code.specs.declared.code.Operation.{Operation as Lowered}
 use Rattle.ec_code.specs.declared.code.Parts.{Parts}
 use Rattle.ec_code.specs.Fine.{Fine, FineOperation, IsIn}
 use Rattle.ec_code.specs.Typing.{class_type, type_if}
-use Rattle.ec_conform.specs.Types.{named}
-use Rattle.ec_conformity.specs.Known.{IsOfProgram}
+use Rattle.ec_types.specs.Types.{named}
+use Rattle.ec_types.specs.Known.{IsOfProgram}
 use Rattle.ec_core.specs.declared.Class.{Class}
 use Rattle.ec_core.specs.declared.Constant.{Constant}
 use Rattle.ec_core.specs.declared.Expression.{Expression}

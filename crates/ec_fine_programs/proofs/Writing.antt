@@ -11,7 +11,7 @@ use Rattle.ec_code.specs.declared.code.Variable.{Variable}
 use Rattle.ec_code.specs.declared.code.Variable.TheVariants.{Named}
 use Rattle.ec_code.specs.Fine.{Has, Writes, divisor_at, divisor_of}
 use Rattle.ec_code.specs.Typing.{field_types, string}
-use Rattle.ec_conform.specs.declared.static_type.StaticType.{StaticType}
+use Rattle.ec_types.specs.declared.conform.static_type.StaticType.{StaticType}
 use Rattle.ec_fineness.proofs.Frames.{Held, context}
 use Rattle.ec_fineness.proofs.Pieces.{Setting, FitsAs, From, IsFineAt, LeadsTo, Piece, around_of, one_step}
 use Rattle.ec_fineness.proofs.Pieces.{opened_divisor, opened_long}

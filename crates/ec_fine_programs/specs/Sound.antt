@@ -2,10 +2,10 @@
 use Rattle.std.specs.Prelude.{◌≡◌, ◌↔◌, ◌≤◌, true, false, length, map, All}
 use Rattle.ec_check.specs.Operations.{HasItsOperations}
 use Rattle.ec_check.specs.WellTyped.{IsWellTyped}
-use Rattle.ec_conform.specs.Conforms.{Conforms, most_types}
-use Rattle.ec_conform.specs.Table.{conforms}
-use Rattle.ec_conform.specs.declared.static_type.StaticType.{StaticType}
-use Rattle.ec_conformity.specs.Known.{NoneUnknown}
+use Rattle.ec_types.specs.Conforms.{Conforms, most_types}
+use Rattle.ec_types.specs.Table.{conforms}
+use Rattle.ec_types.specs.declared.conform.static_type.StaticType.{StaticType}
+use Rattle.ec_types.specs.Known.{NoneUnknown}
 use Rattle.ec_core.specs.declared.Class.{Class}
 use Rattle.ec_core.specs.declared.Operation.{Operation}
 use Rattle.ec_core_laws.specs.Beginnings.{BeginsOnce}

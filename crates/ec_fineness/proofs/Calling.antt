@@ -13,14 +13,14 @@ use Rattle.ec_check.specs.WellTyped.{Typed, can_be_called, fits_operation, go_in
 use Rattle.ec_check.specs.WellTyped.{parameters_of, result_of}
 use Rattle.ec_check.specs.WellTyped.{some_operation, type_has}
 use Rattle.ec_code.specs.Fine.{FineInvoke, IsIn, IsNameOf, OwnCall, number_if}
-use Rattle.ec_conform.specs.Conforms.{operations_at}
-use Rattle.ec_conform.specs.Types.{known, named, operation_named}
-use Rattle.ec_conform.specs.declared.named_type.NamedType.{NamedType}
-use Rattle.ec_conform.specs.declared.operations.NamedOperation.{NamedOperation}
-use Rattle.ec_conform.specs.declared.static_type.Plain.TheVariants as static
-use Rattle.ec_conform.specs.declared.static_type.StaticType.{StaticType}
-use Rattle.ec_conform.specs.declared.static_type.StaticType.TheVariants as type
-use Rattle.ec_conformity.specs.Known.{IsOfProgram, IsOperationOfProgram, NoneUnknown}
+use Rattle.ec_types.specs.Conforms.{operations_at}
+use Rattle.ec_types.specs.Types.{known, named, operation_named}
+use Rattle.ec_types.specs.declared.conform.named_type.NamedType.{NamedType}
+use Rattle.ec_types.specs.declared.conform.operations.NamedOperation.{NamedOperation}
+use Rattle.ec_types.specs.declared.conform.static_type.Plain.TheVariants as static
+use Rattle.ec_types.specs.declared.conform.static_type.StaticType.{StaticType}
+use Rattle.ec_types.specs.declared.conform.static_type.StaticType.TheVariants as type
+use Rattle.ec_types.specs.Known.{IsOfProgram, IsOperationOfProgram, NoneUnknown}
 use Rattle.ec_core.specs.declared.Operation.{Operation as CoreOperation}
 use Rattle.ec_emission.proofs.Forms.{both_true, not_true, same_leaf}
 use Rattle.ec_emission.specs.Expressions.{Emitted}
@@ -29,7 +29,7 @@ use Rattle.ec_fineness.proofs.Standing.{Stand, Known as KnownHere, KnownOwn, Nam
 use Rattle.ec_fineness.proofs.Standing.{types_in}
 use Rattle.ec_lowered.specs.Lowered.{declared_of}
 use Rattle.ec_meaning.specs.Programs.{name_number, number_or, operation_names}
-use Rattle.ec_names.specs.Names.{Text, is_same, first_from, first_named}
+use Rattle.ec_types.specs.Names.{Text, is_same, first_from, first_named}
 
 -- ---- names
 

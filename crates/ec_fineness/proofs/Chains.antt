@@ -3,9 +3,9 @@ use Rattle.std.proofs.Common.{◌≡◌, ◌&&◌, Bool, true, false, List, [], 
 use Rattle.std.proofs.Common.{ap, ◌∙◌, subst}
 use Rattle.ec_check.specs.WellTyped.{AfterLink, Typed, along}
 use Rattle.ec_code.specs.Typing.{boolean}
-use Rattle.ec_conform.specs.Types.{named}
-use Rattle.ec_conform.specs.declared.static_type.StaticType.{StaticType}
-use Rattle.ec_conformity.specs.Known.{IsOfProgram}
+use Rattle.ec_types.specs.Types.{named}
+use Rattle.ec_types.specs.declared.conform.static_type.StaticType.{StaticType}
+use Rattle.ec_types.specs.Known.{IsOfProgram}
 use Rattle.ec_emission.proofs.Forms.{not_true, no_leaf}
 use Rattle.ec_emission.specs.Expressions.{Emitted, Following, chain_code, holds, links_code, links_give, own_call}
 use Rattle.ec_fineness.proofs.Forms.{plain}

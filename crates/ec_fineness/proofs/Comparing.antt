@@ -8,11 +8,11 @@ use Rattle.ec_code.specs.declared.code.Operand.{Operand}
 use Rattle.ec_code.specs.Fine.{Comparable, FineOperand, FineTest}
 use Rattle.ec_code.specs.Fine.Comparable.{numbers, truths, texts, references}
 use Rattle.ec_code.specs.Typing.{integer, boolean, string, any}
-use Rattle.ec_conform.specs.Types.{is_same_type, is_reference_type}
-use Rattle.ec_conform.specs.declared.static_type.Plain.TheVariants as static
-use Rattle.ec_conform.specs.declared.static_type.StaticType.{StaticType}
-use Rattle.ec_conform.specs.declared.static_type.StaticType.TheVariants as type
-use Rattle.ec_conformity.specs.Known.{IsOfProgram}
+use Rattle.ec_types.specs.Types.{is_same_type, is_reference_type}
+use Rattle.ec_types.specs.declared.conform.static_type.Plain.TheVariants as static
+use Rattle.ec_types.specs.declared.conform.static_type.StaticType.{StaticType}
+use Rattle.ec_types.specs.declared.conform.static_type.StaticType.TheVariants as type
+use Rattle.ec_types.specs.Known.{IsOfProgram}
 use Rattle.ec_core.specs.declared.Compared.{Compared}
 use Rattle.ec_core.specs.declared.Compared.TheVariants as compared
 use Rattle.ec_emission.proofs.Forms.{both_true, not_true}

@@ -19,7 +19,7 @@ use Rattle.ec_code.specs.Fine.{IsIn, Has, live_at, live_if, FineOperand, FineTes
 use Rattle.ec_code.specs.Fine.{GoesOn, FineRow}
 use Rattle.ec_code.specs.Fine.{IsTaken}
 use Rattle.ec_code.specs.Typing.{Declared, integer, boolean, string, class_type}
-use Rattle.ec_conform.specs.declared.static_type.StaticType.{StaticType}
+use Rattle.ec_types.specs.declared.conform.static_type.StaticType.{StaticType}
 use Rattle.ec_fineness.specs.Wide.{ops_of, WideOp, WideCode}
 use Rattle.ec_liveness.proofs.Among.{in_append}
 use Rattle.ec_liveness.specs.Live.{IsLive, is_read, is_passed, read_in, read_by, reads, writes, goes_on, stays}

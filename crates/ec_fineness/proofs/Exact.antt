@@ -10,7 +10,7 @@ use Rattle.ec_code.specs.declared.code.Parts.{Parts}
 use Rattle.ec_code.specs.declared.code.Variable.{Variable}
 use Rattle.ec_code.specs.Fine.{IsIn, Has, live_at, EachLeadsOn, FineCode}
 use Rattle.ec_code.specs.Typing.{Declared}
-use Rattle.ec_conform.specs.declared.static_type.StaticType.{StaticType}
+use Rattle.ec_types.specs.declared.conform.static_type.StaticType.{StaticType}
 use Rattle.ec_fineness.proofs.Covering.{covered}
 use Rattle.ec_fineness.proofs.Dividing.{lead_on}
 use Rattle.ec_fineness.proofs.Narrowed.{Narrowed, AllNarrowed, has_from_start}

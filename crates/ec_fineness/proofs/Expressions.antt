@@ -13,10 +13,10 @@ use Rattle.ec_check.specs.WellTyped.{factor_typed, typed, typed_link, typed_adde
 use Rattle.ec_check.specs.WellTyped.{go_in}
 use Rattle.ec_check.specs.WellTyped.{parameters_of_class, some_class, type_at}
 use Rattle.ec_code.specs.Typing.{integer, boolean}
-use Rattle.ec_conform.specs.Types.{named}
-use Rattle.ec_conform.specs.declared.static_type.StaticType.{StaticType}
-use Rattle.ec_conform.specs.declared.static_type.StaticType.TheVariants as type
-use Rattle.ec_conformity.specs.Known.{IsOfProgram}
+use Rattle.ec_types.specs.Types.{named}
+use Rattle.ec_types.specs.declared.conform.static_type.StaticType.{StaticType}
+use Rattle.ec_types.specs.declared.conform.static_type.StaticType.TheVariants as type
+use Rattle.ec_types.specs.Known.{IsOfProgram}
 use Rattle.ec_core.specs.declared.Addend.{Addend, roll-Addend, fold-Addend, map-Addend, fold-roll-Addend}
 use Rattle.ec_core.specs.declared.Compared.{Compared}
 use Rattle.ec_core.specs.declared.Expression.{Expression, roll-Expression, map-Expression, ind-Expression}

@@ -14,8 +14,8 @@ use Rattle.ec_code.specs.declared.code.Operand.TheVariants as operand
 use Rattle.ec_code.specs.declared.code.Variable.TheVariants.{Temporary}
 use Rattle.ec_code.specs.Fine.{divisor_in, FineStop}
 use Rattle.ec_code.specs.Typing.{integer, boolean, string, class_type, field_types}
-use Rattle.ec_conform.specs.declared.static_type.StaticType.{StaticType}
-use Rattle.ec_conformity.specs.Known.{IsOfProgram}
+use Rattle.ec_types.specs.declared.conform.static_type.StaticType.{StaticType}
+use Rattle.ec_types.specs.Known.{IsOfProgram}
 use Rattle.ec_emission.proofs.Forms.{no_leaf}
 use Rattle.ec_emission.specs.Expressions.{Condition, Emitted, operand_of, pair_first, pair_second, decided, negated}
 use Rattle.ec_emission.specs.Expressions.{inverted, holds}

@@ -11,11 +11,11 @@ use Rattle.ec_check.specs.WellTyped.{is_same_result, type_has, typed_if}
 use Rattle.ec_code.specs.Fine.{FineStop}
 use Rattle.ec_code.specs.Typing.{integer, boolean, string}
 use Rattle.ec_code.specs.declared.code.Op.TheVariants as op
-use Rattle.ec_conform.specs.Types.{element_from, element_of, named}
-use Rattle.ec_conform.specs.declared.static_type.Plain.{Plain as PlainType}
-use Rattle.ec_conform.specs.declared.static_type.StaticType.{StaticType}
-use Rattle.ec_conform.specs.declared.static_type.StaticType.TheVariants as type
-use Rattle.ec_conformity.specs.Known.{IsOfProgram}
+use Rattle.ec_types.specs.Types.{element_from, element_of, named}
+use Rattle.ec_types.specs.declared.conform.static_type.Plain.{Plain as PlainType}
+use Rattle.ec_types.specs.declared.conform.static_type.StaticType.{StaticType}
+use Rattle.ec_types.specs.declared.conform.static_type.StaticType.TheVariants as type
+use Rattle.ec_types.specs.Known.{IsOfProgram}
 use Rattle.ec_core.specs.declared.Builtin.{Builtin}
 use Rattle.ec_core.specs.declared.Builtin.TheVariants as builtin
 use Rattle.ec_emission.proofs.Forms.{both_true, not_true, no_leaf, same_leaf}
@@ -34,7 +34,7 @@ use Rattle.ec_fineness.proofs.Stopping.{above, held_if, own_with, rests, rests_w
 use Rattle.ec_lowered.specs.Lowered.{declared_of}
 use Rattle.ec_meaning.specs.Programs.{name_number}
 use Rattle.ec_meaning.specs.Steps.{stop_of}
-use Rattle.ec_names.specs.Names.{Text}
+use Rattle.ec_types.specs.Names.{Text}
 use Rattle.ec_rules.specs.Types.{is_vector}
 use Rattle.ec_rules.specs.declared.operands.Wanted.TheVariants as wanted
 use Rattle.ec_stands.specs.Rows.{own_row, rest_row}

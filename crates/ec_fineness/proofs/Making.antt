@@ -9,10 +9,10 @@ use Rattle.ec_check.specs.WellTyped.{type_at as place_type, typed_if}
 use Rattle.ec_code.specs.declared.code.Op.{Op}
 use Rattle.ec_code.specs.Fine.{FineStop, FitAll, IsIn}
 use Rattle.ec_code.specs.Typing.{boolean}
-use Rattle.ec_conform.specs.Table.{conforms}
-use Rattle.ec_conform.specs.Types.{named}
-use Rattle.ec_conform.specs.declared.static_type.StaticType.{StaticType}
-use Rattle.ec_conformity.specs.Known.{IsOfProgram}
+use Rattle.ec_types.specs.Table.{conforms}
+use Rattle.ec_types.specs.Types.{named}
+use Rattle.ec_types.specs.declared.conform.static_type.StaticType.{StaticType}
+use Rattle.ec_types.specs.Known.{IsOfProgram}
 use Rattle.ec_core.specs.declared.Class.{Class}
 use Rattle.ec_core.specs.declared.Place.{Place}
 use Rattle.ec_emission.proofs.Forms.{both_true, not_true}

@@ -4,7 +4,7 @@ use Rattle.std.proofs.Common.{refl, sym, ap, ◌∙◌, subst, inl, inr, arith, 
 use Rattle.std.specs.Prelude.{slice_get}
 use Rattle.ec_check.specs.WellTyped.{constant_type_at}
 use Rattle.ec_code.specs.Fine.{IsIn}
-use Rattle.ec_conform.specs.declared.static_type.StaticType.{StaticType}
+use Rattle.ec_types.specs.declared.conform.static_type.StaticType.{StaticType}
 use Rattle.ec_core.specs.declared.Class.{Class}
 use Rattle.ec_core.specs.declared.Constant.{Constant}
 use Rattle.ec_emission.proofs.Forms.{no_leaf}

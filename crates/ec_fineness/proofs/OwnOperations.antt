@@ -7,8 +7,8 @@ use Rattle.ec_check.proofs.FirstNames.{same_itself}
 use Rattle.ec_check.specs.Operations.{AreDistinct, as_seen, exported_of, is_of_class, operations_of_class}
 use Rattle.ec_check.specs.WellTyped.{is_named}
 use Rattle.ec_code.specs.Fine.{IsIn}
-use Rattle.ec_conform.proofs.Names.{same_number}
-use Rattle.ec_conform.specs.declared.operations.NamedOperation.{NamedOperation}
+use Rattle.ec_types.proofs.NamesLemmas.{same_number}
+use Rattle.ec_types.specs.declared.conform.operations.NamedOperation.{NamedOperation}
 use Rattle.ec_core.specs.declared.Kind.{Kind}
 use Rattle.ec_core.specs.declared.Kind.TheVariants as kind
 use Rattle.ec_core.specs.declared.Operation.{Operation}
@@ -17,7 +17,7 @@ use Rattle.ec_fineness.proofs.Calling.{same_joined}
 use Rattle.ec_fineness.proofs.Standing.{NamedOf}
 use Rattle.ec_meaning.specs.Programs as meaning
 use Rattle.ec_meaning.specs.Programs.{Source, name_number, number_or, operation_names, operations_from}
-use Rattle.ec_names.specs.Names.{Text, is_same, first_from, first_named, has_name}
+use Rattle.ec_types.specs.Names.{Text, is_same, first_from, first_named, has_name}
 use Rattle.ec_world.specs.Objects.{operation_named}
 use Rattle.ec_world.specs.declared.class.OperationRec.{OperationRec}
 

@@ -12,7 +12,7 @@ use Rattle.ec_code.specs.declared.code.Variable.{Variable}
 use Rattle.ec_code.specs.declared.code.Variable.TheVariants.{Named, Temporary}
 use Rattle.ec_code.specs.Fine.{IsIn, Has, live_at, divisor_of, divisor_at, EachLeadsOn, LeadsOn, Writes, FitsHere}
 use Rattle.ec_code.specs.Typing.{Declared}
-use Rattle.ec_conform.specs.declared.static_type.StaticType.{StaticType}
+use Rattle.ec_types.specs.declared.conform.static_type.StaticType.{StaticType}
 use Rattle.ec_fineness.proofs.Frames.{Held, Frame, Opens, Within, context, one_more, in_frame, named_there, put_same}
 use Rattle.ec_fineness.proofs.Frames.{put_other}
 use Rattle.ec_lowered.specs.Types.{Around, type_at, put_type, with_written, variable_type, written_type, behind}

@@ -11,8 +11,8 @@ use Rattle.ec_code.specs.declared.code.Operand.TheVariants as operand
 use Rattle.ec_code.specs.declared.code.Variable.TheVariants as variable
 use Rattle.ec_code.specs.Fine.{Has}
 use Rattle.ec_code.specs.Typing.{field_types}
-use Rattle.ec_conform.specs.declared.static_type.StaticType.{StaticType}
-use Rattle.ec_conformity.specs.Known.{IsOfProgram}
+use Rattle.ec_types.specs.declared.conform.static_type.StaticType.{StaticType}
+use Rattle.ec_types.specs.Known.{IsOfProgram}
 use Rattle.ec_core.specs.declared.Place.{Place}
 use Rattle.ec_core.specs.declared.Place.TheVariants as place
 use Rattle.ec_emission.proofs.Forms.{both_true, not_true, no_leaf, same_leaf}

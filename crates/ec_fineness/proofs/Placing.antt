@@ -12,13 +12,13 @@ use Rattle.ec_code.specs.declared.code.Operation.{Operation as Made}
 use Rattle.ec_code.specs.declared.code.Parts.{Parts}
 use Rattle.ec_code.specs.Fine.{FitAll, IsIn}
 use Rattle.ec_code.specs.Typing.{class_type, field_types, fields_if, type_if}
-use Rattle.ec_conform.specs.Conforms.{Conforms, operations_at}
-use Rattle.ec_conform.specs.Table.{conforms}
-use Rattle.ec_conform.specs.Types.{named, operation_named}
-use Rattle.ec_conform.specs.declared.named_type.NamedType.{NamedType}
-use Rattle.ec_conform.specs.declared.operations.NamedOperation.{NamedOperation}
-use Rattle.ec_conform.specs.declared.static_type.StaticType.{StaticType}
-use Rattle.ec_conformity.specs.Known.{IsOfProgram, NoneUnknown}
+use Rattle.ec_types.specs.Conforms.{Conforms, operations_at}
+use Rattle.ec_types.specs.Table.{conforms}
+use Rattle.ec_types.specs.Types.{named, operation_named}
+use Rattle.ec_types.specs.declared.conform.named_type.NamedType.{NamedType}
+use Rattle.ec_types.specs.declared.conform.operations.NamedOperation.{NamedOperation}
+use Rattle.ec_types.specs.declared.conform.static_type.StaticType.{StaticType}
+use Rattle.ec_types.specs.Known.{IsOfProgram, NoneUnknown}
 use Rattle.ec_core.specs.declared.Class.{Class}
 use Rattle.ec_core.specs.declared.Constant.{Constant}
 use Rattle.ec_core.specs.declared.Field.{Field}
@@ -37,7 +37,7 @@ use Rattle.ec_lowered.specs.Lowered.{AreOperationsOf, IsLowered, IsOperationOf, 
 use Rattle.ec_lowered.specs.Lowered.{declared_of}
 use Rattle.ec_lowered.specs.Lowered.{field_types_of, result_type}
 use Rattle.ec_meaning.specs.Programs.{Source, class_from, class_of, constant_number}
-use Rattle.ec_names.specs.Names.{Text}
+use Rattle.ec_types.specs.Names.{Text}
 use Rattle.ec_places.specs.Rising.{IsRising}
 use Rattle.ec_world.specs.Agree.{AllTwo}
 use Rattle.ec_world.specs.declared.class.ClassNo.TheVariants.{Made as MadeClass}

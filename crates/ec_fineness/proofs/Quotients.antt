@@ -10,7 +10,7 @@ use Rattle.ec_code.specs.declared.code.Test.TheVariants as test
 use Rattle.ec_code.specs.declared.code.Variable.TheVariants.{Temporary}
 use Rattle.ec_code.specs.Fine.{divisor_in, Passes, FineNumbers, Tells}
 use Rattle.ec_code.specs.Typing.{integer}
-use Rattle.ec_conform.specs.declared.static_type.StaticType.{StaticType}
+use Rattle.ec_types.specs.declared.conform.static_type.StaticType.{StaticType}
 use Rattle.ec_emission.specs.Expressions.{Emitted, divided, pair_first, pair_second}
 use Rattle.ec_fineness.proofs.Forms.{above_one}
 use Rattle.ec_fineness.proofs.Frames.{Held, Within}

@@ -19,7 +19,7 @@ use Rattle.ec_code.specs.Fine.{IsIn, Has, live_at, FineOperand, FineTest, Passes
 use Rattle.ec_code.specs.Fine.{FineRow, FineTop}
 use Rattle.ec_code.specs.Fine.{FineOp, FineCode, IsTaken}
 use Rattle.ec_code.specs.Typing.{Declared, integer, boolean, string, class_type}
-use Rattle.ec_conform.specs.declared.static_type.StaticType.{StaticType}
+use Rattle.ec_types.specs.declared.conform.static_type.StaticType.{StaticType}
 use Rattle.ec_fineness.proofs.Narrowed.{AllNarrowed, same_length, live_dropped, has_at, line_from_start, has_from_start}
 use Rattle.ec_fineness.specs.Wide.{WideOp, WideCode}
 use Rattle.ec_liveness.proofs.Among.{in_left, in_right}

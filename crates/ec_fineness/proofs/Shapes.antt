@@ -1,11 +1,11 @@
 -- Types that are of the program by their numbers.
 use Rattle.std.proofs.Common.{◌≡◌, true, List, length, ltb-true}
-use Rattle.ec_conform.specs.declared.named_type.NamedType.{NamedType}
-use Rattle.ec_conform.specs.declared.static_type.Plain.{Plain as PlainType}
-use Rattle.ec_conform.specs.declared.static_type.Plain.TheVariants as static
-use Rattle.ec_conform.specs.declared.static_type.StaticType.{StaticType}
-use Rattle.ec_conform.specs.declared.static_type.StaticType.TheVariants as type
-use Rattle.ec_conformity.specs.Known.{IsPlainOfProgram, IsOfProgram}
+use Rattle.ec_types.specs.declared.conform.named_type.NamedType.{NamedType}
+use Rattle.ec_types.specs.declared.conform.static_type.Plain.{Plain as PlainType}
+use Rattle.ec_types.specs.declared.conform.static_type.Plain.TheVariants as static
+use Rattle.ec_types.specs.declared.conform.static_type.StaticType.{StaticType}
+use Rattle.ec_types.specs.declared.conform.static_type.StaticType.TheVariants as type
+use Rattle.ec_types.specs.Known.{IsPlainOfProgram, IsOfProgram}
 use Rattle.ec_core_shapes.specs.Formed.{is_of, is_plain_of}
 use Rattle.ec_emission.proofs.Forms.{not_true}
 

@@ -10,8 +10,8 @@ use Rattle.ec_code.specs.declared.code.Operand.TheVariants as operand
 use Rattle.ec_code.specs.declared.code.Parts.{Parts}
 use Rattle.ec_code.specs.Fine.{Has, FineOperand, FineTest, FitsHere}
 use Rattle.ec_code.specs.Typing.{Declared, integer, boolean}
-use Rattle.ec_conform.specs.declared.static_type.StaticType.{StaticType}
-use Rattle.ec_conform.specs.declared.static_type.StaticType.TheVariants as type
+use Rattle.ec_types.specs.declared.conform.static_type.StaticType.{StaticType}
+use Rattle.ec_types.specs.declared.conform.static_type.StaticType.TheVariants as type
 use Rattle.ec_emission.proofs.Forms.{no_leaf}
 use Rattle.ec_emission.specs.Expressions.{Condition, Emitted, operand_or, code_or, operand_of, operand_code, first_operand}
 use Rattle.ec_emission.specs.Expressions.{first_code}

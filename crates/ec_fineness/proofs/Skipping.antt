@@ -11,7 +11,7 @@ use Rattle.ec_code.specs.declared.code.Test.TheVariants as test
 use Rattle.ec_code.specs.declared.code.Variable.{Variable}
 use Rattle.ec_code.specs.Fine.{Has, FineTest, Passes, Tells, divisor_at, live_at}
 use Rattle.ec_code.specs.Typing.{boolean}
-use Rattle.ec_conform.specs.declared.static_type.StaticType.{StaticType}
+use Rattle.ec_types.specs.declared.conform.static_type.StaticType.{StaticType}
 use Rattle.ec_emission.specs.Expressions.{Emitted, needed_code}
 use Rattle.ec_fineness.proofs.Forms.{above_one}
 use Rattle.ec_fineness.proofs.Frames.{Held, Frame, fewer_held, held_in}

@@ -7,13 +7,13 @@ use Rattle.ec_code.specs.declared.code.Operation.{Operation}
 use Rattle.ec_code.specs.declared.code.Parts.{Parts}
 use Rattle.ec_code.specs.Fine.{IsIn, OwnCall, TakesAndGives}
 use Rattle.ec_code.specs.Typing.{class_type, field_types}
-use Rattle.ec_conform.specs.Conforms.{Conforms, operations_at}
-use Rattle.ec_conform.specs.Table.{conforms}
-use Rattle.ec_conform.specs.Types.{named, operation_named}
-use Rattle.ec_conform.specs.declared.named_type.NamedType.{NamedType}
-use Rattle.ec_conform.specs.declared.operations.NamedOperation.{NamedOperation}
-use Rattle.ec_conform.specs.declared.static_type.StaticType.{StaticType}
-use Rattle.ec_conformity.specs.Known.{IsOfProgram, NoneUnknown}
+use Rattle.ec_types.specs.Conforms.{Conforms, operations_at}
+use Rattle.ec_types.specs.Table.{conforms}
+use Rattle.ec_types.specs.Types.{named, operation_named}
+use Rattle.ec_types.specs.declared.conform.named_type.NamedType.{NamedType}
+use Rattle.ec_types.specs.declared.conform.operations.NamedOperation.{NamedOperation}
+use Rattle.ec_types.specs.declared.conform.static_type.StaticType.{StaticType}
+use Rattle.ec_types.specs.Known.{IsOfProgram, NoneUnknown}
 use Rattle.ec_core.specs.declared.Class.{Class}
 use Rattle.ec_core.specs.declared.Operation.{Operation as CoreOperation}
 use Rattle.ec_emission.specs.Expressions.{Emitted}
@@ -22,7 +22,7 @@ use Rattle.ec_fineness.proofs.Pieces.{Setting, FitsAs}
 use Rattle.ec_fineness.proofs.Shown.{Shown}
 use Rattle.ec_lowered.specs.Lowered.{class_declared, declared_of, field_types_of}
 use Rattle.ec_meaning.specs.Programs.{Source, class_from, constant_number, name_number}
-use Rattle.ec_names.specs.Names.{Text, is_same}
+use Rattle.ec_types.specs.Names.{Text, is_same}
 use Rattle.ec_check.specs.Operations.{as_seen}
 
 -- The operation, by its number in the program that a source is lowered to; the number of its own class, where it is of an

@@ -11,7 +11,7 @@ use Rattle.ec_code.specs.declared.code.Variable.{Variable}
 use Rattle.ec_code.specs.declared.code.Variable.TheVariants.{Temporary}
 use Rattle.ec_code.specs.Fine.{Has, divisor_at, Behind, HaveTypes, GoesOn, FineStop, FineStopIf, FineOwn, IsTaken}
 use Rattle.ec_code.specs.Typing.{Declared}
-use Rattle.ec_conform.specs.declared.static_type.StaticType.{StaticType}
+use Rattle.ec_types.specs.declared.conform.static_type.StaticType.{StaticType}
 use Rattle.ec_fineness.proofs.Frames.{Held, Frame, Within, context, held_in, fewer_held, one_more}
 use Rattle.ec_fineness.proofs.Pieces.{Setting, around_of, lives, FitsAs, From, Leads, one_step, opened_live, opened_long}
 use Rattle.ec_fineness.proofs.Pieces.{opened_divisor}

@@ -7,8 +7,8 @@ use Rattle.ec_ast.specs.declared.Multiplicative.TheVariants as product
 use Rattle.ec_check.specs.WellTyped.{Typed, TypedAddend, typed_if, is_of, all_are, added}
 use Rattle.ec_code.specs.declared.code.Arithmetic.TheVariants as arithmetic
 use Rattle.ec_code.specs.Typing.{integer, string}
-use Rattle.ec_conform.specs.declared.static_type.StaticType.{StaticType}
-use Rattle.ec_conformity.specs.Known.{IsOfProgram}
+use Rattle.ec_types.specs.declared.conform.static_type.StaticType.{StaticType}
+use Rattle.ec_types.specs.Known.{IsOfProgram}
 use Rattle.ec_emission.proofs.Forms.{both_true, same_leaf}
 use Rattle.ec_emission.specs.Expressions.{Emitted, Applied, applied_code, kept, joined, multiplied}
 use Rattle.ec_fineness.proofs.Forms.{EachFits, calculated_leads}

@@ -3,15 +3,15 @@ use Rattle.std.proofs.Common.{◌≡◌, true, false, List, Option, Some, None, 
 use Rattle.ec_check.proofs.WellValues.{type_is}
 use Rattle.ec_check.specs.WellTyped.{Typed, is_taken, is_of}
 use Rattle.ec_code.specs.Typing.{integer, boolean, string, any}
-use Rattle.ec_conform.specs.Conforms.{Relation, IsClosed, conforms_in}
-use Rattle.ec_conform.specs.Types.{is_reference_type}
-use Rattle.ec_conform.specs.declared.named_type.NamedType.{NamedType}
-use Rattle.ec_conform.specs.declared.static_type.Plain.TheVariants as static
-use Rattle.ec_conform.specs.declared.static_type.StaticType.{StaticType}
-use Rattle.ec_conform.specs.declared.static_type.StaticType.TheVariants as type
-use Rattle.ec_conformity.proofs.Itself.{conforms_to_itself}
-use Rattle.ec_conformity.specs.Fits.{Fits}
-use Rattle.ec_conformity.specs.Known.{IsOfProgram, NoneUnknown}
+use Rattle.ec_types.specs.Conforms.{Relation, IsClosed, conforms_in}
+use Rattle.ec_types.specs.Types.{is_reference_type}
+use Rattle.ec_types.specs.declared.conform.named_type.NamedType.{NamedType}
+use Rattle.ec_types.specs.declared.conform.static_type.Plain.TheVariants as static
+use Rattle.ec_types.specs.declared.conform.static_type.StaticType.{StaticType}
+use Rattle.ec_types.specs.declared.conform.static_type.StaticType.TheVariants as type
+use Rattle.ec_types.proofs.Itself.{conforms_to_itself}
+use Rattle.ec_types.specs.Fits.{Fits}
+use Rattle.ec_types.specs.Known.{IsOfProgram, NoneUnknown}
 use Rattle.ec_emission.proofs.Forms.{both_true, not_true}
 use Rattle.ec_rules.specs.Types.{takes}
 use Rattle.ec_rules.specs.declared.operands.Wanted.{Wanted}

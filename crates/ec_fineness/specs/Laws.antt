@@ -7,7 +7,7 @@ use Rattle.ec_code.specs.declared.code.Parts.{Parts}
 use Rattle.ec_code.specs.declared.code.Variable.{Variable}
 use Rattle.ec_code.specs.Fine.{EachLeadsOn, FineCode, Has, live_at}
 use Rattle.ec_code.specs.Typing.{Declared}
-use Rattle.ec_conform.specs.declared.static_type.StaticType.{StaticType}
+use Rattle.ec_types.specs.declared.conform.static_type.StaticType.{StaticType}
 use Rattle.ec_lowered.specs.Lowered.{HasLines}
 use Rattle.ec_lowered.specs.Types.{Around}
 use Rattle.ec_fineness.specs.Wide.{IsWide}

@@ -9,7 +9,7 @@ use Rattle.ec_code.specs.declared.code.Parts.{Parts}
 use Rattle.ec_code.specs.declared.code.Variable.{Variable}
 use Rattle.ec_code.specs.Fine.{EachLeadsOn, FineOp, FineTop, Has, live_at}
 use Rattle.ec_code.specs.Typing.{Declared}
-use Rattle.ec_conform.specs.declared.static_type.StaticType.{StaticType}
+use Rattle.ec_types.specs.declared.conform.static_type.StaticType.{StaticType}
 use Rattle.ec_lowered.specs.Types.{Around, variable_type, behind}
 
 abbrev pub ops_of : List Line → List Op

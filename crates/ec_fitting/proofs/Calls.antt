@@ -7,7 +7,7 @@ use Rattle.ec_cluster_frames.specs.Frames.{HasNode}
 use Rattle.ec_code.specs.Typing.{Declared}
 use Rattle.ec_code.specs.declared.activation.CodeActivation.{CodeActivation}
 use Rattle.ec_code.specs.declared.code.Operation.{Operation}
-use Rattle.ec_conform.specs.declared.static_type.StaticType.{StaticType}
+use Rattle.ec_types.specs.declared.conform.static_type.StaticType.{StaticType}
 use Rattle.ec_fitting.proofs.Asking.{its_outcome, its_stop}
 use Rattle.ec_fitting.proofs.Entries.{has_entries}
 use Rattle.ec_fitting.proofs.Keeping.{steady_after}

@@ -13,7 +13,7 @@ use Rattle.ec_code.specs.Typing.{Declared}
 use Rattle.ec_code.specs.declared.activation.CodeActivation.{CodeActivation}
 use Rattle.ec_code.specs.declared.code.Parts.{Parts}
 use Rattle.ec_code.specs.declared.code.Variable.{Variable}
-use Rattle.ec_conform.specs.declared.static_type.StaticType.{StaticType}
+use Rattle.ec_types.specs.declared.conform.static_type.StaticType.{StaticType}
 use Rattle.ec_faithful.specs.Stops.{without}
 use Rattle.ec_fullness.proofs.Acting.{top_is}
 use Rattle.ec_fullness.proofs.Effects.{GoerWaits, Waiting, WaitingIf}

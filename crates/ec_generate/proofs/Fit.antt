@@ -10,7 +10,7 @@ use Rattle.ec_code.specs.declared.code.Operation.{Operation}
 use Rattle.ec_code.specs.declared.code.Parts.{Parts}
 use Rattle.ec_code.specs.declared.code.Variable.{Variable}
 use Rattle.ec_code_limits.specs.Limits.{HasColumn, HasLimits, IsSmallOperation}
-use Rattle.ec_conform.specs.declared.static_type.StaticType.{StaticType}
+use Rattle.ec_types.specs.declared.conform.static_type.StaticType.{StaticType}
 use Rattle.ec_faithful.specs.Frames.{slots}
 use Rattle.ec_faithful.specs.Stops.{row_or_empty}
 use Rattle.ec_homes.specs.Homes.{IsVariable, IsWithin, column}

@@ -20,7 +20,7 @@ use Rattle.ec_code.specs.declared.code.Test.TheVariants as test
 use Rattle.ec_code.specs.declared.code.Variable.{Variable}
 use Rattle.ec_code.specs.declared.code.Variable.TheVariants.{Named}
 use Rattle.ec_code_limits.specs.Limits.{HasFewFields, HasLimits, IsSmallOperation}
-use Rattle.ec_conform.specs.declared.static_type.StaticType.{StaticType}
+use Rattle.ec_types.specs.declared.conform.static_type.StaticType.{StaticType}
 use Rattle.ec_faithful.specs.Frames.{block_words, slots}
 use Rattle.ec_generate.specs.Puts.{CanPutQuestion, CanPutSource}
 use Rattle.ec_generate.proofs.Led.{laid_ending}

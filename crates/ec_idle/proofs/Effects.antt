@@ -7,7 +7,7 @@ use Rattle.ec_code.specs.Typing.{Declared}
 use Rattle.ec_code.specs.declared.activation.CodeActivation.{CodeActivation}
 use Rattle.ec_code.specs.declared.code.Operation.{Operation}
 use Rattle.ec_code.specs.declared.code.Parts.{Parts}
-use Rattle.ec_conform.specs.declared.static_type.StaticType.{StaticType}
+use Rattle.ec_types.specs.declared.conform.static_type.StaticType.{StaticType}
 use Rattle.ec_idle.proofs.Stacks.{IsTakenBy, none_taken}
 use Rattle.ec_idle.specs.Idle.{GoesBehind}
 use Rattle.ec_liveness.specs.Live.{stays}

@@ -14,8 +14,8 @@ use Rattle.ec_rules.specs.Parts.{Finished, Part, StatementPart, faults_in, uses_
 use Rattle.ec_rules.specs.Statements.{both, done_both, nothing_done, nothing_finished}
 use Rattle.ec_rules.specs.Tree.{statement_of}
 use Rattle.ec_rules.specs.declared.judged.Done.{Done}
-use Rattle.ec_scopes.specs.Scopes.{declaring}
-use Rattle.ec_scopes.specs.declared.scope.Scope.{Scope}
+use Rattle.ec_types.specs.Scopes.{declaring}
+use Rattle.ec_types.specs.declared.scopes.scope.Scope.{Scope}
 
 -- ---- counts, with nothing before them
 

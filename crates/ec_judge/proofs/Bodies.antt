@@ -22,10 +22,10 @@ use Rattle.ec_rules.specs.Rules.{noted}
 use Rattle.ec_rules.specs.declared.StaticFault.{StaticFault}
 use Rattle.ec_rules.specs.declared.faults.Faults.{Faults}
 use Rattle.ec_rules.proofs.Noted.{noted_joined}
-use Rattle.ec_scopes.specs.Scopes.{forgetting, in_a_process, innermost, locals_of, outside, within}
-use Rattle.ec_scopes.specs.declared.object.Object.{Object}
-use Rattle.ec_scopes.specs.declared.scope.Scope.{Scope}
-use Rattle.ec_scopes.proofs.Scopes.{forgetting-declaring, outside-process, outside-within}
+use Rattle.ec_types.specs.Scopes.{forgetting, in_a_process, innermost, locals_of, outside, within}
+use Rattle.ec_types.specs.declared.scopes.object.Object.{Object}
+use Rattle.ec_types.specs.declared.scopes.scope.Scope.{Scope}
+use Rattle.ec_types.proofs.ScopesLemmas.{forgetting-declaring, outside-process, outside-within}
 
 -- ---- fields
 

@@ -6,7 +6,7 @@ use Rattle.ec_ast.specs.declared.Name.{Name}
 use Rattle.ec_ast.specs.declared.Span.{Span}
 use Rattle.ec_ast.specs.declared.Expression.{Expression}
 use Rattle.ec_ast.specs.declared.Expression.TheOpen.{Expression-F}
-use Rattle.ec_conform.specs.declared.static_type.StaticType.{StaticType}
+use Rattle.ec_types.specs.declared.conform.static_type.StaticType.{StaticType}
 use Rattle.ec_judge.specs.Chains.{Passed, creation, faults_along, head, held_height, looked_at, over_head, over_links, passed}
 use Rattle.ec_judge.specs.Chains.{passed_all, valued}
 use Rattle.ec_judge.specs.declared.walk.Walk.{Walk}
@@ -25,8 +25,8 @@ use Rattle.ec_rules.specs.Nodes.{link_nodes}
 use Rattle.ec_rules.specs.Parts.{Part, LinkPart, call, index, value_in, faults_in, uses_in}
 use Rattle.ec_rules.specs.Rules.{is_clean}
 use Rattle.ec_rules.specs.Tree.{part_of}
-use Rattle.ec_scopes.specs.Scopes.{class_named}
-use Rattle.ec_scopes.specs.declared.scope.Scope.{Scope}
+use Rattle.ec_types.specs.Scopes.{class_named}
+use Rattle.ec_types.specs.declared.scopes.scope.Scope.{Scope}
 
 -- ---- counts
 

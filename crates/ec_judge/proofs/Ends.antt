@@ -16,10 +16,10 @@ use Rattle.ec_rules.specs.declared.StaticFault.{StaticFault}
 use Rattle.ec_rules.specs.declared.judged.Done.{Done}
 use Rattle.ec_rules.proofs.Equations.{block_step}
 use Rattle.ec_rules.proofs.Noted.{noted_joined}
-use Rattle.ec_scopes.specs.Scopes.{declaring, forgetting, innermost, locals_of}
-use Rattle.ec_scopes.specs.declared.entries.Entry.{Entry}
-use Rattle.ec_scopes.specs.declared.scope.Scope.{Scope}
-use Rattle.ec_scopes.proofs.Scopes.{declaring-declaring, declaring-none, forgetting-declaring}
+use Rattle.ec_types.specs.Scopes.{declaring, forgetting, innermost, locals_of}
+use Rattle.ec_types.specs.declared.scopes.entries.Entry.{Entry}
+use Rattle.ec_types.specs.declared.scopes.scope.Scope.{Scope}
+use Rattle.ec_types.proofs.ScopesLemmas.{declaring-declaring, declaring-none, forgetting-declaring}
 
 -- ---- counts
 

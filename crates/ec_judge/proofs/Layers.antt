@@ -4,7 +4,7 @@ use Rattle.std.proofs.lemmas.List.{append-nil}
 use Rattle.ec_ast.specs.declared.Comparison.{Comparison}
 use Rattle.ec_ast.specs.declared.Span.{Span}
 use Rattle.ec_ast.specs.declared.Expression.TheOpen.{Expression-F}
-use Rattle.ec_conform.specs.declared.static_type.StaticType.{StaticType}
+use Rattle.ec_types.specs.declared.conform.static_type.StaticType.{StaticType}
 use Rattle.ec_judge.specs.declared.walk.Walk.{Walk}
 use Rattle.ec_judge.specs.Walks.{walked, over_layer, over_operand, over_operands, over_part, type_of_sum as last_of_sum}
 use Rattle.ec_judge.proofs.Walks.{walked_walked}
@@ -15,7 +15,7 @@ use Rattle.ec_rules.specs.Parts.{Part, FactorPart, AddendPart, value_in, values_
 use Rattle.ec_rules.specs.declared.StaticFault.{StaticFault}
 use Rattle.ec_rules.specs.Captures.{Use}
 use Rattle.ec_rules.specs.declared.operands.Wanted.TheVariants as wanted
-use Rattle.ec_scopes.specs.declared.scope.Scope.{Scope}
+use Rattle.ec_types.specs.declared.scopes.scope.Scope.{Scope}
 
 pub same_walked : (w : Walk) (f g : List StaticFault) (u v : List Use) → f ≡ g → u ≡ v → walked w f u ≡ walked w g v
 same_walked w f g u v e h = ap (λ x. walked w x u) e ∙ ap (walked w g) h

@@ -12,7 +12,7 @@ use Rattle.ec_rules.specs.Parts.{AnExpression, Judgement, LinkPart, Part, call, 
 use Rattle.ec_rules.specs.Rules.{is_clean}
 use Rattle.ec_rules.specs.Tree.{part_of, layer_of}
 use Rattle.ec_rules.proofs.Equations.{part_is_layer}
-use Rattle.ec_scopes.specs.declared.scope.Scope.{Scope}
+use Rattle.ec_types.specs.declared.scopes.scope.Scope.{Scope}
 
 pub judged_part : (x : Expression) (needed : Bool) (scope : Scope) → (part_of x).judged needed scope ≡ judged (layer_of x) needed scope
 unfolding expression_part

@@ -6,8 +6,8 @@ use Rattle.ec_ast.specs.declared.Constant.{Constant}
 use Rattle.ec_ast.specs.declared.Name.{Name}
 use Rattle.ec_ast.specs.declared.Program.{Program}
 use Rattle.ec_ast.specs.declared.TypeName.{TypeName}
-use Rattle.ec_conform.specs.Declarations.{declarations_of}
-use Rattle.ec_conform.specs.Table.{IsTable, Table}
+use Rattle.ec_types.specs.Declarations.{declarations_of}
+use Rattle.ec_types.specs.Table.{IsTable, Table}
 use Rattle.ec_judge.specs.Blocks as blocks
 use Rattle.ec_judge.specs.Holders.{over_holder}
 use Rattle.ec_judge.specs.Programs as programs
@@ -38,7 +38,7 @@ use Rattle.ec_rules.specs.declared.judged.Done.{Done}
 use Rattle.ec_rules.specs.declared.judged.Judged.{Judged}
 use Rattle.ec_rules.proofs.Noted.{noted_joined}
 use Rattle.ec_rules.proofs.Order.{first_in_order}
-use Rattle.ec_scopes.specs.declared.scope.Scope.{Scope}
+use Rattle.ec_types.specs.declared.scopes.scope.Scope.{Scope}
 
 -- ---- a constant with an expression
 

@@ -3,18 +3,18 @@ use Rattle.std.proofs.Common.{◌≡◌, ℕ, ◌+◌, ◌<◌, ◌≤◌, List,
 use Rattle.std.proofs.lemmas.List.{append-nil, at_drop_all, at_drop_more}
 use Rattle.ec_ast.specs.declared.Body.{Body}
 use Rattle.ec_ast.specs.declared.Parameter.{Parameter}
-use Rattle.ec_conform.specs.declared.static_type.StaticType.{StaticType}
+use Rattle.ec_types.specs.declared.conform.static_type.StaticType.{StaticType}
 use Rattle.ec_judge.specs.Holders.{holder_of, object_with}
 use Rattle.ec_judge.specs.declared.holders.Heading.{Heading}
 use Rattle.ec_rules.specs.Lists.{each}
 use Rattle.ec_rules.specs.Members.{constant_entry, field_names, field_names_in, fields_in, fields_of, members_of}
 use Rattle.ec_rules.specs.Members.{parameter_entries, result_entries, scope_of, scope_of_names}
 use Rattle.ec_rules.specs.Parts.{MemberPart}
-use Rattle.ec_scopes.specs.declared.entries.Entry.{Entry}
-use Rattle.ec_scopes.specs.declared.object.Object.{Object}
-use Rattle.ec_scopes.specs.declared.scope.Scope.{Scope}
-use Rattle.ec_scopes.specs.Scopes.{declaring, outside, within, written_in}
-use Rattle.ec_scopes.proofs.Scopes.{declaring-declaring, declaring-none, outside-within}
+use Rattle.ec_types.specs.declared.scopes.entries.Entry.{Entry}
+use Rattle.ec_types.specs.declared.scopes.object.Object.{Object}
+use Rattle.ec_types.specs.declared.scopes.scope.Scope.{Scope}
+use Rattle.ec_types.specs.Scopes.{declaring, outside, within, written_in}
+use Rattle.ec_types.proofs.ScopesLemmas.{declaring-declaring, declaring-none, outside-within}
 
 pub declared_none : (scope : Scope) → declaring [] scope ≡ scope
 declared_none scope = declaring-none scope

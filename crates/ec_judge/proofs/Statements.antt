@@ -29,9 +29,9 @@ use Rattle.ec_rules.specs.declared.StaticFault.{StaticFault}
 use Rattle.ec_rules.specs.declared.judged.Done.{Done}
 use Rattle.ec_rules.specs.declared.operands.Wanted.TheVariants as wanted
 use Rattle.ec_rules.proofs.Equations.{statement_is_layer}
-use Rattle.ec_scopes.specs.Scopes.{declaring, is_in_loop}
-use Rattle.ec_scopes.specs.declared.scope.Scope.{Scope}
-use Rattle.ec_scopes.proofs.Scopes.{declaring-none}
+use Rattle.ec_types.specs.Scopes.{declaring, is_in_loop}
+use Rattle.ec_types.specs.declared.scopes.scope.Scope.{Scope}
+use Rattle.ec_types.proofs.ScopesLemmas.{declaring-none}
 
 -- ---- by the layer
 

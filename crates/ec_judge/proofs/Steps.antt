@@ -12,10 +12,10 @@ use Rattle.ec_ast.specs.declared.Name.{Name}
 use Rattle.ec_ast.specs.declared.Span.{Span}
 use Rattle.ec_ast.specs.declared.Statement.{Statement}
 use Rattle.ec_ast.specs.declared.TypeName.{TypeName}
-use Rattle.ec_conform.specs.Types.{known, number_at, vector_of}
-use Rattle.ec_conform.specs.declared.static_type.Plain.TheVariants.{Named}
-use Rattle.ec_conform.specs.declared.static_type.StaticType.TheVariants.{Plain}
-use Rattle.ec_conform.specs.declared.static_type.StaticType.{StaticType}
+use Rattle.ec_types.specs.Types.{known, number_at, vector_of}
+use Rattle.ec_types.specs.declared.conform.static_type.Plain.TheVariants.{Named}
+use Rattle.ec_types.specs.declared.conform.static_type.StaticType.TheVariants.{Plain}
+use Rattle.ec_types.specs.declared.conform.static_type.StaticType.{StaticType}
 use Rattle.ec_judge.specs.Blocks as blocks
 use Rattle.ec_judge.specs.Blocks.{behind, behind_layer, over_part_if}
 use Rattle.ec_judge.specs.Holders as holders
@@ -32,7 +32,7 @@ use Rattle.ec_judge.proofs.Statements.{finished_by_layer, fix_walk, move_walk, r
 use Rattle.ec_judge.proofs.Bodies.{constant_field_walk, variable_field_walk}
 use Rattle.ec_judge.proofs.Walks.{walk_of, walked_walked}
 use Rattle.ec_rules.specs.Assignments.{assigned_form}
-use Rattle.ec_names.specs.Names.{Text}
+use Rattle.ec_types.specs.Names.{Text}
 use Rattle.ec_rules.specs.Captures.{Use, captured, use_of}
 use Rattle.ec_rules.specs.Forms.{Form}
 use Rattle.ec_rules.specs.Heights.{chain_height}
@@ -57,9 +57,9 @@ use Rattle.ec_rules.specs.declared.judged.Judged.{Judged}
 use Rattle.ec_rules.specs.declared.operands.Wanted.TheVariants as wanted
 use Rattle.ec_rules.proofs.Equations.{arm_step}
 use Rattle.ec_rules.proofs.Noted.{noted_joined}
-use Rattle.ec_scopes.specs.Scopes.{declaring, find, in_a_loop, innermost, is_in_loop, looping, written_in}
-use Rattle.ec_scopes.specs.declared.scope.Scope.{Scope}
-use Rattle.ec_scopes.proofs.Scopes.{looping-loop}
+use Rattle.ec_types.specs.Scopes.{declaring, find, in_a_loop, innermost, is_in_loop, looping, written_in}
+use Rattle.ec_types.specs.declared.scopes.scope.Scope.{Scope}
+use Rattle.ec_types.proofs.ScopesLemmas.{looping-loop}
 
 -- ---- what holds of a result, where there is one
 

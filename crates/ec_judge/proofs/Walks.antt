@@ -8,7 +8,7 @@ use Rattle.ec_rules.proofs.Noted.{noted_joined, noted_none}
 use Rattle.ec_rules.specs.declared.StaticFault.{StaticFault}
 use Rattle.ec_rules.specs.declared.faults.Faults.{Faults}
 use Rattle.ec_rules.specs.Captures.{Use}
-use Rattle.ec_scopes.specs.declared.scope.Scope.{Scope}
+use Rattle.ec_types.specs.declared.scopes.scope.Scope.{Scope}
 
 abbrev pub walk_of : Scope → Faults → List Use → Walk
 walk_of scope faults uses = record { scope = scope; faults = faults; uses = uses }

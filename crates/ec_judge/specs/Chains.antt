@@ -18,7 +18,7 @@ use Rattle.ec_rules.specs.Parts.{Part, LinkPart, call, index, value_in, values_i
 use Rattle.ec_rules.specs.Rules.{is_clean}
 use Rattle.ec_rules.specs.declared.StaticFault.{StaticFault}
 use Rattle.ec_rules.specs.declared.judged.Judged.{Judged}
-use Rattle.ec_scopes.specs.declared.scope.Scope.{Scope}
+use Rattle.ec_types.specs.declared.scopes.scope.Scope.{Scope}
 
 -- What stands before a link: the first token of the chain, what is called or indexed, whether no fault is within it, and its
 -- height and tree nodes.

@@ -6,8 +6,8 @@ use Rattle.ec_ast.specs.declared.Member.{Member}
 use Rattle.ec_ast.specs.declared.Name.{Name}
 use Rattle.ec_ast.specs.declared.Parameter.{Parameter}
 use Rattle.ec_ast.specs.declared.TypeName.{TypeName}
-use Rattle.ec_conform.specs.Table.{Table}
-use Rattle.ec_conform.specs.Types.{is_value, number_at}
+use Rattle.ec_types.specs.Table.{Table}
+use Rattle.ec_types.specs.Types.{is_value, number_at}
 use Rattle.ec_judge.specs.Blocks.{wrong_constant}
 use Rattle.ec_judge.specs.declared.walk.Walk.{Walk}
 use Rattle.ec_judge.specs.Walks.{walked, over_finished, in_scope}
@@ -31,10 +31,10 @@ use Rattle.ec_rules.specs.declared.Rule.TheVariants.{AttachedValue}
 use Rattle.ec_rules.specs.declared.StaticFault.{StaticFault}
 use Rattle.ec_rules.specs.declared.judged.Done.{Done}
 use Rattle.ec_rules.specs.declared.judged.Judged.{Judged}
-use Rattle.ec_scopes.specs.declared.entries.Entry.{Entry}
-use Rattle.ec_scopes.specs.declared.object.Object.{Object}
-use Rattle.ec_scopes.specs.declared.scope.Scope.{Scope}
-use Rattle.ec_scopes.specs.Scopes.{in_a_process, written_in}
+use Rattle.ec_types.specs.declared.scopes.entries.Entry.{Entry}
+use Rattle.ec_types.specs.declared.scopes.object.Object.{Object}
+use Rattle.ec_types.specs.declared.scopes.scope.Scope.{Scope}
+use Rattle.ec_types.specs.Scopes.{in_a_process, written_in}
 
 -- a heading with what the body below it is
 abbrev pub holder_with : {B : Type 0} → Heading → B → HolderOf B

@@ -3,7 +3,7 @@ use Rattle.std.specs.Prelude.{List, [], ◌∷◌, ◌++◌, map, Option}
 use Rattle.ec_ast.specs.declared.Name.{Name}
 use Rattle.ec_ast.specs.declared.TypeName.{TypeName}
 use Rattle.ec_ast.specs.declared.Typeobject.{Typeobject}
-use Rattle.ec_conform.specs.Table.{Table}
+use Rattle.ec_types.specs.Table.{Table}
 use Rattle.ec_judge.specs.Blocks.{wrong_constant}
 use Rattle.ec_judge.specs.Walks.{walked}
 use Rattle.ec_judge.specs.declared.walk.Walk.{Walk}
@@ -20,7 +20,7 @@ use Rattle.ec_rules.specs.Parts.{ConstantPart, Holder}
 use Rattle.ec_rules.specs.declared.StaticFault.{StaticFault}
 use Rattle.ec_rules.specs.declared.judged.Done.{Done}
 use Rattle.ec_rules.specs.declared.judged.Judged.{Judged}
-use Rattle.ec_scopes.specs.declared.scope.Scope.{Scope}
+use Rattle.ec_types.specs.declared.scopes.scope.Scope.{Scope}
 
 -- ---- constants, where their values are known
 

@@ -1,7 +1,7 @@
 -- What a walk over a part of a tree finds, and what it leaves behind.
 use Rattle.std.specs.Prelude.{Bool, List, [], ◌∷◌, ◌++◌, Option, Some}
 use Rattle.ec_ast.specs.declared.Span.{Span}
-use Rattle.ec_conform.specs.declared.static_type.StaticType.{StaticType}
+use Rattle.ec_types.specs.declared.conform.static_type.StaticType.{StaticType}
 use Rattle.ec_judge.specs.declared.walk.Looked.{Looked}
 use Rattle.ec_judge.specs.declared.walk.Walk.{Walk}
 use Rattle.ec_rules.specs.Calls.{type_unless}
@@ -17,7 +17,7 @@ use Rattle.ec_rules.specs.Types.{boolean}
 use Rattle.ec_rules.specs.declared.StaticFault.{StaticFault}
 use Rattle.ec_rules.specs.declared.judged.Added.{Added}
 use Rattle.ec_rules.specs.declared.judged.Judged.{Judged}
-use Rattle.ec_scopes.specs.declared.scope.Scope.{Scope}
+use Rattle.ec_types.specs.declared.scopes.scope.Scope.{Scope}
 
 -- ---- what is left behind
 

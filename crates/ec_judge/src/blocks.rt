@@ -16,12 +16,12 @@ ghost use Rattle.ec_rules.specs.Statements as statements;
 ghost use Rattle.ec_rules.specs.declared.Rule.TheVariants.{ExitOutside};
 ghost use Rattle.ec_rules.specs.declared.operands.Wanted.TheVariants as wanted;
 ghost use Rattle.ec_rules.specs.Tree.{arm_of, block_of, part_of, statement_of};
-ghost use Rattle.ec_scopes.specs.Scopes.{declaring, is_in_loop, written_in};
+ghost use Rattle.ec_types.specs.Scopes.{declaring, is_in_loop, written_in};
 
 use crate::expressions::{judge, value};
 use crate::walk::Walk;
 use ec_ast::{Arm, Block, Expression, Name, Span, Statement, TypeName};
-use ec_conform::static_type::StaticType;
+use ec_types::conform::static_type::StaticType;
 use ec_rules::Rule;
 use ec_rules::assignments::is_assignable;
 use ec_rules::faults::Faults;
@@ -30,7 +30,7 @@ use ec_rules::judged::{Done, Judged};
 use ec_rules::measures::{assigned_height, pair_height, plus};
 use ec_rules::names::{known_type, known_type_if, new_local};
 use ec_rules::operands::{Wanted, must_conform, must_conform_if, wants};
-use ec_scopes::{Entry, Scope};
+use ec_types::scopes::{Entry, Scope};
 use sqlite_items::Items;
 use std::alloc::{AllocError, Global};
 

@@ -1,7 +1,7 @@
 //! Expressions.
 ghost use Rattle.std.specs.Prelude.{◌≡◌, ◌++◌, ◌∷◌, IfOk, OnOk, is_some, map, true};
 ghost use Rattle.ec_ast.specs.declared.Expression.TheOpen.{Expression-F};
-ghost use Rattle.ec_conform.specs.Types as types;
+ghost use Rattle.ec_types.specs.Types as types;
 ghost use Rattle.ec_judge.specs.Walks as spec;
 ghost use Rattle.ec_rules.specs.Calls as calls;
 ghost use Rattle.ec_rules.specs.Captures.{use_of};
@@ -15,13 +15,13 @@ ghost use Rattle.ec_rules.specs.Tree.{part_of, factor_of, addend_of, layer_of};
 ghost use Rattle.ec_rules.specs.Types as kinds;
 ghost use Rattle.ec_rules.specs.declared.Rule.TheVariants.{UnknownName, Mismatch};
 ghost use Rattle.ec_rules.specs.declared.operands.Wanted.TheVariants as wanted;
-ghost use Rattle.ec_scopes.specs.Scopes.{find, innermost, written_in};
+ghost use Rattle.ec_types.specs.Scopes.{find, innermost, written_in};
 
 use crate::holders::judge_object;
 use crate::links::{look_head, look_links};
 use crate::walk::{Looked, Walk};
 use ec_ast::{Addend, Comparison, Expression, Factor, Literal, Name, Span, TypeName};
-use ec_conform::static_type::{StaticType, known, vector_of};
+use ec_types::conform::static_type::{StaticType, known, vector_of};
 use ec_rules::Rule;
 use ec_rules::calls::type_of_self;
 use ec_rules::captures::note_use;
@@ -34,7 +34,7 @@ use ec_rules::names::{is_found, known_type, type_place};
 use ec_rules::operands::{
     BOOLEAN, INTEGER, NODE, STRING, Wanted, comparison, fits, result_type, sum, wants, wants_all,
 };
-use ec_scopes::Found;
+use ec_types::scopes::Found;
 use std::alloc::{AllocError, Global};
 
 /// What an expression is found to be, where its value is needed or not. The error is want of memory.

@@ -4,7 +4,7 @@ ghost use Rattle.ec_ast.specs.declared.Expression.TheOpen.{Expression-F};
 ghost use Rattle.ec_ast.specs.declared.ObjectConstructor.{out-ObjectConstructor};
 ghost use Rattle.ec_judge.specs.Holders as holders;
 ghost use Rattle.ec_judge.specs.Walks as spec;
-ghost use Rattle.ec_names.specs.Names.{has_name};
+ghost use Rattle.ec_types.specs.Names.{has_name};
 ghost use Rattle.ec_rules.specs.Attached as attached;
 ghost use Rattle.ec_rules.specs.Captures as captures;
 ghost use Rattle.ec_rules.specs.Forms.{form_seen};
@@ -17,7 +17,7 @@ ghost use Rattle.ec_rules.specs.Rules.{fault_unless, noted};
 ghost use Rattle.ec_rules.specs.Statements as statements;
 ghost use Rattle.ec_rules.specs.Tree.{class_part, member_of, object_of, operation_of, process_of};
 ghost use Rattle.ec_rules.specs.declared.Rule.TheVariants.{Condition};
-ghost use Rattle.ec_scopes.specs.Scopes.{declaring, written_in};
+ghost use Rattle.ec_types.specs.Scopes.{declaring, written_in};
 
 use crate::blocks::{
     conforms_if, constant_conforms, done_if, entry, judge_block, judge_block_if, value_if,
@@ -27,10 +27,10 @@ use crate::walk::{Looked, Walk};
 use ec_ast::{
     Body, Class, Member, Name, ObjectConstructor, Operation, Parameter, ProcessSection, TypeName,
 };
-use ec_conform::TypeTable;
-use ec_conform::operations::{NamedOperation, Operations};
-use ec_conform::static_type::{Plain, StaticType, is_value};
-use ec_names::Names;
+use ec_types::conform::TypeTable;
+use ec_types::conform::operations::{NamedOperation, Operations};
+use ec_types::conform::static_type::{Plain, StaticType, is_value};
+use ec_types::names::Names;
 use ec_rules::Rule;
 use ec_rules::captures::{Uses, captured, use_outside};
 use ec_rules::faults::Faults;
@@ -40,7 +40,7 @@ use ec_rules::measures::{few_parameters, measured_operation, plus};
 use ec_rules::names::{
     distinct, known_operation, known_parameters, known_type, known_type_if, new_type, same_name,
 };
-use ec_scopes::{Entries, Object, Scope};
+use ec_types::scopes::{Entries, Object, Scope};
 use sqlite_items::Items;
 use std::alloc::{AllocError, Global};
 

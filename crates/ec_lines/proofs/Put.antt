@@ -1,8 +1,8 @@
 -- Types of temporaries that are set.
 use Rattle.std.proofs.Common.{◌≡◌, ℕ, zero, suc, ◌<◌, List, [], ◌∷◌, ◌++◌, length, refl, ap, arith}
 use Rattle.std.specs.Prelude.{slice_set}
-use Rattle.ec_conform.specs.declared.static_type.StaticType.{StaticType}
-use Rattle.ec_conform.specs.declared.static_type.StaticType.TheVariants.{Unknown}
+use Rattle.ec_types.specs.declared.conform.static_type.StaticType.{StaticType}
+use Rattle.ec_types.specs.declared.conform.static_type.StaticType.TheVariants.{Unknown}
 use Rattle.ec_lowered.specs.Types.{put_type}
 
 pub put_in : (ts : List StaticType) (i : ℕ) (t : StaticType) → i < length ts → put_type ts i t ≡ slice_set ts i t

@@ -8,7 +8,7 @@ use crate::site::Site;
 use crate::steps::{put_written, variable_type};
 use ec_base::list::Seq;
 use ec_code::code::{Line, Live, Op, Variable};
-use ec_conform::static_type::StaticType;
+use ec_types::conform::static_type::StaticType;
 use ec_liveness::live::live_lists;
 use std::alloc::{AllocError, Global};
 

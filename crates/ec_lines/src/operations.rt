@@ -10,7 +10,7 @@ use crate::lines::lines_of;
 use crate::site::Site;
 use ec_base::list::Seq;
 use ec_code::code::{Op, Operation as Made};
-use ec_conform::static_type::{Plain, StaticType};
+use ec_types::conform::static_type::{Plain, StaticType};
 use ec_core::{Kind, Operation};
 use ec_meaning::source::Program;
 use ec_world::class::ClassNo;

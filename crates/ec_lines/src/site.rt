@@ -1,5 +1,5 @@
 //! What code is part of.
-use ec_conform::static_type::StaticType;
+use ec_types::conform::static_type::StaticType;
 use ec_meaning::source::Program;
 use ec_world::class::ClassNo;
 

@@ -8,7 +8,7 @@ use crate::temporaries::put_type;
 use crate::types::{constant_type, field_type, own_type, type_at};
 use ec_base::list::Seq;
 use ec_code::code::{Op, Operand, Variable};
-use ec_conform::static_type::{Plain, StaticType};
+use ec_types::conform::static_type::{Plain, StaticType};
 use ec_liveness::steps::written;
 use std::alloc::AllocError;
 

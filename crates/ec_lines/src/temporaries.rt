@@ -1,10 +1,10 @@
 //! The types of temporaries.
 ghost use Rattle.std.specs.Prelude.{◌≡◌, ◌≤◌, length, OnOk};
-ghost use Rattle.ec_conform.specs.declared.static_type.StaticType.{StaticType};
+ghost use Rattle.ec_types.specs.declared.conform.static_type.StaticType.{StaticType};
 ghost use Rattle.ec_lowered.specs.Types as spec;
 
 use ec_base::list::Seq;
-use ec_conform::static_type::StaticType;
+use ec_types::conform::static_type::StaticType;
 use std::alloc::AllocError;
 
 /// Sets the type of a temporary. The error is want of memory.

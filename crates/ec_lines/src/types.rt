@@ -6,7 +6,7 @@ ghost use Rattle.ec_lowered.specs.Lowered.{class_declared};
 ghost use Rattle.ec_lowered.specs.Types as spec;
 
 use crate::site::Site;
-use ec_conform::static_type::{Plain, StaticType};
+use ec_types::conform::static_type::{Plain, StaticType};
 use ec_core::Class;
 use ec_world::class::{ClassNo, PlainType, VectorType};
 

@@ -3,7 +3,7 @@ use Rattle.std.proofs.Common.{◌≡◌, ◌≢◌, ℕ, ◌+◌, ◌<◌, List,
 use Rattle.std.specs.Prelude.{IsSome, is_some, slice_get}
 use Rattle.std.proofs.lemmas.Option.{same_Some}
 use Rattle.ec_code.specs.Typing.{kind_of}
-use Rattle.ec_conform.specs.declared.static_type.StaticType.{StaticType}
+use Rattle.ec_types.specs.declared.conform.static_type.StaticType.{StaticType}
 use Rattle.ec_loading.proofs.Keeping.{same_on, same_self, texts_same}
 use Rattle.ec_loading.specs.Fresh.{Defaulted}
 use Rattle.ec_objects.specs.Values.{HasRoom}

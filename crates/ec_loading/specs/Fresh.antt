@@ -2,7 +2,7 @@
 use Rattle.std.specs.Prelude.{◌≡◌, ℕ, ◌+◌, ◌^◌, ◌<◌, ◌≤◌, List, [], length, take, Some, None, slice_get}
 use Rattle.ec_code.specs.Typing.{kind_of}
 use Rattle.ec_code.specs.declared.code.Parts.{Parts}
-use Rattle.ec_conform.specs.declared.static_type.StaticType.{StaticType}
+use Rattle.ec_types.specs.declared.conform.static_type.StaticType.{StaticType}
 use Rattle.ec_world.specs.Held.{Distinct}
 use Rattle.ec_world.specs.Words.{text_bytes}
 use Rattle.ec_world.specs.declared.key.Key.{Key}

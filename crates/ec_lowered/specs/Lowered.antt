@@ -8,8 +8,8 @@ use Rattle.ec_code.specs.declared.code.Operation.{Operation as Made}
 use Rattle.ec_code.specs.declared.code.Parts.{Parts}
 use Rattle.ec_code.specs.declared.code.Variable.{Variable}
 use Rattle.ec_code.specs.Typing.{Declared, DeclaredClass}
-use Rattle.ec_conform.specs.declared.static_type.StaticType.{StaticType}
-use Rattle.ec_conform.specs.Types.{named}
+use Rattle.ec_types.specs.declared.conform.static_type.StaticType.{StaticType}
+use Rattle.ec_types.specs.Types.{named}
 use Rattle.ec_core.specs.declared.Class.{Class}
 use Rattle.ec_core.specs.declared.Core.{Core}
 use Rattle.ec_core.specs.declared.Kind.{Kind}

@@ -7,7 +7,7 @@ ghost use Rattle.ec_world.specs.Agree.{AllTwo};
 
 use ec_base::list::Seq;
 use ec_code::code::{Operation as Made, Parts};
-use ec_conform::static_type::StaticType;
+use ec_types::conform::static_type::StaticType;
 use ec_core::{Constant, Operation};
 use ec_expressions::tables::Tables;
 use ec_lines::operations::{operation_of, program_operation};

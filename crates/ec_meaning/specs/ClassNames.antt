@@ -1,6 +1,6 @@
 -- How the classes of objects are named in reports.
 use Rattle.std.specs.Prelude.{ℕ, zero, suc, ◌+◌, List, [], ◌∷◌, ◌++◌, Option, Some, None, codes, slice_get}
-use Rattle.ec_conform.specs.Table.{Table}
+use Rattle.ec_types.specs.Table.{Table}
 use Rattle.ec_core.specs.declared.Class.{Class}
 use Rattle.ec_meaning.specs.Programs.{Source}
 use Rattle.ec_world.specs.declared.class.ClassNo.{ClassNo}

@@ -1,6 +1,6 @@
 -- The source of a program as the code keeps it.
 use Rattle.std.specs.Prelude.{ℕ, List}
-use Rattle.ec_conform.specs.Table.{Table}
+use Rattle.ec_types.specs.Table.{Table}
 use Rattle.ec_core.specs.declared.Core.{Core}
 use Rattle.ec_meaning.specs.Programs.{Source}
 use Rattle.ec_meaning.specs.declared.source.Program.{Program}

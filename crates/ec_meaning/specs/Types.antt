@@ -1,10 +1,10 @@
 -- The static types of the core, as a world knows them.
 use Rattle.std.specs.Prelude.{ℕ}
-use Rattle.ec_conform.specs.Table.{Table, conforms}
-use Rattle.ec_conform.specs.declared.static_type.Plain.{Plain as PlainStatic}
-use Rattle.ec_conform.specs.declared.static_type.Plain.TheVariants as static
-use Rattle.ec_conform.specs.declared.static_type.StaticType.{StaticType}
-use Rattle.ec_conform.specs.declared.static_type.StaticType.TheVariants.{Plain, Vector, Nil, Unknown}
+use Rattle.ec_types.specs.Table.{Table, conforms}
+use Rattle.ec_types.specs.declared.conform.static_type.Plain.{Plain as PlainStatic}
+use Rattle.ec_types.specs.declared.conform.static_type.Plain.TheVariants as static
+use Rattle.ec_types.specs.declared.conform.static_type.StaticType.{StaticType}
+use Rattle.ec_types.specs.declared.conform.static_type.StaticType.TheVariants.{Plain, Vector, Nil, Unknown}
 use Rattle.ec_world.specs.declared.class.PlainType.{PlainType}
 use Rattle.ec_world.specs.declared.class.PlainType.TheVariants as plain
 use Rattle.ec_world.specs.declared.class.VectorType.{VectorType}

@@ -15,7 +15,7 @@ use crate::steps::lists::{count_of, do_all};
 use crate::todo::Todo;
 use crate::types::kind_of;
 use ec_base::list::Seq;
-use ec_conform::static_type::StaticType;
+use ec_types::conform::static_type::StaticType;
 use ec_core::{Constant, Operation};
 use ec_world::common::Common;
 use ec_world::stop::Stop;

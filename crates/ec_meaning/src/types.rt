@@ -2,8 +2,8 @@
 ghost use Rattle.std.specs.Prelude.{◌≡◌, IfOk};
 ghost use Rattle.ec_meaning.specs.Types as spec;
 
-use ec_conform::TypeTable;
-use ec_conform::static_type::{Plain, StaticType};
+use ec_types::conform::TypeTable;
+use ec_types::conform::static_type::{Plain, StaticType};
 use ec_world::class::{PlainType, VectorType, ViewedAs};
 use ec_world::value::ValueType;
 use std::alloc::AllocError;

@@ -12,7 +12,7 @@ use Rattle.ec_cluster.specs.declared.cluster.Cluster.{Cluster}
 use Rattle.ec_code.specs.Fine.{IsFieldOf}
 use Rattle.ec_code_limits.specs.Limits.{HasFewFields}
 use Rattle.ec_code.specs.Typing.{Declared, DeclaredClass, element_static, fields_if as types_if}
-use Rattle.ec_conform.specs.declared.static_type.StaticType.{StaticType}
+use Rattle.ec_types.specs.declared.conform.static_type.StaticType.{StaticType}
 use Rattle.ec_idle.specs.Idle.{IsPlain}
 use Rattle.ec_monitors.specs.declared.record.Hold.{Hold}
 use Rattle.ec_monitors.specs.declared.record.MonitorRec.{MonitorRec}

@@ -8,7 +8,7 @@ use Rattle.std.specs.Prelude.{FitsSigned, ℤ, pos, negsuc, if◌then◌else◌,
 use Rattle.ec_base.proofs.Lists.{get_there, get_within}
 use Rattle.ec_base.specs.Stack.{top_of}
 use Rattle.ec_code.specs.Typing.{Declared}
-use Rattle.ec_conform.specs.declared.static_type.StaticType.{StaticType}
+use Rattle.ec_types.specs.declared.conform.static_type.StaticType.{StaticType}
 use Rattle.ec_formats.proofs.ListLaws.{all_fit}
 use Rattle.ec_formats.proofs.Steps.{both}
 use Rattle.ec_formats.specs.Fields.{at_least, at_most, integer_fits, number, number_from, truth}

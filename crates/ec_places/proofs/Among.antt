@@ -1,6 +1,6 @@
 -- Types whose names are some of the tokens of a list, in their order.
 use Rattle.std.proofs.Common.{◌≡◌, List, [], ◌∷◌, ◌++◌}
-use Rattle.ec_conform.specs.declared.declared.DeclaredType.{DeclaredType}
+use Rattle.ec_types.specs.declared.conform.declared.DeclaredType.{DeclaredType}
 use Rattle.ec_lexer.specs.declared.token.Token.{Token}
 
 -- The first list goes on to the second one, and the types have their names among the tokens up to there.

@@ -15,13 +15,13 @@ use Rattle.ec_ast.specs.declared.Operation.{Operation, roll-Operation, map-Opera
 use Rattle.ec_ast.specs.declared.ProcessSection.{ProcessSection, roll-ProcessSection, map-ProcessSection, fold-roll-ProcessSection}
 use Rattle.ec_ast.specs.declared.Expression.TheOpen.{Expression-F, Link-F, Member-F, Statement-F, Addend-F, Arm-F, Block-F}
 use Rattle.ec_ast.specs.declared.Expression.TheOpen.{Body-F, Factor-F, ObjectConstructor-F, Operation-F, ProcessSection-F}
-use Rattle.ec_conform.specs.Declarations.{MemberPart, BodyPart, expression_step, link_step, member_step, statement_step}
-use Rattle.ec_conform.specs.Declarations.{addend_step}
-use Rattle.ec_conform.specs.Declarations.{arm_step, block_step, body_step, factor_step, constructor_step, operation_step}
-use Rattle.ec_conform.specs.Declarations.{process_step}
-use Rattle.ec_conform.specs.Declarations.{in_expression, in_link, in_member, in_statement, in_addend, in_arm, in_block, in_body}
-use Rattle.ec_conform.specs.Declarations.{in_factor, in_constructor, in_process}
-use Rattle.ec_conform.specs.declared.declared.Declarations.{Declarations}
+use Rattle.ec_types.specs.Declarations.{MemberPart, BodyPart, expression_step, link_step, member_step, statement_step}
+use Rattle.ec_types.specs.Declarations.{addend_step}
+use Rattle.ec_types.specs.Declarations.{arm_step, block_step, body_step, factor_step, constructor_step, operation_step}
+use Rattle.ec_types.specs.Declarations.{process_step}
+use Rattle.ec_types.specs.Declarations.{in_expression, in_link, in_member, in_statement, in_addend, in_arm, in_block, in_body}
+use Rattle.ec_types.specs.Declarations.{in_factor, in_constructor, in_process}
+use Rattle.ec_types.specs.declared.conform.declared.Declarations.{Declarations}
 
 -- ---- one layer of each kind of part
 

@@ -19,12 +19,12 @@ use Rattle.ec_ast.specs.declared.Span.{Span}
 use Rattle.ec_ast.specs.declared.Statement.{Statement, roll-Statement}
 use Rattle.ec_ast.specs.declared.Statement.TheVariants as statement
 use Rattle.ec_ast.specs.declared.TypeName.{TypeName}
-use Rattle.ec_conform.specs.Declarations.{joined, if_there, within_members, in_expression, in_link, in_member, in_statement}
-use Rattle.ec_conform.specs.Declarations.{in_addend, in_arm}
-use Rattle.ec_conform.specs.Declarations.{in_block, in_body, in_factor, in_constructor, in_process}
-use Rattle.ec_conform.specs.Declarations.{expression_step, link_step, member_step, statement_step, addend_step, arm_step}
-use Rattle.ec_conform.specs.Declarations.{block_step, body_step, factor_step, constructor_step, operation_step, process_step}
-use Rattle.ec_conform.specs.declared.declared.DeclaredType.{DeclaredType}
+use Rattle.ec_types.specs.Declarations.{joined, if_there, within_members, in_expression, in_link, in_member, in_statement}
+use Rattle.ec_types.specs.Declarations.{in_addend, in_arm}
+use Rattle.ec_types.specs.Declarations.{in_block, in_body, in_factor, in_constructor, in_process}
+use Rattle.ec_types.specs.Declarations.{expression_step, link_step, member_step, statement_step, addend_step, arm_step}
+use Rattle.ec_types.specs.Declarations.{block_step, body_step, factor_step, constructor_step, operation_step, process_step}
+use Rattle.ec_types.specs.declared.conform.declared.DeclaredType.{DeclaredType}
 use Rattle.ec_lexer.specs.declared.token.Token.{Token}
 use Rattle.ec_parser.specs.Chains.{or_of, and_of, sum_of, term_of, postfix_of}
 use Rattle.ec_places.proofs.Among.{Among}

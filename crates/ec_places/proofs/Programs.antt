@@ -4,7 +4,7 @@ use Rattle.ec_ast.specs.declared.Class.{Class}
 use Rattle.ec_ast.specs.declared.Constant.{Constant}
 use Rattle.ec_ast.specs.declared.Program.{Program}
 use Rattle.ec_ast.specs.declared.Typeobject.{Typeobject}
-use Rattle.ec_conform.specs.Declarations.{joined, in_class, in_typeobject, in_value, declarations_of}
+use Rattle.ec_types.specs.Declarations.{joined, in_class, in_typeobject, in_value, declarations_of}
 use Rattle.ec_lexer.specs.declared.token.Token.{Token}
 use Rattle.ec_parser.specs.HasTree.{IsClass, IsTypeobj, AreConstants, HasTree, program}
 use Rattle.ec_places.proofs.Among.{Among, arrived, passed, named, and_then, past}

@@ -2,8 +2,8 @@
 use Rattle.std.proofs.Common.{◌≡◌, ℕ, zero, suc, ◌+◌, ◌<◌, ◌≤◌, true, List, [], ◌∷◌, take, Some, refl, ap, arith}
 use Rattle.std.proofs.lemmas.Grind.{common_steps}
 use Rattle.std.specs.Char.{is_ascii_digit}
-use Rattle.ec_conform.specs.Types.{places_of}
-use Rattle.ec_conform.specs.declared.declared.DeclaredType.{DeclaredType}
+use Rattle.ec_types.specs.Types.{places_of}
+use Rattle.ec_types.specs.declared.conform.declared.DeclaredType.{DeclaredType}
 use Rattle.ec_lexer.specs.declared.lexeme.Class.TheVariants as class
 use Rattle.ec_lexer.specs.declared.token.Token.{Token}
 use Rattle.ec_lexer.specs.declared.token.TokenKind.{TokenKind}

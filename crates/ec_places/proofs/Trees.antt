@@ -16,8 +16,8 @@ use Rattle.ec_ast.specs.declared.ObjectConstructor.{ObjectConstructor}
 use Rattle.ec_ast.specs.declared.ProcessSection.{ProcessSection}
 use Rattle.ec_ast.specs.declared.Statement.{Statement}
 use Rattle.ec_ast.specs.declared.Statement.TheVariants as s
-use Rattle.ec_conform.specs.Declarations.{joined, if_there, within_members, in_expression, in_link, in_member, in_statement}
-use Rattle.ec_conform.specs.Declarations.{in_addend, in_arm, in_block, in_body, in_factor, in_constructor, in_process}
+use Rattle.ec_types.specs.Declarations.{joined, if_there, within_members, in_expression, in_link, in_member, in_statement}
+use Rattle.ec_types.specs.Declarations.{in_addend, in_arm, in_block, in_body, in_factor, in_constructor, in_process}
 use Rattle.ec_lexer.specs.declared.token.Token.{Token}
 use Rattle.ec_parser.specs.HasTree.{Ending, IsPrimary, IsPostfix, AreLinks, AreArguments, AreMoreArguments, IsUnary, IsTerm}
 use Rattle.ec_parser.specs.HasTree.{AreFactors}

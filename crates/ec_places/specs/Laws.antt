@@ -1,8 +1,8 @@
 -- What holds of each program of a text.
 use Rattle.std.specs.Prelude.{ℕ, List}
 use Rattle.ec_ast.specs.declared.Program.{Program}
-use Rattle.ec_conform.specs.Declarations.{declarations_of}
-use Rattle.ec_conform.specs.Types.{places_of}
+use Rattle.ec_types.specs.Declarations.{declarations_of}
+use Rattle.ec_types.specs.Types.{places_of}
 use Rattle.ec_lexer.specs.Tokens.{HasTokens}
 use Rattle.ec_lexer.specs.declared.token.Token.{Token}
 use Rattle.ec_parser.specs.HasTree.{HasTree}

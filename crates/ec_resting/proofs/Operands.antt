@@ -13,7 +13,7 @@ use Rattle.ec_code.specs.declared.code.Operation.{Operation}
 use Rattle.ec_code.specs.declared.code.Parts.{Parts}
 use Rattle.ec_code.specs.declared.code.Variable.{Variable}
 use Rattle.ec_code.specs.declared.code.Variable.TheVariants.{Named, Temporary}
-use Rattle.ec_conform.specs.declared.static_type.StaticType.{StaticType}
+use Rattle.ec_types.specs.declared.conform.static_type.StaticType.{StaticType}
 use Rattle.ec_liveness.specs.Live.{stays}
 use Rattle.ec_resting.specs.Laws.{its_entry}
 use Rattle.ec_sound.specs.Sound.{RestsAt, SoundPending}

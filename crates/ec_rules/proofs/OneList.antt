@@ -1,7 +1,7 @@
 -- A program has one list of static faults.
 use Rattle.std.proofs.Common.{◌≡◌, List, ap, sym, ◌∙◌}
 use Rattle.ec_ast.specs.declared.Program.{Program}
-use Rattle.ec_conform.proofs.Tables.{same_table}
+use Rattle.ec_types.proofs.Tables.{same_table}
 use Rattle.ec_rules.specs.declared.StaticFault.{StaticFault}
 use Rattle.ec_rules.specs.Faults.{HasFaults, StaticFaults}
 

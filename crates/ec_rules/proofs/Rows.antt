@@ -10,9 +10,9 @@ use Rattle.ec_ast.specs.declared.Signature.{Signature}
 use Rattle.ec_ast.specs.declared.Expression.TheOpen.{Expression-F, Statement-F}
 use Rattle.ec_ast.specs.declared.TypeName.{TypeName}
 use Rattle.ec_ast.specs.declared.TypeName.TheVariants as of_type
-use Rattle.ec_conform.specs.Table.{Table}
-use Rattle.ec_conform.specs.Types.{firsts_of, names_of, places_of, types_of}
-use Rattle.ec_conform.specs.declared.declared.DeclaredType.{DeclaredType}
+use Rattle.ec_types.specs.Table.{Table}
+use Rattle.ec_types.specs.Types.{firsts_of, names_of, places_of, types_of}
+use Rattle.ec_types.specs.declared.conform.declared.DeclaredType.{DeclaredType}
 use Rattle.ec_rules.specs.declared.Rule.TheVariants as broken
 use Rattle.ec_rules.specs.declared.StaticFault.{StaticFault}
 use Rattle.ec_rules.specs.Faults.{faults_of_constants, scope_of_program}
@@ -26,7 +26,7 @@ use Rattle.ec_rules.specs.Rules.{fault, in_order}
 use Rattle.ec_rules.specs.Statements.{statement_height}
 use Rattle.ec_rules.proofs.Written.{written_any, written_integer, written_named, written_vector, type_names_any}
 use Rattle.ec_rules.proofs.Written.{type_names_integer, type_names_named, type_names_vector}
-use Rattle.ec_scopes.specs.declared.scope.Scope.{Scope}
+use Rattle.ec_types.specs.declared.scopes.scope.Scope.{Scope}
 
 -- ---- parts
 

@@ -5,11 +5,11 @@ use Rattle.ec_ast.specs.declared.Span.{Span}
 use Rattle.ec_ast.specs.declared.TypeName.{TypeName, fold-roll-TypeName}
 use Rattle.ec_ast.specs.declared.TypeName.TheOpen.{TypeName-F}
 use Rattle.ec_ast.specs.declared.TypeName.TheVariants as t
-use Rattle.ec_conform.specs.Types.{type_named, type_of, vector_of, written}
-use Rattle.ec_conform.specs.declared.static_type.Plain.TheVariants.{Any}
-use Rattle.ec_conform.specs.declared.static_type.StaticType.{StaticType}
-use Rattle.ec_conform.specs.declared.static_type.StaticType.TheVariants.{Plain}
-use Rattle.ec_names.specs.Names.{Text}
+use Rattle.ec_types.specs.Types.{type_named, type_of, vector_of, written}
+use Rattle.ec_types.specs.declared.conform.static_type.Plain.TheVariants.{Any}
+use Rattle.ec_types.specs.declared.conform.static_type.StaticType.{StaticType}
+use Rattle.ec_types.specs.declared.conform.static_type.StaticType.TheVariants.{Plain}
+use Rattle.ec_types.specs.Names.{Text}
 use Rattle.ec_rules.specs.Types.{integer, type_names, type_names_step}
 
 -- ---- the type that is written

@@ -6,10 +6,10 @@ use Rattle.ec_rules.specs.declared.StaticFault.{StaticFault}
 use Rattle.ec_rules.specs.Forms.{Form, NameAlone}
 use Rattle.ec_rules.specs.Parts.{AStatement}
 use Rattle.ec_rules.specs.Rules.{fault_unless}
-use Rattle.ec_scopes.specs.declared.scope.Found.{Found}
-use Rattle.ec_scopes.specs.declared.scope.Found.TheVariants.{Held, Constant, Nothing}
-use Rattle.ec_scopes.specs.declared.scope.Scope.{Scope}
-use Rattle.ec_scopes.specs.Scopes.{find}
+use Rattle.ec_types.specs.declared.scopes.scope.Found.{Found}
+use Rattle.ec_types.specs.declared.scopes.scope.Found.TheVariants.{Held, Constant, Nothing}
+use Rattle.ec_types.specs.declared.scopes.scope.Scope.{Scope}
+use Rattle.ec_types.specs.Scopes.{find}
 
 -- A variable of the own operation or object. A name that is that of no value is a fault of another rule.
 abbrev pub is_assignable : Found → Bool

@@ -1,14 +1,14 @@
 -- A field of a value type is attached. The place is the field's name.
 use Rattle.std.specs.Prelude.{Bool, false, ◌&&◌, List, [], Option, Some, None}
-use Rattle.ec_conform.specs.Types.{is_value}
-use Rattle.ec_conform.specs.declared.static_type.StaticType.{StaticType}
+use Rattle.ec_types.specs.Types.{is_value}
+use Rattle.ec_types.specs.declared.conform.static_type.StaticType.{StaticType}
 use Rattle.ec_rules.specs.declared.Rule.TheVariants.{AttachedValue}
 use Rattle.ec_rules.specs.declared.StaticFault.{StaticFault}
 use Rattle.ec_rules.specs.Members.{constant_type}
 use Rattle.ec_rules.specs.Parts.{MemberPart, variable, constant, condition, operation}
 use Rattle.ec_rules.specs.Rules.{fault_if}
-use Rattle.ec_scopes.specs.declared.scope.Scope.{Scope}
-use Rattle.ec_scopes.specs.Scopes.{written_in}
+use Rattle.ec_types.specs.declared.scopes.scope.Scope.{Scope}
+use Rattle.ec_types.specs.Scopes.{written_in}
 
 abbrev pub is_of_value : Option StaticType → Bool
 is_of_value None = false

@@ -4,15 +4,15 @@ use Rattle.std.specs.Prelude.{ℕ, ◌==◌, Bool, true, false, not, ◌&&◌, �
 use Rattle.std.specs.Prelude.{is_some, Option, Some, None, option_and_then}
 use Rattle.ec_ast.specs.declared.Name.{Name}
 use Rattle.ec_ast.specs.declared.Span.{Span}
-use Rattle.ec_conform.specs.Conforms.{operations_at}
-use Rattle.ec_conform.specs.Table.{Table}
-use Rattle.ec_conform.specs.Types.{element_of, known, named, operation_named}
-use Rattle.ec_conform.specs.declared.operations.NamedOperation.{NamedOperation}
-use Rattle.ec_conform.specs.declared.static_type.Plain.{Plain as PlainType}
-use Rattle.ec_conform.specs.declared.static_type.Plain.TheVariants.{Integer, Boolean, String, Any, Node, Named}
-use Rattle.ec_conform.specs.declared.static_type.StaticType.{StaticType}
-use Rattle.ec_conform.specs.declared.static_type.StaticType.TheVariants.{Plain, Vector, Nil, Unknown}
-use Rattle.ec_names.specs.Names.{Text, is_same}
+use Rattle.ec_types.specs.Conforms.{operations_at}
+use Rattle.ec_types.specs.Table.{Table}
+use Rattle.ec_types.specs.Types.{element_of, known, named, operation_named}
+use Rattle.ec_types.specs.declared.conform.operations.NamedOperation.{NamedOperation}
+use Rattle.ec_types.specs.declared.conform.static_type.Plain.{Plain as PlainType}
+use Rattle.ec_types.specs.declared.conform.static_type.Plain.TheVariants.{Integer, Boolean, String, Any, Node, Named}
+use Rattle.ec_types.specs.declared.conform.static_type.StaticType.{StaticType}
+use Rattle.ec_types.specs.declared.conform.static_type.StaticType.TheVariants.{Plain, Vector, Nil, Unknown}
+use Rattle.ec_types.specs.Names.{Text, is_same}
 use Rattle.ec_rules.specs.declared.Rule.TheVariants.{Arity, Mismatch, NoOperation}
 use Rattle.ec_rules.specs.declared.StaticFault.{StaticFault}
 use Rattle.ec_rules.specs.declared.calls.Callee.{Callee as CalleeLent}
@@ -27,10 +27,10 @@ use Rattle.ec_rules.specs.Operands.{wants, must_conform}
 use Rattle.ec_rules.specs.Parts.{Part, LinkPart, call, index, value_in, values_in, faults_in}
 use Rattle.ec_rules.specs.Rules.{fault_if, fault_unless, is_clean}
 use Rattle.ec_rules.specs.Types.{integer, string, fits}
-use Rattle.ec_scopes.specs.declared.globals.ClassMeant.{ClassMeant}
-use Rattle.ec_scopes.specs.declared.object.Object.{Object}
-use Rattle.ec_scopes.specs.declared.scope.Scope.{Scope}
-use Rattle.ec_scopes.specs.Scopes.{class_named, innermost, own_operation}
+use Rattle.ec_types.specs.declared.scopes.globals.ClassMeant.{ClassMeant}
+use Rattle.ec_types.specs.declared.scopes.object.Object.{Object}
+use Rattle.ec_types.specs.declared.scopes.scope.Scope.{Scope}
+use Rattle.ec_types.specs.Scopes.{class_named, innermost, own_operation}
 
 abbrev pub is_word : Name → Text → Bool
 is_word name word = is_same name.text word

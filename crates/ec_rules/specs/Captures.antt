@@ -2,10 +2,10 @@
 -- fields of what surrounds it.
 use Rattle.std.specs.Prelude.{ℕ, zero, suc, ◌==◌, ◌||◌, if◌then◌else◌, List, [], ◌∷◌, ◌++◌}
 use Rattle.ec_ast.specs.declared.Name.{Name}
-use Rattle.ec_names.specs.Names.{Text, has_name}
+use Rattle.ec_types.specs.Names.{Text, has_name}
 use Rattle.ec_rules.specs.declared.captures.Use.{Use as UseLent}
-use Rattle.ec_scopes.specs.declared.scope.Found.{Found}
-use Rattle.ec_scopes.specs.declared.scope.Found.TheVariants.{Held, Constant, Nothing}
+use Rattle.ec_types.specs.declared.scopes.scope.Found.{Found}
+use Rattle.ec_types.specs.declared.scopes.scope.Found.TheVariants.{Held, Constant, Nothing}
 use Rattle.ec_rules.specs.Lists.{each}
 
 -- A name that is used for a parameter, result, local or field of the object so many further out.

@@ -7,8 +7,8 @@ use Rattle.ec_rules.specs.declared.Rule.TheVariants.{Condition}
 use Rattle.ec_rules.specs.declared.StaticFault.{StaticFault}
 use Rattle.ec_rules.specs.Parts.{AStatement, MemberPart, variable, constant, condition, operation}
 use Rattle.ec_rules.specs.Rules.{fault_unless}
-use Rattle.ec_scopes.specs.declared.scope.Scope.{Scope}
-use Rattle.ec_scopes.specs.Scopes.{may_use}
+use Rattle.ec_types.specs.declared.scopes.scope.Scope.{Scope}
+use Rattle.ec_types.specs.Scopes.{may_use}
 
 abbrev pub condition_used : Scope → Name → List StaticFault
 condition_used scope name = fault_unless (may_use scope name.text) Condition name.at

@@ -5,17 +5,17 @@ use Rattle.std.specs.Prelude.{ℕ, ◌==◌, Bool, true, List, [], ◌∷◌, �
 use Rattle.ec_ast.specs.declared.Name.{Name}
 use Rattle.ec_ast.specs.declared.Typeobject.{Typeobject}
 use Rattle.ec_ast.specs.declared.Expression.TheOpen.{Statement-F}
-use Rattle.ec_conform.specs.Table.{Table}
-use Rattle.ec_conform.specs.Types.{number_at}
-use Rattle.ec_names.specs.Names.{Text, first_named, has_name}
+use Rattle.ec_types.specs.Table.{Table}
+use Rattle.ec_types.specs.Types.{number_at}
+use Rattle.ec_types.specs.Names.{Text, first_named, has_name}
 use Rattle.ec_rules.specs.declared.Rule.TheVariants.{DoubledName}
 use Rattle.ec_rules.specs.declared.StaticFault.{StaticFault}
 use Rattle.ec_rules.specs.Lists.{each_of}
 use Rattle.ec_rules.specs.Members.{names_of, parameter_names}
 use Rattle.ec_rules.specs.Parts.{AStatement, OperationPart, Holder}
 use Rattle.ec_rules.specs.Rules.{fault_if, fault_unless}
-use Rattle.ec_scopes.specs.declared.scope.Scope.{Scope}
-use Rattle.ec_scopes.specs.Scopes.{is_local}
+use Rattle.ec_types.specs.declared.scopes.scope.Scope.{Scope}
+use Rattle.ec_types.specs.Scopes.{is_local}
 
 -- each of these names that is one before it, or one of those already taken
 abbrev pub doubled_behind : List Text → List Name → List StaticFault

@@ -3,7 +3,7 @@
 use Rattle.std.specs.Prelude.{List}
 use Rattle.ec_ast.specs.declared.Name.{Name}
 use Rattle.ec_ast.specs.declared.Typeobject.{Typeobject}
-use Rattle.ec_names.specs.Names.{is_same}
+use Rattle.ec_types.specs.Names.{is_same}
 use Rattle.ec_rules.specs.declared.Rule.TheVariants.{EndName}
 use Rattle.ec_rules.specs.declared.StaticFault.{StaticFault}
 use Rattle.ec_rules.specs.Parts.{OperationPart, Holder}

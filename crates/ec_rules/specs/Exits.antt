@@ -5,8 +5,8 @@ use Rattle.ec_rules.specs.declared.Rule.TheVariants.{ExitOutside}
 use Rattle.ec_rules.specs.declared.StaticFault.{StaticFault}
 use Rattle.ec_rules.specs.Parts.{AStatement}
 use Rattle.ec_rules.specs.Rules.{fault_unless}
-use Rattle.ec_scopes.specs.declared.scope.Scope.{Scope}
-use Rattle.ec_scopes.specs.Scopes.{is_in_loop}
+use Rattle.ec_types.specs.declared.scopes.scope.Scope.{Scope}
+use Rattle.ec_types.specs.Scopes.{is_in_loop}
 
 abbrev pub exit_outside : Scope → AStatement → List StaticFault
 exit_outside scope (Statement-F.Exit when at) = fault_unless (is_in_loop scope) ExitOutside at

@@ -6,7 +6,7 @@ use Rattle.ec_rules.specs.Lists.{greatest, plus}
 use Rattle.ec_rules.specs.Parts.{Part, LinkPart, call, index, AnExpression, value_in, values_in}
 use Rattle.ec_rules.specs.Calls.{Receiver, Creation, Own, Typed}
 use Rattle.ec_rules.specs.declared.judged.Judged.{Judged}
-use Rattle.ec_scopes.specs.declared.scope.Scope.{Scope}
+use Rattle.ec_types.specs.declared.scopes.scope.Scope.{Scope}
 
 -- of a pair `a op b`: the greater of a's and 1 + b's
 abbrev pub pair_height : Judged → Judged → ℕ

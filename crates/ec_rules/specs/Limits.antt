@@ -4,8 +4,8 @@ use Rattle.ec_ast.specs.declared.Literal.{Literal}
 use Rattle.ec_ast.specs.declared.Parameter.{Parameter}
 use Rattle.ec_ast.specs.declared.Span.{Span}
 use Rattle.ec_ast.specs.declared.Expression.TheOpen.{Expression-F}
-use Rattle.ec_conform.specs.Table.{Table}
-use Rattle.ec_names.specs.Names.{Text}
+use Rattle.ec_types.specs.Table.{Table}
+use Rattle.ec_types.specs.Names.{Text}
 use Rattle.ec_rules.specs.declared.Rule.TheVariants.{ManyTypes, ManyOperations, ManyFields, ManyParameters, ManyVariables, Size}
 use Rattle.ec_rules.specs.declared.StaticFault.{StaticFault}
 use Rattle.ec_rules.specs.declared.judged.Done.{Done}

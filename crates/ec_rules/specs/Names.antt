@@ -6,18 +6,18 @@ use Rattle.ec_ast.specs.declared.Parameter.{Parameter}
 use Rattle.ec_ast.specs.declared.Signature.{Signature}
 use Rattle.ec_ast.specs.declared.TypeName.{TypeName}
 use Rattle.ec_ast.specs.declared.Expression.TheOpen.{Expression-F, Statement-F}
-use Rattle.ec_conform.specs.Table.{Table}
-use Rattle.ec_names.specs.Names.{has_name}
+use Rattle.ec_types.specs.Table.{Table}
+use Rattle.ec_types.specs.Names.{has_name}
 use Rattle.ec_rules.specs.declared.Rule.TheVariants.{UnknownName}
 use Rattle.ec_rules.specs.declared.StaticFault.{StaticFault}
 use Rattle.ec_rules.specs.Lists.{each, each_of}
 use Rattle.ec_rules.specs.Parts.{AnExpression, AStatement, MemberPart, variable, constant, condition, operation}
 use Rattle.ec_rules.specs.Rules.{fault_unless}
 use Rattle.ec_rules.specs.Types.{type_names}
-use Rattle.ec_scopes.specs.declared.scope.Found.{Found}
-use Rattle.ec_scopes.specs.declared.scope.Found.TheVariants.{Held, Constant, Nothing}
-use Rattle.ec_scopes.specs.declared.scope.Scope.{Scope}
-use Rattle.ec_scopes.specs.Scopes.{find, innermost}
+use Rattle.ec_types.specs.declared.scopes.scope.Found.{Found}
+use Rattle.ec_types.specs.declared.scopes.scope.Found.TheVariants.{Held, Constant, Nothing}
+use Rattle.ec_types.specs.declared.scopes.scope.Scope.{Scope}
+use Rattle.ec_types.specs.Scopes.{find, innermost}
 
 -- ---- names of types
 

@@ -5,7 +5,7 @@ use Rattle.ec_ast.specs.declared.Expression.TheOpen.{Expression-F}
 use Rattle.ec_rules.specs.Lists.{plus, total}
 use Rattle.ec_rules.specs.Parts.{Part, LinkPart, call, index, AnExpression, value_in, values_in}
 use Rattle.ec_rules.specs.declared.judged.Judged.{Judged}
-use Rattle.ec_scopes.specs.declared.scope.Scope.{Scope}
+use Rattle.ec_types.specs.declared.scopes.scope.Scope.{Scope}
 
 abbrev pub nodes_in : Scope → Part → ℕ
 nodes_in scope part = (value_in scope part).nodes

@@ -11,9 +11,9 @@ use Rattle.ec_ast.specs.declared.Name.{Name}
 use Rattle.ec_ast.specs.declared.Span.{Span}
 use Rattle.ec_ast.specs.declared.TypeName.{TypeName}
 use Rattle.ec_ast.specs.declared.Expression.TheOpen.{Expression-F, Statement-F}
-use Rattle.ec_conform.specs.Table.{Table, conforms}
-use Rattle.ec_conform.specs.Types.{is_reference_type, is_same_type, is_value, known}
-use Rattle.ec_conform.specs.declared.static_type.StaticType.{StaticType}
+use Rattle.ec_types.specs.Table.{Table, conforms}
+use Rattle.ec_types.specs.Types.{is_reference_type, is_same_type, is_value, known}
+use Rattle.ec_types.specs.declared.conform.static_type.StaticType.{StaticType}
 use Rattle.ec_rules.specs.declared.Rule.TheVariants.{Mismatch}
 use Rattle.ec_rules.specs.declared.StaticFault.{StaticFault}
 use Rattle.ec_rules.specs.declared.judged.Added.{Added}
@@ -26,8 +26,8 @@ use Rattle.ec_rules.specs.Parts.{Part, AddendPart, MemberPart, variable, constan
 use Rattle.ec_rules.specs.Parts.{value_in, values_in}
 use Rattle.ec_rules.specs.Rules.{fault_unless, is_clean}
 use Rattle.ec_rules.specs.Types.{integer, string, fits, type_place}
-use Rattle.ec_scopes.specs.declared.scope.Scope.{Scope}
-use Rattle.ec_scopes.specs.Scopes.{written_in}
+use Rattle.ec_types.specs.declared.scopes.scope.Scope.{Scope}
+use Rattle.ec_types.specs.Scopes.{written_in}
 
 -- ---- what a place takes
 

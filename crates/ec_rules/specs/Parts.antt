@@ -14,8 +14,8 @@ use Rattle.ec_rules.specs.Forms.{Form}
 use Rattle.ec_rules.specs.declared.judged.Done.{Done}
 use Rattle.ec_rules.specs.declared.judged.Judged.{Judged}
 use Rattle.ec_rules.specs.Captures.{Use}
-use Rattle.ec_scopes.specs.declared.entries.Entry.{Entry}
-use Rattle.ec_scopes.specs.declared.scope.Scope.{Scope}
+use Rattle.ec_types.specs.declared.scopes.entries.Entry.{Entry}
+use Rattle.ec_types.specs.declared.scopes.scope.Scope.{Scope}
 use Rattle.ec_ast.specs.Kinds.{Kinds, ExpressionOf, LinkOf, MemberOf, StatementOf, AddendOf, ArmOf, BlockOf, BodyOf, FactorOf}
 use Rattle.ec_ast.specs.Kinds.{ObjectOf, OperationOf, ProcessOf}
 

@@ -9,8 +9,8 @@ use Rattle.ec_rules.specs.Heights.{pair_height}
 use Rattle.ec_rules.specs.Lists.{greatest, plus, total}
 use Rattle.ec_rules.specs.Operands.{wants}
 use Rattle.ec_rules.specs.Parts.{Part, Piece, Judgement, Finished, ArmPart, AStatement, value_in}
-use Rattle.ec_scopes.specs.declared.scope.Scope.{Scope}
-use Rattle.ec_scopes.specs.Scopes.{in_a_loop}
+use Rattle.ec_types.specs.declared.scopes.scope.Scope.{Scope}
+use Rattle.ec_types.specs.Scopes.{in_a_loop}
 
 -- ---- what stands in a statement
 

@@ -4,10 +4,10 @@ use Rattle.ec_ast.specs.declared.Name.{Name}
 use Rattle.ec_ast.specs.declared.Span.{Span}
 use Rattle.ec_ast.specs.declared.TypeName.{TypeName, fold-TypeName}
 use Rattle.ec_ast.specs.declared.TypeName.TheOpen.{TypeName-F}
-use Rattle.ec_conform.specs.Types.{is_same_type, is_reference_type}
-use Rattle.ec_conform.specs.declared.static_type.Plain.TheVariants.{Integer, Boolean, String, Node}
-use Rattle.ec_conform.specs.declared.static_type.StaticType.{StaticType}
-use Rattle.ec_conform.specs.declared.static_type.StaticType.TheVariants.{Plain, Vector, Nil, Unknown}
+use Rattle.ec_types.specs.Types.{is_same_type, is_reference_type}
+use Rattle.ec_types.specs.declared.conform.static_type.Plain.TheVariants.{Integer, Boolean, String, Node}
+use Rattle.ec_types.specs.declared.conform.static_type.StaticType.{StaticType}
+use Rattle.ec_types.specs.declared.conform.static_type.StaticType.TheVariants.{Plain, Vector, Nil, Unknown}
 use Rattle.ec_rules.specs.declared.operands.Wanted.{Wanted}
 use Rattle.ec_rules.specs.declared.operands.Wanted.TheVariants as wanted
 

@@ -2,7 +2,7 @@
 ghost use Rattle.std.specs.Prelude.{◌≡◌};
 ghost use Rattle.ec_rules.specs.Assignments as spec;
 
-use ec_scopes::Found;
+use ec_types::scopes::Found;
 
 /// Whether a name is that of a variable of the own operation or object. A name of no value is a fault of another rule.
 pub fn is_assignable(found: Found) -> bool

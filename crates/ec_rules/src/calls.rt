@@ -3,18 +3,18 @@ ghost use Rattle.std.specs.Prelude.{◌≡◌, Some, IfOk};
 ghost use Rattle.std.specs.Option.{option_copied};
 ghost use Rattle.ec_rules.specs.Calls as spec;
 ghost use Rattle.ec_rules.specs.Rules.{noted};
-ghost use Rattle.ec_scopes.specs.Scopes.{innermost};
+ghost use Rattle.ec_types.specs.Scopes.{innermost};
 
 use crate::Rule;
 use crate::faults::Faults;
 use crate::judged::Judged;
 use crate::operands::{INTEGER, STRING, Wanted, fits, must_conform, wants};
 use ec_ast::{Name, Span};
-use ec_conform::TypeTable;
-use ec_conform::operations::NamedOperation;
-use ec_conform::static_type::{Plain, StaticType, element_of, known};
-use ec_names::is_same;
-use ec_scopes::{ClassMeant, Scope};
+use ec_types::conform::TypeTable;
+use ec_types::conform::operations::NamedOperation;
+use ec_types::conform::static_type::{Plain, StaticType, element_of, known};
+use ec_types::names::is_same;
+use ec_types::scopes::{ClassMeant, Scope};
 use std::alloc::AllocError;
 
 /// What stands before a call or an index.

@@ -3,8 +3,8 @@ ghost use Rattle.std.specs.Prelude.{◌≡◌, ◌++◌, [], ◌∷◌, map, IfO
 ghost use Rattle.ec_rules.specs.Captures as spec;
 
 use ec_ast::Name;
-use ec_names::Names;
-use ec_scopes::Found;
+use ec_types::names::Names;
+use ec_types::scopes::Found;
 use std::alloc::{AllocError, Global};
 use std::marker::Model;
 

@@ -1,18 +1,18 @@
 //! The form of an expression, as far as what stands around it asks for it.
 ghost use Rattle.std.specs.Prelude.{◌≡◌, [], ◌∷◌, IfOk, map};
-ghost use Rattle.ec_conform.specs.Types.{vector_of};
+ghost use Rattle.ec_types.specs.Types.{vector_of};
 ghost use Rattle.ec_rules.specs.Calls as calls;
 ghost use Rattle.ec_rules.specs.Forms.{Created, form_seen};
 ghost use Rattle.ec_rules.specs.Judging as spec;
 ghost use Rattle.ec_rules.specs.Members as members;
 ghost use Rattle.ec_rules.specs.Tree.{part_of, link_of};
-ghost use Rattle.ec_scopes.specs.Scopes.{written_in};
+ghost use Rattle.ec_types.specs.Scopes.{written_in};
 
 use crate::calls::is_word;
 use crate::operands::{BOOLEAN, INTEGER, STRING};
 use ec_ast::{Expression, Link, Name, Span, TypeName};
-use ec_conform::static_type::{Plain, StaticType, vector_of};
-use ec_scopes::Scope;
+use ec_types::conform::static_type::{Plain, StaticType, vector_of};
+use ec_types::scopes::Scope;
 use std::alloc::AllocError;
 
 /// The form of an expression.

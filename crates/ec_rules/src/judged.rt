@@ -1,7 +1,7 @@
 //! What the checker finds of a part of a program.
 
 use ec_ast::{Additive, Span};
-use ec_conform::static_type::StaticType;
+use ec_types::conform::static_type::StaticType;
 
 /// What an expression is found to be.
 #[derive(Clone, Copy, PartialEq, Eq, Debug)]

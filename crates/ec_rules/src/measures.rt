@@ -13,7 +13,7 @@ use crate::faults::Faults;
 use crate::form::Form;
 use crate::judged::{Done, Judged};
 use ec_ast::{Literal, Parameter, Span};
-use ec_conform::TypeTable;
+use ec_types::conform::TypeTable;
 
 /// A sum of counts, which stands still at 2^64 - 1.
 pub fn plus(a: usize, b: usize) -> usize

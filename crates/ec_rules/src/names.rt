@@ -12,9 +12,9 @@ use crate::Rule;
 use crate::faults::Faults;
 use crate::measures::few_types;
 use ec_ast::{Name, Parameter, Signature, Span, TypeName};
-use ec_conform::TypeTable;
-use ec_names::{Names, is_same};
-use ec_scopes::{Found, Scope};
+use ec_types::conform::TypeTable;
+use ec_types::names::{Names, is_same};
+use ec_types::scopes::{Found, Scope};
 use std::alloc::{AllocError, Global};
 
 /// The first word of a type.

@@ -12,18 +12,18 @@ use Rattle.ec_code.specs.declared.code.Operation.{Operation}
 use Rattle.ec_code.specs.declared.code.Parts.{Parts}
 use Rattle.ec_code.specs.Fine.{Fine, FineInvoke, FineNew, FitAll, IsFieldOf, IsIn, IsNameOf, OwnCall, number_if}
 use Rattle.ec_code.specs.Typing.{Declared, DeclaredClass, class_type, fields_if as class_fields, type_if}
-use Rattle.ec_conform.specs.Conforms.{Conforms, IsClosed, Relation, conforms_in, has_operation, has_operations, is_none, most_types}
-use Rattle.ec_conform.specs.Conforms.{operations_at}
-use Rattle.ec_conform.specs.Conforms.{operations_in}
-use Rattle.ec_conform.specs.Conforms.{parameters_fit, results_fit, stands_for}
-use Rattle.ec_conform.specs.Types.{named}
-use Rattle.ec_conform.specs.declared.named_type.NamedType.{NamedType}
-use Rattle.ec_conform.specs.declared.operations.NamedOperation.{NamedOperation}
-use Rattle.ec_conform.specs.declared.static_type.Plain.TheVariants as static
-use Rattle.ec_conform.specs.declared.static_type.StaticType.{StaticType}
-use Rattle.ec_conform.specs.declared.static_type.StaticType.TheVariants as type
-use Rattle.ec_conformity.specs.Known.{IsOfProgram, IsOperationOfProgram, NoneUnknown}
-use Rattle.ec_names.specs.Names.{Text, first_from, is_same as is_same_name}
+use Rattle.ec_types.specs.Conforms.{Conforms, IsClosed, Relation, conforms_in, has_operation, has_operations, is_none, most_types}
+use Rattle.ec_types.specs.Conforms.{operations_at}
+use Rattle.ec_types.specs.Conforms.{operations_in}
+use Rattle.ec_types.specs.Conforms.{parameters_fit, results_fit, stands_for}
+use Rattle.ec_types.specs.Types.{named}
+use Rattle.ec_types.specs.declared.conform.named_type.NamedType.{NamedType}
+use Rattle.ec_types.specs.declared.conform.operations.NamedOperation.{NamedOperation}
+use Rattle.ec_types.specs.declared.conform.static_type.Plain.TheVariants as static
+use Rattle.ec_types.specs.declared.conform.static_type.StaticType.{StaticType}
+use Rattle.ec_types.specs.declared.conform.static_type.StaticType.TheVariants as type
+use Rattle.ec_types.specs.Known.{IsOfProgram, IsOperationOfProgram, NoneUnknown}
+use Rattle.ec_types.specs.Names.{Text, first_from, is_same as is_same_name}
 use Rattle.ec_world.specs.Agree.{AllTwo}
 use Rattle.ec_world.specs.Doings.{Asked, called, invoke_asks, new_asks}
 use Rattle.ec_world.specs.Objects.{class_at, operation_in}

@@ -13,7 +13,7 @@ use Rattle.ec_code.specs.declared.code.Parts.{Parts}
 use Rattle.ec_code.specs.declared.code.Variable.{Variable}
 use Rattle.ec_code.specs.Fine.{GoesOn as IfGoesOn, IsGiven}
 use Rattle.ec_code.specs.Typing.{Declared, class_type, element_static, field_types}
-use Rattle.ec_conform.specs.declared.static_type.StaticType.{StaticType}
+use Rattle.ec_types.specs.declared.conform.static_type.StaticType.{StaticType}
 use Rattle.ec_world.specs.Agree.{AllTwo}
 use Rattle.ec_world.specs.Objects.{object_at, changed_if, changed_object}
 use Rattle.ec_world.specs.Sights.{class_of}

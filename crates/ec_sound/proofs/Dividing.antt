@@ -11,10 +11,10 @@ use Rattle.ec_code.specs.declared.code.Variable.{Variable}
 use Rattle.ec_code.specs.declared.code.Variable.TheVariants.{Named, Temporary}
 use Rattle.ec_code.specs.Fine.{Fine, FineCode, FineNumbers, FineOperation, FineRow, Has, IsGiven, live_at}
 use Rattle.ec_code.specs.Typing.{integer, string}
-use Rattle.ec_conform.specs.declared.named_type.NamedType.{NamedType}
-use Rattle.ec_conform.specs.declared.static_type.StaticType.{StaticType}
-use Rattle.ec_conformity.specs.Fits.{Fits}
-use Rattle.ec_conformity.specs.Known.{IsOperationOfProgram}
+use Rattle.ec_types.specs.declared.conform.named_type.NamedType.{NamedType}
+use Rattle.ec_types.specs.declared.conform.static_type.StaticType.{StaticType}
+use Rattle.ec_types.specs.Fits.{Fits}
+use Rattle.ec_types.specs.Known.{IsOperationOfProgram}
 use Rattle.std.specs.List.{All}
 use Rattle.ec_world.specs.declared.process.Cause.TheVariants as cause
 use Rattle.ec_world.specs.declared.stop.Stop.TheVariants as stop

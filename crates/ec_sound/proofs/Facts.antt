@@ -13,7 +13,7 @@ use Rattle.ec_code.specs.declared.code.Parts.{Parts}
 use Rattle.ec_code.specs.declared.code.Variable.{Variable}
 use Rattle.ec_code.specs.Fine.{Begins, Fine, IsTaken}
 use Rattle.ec_code.specs.Typing.{Declared}
-use Rattle.ec_conform.specs.declared.static_type.StaticType.{StaticType}
+use Rattle.ec_types.specs.declared.conform.static_type.StaticType.{StaticType}
 use Rattle.ec_world.specs.Outcomes.{Acted}
 use Rattle.ec_world.specs.World.{outcome_at, stack_at}
 use Rattle.ec_world.specs.declared.class.ClassNo.{ClassNo}

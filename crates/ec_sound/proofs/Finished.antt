@@ -15,8 +15,8 @@ use Rattle.ec_code.specs.declared.code.Variable.TheVariants.{Named, Temporary}
 use Rattle.ec_code.specs.Fine.{Behind, Fine, FineOperation, Has, IsGiven, IsTaken, divisor_at, live_at, live_if}
 use Rattle.ec_code.specs.Steps.{with_itself}
 use Rattle.ec_code.specs.Typing.{Declared}
-use Rattle.ec_conform.specs.declared.static_type.StaticType.{StaticType}
-use Rattle.ec_conformity.specs.Fits.{Fits}
+use Rattle.ec_types.specs.declared.conform.static_type.StaticType.{StaticType}
+use Rattle.ec_types.specs.Fits.{Fits}
 use Rattle.ec_world.specs.Agree.{AllTwo}
 use Rattle.ec_world.specs.declared.object.ObjectRec.{ObjectRec}
 use Rattle.ec_world.specs.declared.value.Value.{Value}

@@ -18,8 +18,8 @@ use Rattle.ec_code.specs.Fine.Comparable.{numbers, truths, texts, references}
 use Rattle.ec_code.specs.Steps.{Machine, variable_at, operand_at, put, with_variable, computed, on_numbers, on_two, truth_in, tested}
 use Rattle.ec_code.specs.Steps.{variables_at, with_others, and_others}
 use Rattle.ec_code.specs.Typing.{Declared, integer, boolean, string, any}
-use Rattle.ec_conform.specs.declared.static_type.StaticType.{StaticType}
-use Rattle.ec_conform.specs.declared.static_type.StaticType.TheVariants as type
+use Rattle.ec_types.specs.declared.conform.static_type.StaticType.{StaticType}
+use Rattle.ec_types.specs.declared.conform.static_type.StaticType.TheVariants as type
 use Rattle.ec_world.specs.Same.{are_same, is_same_number, is_same_truth, is_same_text, is_zero}
 use Rattle.ec_world.specs.Agree.{AllTwo}
 use Rattle.ec_world.specs.declared.object.ObjectRec.{ObjectRec}

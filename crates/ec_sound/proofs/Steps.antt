@@ -25,8 +25,8 @@ use Rattle.ec_code.specs.Steps.{rests}
 use Rattle.ec_code.specs.Steps.{stores, tested, variable_at, variables_at, with_field, with_itself, with_variable, on_two, on_numbers}
 use Rattle.ec_code.specs.Steps.{computed, operand_at}
 use Rattle.ec_code.specs.Typing.{Declared, boolean, class_type, field_types, integer, string}
-use Rattle.ec_conform.specs.declared.static_type.StaticType.{StaticType}
-use Rattle.ec_conformity.specs.Fits.{Fits}
+use Rattle.ec_types.specs.declared.conform.static_type.StaticType.{StaticType}
+use Rattle.ec_types.specs.Fits.{Fits}
 use Rattle.ec_world.specs.Same.{is_same_truth}
 use Rattle.ec_world.specs.Agree.{AllTwo}
 use Rattle.ec_world.specs.Objects.{object_at, changed_object}

@@ -5,9 +5,9 @@ use Rattle.ec_code.specs.declared.code.Parts.{Parts}
 use Rattle.ec_code.specs.Fine.{Fine, FineGet, FineOwn, FineSet, FineSize, FineStop, FineStopIf, FineText, FitAll, GoesOn as IfGoesOn}
 use Rattle.ec_code.specs.Steps.{with_itself}
 use Rattle.ec_code.specs.Typing.{Declared, any, boolean, integer, string}
-use Rattle.ec_conform.specs.Types.{element_from}
-use Rattle.ec_conform.specs.declared.static_type.StaticType.{StaticType}
-use Rattle.ec_conform.specs.declared.static_type.StaticType.TheVariants as type
+use Rattle.ec_types.specs.Types.{element_from}
+use Rattle.ec_types.specs.declared.conform.static_type.StaticType.{StaticType}
+use Rattle.ec_types.specs.declared.conform.static_type.StaticType.TheVariants as type
 use Rattle.ec_monitors.specs.declared.record.MonitorRec.{MonitorRec}
 use Rattle.ec_monitors.specs.Monitors.{Granting, left}
 use Rattle.ec_world.specs.Agree.{AllTwo}

@@ -6,17 +6,17 @@ use Rattle.ec_code.specs.declared.code.Parts.{Parts}
 use Rattle.ec_code.specs.Fine.{Fine, FitAll}
 use Rattle.ec_code.specs.Typing.{Declared, DeclaredClass, integer, boolean, string, any, node, plain_static, element_static, kind_of}
 use Rattle.ec_code.specs.Typing.{type_if, class_type, vector_static}
-use Rattle.ec_conform.specs.Conforms.{Relation, asks_nothing, IsClosed, conforms_in, plain_conforms, Conforms}
-use Rattle.ec_conform.specs.Types.{named, is_same, is_reference, is_reference_type, element_from}
-use Rattle.ec_conform.specs.declared.named_type.NamedType.{NamedType}
-use Rattle.ec_conform.specs.declared.static_type.Plain.{Plain as PlainStatic}
-use Rattle.ec_conform.specs.declared.static_type.Plain.TheVariants as static
-use Rattle.ec_conform.specs.declared.static_type.StaticType.{StaticType}
-use Rattle.ec_conform.specs.declared.static_type.StaticType.TheVariants as type
-use Rattle.ec_conformity.proofs.Composes.{composes}
-use Rattle.ec_conformity.proofs.Itself.{conforms_to_itself}
-use Rattle.ec_conformity.specs.Fits.{Fits}
-use Rattle.ec_conformity.specs.Known.{IsOfProgram, IsPlainOfProgram}
+use Rattle.ec_types.specs.Conforms.{Relation, asks_nothing, IsClosed, conforms_in, plain_conforms, Conforms}
+use Rattle.ec_types.specs.Types.{named, is_same, is_reference, is_reference_type, element_from}
+use Rattle.ec_types.specs.declared.conform.named_type.NamedType.{NamedType}
+use Rattle.ec_types.specs.declared.conform.static_type.Plain.{Plain as PlainStatic}
+use Rattle.ec_types.specs.declared.conform.static_type.Plain.TheVariants as static
+use Rattle.ec_types.specs.declared.conform.static_type.StaticType.{StaticType}
+use Rattle.ec_types.specs.declared.conform.static_type.StaticType.TheVariants as type
+use Rattle.ec_types.proofs.Composes.{composes}
+use Rattle.ec_types.proofs.Itself.{conforms_to_itself}
+use Rattle.ec_types.specs.Fits.{Fits}
+use Rattle.ec_types.specs.Known.{IsOfProgram, IsPlainOfProgram}
 use Rattle.ec_world.specs.Agree.{AllTwo}
 use Rattle.ec_world.specs.Objects.{plain_kind as world_kind, kind_from, element_kind}
 use Rattle.ec_world.specs.Values.{default_of}

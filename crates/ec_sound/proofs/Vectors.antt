@@ -8,14 +8,14 @@ use Rattle.ec_code.specs.declared.code.Operation.{Operation}
 use Rattle.ec_code.specs.declared.code.Parts.{Parts}
 use Rattle.ec_code.specs.Fine.{Fine}
 use Rattle.ec_code.specs.Typing.{Declared, DeclaredClass, class_type, element_static, integer, plain_static, type_if, vector_static}
-use Rattle.ec_conform.specs.Conforms.{Conforms}
-use Rattle.ec_conform.specs.Types.{element_from, is_same}
-use Rattle.ec_conform.specs.declared.named_type.NamedType.{NamedType}
-use Rattle.ec_conform.specs.declared.static_type.Plain.{Plain as PlainStatic}
-use Rattle.ec_conform.specs.declared.static_type.Plain.TheVariants as static
-use Rattle.ec_conform.specs.declared.static_type.StaticType.{StaticType}
-use Rattle.ec_conform.specs.declared.static_type.StaticType.TheVariants as type
-use Rattle.ec_conformity.specs.Known.{IsOfProgram}
+use Rattle.ec_types.specs.Conforms.{Conforms}
+use Rattle.ec_types.specs.Types.{element_from, is_same}
+use Rattle.ec_types.specs.declared.conform.named_type.NamedType.{NamedType}
+use Rattle.ec_types.specs.declared.conform.static_type.Plain.{Plain as PlainStatic}
+use Rattle.ec_types.specs.declared.conform.static_type.Plain.TheVariants as static
+use Rattle.ec_types.specs.declared.conform.static_type.StaticType.{StaticType}
+use Rattle.ec_types.specs.declared.conform.static_type.StaticType.TheVariants as type
+use Rattle.ec_types.specs.Known.{IsOfProgram}
 use Rattle.ec_world.specs.Agree.{AllTwo}
 use Rattle.ec_world.specs.Doings.{Asked, breaks, element_at, element_or, get_asks, largest, of_vector, one, set_asks, set_at, size_asks}
 use Rattle.ec_world.specs.Doings.{size_or}

@@ -5,10 +5,10 @@ use Rattle.ec_code.specs.declared.code.Operation.{Operation}
 use Rattle.ec_code.specs.declared.code.Parts.{Parts}
 use Rattle.ec_code.specs.Fine.{Fine, FineView}
 use Rattle.ec_code.specs.Typing.{Declared, DeclaredClass, any, class_type, node, plain_static, type_if, vector_static, viewed}
-use Rattle.ec_conform.specs.Conforms.{Conforms}
-use Rattle.ec_conform.specs.Types.{is_same, named}
-use Rattle.ec_conform.specs.declared.static_type.StaticType.{StaticType}
-use Rattle.ec_conformity.specs.Known.{IsOfProgram}
+use Rattle.ec_types.specs.Conforms.{Conforms}
+use Rattle.ec_types.specs.Types.{is_same, named}
+use Rattle.ec_types.specs.declared.conform.static_type.StaticType.{StaticType}
+use Rattle.ec_types.specs.Known.{IsOfProgram}
 use Rattle.ec_world.specs.Agree.{AllTwo}
 use Rattle.ec_world.specs.Doings.{Asked, breaks, gives, one, view_asks, view_of}
 use Rattle.ec_world.specs.Objects.{class_conforms, conforms, is_same_plain, true_at}

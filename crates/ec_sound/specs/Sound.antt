@@ -16,8 +16,8 @@ use Rattle.ec_code.specs.declared.code.Variable.{Variable}
 use Rattle.ec_code.specs.Fine.{Begins, FineRow, GoesOn as IfGoesOn, Has, IsGiven, IsTaken, divisor_at, live_at}
 use Rattle.ec_code.specs.Steps.{with_itself}
 use Rattle.ec_code.specs.Typing.{Declared, element_static, field_types}
-use Rattle.ec_conform.specs.declared.static_type.StaticType.{StaticType}
-use Rattle.ec_conformity.specs.Fits.{Fits}
+use Rattle.ec_types.specs.declared.conform.static_type.StaticType.{StaticType}
+use Rattle.ec_types.specs.Fits.{Fits}
 use Rattle.ec_world.specs.Waiting.{AreBlocked}
 use Rattle.ec_world.specs.Agree.{AllTwo}
 use Rattle.ec_world.specs.Outcomes.{Acted, Done}

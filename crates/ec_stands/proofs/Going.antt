@@ -10,7 +10,7 @@ use Rattle.ec_code.specs.declared.activation.CodeActivation.{CodeActivation}
 use Rattle.ec_code.specs.declared.code.Parts.{Parts}
 use Rattle.ec_code.specs.declared.code.Variable.{Variable}
 use Rattle.ec_code.specs.declared.code.Variable.TheVariants as variable
-use Rattle.ec_conform.specs.declared.static_type.StaticType.{StaticType}
+use Rattle.ec_types.specs.declared.conform.static_type.StaticType.{StaticType}
 use Rattle.ec_meaning.specs.Activations as source
 use Rattle.ec_meaning.specs.Meaning as meaning
 use Rattle.ec_meaning.specs.Meaning.{Reached, items_behind, settle, source_silent, state_behind}

@@ -12,7 +12,7 @@ use Rattle.ec_code.specs.declared.code.Op.TheVariants as op
 use Rattle.ec_code.specs.declared.code.Operand.{Operand}
 use Rattle.ec_code.specs.declared.code.StopRow.{StopRow}
 use Rattle.ec_code.specs.declared.code.Variable.TheVariants as variable
-use Rattle.ec_conform.specs.declared.static_type.StaticType.{StaticType}
+use Rattle.ec_types.specs.declared.conform.static_type.StaticType.{StaticType}
 use Rattle.ec_core.specs.declared.Block.{Block}
 use Rattle.ec_meaning.proofs.Settling.{one_step, from_after}
 use Rattle.ec_meaning.specs.Meaning.{Reached, reached, settle}

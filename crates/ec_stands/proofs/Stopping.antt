@@ -7,7 +7,7 @@ use Rattle.ec_base.specs.Stack.{below_of}
 use Rattle.ec_code.specs.Steps as code_steps
 use Rattle.ec_code.specs.Steps.{Machine, and_others}
 use Rattle.ec_code.specs.declared.code.Op.TheVariants as op
-use Rattle.ec_conform.specs.declared.static_type.StaticType.{StaticType}
+use Rattle.ec_types.specs.declared.conform.static_type.StaticType.{StaticType}
 use Rattle.ec_core.specs.declared.Block.{Block}
 use Rattle.ec_meaning.specs.Steps.{Rests, NoCase, block_items, holding, rest_at, returned, step}
 use Rattle.ec_meaning.specs.declared.item.Item.{Item}

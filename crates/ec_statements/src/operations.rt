@@ -9,7 +9,7 @@ use crate::blocks::block;
 use crate::statements::{leave, reset};
 use ec_base::list::Seq;
 use ec_code::code::Op;
-use ec_conform::static_type::StaticType;
+use ec_types::conform::static_type::StaticType;
 use ec_core::{Constant, Operation};
 use ec_expressions::backward::Backward;
 use ec_expressions::emitter::Emitter;

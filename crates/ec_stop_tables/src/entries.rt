@@ -9,7 +9,7 @@ ghost use Rattle.ec_stop_tables.specs.Entries as spec;
 use crate::table::StopEntry;
 use ec_base::list::Seq;
 use ec_code::code::{Line, Live, Op, StopRow, Variable};
-use ec_conform::static_type::StaticType;
+use ec_types::conform::static_type::StaticType;
 use ec_liveness::steps::is_same;
 use ec_world::stop::Stop;
 use std::alloc::{AllocError, Global};

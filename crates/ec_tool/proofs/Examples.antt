@@ -26,7 +26,7 @@ use Rattle.ec_ast.specs.declared.Statement.{Statement}
 use Rattle.ec_ast.specs.declared.Statement.TheVariants as statement
 use Rattle.ec_ast.specs.declared.Expression.{Expression}
 use Rattle.ec_ast.specs.declared.Expression.TheVariants as expression
-use Rattle.ec_conform.specs.Table.{Table}
+use Rattle.ec_types.specs.Table.{Table}
 use Rattle.ec_meaning.specs.Programs.{Source}
 use Rattle.ec_parser.specs.Chains.{or_of, and_of, sum_of, term_of, postfix_of}
 use Rattle.ec_parser.specs.HasTree as grammar

@@ -21,7 +21,7 @@ use crate::todo::Todo;
 use crate::types::{vector_type, viewed_as};
 use ec_ast::{Comparison, Text};
 use ec_base::list::Seq;
-use ec_conform::static_type::StaticType;
+use ec_types::conform::static_type::StaticType;
 use ec_core::{Addend, At, Compared, Expression, Factor, Link, Place};
 use ec_world::stop::{Order, Stop};
 use ec_world::value::Value;

@@ -15,10 +15,10 @@ use Rattle.ec_check.specs.Places.{place_of}
 use Rattle.ec_check.specs.Resolving as spec
 use Rattle.ec_check.specs.Resolving.{addend_core, all_made, cores_of, factor_core}
 use Rattle.ec_check.specs.Tree.{addend_of, factor_of, object_of, part_of, parts}
-use Rattle.ec_conform.specs.Types.{vector_of}
+use Rattle.ec_types.specs.Types.{vector_of}
 use Rattle.ec_core.specs.declared.Expression.TheVariants as e
 use Rattle.ec_rules.specs.Calls.{receiver_seen}
-use Rattle.ec_scopes.specs.Scopes.{written_in}
+use Rattle.ec_types.specs.Scopes.{written_in}
 use Rattle.ec_check.proofs.+core.Goals as goal
 
 pub resolve-returns-in-Number-clause-core : goal.expressions::resolve-returns-in-Number-clause-core

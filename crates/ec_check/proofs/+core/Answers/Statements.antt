@@ -19,7 +19,7 @@ use Rattle.ec_rules.specs.Forms.{form_seen}
 use Rattle.ec_rules.specs.Members as members
 use Rattle.ec_rules.specs.Members.{constant_entry}
 use Rattle.ec_rules.specs.Parts as judged
-use Rattle.ec_scopes.specs.Scopes.{written_in}
+use Rattle.ec_types.specs.Scopes.{written_in}
 use Rattle.ec_check.proofs.+core.Goals as goal
 
 pub resolve_statement-returns-in-LocalVariable-clause-core : goal.statements::resolve_statement-returns-in-LocalVariable-clause-core

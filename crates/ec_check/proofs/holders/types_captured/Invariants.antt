@@ -1,6 +1,6 @@
 use Rattle.std.proofs.Common.{◌≡◌, ◌++◌, drop, map}
 use Rattle.ec_check.specs.Places.{type_found}
-use Rattle.ec_scopes.specs.Scopes.{find}
+use Rattle.ec_types.specs.Scopes.{find}
 use Rattle.ec_check.proofs.holders.types_captured.Given as goal
 
 abbrev pub invariant-loop-i : goal.invariant-loop-i

@@ -15,8 +15,8 @@ use Rattle.ec_rules.specs.Statements.{done_both, nothing_done, piece_of_arm}
 use Rattle.ec_rules.specs.Tree.{arm_of, block_of, part_of, parts, statement_of}
 use Rattle.ec_rules.specs.declared.operands.Wanted.TheVariants as wanted
 use Rattle.ec_ast.proofs.Layers as tree_layers
-use Rattle.ec_scopes.specs.Scopes.{forgetting}
-use Rattle.ec_scopes.specs.declared.scope.Scope.{Scope}
+use Rattle.ec_types.specs.Scopes.{forgetting}
+use Rattle.ec_types.specs.declared.scopes.scope.Scope.{Scope}
 use Rattle.ec_judge.proofs.Along as along
 use Rattle.ec_judge.proofs.Ends.{block_by_step, block_walk}
 use Rattle.ec_judge.proofs.Statements as by_form

@@ -6,9 +6,9 @@ use Rattle.ec_judge.specs.Blocks as blocks
 use Rattle.ec_judge.specs.Holders as holders
 use Rattle.ec_judge.specs.Holders.{holder_of}
 use Rattle.ec_judge.specs.Walks.{in_scope, over_finished}
-use Rattle.ec_conform.specs.Types.{number_at}
-use Rattle.ec_conform.specs.declared.static_type.Plain.TheVariants.{Named}
-use Rattle.ec_conform.specs.declared.static_type.StaticType.TheVariants.{Plain}
+use Rattle.ec_types.specs.Types.{number_at}
+use Rattle.ec_types.specs.declared.conform.static_type.Plain.TheVariants.{Named}
+use Rattle.ec_types.specs.declared.conform.static_type.StaticType.TheVariants.{Plain}
 use Rattle.ec_rules.specs.Captures.{captured}
 use Rattle.ec_rules.specs.Forms.{form_seen}
 use Rattle.ec_rules.specs.Judging as judging
@@ -22,7 +22,7 @@ use Rattle.ec_rules.specs.Statements.{done_both, nothing_done}
 use Rattle.ec_rules.specs.Tree.{member_of, object_of, operation_of, part_of, process_of}
 use Rattle.ec_rules.proofs.Equations as equations
 use Rattle.ec_rules.proofs.Equations.{body_step, object_constructor_step, operation_step, process_section_step}
-use Rattle.ec_scopes.specs.Scopes.{declaring, forgetting}
+use Rattle.ec_types.specs.Scopes.{declaring, forgetting}
 use Rattle.ec_judge.proofs.Along as along
 use Rattle.ec_judge.proofs.Bodies as bodies
 use Rattle.ec_judge.proofs.Steps as steps

@@ -1,6 +1,6 @@
 use Rattle.std.proofs.Common.{◌≡◌, drop}
 use Rattle.ec_rules.specs.Members.{parameter_entries}
-use Rattle.ec_scopes.specs.Scopes.{declaring}
+use Rattle.ec_types.specs.Scopes.{declaring}
 use Rattle.ec_judge.proofs.holders.declare_parameters.Given as goal
 
 abbrev pub invariant-loop-p : goal.invariant-loop-p

@@ -1,5 +1,5 @@
 use Rattle.std.proofs.Common.{◌≡◌, ◌++◌, drop, map}
-use Rattle.ec_scopes.specs.Scopes.{written_in}
+use Rattle.ec_types.specs.Scopes.{written_in}
 use Rattle.ec_judge.proofs.holders.types_written.Given as goal
 
 abbrev pub invariant-loop-p : goal.invariant-loop-p

@@ -1,5 +1,5 @@
 use Rattle.std.proofs.Common.{List, take, refl, ap, ◌∙◌}
-use Rattle.ec_conform.specs.declared.static_type.StaticType.{StaticType}
+use Rattle.ec_types.specs.declared.conform.static_type.StaticType.{StaticType}
 use Rattle.ec_meaning.specs.Sources.{source_of}
 use Rattle.ec_lines.proofs.Making.{operation_made}
 use Rattle.ec_lines.proofs.operations.operation_of.Goals as goal

@@ -1,6 +1,6 @@
 use Rattle.std.proofs.Common.{ℕ, [], ◌∷◌, ◌++◌, sym, ap, ◌∙◌}
-use Rattle.ec_conform.specs.Table.{conforms}
-use Rattle.ec_conform.specs.Types.{named}
+use Rattle.ec_types.specs.Table.{conforms}
+use Rattle.ec_types.specs.Types.{named}
 use Rattle.ec_meaning.proofs.Counting.{each_next}
 use Rattle.ec_meaning.proofs.classes.conformances.Goals as goal
 

@@ -1,6 +1,6 @@
 use Rattle.std.proofs.Common.{◌≡◌, map}
-use Rattle.ec_conform.specs.Table.{conforms}
-use Rattle.ec_conform.specs.Types.{named}
+use Rattle.ec_types.specs.Table.{conforms}
+use Rattle.ec_types.specs.Types.{named}
 use Rattle.ec_meaning.specs.Programs.{numbers_to}
 use Rattle.ec_meaning.proofs.classes.conformances.Given as goal
 

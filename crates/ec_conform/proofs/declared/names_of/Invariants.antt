@@ -1,5 +1,0 @@
-use Rattle.std.proofs.Common.{◌≡◌, ◌++◌, drop, map}
-use Rattle.ec_conform.proofs.declared.names_of.Given as goal
-
-abbrev pub invariant-loop-p : goal.invariant-loop-p
-invariant-loop-p l = l.names ++ map (λ p. p.name.text) (drop l.p-index l.parameters) ≡ map (λ p. p.name.text) l.parameters

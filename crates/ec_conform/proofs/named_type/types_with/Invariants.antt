@@ -1,7 +1,0 @@
-use Rattle.std.proofs.Common.{◌≡◌, ◌++◌, drop, map}
-use Rattle.ec_conform.specs.Types as spec
-use Rattle.ec_conform.proofs.named_type.types_with.Given as goal
-
-abbrev pub invariant-loop-d : goal.invariant-loop-d
-invariant-loop-d l =
-    l.types.items ++ map (spec.type_with l.names) (drop l.d-index l.declared) ≡ map (spec.type_with l.names) l.declared

@@ -1,5 +1,0 @@
-use Rattle.ec_conform.specs.Pairs.{Follows}
-use Rattle.ec_conform.proofs.pairs.check_row.Given as goal
-
-abbrev pub invariant-loop-b : goal.invariant-loop-b
-invariant-loop-b l = Follows l.types l.initial.pairs.items l.initial.struck.items l.pairs.items l.struck.items

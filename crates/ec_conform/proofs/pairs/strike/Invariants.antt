@@ -1,6 +1,0 @@
-use Rattle.std.proofs.Common.{◌*◌}
-use Rattle.ec_conform.specs.Pairs.{rows, Passed}
-use Rattle.ec_conform.proofs.pairs.strike.Given as goal
-
-abbrev pub invariant-loop-block : goal.invariant-loop-block
-invariant-loop-block l = Passed l.types l.initial.pairs.items 0 (rows l.types) 0 (l.block * 32) l.struck l.pairs.items

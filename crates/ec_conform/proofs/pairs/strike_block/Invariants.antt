@@ -1,6 +1,0 @@
-use Rattle.std.proofs.Common.{◌+◌}
-use Rattle.ec_conform.specs.Pairs.{Passed}
-use Rattle.ec_conform.proofs.pairs.strike_block.Given as goal
-
-abbrev pub invariant-loop-s : goal.invariant-loop-s
-invariant-loop-s l = Passed l.types l.initial.pairs.items 0 l.s l.from (l.from + 32) l.struck l.pairs.items

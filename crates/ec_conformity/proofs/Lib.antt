@@ -1,5 +1,0 @@
-pub mod Composes
-pub mod Itself
-mod Operations
-mod TwoSteps
-mod Union

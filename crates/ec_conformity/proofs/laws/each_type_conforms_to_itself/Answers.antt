@@ -1,6 +1,0 @@
--- Each type of a program conforms to itself.
-use Rattle.ec_conformity.proofs.Itself.{conforms_to_itself}
-use Rattle.ec_conformity.proofs.laws.each_type_conforms_to_itself.Goals as goal
-
-pub returns : goal.returns
-returns start types known t h = conforms_to_itself types known t h

@@ -1,3 +1,0 @@
-pub mod Fits
-pub mod Known
-pub mod Laws

@@ -1,5 +1,0 @@
-use Rattle.std.proofs.Common.{refl}
-use Rattle.ec_names.proofs.Names.new.Goals as goal
-
-pub invariant_of-result : goal.invariant_of-result
-invariant_of-result c = λ name key folded. rw (c.new.ensures.items, c.new-2.ensures.empty) refl

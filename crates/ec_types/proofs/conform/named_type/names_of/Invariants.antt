@@ -1,0 +1,6 @@
+use Rattle.std.proofs.Common.{◌≡◌, ◌++◌, drop}
+use Rattle.ec_types.specs.Types as spec
+use Rattle.ec_types.proofs.conform.named_type.names_of.Given as goal
+
+abbrev pub invariant-loop-d : goal.invariant-loop-d
+invariant-loop-d l = l.names ++ spec.names_of (drop l.d-index l.declared) ≡ spec.names_of l.declared

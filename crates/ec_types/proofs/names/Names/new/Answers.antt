@@ -1,0 +1,5 @@
+use Rattle.std.proofs.Common.{refl}
+use Rattle.ec_types.proofs.names.Names.new.Goals as goal
+
+pub invariant_of-result : goal.invariant_of-result
+invariant_of-result c = λ name key folded. rw (c.new.ensures.items, c.new-2.ensures.empty) refl

@@ -1,0 +1,13 @@
+pub mod Firsts
+pub mod Names
+pub mod Conforms
+pub mod Declarations
+pub mod Numbered
+pub mod Pairs
+pub mod Rows
+pub mod Table
+pub mod Types
+pub mod Scopes
+pub mod Fits
+pub mod Known
+pub mod Laws
