@@ -15,8 +15,8 @@ use Rattle.ec_core_laws.proofs.Beginnings.{each_begins_once}
 use Rattle.ec_core_laws.proofs.Waiting.{each_waits}
 use Rattle.ec_core_laws.specs.Beginnings.{BeginsOnce}
 use Rattle.ec_core_laws.specs.Waiting.{UsesItsConditions}
-use Rattle.ec_core_makings.proofs.MakingPrograms.{program_makes}
-use Rattle.ec_core_makings.specs.Makings.{IsMadeRight}
+use Rattle.ec_core_shapes.proofs.MakingPrograms.{program_makes}
+use Rattle.ec_core_shapes.specs.Makings.{IsMadeRight}
 use Rattle.ec_core_shapes.proofs.FormedPrograms.{core_is_formed}
 use Rattle.ec_core_shapes.proofs.Tables.{few_types, none_unknown}
 use Rattle.ec_core_shapes.specs.Formed.{IsFormed}

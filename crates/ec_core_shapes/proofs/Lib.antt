@@ -14,3 +14,10 @@ pub mod SignedTrees
 pub mod Sites
 pub mod Tables
 pub mod Types
+pub mod MakingBodies
+pub mod MakingChains
+pub mod MakingExpressions
+pub mod MakingParts
+pub mod MakingPrograms
+pub mod MakingStatements
+pub mod MakingTrees

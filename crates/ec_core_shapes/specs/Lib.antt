@@ -1,2 +1,4 @@
 pub mod Formed
 pub mod Laws
+pub mod CoreMakingsLaws
+pub mod Makings

@@ -5,7 +5,7 @@ use Rattle.ec_check.specs.Program.{core_of}
 use Rattle.ec_types.specs.Declarations.{declarations_of}
 use Rattle.ec_types.specs.Table.{Table, IsTable}
 use Rattle.ec_types.specs.Types.{places_of}
-use Rattle.ec_core_makings.specs.Makings.{IsMadeRight}
+use Rattle.ec_core_shapes.specs.Makings.{IsMadeRight}
 use Rattle.ec_places.specs.Rising.{IsRising}
 use Rattle.ec_rules.specs.Faults.{StaticFaults}
 

@@ -24,8 +24,8 @@ use Rattle.ec_core.specs.declared.Expression.TheVariants as e
 use Rattle.ec_core.specs.declared.Factor.{Factor}
 use Rattle.ec_core.specs.declared.Link.{Link, out-Link, roll-out-Link}
 use Rattle.ec_core.specs.declared.Link.TheVariants as l
-use Rattle.ec_core_makings.proofs.MakingParts.{IsCreated, IsThere, MeaningIsThere, IsGlobal, Taken, Makes, PartHas, LinkHas}
-use Rattle.ec_core_makings.proofs.MakingParts.{same_make, parts_make}
+use Rattle.ec_core_shapes.proofs.MakingParts.{IsCreated, IsThere, MeaningIsThere, IsGlobal, Taken, Makes, PartHas, LinkHas}
+use Rattle.ec_core_shapes.proofs.MakingParts.{same_make, parts_make}
 use Rattle.ec_types.specs.Names.{Text, is_same}
 use Rattle.ec_rules.specs.Calls.{Receiver, Creation, Own, Typed, callee, class_created, is_creation, link_type, receiver_if}
 use Rattle.ec_rules.specs.Calls.{result_of, type_indexed, type_of_receiver}

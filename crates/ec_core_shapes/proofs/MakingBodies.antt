@@ -18,10 +18,10 @@ use Rattle.ec_core.specs.declared.Expression.{Expression}
 use Rattle.ec_core.specs.declared.Place.TheVariants as place
 use Rattle.ec_core.specs.declared.Statement.TheOpen.{Statement-F as Core-F}
 use Rattle.ec_core.specs.declared.Statement.TheVariants as s
-use Rattle.ec_core_makings.proofs.MakingParts.{IsThere, Taken, OperationMakes, Makes, PieceHas, ProcessHas, MemberHas}
-use Rattle.ec_core_makings.proofs.MakingParts.{BodyHas, first_taken, second_taken, none_make, both_make, same_make}
-use Rattle.ec_core_makings.proofs.MakingParts.{one_more}
-use Rattle.ec_core_makings.specs.Makings.{HoldsOneOfTwo, BeginsBare}
+use Rattle.ec_core_shapes.proofs.MakingParts.{IsThere, Taken, OperationMakes, Makes, PieceHas, ProcessHas, MemberHas}
+use Rattle.ec_core_shapes.proofs.MakingParts.{BodyHas, first_taken, second_taken, none_make, both_make, same_make}
+use Rattle.ec_core_shapes.proofs.MakingParts.{one_more}
+use Rattle.ec_core_shapes.specs.Makings.{HoldsOneOfTwo, BeginsBare}
 use Rattle.ec_rules.specs.Lists.{each}
 use Rattle.ec_rules.specs.Members.{scope_of_operation}
 use Rattle.ec_types.specs.declared.scopes.scope.Scope.{Scope}

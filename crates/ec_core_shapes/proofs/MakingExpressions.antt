@@ -17,10 +17,10 @@ use Rattle.ec_core.specs.declared.Expression.{Expression}
 use Rattle.ec_core.specs.declared.Expression.TheOpen.{Expression-F as Core-F}
 use Rattle.ec_core.specs.declared.Expression.TheVariants as e
 use Rattle.ec_core.specs.declared.Place.{Place}
-use Rattle.ec_core_makings.proofs.MakingBodies.{holder_makes}
-use Rattle.ec_core_makings.proofs.MakingChains.{names_class, chain_makes}
-use Rattle.ec_core_makings.proofs.MakingParts.{IsThere, IsConstructed, Taken, Makes, PartMakes, PartHas, FactorHas}
-use Rattle.ec_core_makings.proofs.MakingParts.{AddendHas, BodyHas, ExpressionHas, none_make, same_make, parts_make}
+use Rattle.ec_core_shapes.proofs.MakingBodies.{holder_makes}
+use Rattle.ec_core_shapes.proofs.MakingChains.{names_class, chain_makes}
+use Rattle.ec_core_shapes.proofs.MakingParts.{IsThere, IsConstructed, Taken, Makes, PartMakes, PartHas, FactorHas}
+use Rattle.ec_core_shapes.proofs.MakingParts.{AddendHas, BodyHas, ExpressionHas, none_make, same_make, parts_make}
 use Rattle.ec_rules.specs.Calls.{receiver}
 use Rattle.ec_rules.specs.Judging.{expression_part}
 use Rattle.ec_rules.specs.Parts.{value_in}

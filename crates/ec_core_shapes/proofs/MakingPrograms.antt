@@ -26,11 +26,11 @@ use Rattle.ec_types.specs.Table.{Table}
 use Rattle.ec_core.specs.declared.Class.{Class}
 use Rattle.ec_core.specs.declared.Constant.{Constant as CoreConstant}
 use Rattle.ec_core.specs.declared.Operation.{Operation}
-use Rattle.ec_core_makings.proofs.MakingBodies.{holder_makes}
-use Rattle.ec_core_makings.proofs.MakingParts.{IsCreated, IsThere, IsGlobal, MeaningIsThere, Taken, OperationMakes, Makes}
-use Rattle.ec_core_makings.proofs.MakingParts.{first_taken, second_taken, none_make, both_make}
-use Rattle.ec_core_makings.proofs.MakingTrees.{making_part, making_body}
-use Rattle.ec_core_makings.specs.Makings.{HoldsOneOfTwo, MakesRight, BeginsBare, IsMadeRight}
+use Rattle.ec_core_shapes.proofs.MakingBodies.{holder_makes}
+use Rattle.ec_core_shapes.proofs.MakingParts.{IsCreated, IsThere, IsGlobal, MeaningIsThere, Taken, OperationMakes, Makes}
+use Rattle.ec_core_shapes.proofs.MakingParts.{first_taken, second_taken, none_make, both_make}
+use Rattle.ec_core_shapes.proofs.MakingTrees.{making_part, making_body}
+use Rattle.ec_core_shapes.specs.Makings.{HoldsOneOfTwo, MakesRight, BeginsBare, IsMadeRight}
 use Rattle.ec_types.specs.Names.{Text}
 use Rattle.ec_places.specs.Rising.{IsRising}
 use Rattle.ec_rules.specs.Captures.{Use, uses_outside}

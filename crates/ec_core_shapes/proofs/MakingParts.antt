@@ -13,7 +13,7 @@ use Rattle.ec_check.specs.Resolving.{all_made, cores_of}
 use Rattle.ec_core.specs.declared.Class.{Class}
 use Rattle.ec_core.specs.declared.Operation.{Operation}
 use Rattle.ec_core_laws.proofs.Trees as trees
-use Rattle.ec_core_makings.specs.Makings.{HoldsOneOfTwo, BeginsBare}
+use Rattle.ec_core_shapes.specs.Makings.{HoldsOneOfTwo, BeginsBare}
 use Rattle.ec_types.specs.declared.scopes.globals.Global.{Global}
 use Rattle.ec_types.specs.declared.scopes.globals.Meaning.{Meaning}
 use Rattle.ec_types.specs.declared.scopes.globals.Meaning.TheVariants as means

@@ -25,10 +25,10 @@ use Rattle.ec_core.specs.declared.Link.{Link, out-Link}
 use Rattle.ec_core.specs.declared.Statement.{Statement}
 use Rattle.ec_core.specs.declared.Statement.TheOpen.{Statement-F as Core-F}
 use Rattle.ec_core.specs.declared.Statement.TheVariants as s
-use Rattle.ec_core_makings.proofs.MakingChains.{link_is}
-use Rattle.ec_core_makings.proofs.MakingParts.{IsThere, Taken, Makes, StatementMakes, PieceMakes, PartHas, ArmHas, PieceHas}
-use Rattle.ec_core_makings.proofs.MakingParts.{StatementHas, first_taken, second_taken, none_make, both_make, same_make}
-use Rattle.ec_core_makings.proofs.MakingParts.{one_more}
+use Rattle.ec_core_shapes.proofs.MakingChains.{link_is}
+use Rattle.ec_core_shapes.proofs.MakingParts.{IsThere, Taken, Makes, StatementMakes, PieceMakes, PartHas, ArmHas, PieceHas}
+use Rattle.ec_core_shapes.proofs.MakingParts.{StatementHas, first_taken, second_taken, none_make, both_make, same_make}
+use Rattle.ec_core_shapes.proofs.MakingParts.{one_more}
 use Rattle.ec_rules.specs.Judging.{statement_part}
 use Rattle.ec_types.specs.declared.scopes.scope.Scope.{Scope}
 use Rattle.ec_types.specs.Scopes.{declaring, in_a_loop}

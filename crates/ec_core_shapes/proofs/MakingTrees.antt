@@ -20,11 +20,11 @@ use Rattle.ec_check.proofs.Rolled.{arm_rolled, block_rolled, body_rolled, factor
 use Rattle.ec_check.proofs.Rolled.{process_rolled}
 use Rattle.ec_check.specs.Tree.{link_step, member_step, body_step, part_of, link_of, member_of, statement_of, addend_of}
 use Rattle.ec_check.specs.Tree.{arm_of, block_of, body_of, factor_of, object_of, operation_of, process_of}
-use Rattle.ec_core_makings.proofs.MakingExpressions.{HasNoParameters, expression_makes}
-use Rattle.ec_core_makings.proofs.MakingParts.{PartMakes, StatementMakes, PieceMakes, PartHas, LinkHas, FactorHas}
-use Rattle.ec_core_makings.proofs.MakingParts.{AddendHas, ArmHas, PieceHas, ProcessHas, OperationHas, MemberHas, BodyHas}
-use Rattle.ec_core_makings.proofs.MakingParts.{ObjectHas, ExpressionHas, StatementHas}
-use Rattle.ec_core_makings.proofs.MakingStatements.{statement_makes, block_makes}
+use Rattle.ec_core_shapes.proofs.MakingExpressions.{HasNoParameters, expression_makes}
+use Rattle.ec_core_shapes.proofs.MakingParts.{PartMakes, StatementMakes, PieceMakes, PartHas, LinkHas, FactorHas}
+use Rattle.ec_core_shapes.proofs.MakingParts.{AddendHas, ArmHas, PieceHas, ProcessHas, OperationHas, MemberHas, BodyHas}
+use Rattle.ec_core_shapes.proofs.MakingParts.{ObjectHas, ExpressionHas, StatementHas}
+use Rattle.ec_core_shapes.proofs.MakingStatements.{statement_makes, block_makes}
 use Rattle.ec_ast.proofs.Claims.{Claims, Passes, Held, trees as bare_trees, ExpressionWith, LinkWith, MemberWith}
 use Rattle.ec_ast.proofs.Claims.{StatementWith, AddendWith, ArmWith, BlockWith, BodyWith, FactorWith, ObjectWith}
 use Rattle.ec_ast.proofs.Claims.{OperationWith, ProcessWith, bare_expression, bare_link, bare_member, bare_statement}

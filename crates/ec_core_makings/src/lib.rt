@@ -1,4 +1,0 @@
-//! How the core of a program that breaks no static rule makes its objects.
-#![tactic(auto)]
-
-pub mod laws;
