@@ -1,3 +1,12 @@
+pub mod CoreTiesLaws
+pub mod Names
+pub mod Targets
+pub mod Ties
 pub mod TreeTexts
 pub mod CoreTexts
 pub mod Laws
+pub mod Captures
+pub mod Constants
+pub mod Limits
+pub mod CoreSizesLaws
+pub mod TreeNodes
