@@ -20,7 +20,7 @@ use Rattle.ec_meaning.specs.Programs.{Source}
 use Rattle.ec_meaning.specs.declared.activation.SourceActivation.{SourceActivation}
 use Rattle.ec_parser.specs.HasTree.{HasTree}
 use Rattle.ec_places.specs.Rising.{IsRising}
-use Rattle.ec_sound.specs.Laws.{world_after}
+use Rattle.ec_code.specs.SoundLaws.{world_after}
 use Rattle.ec_world.specs.Agree.{Agree, SameRest}
 use Rattle.ec_world.specs.Run.{first_world, run_after}
 use Rattle.ec_world.specs.Simulation.{AgreeRun}

@@ -20,7 +20,7 @@ use Rattle.ec_homes.specs.Meeting.{Meet}
 use Rattle.ec_homes.specs.declared.homes.Home.{Home}
 use Rattle.ec_homes.specs.declared.homes.Home.TheVariants.{Register, Slot}
 use Rattle.ec_laid_out.proofs.Variables.{one_variable}
-use Rattle.ec_liveness.specs.Marks.{is_same}
+use Rattle.ec_code.specs.Marks.{is_same}
 use Rattle.ec_stop_tables.proofs.Homed.{has_home}
 use Rattle.ec_stop_tables.specs.Entries.{result_of, typed}
 

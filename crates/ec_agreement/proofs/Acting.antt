@@ -20,10 +20,10 @@ use Rattle.ec_monitors.specs.Monitors.{entered}
 use Rattle.ec_monitors.specs.declared.record.Entry.{Entry as Within}
 use Rattle.ec_monitors.specs.declared.record.Entry.TheVariants.{Entered, Queued}
 use Rattle.ec_monitors.specs.declared.record.MonitorRec.{MonitorRec}
-use Rattle.ec_sound.proofs.Facts.{call_fits, given_is_taken, is_taken, outcome_fine, pending_top, result_is_taken, section_fits}
-use Rattle.ec_sound.proofs.Table.{Continues, EffectGoes, continues}
-use Rattle.ec_sound.specs.Sound.{FineEffect, LiveBehind, OfGiven, SoundPending, SoundWorld}
-use Rattle.ec_sound.specs.Values.{class_in}
+use Rattle.ec_code.proofs.Facts.{call_fits, given_is_taken, is_taken, outcome_fine, pending_top, result_is_taken, section_fits}
+use Rattle.ec_code.proofs.Table.{Continues, EffectGoes, continues}
+use Rattle.ec_code.specs.Sound.{FineEffect, LiveBehind, OfGiven, SoundPending, SoundWorld}
+use Rattle.ec_code.specs.SoundValues.{class_in}
 use Rattle.ec_stands.proofs.Meeting.{Behind, Routine, StandsIn, goes_on, is_last}
 use Rattle.ec_stands.specs.Stands.{Hold, IsLast, one_more}
 use Rattle.ec_world.specs.Doings.{entry_asks, is_inside}

@@ -15,10 +15,10 @@ use Rattle.ec_meaning.specs.Activations.{source_meaning}
 use Rattle.ec_meaning.specs.Meaning.{source_silent, source_start}
 use Rattle.ec_meaning.specs.Programs.{Source, globals_of}
 use Rattle.ec_meaning.specs.declared.activation.SourceActivation.{SourceActivation}
-use Rattle.ec_sound.proofs.Facts.{never_lacks, pending_top, ready_top}
-use Rattle.ec_sound.proofs.Worlds.{action_sound, go_on_sound, move_sound, start_sound}
-use Rattle.ec_sound.specs.Laws.{world_after}
-use Rattle.ec_sound.specs.Sound.{SoundWorld}
+use Rattle.ec_code.proofs.Facts.{never_lacks, pending_top, ready_top}
+use Rattle.ec_code.proofs.SoundWorlds.{action_sound, go_on_sound, move_sound, start_sound}
+use Rattle.ec_code.specs.SoundLaws.{world_after}
+use Rattle.ec_code.specs.Sound.{SoundWorld}
 use Rattle.ec_world.proofs.Related.{Maybe, all-get, all-length}
 use Rattle.ec_world.specs.Agree.{Agree, SameRest}
 use Rattle.ec_world.specs.Outcomes.{outcome_of}

@@ -5,8 +5,8 @@ use Rattle.ec_monitors.specs.Monitors.{Granting, dropped, entered, left, signall
 use Rattle.ec_monitors.specs.declared.record.Entry.{Entry as Within}
 use Rattle.ec_monitors.specs.declared.record.Granted.{Granted}
 use Rattle.ec_monitors.specs.declared.record.MonitorRec.{MonitorRec}
-use Rattle.ec_sound.proofs.Carried.{later_append, later_changed, later_same, later_then}
-use Rattle.ec_sound.specs.Values.{Later}
+use Rattle.ec_code.proofs.Carried.{later_append, later_changed, later_same, later_then}
+use Rattle.ec_code.specs.SoundValues.{Later}
 use Rattle.ec_world.specs.Doings.{Asked, doing_of}
 use Rattle.ec_world.specs.Objects.{class_at, element_kind, object_at}
 use Rattle.ec_world.specs.Outcomes.{Done, acted_if, acting, at_condition, by_holder, done, dropped_at, dropped_each, dropped_if, entering}

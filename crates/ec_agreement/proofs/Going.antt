@@ -23,9 +23,9 @@ use Rattle.ec_meaning.specs.Types.{kind_of}
 use Rattle.ec_meaning.specs.declared.activation.SourceActivation.{SourceActivation}
 use Rattle.ec_meaning.specs.declared.item.Item.{Item}
 use Rattle.ec_meaning.specs.declared.state.State.{State}
-use Rattle.ec_sound.proofs.Silent.{silent_sound}
-use Rattle.ec_sound.proofs.Worlds.{tower_at}
-use Rattle.ec_sound.specs.Sound.{SoundDone, SoundTower, SoundWorld, TopIs}
+use Rattle.ec_code.proofs.Silent.{silent_sound}
+use Rattle.ec_code.proofs.SoundWorlds.{tower_at}
+use Rattle.ec_code.specs.Sound.{SoundDone, SoundTower, SoundWorld, TopIs}
 use Rattle.ec_stands.proofs.Going.{AreOf, GivenAs, silent_on}
 use Rattle.ec_stands.proofs.Meeting.{Fits, Matched, Owns, Routine, settled, walked}
 use Rattle.ec_stands.proofs.Simulating.{silent_alike}

@@ -17,7 +17,7 @@ use Rattle.ec_meaning.specs.Meaning.{Reached}
 use Rattle.ec_meaning.specs.Programs.{Source}
 use Rattle.ec_meaning.specs.Steps.{captured_by}
 use Rattle.ec_meaning.specs.declared.activation.SourceActivation.{SourceActivation}
-use Rattle.ec_sound.specs.Values.{class_in}
+use Rattle.ec_code.specs.SoundValues.{class_in}
 use Rattle.ec_stands.proofs.Going.{GivenAs}
 use Rattle.ec_stands.proofs.Meeting.{AtStop, Routine, StandsIn}
 use Rattle.ec_stands.proofs.Walking.{ops}

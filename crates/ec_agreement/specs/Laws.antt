@@ -8,7 +8,7 @@ use Rattle.ec_meaning.specs.Activations.{source_meaning}
 use Rattle.ec_meaning.specs.Meaning.{source_silent, source_start}
 use Rattle.ec_meaning.specs.Programs.{Source}
 use Rattle.ec_meaning.specs.declared.activation.SourceActivation.{SourceActivation}
-use Rattle.ec_sound.specs.Laws.{world_after}
+use Rattle.ec_code.specs.SoundLaws.{world_after}
 use Rattle.ec_world.specs.Agree.{Agree, SameRest}
 use Rattle.ec_world.specs.Run.{after_entries, first_world, run_after}
 use Rattle.ec_world.specs.Simulation.{AgreeRun}

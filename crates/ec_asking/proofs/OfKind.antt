@@ -14,8 +14,8 @@ use Rattle.ec_types.specs.declared.conform.static_type.StaticType.{StaticType}
 use Rattle.ec_types.specs.declared.conform.static_type.StaticType.TheVariants as type
 use Rattle.ec_types.specs.Known.{IsOfProgram}
 use Rattle.ec_objects.specs.Kinds.{IsOfKind}
-use Rattle.ec_ranges.specs.Values.{InRange}
-use Rattle.ec_sound.specs.Values.{HasType, class_in, own_type}
+use Rattle.ec_code.specs.RangesValues.{InRange}
+use Rattle.ec_code.specs.SoundValues.{HasType, class_in, own_type}
 use Rattle.ec_world.specs.Objects.{element_kind, kind_from, plain_kind}
 use Rattle.ec_world.specs.declared.class.ClassNo.{ClassNo}
 use Rattle.ec_world.specs.declared.class.ClassNo.TheVariants.{Node, Program, Made, Vector}

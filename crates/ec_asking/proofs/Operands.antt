@@ -17,13 +17,13 @@ use Rattle.ec_code.specs.declared.code.Parts.{Parts}
 use Rattle.ec_code.specs.declared.code.Variable.{Variable}
 use Rattle.ec_code.specs.declared.code.Variable.TheVariants.{Named, Temporary}
 use Rattle.ec_types.specs.declared.conform.static_type.StaticType.{StaticType}
-use Rattle.ec_liveness.proofs.Among.{is_same_self, same_is}
-use Rattle.ec_liveness.specs.Marks.{is_same}
+use Rattle.ec_code.proofs.Among.{is_same_self, same_is}
+use Rattle.ec_code.specs.Marks.{is_same}
 use Rattle.ec_objects.specs.Kinds.{IsOfKind}
-use Rattle.ec_ranges.specs.Values.{AllInRange}
+use Rattle.ec_code.specs.RangesValues.{AllInRange}
 use Rattle.ec_resting.specs.Laws.{its_entry}
-use Rattle.ec_sound.specs.Sound.{SoundPending}
-use Rattle.ec_sound.specs.Values.{AreHeld, HasType, held}
+use Rattle.ec_code.specs.Sound.{SoundPending}
+use Rattle.ec_code.specs.SoundValues.{AreHeld, HasType, held}
 use Rattle.ec_stop_tables.specs.Entries.{typed}
 use Rattle.ec_world.specs.Agree.{AllTwo}
 use Rattle.ec_world.specs.declared.object.ObjectRec.{ObjectRec}

@@ -7,7 +7,7 @@ use Rattle.std.specs.Prelude.{IsSome, option_map, slice_get}
 use Rattle.ec_activations.proofs.Frames.{all_two_at}
 use Rattle.ec_asking.proofs.OfKind.{element_same, of_kind}
 use Rattle.ec_asking.specs.Bare.{HasBareProgram, IsBareProgram}
-use Rattle.ec_idle.specs.Idle.{IsPlain}
+use Rattle.ec_code.specs.Idle.{IsPlain}
 use Rattle.ec_cluster.specs.Cluster.{CodeWorld, Shows, place, stores}
 use Rattle.ec_cluster.specs.declared.cluster.Cluster.{Cluster}
 use Rattle.ec_code.specs.Fine.{Fine, IsFieldOf}
@@ -18,14 +18,14 @@ use Rattle.ec_world.proofs.Procs.{get_past}
 use Rattle.ec_world.specs.Things.{class_blocks}
 use Rattle.ec_world.specs.declared.key.Key.TheVariants.{Object}
 use Rattle.ec_objects.specs.Kinds.{IsOfKind}
-use Rattle.ec_ranges.specs.Values.{InRange}
+use Rattle.ec_code.specs.RangesValues.{InRange}
 use Rattle.ec_seen.proofs.Reading.{all_can}
 use Rattle.ec_seen.specs.Kinds.{IsOfKindAt, kind_at}
 use Rattle.ec_seen.specs.Seeing.{CanBeSeen, ShowsProgram}
-use Rattle.ec_sound.proofs.Carried.{each_get, each_object}
-use Rattle.ec_sound.specs.Sound.{FineFields, FineObject}
-use Rattle.ec_sound.specs.Values.{HasType}
-use Rattle.ec_ranges.specs.Worlds.{RangedObject}
+use Rattle.ec_code.proofs.Carried.{each_get, each_object}
+use Rattle.ec_code.specs.Sound.{FineFields, FineObject}
+use Rattle.ec_code.specs.SoundValues.{HasType}
+use Rattle.ec_code.specs.Worlds.{RangedObject}
 use Rattle.ec_system.specs.Systems.{Runs}
 use Rattle.ec_system.specs.declared.system.System.{System}
 use Rattle.ec_things.specs.Store.{Owned, Store, word_in, word_of}

@@ -10,8 +10,8 @@ use Rattle.ec_code.specs.declared.code.Parts.{Parts}
 use Rattle.ec_node_frames.specs.Frames.{RestsAt as RestsInFrame}
 use Rattle.ec_resting.proofs.Entries.{rests_at_an_entry}
 use Rattle.ec_resting.specs.Laws.{its_entry}
-use Rattle.ec_sound.proofs.Facts.{each_is_there}
-use Rattle.ec_sound.specs.Sound.{RestsAt}
+use Rattle.ec_code.proofs.Facts.{each_is_there}
+use Rattle.ec_code.specs.Sound.{RestsAt}
 use Rattle.ec_system.specs.Systems.{Runs}
 use Rattle.ec_system.specs.declared.system.System.{System}
 use Rattle.ec_world.specs.declared.object.ObjectRec.{ObjectRec}

@@ -27,13 +27,13 @@ use Rattle.ec_faithful.specs.Stops as stops
 use Rattle.ec_node_frames.specs.Finishing.{RestsHere}
 use Rattle.ec_node_frames.specs.Operands.{ActsHere}
 use Rattle.ec_world.proofs.Procs.{get_end}
-use Rattle.ec_ranges.specs.Values.{AllInRange}
-use Rattle.ec_ranges.specs.Worlds.{RangedActivation, RangedProc}
+use Rattle.ec_code.specs.RangesValues.{AllInRange}
+use Rattle.ec_code.specs.Worlds.{RangedActivation, RangedProc}
 use Rattle.ec_resting.proofs.Operands.{held_for_it}
 use Rattle.ec_resting.specs.Laws.{its_entry}
-use Rattle.ec_sound.proofs.Carried.{each_get}
-use Rattle.ec_sound.proofs.Facts.{never_lacks, pending_top}
-use Rattle.ec_sound.specs.Sound.{SoundPending}
+use Rattle.ec_code.proofs.Carried.{each_get}
+use Rattle.ec_code.proofs.Facts.{never_lacks, pending_top}
+use Rattle.ec_code.specs.Sound.{SoundPending}
 use Rattle.ec_stop_tables.specs.declared.table.OperationTable.{OperationTable}
 use Rattle.ec_stop_tables.specs.declared.table.StopEntry.{StopEntry}
 use Rattle.ec_stores.specs.Node.{NodeData, store_of}

@@ -3,7 +3,7 @@ use Rattle.std.specs.List.{AllByRecursion as Each}
 use Rattle.std.specs.Prelude.{◌≡◌, ℕ, Some}
 use Rattle.ec_cluster.specs.Cluster.{stores}
 use Rattle.ec_cluster.specs.declared.cluster.Cluster.{Cluster}
-use Rattle.ec_idle.specs.Idle.{IsPlain}
+use Rattle.ec_code.specs.Idle.{IsPlain}
 use Rattle.ec_world.specs.declared.key.Key.TheVariants.{Object}
 use Rattle.ec_things.specs.Store.{Owned, Store}
 use Rattle.ec_world.specs.declared.class.ClassNo.TheVariants.{Program}

@@ -11,8 +11,8 @@ use Rattle.ec_code.specs.Typing.{Declared, DeclaredClass}
 use Rattle.ec_code.specs.declared.activation.CodeActivation.{CodeActivation}
 use Rattle.ec_code.specs.declared.code.Parts.{Parts}
 use Rattle.ec_mover.specs.Classes.{number_of}
-use Rattle.ec_sound.proofs.Carried.{each_object}
-use Rattle.ec_sound.specs.Sound.{FineFields, FineObject, SoundWorld}
+use Rattle.ec_code.proofs.Carried.{each_object}
+use Rattle.ec_code.specs.Sound.{FineFields, FineObject, SoundWorld}
 use Rattle.ec_world.specs.Group.{Has}
 use Rattle.ec_world.specs.Objects.{is_same_vector, object_at}
 use Rattle.ec_world.specs.declared.class.ClassNo.{ClassNo}

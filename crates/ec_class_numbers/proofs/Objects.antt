@@ -6,7 +6,7 @@ use Rattle.ec_monitors.specs.Monitors.{Granting, dropped, entered, left, waited,
 use Rattle.ec_monitors.specs.declared.record.Entry.{Entry as Within}
 use Rattle.ec_monitors.specs.declared.record.Granted.{Granted}
 use Rattle.ec_monitors.specs.declared.record.MonitorRec.{MonitorRec}
-use Rattle.ec_sound.proofs.Carried.{each_append, each_changed, each_object}
+use Rattle.ec_code.proofs.Carried.{each_append, each_changed, each_object}
 use Rattle.ec_world.specs.Doings.{Asked, doing_of}
 use Rattle.ec_world.specs.Group.{Has}
 use Rattle.ec_world.specs.Objects.{changed_object, class_at, element_kind, object_at}

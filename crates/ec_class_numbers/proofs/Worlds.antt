@@ -9,12 +9,12 @@ use Rattle.ec_code.specs.Fine.{Fine}
 use Rattle.ec_code.specs.Typing.{Declared, kind_of}
 use Rattle.ec_code.specs.declared.activation.CodeActivation.{CodeActivation}
 use Rattle.ec_code.specs.declared.code.Parts.{Parts}
-use Rattle.ec_idle.proofs.Walks.{silent_keeps}
-use Rattle.ec_sound.proofs.Carried.{each_append, each_object, each_replicate}
-use Rattle.ec_sound.proofs.Facts.{pending_top}
-use Rattle.ec_sound.proofs.Worlds.{entry_sound, start_sound}
-use Rattle.ec_sound.specs.Laws.{world_after}
-use Rattle.ec_sound.specs.Sound.{RestsAt, SoundWorld}
+use Rattle.ec_code.proofs.Walks.{silent_keeps}
+use Rattle.ec_code.proofs.Carried.{each_append, each_object, each_replicate}
+use Rattle.ec_code.proofs.Facts.{pending_top}
+use Rattle.ec_code.proofs.SoundWorlds.{entry_sound, start_sound}
+use Rattle.ec_code.specs.SoundLaws.{world_after}
+use Rattle.ec_code.specs.Sound.{RestsAt, SoundWorld}
 use Rattle.ec_world.specs.Group.{Has}
 use Rattle.ec_world.specs.Moves.{OperatorMove, is_idle_move, moved_unless}
 use Rattle.ec_world.specs.Objects.{object_at}

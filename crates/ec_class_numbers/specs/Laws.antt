@@ -8,8 +8,8 @@ use Rattle.ec_code.specs.Fine.{Fine}
 use Rattle.ec_code.specs.Typing.{Declared}
 use Rattle.ec_mover.specs.Classes.{number_of}
 use Rattle.ec_world.specs.Held.{Distinct}
-use Rattle.ec_sound.specs.Laws.{world_after}
-use Rattle.ec_sound.specs.Sound.{SoundWorld}
+use Rattle.ec_code.specs.SoundLaws.{world_after}
+use Rattle.ec_code.specs.Sound.{SoundWorld}
 use Rattle.ec_world.specs.Moves.{OperatorMove}
 use Rattle.ec_world.specs.Objects.{object_at}
 use Rattle.ec_world.specs.World.{Action, GoOn}

@@ -8,7 +8,7 @@ use Rattle.ec_code.specs.declared.code.Variable.{Variable}
 use Rattle.ec_code.specs.Fine.{IsIn}
 use Rattle.ec_homes.specs.Homes.{HasItsVariables, IsVariable, column}
 use Rattle.ec_homes.specs.Meeting.{live_in}
-use Rattle.ec_liveness.specs.Live.{reads, writes}
+use Rattle.ec_code.specs.Live.{reads, writes}
 use Rattle.ec_world.specs.declared.class.ClassRec.{ClassRec}
 
 -- ---- variables

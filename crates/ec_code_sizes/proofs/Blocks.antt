@@ -17,7 +17,7 @@ use Rattle.ec_emission.specs.Expressions.{Condition, Emitted, all_code, operand_
 use Rattle.ec_emission.specs.Literals.{Texts}
 use Rattle.ec_emission.specs.Statements.{Choice, Done, arm_code, given, jump_over, loop_code}
 use Rattle.ec_emission.specs.Statements.{store, stored, unless, where_it_holds}
-use Rattle.ec_liveness.specs.Live.{read_in}
+use Rattle.ec_code.specs.Live.{read_in}
 use Rattle.ec_meaning.specs.Programs.{Source}
 use Rattle.ec_stands.specs.Rows.{bare_row, rest_row}
 use Rattle.ec_world.specs.declared.stop.Stop.{Stop}

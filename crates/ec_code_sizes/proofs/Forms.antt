@@ -31,7 +31,7 @@ use Rattle.ec_emission.specs.Expressions.{fetch_all, fits_here, inverted, itself
 use Rattle.ec_emission.specs.Expressions.{pair_code, pair_first, pair_second, operand_code, operand_of, read, stops_at, test_of}
 use Rattle.ec_emission.specs.Expressions.{then_stop, variable_if}
 use Rattle.ec_emission.specs.Literals.{Texts}
-use Rattle.ec_liveness.specs.Live.{read_by, read_in}
+use Rattle.ec_code.specs.Live.{read_by, read_in}
 use Rattle.ec_meaning.specs.Programs.{Source}
 use Rattle.ec_stands.specs.Leaves.{IsThereOf}
 use Rattle.ec_stands.specs.Rows.{fail_row, rest_row}

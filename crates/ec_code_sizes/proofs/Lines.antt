@@ -12,9 +12,9 @@ use Rattle.ec_code_sizes.proofs.Within.{Reach, StepReaches}
 use Rattle.ec_types.specs.declared.conform.static_type.StaticType.{StaticType}
 use Rattle.ec_homes.specs.Homes.{HasItsVariables, IsVariable}
 use Rattle.ec_homes.specs.Meeting.{all_if, live_first, live_in, met_at, met_behind, met_by}
-use Rattle.ec_liveness.proofs.Among.{among_in, in_append, same_is}
-use Rattle.ec_liveness.specs.Live.{IsLive, is_passed, is_read, reads, writes}
-use Rattle.ec_liveness.specs.Marks.{is_among, is_same}
+use Rattle.ec_code.proofs.Among.{among_in, in_append, same_is}
+use Rattle.ec_code.specs.Live.{IsLive, is_passed, is_read, reads, writes}
+use Rattle.ec_code.specs.Marks.{is_among, is_same}
 use Rattle.ec_lowered.specs.Lowered.{HasLines}
 use Rattle.ec_lowered.specs.Types.{Around, behind, lines_of, with_types}
 

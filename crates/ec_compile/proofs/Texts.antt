@@ -26,7 +26,7 @@ use Rattle.ec_meaning.specs.Programs.{Source}
 use Rattle.ec_micro.specs.Fitting.{NumbersFit, OperandFits, TestFits}
 use Rattle.ec_places.proofs.Programs.{declared_among}
 use Rattle.ec_places.proofs.RisingTokens.{all_behind, they_rise}
-use Rattle.ec_ranges.specs.Code.{SmallLine, SmallOp, SmallOperand, SmallOperation, SmallProgram, SmallTest}
+use Rattle.ec_code.specs.Code.{SmallLine, SmallOp, SmallOperand, SmallOperation, SmallProgram, SmallTest}
 use Rattle.ec_small_programs.proofs.Programs.{lowered_small}
 
 each_at : {A : Type 0} (P : A → Type 0) (xs : List A) (k : ℕ) (x : A) → Each P xs → slice_get xs k ≡ Some x → P x

@@ -5,7 +5,7 @@ use Rattle.ec_code.specs.declared.code.Op.{Op}
 use Rattle.ec_code.specs.declared.code.Operation.{Operation as Made}
 use Rattle.ec_code.specs.declared.code.Parts.{Parts}
 use Rattle.ec_core.specs.declared.Operation.{Operation}
-use Rattle.ec_live_lists.proofs.Lists.{live_lists}
+use Rattle.ec_code.proofs.LiveListsLists.{live_lists}
 use Rattle.ec_emission.specs.Literals.{literals_of}
 use Rattle.ec_emission.specs.Statements.{operation_ops, program_ops}
 use Rattle.ec_lowered.specs.Lowered.{HasLines, IsOperationOf, IsProgramOf, IsLowered, around, class_of_operation, constant_types}

@@ -16,8 +16,8 @@ use Rattle.ec_faithful.specs.declared.code.Code.{Code}
 use Rattle.ec_faithful.specs.declared.code.OperationCode.{OperationCode}
 use Rattle.ec_homes.specs.Homes.{column}
 use Rattle.ec_homes.specs.declared.homes.Home.{Home}
-use Rattle.ec_liveness.specs.Live.{stays}
-use Rattle.ec_liveness.specs.Marks.{is_written}
+use Rattle.ec_code.specs.Live.{stays}
+use Rattle.ec_code.specs.Marks.{is_written}
 use Rattle.ec_target.specs.Code.{pc_of}
 
 -- ---- in three-address code

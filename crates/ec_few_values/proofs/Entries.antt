@@ -19,9 +19,9 @@ use Rattle.ec_few_values.proofs.Live.{IsUsed, clear_here, live_used, unwritten}
 use Rattle.ec_few_values.proofs.Uses.{AreClear, IsAbove, IsClear, but_for_written, each_in, uses, uses_at, uses_dropped}
 use Rattle.ec_few_values.specs.Laws.{variables_of}
 use Rattle.ec_homes.specs.Homes.{IsVariable, column}
-use Rattle.ec_liveness.proofs.Among.{in_append, is_same_self}
-use Rattle.ec_liveness.specs.Live.{InOrder, IsBefore, IsLive, IsLiveList, reads, stays}
-use Rattle.ec_liveness.specs.Marks.{is_same, is_written}
+use Rattle.ec_code.proofs.Among.{in_append, is_same_self}
+use Rattle.ec_code.specs.Live.{InOrder, IsBefore, IsLive, IsLiveList, reads, stays}
+use Rattle.ec_code.specs.Marks.{is_same, is_written}
 use Rattle.ec_lowered.specs.Lowered.{HasLines}
 use Rattle.ec_lowered.specs.Types.{Around, behind, lines_of, with_types}
 use Rattle.ec_stop_tables.specs.Entries.{entries_from, entries_of, entry_of, typed, with_entry}

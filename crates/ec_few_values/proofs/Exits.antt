@@ -12,7 +12,7 @@ use Rattle.ec_few_values.proofs.Uses.{AreHeld, Code, From, IsClearStep, IsHeld, 
 use Rattle.ec_few_values.proofs.Uses.{next, none_held}
 use Rattle.ec_few_values.proofs.Uses.{nothing, past_code, step, temporaries_in, uses, uses_at, uses_dropped, uses_joined, uses_of}
 use Rattle.ec_few_values.proofs.Values.{Asks, IsClean}
-use Rattle.ec_liveness.specs.Live.{read_by, reads}
+use Rattle.ec_code.specs.Live.{read_by, reads}
 
 -- ---- code that may exit
 

@@ -29,7 +29,7 @@ use Rattle.ec_few_values.proofs.Uses.{AreHeld, IsHeld, Leads, Within, each_joine
 use Rattle.ec_few_values.proofs.Uses.{IsClearStep, but_for, temporaries_in, uses_at, uses_of}
 use Rattle.ec_few_values.proofs.Values.{Applies, IsClean, alone, both, computes, condition_held, divides}
 use Rattle.ec_few_values.proofs.Values.{held_by, leaf_held, pair, tested, value}
-use Rattle.ec_liveness.specs.Live.{reads}
+use Rattle.ec_code.specs.Live.{reads}
 use Rattle.ec_meaning.specs.Programs.{Source}
 use Rattle.ec_stands.specs.Leaves.{Leaf, leaf_operand, temporary}
 use Rattle.ec_world.specs.declared.stop.Order.{Order}

@@ -9,8 +9,8 @@ use Rattle.ec_code.specs.declared.code.Variable.{Variable}
 use Rattle.ec_code.specs.declared.code.Variable.TheVariants.{Named, Temporary}
 use Rattle.ec_few_values.proofs.Uses.{AreClear, IsClearStep, but_for_others, but_for_written, temporaries_in, uses, uses_at, uses_behind}
 use Rattle.ec_few_values.proofs.Uses.{uses_dropped, uses_of}
-use Rattle.ec_liveness.proofs.Among.{in_left, in_right}
-use Rattle.ec_liveness.specs.Live.{IsLive, goes_on, is_passed, is_read, reads, stays, writes}
+use Rattle.ec_code.proofs.Among.{in_left, in_right}
+use Rattle.ec_code.specs.Live.{IsLive, goes_on, is_passed, is_read, reads, stays, writes}
 
 -- the temporary is among these; of a named variable nothing is said
 abbrev pub IsUsed : List ℕ → Variable → Type 0

@@ -25,7 +25,7 @@ use Rattle.ec_few_values.proofs.Uses.{AreHeld, Leads}
 use Rattle.ec_few_values.proofs.Uses.{lead, less}
 use Rattle.ec_few_values.proofs.Uses.{nothing, step, temporaries_in}
 use Rattle.ec_few_values.proofs.Values.{IsClean, alone, value}
-use Rattle.ec_liveness.specs.Live.{read_in}
+use Rattle.ec_code.specs.Live.{read_in}
 use Rattle.ec_meaning.specs.Programs.{Source, line}
 use Rattle.ec_meaning.specs.Steps.{default_if}
 use Rattle.ec_stands.specs.Rows.{fail_row}

@@ -10,7 +10,7 @@ use Rattle.ec_code.specs.declared.code.Op.TheVariants as op
 use Rattle.ec_code.specs.declared.code.StopRow.{StopRow}
 use Rattle.ec_code.specs.declared.code.Variable.{Variable}
 use Rattle.ec_code.specs.declared.code.Variable.TheVariants.{Named, Temporary}
-use Rattle.ec_liveness.specs.Live.{InOrder, reads, stays, writes}
+use Rattle.ec_code.specs.Live.{InOrder, reads, stays, writes}
 
 -- ---- what holds of each
 

@@ -17,7 +17,7 @@ use Rattle.ec_emission.specs.Expressions.{fits_here, holds, operand_code, operan
 use Rattle.ec_emission.specs.Expressions.{test_of}
 use Rattle.ec_few_values.proofs.Stops.{bare_rests, writes_next}
 use Rattle.ec_few_values.proofs.Uses.{AreHeld, IsHeld, Leads, Within, each_joined, lead, nothing, step, temporaries_in}
-use Rattle.ec_liveness.specs.Live.{read_by, read_in}
+use Rattle.ec_code.specs.Live.{read_by, read_in}
 use Rattle.ec_stands.specs.Rows.{fail_row}
 use Rattle.ec_world.specs.declared.process.Cause.TheVariants as cause
 use Rattle.ec_world.specs.declared.stop.Stop.TheVariants as stop

@@ -21,8 +21,8 @@ use Rattle.ec_code.specs.Fine.{IsTaken}
 use Rattle.ec_code.specs.Typing.{Declared, integer, boolean, string, class_type}
 use Rattle.ec_types.specs.declared.conform.static_type.StaticType.{StaticType}
 use Rattle.ec_fineness.specs.Wide.{ops_of, WideOp, WideCode}
-use Rattle.ec_liveness.proofs.Among.{in_append}
-use Rattle.ec_liveness.specs.Live.{IsLive, is_read, is_passed, read_in, read_by, reads, writes, goes_on, stays}
+use Rattle.ec_code.proofs.Among.{in_append}
+use Rattle.ec_code.specs.Live.{IsLive, is_read, is_passed, read_in, read_by, reads, writes, goes_on, stays}
 use Rattle.ec_world.specs.declared.stop.Stop.{Stop}
 use Rattle.ec_world.specs.declared.stop.Stop.TheVariants as stop
 

@@ -18,7 +18,7 @@ use Rattle.ec_fineness.proofs.Restricting.{restricted}
 use Rattle.ec_lowered.specs.Lowered.{HasLines}
 use Rattle.ec_lowered.specs.Types.{Around, variable_type, behind, with_types, lines_of}
 use Rattle.ec_fineness.specs.Wide.{ops_of, AgreeFrom, IsWide}
-use Rattle.ec_liveness.specs.Live.{IsLive, IsLiveList}
+use Rattle.ec_code.specs.Live.{IsLive, IsLiveList}
 
 module _ (w : Around) (ts : List StaticType) where
   abbrev shown : Variable → Live

@@ -6,7 +6,7 @@ use Rattle.ec_code.specs.declared.code.Op.{Op}
 use Rattle.ec_code.specs.declared.code.Variable.{Variable}
 use Rattle.ec_code.specs.Fine.{Has, live_at}
 use Rattle.ec_types.specs.declared.conform.static_type.StaticType.{StaticType}
-use Rattle.ec_liveness.specs.Live.{IsLive}
+use Rattle.ec_code.specs.Live.{IsLive}
 
 -- a line at a place of code, with more and with exactly what is live there
 pub record Narrowed (code : List Op) (q : ℕ) (w n : Line) : Type 0 where

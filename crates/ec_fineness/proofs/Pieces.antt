@@ -17,8 +17,8 @@ use Rattle.ec_fineness.proofs.Frames.{Held, Frame, Opens, Within, context, one_m
 use Rattle.ec_fineness.proofs.Frames.{put_other}
 use Rattle.ec_lowered.specs.Types.{Around, type_at, put_type, with_written, variable_type, written_type, behind}
 use Rattle.ec_fineness.specs.Wide.{ops_of, WideOp, WideCode, AgreeFrom, IsWide}
-use Rattle.ec_liveness.proofs.Among.{in_append}
-use Rattle.ec_liveness.specs.Live.{writes}
+use Rattle.ec_code.proofs.Among.{in_append}
+use Rattle.ec_code.specs.Live.{writes}
 
 ops_append : (xs ys : List Line) → ops_of (xs ++ ys) ≡ ops_of xs ++ ops_of ys
 ops_append [] ys = refl

@@ -22,8 +22,8 @@ use Rattle.ec_code.specs.Typing.{Declared, integer, boolean, string, class_type}
 use Rattle.ec_types.specs.declared.conform.static_type.StaticType.{StaticType}
 use Rattle.ec_fineness.proofs.Narrowed.{AllNarrowed, same_length, live_dropped, has_at, line_from_start, has_from_start}
 use Rattle.ec_fineness.specs.Wide.{WideOp, WideCode}
-use Rattle.ec_liveness.proofs.Among.{in_left, in_right}
-use Rattle.ec_liveness.specs.Live.{IsLive, is_read, is_passed, read_in, read_by, reads, writes, goes_on, stays}
+use Rattle.ec_code.proofs.Among.{in_left, in_right}
+use Rattle.ec_code.specs.Live.{IsLive, is_read, is_passed, read_in, read_by, reads, writes, goes_on, stays}
 use Rattle.ec_world.specs.declared.stop.Stop.{Stop}
 use Rattle.ec_world.specs.declared.stop.Stop.TheVariants as stop
 

@@ -7,9 +7,9 @@ use Rattle.ec_code.specs.Activations.{code_meaning}
 use Rattle.ec_code.specs.Typing.{Declared}
 use Rattle.ec_code.specs.declared.activation.CodeActivation.{CodeActivation}
 use Rattle.ec_code.specs.declared.code.Parts.{Parts}
-use Rattle.ec_sound.proofs.Carried.{each_get}
-use Rattle.ec_sound.proofs.Facts.{outcome_fine, pending_top}
-use Rattle.ec_sound.specs.Sound.{FineDone, SoundPending, SoundProc, SoundTower}
+use Rattle.ec_code.proofs.Carried.{each_get}
+use Rattle.ec_code.proofs.Facts.{outcome_fine, pending_top}
+use Rattle.ec_code.specs.Sound.{FineDone, SoundPending, SoundProc, SoundTower}
 use Rattle.ec_system.specs.Acting.{Asks}
 use Rattle.ec_system.specs.Systems.{Runs}
 use Rattle.ec_system.specs.declared.system.System.{System}

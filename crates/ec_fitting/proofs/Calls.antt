@@ -13,8 +13,8 @@ use Rattle.ec_fitting.proofs.Entries.{has_entries}
 use Rattle.ec_fitting.proofs.Keeping.{steady_after}
 use Rattle.ec_fitting.proofs.Shown.{has_object, no_frame, node_of_object}
 use Rattle.ec_fitting.specs.Fitting.{CallIsNew, CalledHasNode}
-use Rattle.ec_sound.proofs.Carried.{there}
-use Rattle.ec_sound.specs.Sound.{FineEffect}
+use Rattle.ec_code.proofs.Carried.{there}
+use Rattle.ec_code.specs.Sound.{FineEffect}
 use Rattle.ec_system.specs.Acting.{Asks}
 use Rattle.ec_system.specs.Steps.{Does, world_done}
 use Rattle.ec_system.specs.Systems.{Runs, Steady, Strings}

@@ -23,9 +23,9 @@ use Rattle.ec_fitting.proofs.Shown.{has_constant, has_field, has_object, no_obje
 use Rattle.ec_fitting.specs.Fitting.{HasNamed, IsMakable}
 use Rattle.ec_forward.specs.Directory.{made_count}
 use Rattle.ec_world.specs.Things.{class_blocks}
-use Rattle.ec_sound.proofs.Carried.{all_two_length, each_get, there}
-use Rattle.ec_sound.specs.Sound.{SoundPending}
-use Rattle.ec_sound.specs.Values.{HasType, class_in}
+use Rattle.ec_code.proofs.Carried.{all_two_length, each_get, there}
+use Rattle.ec_code.specs.Sound.{SoundPending}
+use Rattle.ec_code.specs.SoundValues.{HasType, class_in}
 use Rattle.ec_system.specs.Acting.{Asks}
 use Rattle.ec_system.specs.Steps.{ByClass}
 use Rattle.ec_system.specs.Systems.{Runs}

@@ -15,14 +15,14 @@ use Rattle.ec_fitting.proofs.Asking.{its_outcome, its_stop, its_tower}
 use Rattle.ec_fitting.proofs.Waiting.{Stays, asked_below, stop_goes}
 use Rattle.ec_fitting.specs.Fitting.{BelowTakes, CanTakeIt, OneTakes, TopTakes}
 use Rattle.ec_fitting.specs.Waiters.{AllStay, WaitersStay}
-use Rattle.ec_liveness.specs.Live.{stays}
+use Rattle.ec_code.specs.Live.{stays}
 use Rattle.ec_node_frames.specs.Frames.{RestsAt as RestsThere}
 use Rattle.ec_resting.proofs.Entries.{rests_at_an_entry}
 use Rattle.ec_resting.proofs.Operands.{waits_for}
 use Rattle.ec_resting.specs.Laws.{its_entry}
-use Rattle.ec_sound.proofs.Facts.{each_is_there}
-use Rattle.ec_sound.proofs.Table.{Continues, EffectGoes}
-use Rattle.ec_sound.specs.Sound.{Chain, FineEffect, IsLowest, RestsAt, SoundPending, Waits, lowest_of}
+use Rattle.ec_code.proofs.Facts.{each_is_there}
+use Rattle.ec_code.proofs.Table.{Continues, EffectGoes}
+use Rattle.ec_code.specs.Sound.{Chain, FineEffect, IsLowest, RestsAt, SoundPending, Waits, lowest_of}
 use Rattle.ec_system.specs.Acting.{Asks}
 use Rattle.ec_system.specs.Steps.{CanFinish}
 use Rattle.ec_system.specs.Systems.{Runs}

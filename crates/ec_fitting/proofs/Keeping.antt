@@ -8,7 +8,7 @@ use Rattle.ec_cluster_frames.specs.Frames.{HasImages}
 use Rattle.ec_code.specs.Fine.{Fine}
 use Rattle.ec_code.specs.Typing.{Declared}
 use Rattle.ec_code.specs.declared.code.Parts.{Parts}
-use Rattle.ec_ranges.specs.Worlds.{most_nodes}
+use Rattle.ec_code.specs.Worlds.{most_nodes}
 use Rattle.ec_system.proofs.Pools.{strings_in_pool}
 use Rattle.ec_system.specs.Systems.{Steady, Strings}
 use Rattle.ec_things.specs.Texts.{GetsTexts, InPool}

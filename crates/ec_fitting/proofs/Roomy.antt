@@ -18,7 +18,7 @@ use Rattle.ec_fitting.specs.Room.{RoomToDo, RoomToMake, RoomToSettle}
 use Rattle.ec_fitting.specs.Waiters.{WaitersStay}
 use Rattle.ec_forward.specs.Directory.{made_count}
 use Rattle.ec_node_frames.specs.Finishing.{HasRoomIn}
-use Rattle.ec_sound.specs.Sound.{FineSection}
+use Rattle.ec_code.specs.Sound.{FineSection}
 use Rattle.ec_stop_tables.specs.declared.table.StopEntry.{StopEntry}
 use Rattle.ec_system.specs.Acting.{Asks}
 use Rattle.ec_system.specs.Steps.{ByClass, CanBeDone, CanSettle, CanStart, CanTake, Does, StartsBehind, TakesBelow}

@@ -13,7 +13,7 @@ use Rattle.ec_monitors.specs.declared.record.Entry.{Entry as Within}
 use Rattle.ec_monitors.specs.declared.record.Entry.TheVariants.{Entered, Queued}
 use Rattle.ec_monitors.specs.declared.record.Granted.{Granted}
 use Rattle.ec_monitors.specs.declared.record.MonitorRec.{MonitorRec}
-use Rattle.ec_sound.specs.Sound.{FineSection}
+use Rattle.ec_code.specs.Sound.{FineSection}
 use Rattle.ec_system.specs.Acting.{Asks}
 use Rattle.ec_system.specs.Steps.{CanStart, StartsBehind}
 use Rattle.ec_system.specs.Systems.{Runs}

@@ -10,10 +10,10 @@ use Rattle.ec_code.specs.Fine.{GoesOn as IfGoesOn}
 use Rattle.ec_code.specs.declared.activation.CodeActivation.{CodeActivation}
 use Rattle.ec_code.specs.declared.code.Parts.{Parts}
 use Rattle.ec_fitting.specs.Waiters.{AllStay, BelowStay, WaitersStay}
-use Rattle.ec_liveness.specs.Live.{stays}
-use Rattle.ec_sound.proofs.Carried.{each_append, each_get, each_set}
-use Rattle.ec_sound.proofs.Table.{Continues, EffectGoes, continues}
-use Rattle.ec_sound.specs.Example.{dividing, main_operation, nothing_declared}
+use Rattle.ec_code.specs.Live.{stays}
+use Rattle.ec_code.proofs.Carried.{each_append, each_get, each_set}
+use Rattle.ec_code.proofs.Table.{Continues, EffectGoes, continues}
+use Rattle.ec_code.specs.Example.{dividing, main_operation, nothing_declared}
 use Rattle.ec_system.specs.Acting.{Asks, IsTop}
 use Rattle.ec_system.specs.Steps.{world_done, world_settled}
 use Rattle.ec_world.specs.Moves.{OperatorMove}

@@ -4,7 +4,7 @@ use Rattle.std.specs.List.{AllByRecursion as Each}
 use Rattle.ec_base.specs.Stack.{below_of}
 use Rattle.ec_cluster.specs.Cluster.{CodeWorld}
 use Rattle.ec_code.specs.declared.activation.CodeActivation.{CodeActivation}
-use Rattle.ec_liveness.specs.Live.{stays}
+use Rattle.ec_code.specs.Live.{stays}
 use Rattle.ec_world.specs.declared.process.Proc.{Proc}
 
 -- each of these activations rests at a stop behind which code goes on

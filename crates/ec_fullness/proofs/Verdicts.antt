@@ -44,8 +44,8 @@ use Rattle.ec_world.specs.Things.{class_blocks}
 use Rattle.ec_world.specs.declared.key.Key.TheVariants.{Frame, Object}
 use Rattle.ec_world.specs.declared.room.Lack.{Lack}
 use Rattle.ec_objects.specs.Values.{HasRoom, TextsFit}
-use Rattle.ec_sound.proofs.Carried.{there}
-use Rattle.ec_sound.proofs.Facts.{call_fits}
+use Rattle.ec_code.proofs.Carried.{there}
+use Rattle.ec_code.proofs.Facts.{call_fits}
 use Rattle.ec_stop_tables.specs.Tables.{IsTableOf}
 use Rattle.ec_stop_tables.specs.declared.table.OperationTable.{OperationTable}
 use Rattle.ec_stop_tables.specs.declared.table.StopEntry.{StopEntry}

@@ -18,14 +18,14 @@ use Rattle.ec_faithful.specs.Stops.{without}
 use Rattle.ec_fullness.proofs.Acting.{top_is}
 use Rattle.ec_fullness.proofs.Effects.{GoerWaits, Waiting, WaitingIf}
 use Rattle.ec_fullness.proofs.Values.{IsLast, WaitsAt}
-use Rattle.ec_liveness.specs.Live.{stays}
+use Rattle.ec_code.specs.Live.{stays}
 use Rattle.ec_node_frames.specs.Frames.{RestsAt as Resting}
 use Rattle.ec_resting.proofs.Entries.{rests_at_an_entry}
 use Rattle.ec_resting.proofs.Operands.{waits_for}
 use Rattle.ec_resting.specs.Laws.{its_entry}
-use Rattle.ec_sound.proofs.Carried.{each_get}
-use Rattle.ec_sound.proofs.Facts.{each_is_there, pending_top}
-use Rattle.ec_sound.specs.Sound.{Chain, RestsAt, SoundProc, SoundTower, Waits}
+use Rattle.ec_code.proofs.Carried.{each_get}
+use Rattle.ec_code.proofs.Facts.{each_is_there, pending_top}
+use Rattle.ec_code.specs.Sound.{Chain, RestsAt, SoundProc, SoundTower, Waits}
 use Rattle.ec_stop_tables.specs.Entries.{result_of}
 use Rattle.ec_system.specs.Acting.{Asks}
 use Rattle.ec_system.specs.Systems.{Runs}

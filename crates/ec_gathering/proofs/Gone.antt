@@ -46,8 +46,8 @@ use Rattle.ec_world.specs.declared.room.Lack.{Lack}
 use Rattle.ec_packing.proofs.Carrying.{can_go, entry_of, known}
 use Rattle.ec_packing.proofs.Frames.{is_of}
 use Rattle.ec_packing.specs.Room.{AreOfClasses}
-use Rattle.ec_sound.proofs.Carried.{each_get}
-use Rattle.ec_sound.specs.Sound.{SoundProc}
+use Rattle.ec_code.proofs.Carried.{each_get}
+use Rattle.ec_code.specs.Sound.{SoundProc}
 use Rattle.ec_stop_tables.specs.declared.table.StopEntry.{StopEntry}
 use Rattle.ec_system.proofs.Pools.{strings_come}
 use Rattle.ec_system.specs.Systems.{Strings}

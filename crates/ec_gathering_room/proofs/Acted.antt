@@ -25,7 +25,7 @@ use Rattle.ec_world.proofs.Procs.{activation_here, activation_is, activation_the
 use Rattle.ec_world.specs.Things.{activation_at}
 use Rattle.ec_world.specs.declared.key.Key.{Key}
 use Rattle.ec_world.specs.declared.key.Key.TheVariants.{Frame, Object}
-use Rattle.ec_sound.proofs.Facts.{pending_top}
+use Rattle.ec_code.proofs.Facts.{pending_top}
 use Rattle.ec_system.specs.Acting.{Asks}
 use Rattle.ec_system.specs.Systems.{Runs}
 use Rattle.ec_system.specs.declared.system.System.{System}

@@ -15,7 +15,7 @@ use Rattle.ec_faithful.specs.Frames.{slots}
 use Rattle.ec_faithful.specs.Stops.{row_or_empty}
 use Rattle.ec_homes.specs.Homes.{IsVariable, IsWithin, column}
 use Rattle.ec_homes.specs.declared.homes.Home.{Home}
-use Rattle.ec_liveness.specs.Live.{reads, writes}
+use Rattle.ec_code.specs.Live.{reads, writes}
 use Rattle.ec_micro.specs.Fitting.{HomesFit, IsNamedBy}
 use Rattle.ec_micro.specs.Layout.{home_of, home_or}
 use Rattle.ec_stop_tables.proofs.Homed.{has_home, has_in, homes_apart}

@@ -10,7 +10,7 @@ use Rattle.ec_code.specs.declared.code.Op.{Op}
 use Rattle.ec_code.specs.declared.code.Variable.{Variable}
 use Rattle.ec_code.specs.declared.code.Variable.TheVariants.{Temporary}
 use Rattle.ec_homes.specs.declared.homes.Home.{Home}
-use Rattle.ec_liveness.specs.Marks.{is_among}
+use Rattle.ec_code.specs.Marks.{is_among}
 use Rattle.ec_micro.proofs.Direct.{nothing_moved, same_ending}
 use Rattle.ec_micro.specs.Direct.{direct_before, direct_by, direct_if, direct_of, if_so, into_named, is_unled, laid_by, laid_op, led_to}
 use Rattle.ec_micro.specs.Direct.{marked}

@@ -28,7 +28,7 @@ use Rattle.ec_generate.specs.Sites.{CanPutAll, CanPutEnding, IsMakeable, home_th
 use Rattle.ec_generate.specs.declared.site.Site.{Site}
 use Rattle.ec_homes.specs.Homes.{IsWithin}
 use Rattle.ec_homes.specs.declared.homes.Home.{Home}
-use Rattle.ec_liveness.specs.Live.{read_by, read_in, reads, writes}
+use Rattle.ec_code.specs.Live.{read_by, read_in, reads, writes}
 use Rattle.ec_micro.proofs.Direct.{IsDirect, is_direct, line_there, nothing_moved, ops_long}
 use Rattle.ec_micro.proofs.FineAt.{fine_at}
 use Rattle.ec_micro.specs.Direct.{direct_before, direct_of, into_named, laid_by, laid_op}

@@ -3,13 +3,13 @@ ghost use Rattle.std.specs.Prelude.{◌≡◌, ◌≤◌, ◌<◌, ◌+◌, ◌^
 ghost use Rattle.std.specs.Prelude.{slice_get, slice_set};
 ghost use Rattle.ec_code.specs.Fine.{live_at};
 ghost use Rattle.ec_generate.specs.Sites.{IsLed};
-ghost use Rattle.ec_liveness.specs.Marks.{is_among};
+ghost use Rattle.ec_code.specs.Marks.{is_among};
 ghost use Rattle.ec_micro.specs.Direct as spec;
 
 use crate::site::Site;
 use ec_base::list::Seq;
 use ec_code::code::{Line, Live, Op, Operand, Variable};
-use ec_liveness::steps::is_same;
+use ec_code::steps::is_same;
 use std::alloc::{AllocError, Global};
 
 /// The place so many steps past the next one. One beyond 64 bits is no place.

@@ -10,12 +10,12 @@ use Rattle.ec_code.specs.Typing.{Declared}
 use Rattle.ec_code.specs.declared.activation.CodeActivation.{CodeActivation}
 use Rattle.ec_code.specs.declared.code.Parts.{Parts}
 use Rattle.ec_going.specs.Going.{IsDoneTop, IsInOneBlock}
-use Rattle.ec_idle.specs.Idle.{HasOperations, IdleProc, IdleWorld, IsIdle, IsIdleTop, IsPlain, OfClasses}
+use Rattle.ec_code.specs.Idle.{HasOperations, IdleProc, IdleWorld, IsIdle, IsIdleTop, IsPlain, OfClasses}
 use Rattle.ec_world.proofs.Procs.{get_end}
 use Rattle.ec_world.specs.Things.{class_blocks}
-use Rattle.ec_sound.proofs.Carried.{each_get, each_object}
-use Rattle.ec_sound.proofs.Facts.{activation_rests}
-use Rattle.ec_sound.specs.Sound.{SoundWorld}
+use Rattle.ec_code.proofs.Carried.{each_get, each_object}
+use Rattle.ec_code.proofs.Facts.{activation_rests}
+use Rattle.ec_code.specs.Sound.{SoundWorld}
 use Rattle.ec_system.specs.Acting.{IsTop}
 use Rattle.ec_world.specs.Sights.{class_of}
 use Rattle.ec_world.specs.declared.class.ClassNo.{ClassNo}

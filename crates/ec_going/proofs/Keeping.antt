@@ -15,11 +15,11 @@ use Rattle.ec_code.specs.declared.code.Parts.{Parts}
 use Rattle.ec_going.specs.Going.{HasCode, HasLiterals, Ran}
 use Rattle.ec_legs.specs.Legs.{IsCodeOf}
 use Rattle.ec_node_frames.specs.Frames.{HasTables}
-use Rattle.ec_ranges.proofs.Worlds.{go_on_ranged}
-use Rattle.ec_ranges.specs.Code.{SmallProgram}
-use Rattle.ec_ranges.specs.Worlds.{most_nodes}
-use Rattle.ec_sound.proofs.Worlds.{go_on_sound}
-use Rattle.ec_sound.specs.Sound.{SoundWorld}
+use Rattle.ec_code.proofs.RangesWorlds.{go_on_ranged}
+use Rattle.ec_code.specs.Code.{SmallProgram}
+use Rattle.ec_code.specs.Worlds.{most_nodes}
+use Rattle.ec_code.proofs.SoundWorlds.{go_on_sound}
+use Rattle.ec_code.specs.Sound.{SoundWorld}
 use Rattle.ec_stores.specs.Node.{store_of}
 use Rattle.ec_system.specs.Systems.{Mirrors, Runs, Steady}
 use Rattle.ec_system.specs.declared.system.System.{System}

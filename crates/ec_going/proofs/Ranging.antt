@@ -7,10 +7,10 @@ use Rattle.ec_code.specs.declared.activation.CodeActivation.{CodeActivation}
 use Rattle.ec_code.specs.declared.code.Parts.{Parts}
 use Rattle.ec_code.specs.declared.code.Variable.{Variable}
 use Rattle.ec_faithful.specs.Standing.{FitsWord}
-use Rattle.ec_ranges.proofs.Steps.{variable_ranged}
-use Rattle.ec_ranges.specs.Values.{AllInRange, GivenInRange, InRange}
-use Rattle.ec_ranges.specs.Worlds.{RangedActivation, RangedCommon, RangedMachine, RangedObject}
-use Rattle.ec_sound.proofs.Carried.{each_append, each_get, each_object, each_replicate}
+use Rattle.ec_code.proofs.RangesSteps.{variable_ranged}
+use Rattle.ec_code.specs.RangesValues.{AllInRange, GivenInRange, InRange}
+use Rattle.ec_code.specs.Worlds.{RangedActivation, RangedCommon, RangedMachine, RangedObject}
+use Rattle.ec_code.proofs.Carried.{each_append, each_get, each_object, each_replicate}
 use Rattle.ec_world.specs.Objects.{object_at}
 use Rattle.ec_world.specs.declared.common.Common.{Common}
 use Rattle.ec_world.specs.declared.object.ObjectRec.{ObjectRec}

@@ -17,11 +17,11 @@ use Rattle.ec_legs.specs.Legs.{ShowsAll}
 use Rattle.ec_world.proofs.Procs.{activation_is}
 use Rattle.ec_world.specs.Things.{blocks_of, class_blocks}
 use Rattle.ec_world.specs.declared.key.Key.TheVariants.{Frame, Object}
-use Rattle.ec_ranges.specs.Worlds.{RangedWorld}
-use Rattle.ec_sound.proofs.Carried.{IsThere, all_two_length, each_object}
-use Rattle.ec_sound.proofs.Carried as carried
-use Rattle.ec_sound.specs.Sound.{FineFields, FineObject, SoundWorld}
-use Rattle.ec_sound.specs.Values.{HasType}
+use Rattle.ec_code.specs.Worlds.{RangedWorld}
+use Rattle.ec_code.proofs.Carried.{IsThere, all_two_length, each_object}
+use Rattle.ec_code.proofs.Carried as carried
+use Rattle.ec_code.specs.Sound.{FineFields, FineObject, SoundWorld}
+use Rattle.ec_code.specs.SoundValues.{HasType}
 use Rattle.ec_stop_tables.proofs.Listing.{all_at}
 use Rattle.ec_things.specs.Store.{Store}
 use Rattle.ec_things.specs.Things.{ShownAt, frame_if, object_if, object_thing, things_of}

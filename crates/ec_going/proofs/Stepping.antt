@@ -20,15 +20,15 @@ use Rattle.ec_faithful.specs.Standing.{FitsWord, HasWhatIsSet}
 use Rattle.ec_faithful.specs.Stops.{stop_in, stop_of}
 use Rattle.ec_going.proofs.Ranging.{variable_fits}
 use Rattle.ec_legs.specs.Legs.{CanStep}
-use Rattle.ec_liveness.specs.Live.{stays}
-use Rattle.ec_ranges.specs.Worlds.{RangedActivation, RangedCommon}
+use Rattle.ec_code.specs.Live.{stays}
+use Rattle.ec_code.specs.Worlds.{RangedActivation, RangedCommon}
 use Rattle.ec_resting.proofs.Entries.{rests_at_an_entry}
 use Rattle.ec_resting.specs.Laws.{its_entry}
-use Rattle.ec_sound.proofs.Carried.{all_two_get, each_object}
-use Rattle.ec_sound.proofs.Carried as carried
-use Rattle.ec_sound.proofs.Silent.{reaches}
-use Rattle.ec_sound.specs.Sound.{FineFields, FineObject, SoundCommon, SoundDone, reached}
-use Rattle.ec_sound.specs.Values.{HasType, held}
+use Rattle.ec_code.proofs.Carried.{all_two_get, each_object}
+use Rattle.ec_code.proofs.Carried as carried
+use Rattle.ec_code.proofs.Silent.{reaches}
+use Rattle.ec_code.specs.Sound.{FineFields, FineObject, SoundCommon, SoundDone, reached}
+use Rattle.ec_code.specs.SoundValues.{HasType, held}
 use Rattle.ec_world.specs.declared.class.ClassNo.{ClassNo}
 use Rattle.ec_world.specs.declared.class.ClassNo.TheVariants.{Node, Program, Made, Vector}
 use Rattle.ec_world.specs.declared.common.Common.{Common}

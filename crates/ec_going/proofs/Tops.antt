@@ -11,10 +11,10 @@ use Rattle.ec_code.specs.declared.activation.CodeActivation.{CodeActivation}
 use Rattle.ec_code.specs.declared.code.Parts.{Parts}
 use Rattle.ec_going.specs.Going.{IsDoneTop}
 use Rattle.ec_world.proofs.Procs.{get_end}
-use Rattle.ec_ranges.specs.Worlds.{RangedActivation, RangedProc, RangedWorld}
-use Rattle.ec_sound.proofs.Carried.{each_get}
-use Rattle.ec_sound.proofs.Worlds.{tower_at}
-use Rattle.ec_sound.specs.Sound.{SoundDone, SoundTower, SoundWorld, TopIs}
+use Rattle.ec_code.specs.Worlds.{RangedActivation, RangedProc, RangedWorld}
+use Rattle.ec_code.proofs.Carried.{each_get}
+use Rattle.ec_code.proofs.SoundWorlds.{tower_at}
+use Rattle.ec_code.specs.Sound.{SoundDone, SoundTower, SoundWorld, TopIs}
 use Rattle.ec_world.specs.World.{GoOn, advanced, go_on, go_on_unless, ready_stack, stack_at, stack_if_ready}
 use Rattle.ec_world.specs.declared.common.Common.{Common}
 use Rattle.ec_world.specs.declared.process.Proc.{Proc}

@@ -7,7 +7,7 @@ use Rattle.ec_code.specs.Activations.{Arrived, code_if, code_silent, machine_beh
 use Rattle.ec_code.specs.Steps.{Machine, stores}
 use Rattle.ec_code.specs.declared.activation.CodeActivation.{CodeActivation}
 use Rattle.ec_code.specs.declared.code.Parts.{Parts}
-use Rattle.ec_idle.proofs.Walks.{Keeps, StoresKeep, silent_keeps}
+use Rattle.ec_code.proofs.Walks.{Keeps, StoresKeep, silent_keeps}
 use Rattle.ec_world.specs.Objects.{changed_if, changed_object}
 use Rattle.ec_world.specs.Outcomes.{with_element}
 use Rattle.ec_world.specs.declared.common.Common.{Common}

@@ -7,7 +7,7 @@ use Rattle.ec_code.specs.Typing.{Declared}
 use Rattle.ec_code.specs.declared.activation.CodeActivation.{CodeActivation}
 use Rattle.ec_faithful.specs.Stops.{words_of}
 use Rattle.ec_legs.specs.Legs.{IsCodeOf}
-use Rattle.ec_liveness.specs.Live.{stays}
+use Rattle.ec_code.specs.Live.{stays}
 use Rattle.ec_world.specs.Things.{blocks_of}
 use Rattle.ec_stores.specs.Node.{NodeData}
 use Rattle.ec_system.specs.Acting.{IsTop}

@@ -8,9 +8,9 @@ use Rattle.ec_code.specs.Typing.{Declared}
 use Rattle.ec_code.specs.declared.activation.CodeActivation.{CodeActivation}
 use Rattle.ec_code.specs.declared.code.Parts.{Parts}
 use Rattle.ec_going.specs.Going.{HasCode, HasLiterals, IsDoneTop, Ran}
-use Rattle.ec_idle.specs.Idle.{IdleWorld, OfClasses}
-use Rattle.ec_ranges.specs.Code.{SmallProgram}
-use Rattle.ec_sound.specs.Sound.{SoundWorld}
+use Rattle.ec_code.specs.Idle.{IdleWorld, OfClasses}
+use Rattle.ec_code.specs.Code.{SmallProgram}
+use Rattle.ec_code.specs.Sound.{SoundWorld}
 use Rattle.ec_system.specs.Acting.{IsTop}
 use Rattle.ec_system.specs.Systems.{Mirrors, Runs}
 use Rattle.ec_system.specs.declared.system.System.{System}

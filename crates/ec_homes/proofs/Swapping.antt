@@ -4,9 +4,9 @@ use Rattle.ec_code.specs.declared.code.Line.{Line}
 use Rattle.ec_code.specs.declared.code.Variable.{Variable}
 use Rattle.ec_code.specs.Fine.{IsIn}
 use Rattle.ec_homes.specs.Meeting.{Meet, all_if, live_in, live_first, met_at, met_behind, met_by}
-use Rattle.ec_liveness.proofs.Among.{among_in, in_among, in_append, in_left, in_right, is_same_self, same_is}
-use Rattle.ec_liveness.specs.Live.{writes}
-use Rattle.ec_liveness.specs.Marks.{is_among, is_same}
+use Rattle.ec_code.proofs.Among.{among_in, in_among, in_append, in_left, in_right, is_same_self, same_is}
+use Rattle.ec_code.specs.Live.{writes}
+use Rattle.ec_code.specs.Marks.{is_among, is_same}
 
 in_all : (b : Bool) (ys : List Variable) (y : Variable) → IsIn y (all_if b ys) → (b ≡ true) × IsIn y ys
 in_all true ys y i = (refl, i)

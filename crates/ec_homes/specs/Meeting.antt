@@ -4,8 +4,8 @@ use Rattle.std.specs.Prelude.{◌≢◌, Bool, true, false, List, [], ◌∷◌,
 use Rattle.ec_code.specs.declared.code.Line.{Line}
 use Rattle.ec_code.specs.declared.code.Variable.{Variable}
 use Rattle.ec_code.specs.Fine.{IsIn}
-use Rattle.ec_liveness.specs.Live.{writes}
-use Rattle.ec_liveness.specs.Marks.{is_among, is_same}
+use Rattle.ec_code.specs.Live.{writes}
+use Rattle.ec_code.specs.Marks.{is_among, is_same}
 
 -- the variables that are live before a line
 abbrev pub live_in : Line → List Variable

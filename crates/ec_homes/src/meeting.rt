@@ -4,12 +4,12 @@ ghost use Rattle.std.specs.Prelude.{slice_set};
 ghost use Rattle.ec_homes.specs.Homes as homes;
 ghost use Rattle.ec_homes.specs.Meeting as spec;
 ghost use Rattle.ec_homes.specs.Rows.{marked_with, row_of};
-ghost use Rattle.ec_liveness.specs.Live.{writes};
-ghost use Rattle.ec_liveness.specs.Marks.{is_among};
+ghost use Rattle.ec_code.specs.Live.{writes};
+ghost use Rattle.ec_code.specs.Marks.{is_among};
 
 use ec_base::list::Seq;
 use ec_code::code::{Line, Live, Variable};
-use ec_liveness::steps::{is_same, written};
+use ec_code::steps::{is_same, written};
 use std::alloc::{AllocError, Global};
 
 /// The place of a variable among all, named ones first, where there are so many of these. One beyond 64 bits is no place.

@@ -13,15 +13,15 @@ use Rattle.ec_fitting.proofs.Roomy.{settles_with_room}
 use Rattle.ec_fitting.specs.Room.{RoomToSettle}
 use Rattle.ec_fitting.specs.Waiters.{BelowStay, WaitersStay}
 use Rattle.ec_fullness.proofs.Acting.{action_is}
-use Rattle.ec_idle.proofs.Worlds.{action_idle}
-use Rattle.ec_idle.specs.Idle.{IdleProc, IdleWorld}
+use Rattle.ec_code.proofs.IdleWorlds.{action_idle}
+use Rattle.ec_code.specs.Idle.{IdleProc, IdleWorld}
 use Rattle.ec_kernel.specs.Acts.{AsksOfEach, HasActed}
 use Rattle.ec_placing.proofs.Settling.{settling_keeps_places}
 use Rattle.ec_placing.specs.Places.{HasPlaces}
-use Rattle.ec_ranges.proofs.Worlds.{action_ranged}
+use Rattle.ec_code.proofs.RangesWorlds.{action_ranged}
 use Rattle.ec_settling.specs.Settling.{CanBeSettled, SettlesIn}
-use Rattle.ec_sound.proofs.Worlds.{action_sound}
-use Rattle.ec_sound.specs.Sound.{SoundWorld}
+use Rattle.ec_code.proofs.SoundWorlds.{action_sound}
+use Rattle.ec_code.specs.Sound.{SoundWorld}
 use Rattle.ec_system.specs.Steps.{Does, Settles, world_done, world_settled}
 use Rattle.ec_system.specs.Systems.{Mirrors, Runs, Strings}
 use Rattle.ec_system.specs.declared.system.System.{System}

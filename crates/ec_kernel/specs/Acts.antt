@@ -8,7 +8,7 @@ use Rattle.ec_code.specs.Activations.{code_meaning}
 use Rattle.ec_code.specs.Typing.{Declared}
 use Rattle.ec_code.specs.declared.activation.CodeActivation.{CodeActivation}
 use Rattle.ec_fullness.specs.Room.{RoomFor}
-use Rattle.ec_idle.specs.Idle.{IdleWorld}
+use Rattle.ec_code.specs.Idle.{IdleWorld}
 use Rattle.ec_kernel.specs.declared.acts.ActError.{ActError}
 use Rattle.ec_kernel.specs.declared.acts.ActError.TheVariants as refusal
 use Rattle.ec_kernel.specs.declared.acts.Acted.{Acted}

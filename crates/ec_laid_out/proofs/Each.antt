@@ -20,7 +20,7 @@ use Rattle.ec_faithful.specs.Machine.{MachineMeaning}
 use Rattle.ec_faithful.specs.Standing.{FitsWord}
 use Rattle.ec_homes.specs.declared.homes.Home.{Home}
 use Rattle.ec_homes.specs.declared.homes.Home.TheVariants.{Register, Slot}
-use Rattle.ec_liveness.specs.Live.{writes}
+use Rattle.ec_code.specs.Live.{writes}
 use Rattle.ec_memory.specs.Words.{block_word_at, global_word_at}
 use Rattle.ec_micro.specs.Fitting.{OperandFits}
 use Rattle.ec_micro.specs.Lowering.{is_same_home, moved, question_of, source_of}

@@ -30,7 +30,7 @@ use Rattle.ec_faithful.specs.Stops.{stop_places}
 use Rattle.ec_homes.specs.Homes.{IsWithin}
 use Rattle.ec_homes.specs.declared.homes.Home.{Home}
 use Rattle.ec_homes.specs.declared.homes.Home.TheVariants.{Register, Slot}
-use Rattle.ec_liveness.specs.Marks.{is_same}
+use Rattle.ec_code.specs.Marks.{is_same}
 use Rattle.ec_memory.proofs.Words.{word_other, word_written}
 use Rattle.ec_memory.specs.Words.{HasWord, block_word_at, global_word_at, word_in}
 use Rattle.ec_micro.specs.Fitting.{CanBeLaidOut}

@@ -17,8 +17,8 @@ use Rattle.ec_code.specs.declared.code.Variable.TheVariants.{Named, Temporary}
 use Rattle.ec_types.specs.declared.conform.static_type.StaticType.{StaticType}
 use Rattle.ec_faithful.specs.Machine.{MachineMeaning}
 use Rattle.ec_faithful.specs.Stops.{live_list, stop_at, stop_in, without}
-use Rattle.ec_liveness.specs.Live.{stays}
-use Rattle.ec_liveness.specs.Marks.{is_same, is_written}
+use Rattle.ec_code.specs.Live.{stays}
+use Rattle.ec_code.specs.Marks.{is_same, is_written}
 use Rattle.ec_micro.proofs.Direct.{LeadsPast, branch_leads, jump_leads, none_behind, none_led}
 use Rattle.ec_micro.specs.Direct.{direct_at, direct_before, direct_of, laid_op}
 use Rattle.ec_micro.specs.Fitting.{TestFits}

@@ -20,7 +20,7 @@ use Rattle.ec_faithful.specs.Frames.{slots}
 use Rattle.ec_faithful.specs.Machine.{MachineMeaning}
 use Rattle.ec_homes.specs.Homes.{IsWithin}
 use Rattle.ec_homes.specs.declared.homes.Home.{Home}
-use Rattle.ec_liveness.specs.Live.{writes}
+use Rattle.ec_code.specs.Live.{writes}
 use Rattle.ec_micro.specs.Fitting.{IsNamedBy, NumbersFit}
 use Rattle.ec_micro.proofs.Direct.{laid_there}
 use Rattle.ec_micro.specs.Direct.{laid_op}

@@ -13,10 +13,10 @@ use Rattle.ec_code.specs.declared.activation.CodeActivation.{CodeActivation}
 use Rattle.ec_code.specs.declared.code.Parts.{Parts}
 use Rattle.ec_leaving.proofs.Waits.{begun_waits, blocked_waits, pending_waits}
 use Rattle.ec_leaving.specs.Between.{AllRest, RestsBetween, StillWaits, TopWaits}
-use Rattle.ec_sound.proofs.Carried.{each_append, each_get}
-use Rattle.ec_sound.proofs.Facts.{pending_top, silent_steps_reach}
-use Rattle.ec_sound.proofs.Worlds.{action_sound, set_get}
-use Rattle.ec_sound.specs.Sound.{SoundWorld, reached}
+use Rattle.ec_code.proofs.Carried.{each_append, each_get}
+use Rattle.ec_code.proofs.Facts.{pending_top, silent_steps_reach}
+use Rattle.ec_code.proofs.SoundWorlds.{action_sound, set_get}
+use Rattle.ec_code.specs.Sound.{SoundWorld, reached}
 use Rattle.ec_world.specs.Outcomes.{Acted, all_granted}
 use Rattle.ec_world.specs.World.{Action, GoOn, Turn, act_if_pending, act_on, acted, advanced, all_readied, begun_for, changed}
 use Rattle.ec_world.specs.World.{finish_top, given_up, go_on, go_on_unless, outcome_at, owns_of, readied, ready_stack, settled}

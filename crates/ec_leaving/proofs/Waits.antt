@@ -13,7 +13,7 @@ use Rattle.ec_types.specs.declared.conform.static_type.StaticType.{StaticType}
 use Rattle.ec_leaving.specs.Between.{StillWaits}
 use Rattle.ec_resting.proofs.Entries.{rests_at_an_entry}
 use Rattle.ec_resting.specs.Laws.{its_entry}
-use Rattle.ec_sound.specs.Sound.{RestsAt}
+use Rattle.ec_code.specs.Sound.{RestsAt}
 use Rattle.ec_stop_tables.specs.Entries.{result_of}
 use Rattle.ec_stop_tables.specs.declared.table.StopEntry.{StopEntry}
 use Rattle.ec_world.specs.declared.object.ObjectRec.{ObjectRec}

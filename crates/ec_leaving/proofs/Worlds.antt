@@ -8,15 +8,15 @@ use Rattle.ec_code.specs.Fine.{Fine}
 use Rattle.ec_code.specs.Typing.{Declared}
 use Rattle.ec_code.specs.declared.activation.CodeActivation.{CodeActivation}
 use Rattle.ec_code.specs.declared.code.Parts.{Parts}
-use Rattle.ec_idle.proofs.Walks.{silent_keeps}
+use Rattle.ec_code.proofs.Walks.{silent_keeps}
 use Rattle.ec_leaving.proofs.Objects.{AreKept, IsKept, KeptActed, SpelledIf, changed_kept, element_kept, given_up_kept, outcome_kept}
 use Rattle.ec_leaving.proofs.Turns.{turn_rests}
 use Rattle.ec_leaving.proofs.Waits.{begun_waits}
 use Rattle.ec_leaving.specs.Between.{AllRest, CanBeSpelled, IsBetween, MonitorsHaveSpellings, NodesAreFixed}
 use Rattle.ec_loading.specs.Worlds.{world_first}
 use Rattle.ec_monitors.specs.declared.record.MonitorRec.{MonitorRec}
-use Rattle.ec_sound.proofs.Carried.{each_append, each_object, each_replicate}
-use Rattle.ec_sound.specs.Sound.{SoundWorld}
+use Rattle.ec_code.proofs.Carried.{each_append, each_object, each_replicate}
+use Rattle.ec_code.specs.Sound.{SoundWorld}
 use Rattle.ec_wire_limits.specs.Limits.{FewConditions, FewConditionsIn}
 use Rattle.ec_world.specs.Moves.{OperatorMove, is_idle_move, moved_unless}
 use Rattle.ec_world.specs.Objects.{object_at}

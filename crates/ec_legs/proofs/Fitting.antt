@@ -29,7 +29,7 @@ use Rattle.ec_homes.specs.Homes.{IsWithin, column}
 use Rattle.ec_homes.specs.declared.homes.Home.{Home}
 use Rattle.ec_homes.specs.declared.homes.Home.TheVariants.{Register, Slot}
 use Rattle.ec_laid_out.proofs.Stops.{rest_is}
-use Rattle.ec_liveness.specs.Live.{stays}
+use Rattle.ec_code.specs.Live.{stays}
 use Rattle.ec_memory.specs.Words.{block_word_at, global_word_at, word_in}
 use Rattle.ec_micro.proofs.FineAt.{fine_at}
 use Rattle.ec_world.specs.Words.{StandsFor}

@@ -19,7 +19,7 @@ use Rattle.ec_faithful.specs.Standing.{FitsWord, HasWhatIsSet}
 use Rattle.ec_faithful.specs.Stops.{address_of, stop_at, words_of}
 use Rattle.ec_faithful.specs.declared.code.Code.{Code}
 use Rattle.ec_homes.specs.declared.homes.Home.{Home}
-use Rattle.ec_liveness.specs.Live.{stays}
+use Rattle.ec_code.specs.Live.{stays}
 use Rattle.ec_micro.specs.Speaks.{words_end}
 use Rattle.ec_world.specs.Things.{blocks_of}
 use Rattle.ec_world.specs.declared.key.Key.{Key}

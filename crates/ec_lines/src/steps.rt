@@ -9,7 +9,7 @@ use crate::types::{constant_type, field_type, own_type, type_at};
 use ec_base::list::Seq;
 use ec_code::code::{Op, Operand, Variable};
 use ec_types::conform::static_type::{Plain, StaticType};
-use ec_liveness::steps::written;
+use ec_code::steps::written;
 use std::alloc::AllocError;
 
 /// The type of a variable, by those of the temporaries.

@@ -9,12 +9,12 @@ use Rattle.ec_code.specs.declared.code.Parts.{Parts}
 use Rattle.ec_loading.specs.Loaded.{AreImages, Loaded}
 use Rattle.ec_loading.specs.Worlds.{world_first}
 use Rattle.ec_node_frames.specs.Frames.{HasTables}
-use Rattle.ec_ranges.proofs.Objects.{defaults_ranged}
-use Rattle.ec_ranges.proofs.Worlds.{begun_ranged}
-use Rattle.ec_ranges.specs.Worlds.{RangedObject, RangedWorld, most_nodes}
-use Rattle.ec_sound.proofs.Carried.{each_append, each_replicate}
-use Rattle.ec_sound.proofs.Worlds.{start_sound}
-use Rattle.ec_sound.specs.Sound.{SoundWorld}
+use Rattle.ec_code.proofs.RangesObjects.{defaults_ranged}
+use Rattle.ec_code.proofs.RangesWorlds.{begun_ranged}
+use Rattle.ec_code.specs.Worlds.{RangedObject, RangedWorld, most_nodes}
+use Rattle.ec_code.proofs.Carried.{each_append, each_replicate}
+use Rattle.ec_code.proofs.SoundWorlds.{start_sound}
+use Rattle.ec_code.specs.Sound.{SoundWorld}
 use Rattle.ec_system.specs.Systems.{Runs}
 use Rattle.ec_system.specs.declared.system.System.{System}
 use Rattle.ec_world.specs.Run.{node_object, program_object}

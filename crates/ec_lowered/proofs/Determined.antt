@@ -8,7 +8,7 @@ use Rattle.ec_code.specs.declared.code.Parts.{Parts}
 use Rattle.ec_core.specs.declared.Operation.{Operation}
 use Rattle.ec_lowered.specs.Lowered.{HasLines, IsOperationOf, IsProgramOf, AreOperationsOf, IsLowered}
 use Rattle.ec_lowered.specs.Types.{Around, lines_of}
-use Rattle.ec_liveness.proofs.Determined.{same_lists}
+use Rattle.ec_code.proofs.Determined.{same_lists}
 use Rattle.ec_meaning.specs.Programs.{Source}
 use Rattle.ec_world.specs.Agree.{AllTwo}
 

@@ -18,7 +18,7 @@ use Rattle.ec_core.specs.declared.Operation.{Operation}
 use Rattle.ec_emission.specs.Literals.{literals_of}
 use Rattle.ec_emission.specs.Statements.{operation_ops, program_ops}
 use Rattle.ec_lowered.specs.Types.{Around, lines_of}
-use Rattle.ec_liveness.specs.Live.{IsLiveList}
+use Rattle.ec_code.specs.Live.{IsLiveList}
 use Rattle.ec_meaning.specs.Programs.{Source, class_number, classes_of, operation_names}
 use Rattle.ec_meaning.specs.Steps.{captured_by}
 use Rattle.ec_world.specs.Agree.{AllTwo}

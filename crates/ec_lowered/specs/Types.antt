@@ -12,7 +12,7 @@ use Rattle.ec_code.specs.declared.code.Variable.TheVariants.{Named, Temporary}
 use Rattle.ec_code.specs.Typing.{Declared, integer, boolean, string, class_type, field_types}
 use Rattle.ec_types.specs.declared.conform.static_type.StaticType.{StaticType}
 use Rattle.ec_types.specs.declared.conform.static_type.StaticType.TheVariants as type
-use Rattle.ec_liveness.specs.Live.{writes}
+use Rattle.ec_code.specs.Live.{writes}
 use Rattle.ec_world.specs.declared.class.ClassNo.{ClassNo}
 
 -- the type at a number, among the types of variables, fields or constants; unknown where there is none

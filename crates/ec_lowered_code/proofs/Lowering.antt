@@ -30,7 +30,7 @@ use Rattle.ec_meaning.specs.Programs.{Source, operation_at}
 use Rattle.ec_meaning.specs.Steps.{block_items, captured_by, types_if}
 use Rattle.ec_meaning.specs.declared.item.Item.{Item}
 use Rattle.ec_meaning.specs.declared.item.Item.TheVariants as i
-use Rattle.ec_sound.specs.Laws.{world_after}
+use Rattle.ec_code.specs.SoundLaws.{world_after}
 use Rattle.ec_stands.proofs.Walking.{ops}
 use Rattle.ec_stands.specs.Stands.{Stands}
 use Rattle.ec_world.specs.Agree.{Agree, SameRest}

@@ -13,7 +13,7 @@ use Rattle.ec_lowered_code.specs.Lowerable.{IsLowerable, lowered_loops}
 use Rattle.ec_meaning.specs.Activations.{source_meaning}
 use Rattle.ec_meaning.specs.Meaning.{source_silent, source_start}
 use Rattle.ec_meaning.specs.Programs.{Source}
-use Rattle.ec_sound.specs.Laws.{world_after}
+use Rattle.ec_code.specs.SoundLaws.{world_after}
 use Rattle.ec_world.specs.Agree.{Agree, SameRest}
 use Rattle.ec_world.specs.Run.{first_world, run_after}
 use Rattle.ec_world.specs.Simulation.{AgreeRun}

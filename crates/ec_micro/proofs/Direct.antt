@@ -22,8 +22,8 @@ use Rattle.ec_types.specs.declared.conform.static_type.StaticType.{StaticType}
 use Rattle.ec_faithful.specs.Stops.{stop_of}
 use Rattle.ec_homes.specs.declared.homes.Home.{Home}
 use Rattle.ec_homes.specs.declared.homes.Home.TheVariants.{Register, Slot}
-use Rattle.ec_liveness.proofs.Among.{in_among}
-use Rattle.ec_liveness.specs.Marks.{is_among}
+use Rattle.ec_code.proofs.Among.{in_among}
+use Rattle.ec_code.specs.Marks.{is_among}
 use Rattle.ec_micro.specs.Direct.{copied_by, copied_from, copied_to, direct_at, direct_before, direct_if, direct_of, done_already}
 use Rattle.ec_micro.specs.Direct.{if_so, into_named, is_unled, laid_by, laid_from, laid_op, led_to, marked, marked_one}
 use Rattle.ec_micro.specs.Layout.{ops_of}

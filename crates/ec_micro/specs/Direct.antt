@@ -11,7 +11,7 @@ use Rattle.ec_code.specs.declared.code.Op.TheVariants as op
 use Rattle.ec_code.specs.declared.code.Operand.{Operand}
 use Rattle.ec_code.specs.declared.code.Operand.TheVariants as operand
 use Rattle.ec_code.specs.declared.code.Variable.TheVariants.{Named, Temporary}
-use Rattle.ec_liveness.specs.Marks.{is_among}
+use Rattle.ec_code.specs.Marks.{is_among}
 
 -- ---- where code leads
 

@@ -21,7 +21,7 @@ use Rattle.ec_faithful.specs.Machine.{MachineMeaning}
 use Rattle.ec_faithful.specs.Stops.{home_in}
 use Rattle.ec_homes.specs.Homes.{IsWithin}
 use Rattle.ec_homes.specs.declared.homes.Home.{Home}
-use Rattle.ec_liveness.specs.Live.{reads, writes}
+use Rattle.ec_code.specs.Live.{reads, writes}
 use Rattle.ec_micro.specs.Layout.{HasRoom, Vocabularies, code_of, home_of}
 use Rattle.ec_micro.specs.Speaks.{Speaks}
 

@@ -33,8 +33,8 @@ use Rattle.ec_rooms.proofs.Loads.{loads_full}
 use Rattle.ec_rooms.specs.Rooms.{FullAt, Literals, Strings, held}
 use Rattle.ec_rooms.specs.Runs.{NextFull, PoolAfter, action_if, after_action, code_run, next_action}
 use Rattle.ec_rooms.specs.Standing.{HavePools}
-use Rattle.ec_sound.proofs.Worlds.{action_sound, move_sound}
-use Rattle.ec_sound.specs.Sound.{SoundWorld}
+use Rattle.ec_code.proofs.SoundWorlds.{action_sound, move_sound}
+use Rattle.ec_code.specs.Sound.{SoundWorld}
 use Rattle.ec_system.specs.declared.system.System.{System}
 use Rattle.ec_world.proofs.Entries.{run_world}
 use Rattle.ec_world.specs.Run.{RunState, after_entries, after_entry, statuses_of, stepped}

@@ -18,9 +18,9 @@ use Rattle.ec_code.specs.declared.code.Parts.{Parts}
 use Rattle.ec_code.specs.declared.code.StopRow.{StopRow}
 use Rattle.ec_code_limits.specs.Limits.{HasColumn, HasLimits, IsSmallOperation}
 use Rattle.ec_faithful.specs.Stops.{stop_of, without}
-use Rattle.ec_liveness.proofs.Among.{is_same_self}
-use Rattle.ec_liveness.specs.Live.{stays}
-use Rattle.ec_liveness.specs.Marks.{is_same, is_written}
+use Rattle.ec_code.proofs.Among.{is_same_self}
+use Rattle.ec_code.specs.Live.{stays}
+use Rattle.ec_code.specs.Marks.{is_same, is_written}
 use Rattle.ec_node_frames.specs.Frames.{RestsAt}
 use Rattle.ec_stop_tables.proofs.Listing.{all_at}
 use Rattle.ec_stop_tables.specs.declared.table.StopEntry.{StopEntry}

@@ -10,8 +10,8 @@ use Rattle.ec_code.specs.Fine.{Fine}
 use Rattle.ec_code.specs.Typing.{Declared}
 use Rattle.ec_code.specs.declared.code.Parts.{Parts}
 use Rattle.ec_going.specs.Going.{HasCode, HasLiterals}
-use Rattle.ec_idle.proofs.Worlds.{run_idle}
-use Rattle.ec_idle.specs.Idle.{OfClasses}
+use Rattle.ec_code.proofs.IdleWorlds.{run_idle}
+use Rattle.ec_code.specs.Idle.{OfClasses}
 use Rattle.ec_leaving.proofs.Worlds.{first_between}
 use Rattle.ec_leaving.specs.Between.{IsBetween}
 use Rattle.ec_legs.specs.Legs.{IsCodeOf}
@@ -20,7 +20,7 @@ use Rattle.ec_loading.specs.Worlds.{world_first}
 use Rattle.ec_nodes_running.specs.Networks.{AreCode, CanRun}
 use Rattle.ec_nodes_running.specs.Standing.{Stands, Works}
 use Rattle.ec_placing.proofs.First.{first_are_placed}
-use Rattle.ec_ranges.specs.Code.{SmallProgram}
+use Rattle.ec_code.specs.Code.{SmallProgram}
 use Rattle.ec_system.specs.Systems.{Runs}
 use Rattle.ec_system.specs.declared.system.System.{System}
 use Rattle.ec_wire_limits.specs.Limits.{CarriesFew, FewConditions}

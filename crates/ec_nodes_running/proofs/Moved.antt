@@ -15,8 +15,8 @@ use Rattle.ec_gathering.proofs.Moves.{operator_may}
 use Rattle.ec_gathering.specs.Gathers.{Gathers, LacksFor, LetsGo, MayGather, world_gathered}
 use Rattle.ec_gathering_room.specs.Gathering.{gathered}
 use Rattle.ec_going.proofs.Keeping.{code_kept}
-use Rattle.ec_idle.proofs.Worlds.{entry_idle}
-use Rattle.ec_idle.specs.Idle.{OfClasses}
+use Rattle.ec_code.proofs.IdleWorlds.{entry_idle}
+use Rattle.ec_code.specs.Idle.{OfClasses}
 use Rattle.ec_kernel.specs.Acts.{FoundFull}
 use Rattle.ec_leaving.proofs.Worlds.{move_between}
 use Rattle.ec_leaving.specs.Between.{IsBetween}
@@ -28,10 +28,10 @@ use Rattle.ec_nodes_running.specs.Standing.{HasNumbers, Stands, Works}
 use Rattle.ec_placing.proofs.Moving.{gone_place, moves_keep_places}
 use Rattle.ec_placing.specs.Full.{FindsFull}
 use Rattle.ec_placing.specs.Places.{HasPlaces, place_of}
-use Rattle.ec_ranges.proofs.Worlds.{move_ranged}
-use Rattle.ec_ranges.specs.Code.{SmallProgram}
-use Rattle.ec_sound.proofs.Worlds.{move_sound}
-use Rattle.ec_sound.specs.Sound.{SoundWorld}
+use Rattle.ec_code.proofs.RangesWorlds.{move_ranged}
+use Rattle.ec_code.specs.Code.{SmallProgram}
+use Rattle.ec_code.proofs.SoundWorlds.{move_sound}
+use Rattle.ec_code.specs.Sound.{SoundWorld}
 use Rattle.ec_system.proofs.Pools.{strings_come}
 use Rattle.ec_system.specs.Systems.{Mirrors, Strings}
 use Rattle.ec_system.specs.declared.system.System.{System}

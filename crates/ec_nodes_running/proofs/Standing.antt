@@ -11,15 +11,15 @@ use Rattle.ec_code.specs.declared.code.Parts.{Parts}
 use Rattle.ec_going.proofs.Idling.{idle_top_goes_on}
 use Rattle.ec_going.proofs.Keeping.{code_kept, literals_kept, runs_kept}
 use Rattle.ec_going.specs.Going.{GoesIn, HasLiterals, IsDoneTop, IsFew, Ran, RanNatively}
-use Rattle.ec_idle.proofs.Worlds.{go_on_idle}
-use Rattle.ec_idle.specs.Idle.{OfClasses}
+use Rattle.ec_code.proofs.IdleWorlds.{go_on_idle}
+use Rattle.ec_code.specs.Idle.{OfClasses}
 use Rattle.ec_cluster.proofs.Before.{before}
 use Rattle.ec_kernel.specs.Acts.{HasActed}
 use Rattle.ec_node_frames.specs.declared.frames.Headings.{Headings}
 use Rattle.ec_nodes_running.specs.Running.{TopTold, WentOn, gone_on}
 use Rattle.ec_nodes_running.specs.Standing.{Works}
 use Rattle.ec_placing.proofs.Stepping.{silent_steps_keep_places}
-use Rattle.ec_ranges.specs.Code.{SmallProgram}
+use Rattle.ec_code.specs.Code.{SmallProgram}
 use Rattle.ec_system.specs.Systems.{Mirrors}
 use Rattle.ec_system.specs.declared.system.System.{System}
 use Rattle.ec_wire_limits.specs.Limits.{CarriesFew, FewConditions}

@@ -7,7 +7,7 @@ use Rattle.ec_code.specs.declared.activation.CodeActivation.{CodeActivation}
 use Rattle.ec_code.specs.declared.code.Parts.{Parts}
 use Rattle.ec_asking.specs.Typed.{IsTypedOnce}
 use Rattle.ec_going.specs.Nodes.{IsCodeFor}
-use Rattle.ec_idle.specs.Idle.{OfClasses}
+use Rattle.ec_code.specs.Idle.{OfClasses}
 use Rattle.ec_loading.specs.Loaded.{AreImages, Loaded}
 use Rattle.ec_loading.specs.Loading.{CanLoad}
 use Rattle.ec_loading.specs.Worlds.{world_first}
@@ -18,7 +18,7 @@ use Rattle.ec_nodes_running.specs.declared.network.Numbered.{Numbered}
 use Rattle.ec_nodes_running.specs.declared.turns.Did.{Did}
 use Rattle.ec_nodes_running.specs.declared.turns.TurnError.{TurnError}
 use Rattle.ec_nodes_running.specs.declared.turns.TurnError.TheVariants.{Full, Memory}
-use Rattle.ec_ranges.specs.Code.{SmallProgram}
+use Rattle.ec_code.specs.Code.{SmallProgram}
 use Rattle.ec_system.specs.declared.system.System.{System}
 use Rattle.ec_things.specs.Store.{Store}
 use Rattle.ec_wire_limits.specs.Limits.{CarriesFew}

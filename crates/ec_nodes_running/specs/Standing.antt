@@ -4,11 +4,11 @@ use Rattle.ec_class_numbers.specs.Vectors.{table_of}
 use Rattle.ec_cluster.specs.Cluster.{CodeWorld}
 use Rattle.ec_code.specs.Typing.{Declared}
 use Rattle.ec_going.specs.Going.{HasCode, HasLiterals}
-use Rattle.ec_idle.specs.Idle.{OfClasses}
+use Rattle.ec_code.specs.Idle.{OfClasses}
 use Rattle.ec_kernel.specs.Acts.{Goes}
 use Rattle.ec_leaving.specs.Between.{IsBetween}
 use Rattle.ec_mover.specs.Classes.{ClassTable}
-use Rattle.ec_ranges.specs.Code.{SmallProgram}
+use Rattle.ec_code.specs.Code.{SmallProgram}
 use Rattle.ec_system.specs.declared.system.System.{System}
 use Rattle.ec_wire_limits.specs.Limits.{CarriesFew, FewConditions}
 

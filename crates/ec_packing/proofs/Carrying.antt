@@ -27,17 +27,17 @@ use Rattle.ec_code.specs.declared.code.Variable.TheVariants.{Named, Temporary}
 use Rattle.ec_types.specs.declared.conform.static_type.StaticType.{StaticType}
 use Rattle.ec_faithful.specs.Stops.{without}
 use Rattle.ec_leaving.specs.Between.{RestsBetween, StillWaits, TopWaits}
-use Rattle.ec_liveness.proofs.Among.{is_same_self}
-use Rattle.ec_liveness.specs.Live.{stays}
-use Rattle.ec_liveness.specs.Marks.{is_same, is_written}
+use Rattle.ec_code.proofs.Among.{is_same_self}
+use Rattle.ec_code.specs.Live.{stays}
+use Rattle.ec_code.specs.Marks.{is_same, is_written}
 use Rattle.ec_objects.specs.Kinds.{IsOfKind}
-use Rattle.ec_ranges.specs.Values.{AllInRange, InRange}
-use Rattle.ec_ranges.specs.Worlds.{RangedActivation}
+use Rattle.ec_code.specs.RangesValues.{AllInRange, InRange}
+use Rattle.ec_code.specs.Worlds.{RangedActivation}
 use Rattle.ec_resting.specs.Laws.{its_entry}
-use Rattle.ec_sound.proofs.Carried.{each_append, each_get, each_replicate}
-use Rattle.ec_sound.specs.Sound.{Chain, LiveBehind, RestsAt, SoundDone, SoundPending, SoundProc, SoundTop}
-use Rattle.ec_sound.specs.Sound.{SoundTower, SoundWaiting, TopIs, Waits}
-use Rattle.ec_sound.specs.Values.{AreHeld, HasType, IsOfType, held}
+use Rattle.ec_code.proofs.Carried.{each_append, each_get, each_replicate}
+use Rattle.ec_code.specs.Sound.{Chain, LiveBehind, RestsAt, SoundDone, SoundPending, SoundProc, SoundTop}
+use Rattle.ec_code.specs.Sound.{SoundTower, SoundWaiting, TopIs, Waits}
+use Rattle.ec_code.specs.SoundValues.{AreHeld, HasType, IsOfType, held}
 use Rattle.ec_stop_tables.specs.Entries.{result_of, typed}
 use Rattle.ec_stop_tables.specs.declared.table.StopEntry.{StopEntry}
 use Rattle.ec_world.specs.Agree.{AllTwo}

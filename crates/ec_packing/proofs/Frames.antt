@@ -22,10 +22,10 @@ use Rattle.ec_world.specs.declared.key.Key.TheVariants.{Frame}
 use Rattle.ec_packing.proofs.Carrying.{Knows, can_go, carried_good, entry_of, known, rests_of}
 use Rattle.ec_packing.proofs.Members.{is_here_it}
 use Rattle.ec_packing.specs.Packing.{CanGo, activation_goes, activation_if, at_stop}
-use Rattle.ec_ranges.specs.Worlds.{RangedActivation, RangedProc}
+use Rattle.ec_code.specs.Worlds.{RangedActivation, RangedProc}
 use Rattle.ec_resting.proofs.Entries.{rests_at_an_entry}
-use Rattle.ec_sound.proofs.Carried.{each_get}
-use Rattle.ec_sound.specs.Sound.{SoundProc}
+use Rattle.ec_code.proofs.Carried.{each_get}
+use Rattle.ec_code.specs.Sound.{SoundProc}
 use Rattle.ec_stop_tables.specs.declared.table.OperationTable.{OperationTable}
 use Rattle.ec_stop_tables.specs.declared.table.StopEntry.{StopEntry}
 use Rattle.ec_stores.specs.Node.{NodeData, store_of}

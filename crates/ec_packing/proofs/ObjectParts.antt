@@ -13,7 +13,7 @@ use Rattle.ec_code.specs.Fine.{IsFieldOf}
 use Rattle.ec_code_limits.specs.Limits.{HasFewFields}
 use Rattle.ec_code.specs.Typing.{Declared, DeclaredClass, element_static, fields_if as types_if}
 use Rattle.ec_types.specs.declared.conform.static_type.StaticType.{StaticType}
-use Rattle.ec_idle.specs.Idle.{IsPlain}
+use Rattle.ec_code.specs.Idle.{IsPlain}
 use Rattle.ec_monitors.specs.declared.record.Hold.{Hold}
 use Rattle.ec_monitors.specs.declared.record.MonitorRec.{MonitorRec}
 use Rattle.ec_mover.specs.Classes.{ClassTable, number_of}
@@ -26,11 +26,11 @@ use Rattle.ec_packing.proofs.Rules.{IsShort, NumberBefore, ObjectBefore}
 use Rattle.ec_packing.proofs.Sorting.{Sorted, sorted_joined}
 use Rattle.ec_packing.specs.Packing.{CanGo, is_here, monitor_goes, monitor_if, object_goes, object_if, with_number}
 use Rattle.ec_parcels.specs.Parcels.{IsOfMonitor, IsOfObject, ObjectGoes}
-use Rattle.ec_ranges.specs.Values.{InRange}
-use Rattle.ec_ranges.specs.Worlds.{FewElements, RangedObject}
-use Rattle.ec_sound.proofs.Carried.{all_two_length, each_get, each_object}
-use Rattle.ec_sound.specs.Sound.{FineFields, FineObject}
-use Rattle.ec_sound.specs.Values.{HasType}
+use Rattle.ec_code.specs.RangesValues.{InRange}
+use Rattle.ec_code.specs.Worlds.{FewElements, RangedObject}
+use Rattle.ec_code.proofs.Carried.{all_two_length, each_get, each_object}
+use Rattle.ec_code.specs.Sound.{FineFields, FineObject}
+use Rattle.ec_code.specs.SoundValues.{HasType}
 use Rattle.ec_system.specs.declared.system.System.{System}
 use Rattle.ec_world.proofs.Queues.{queues_tell}
 use Rattle.ec_world.specs.Waiting.{QueuesTell, in_conditions, processes_of, queued}

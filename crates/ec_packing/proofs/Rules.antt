@@ -20,7 +20,7 @@ use Rattle.ec_monitors.specs.declared.record.MonitorRec.{MonitorRec}
 use Rattle.ec_packing.proofs.Carrying.{IsGood}
 use Rattle.ec_packing.proofs.Sorting.{Sorted, sorted_at, top_taken}
 use Rattle.ec_packing.specs.Narrow.{EachIs, HasBits, IsNarrow, NarrowActivation, NarrowHold, NarrowHolder, NarrowMonitor, NarrowObject, NarrowPart}
-use Rattle.ec_sound.specs.Values.{own_type}
+use Rattle.ec_code.specs.SoundValues.{own_type}
 use Rattle.ec_wire.specs.WireForm.{activation, depth_follows, hold, last_number, last_object, monitor, monitor_record, most, object}
 use Rattle.ec_wire.specs.WireForm.{process_follows, value, value_fits}
 use Rattle.ec_wire.specs.declared.parcel.ActivationPart.{ActivationPart}

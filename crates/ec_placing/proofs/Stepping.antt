@@ -6,7 +6,7 @@ use Rattle.ec_code.specs.Activations.{code_meaning, code_silent}
 use Rattle.ec_code.specs.declared.activation.CodeActivation.{CodeActivation}
 use Rattle.ec_code.specs.declared.code.Parts.{Parts}
 use Rattle.ec_doings.proofs.Objects.{length_changed}
-use Rattle.ec_idle.proofs.Walks.{silent_keeps}
+use Rattle.ec_code.proofs.Walks.{silent_keeps}
 use Rattle.ec_placing.proofs.Counting.{Stays, stays_same}
 use Rattle.ec_placing.proofs.Staying.{stays_places}
 use Rattle.ec_placing.specs.Laws.{SilentStepsKeepPlaces}

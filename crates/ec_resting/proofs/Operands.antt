@@ -14,10 +14,10 @@ use Rattle.ec_code.specs.declared.code.Parts.{Parts}
 use Rattle.ec_code.specs.declared.code.Variable.{Variable}
 use Rattle.ec_code.specs.declared.code.Variable.TheVariants.{Named, Temporary}
 use Rattle.ec_types.specs.declared.conform.static_type.StaticType.{StaticType}
-use Rattle.ec_liveness.specs.Live.{stays}
+use Rattle.ec_code.specs.Live.{stays}
 use Rattle.ec_resting.specs.Laws.{its_entry}
-use Rattle.ec_sound.specs.Sound.{RestsAt, SoundPending}
-use Rattle.ec_sound.specs.Values.{AreHeld, held}
+use Rattle.ec_code.specs.Sound.{RestsAt, SoundPending}
+use Rattle.ec_code.specs.SoundValues.{AreHeld, held}
 use Rattle.ec_stop_tables.specs.Entries.{result_of, typed}
 use Rattle.ec_world.specs.declared.object.ObjectRec.{ObjectRec}
 use Rattle.ec_world.specs.declared.stop.Stop.{Stop}

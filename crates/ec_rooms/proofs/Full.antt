@@ -23,9 +23,9 @@ use Rattle.ec_rooms.proofs.Single.{same_needs}
 use Rattle.ec_rooms.specs.Laws.{FoundIsFull}
 use Rattle.ec_rooms.specs.Rooms.{BytesOf, FullAt, NeedsOf, Strings, held}
 use Rattle.ec_rooms.specs.Standing.{ShowsWith}
-use Rattle.ec_sound.proofs.Carried.{there}
-use Rattle.ec_sound.proofs.Facts.{activation_rests}
-use Rattle.ec_sound.specs.Sound.{SoundWorld}
+use Rattle.ec_code.proofs.Carried.{there}
+use Rattle.ec_code.proofs.Facts.{activation_rests}
+use Rattle.ec_code.specs.Sound.{SoundWorld}
 use Rattle.ec_system.specs.declared.system.System.{System}
 use Rattle.ec_things.specs.Store.{Store}
 use Rattle.ec_things.specs.Things.{Thing, frame_if, object_if, object_thing, things_of}

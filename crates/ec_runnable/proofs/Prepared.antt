@@ -21,7 +21,7 @@ use Rattle.ec_faithful.specs.Machine.{MachineMeaning}
 use Rattle.ec_faithful.specs.Stops.{address_of}
 use Rattle.ec_few_values.proofs.Whole.{carries_few}
 use Rattle.ec_going.specs.Nodes.{IsCodeFor}
-use Rattle.ec_idle.specs.Idle.{HasOperations, OfClasses}
+use Rattle.ec_code.specs.Idle.{HasOperations, OfClasses}
 use Rattle.ec_images.specs.declared.image.Image.{Image}
 use Rattle.ec_lowered.specs.Lowered.{AreOperationsOf, IsLowered, declared_of}
 use Rattle.ec_lowered_code.proofs.Accepting.{is_lowerable}
@@ -29,7 +29,7 @@ use Rattle.ec_lowered_code.proofs.Parts.{made_of}
 use Rattle.ec_meaning.specs.Programs.{Source}
 use Rattle.ec_micro.specs.Speaks.{words_end}
 use Rattle.ec_node_frames.specs.Frames.{HasTables}
-use Rattle.ec_ranges.specs.Code.{SmallProgram}
+use Rattle.ec_code.specs.Code.{SmallProgram}
 use Rattle.ec_runnable.specs.Runnable.{IsRunnable}
 use Rattle.ec_small_programs.proofs.Programs.{lowered_small}
 use Rattle.ec_stop_tables.specs.Addresses.{address_in}

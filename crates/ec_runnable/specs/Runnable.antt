@@ -6,10 +6,10 @@ use Rattle.ec_cluster.specs.declared.cluster.Images.{Images}
 use Rattle.ec_code.specs.Typing.{Declared}
 use Rattle.ec_code.specs.declared.code.Parts.{Parts}
 use Rattle.ec_going.specs.Nodes.{IsCodeFor}
-use Rattle.ec_idle.specs.Idle.{OfClasses}
+use Rattle.ec_code.specs.Idle.{OfClasses}
 use Rattle.ec_node_frames.specs.Frames.{HasTables}
 use Rattle.ec_world.specs.Held.{Distinct}
-use Rattle.ec_ranges.specs.Code.{SmallProgram}
+use Rattle.ec_code.specs.Code.{SmallProgram}
 use Rattle.ec_wire_limits.specs.Limits.{CarriesFew}
 use Rattle.ec_world.specs.Group.{Has}
 use Rattle.ec_world.specs.declared.node.Kind.{Kind}

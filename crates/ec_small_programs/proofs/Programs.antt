@@ -29,8 +29,8 @@ use Rattle.ec_lowered.specs.Lowered.{AreOperationsOf, HasLines, IsLowered, IsOpe
 use Rattle.ec_lowered.specs.Types.{Around, behind, lines_of}
 use Rattle.ec_meaning.specs.Programs.{Source}
 use Rattle.ec_meaning.specs.Steps.{captured_by}
-use Rattle.ec_ranges.specs.Code.{SmallCode, SmallOperation, SmallProgram}
-use Rattle.ec_ranges.specs.Values.{IsText}
+use Rattle.ec_code.specs.Code.{SmallCode, SmallOperation, SmallProgram}
+use Rattle.ec_code.specs.RangesValues.{IsText}
 use Rattle.ec_world.specs.Agree.{AllTwo}
 use Rattle.ec_small_programs.proofs.Emitted.{Small, both}
 use Rattle.ec_small_programs.proofs.Expressions.{is_small}

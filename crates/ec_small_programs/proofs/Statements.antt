@@ -25,7 +25,7 @@ use Rattle.ec_emission.specs.Statements.{jump_over, loop_code, statement_code, s
 use Rattle.ec_meaning.specs.Programs.{Source}
 use Rattle.ec_meaning.specs.Steps.{default_if}
 use Rattle.ec_meaning.specs.Types.{kind_of}
-use Rattle.ec_ranges.specs.Code.{SmallOperand}
+use Rattle.ec_code.specs.Code.{SmallOperand}
 use Rattle.ec_world.specs.Values.{default_of}
 use Rattle.ec_world.specs.declared.value.ValueType.{ValueType}
 use Rattle.ec_world.specs.declared.value.ValueType.TheVariants as kind

@@ -12,7 +12,7 @@ use Rattle.ec_core.specs.declared.Statement.TheOpen.{Statement-F, Arm-F, Block-F
 use Rattle.ec_core_laws.specs.Literals as laws
 use Rattle.ec_emission.specs.Expressions.{has_text}
 use Rattle.ec_emission.specs.Literals as code
-use Rattle.ec_sound.proofs.Carried.{each_append}
+use Rattle.ec_code.proofs.Carried.{each_append}
 
 abbrev Texts : Type 0
 Texts = List (List ℕ)

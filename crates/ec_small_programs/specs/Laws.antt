@@ -10,7 +10,7 @@ use Rattle.ec_lexer.specs.declared.token.Token.{Token}
 use Rattle.ec_lowered.specs.Lowered.{IsLowered}
 use Rattle.ec_meaning.specs.Programs.{Source}
 use Rattle.ec_parser.specs.HasTree.{HasTree}
-use Rattle.ec_ranges.specs.Code.{SmallProgram}
+use Rattle.ec_code.specs.Code.{SmallProgram}
 
 -- Where each number in an accepted program is below 2^31, and each literal text in it is a list of bytes, each number in the code that
 -- it is lowered to is in range, and so is each literal.

@@ -16,8 +16,8 @@ use Rattle.ec_types.specs.declared.conform.static_type.StaticType.{StaticType}
 use Rattle.ec_homes.specs.Homes.{AreHomes, IsVariable, IsWithin, LivesIn, column}
 use Rattle.ec_homes.specs.Meeting.{Meet, all_if, live_first, live_in, met_at, met_behind, met_by}
 use Rattle.ec_homes.specs.declared.homes.Home.{Home}
-use Rattle.ec_liveness.specs.Live.{writes}
-use Rattle.ec_liveness.specs.Marks.{is_among, is_same}
+use Rattle.ec_code.specs.Live.{writes}
+use Rattle.ec_code.specs.Marks.{is_among, is_same}
 
 -- ---- lists
 

@@ -7,7 +7,7 @@ use Rattle.ec_code.specs.declared.code.Variable.{Variable}
 use Rattle.ec_types.specs.declared.conform.static_type.StaticType.{StaticType}
 use Rattle.ec_types.specs.declared.conform.static_type.StaticType.TheVariants as type
 use Rattle.ec_faithful.specs.Stops.{live_list, stop_of}
-use Rattle.ec_liveness.specs.Marks.{is_same}
+use Rattle.ec_code.specs.Marks.{is_same}
 use Rattle.ec_stop_tables.specs.declared.table.StopEntry.{StopEntry}
 
 -- a variable with the type that it has among live ones; unknown where it isn't live

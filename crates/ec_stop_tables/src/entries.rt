@@ -2,15 +2,15 @@
 ghost use Rattle.std.specs.Prelude.{◌≡◌, suc, ◌<◌, ◌≤◌, ◌^◌, ◌++◌, IfOk, OnOk, length, map};
 ghost use Rattle.ec_code.specs.Fine.{live_at};
 ghost use Rattle.ec_faithful.specs.Stops.{live_list};
-ghost use Rattle.ec_liveness.specs.Live as live;
-ghost use Rattle.ec_liveness.specs.Marks.{is_written};
+ghost use Rattle.ec_code.specs.Live as live;
+ghost use Rattle.ec_code.specs.Marks.{is_written};
 ghost use Rattle.ec_stop_tables.specs.Entries as spec;
 
 use crate::table::StopEntry;
 use ec_base::list::Seq;
 use ec_code::code::{Line, Live, Op, StopRow, Variable};
 use ec_types::conform::static_type::StaticType;
-use ec_liveness::steps::is_same;
+use ec_code::steps::is_same;
 use ec_world::stop::Stop;
 use std::alloc::{AllocError, Global};
 

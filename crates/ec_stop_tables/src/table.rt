@@ -11,7 +11,7 @@ use ec_base::list::Seq;
 use ec_code::code::{Live, Variable};
 use ec_faithful::code::Code;
 use ec_homes::homes::Home;
-use ec_liveness::steps::is_same;
+use ec_code::steps::is_same;
 use ec_world::value::OpNo;
 use std::alloc::AllocError;
 

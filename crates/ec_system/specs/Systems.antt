@@ -7,8 +7,8 @@ use Rattle.ec_code.specs.Fine.{Fine}
 use Rattle.ec_code.specs.Typing.{Declared}
 use Rattle.ec_code.specs.declared.activation.CodeActivation.{CodeActivation}
 use Rattle.ec_forward.specs.Directory.{made_count}
-use Rattle.ec_ranges.specs.Worlds.{RangedWorld, most_nodes}
-use Rattle.ec_sound.specs.Sound.{SoundWorld}
+use Rattle.ec_code.specs.Worlds.{RangedWorld, most_nodes}
+use Rattle.ec_code.specs.Sound.{SoundWorld}
 use Rattle.ec_system.specs.declared.system.ProcessRow.{ProcessRow}
 use Rattle.ec_system.specs.declared.system.System.{System}
 use Rattle.ec_things.specs.Texts.{IsHeld}

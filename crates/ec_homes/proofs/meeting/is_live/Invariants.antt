@@ -1,5 +1,5 @@
 use Rattle.std.proofs.Common.{◌≡◌, drop, map}
-use Rattle.ec_liveness.specs.Marks.{is_among}
+use Rattle.ec_code.specs.Marks.{is_among}
 use Rattle.ec_homes.proofs.meeting.is_live.Given as goal
 
 -- none before this one is it

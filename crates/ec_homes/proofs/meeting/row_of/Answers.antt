@@ -2,8 +2,8 @@ use Rattle.std.proofs.Common.{◌≡◌, ◌+◌, ◌++◌, drop, sym, ap, ◌�
 use Rattle.ec_homes.proofs.Marking.{row_step}
 use Rattle.ec_homes.specs.Meeting.{all_if, live_in, met_at, met_behind, met_by}
 use Rattle.ec_homes.specs.Rows.{marked_with}
-use Rattle.ec_liveness.specs.Live.{writes}
-use Rattle.ec_liveness.specs.Marks.{is_among}
+use Rattle.ec_code.specs.Live.{writes}
+use Rattle.ec_code.specs.Marks.{is_among}
 use Rattle.ec_homes.proofs.meeting.row_of.Goals as goal
 
 pub loop-q-preserved : goal.loop-q-preserved

@@ -1,5 +1,0 @@
-use Rattle.ec_liveness.specs.Marks.{Swept}
-use Rattle.ec_liveness.proofs.marks.sweep.Given as goal
-
-abbrev pub invariant-loop-q : goal.invariant-loop-q
-invariant-loop-q l = Swept l.code l.x l.initial.marks.items l.q l.found l.marks.items

@@ -1,6 +1,0 @@
--- What the table asks for is in range.
-use Rattle.ec_ranges.proofs.Doings.{doing_ranged}
-use Rattle.ec_ranges.proofs.laws.asked_values_are_ranged.Goals as goal
-
-pub returns : goal.returns
-returns start s who action operands r h = doing_ranged s r who action operands h

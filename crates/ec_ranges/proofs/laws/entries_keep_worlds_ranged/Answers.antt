@@ -1,6 +1,0 @@
--- Entries keep worlds in range.
-use Rattle.ec_ranges.proofs.Worlds.{entry_ranged}
-use Rattle.ec_ranges.proofs.laws.entries_keep_worlds_ranged.Goals as goal
-
-pub returns : goal.returns
-returns start p small w e r = entry_ranged p small w e r

@@ -1,6 +1,0 @@
--- Steps keep what they write in range.
-use Rattle.ec_ranges.proofs.Steps.{act_ranged}
-use Rattle.ec_ranges.proofs.laws.steps_keep_machines_ranged.Goals as goal
-
-pub returns : goal.returns
-returns start p small own m o h r = act_ranged p.literals own small.literals m r o h

@@ -1,5 +1,0 @@
-pub mod Values
-pub mod Code
-pub mod Worlds
-pub mod Actions
-pub mod Laws

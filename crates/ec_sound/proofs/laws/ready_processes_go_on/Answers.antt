@@ -1,8 +1,0 @@
--- Ready processes go on.
-use Rattle.ec_sound.proofs.Facts.{ready_top}
-use Rattle.ec_sound.proofs.Worlds.{runs_sound}
-use Rattle.ec_sound.specs.Laws.{world_after}
-use Rattle.ec_sound.proofs.laws.ready_processes_go_on.Goals as goal
-
-pub returns : goal.returns
-returns start d p fine n entries i proc e ready = ready_top d p (world_after p n entries) (runs_sound d p fine n entries) i proc e ready

@@ -1,4 +1,0 @@
-pub mod Values
-pub mod Sound
-pub mod Example
-pub mod Laws
