@@ -2,8 +2,8 @@
 use Rattle.std.proofs.Common.{ℕ, List, length, map, sym, subst, All}
 use Rattle.ec_ast.specs.declared.Program.{Program}
 use Rattle.ec_accepted.specs.Laws.{IsAccepted}
-use Rattle.ec_agreement.specs.Agreement.{IsCodeOf}
-use Rattle.ec_agreement.specs.Laws.{source_after}
+use Rattle.ec_emission.specs.Agreement.{IsCodeOf}
+use Rattle.ec_emission.specs.AgreementLaws.{source_after}
 use Rattle.ec_check.proofs.NumberedPrograms.{classes_rise}
 use Rattle.ec_check.specs.Program.{core_of}
 use Rattle.ec_code.specs.Activations.{code_meaning, code_silent}
@@ -22,7 +22,7 @@ use Rattle.ec_core_shapes.proofs.Tables.{few_types, none_unknown}
 use Rattle.ec_core_shapes.specs.Formed.{IsFormed}
 use Rattle.ec_fine_programs.proofs.Whole.{fine}
 use Rattle.ec_fine_programs.specs.Sound.{IsSound}
-use Rattle.ec_lowered.specs.Lowered.{IsLowered, declared_of}
+use Rattle.ec_emission.specs.Lowered.{IsLowered, declared_of}
 use Rattle.ec_lowered_code.proofs.Accepting.{is_lowerable}
 use Rattle.ec_lowered_code.proofs.Lowering as lowering
 use Rattle.ec_lowered_code.specs.Lowerable.{lowered_loops}

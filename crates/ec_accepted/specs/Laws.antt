@@ -1,6 +1,6 @@
 -- What holds of each accepted program, and of the three-address code that it is lowered to.
 use Rattle.std.specs.Prelude.{◌≡◌, ℕ, true, false, List, map, Some, IsSome, slice_get}
-use Rattle.ec_agreement.specs.Laws.{source_after}
+use Rattle.ec_emission.specs.AgreementLaws.{source_after}
 use Rattle.ec_ast.specs.declared.Program.{Program}
 use Rattle.ec_base.specs.Stack.{top_of, below_of}
 use Rattle.ec_check.specs.Accepted.{HasCore}
@@ -13,7 +13,7 @@ use Rattle.ec_types.specs.Types.{places_of}
 use Rattle.ec_fine_programs.specs.Sound.{IsSound}
 use Rattle.ec_lexer.specs.Tokens.{HasTokens}
 use Rattle.ec_lexer.specs.declared.token.Token.{Token}
-use Rattle.ec_lowered.specs.Lowered.{IsLowered, declared_of}
+use Rattle.ec_emission.specs.Lowered.{IsLowered, declared_of}
 use Rattle.ec_meaning.specs.Activations.{source_meaning}
 use Rattle.ec_meaning.specs.Meaning.{source_silent, source_start}
 use Rattle.ec_meaning.specs.Programs.{Source}

@@ -19,7 +19,7 @@ use Rattle.ec_emission.specs.Statements.{Choice, Done, arm_code, given, jump_ove
 use Rattle.ec_emission.specs.Statements.{store, stored, unless, where_it_holds}
 use Rattle.ec_code.specs.Live.{read_in}
 use Rattle.ec_meaning.specs.Programs.{Source}
-use Rattle.ec_stands.specs.Rows.{bare_row, rest_row}
+use Rattle.ec_emission.specs.Rows.{bare_row, rest_row}
 use Rattle.ec_world.specs.declared.stop.Stop.{Stop}
 use Rattle.ec_world.specs.declared.stop.Stop.TheVariants as stop
 use Rattle.ec_world.specs.declared.value.Value.{Value}

@@ -30,8 +30,8 @@ use Rattle.ec_emission.specs.Expressions.{stop_order}
 use Rattle.ec_emission.specs.Literals.{Texts}
 use Rattle.ec_meaning.specs.Programs.{Source, class_number, line, name_number}
 use Rattle.ec_meaning.specs.Steps.{stop_of}
-use Rattle.ec_stands.specs.Leaves.{Number, Truth, Nil}
-use Rattle.ec_stands.specs.Rows.{own_row, rest_row}
+use Rattle.ec_emission.specs.Leaves.{Number, Truth, Nil}
+use Rattle.ec_emission.specs.Rows.{own_row, rest_row}
 use Rattle.ec_world.specs.declared.stop.Stop.{Stop}
 use Rattle.ec_world.specs.declared.stop.Stop.TheVariants as stop
 

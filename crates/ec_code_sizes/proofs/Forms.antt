@@ -33,8 +33,8 @@ use Rattle.ec_emission.specs.Expressions.{then_stop, variable_if}
 use Rattle.ec_emission.specs.Literals.{Texts}
 use Rattle.ec_code.specs.Live.{read_by, read_in}
 use Rattle.ec_meaning.specs.Programs.{Source}
-use Rattle.ec_stands.specs.Leaves.{IsThereOf}
-use Rattle.ec_stands.specs.Rows.{fail_row, rest_row}
+use Rattle.ec_emission.specs.Leaves.{IsThereOf}
+use Rattle.ec_emission.specs.Rows.{fail_row, rest_row}
 use Rattle.ec_world.specs.declared.process.Cause.TheVariants as cause
 use Rattle.ec_world.specs.declared.stop.Order.{Order}
 use Rattle.ec_world.specs.declared.stop.Stop.{Stop}

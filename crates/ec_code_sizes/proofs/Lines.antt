@@ -15,8 +15,8 @@ use Rattle.ec_homes.specs.Meeting.{all_if, live_first, live_in, met_at, met_behi
 use Rattle.ec_code.proofs.Among.{among_in, in_append, same_is}
 use Rattle.ec_code.specs.Live.{IsLive, is_passed, is_read, reads, writes}
 use Rattle.ec_code.specs.Marks.{is_among, is_same}
-use Rattle.ec_lowered.specs.Lowered.{HasLines}
-use Rattle.ec_lowered.specs.Types.{Around, behind, lines_of, with_types}
+use Rattle.ec_emission.specs.Lowered.{HasLines}
+use Rattle.ec_emission.specs.Types.{Around, behind, lines_of, with_types}
 
 -- ---- lists
 

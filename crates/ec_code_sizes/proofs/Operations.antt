@@ -26,7 +26,7 @@ use Rattle.ec_emission.specs.Statements.{body_done, constant_ops, default_ops, d
 use Rattle.ec_emission.specs.Statements.{operation_ops, program_ops, result_of}
 use Rattle.ec_meaning.specs.Programs.{Source}
 use Rattle.ec_meaning.specs.Types.{kind_of}
-use Rattle.ec_stands.specs.Rows.{bare_row, rest_row, return_row}
+use Rattle.ec_emission.specs.Rows.{bare_row, rest_row, return_row}
 use Rattle.ec_world.specs.Values.{default_of}
 use Rattle.ec_world.specs.declared.stop.Stop.TheVariants as stop
 

@@ -9,7 +9,7 @@ use Rattle.ec_emission.specs.Expressions.{Applied, Condition, Emitted, Following
 use Rattle.ec_emission.specs.Expressions.{first_code, first_operand, kept, operand_code, operand_of, operand_or, pair_code, pair_first}
 use Rattle.ec_emission.specs.Expressions.{pair_second}
 use Rattle.ec_code.specs.Live.{read_by, read_in}
-use Rattle.ec_stands.specs.Leaves.{IsThereOf, Leaf, Named, Number, Truth, Nil, leaf_operand}
+use Rattle.ec_emission.specs.Leaves.{IsThereOf, Leaf, Named, Number, Truth, Nil, leaf_operand}
 
 -- a test behind code
 pub record Asked (count top most : ℕ) (c : Condition) : Type 0 where

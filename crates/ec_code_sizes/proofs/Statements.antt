@@ -30,7 +30,7 @@ use Rattle.ec_emission.specs.Statements.{Choice, Done, arms_code, block_code, bl
 use Rattle.ec_emission.specs.Statements.{statement_code, value_of, where_it_holds}
 use Rattle.ec_meaning.specs.Programs.{Source, line}
 use Rattle.ec_meaning.specs.Steps.{default_if}
-use Rattle.ec_stands.specs.Rows.{bare_row, fail_row, rest_row}
+use Rattle.ec_emission.specs.Rows.{bare_row, fail_row, rest_row}
 use Rattle.ec_world.specs.declared.process.Cause.TheVariants as cause
 use Rattle.ec_world.specs.declared.stop.Stop.{Stop}
 use Rattle.ec_world.specs.declared.stop.Stop.TheVariants as stop

@@ -44,7 +44,7 @@ use Rattle.ec_emission.specs.Statements.{operation_ops, program_ops}
 use Rattle.ec_lexer.proofs.Reading.{few_tokens}
 use Rattle.ec_lexer.specs.Tokens.{HasTokens}
 use Rattle.ec_lexer.specs.declared.token.Token.{Token}
-use Rattle.ec_lowered.specs.Lowered.{AreOperationsOf, IsLowered, IsOperationOf, IsProgramOf, around, class_of_operation}
+use Rattle.ec_emission.specs.Lowered.{AreOperationsOf, IsLowered, IsOperationOf, IsProgramOf, around, class_of_operation}
 use Rattle.ec_meaning.specs.Programs.{Source, captured_field, class_of, declared_field}
 use Rattle.ec_meaning.specs.Steps.{captured_by as captured_names}
 use Rattle.ec_meaning.specs.Types.{kind_of}

@@ -7,7 +7,7 @@ use Rattle.ec_code.specs.declared.code.Variable.{Variable}
 use Rattle.ec_code.specs.declared.code.Variable.TheVariants.{Named, Temporary}
 use Rattle.ec_types.specs.declared.conform.static_type.StaticType.{StaticType}
 use Rattle.ec_code.specs.Live.{reads, writes}
-use Rattle.ec_stands.specs.Rows.{into_if, temporaries}
+use Rattle.ec_emission.specs.Rows.{into_if, temporaries}
 
 -- one of so many named variables, or a temporary below a number
 abbrev pub Reach : ℕ → ℕ → Variable → Type 0

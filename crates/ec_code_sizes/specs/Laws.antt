@@ -12,7 +12,7 @@ use Rattle.ec_core_texts.specs.Captures.{captures_of_block}
 use Rattle.ec_core_texts.specs.Constants.{captures_of_constants, size_of_constants}
 use Rattle.ec_lexer.specs.Tokens.{HasTokens}
 use Rattle.ec_lexer.specs.declared.token.Token.{Token}
-use Rattle.ec_lowered.specs.Lowered.{IsLowered, IsOperationOf, IsProgramOf}
+use Rattle.ec_emission.specs.Lowered.{IsLowered, IsOperationOf, IsProgramOf}
 use Rattle.ec_meaning.specs.Programs.{Source}
 use Rattle.ec_parser.specs.HasTree.{HasTree}
 

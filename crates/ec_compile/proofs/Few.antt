@@ -10,7 +10,7 @@ use Rattle.ec_compile.proofs.Texts.{text_has_limits, text_is_fine}
 use Rattle.ec_compile.specs.Texts.{IsOfText}
 use Rattle.ec_faithful.specs.Frames.{block_words}
 use Rattle.ec_laid_out.specs.Fitted.{HasFew}
-use Rattle.ec_lowered.specs.Lowered.{IsLowered, declared_of}
+use Rattle.ec_emission.specs.Lowered.{IsLowered, declared_of}
 use Rattle.ec_meaning.specs.Programs.{Source}
 use Rattle.ec_code.proofs.Carried.{all_two_length}
 use Rattle.ec_stop_tables.proofs.Listing.{all_at}

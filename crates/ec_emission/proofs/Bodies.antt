@@ -25,7 +25,7 @@ use Rattle.ec_meaning.specs.Steps as meaning
 use Rattle.ec_meaning.specs.Steps.{Goes, do_statement, block_items, default_if, types_if}
 use Rattle.ec_meaning.specs.declared.item.Item.{Item}
 use Rattle.ec_meaning.specs.declared.item.Item.TheVariants as i
-use Rattle.ec_stands.specs.Stands as at
+use Rattle.ec_emission.specs.Stands as at
 use Rattle.ec_world.specs.declared.stop.Stop.TheVariants as stop
 
 -- The operation of this number is one of an object whose class captures so many names; its variables are of these types; these

@@ -12,9 +12,9 @@ use Rattle.ec_emission.specs.Expressions.{Emitted, Following, fits_here, all_fit
 use Rattle.ec_emission.specs.Expressions.{own_call, chain, chain_code, gives_result}
 use Rattle.ec_meaning.specs.Steps.{Goes, evaluated}
 use Rattle.ec_meaning.specs.declared.item.Item.TheVariants as i
-use Rattle.ec_stands.specs.Rows.{rest_row, own_row}
-use Rattle.ec_stands.specs.Stands as at
-use Rattle.ec_stands.specs.Stands.{Hold, Kept, Own, all_kept, one_more}
+use Rattle.ec_emission.specs.Rows.{rest_row, own_row}
+use Rattle.ec_emission.specs.Stands as at
+use Rattle.ec_emission.specs.Stands.{Hold, Kept, Own, all_kept, one_more}
 use Rattle.ec_world.specs.declared.stop.Stop.{Stop}
 
 module _ (w : Setting) where

@@ -21,8 +21,8 @@ use Rattle.ec_meaning.specs.declared.item.Item.{Item}
 use Rattle.ec_meaning.specs.declared.item.Item.TheVariants as i
 use Rattle.ec_meaning.specs.declared.state.State.{State}
 use Rattle.ec_world.specs.Same as operators
-use Rattle.ec_stands.specs.Stands as at
-use Rattle.ec_stands.specs.Stands.{Kept, decided}
+use Rattle.ec_emission.specs.Stands as at
+use Rattle.ec_emission.specs.Stands.{Kept, decided}
 use Rattle.ec_world.specs.declared.stop.Order.{Order}
 use Rattle.ec_world.specs.declared.stop.Stop.TheVariants as stop
 use Rattle.ec_world.specs.declared.value.Value.{Value}

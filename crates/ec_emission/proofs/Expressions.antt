@@ -32,9 +32,9 @@ use Rattle.ec_meaning.specs.Steps.{Goes, gives_if, value_at, evaluate, evaluated
 use Rattle.ec_meaning.specs.Types.{vector_type, viewed_as}
 use Rattle.ec_meaning.specs.declared.item.Item.{Item}
 use Rattle.ec_meaning.specs.declared.item.Item.TheVariants as i
-use Rattle.ec_stands.specs.Leaves.{Leaf, Named, Number, Truth, Nil, leaf_operand}
-use Rattle.ec_stands.specs.Stands as at
-use Rattle.ec_stands.specs.Stands.{Hold, Kept, Said, all_kept}
+use Rattle.ec_emission.specs.Leaves.{Leaf, Named, Number, Truth, Nil, leaf_operand}
+use Rattle.ec_emission.specs.Stands as at
+use Rattle.ec_emission.specs.Stands.{Hold, Kept, Said, all_kept}
 use Rattle.ec_world.specs.declared.stop.Stop.{Stop}
 use Rattle.ec_world.specs.declared.stop.Stop.TheVariants as stop
 

@@ -15,9 +15,9 @@ use Rattle.ec_emission.specs.Expressions.{fetch}
 use Rattle.ec_meaning.specs.Steps.{gives_if, value_at, evaluated}
 use Rattle.ec_meaning.specs.declared.item.Item.{Item}
 use Rattle.ec_meaning.specs.declared.item.Item.TheVariants as i
-use Rattle.ec_stands.specs.Leaves.{Leaf, leaf_operand, temporary}
-use Rattle.ec_stands.specs.Stands as at
-use Rattle.ec_stands.specs.Stands.{Hold, Kept, Said, Own, all_kept}
+use Rattle.ec_emission.specs.Leaves.{Leaf, leaf_operand, temporary}
+use Rattle.ec_emission.specs.Stands as at
+use Rattle.ec_emission.specs.Stands.{Hold, Kept, Said, Own, all_kept}
 
 pub both_true : (a b : Bool) → a && b ≡ true → (a ≡ true) × (b ≡ true)
 both_true true true e = (refl, refl)

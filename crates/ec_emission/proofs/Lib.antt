@@ -1,3 +1,12 @@
+pub mod Holding
+pub mod Walking
+pub mod Meeting
+pub mod Values
+pub mod Truths
+pub mod Storing
+pub mod Stopping
+pub mod Simulating
+pub mod StandsGoing
 pub mod Bodies
 pub mod Chains
 pub mod Comparing
@@ -10,3 +19,10 @@ pub mod Operations
 pub mod Operators
 pub mod Statements
 pub mod Turns
+pub mod Determined
+pub mod Programs
+pub mod Classes
+pub mod Related
+pub mod AgreementGoing
+pub mod Acting
+pub mod Agreeing

@@ -17,10 +17,10 @@ use Rattle.ec_meaning.specs.Steps.{Step, Goes, divides, gives_if, last_two}
 use Rattle.ec_meaning.specs.declared.item.Item.{Item}
 use Rattle.ec_meaning.specs.declared.item.Item.TheVariants as i
 use Rattle.ec_meaning.specs.declared.state.State.{State}
-use Rattle.ec_stands.specs.Leaves.{Leaf}
-use Rattle.ec_stands.specs.Rows.{fail_row}
-use Rattle.ec_stands.specs.Stands as at
-use Rattle.ec_stands.specs.Stands.{Hold, Kept, Said, read, arithmetic_of}
+use Rattle.ec_emission.specs.Leaves.{Leaf}
+use Rattle.ec_emission.specs.Rows.{fail_row}
+use Rattle.ec_emission.specs.Stands as at
+use Rattle.ec_emission.specs.Stands.{Hold, Kept, Said, read, arithmetic_of}
 use Rattle.ec_world.specs.declared.process.Cause.TheVariants as cause
 use Rattle.ec_world.specs.declared.value.Value.{Value}
 

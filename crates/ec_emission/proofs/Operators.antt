@@ -19,7 +19,7 @@ use Rattle.ec_meaning.specs.Steps.{Step, Goes, gives_if, last_two, join, calcula
 use Rattle.ec_meaning.specs.declared.item.Item.{Item}
 use Rattle.ec_meaning.specs.declared.item.Item.TheVariants as i
 use Rattle.ec_meaning.specs.declared.state.State.{State}
-use Rattle.ec_stands.specs.Stands.{Hold, Kept, arithmetic_of}
+use Rattle.ec_emission.specs.Stands.{Hold, Kept, arithmetic_of}
 use Rattle.ec_world.specs.declared.stop.Stop.TheVariants as stop
 use Rattle.ec_world.specs.declared.value.Value.{Value}
 use Rattle.ec_world.specs.declared.value.Value.TheVariants.{Int}

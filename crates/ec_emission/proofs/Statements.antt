@@ -25,11 +25,11 @@ use Rattle.ec_meaning.specs.Steps as meaning
 use Rattle.ec_meaning.specs.Steps.{Goes, evaluated, block_items}
 use Rattle.ec_meaning.specs.declared.item.Item.{Item}
 use Rattle.ec_meaning.specs.declared.item.Item.TheVariants as i
-use Rattle.ec_stands.specs.Leaves as leaf
-use Rattle.ec_stands.specs.Leaves.{Leaf}
-use Rattle.ec_stands.specs.Rows.{rest_row, fail_row}
-use Rattle.ec_stands.specs.Stands as at
-use Rattle.ec_stands.specs.Stands.{all_kept}
+use Rattle.ec_emission.specs.Leaves as leaf
+use Rattle.ec_emission.specs.Leaves.{Leaf}
+use Rattle.ec_emission.specs.Rows.{rest_row, fail_row}
+use Rattle.ec_emission.specs.Stands as at
+use Rattle.ec_emission.specs.Stands.{all_kept}
 use Rattle.ec_world.specs.declared.process.Cause.TheVariants as cause
 use Rattle.ec_world.specs.declared.stop.Stop.{Stop}
 use Rattle.ec_world.specs.declared.value.Value.{Value}

@@ -12,8 +12,8 @@ use Rattle.ec_meaning.specs.declared.item.Item.{Item}
 use Rattle.ec_meaning.specs.declared.item.Item.TheVariants as i
 use Rattle.ec_meaning.specs.declared.state.State.{State}
 use Rattle.ec_meaning.specs.declared.state.Whose.{Whose}
-use Rattle.ec_stands.specs.Stands as at
-use Rattle.ec_stands.specs.Stands.{Hold, Kept, all_kept}
+use Rattle.ec_emission.specs.Stands as at
+use Rattle.ec_emission.specs.Stands.{Hold, Kept, all_kept}
 use Rattle.ec_world.specs.declared.stop.Stop.{Stop}
 
 -- these steps stand in the code from a place on

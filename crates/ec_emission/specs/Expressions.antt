@@ -28,11 +28,11 @@ use Rattle.ec_core.specs.declared.Expression.{Expression, fold-Expression}
 use Rattle.ec_core.specs.declared.Expression.TheOpen.{Expression-F, Link-F, Addend-F, Factor-F}
 use Rattle.ec_core.specs.declared.Place.{Place}
 use Rattle.ec_core.specs.declared.Place.TheVariants as place
-use Rattle.ec_stands.specs.Leaves.{Leaf, Named, Number, Truth, Nil, leaf_operand, temporary}
+use Rattle.ec_emission.specs.Leaves.{Leaf, Named, Number, Truth, Nil, leaf_operand, temporary}
 use Rattle.ec_meaning.specs.Programs.{Source, line, name_number, class_number, constant_number}
 use Rattle.ec_meaning.specs.Steps.{stop_of}
 use Rattle.ec_meaning.specs.Types.{vector_type, viewed_as}
-use Rattle.ec_stands.specs.Rows.{rest_row, own_row, fail_row}
+use Rattle.ec_emission.specs.Rows.{rest_row, own_row, fail_row}
 use Rattle.ec_world.specs.declared.process.Cause.TheVariants as cause
 use Rattle.ec_world.specs.declared.stop.Order.{Order}
 use Rattle.ec_world.specs.declared.stop.Order.TheVariants as order

@@ -1,3 +1,12 @@
+pub mod Leaves
+pub mod Rows
+pub mod Stands
 pub mod Expressions
 pub mod Statements
 pub mod Literals
+pub mod Types
+pub mod Lowered
+pub mod LoweredLaws
+pub mod EachLoweredLaws
+pub mod Agreement
+pub mod AgreementLaws

@@ -24,7 +24,7 @@ use Rattle.ec_emission.specs.Expressions.{literal_number, has_text}
 use Rattle.ec_meaning.specs.Programs.{Source, line}
 use Rattle.ec_meaning.specs.Steps.{default_if}
 use Rattle.ec_meaning.specs.Types.{kind_of}
-use Rattle.ec_stands.specs.Rows.{bare_row, rest_row, fail_row, return_row}
+use Rattle.ec_emission.specs.Rows.{bare_row, rest_row, fail_row, return_row}
 use Rattle.ec_world.specs.Values.{default_of}
 use Rattle.ec_world.specs.declared.process.Cause.TheVariants as cause
 use Rattle.ec_world.specs.declared.stop.Stop.{Stop}

@@ -31,8 +31,8 @@ use Rattle.ec_expressions.specs.Emitting.{compared_in, condition_in}
 use Rattle.ec_expressions.specs.declared.emitter.Emitter.{Emitter}
 use Rattle.ec_meaning.specs.Programs.{line, name_number}
 use Rattle.ec_meaning.specs.Steps.{stop_of}
-use Rattle.ec_stands.specs.Leaves.{Leaf, temporary}
-use Rattle.ec_stands.specs.Rows.{rest_row, own_row}
+use Rattle.ec_emission.specs.Leaves.{Leaf, temporary}
+use Rattle.ec_emission.specs.Rows.{rest_row, own_row}
 use Rattle.ec_world.specs.declared.stop.Order.{Order}
 use Rattle.ec_world.specs.declared.stop.Stop.TheVariants as stop
 

@@ -2,7 +2,7 @@
 use Rattle.std.proofs.Common.{◌≡◌, ℕ, zero, suc, ◌<◌, ◌≤◌, Bool, false, refl, arith}
 use Rattle.ec_code.specs.declared.code.Operand.{Operand}
 use Rattle.ec_expressions.specs.Emitting.{operand_at, own_at}
-use Rattle.ec_stands.specs.Leaves.{temporary}
+use Rattle.ec_emission.specs.Leaves.{temporary}
 
 pub own_first : (n : ℕ) (b : Bool) → n ≤ 0 → own_at n b ≡ b
 own_first zero b e = refl

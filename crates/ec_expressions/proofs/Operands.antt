@@ -25,8 +25,8 @@ use Rattle.ec_expressions.specs.Emitting.{computes_over, divides_over, joins_ove
 use Rattle.ec_expressions.specs.Emitting.{multiplies_factor, addends_onto, factors_onto, first_joins, first_multiplies}
 use Rattle.ec_expressions.specs.declared.emitter.Emitter.{Emitter}
 use Rattle.ec_meaning.specs.Programs.{line}
-use Rattle.ec_stands.specs.Leaves.{Leaf, temporary}
-use Rattle.ec_stands.specs.Rows.{fail_row}
+use Rattle.ec_emission.specs.Leaves.{Leaf, temporary}
+use Rattle.ec_emission.specs.Rows.{fail_row}
 use Rattle.ec_world.specs.declared.process.Cause.TheVariants as cause
 
 -- ---- an operand with no code

@@ -1,7 +1,7 @@
 -- Temporaries, one after another.
 use Rattle.std.proofs.Common.{◌≡◌, ℕ, zero, suc, ◌+◌, [], ◌∷◌, ◌++◌, ap, ◌∙◌, arith}
 use Rattle.ec_code.specs.declared.code.Variable.TheVariants as variable
-use Rattle.ec_stands.specs.Rows.{temporaries}
+use Rattle.ec_emission.specs.Rows.{temporaries}
 
 later : (h k : ℕ) → temporaries h (suc k) ≡ temporaries h k ++ variable.Temporary (h + k) ∷ []
 later h zero = let e : h ≡ h + 0 = omega arith in ap (λ n. variable.Temporary n ∷ []) e

@@ -37,8 +37,8 @@ use Rattle.ec_meaning.specs.Programs.{Source, line, class_number, name_number}
 use Rattle.ec_meaning.specs.Sources.{source_of}
 use Rattle.ec_meaning.specs.Steps.{stop_of}
 use Rattle.ec_meaning.specs.Types.{vector_type, viewed_as}
-use Rattle.ec_stands.specs.Leaves.{Leaf, Number, Truth, Nil, temporary}
-use Rattle.ec_stands.specs.Rows.{fail_row, rest_row, own_row}
+use Rattle.ec_emission.specs.Leaves.{Leaf, Number, Truth, Nil, temporary}
+use Rattle.ec_emission.specs.Rows.{fail_row, rest_row, own_row}
 use Rattle.ec_world.specs.declared.process.Cause.TheVariants as cause
 use Rattle.ec_world.specs.declared.stop.Order.{Order}
 use Rattle.ec_world.specs.declared.stop.Stop.{Stop}

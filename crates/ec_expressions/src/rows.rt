@@ -1,6 +1,6 @@
 //! The stops that code is made of.
 ghost use Rattle.std.specs.Prelude.{◌≡◌, suc, ◌+◌, ◌∷◌, IfOk, OnOk};
-ghost use Rattle.ec_stands.specs.Rows as spec;
+ghost use Rattle.ec_emission.specs.Rows as spec;
 
 use crate::backward::Backward;
 use ec_base::list::Seq;

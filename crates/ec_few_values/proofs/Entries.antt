@@ -22,8 +22,8 @@ use Rattle.ec_homes.specs.Homes.{IsVariable, column}
 use Rattle.ec_code.proofs.Among.{in_append, is_same_self}
 use Rattle.ec_code.specs.Live.{InOrder, IsBefore, IsLive, IsLiveList, reads, stays}
 use Rattle.ec_code.specs.Marks.{is_same, is_written}
-use Rattle.ec_lowered.specs.Lowered.{HasLines}
-use Rattle.ec_lowered.specs.Types.{Around, behind, lines_of, with_types}
+use Rattle.ec_emission.specs.Lowered.{HasLines}
+use Rattle.ec_emission.specs.Types.{Around, behind, lines_of, with_types}
 use Rattle.ec_stop_tables.specs.Entries.{entries_from, entries_of, entry_of, typed, with_entry}
 use Rattle.ec_stop_tables.specs.declared.table.StopEntry.{StopEntry}
 use Rattle.ec_world.specs.Group.{Has}

@@ -26,7 +26,7 @@ use Rattle.ec_few_values.proofs.Values.{Applies, Follows, IsClean}
 use Rattle.ec_few_values.proofs.Values.{held_by, value}
 use Rattle.ec_meaning.specs.Programs.{Source, class_number, line, name_number}
 use Rattle.ec_meaning.specs.Steps.{stop_of}
-use Rattle.ec_stands.specs.Leaves.{Number, Truth, Nil, temporary}
+use Rattle.ec_emission.specs.Leaves.{Number, Truth, Nil, temporary}
 use Rattle.ec_world.specs.declared.stop.Stop.{Stop}
 use Rattle.ec_world.specs.declared.stop.Stop.TheVariants as stop
 use Rattle.ec_few_values.proofs.Forms.{as_leaf_clean, comparison_clean, fetch_each, fetch_one, inverted_clean, joined_applies}

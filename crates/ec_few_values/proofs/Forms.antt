@@ -31,7 +31,7 @@ use Rattle.ec_few_values.proofs.Values.{Applies, IsClean, alone, both, computes,
 use Rattle.ec_few_values.proofs.Values.{held_by, leaf_held, pair, tested, value}
 use Rattle.ec_code.specs.Live.{reads}
 use Rattle.ec_meaning.specs.Programs.{Source}
-use Rattle.ec_stands.specs.Leaves.{Leaf, leaf_operand, temporary}
+use Rattle.ec_emission.specs.Leaves.{Leaf, leaf_operand, temporary}
 use Rattle.ec_world.specs.declared.stop.Order.{Order}
 use Rattle.ec_world.specs.declared.stop.Stop.{Stop}
 use Rattle.ec_world.specs.declared.stop.Stop.TheVariants as stop

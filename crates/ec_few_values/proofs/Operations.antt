@@ -20,7 +20,7 @@ use Rattle.ec_few_values.proofs.Uses.{AreClear, Leads, join, lead, less, nothing
 use Rattle.ec_few_values.proofs.Values.{value}
 use Rattle.ec_meaning.specs.Programs.{Source}
 use Rattle.ec_meaning.specs.Types.{kind_of}
-use Rattle.ec_stands.specs.Rows.{rest_row, return_row}
+use Rattle.ec_emission.specs.Rows.{rest_row, return_row}
 use Rattle.ec_world.specs.Values.{default_of}
 use Rattle.ec_world.specs.declared.stop.Stop.TheVariants as stop
 

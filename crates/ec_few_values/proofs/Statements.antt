@@ -28,7 +28,7 @@ use Rattle.ec_few_values.proofs.Values.{IsClean, alone, value}
 use Rattle.ec_code.specs.Live.{read_in}
 use Rattle.ec_meaning.specs.Programs.{Source, line}
 use Rattle.ec_meaning.specs.Steps.{default_if}
-use Rattle.ec_stands.specs.Rows.{fail_row}
+use Rattle.ec_emission.specs.Rows.{fail_row}
 use Rattle.ec_world.specs.declared.process.Cause.TheVariants as cause
 use Rattle.ec_world.specs.declared.stop.Stop.{Stop}
 use Rattle.ec_world.specs.declared.stop.Stop.TheVariants as stop

@@ -13,7 +13,7 @@ use Rattle.ec_few_values.proofs.Uses.{AreHeld, From, IsAbove, IsClearStep, IsHel
 use Rattle.ec_few_values.proofs.Uses.{but_for, but_for_held, but_for_written, each_joined, each_weaker}
 use Rattle.ec_few_values.proofs.Uses.{temporaries_in, uses_at, uses_of}
 use Rattle.ec_code.specs.Live.{InOrder, IsBefore, reads}
-use Rattle.ec_stands.specs.Rows.{bare_row, into_if, own_row, rest_row, temporaries}
+use Rattle.ec_emission.specs.Rows.{bare_row, into_if, own_row, rest_row, temporaries}
 use Rattle.ec_world.specs.declared.stop.Stop.{Stop}
 
 -- so many values held above others

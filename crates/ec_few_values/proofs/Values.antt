@@ -18,10 +18,10 @@ use Rattle.ec_emission.specs.Expressions.{test_of}
 use Rattle.ec_few_values.proofs.Stops.{bare_rests, writes_next}
 use Rattle.ec_few_values.proofs.Uses.{AreHeld, IsHeld, Leads, Within, each_joined, lead, nothing, step, temporaries_in}
 use Rattle.ec_code.specs.Live.{read_by, read_in}
-use Rattle.ec_stands.specs.Rows.{fail_row}
+use Rattle.ec_emission.specs.Rows.{fail_row}
 use Rattle.ec_world.specs.declared.process.Cause.TheVariants as cause
 use Rattle.ec_world.specs.declared.stop.Stop.TheVariants as stop
-use Rattle.ec_stands.specs.Leaves.{Leaf, Named, Number, Truth, Nil, leaf_operand}
+use Rattle.ec_emission.specs.Leaves.{Leaf, Named, Number, Truth, Nil, leaf_operand}
 
 -- ---- code that leaves what is read behind it
 

@@ -14,8 +14,8 @@ use Rattle.ec_few_values.proofs.Entries.{entry_carries, entry_in_order}
 use Rattle.ec_few_values.proofs.Operations.{operation_clear, program_clear}
 use Rattle.ec_few_values.proofs.Uses.{AreClear, uses}
 use Rattle.ec_few_values.specs.Laws.{StandOnce}
-use Rattle.ec_lowered.specs.Lowered.{AreOperationsOf, HasLines, IsLowered, IsOperationOf, class_of_operation}
-use Rattle.ec_lowered.specs.Types.{Around}
+use Rattle.ec_emission.specs.Lowered.{AreOperationsOf, HasLines, IsLowered, IsOperationOf, class_of_operation}
+use Rattle.ec_emission.specs.Types.{Around}
 use Rattle.ec_meaning.specs.Programs.{Source}
 use Rattle.ec_meaning.specs.Steps.{captured_by}
 use Rattle.ec_wire_limits.specs.Limits.{CarriesFew}

@@ -8,7 +8,7 @@ use Rattle.ec_code.specs.declared.code.Variable.{Variable}
 use Rattle.ec_code_limits.specs.Limits.{HasLimits}
 use Rattle.ec_emission_laws.specs.Laws.{PartsFit}
 use Rattle.ec_code.specs.Live.{InOrder}
-use Rattle.ec_lowered.specs.Lowered.{IsLowered}
+use Rattle.ec_emission.specs.Lowered.{IsLowered}
 use Rattle.ec_meaning.specs.Programs.{Source}
 use Rattle.ec_stop_tables.specs.Entries.{entries_of}
 use Rattle.ec_stop_tables.specs.declared.table.StopEntry.{StopEntry}

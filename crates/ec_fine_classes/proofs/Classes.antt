@@ -34,9 +34,9 @@ use Rattle.ec_fine_classes.proofs.Finding.{made_there}
 use Rattle.ec_fine_classes.proofs.Naming.{each_met}
 use Rattle.ec_fine_classes.specs.Classes.{HasFineClasses}
 use Rattle.ec_fine_classes.specs.Sound.{KeepsTypes, TakesNothing, TakesNothingAs, HasSoundClasses}
-use Rattle.ec_lowered.specs.Lowered.{IsOperationOf, IsLowered, class_declared, declared_of, field_types_of}
-use Rattle.ec_lowered.specs.Lowered.{parameter_types, result_type}
-use Rattle.ec_lowered.specs.Lowered.{is_process}
+use Rattle.ec_emission.specs.Lowered.{IsOperationOf, IsLowered, class_declared, declared_of, field_types_of}
+use Rattle.ec_emission.specs.Lowered.{parameter_types, result_type}
+use Rattle.ec_emission.specs.Lowered.{is_process}
 use Rattle.ec_meaning.specs.Programs.{Source, captured_field, class_number, class_of, declared_field, name_number}
 use Rattle.ec_meaning.specs.Programs.{number_or}
 use Rattle.ec_meaning.specs.Programs.{numbers_to, operation_names}

@@ -9,7 +9,7 @@ use Rattle.ec_check.proofs.ClassNumbers.{Below, Ascending, ascending}
 use Rattle.ec_code.specs.declared.code.Operation.{Operation as Lowered}
 use Rattle.ec_core.specs.declared.Class.{Class}
 use Rattle.ec_core.specs.declared.Operation.{Operation}
-use Rattle.ec_lowered.specs.Lowered.{AreOperationsOf, IsOperationOf, IsProgramOf}
+use Rattle.ec_emission.specs.Lowered.{AreOperationsOf, IsOperationOf, IsProgramOf}
 use Rattle.ec_meaning.specs.Programs.{Source, class_from, class_number}
 use Rattle.ec_places.specs.Rising.{IsRising}
 use Rattle.ec_world.specs.Agree.{AllTwo}

@@ -7,7 +7,7 @@ use Rattle.ec_code.specs.Fine.{Begins, FineClass}
 use Rattle.ec_code.specs.Typing.{DeclaredClass}
 use Rattle.ec_types.specs.declared.conform.static_type.StaticType.{StaticType}
 use Rattle.ec_types.specs.Known.{IsOfProgram}
-use Rattle.ec_lowered.specs.Lowered.{declared_of}
+use Rattle.ec_emission.specs.Lowered.{declared_of}
 use Rattle.ec_meaning.specs.Programs.{Source}
 use Rattle.ec_world.specs.declared.class.ClassNo.TheVariants.{Program}
 use Rattle.ec_world.specs.declared.class.ClassRec.{ClassRec}

@@ -2,7 +2,7 @@
 use Rattle.ec_code.specs.declared.code.Parts.{Parts}
 use Rattle.ec_fine_classes.specs.Classes.{HasFineClasses}
 use Rattle.ec_fine_classes.specs.Sound.{HasSoundClasses}
-use Rattle.ec_lowered.specs.Lowered.{IsLowered}
+use Rattle.ec_emission.specs.Lowered.{IsLowered}
 use Rattle.ec_meaning.specs.Programs.{Source}
 
 -- Its classes are well typed.

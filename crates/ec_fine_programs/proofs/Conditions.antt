@@ -14,7 +14,7 @@ use Rattle.ec_core.specs.declared.Operation.{Operation}
 use Rattle.ec_core_laws.specs.Waiting.{IsNoProcess, MayUse}
 use Rattle.ec_fine_classes.proofs.Beginnings.{section_stands}
 use Rattle.ec_fine_classes.proofs.Finding.{class_found, made_there}
-use Rattle.ec_lowered.specs.Lowered.{IsLowered, IsOperationOf, declared_of}
+use Rattle.ec_emission.specs.Lowered.{IsLowered, IsOperationOf, declared_of}
 use Rattle.ec_meaning.specs.Programs.{Source, class_of, class_number, section_from}
 use Rattle.ec_places.specs.Rising.{IsRising}
 use Rattle.ec_world.specs.Doings.{is_section}

@@ -26,9 +26,9 @@ use Rattle.ec_fine_programs.proofs.Endings.{Keeps, ends, enters}
 use Rattle.ec_fine_programs.proofs.Operations.{around_with, entry_fine, line_named}
 use Rattle.ec_fine_programs.proofs.Reaching.{held_at, types}
 use Rattle.ec_fine_programs.proofs.Stages.{IsSound, IsType, Judged, Stage, Value, type_of, value_for}
-use Rattle.ec_lowered.specs.Lowered.{HasLines, IsLowered, IsProgramOf, around, declared_of}
+use Rattle.ec_emission.specs.Lowered.{HasLines, IsLowered, IsProgramOf, around, declared_of}
 use Rattle.ec_meaning.specs.Programs.{Source}
-use Rattle.ec_stands.specs.Rows.{bare_row, rest_row}
+use Rattle.ec_emission.specs.Rows.{bare_row, rest_row}
 use Rattle.ec_world.specs.declared.class.ClassNo.TheVariants.{Program}
 use Rattle.ec_world.specs.declared.stop.Stop.TheVariants as stop
 

@@ -16,8 +16,8 @@ use Rattle.ec_fine_programs.proofs.Forms.{gives_default}
 use Rattle.ec_fine_programs.proofs.Reaching.{held_at, known_in, Known, types}
 use Rattle.ec_fine_programs.proofs.Stages.{IsSound, Stage}
 use Rattle.ec_fine_programs.proofs.Writing.{one_covered}
-use Rattle.ec_lowered.specs.Types.{behind, variable_type}
-use Rattle.ec_stands.specs.Rows.{bare_row}
+use Rattle.ec_emission.specs.Types.{behind, variable_type}
+use Rattle.ec_emission.specs.Rows.{bare_row}
 use Rattle.ec_world.specs.declared.stop.Stop.TheVariants as stop
 
 module _ (w : Setting) where

@@ -43,11 +43,11 @@ use Rattle.ec_fine_programs.proofs.Stages.{goes_into, has_elements, itself, of_t
 use Rattle.ec_fine_programs.proofs.Unread.{unread}
 use Rattle.ec_fine_programs.proofs.Values.{stops_with}
 use Rattle.ec_fine_programs.proofs.Writing.{Covers, all_covered, copies, copies_text, keeps}
-use Rattle.ec_lowered.specs.Types.{behind}
+use Rattle.ec_emission.specs.Types.{behind}
 use Rattle.ec_meaning.specs.Steps.{default_if}
 use Rattle.ec_meaning.specs.Types.{kind_of}
 use Rattle.ec_rules.specs.declared.operands.Wanted.TheVariants as wanted
-use Rattle.ec_stands.specs.Rows.{bare_row, fail_row, rest_row}
+use Rattle.ec_emission.specs.Rows.{bare_row, fail_row, rest_row}
 use Rattle.ec_world.specs.Values.{default_of}
 use Rattle.ec_world.specs.declared.process.Cause.TheVariants as cause
 use Rattle.ec_world.specs.declared.stop.Stop.{Stop}

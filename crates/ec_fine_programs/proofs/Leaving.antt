@@ -23,9 +23,9 @@ use Rattle.ec_fineness.proofs.Pieces.{Setting, FitsAs, Piece}
 use Rattle.ec_fineness.proofs.Shown.{frame, live_in}
 use Rattle.ec_fine_programs.proofs.Endings.{Keeps, ends}
 use Rattle.ec_fine_programs.proofs.Reaching.{in_known, types}
-use Rattle.ec_lowered.specs.Lowered.{IsOperationOf, declared_of, is_process, result_type}
+use Rattle.ec_emission.specs.Lowered.{IsOperationOf, declared_of, is_process, result_type}
 use Rattle.ec_meaning.specs.Programs.{Source}
-use Rattle.ec_stands.specs.Rows.{bare_row, return_row}
+use Rattle.ec_emission.specs.Rows.{bare_row, return_row}
 use Rattle.ec_world.specs.declared.stop.Stop.TheVariants as stop
 
 get_within : (ts : List StaticType) (n : ℕ) → n < length ts → (t : StaticType) × (slice_get ts n ≡ Some t)

@@ -16,8 +16,8 @@ use Rattle.ec_fineness.proofs.Shown.{frame, live_in}
 use Rattle.ec_fine_programs.proofs.Blocks.{IsFine}
 use Rattle.ec_fine_programs.proofs.Reaching.{Begins, Continues, agreed, lines_length, opened, types}
 use Rattle.ec_code.proofs.Among.{in_append}
-use Rattle.ec_lowered.specs.Types.{behind}
-use Rattle.ec_stands.specs.Rows.{bare_row}
+use Rattle.ec_emission.specs.Types.{behind}
+use Rattle.ec_emission.specs.Rows.{bare_row}
 use Rattle.ec_world.specs.declared.stop.Stop.TheVariants as stop
 
 no_line : {A : Type 0} → (x : Line) (xs : List Line) → [] ≡ x ∷ xs → A

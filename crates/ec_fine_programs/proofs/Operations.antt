@@ -23,11 +23,11 @@ use Rattle.ec_fine_programs.proofs.Endings.{Keeps, defaults_fine, enters}
 use Rattle.ec_fine_programs.proofs.Leaving.{IsLoweredRight, Routine, end_fine, setting_of}
 use Rattle.ec_fine_programs.proofs.Reaching.{Known, held_at, known_in, opened, taking, types}
 use Rattle.ec_fine_programs.proofs.Stages.{IsSound, Stage}
-use Rattle.ec_lowered.specs.Lowered.{HasLines, IsLowered, around, class_of_operation, declared_of}
-use Rattle.ec_lowered.specs.Types.{Around, lines_of, with_types}
+use Rattle.ec_emission.specs.Lowered.{HasLines, IsLowered, around, class_of_operation, declared_of}
+use Rattle.ec_emission.specs.Types.{Around, lines_of, with_types}
 use Rattle.ec_meaning.specs.Programs.{Source}
 use Rattle.ec_meaning.specs.Steps.{captured_by}
-use Rattle.ec_stands.specs.Rows.{bare_row}
+use Rattle.ec_emission.specs.Rows.{bare_row}
 use Rattle.ec_world.specs.declared.class.ClassNo.{ClassNo}
 use Rattle.ec_world.specs.declared.stop.Stop.TheVariants as stop
 

@@ -15,7 +15,7 @@ use Rattle.ec_fineness.proofs.Frames.{Held, Frame, context, fewer_held, in_frame
 use Rattle.ec_fineness.proofs.Narrowed.{live_dropped}
 use Rattle.ec_fineness.proofs.Pieces.{Setting, Agrees, From, Piece, around_of, opened_divisor, opened_live, opened_long}
 use Rattle.ec_fineness.proofs.Shown.{frame, live_in}
-use Rattle.ec_lowered.specs.Types.{type_at, variable_type}
+use Rattle.ec_emission.specs.Types.{type_at, variable_type}
 
 -- ---- lists
 

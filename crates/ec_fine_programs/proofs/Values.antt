@@ -9,7 +9,7 @@ use Rattle.ec_fineness.proofs.Pieces.{Setting, Piece, go_on}
 use Rattle.ec_fineness.proofs.Shown.{frame}
 use Rattle.ec_fineness.proofs.Stopping.{rests_only}
 use Rattle.ec_fine_programs.proofs.Reaching.{Begins}
-use Rattle.ec_stands.specs.Rows.{rest_row}
+use Rattle.ec_emission.specs.Rows.{rest_row}
 use Rattle.ec_world.specs.declared.stop.Stop.{Stop}
 
 pub stops_with :

@@ -49,8 +49,8 @@ use Rattle.ec_fineness.proofs.Placing.{stand_outside}
 use Rattle.ec_fineness.proofs.Shapes.{of_types}
 use Rattle.ec_fineness.proofs.Shown.{frame}
 use Rattle.ec_fineness.proofs.Standing.{Known, Stand, Stated, site}
-use Rattle.ec_lowered.specs.Lowered.{AreOperationsOf, IsLowered, IsOperationOf, IsProgramOf, class_declared}
-use Rattle.ec_lowered.specs.Lowered.{class_of_operation, declared_of}
+use Rattle.ec_emission.specs.Lowered.{AreOperationsOf, IsLowered, IsOperationOf, IsProgramOf, class_declared}
+use Rattle.ec_emission.specs.Lowered.{class_of_operation, declared_of}
 use Rattle.ec_meaning.specs.Programs.{Source, class_number}
 use Rattle.ec_meaning.specs.Steps.{captured_by, captured_in}
 use Rattle.ec_world.specs.Agree.{AllTwo}

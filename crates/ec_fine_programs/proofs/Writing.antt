@@ -17,7 +17,7 @@ use Rattle.ec_fineness.proofs.Pieces.{Setting, FitsAs, From, IsFineAt, LeadsTo, 
 use Rattle.ec_fineness.proofs.Pieces.{opened_divisor, opened_long}
 use Rattle.ec_fineness.proofs.Shown.{IsOf, fine_operand, frame, live_in}
 use Rattle.ec_fine_programs.proofs.Reaching.{Begins, Known, agreed, held_at, in_known, known_in, opened, passes, types}
-use Rattle.ec_lowered.specs.Types.{behind}
+use Rattle.ec_emission.specs.Types.{behind}
 
 same_name : (m n : ℕ) → Named m ≡ Named n → m ≡ n
 same_name m n e = cc

@@ -2,7 +2,7 @@
 use Rattle.ec_code.specs.declared.code.Parts.{Parts}
 use Rattle.ec_code.specs.Fine.{Fine}
 use Rattle.ec_fine_programs.specs.Sound.{IsSound}
-use Rattle.ec_lowered.specs.Lowered.{IsLowered, declared_of}
+use Rattle.ec_emission.specs.Lowered.{IsLowered, declared_of}
 use Rattle.ec_meaning.specs.Programs.{Source}
 
 abbrev pub LoweredIsFine : Type 0

@@ -27,7 +27,7 @@ use Rattle.ec_emission.specs.Expressions.{Emitted}
 use Rattle.ec_fineness.proofs.Making.{Arguments, arguments}
 use Rattle.ec_fineness.proofs.Standing.{Stand, Known as KnownHere, KnownOwn, NamedOf, AllStated, EachOfProgram, site}
 use Rattle.ec_fineness.proofs.Standing.{types_in}
-use Rattle.ec_lowered.specs.Lowered.{declared_of}
+use Rattle.ec_emission.specs.Lowered.{declared_of}
 use Rattle.ec_meaning.specs.Programs.{name_number, number_or, operation_names}
 use Rattle.ec_types.specs.Names.{Text, is_same, first_from, first_named}
 

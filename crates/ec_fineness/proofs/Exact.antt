@@ -15,8 +15,8 @@ use Rattle.ec_fineness.proofs.Covering.{covered}
 use Rattle.ec_fineness.proofs.Dividing.{lead_on}
 use Rattle.ec_fineness.proofs.Narrowed.{Narrowed, AllNarrowed, has_from_start}
 use Rattle.ec_fineness.proofs.Restricting.{restricted}
-use Rattle.ec_lowered.specs.Lowered.{HasLines}
-use Rattle.ec_lowered.specs.Types.{Around, variable_type, behind, with_types, lines_of}
+use Rattle.ec_emission.specs.Lowered.{HasLines}
+use Rattle.ec_emission.specs.Types.{Around, variable_type, behind, with_types, lines_of}
 use Rattle.ec_fineness.specs.Wide.{ops_of, AgreeFrom, IsWide}
 use Rattle.ec_code.specs.Live.{IsLive, IsLiveList}
 

@@ -57,7 +57,7 @@ use Rattle.ec_fineness.proofs.Values.{view_ready}
 use Rattle.ec_meaning.specs.Programs.{line}
 use Rattle.ec_rules.specs.Operands.{operand_of, result_type}
 use Rattle.ec_rules.specs.declared.operands.Wanted.TheVariants as wanted
-use Rattle.ec_stands.specs.Leaves.{Number as NumberLeaf, Truth, Nil}
+use Rattle.ec_emission.specs.Leaves.{Number as NumberLeaf, Truth, Nil}
 use Rattle.ec_world.specs.declared.stop.Order.{Order}
 
 -- what is known of equals is known

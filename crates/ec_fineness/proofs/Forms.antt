@@ -26,8 +26,8 @@ use Rattle.ec_fineness.proofs.Shown.{IsOf, fine_operand, live_in, Goes, AskedOf,
 use Rattle.ec_fineness.proofs.Shown.{given, operand_leads}
 use Rattle.ec_fineness.proofs.Shown.{operand_is, pair_leads, first_is}
 use Rattle.ec_fineness.proofs.Stopping.{above, held_if, rests}
-use Rattle.ec_lowered.specs.Types.{type_at, operand_type}
-use Rattle.ec_stands.specs.Leaves.{Leaf, leaf_operand}
+use Rattle.ec_emission.specs.Types.{type_at, operand_type}
+use Rattle.ec_emission.specs.Leaves.{Leaf, leaf_operand}
 use Rattle.ec_world.specs.declared.stop.Stop.{Stop}
 
 type_found : (ts : List StaticType) (n : ℕ) (t : StaticType) → slice_get ts n ≡ Some t → type_at ts n ≡ t

@@ -9,7 +9,7 @@ use Rattle.ec_code.specs.declared.code.Variable.{Variable}
 use Rattle.ec_code.specs.declared.code.Variable.TheVariants.{Named, Temporary}
 use Rattle.ec_code.specs.Fine.{Has, divisor_of}
 use Rattle.ec_types.specs.declared.conform.static_type.StaticType.{StaticType}
-use Rattle.ec_lowered.specs.Types.{type_at, put_type}
+use Rattle.ec_emission.specs.Types.{type_at, put_type}
 use Rattle.ec_code.proofs.Among.{in_append, in_left, in_right}
 
 abbrev typed : Variable → StaticType → Live

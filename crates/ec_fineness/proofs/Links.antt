@@ -31,13 +31,13 @@ use Rattle.ec_fineness.proofs.Pieces.{FitsAs, go_on}
 use Rattle.ec_fineness.proofs.Shown.{Goes, Works, passed_over, works}
 use Rattle.ec_fineness.proofs.Standing.{Stand, Known, Stated, AllStated, setting, site, types_in, each_fits}
 use Rattle.ec_fineness.proofs.Stopping.{above, held_if, own_with, rests, rests_with}
-use Rattle.ec_lowered.specs.Lowered.{declared_of}
+use Rattle.ec_emission.specs.Lowered.{declared_of}
 use Rattle.ec_meaning.specs.Programs.{name_number}
 use Rattle.ec_meaning.specs.Steps.{stop_of}
 use Rattle.ec_types.specs.Names.{Text}
 use Rattle.ec_rules.specs.Types.{is_vector}
 use Rattle.ec_rules.specs.declared.operands.Wanted.TheVariants as wanted
-use Rattle.ec_stands.specs.Rows.{own_row, rest_row}
+use Rattle.ec_emission.specs.Rows.{own_row, rest_row}
 use Rattle.ec_world.specs.declared.stop.Stop.{Stop}
 use Rattle.ec_world.specs.declared.stop.Stop.TheVariants as stop
 

@@ -25,7 +25,7 @@ use Rattle.ec_fineness.proofs.Shown.{Goes, Shown, works}
 use Rattle.ec_fineness.proofs.Standing.{Stand, Known, KnownClass, Stated, AllStated, EachOfProgram, setting, site, types_in}
 use Rattle.ec_fineness.proofs.Standing.{each_fits}
 use Rattle.ec_fineness.proofs.Stopping.{above, rests}
-use Rattle.ec_lowered.specs.Lowered.{class_declared, declared_of, field_types_of}
+use Rattle.ec_emission.specs.Lowered.{class_declared, declared_of, field_types_of}
 use Rattle.ec_meaning.specs.Programs.{class_number}
 use Rattle.ec_world.specs.declared.stop.Stop.TheVariants as stop
 

@@ -15,7 +15,7 @@ use Rattle.ec_code.specs.Typing.{Declared}
 use Rattle.ec_types.specs.declared.conform.static_type.StaticType.{StaticType}
 use Rattle.ec_fineness.proofs.Frames.{Held, Frame, Opens, Within, context, one_more, in_frame, named_there, put_same}
 use Rattle.ec_fineness.proofs.Frames.{put_other}
-use Rattle.ec_lowered.specs.Types.{Around, type_at, put_type, with_written, variable_type, written_type, behind}
+use Rattle.ec_emission.specs.Types.{Around, type_at, put_type, with_written, variable_type, written_type, behind}
 use Rattle.ec_fineness.specs.Wide.{ops_of, WideOp, WideCode, AgreeFrom, IsWide}
 use Rattle.ec_code.proofs.Among.{in_append}
 use Rattle.ec_code.specs.Live.{writes}

@@ -23,9 +23,9 @@ use Rattle.ec_fineness.proofs.Pieces.{FitsAs, go_on, nothing}
 use Rattle.ec_fineness.proofs.Shown.{IsOf, frame, live_in, Goes}
 use Rattle.ec_fineness.proofs.Standing.{Stand, Known, setting, site, types_in, each_fits}
 use Rattle.ec_fineness.proofs.Stopping.{above}
-use Rattle.ec_lowered.specs.Lowered.{declared_of}
+use Rattle.ec_emission.specs.Lowered.{declared_of}
 use Rattle.ec_meaning.specs.Programs.{constant_number}
-use Rattle.ec_stands.specs.Leaves.{Leaf, Named, leaf_operand}
+use Rattle.ec_emission.specs.Leaves.{Leaf, Named, leaf_operand}
 
 -- ---- lists
 

@@ -33,9 +33,9 @@ use Rattle.ec_fineness.proofs.Numbered.{class_at, constant_at}
 use Rattle.ec_fineness.proofs.OwnOperations.{OwnPlace, own_place, seen_in}
 use Rattle.ec_fineness.proofs.Shapes.{of_types}
 use Rattle.ec_fineness.proofs.Standing.{Called, EachOfProgram, Known, KnownClass, KnownOwn, NamedOf, Stand}
-use Rattle.ec_lowered.specs.Lowered.{AreOperationsOf, IsLowered, IsOperationOf, IsProgramOf, class_declared, constant_types}
-use Rattle.ec_lowered.specs.Lowered.{declared_of}
-use Rattle.ec_lowered.specs.Lowered.{field_types_of, result_type}
+use Rattle.ec_emission.specs.Lowered.{AreOperationsOf, IsLowered, IsOperationOf, IsProgramOf, class_declared, constant_types}
+use Rattle.ec_emission.specs.Lowered.{declared_of}
+use Rattle.ec_emission.specs.Lowered.{field_types_of, result_type}
 use Rattle.ec_meaning.specs.Programs.{Source, class_from, class_of, constant_number}
 use Rattle.ec_types.specs.Names.{Text}
 use Rattle.ec_places.specs.Rising.{IsRising}

@@ -19,7 +19,7 @@ use Rattle.ec_fineness.proofs.Pieces.{writes_next, agrees_next}
 use Rattle.ec_fineness.proofs.Shown.{IsOf, fine_operand, frame, live_in, Goes, Works, Given, slot, first_slot, given}
 use Rattle.ec_fineness.proofs.Shown.{operand_is, pair_leads}
 use Rattle.ec_fineness.proofs.Shown.{first_is}
-use Rattle.ec_stands.specs.Rows.{fail_row}
+use Rattle.ec_emission.specs.Rows.{fail_row}
 use Rattle.ec_world.specs.declared.process.Cause.TheVariants as cause
 
 module _ (w : Setting) (how : Arithmetic) (at : ℕ) (a b : Operand) (hs us : Held) where

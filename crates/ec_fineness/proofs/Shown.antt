@@ -19,7 +19,7 @@ use Rattle.ec_emission.specs.Expressions.{pair_code, kept}
 use Rattle.ec_fineness.proofs.Frames.{Held, Frame, Within, held_in}
 use Rattle.ec_fineness.proofs.Pieces.{Setting, lives, From, Leads, go_on, silent, nothing}
 use Rattle.ec_fineness.proofs.Stopping.{held_if}
-use Rattle.ec_stands.specs.Leaves.{Leaf, leaf_operand}
+use Rattle.ec_emission.specs.Leaves.{Leaf, leaf_operand}
 
 -- ---- operands of a type
 

@@ -20,7 +20,7 @@ use Rattle.ec_fineness.proofs.Pieces.{opened_long}
 use Rattle.ec_fineness.proofs.Pieces.{opened_divisor}
 use Rattle.ec_fineness.proofs.Shown.{fine_operand, frame, live_in, Goes, Works}
 use Rattle.ec_fineness.specs.Wide.{ops_of}
-use Rattle.ec_stands.specs.Leaves.{temporary}
+use Rattle.ec_emission.specs.Leaves.{temporary}
 
 -- ---- behind so many lines
 

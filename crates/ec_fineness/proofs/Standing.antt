@@ -20,7 +20,7 @@ use Rattle.ec_emission.specs.Expressions.{Emitted}
 use Rattle.ec_fineness.proofs.Taking.{fits_itself}
 use Rattle.ec_fineness.proofs.Pieces.{Setting, FitsAs}
 use Rattle.ec_fineness.proofs.Shown.{Shown}
-use Rattle.ec_lowered.specs.Lowered.{class_declared, declared_of, field_types_of}
+use Rattle.ec_emission.specs.Lowered.{class_declared, declared_of, field_types_of}
 use Rattle.ec_meaning.specs.Programs.{Source, class_from, constant_number, name_number}
 use Rattle.ec_types.specs.Names.{Text, is_same}
 use Rattle.ec_check.specs.Operations.{as_seen}

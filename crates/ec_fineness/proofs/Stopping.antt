@@ -16,8 +16,8 @@ use Rattle.ec_fineness.proofs.Frames.{Held, Frame, Within, context, held_in, few
 use Rattle.ec_fineness.proofs.Pieces.{Setting, around_of, lives, FitsAs, From, Leads, one_step, opened_live, opened_long}
 use Rattle.ec_fineness.proofs.Pieces.{opened_divisor}
 use Rattle.ec_fineness.proofs.Pieces.{agrees_next}
-use Rattle.ec_lowered.specs.Types.{given_type, with_written, variable_type}
-use Rattle.ec_stands.specs.Rows.{rest_row, own_row, temporaries}
+use Rattle.ec_emission.specs.Types.{given_type, with_written, variable_type}
+use Rattle.ec_emission.specs.Rows.{rest_row, own_row, temporaries}
 use Rattle.ec_world.specs.declared.stop.Stop.{Stop}
 use Rattle.ec_world.specs.declared.stop.Stop.TheVariants as stop
 

@@ -34,12 +34,12 @@ use Rattle.ec_fineness.proofs.Skipping.{EachTruth, all_needed}
 use Rattle.ec_fineness.proofs.Standing.{Stand, Known, KnownOwn, Ready, Stated, AllStated, setting, site, types_in}
 use Rattle.ec_fineness.proofs.Standing.{each_fits}
 use Rattle.ec_fineness.proofs.Stopping.{held_if, rests}
-use Rattle.ec_lowered.specs.Lowered.{declared_of}
+use Rattle.ec_emission.specs.Lowered.{declared_of}
 use Rattle.ec_meaning.specs.Types.{plain_type, vector_type, viewed_as}
 use Rattle.ec_rules.specs.Types.{is_vector, takes}
 use Rattle.ec_rules.specs.declared.operands.Wanted.{Wanted}
 use Rattle.ec_rules.specs.declared.operands.Wanted.TheVariants as wanted
-use Rattle.ec_stands.specs.Leaves.{Leaf, leaf_operand}
+use Rattle.ec_emission.specs.Leaves.{Leaf, leaf_operand}
 use Rattle.ec_world.specs.declared.stop.Stop.{Stop}
 use Rattle.ec_world.specs.declared.stop.Stop.TheVariants as stop
 

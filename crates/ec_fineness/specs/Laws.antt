@@ -8,8 +8,8 @@ use Rattle.ec_code.specs.declared.code.Variable.{Variable}
 use Rattle.ec_code.specs.Fine.{EachLeadsOn, FineCode, Has, live_at}
 use Rattle.ec_code.specs.Typing.{Declared}
 use Rattle.ec_types.specs.declared.conform.static_type.StaticType.{StaticType}
-use Rattle.ec_lowered.specs.Lowered.{HasLines}
-use Rattle.ec_lowered.specs.Types.{Around}
+use Rattle.ec_emission.specs.Lowered.{HasLines}
+use Rattle.ec_emission.specs.Types.{Around}
 use Rattle.ec_fineness.specs.Wide.{IsWide}
 
 -- Code is well typed by what is live alone where it is by lists that may hold more.

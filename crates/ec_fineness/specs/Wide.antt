@@ -10,7 +10,7 @@ use Rattle.ec_code.specs.declared.code.Variable.{Variable}
 use Rattle.ec_code.specs.Fine.{EachLeadsOn, FineOp, FineTop, Has, live_at}
 use Rattle.ec_code.specs.Typing.{Declared}
 use Rattle.ec_types.specs.declared.conform.static_type.StaticType.{StaticType}
-use Rattle.ec_lowered.specs.Types.{Around, variable_type, behind}
+use Rattle.ec_emission.specs.Types.{Around, variable_type, behind}
 
 abbrev pub ops_of : List Line → List Op
 ops_of lines = map (λ line. line.op) lines

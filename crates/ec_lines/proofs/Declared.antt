@@ -9,8 +9,8 @@ use Rattle.ec_types.specs.declared.conform.static_type.StaticType.{StaticType}
 use Rattle.ec_types.specs.declared.conform.static_type.StaticType.TheVariants.{Unknown}
 use Rattle.ec_core.specs.declared.Class.{Class}
 use Rattle.ec_core.specs.declared.Field.{Field}
-use Rattle.ec_lowered.specs.Lowered.{class_declared, field_types_of}
-use Rattle.ec_lowered.specs.Types.{type_at}
+use Rattle.ec_emission.specs.Lowered.{class_declared, field_types_of}
+use Rattle.ec_emission.specs.Types.{type_at}
 
 -- the type that is made of an item, where that is there
 pub type_made : {A : Type 0} → (f : A → StaticType) (xs : List A) (n : ℕ) (x : Option A) → slice_get xs n ≡ x →

@@ -6,8 +6,8 @@ use Rattle.ec_types.specs.declared.conform.static_type.StaticType.{StaticType}
 use Rattle.ec_core.specs.declared.Operation.{Operation}
 use Rattle.ec_emission.specs.Literals.{literals_of}
 use Rattle.ec_emission.specs.Statements.{operation_ops}
-use Rattle.ec_lowered.specs.Lowered.{HasLines, IsOperationOf, around, class_of_operation, is_process}
-use Rattle.ec_lowered.specs.Lowered.{parameter_types, result_type}
+use Rattle.ec_emission.specs.Lowered.{HasLines, IsOperationOf, around, class_of_operation, is_process}
+use Rattle.ec_emission.specs.Lowered.{parameter_types, result_type}
 use Rattle.ec_meaning.specs.Programs.{Source}
 use Rattle.ec_meaning.specs.Steps.{captured_by}
 use Rattle.ec_world.specs.declared.class.ClassNo.{ClassNo}

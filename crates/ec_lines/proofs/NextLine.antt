@@ -9,7 +9,7 @@ use Rattle.ec_code.specs.declared.code.Live.{Live}
 use Rattle.ec_code.specs.declared.code.Op.{Op}
 use Rattle.ec_code.specs.declared.code.Variable.{Variable}
 use Rattle.ec_types.specs.declared.conform.static_type.StaticType.{StaticType}
-use Rattle.ec_lowered.specs.Types.{Around, behind, with_types, lines_of}
+use Rattle.ec_emission.specs.Types.{Around, behind, with_types, lines_of}
 
 module _ (w : Around) (ops : List Op) (lists : List (List Variable)) where
   -- the lines from a place on

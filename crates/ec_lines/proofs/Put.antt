@@ -3,7 +3,7 @@ use Rattle.std.proofs.Common.{◌≡◌, ℕ, zero, suc, ◌<◌, List, [], ◌�
 use Rattle.std.specs.Prelude.{slice_set}
 use Rattle.ec_types.specs.declared.conform.static_type.StaticType.{StaticType}
 use Rattle.ec_types.specs.declared.conform.static_type.StaticType.TheVariants.{Unknown}
-use Rattle.ec_lowered.specs.Types.{put_type}
+use Rattle.ec_emission.specs.Types.{put_type}
 
 pub put_in : (ts : List StaticType) (i : ℕ) (t : StaticType) → i < length ts → put_type ts i t ≡ slice_set ts i t
 put_in [] i t h = absurd (omega arith)

@@ -1,7 +1,7 @@
 -- What stands around the code of an operation.
 use Rattle.ec_lines.specs.declared.site.Site.{Site}
-use Rattle.ec_lowered.specs.Lowered.{around}
-use Rattle.ec_lowered.specs.Types.{Around}
+use Rattle.ec_emission.specs.Lowered.{around}
+use Rattle.ec_emission.specs.Types.{Around}
 use Rattle.ec_meaning.specs.Sources.{source_of}
 
 abbrev pub around_by : Site → Around

@@ -1,8 +1,8 @@
 //! The lines of code.
 ghost use Rattle.std.specs.Prelude.{◌≡◌, [], length, IfOk};
 ghost use Rattle.ec_lines.specs.Sites.{around_by};
-ghost use Rattle.ec_lowered.specs.Lowered.{HasLines};
-ghost use Rattle.ec_lowered.specs.Types as spec;
+ghost use Rattle.ec_emission.specs.Lowered.{HasLines};
+ghost use Rattle.ec_emission.specs.Types as spec;
 
 use crate::site::Site;
 use crate::steps::{put_written, variable_type};

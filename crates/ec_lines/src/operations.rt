@@ -2,7 +2,7 @@
 ghost use Rattle.std.specs.Prelude.{◌≡◌, take, IfOk};
 ghost use Rattle.ec_emission.specs.Literals.{literals_of};
 ghost use Rattle.ec_emission.specs.Statements.{operation_ops, program_ops};
-ghost use Rattle.ec_lowered.specs.Lowered as spec;
+ghost use Rattle.ec_emission.specs.Lowered as spec;
 ghost use Rattle.ec_meaning.specs.Sources.{source_of};
 ghost use Rattle.ec_meaning.specs.Steps.{captured_by};
 

@@ -1,7 +1,7 @@
 //! What steps write, and of which types.
 ghost use Rattle.std.specs.Prelude.{◌≡◌, OnOk};
 ghost use Rattle.ec_lines.specs.Sites.{around_by};
-ghost use Rattle.ec_lowered.specs.Types as spec;
+ghost use Rattle.ec_emission.specs.Types as spec;
 
 use crate::site::Site;
 use crate::temporaries::put_type;

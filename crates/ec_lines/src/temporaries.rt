@@ -1,7 +1,7 @@
 //! The types of temporaries.
 ghost use Rattle.std.specs.Prelude.{◌≡◌, ◌≤◌, length, OnOk};
 ghost use Rattle.ec_types.specs.declared.conform.static_type.StaticType.{StaticType};
-ghost use Rattle.ec_lowered.specs.Types as spec;
+ghost use Rattle.ec_emission.specs.Types as spec;
 
 use ec_base::list::Seq;
 use ec_types::conform::static_type::StaticType;

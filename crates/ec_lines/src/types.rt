@@ -2,8 +2,8 @@
 ghost use Rattle.std.specs.Prelude.{◌≡◌};
 ghost use Rattle.ec_code.specs.Typing as typing;
 ghost use Rattle.ec_lines.specs.Sites.{around_by};
-ghost use Rattle.ec_lowered.specs.Lowered.{class_declared};
-ghost use Rattle.ec_lowered.specs.Types as spec;
+ghost use Rattle.ec_emission.specs.Lowered.{class_declared};
+ghost use Rattle.ec_emission.specs.Types as spec;
 
 use crate::site::Site;
 use ec_types::conform::static_type::{Plain, StaticType};

@@ -2,9 +2,9 @@
 use Rattle.std.proofs.Common.{◌≡◌, ℕ, zero, suc, ◌+◌, ◌-◌, ◌≤◌, true, List, [], ◌∷◌, ◌++◌, drop, length, map, replicate, Option}
 use Rattle.std.proofs.Common.{Some, sym, ap, ◌∙◌, subst, arith, length-take-le}
 use Rattle.std.specs.Prelude.{slice_get}
-use Rattle.ec_agreement.proofs.Agreeing as agreeing
-use Rattle.ec_agreement.specs.Agreement.{IsCode, IsCodeOf}
-use Rattle.ec_agreement.specs.Laws.{source_after}
+use Rattle.ec_emission.proofs.Agreeing as agreeing
+use Rattle.ec_emission.specs.Agreement.{IsCode, IsCodeOf}
+use Rattle.ec_emission.specs.AgreementLaws.{source_after}
 use Rattle.ec_code.specs.Activations.{code_meaning, code_silent, opened, walk}
 use Rattle.ec_code.specs.Fine.{Fine}
 use Rattle.ec_code.specs.Steps.{Machine}
@@ -20,7 +20,7 @@ use Rattle.ec_emission.specs.Literals.{literals_of}
 use Rattle.ec_emission.specs.Statements.{default_ops, operation_fits, operation_ops, program_fits, program_ops}
 use Rattle.ec_emission_laws.proofs.Cores.{parts_fit}
 use Rattle.ec_emission_laws.specs.Laws.{PartsFit}
-use Rattle.ec_lowered.specs.Lowered.{AreOperationsOf, IsLowered, IsOperationOf, IsProgramOf, around, class_of_operation, declared_of}
+use Rattle.ec_emission.specs.Lowered.{AreOperationsOf, IsLowered, IsOperationOf, IsProgramOf, around, class_of_operation, declared_of}
 use Rattle.ec_lowered_code.proofs.Parts.{all_at, constant_kinds, made_of, steps_are}
 use Rattle.ec_lowered_code.proofs.Standing.{loop_of, operation_in, program_in}
 use Rattle.ec_lowered_code.specs.Lowerable.{IsLowerable, loop_in, lowered_loops}
@@ -31,8 +31,8 @@ use Rattle.ec_meaning.specs.Steps.{block_items, captured_by, types_if}
 use Rattle.ec_meaning.specs.declared.item.Item.{Item}
 use Rattle.ec_meaning.specs.declared.item.Item.TheVariants as i
 use Rattle.ec_code.specs.SoundLaws.{world_after}
-use Rattle.ec_stands.proofs.Walking.{ops}
-use Rattle.ec_stands.specs.Stands.{Stands}
+use Rattle.ec_emission.proofs.Walking.{ops}
+use Rattle.ec_emission.specs.Stands.{Stands}
 use Rattle.ec_world.specs.Agree.{Agree, SameRest}
 use Rattle.ec_world.specs.Run.{first_world, run_after}
 use Rattle.ec_world.specs.Simulation.{AgreeRun}

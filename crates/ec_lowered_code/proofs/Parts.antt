@@ -13,11 +13,11 @@ use Rattle.ec_types.specs.declared.conform.static_type.StaticType.{StaticType}
 use Rattle.ec_types.specs.declared.conform.static_type.StaticType.TheVariants as type
 use Rattle.ec_core.specs.declared.Constant.{Constant}
 use Rattle.ec_core.specs.declared.Operation.{Operation}
-use Rattle.ec_lowered.specs.Lowered.{HasLines, IsOperationOf}
-use Rattle.ec_lowered.specs.Types.{Around, behind, lines_of}
+use Rattle.ec_emission.specs.Lowered.{HasLines, IsOperationOf}
+use Rattle.ec_emission.specs.Types.{Around, behind, lines_of}
 use Rattle.ec_meaning.specs.Programs.{Source}
 use Rattle.ec_meaning.specs.Types as of_source
-use Rattle.ec_stands.proofs.Walking.{ops}
+use Rattle.ec_emission.proofs.Walking.{ops}
 use Rattle.ec_world.specs.Agree.{AllTwo}
 
 -- ---- kinds of values

@@ -1,14 +1,14 @@
 -- What holds of a source and the program that it is lowered to.
 use Rattle.std.specs.Prelude.{ℕ, List, map}
-use Rattle.ec_agreement.specs.Agreement.{IsCodeOf}
-use Rattle.ec_agreement.specs.Laws.{source_after}
+use Rattle.ec_emission.specs.Agreement.{IsCodeOf}
+use Rattle.ec_emission.specs.AgreementLaws.{source_after}
 use Rattle.ec_ast.specs.declared.Program.{Program}
 use Rattle.ec_check.specs.Accepted.{HasCore}
 use Rattle.ec_code.specs.Activations.{code_meaning, code_silent}
 use Rattle.ec_code.specs.Fine.{Fine}
 use Rattle.ec_code.specs.Typing.{kind_of}
 use Rattle.ec_code.specs.declared.code.Parts.{Parts}
-use Rattle.ec_lowered.specs.Lowered.{IsLowered, declared_of}
+use Rattle.ec_emission.specs.Lowered.{IsLowered, declared_of}
 use Rattle.ec_lowered_code.specs.Lowerable.{IsLowerable, lowered_loops}
 use Rattle.ec_meaning.specs.Activations.{source_meaning}
 use Rattle.ec_meaning.specs.Meaning.{source_silent, source_start}

@@ -1,6 +1,6 @@
 -- What lowering asks of a source, and how loops stand in the code that it makes.
 use Rattle.std.specs.Prelude.{ℕ, All, Option, Some, None, slice_get}
-use Rattle.ec_agreement.specs.Agreement.{LoopsStand}
+use Rattle.ec_emission.specs.Agreement.{LoopsStand}
 use Rattle.ec_check.specs.WellTyped.{IsWellTyped}
 use Rattle.ec_code.specs.declared.code.Operation.{Operation as Made}
 use Rattle.ec_code.specs.declared.code.Parts.{Parts}
@@ -13,7 +13,7 @@ use Rattle.ec_emission_laws.specs.Dropped.{DropsCalls}
 use Rattle.ec_emission_laws.specs.Laws.{ExitsStandInLoops}
 use Rattle.ec_meaning.specs.Programs.{Source, operation_at}
 use Rattle.ec_meaning.specs.Steps.{captured_by}
-use Rattle.ec_stands.proofs.Walking.{ops}
+use Rattle.ec_emission.proofs.Walking.{ops}
 
 -- what is asked of a source
 pub record IsLowerable (s : Source) : Type 0 where

@@ -3,7 +3,7 @@ use Rattle.ec_accepted.specs.Laws.{IsAccepted}
 use Rattle.ec_ast.specs.declared.Program.{Program}
 use Rattle.ec_code.specs.Fine.{Fine}
 use Rattle.ec_code.specs.declared.code.Parts.{Parts}
-use Rattle.ec_lowered.specs.Lowered.{IsLowered, declared_of}
+use Rattle.ec_emission.specs.Lowered.{IsLowered, declared_of}
 use Rattle.ec_meaning.specs.Programs.{Source}
 
 -- The source of some program that breaks no static rule is lowered to it.

@@ -2,7 +2,7 @@
 ghost use Rattle.std.specs.Prelude.{◌≡◌, IfOk};
 ghost use Rattle.ec_accepted.specs.Laws.{IsAccepted};
 ghost use Rattle.ec_ast.specs.declared.Program.{Program as Tree};
-ghost use Rattle.ec_lowered.specs.Lowered.{IsLowered};
+ghost use Rattle.ec_emission.specs.Lowered.{IsLowered};
 ghost use Rattle.ec_meaning.specs.Sources.{source_of};
 
 use ec_code::code::Parts;

@@ -4,7 +4,7 @@ use Rattle.std.specs.Prelude.{slice_get}
 use Rattle.std.proofs.lemmas.List.{take_all}
 use Rattle.ec_base.proofs.Lists.{take_next}
 use Rattle.ec_code.specs.declared.code.Operation.{Operation as Made}
-use Rattle.ec_lowered.specs.Lowered.{IsOperationOf, IsProgramOf, AreOperationsOf}
+use Rattle.ec_emission.specs.Lowered.{IsOperationOf, IsProgramOf, AreOperationsOf}
 use Rattle.ec_meaning.specs.Programs.{Source}
 use Rattle.ec_world.specs.Agree.{AllTwo}
 

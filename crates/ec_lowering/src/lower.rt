@@ -1,7 +1,7 @@
 //! The program of three-address code that a source is lowered to.
 ghost use Rattle.std.specs.Prelude.{◌≡◌, map, IfOk};
 ghost use Rattle.ec_emission.specs.Literals.{literals_of};
-ghost use Rattle.ec_lowered.specs.Lowered as spec;
+ghost use Rattle.ec_emission.specs.Lowered as spec;
 ghost use Rattle.ec_meaning.specs.Sources.{source_of};
 ghost use Rattle.ec_world.specs.Agree.{AllTwo};
 

@@ -13,7 +13,7 @@ use Rattle.ec_report.specs.Driver.{EndsAs}
 use Rattle.ec_report.specs.Progress.{Progress}
 use Rattle.ec_loading.specs.Loading.{CanLoad, LacksFirst, first_needs}
 use Rattle.ec_loading.specs.Worlds.{world_first}
-use Rattle.ec_lowered.specs.Lowered.{IsLowered}
+use Rattle.ec_emission.specs.Lowered.{IsLowered}
 use Rattle.ec_meaning.specs.Activations.{source_meaning}
 use Rattle.ec_meaning.specs.ClassNames.{class_name}
 use Rattle.ec_meaning.specs.Meaning.{source_silent, source_start}

@@ -2,7 +2,7 @@
 use Rattle.std.specs.Prelude.{◌≡◌, ◌≤◌, ℕ, List, length, None, Some, slice_get}
 use Rattle.ec_code.specs.declared.code.Parts.{Parts}
 use Rattle.ec_loading.specs.Fresh.{IsNodeSize}
-use Rattle.ec_lowered.specs.Lowered.{IsLowered}
+use Rattle.ec_emission.specs.Lowered.{IsLowered}
 use Rattle.ec_meaning.specs.Activations.{source_meaning}
 use Rattle.ec_meaning.specs.ClassNames.{class_name}
 use Rattle.ec_meaning.specs.Meaning.{source_silent, source_start}

@@ -23,7 +23,7 @@ use Rattle.ec_few_values.proofs.Whole.{carries_few}
 use Rattle.ec_going.specs.Nodes.{IsCodeFor}
 use Rattle.ec_code.specs.Idle.{HasOperations, OfClasses}
 use Rattle.ec_images.specs.declared.image.Image.{Image}
-use Rattle.ec_lowered.specs.Lowered.{AreOperationsOf, IsLowered, declared_of}
+use Rattle.ec_emission.specs.Lowered.{AreOperationsOf, IsLowered, declared_of}
 use Rattle.ec_lowered_code.proofs.Accepting.{is_lowerable}
 use Rattle.ec_lowered_code.proofs.Parts.{made_of}
 use Rattle.ec_meaning.specs.Programs.{Source}

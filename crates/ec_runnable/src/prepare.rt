@@ -1,7 +1,7 @@
 //! An accepted program with its images for both kinds of machine.
 ghost use Rattle.std.specs.Prelude.{IfOk};
 ghost use Rattle.ec_compile.specs.Texts.{IsOfText};
-ghost use Rattle.ec_lowered.specs.Lowered.{IsLowered};
+ghost use Rattle.ec_emission.specs.Lowered.{IsLowered};
 ghost use Rattle.ec_meaning.specs.Sources.{source_of};
 ghost use Rattle.ec_runnable.specs.Runnable.{IsRunnable};
 

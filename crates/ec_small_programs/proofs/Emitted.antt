@@ -24,7 +24,7 @@ use Rattle.ec_emission.specs.Expressions.{test_of, variable_if}
 use Rattle.ec_meaning.specs.Programs.{Source}
 use Rattle.ec_code.specs.Code.{SmallOp, SmallOperand, SmallTest}
 use Rattle.ec_code.proofs.Carried.{each_append}
-use Rattle.ec_stands.specs.Leaves.{Leaf, leaf_operand}
+use Rattle.ec_emission.specs.Leaves.{Leaf, leaf_operand}
 use Rattle.ec_world.specs.declared.stop.Order.{Order}
 
 abbrev pub Small : List Op → Type 0

@@ -20,7 +20,7 @@ use Rattle.ec_small_programs.proofs.Emitted.{Small, SmallApplied, SmallEmitted, 
 use Rattle.ec_small_programs.proofs.Emitted.{both}
 use Rattle.ec_small_programs.proofs.Emitted.{chain_small, coded_small, comparison_small, conditional_small, factor_small, fetches_small}
 use Rattle.ec_small_programs.proofs.Emitted.{inverted_small, itself_small, leaf_small, needed_small, negated_small, read_small}
-use Rattle.ec_stands.specs.Leaves.{Number, Truth, Nil}
+use Rattle.ec_emission.specs.Leaves.{Number, Truth, Nil}
 use Rattle.ec_small_programs.proofs.Lists.{each_left, each_right}
 
 abbrev pub AllFit : Numbers → Type 0

@@ -25,8 +25,8 @@ use Rattle.ec_core_texts.specs.TreeTexts.{HasBytes, IsBytes}
 use Rattle.ec_emission.specs.Expressions.{emitted}
 use Rattle.ec_emission.specs.Literals.{literals_of}
 use Rattle.ec_emission.specs.Statements.{body_done, constant_ops, default_ops, leave_ops, operation_ops, program_ops}
-use Rattle.ec_lowered.specs.Lowered.{AreOperationsOf, HasLines, IsLowered, IsOperationOf, around, class_of_operation}
-use Rattle.ec_lowered.specs.Types.{Around, behind, lines_of}
+use Rattle.ec_emission.specs.Lowered.{AreOperationsOf, HasLines, IsLowered, IsOperationOf, around, class_of_operation}
+use Rattle.ec_emission.specs.Types.{Around, behind, lines_of}
 use Rattle.ec_meaning.specs.Programs.{Source}
 use Rattle.ec_meaning.specs.Steps.{captured_by}
 use Rattle.ec_code.specs.Code.{SmallCode, SmallOperation, SmallProgram}

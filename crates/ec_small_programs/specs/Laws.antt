@@ -7,7 +7,7 @@ use Rattle.ec_core_laws.specs.TreeNumbers.{HasSmallNumbers}
 use Rattle.ec_core_texts.specs.TreeTexts.{HasBytes, IsBytes}
 use Rattle.ec_lexer.specs.Tokens.{HasTokens}
 use Rattle.ec_lexer.specs.declared.token.Token.{Token}
-use Rattle.ec_lowered.specs.Lowered.{IsLowered}
+use Rattle.ec_emission.specs.Lowered.{IsLowered}
 use Rattle.ec_meaning.specs.Programs.{Source}
 use Rattle.ec_parser.specs.HasTree.{HasTree}
 use Rattle.ec_code.specs.Code.{SmallProgram}

@@ -26,7 +26,7 @@ use Rattle.ec_expressions.specs.Emitting.{source_by, emitted_by, left_code}
 use Rattle.ec_expressions.specs.declared.emitter.Emitter.{Emitter}
 use Rattle.ec_meaning.specs.Programs.{line}
 use Rattle.ec_meaning.specs.Steps.{default_if}
-use Rattle.ec_stands.specs.Rows.{fail_row}
+use Rattle.ec_emission.specs.Rows.{fail_row}
 use Rattle.ec_world.specs.declared.process.Cause.TheVariants as cause
 use Rattle.ec_world.specs.declared.value.Value.{Value}
 use Rattle.ec_world.specs.declared.value.Value.TheVariants as value

@@ -16,7 +16,7 @@ use Rattle.ec_statements.specs.Blocks.{block_by, defaults_onto, constants_onto}
 use Rattle.ec_expressions.specs.Emitting.{source_by, emitted_by}
 use Rattle.ec_expressions.specs.declared.emitter.Emitter.{Emitter}
 use Rattle.ec_meaning.specs.Types.{kind_of}
-use Rattle.ec_stands.specs.Rows.{bare_row, rest_row}
+use Rattle.ec_emission.specs.Rows.{bare_row, rest_row}
 use Rattle.ec_world.specs.Values.{default_of}
 use Rattle.ec_world.specs.declared.stop.Stop.TheVariants as stop
 

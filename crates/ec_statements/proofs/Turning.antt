@@ -7,7 +7,7 @@ use Rattle.std.specs.Prelude.{slice_set}
 use Rattle.ec_code.specs.declared.code.Op.{Op}
 use Rattle.ec_code.specs.declared.code.Op.TheVariants as op
 use Rattle.ec_expressions.specs.Replacing.{with_other}
-use Rattle.ec_stands.specs.Rows.{bare_row}
+use Rattle.ec_emission.specs.Rows.{bare_row}
 use Rattle.ec_world.specs.declared.stop.Stop.TheVariants as stop
 
 set_at : (xs ys : List Op) (o p : Op) → slice_set (xs ++ o ∷ ys) (length xs) p ≡ xs ++ p ∷ ys

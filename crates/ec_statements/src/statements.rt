@@ -3,7 +3,7 @@ ghost use Rattle.std.specs.Prelude.{◌≡◌, ◌++◌, [], ◌∷◌, OnOk};
 ghost use Rattle.ec_core.specs.declared.Statement.{out-Statement};
 ghost use Rattle.ec_emission.specs.Statements as spec;
 ghost use Rattle.ec_statements.specs.Blocks as emitting;
-ghost use Rattle.ec_stands.specs.Rows as stops;
+ghost use Rattle.ec_emission.specs.Rows as stops;
 ghost use Rattle.ec_world.specs.Values.{default_of};
 
 use crate::counts::sum;

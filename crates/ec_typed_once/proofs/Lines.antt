@@ -11,8 +11,8 @@ use Rattle.ec_code.specs.declared.code.Operation.{Operation as Made}
 use Rattle.ec_code.specs.declared.code.Parts.{Parts}
 use Rattle.ec_code.specs.declared.code.Variable.{Variable}
 use Rattle.ec_types.specs.declared.conform.static_type.StaticType.{StaticType}
-use Rattle.ec_lowered.specs.Lowered.{AreOperationsOf, HasLines, IsLowered, IsOperationOf}
-use Rattle.ec_lowered.specs.Types.{Around, behind, lines_of, variable_type, with_types}
+use Rattle.ec_emission.specs.Lowered.{AreOperationsOf, HasLines, IsLowered, IsOperationOf}
+use Rattle.ec_emission.specs.Types.{Around, behind, lines_of, variable_type, with_types}
 use Rattle.ec_meaning.specs.Programs.{Source}
 use Rattle.ec_world.specs.Agree.{AllTwo}
 

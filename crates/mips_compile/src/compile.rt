@@ -5,7 +5,7 @@ ghost use Rattle.ec_faithful.specs.Faithful.{Faithful};
 ghost use Rattle.ec_faithful.specs.Frames.{slots};
 ghost use Rattle.ec_faithful.specs.Stops.{address_of};
 ghost use Rattle.ec_images.specs.Fits.{EachFits};
-ghost use Rattle.ec_lowered.specs.Lowered.{IsLowered};
+ghost use Rattle.ec_emission.specs.Lowered.{IsLowered};
 ghost use Rattle.ec_meaning.specs.Sources.{source_of};
 ghost use Rattle.ec_micro.specs.Speaks.{words_end};
 ghost use Rattle.ec_stop_tables.specs.Addresses.{address_in};

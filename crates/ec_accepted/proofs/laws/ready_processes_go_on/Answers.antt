@@ -1,8 +1,8 @@
 -- Ready processes of the source go on.
 use Rattle.ec_accepted.proofs.Accepted.{is_code}
-use Rattle.ec_agreement.proofs.Agreeing as agreeing
-use Rattle.ec_each_lowered.proofs.Programs.{lowered}
-use Rattle.ec_lowered.specs.Lowered.{declared_of}
+use Rattle.ec_emission.proofs.Agreeing as agreeing
+use Rattle.ec_emission.proofs.Programs.{lowered}
+use Rattle.ec_emission.specs.Lowered.{declared_of}
 use Rattle.ec_lowered_code.specs.Lowerable.{lowered_loops}
 use Rattle.ec_accepted.proofs.laws.ready_processes_go_on.Goals as goal
 

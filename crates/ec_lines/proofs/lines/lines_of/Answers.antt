@@ -2,8 +2,8 @@
 use Rattle.std.proofs.Common.{◌≡◌, []}
 use Rattle.std.proofs.lemmas.Result.{IfOk-weaker}
 use Rattle.ec_lines.specs.Sites.{around_by}
-use Rattle.ec_lowered.specs.Lowered.{HasLines}
-use Rattle.ec_lowered.specs.Types as spec
+use Rattle.ec_emission.specs.Lowered.{HasLines}
+use Rattle.ec_emission.specs.Types as spec
 use Rattle.ec_lines.proofs.lines.lines_of.Goals as goal
 
 pub returns : goal.returns

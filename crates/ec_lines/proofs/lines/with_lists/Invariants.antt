@@ -1,6 +1,6 @@
 use Rattle.std.proofs.Common.{◌≡◌, ℕ, [], ◌++◌, length, drop}
 use Rattle.ec_lines.specs.Sites.{around_by}
-use Rattle.ec_lowered.specs.Types.{Around, lines_of}
+use Rattle.ec_emission.specs.Types.{Around, lines_of}
 use Rattle.ec_lines.proofs.lines.with_lists.Given as goal
 
 abbrev pub invariant-loop-op : goal.invariant-loop-op

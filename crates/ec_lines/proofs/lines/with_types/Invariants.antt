@@ -1,6 +1,6 @@
 use Rattle.std.proofs.Common.{◌≡◌, take}
 use Rattle.ec_lines.specs.Sites.{around_by}
-use Rattle.ec_lowered.specs.Types.{with_types}
+use Rattle.ec_emission.specs.Types.{with_types}
 use Rattle.ec_lines.proofs.lines.with_types.Given as goal
 
 abbrev pub invariant-loop-x : goal.invariant-loop-x

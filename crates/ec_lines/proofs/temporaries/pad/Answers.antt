@@ -1,5 +1,5 @@
 use Rattle.std.proofs.Common.{◌∙◌, ◌<◌, length, arith, ap}
-use Rattle.ec_lowered.specs.Types.{put_type}
+use Rattle.ec_emission.specs.Types.{put_type}
 use Rattle.ec_lines.proofs.Put.{put_more}
 use Rattle.ec_lines.proofs.temporaries.pad.Goals as goal
 

@@ -1,6 +1,6 @@
 use Rattle.std.proofs.Common.{◌≡◌, ◌-◌, length}
 use Rattle.ec_types.specs.declared.conform.static_type.StaticType.{StaticType}
-use Rattle.ec_lowered.specs.Types.{put_type}
+use Rattle.ec_emission.specs.Types.{put_type}
 use Rattle.ec_lines.proofs.temporaries.pad.Given as goal
 
 abbrev pub invariant-loop-types : goal.invariant-loop-types

@@ -2,7 +2,7 @@ use Rattle.std.proofs.Common.{List, map, ap, subst, ◌∙◌}
 use Rattle.ec_core.specs.declared.Constant.{Constant}
 use Rattle.ec_core.specs.declared.Core.{Core}
 use Rattle.ec_emission.specs.Literals.{literals_of}
-use Rattle.ec_lowered.specs.Lowered.{AreOperationsOf}
+use Rattle.ec_emission.specs.Lowered.{AreOperationsOf}
 use Rattle.ec_meaning.specs.Sources.{source_of}
 use Rattle.ec_meaning.specs.declared.source.Program.{Program}
 use Rattle.ec_lowering.proofs.lower.lower.Goals as goal

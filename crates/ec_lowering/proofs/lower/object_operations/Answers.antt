@@ -2,7 +2,7 @@ use Rattle.std.proofs.Common.{List, length, refl, ap, subst, ◌∙◌}
 use Rattle.std.proofs.lemmas.Option.{slice_get_read}
 use Rattle.ec_core.specs.declared.Core.{Core}
 use Rattle.ec_core.specs.declared.Operation.{Operation}
-use Rattle.ec_lowered.specs.Lowered.{IsOperationOf}
+use Rattle.ec_emission.specs.Lowered.{IsOperationOf}
 use Rattle.ec_meaning.specs.Sources.{source_of}
 use Rattle.ec_world.specs.Agree.{AllTwo}
 use Rattle.ec_lowering.proofs.Operations.{related_next, all_related}

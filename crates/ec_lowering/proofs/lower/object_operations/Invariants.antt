@@ -1,5 +1,5 @@
 use Rattle.std.proofs.Common.{take}
-use Rattle.ec_lowered.specs.Lowered.{IsOperationOf}
+use Rattle.ec_emission.specs.Lowered.{IsOperationOf}
 use Rattle.ec_meaning.specs.Sources.{source_of}
 use Rattle.ec_world.specs.Agree.{AllTwo}
 use Rattle.ec_lowering.proofs.lower.object_operations.Given as goal

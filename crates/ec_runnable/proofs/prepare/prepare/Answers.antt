@@ -1,8 +1,8 @@
 -- The source determines the program, so that both images are of one.
 use Rattle.std.proofs.Common.{◌≡◌, sym, subst}
 use Rattle.ec_code.specs.declared.code.Parts.{Parts}
-use Rattle.ec_lowered.proofs.Determined.{determined}
-use Rattle.ec_lowered.specs.Lowered.{IsLowered}
+use Rattle.ec_emission.proofs.Determined.{determined}
+use Rattle.ec_emission.specs.Lowered.{IsLowered}
 use Rattle.ec_meaning.specs.Sources.{source_of}
 use Rattle.ec_runnable.proofs.Prepared.{IsCompiled, prepared}
 use Rattle.ec_runnable.proofs.prepare.prepare.Goals as goal

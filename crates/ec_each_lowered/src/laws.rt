@@ -1,7 +1,0 @@
-//! What holds of each source.
-ghost use Rattle.ec_each_lowered.specs.Laws.{EachSourceIsLowered};
-
-/// It is lowered to a program, whatever memory there is.
-pub fn each_source_is_lowered()
-    ensures { EachSourceIsLowered }
-{}

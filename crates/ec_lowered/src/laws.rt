@@ -1,7 +1,0 @@
-//! What holds of each program of three-address code that a source is lowered to.
-ghost use Rattle.ec_lowered.specs.Laws.{LoweringIsDetermined};
-
-/// No two programs are lowered from one source.
-pub fn lowering_is_determined()
-    ensures { LoweringIsDetermined }
-{}

@@ -1,9 +1,0 @@
-pub mod Holding
-pub mod Walking
-pub mod Meeting
-pub mod Values
-pub mod Truths
-pub mod Storing
-pub mod Stopping
-pub mod Simulating
-pub mod Going
