@@ -7,3 +7,4 @@ pub mod Reversed
 pub mod Temporaries
 pub mod Variables
 pub mod Whole
+pub mod PlacesLemmas

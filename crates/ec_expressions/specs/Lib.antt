@@ -1,3 +1,5 @@
 pub mod Emitting
 pub mod Numbers
 pub mod Replacing
+pub mod Places
+pub mod Texts

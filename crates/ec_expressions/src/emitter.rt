@@ -8,7 +8,7 @@ use crate::tables::Tables;
 use ec_code::code::{Op, Operand, Variable};
 use ec_types::conform::static_type::StaticType;
 use ec_core::{At, Place};
-use ec_literals::literals::Literals;
+use crate::literals::Literals;
 use ec_meaning::types::{number_of, viewed_as};
 use ec_world::class::{ClassNo, NameNo, ViewedAs};
 use std::alloc::AllocError;

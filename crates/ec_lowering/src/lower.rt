@@ -11,7 +11,7 @@ use ec_types::conform::static_type::StaticType;
 use ec_core::{Constant, Operation};
 use ec_expressions::tables::Tables;
 use ec_lines::operations::{operation_of, program_operation};
-use ec_literals::literals::{Literals, literals_of};
+use ec_expressions::literals::{Literals, literals_of};
 use ec_meaning::classes::classes_of;
 use ec_meaning::source::Program;
 use ec_statements::operations::{operation_ops, program_ops};

@@ -15,7 +15,7 @@ use ec_expressions::backward::Backward;
 use ec_expressions::emitter::Emitter;
 use ec_expressions::rows::{bare, rest};
 use ec_expressions::tables::Tables;
-use ec_literals::literals::Literals;
+use ec_expressions::literals::Literals;
 use ec_meaning::types::{kind_of, number_of};
 use ec_world::stop::Stop;
 use std::alloc::{AllocError, Global};

@@ -1,6 +1,6 @@
 use Rattle.std.proofs.Common.{◌≡◌, ◌++◌, drop}
 use Rattle.ec_emission.specs.Literals.{texts_of_constants}
-use Rattle.ec_literals.proofs.texts.add_constants.Given as goal
+use Rattle.ec_expressions.proofs.texts.add_constants.Given as goal
 
 abbrev pub invariant-loop-constant : goal.invariant-loop-constant
 invariant-loop-constant l =

@@ -1,7 +1,7 @@
 use Rattle.std.proofs.Common.{◌≡◌, ◌++◌, drop, map}
 use Rattle.ec_emission.specs.Literals.{all_of}
-use Rattle.ec_literals.specs.Texts.{texts_of_arm, texts_of_statement}
-use Rattle.ec_literals.proofs.texts.+blocks.Given as goal
+use Rattle.ec_expressions.specs.Texts.{texts_of_arm, texts_of_statement}
+use Rattle.ec_expressions.proofs.texts.+blocks.Given as goal
 
 abbrev pub invariant-add_arms-loop-arm : goal.invariant-add_arms-loop-arm
 invariant-add_arms-loop-arm l =

@@ -1,7 +1,7 @@
 //! The texts of a program's core, in the order in which they stand.
 ghost use Rattle.std.specs.Prelude.{◌≡◌, ◌++◌, [], ◌∷◌, IfOk, OnOk, map, option_map};
 ghost use Rattle.ec_emission.specs.Literals as spec;
-ghost use Rattle.ec_literals.specs.Texts as part;
+ghost use Rattle.ec_expressions.specs.Texts as part;
 
 use ec_base::list::Seq;
 use ec_core::{Addend, Arm, Block, Constant, Core, Expression, Factor, Link, Operation, Statement};

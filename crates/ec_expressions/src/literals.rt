@@ -3,7 +3,7 @@ ghost use Rattle.std.specs.Prelude.{◌≡◌, ◌++◌, [], ◌∷◌, Some, fa
 ghost use Rattle.std.specs.BTreeMap.{IsUnchanged, Updates};
 ghost use Rattle.ec_emission.specs.Expressions.{has_text, literal_from};
 ghost use Rattle.ec_emission.specs.Literals as spec;
-ghost use Rattle.ec_literals.specs.Places.{by_bytes, place_from};
+ghost use Rattle.ec_expressions.specs.Places.{by_bytes, place_from};
 
 use crate::texts::texts_of;
 use ec_base::list::Seq;
@@ -24,7 +24,7 @@ pub struct Literals {
 
 impl Model for Literals {
     ghost use Rattle.std.specs.Prelude.{List, ℕ};
-    ghost use Rattle.ec_literals.specs.Places.{ArePlaces};
+    ghost use Rattle.ec_expressions.specs.Places.{ArePlaces};
 
     ghost Value = { List (List ℕ) };
 
@@ -54,7 +54,7 @@ impl Literals {
     }
 
     /// The place of a text; how many texts there are, where it is none of them. The error is want of memory.
-    #[tactic(auto, using(crate::proofs::Places::place_at))]
+    #[tactic(auto, using(crate::proofs::PlacesLemmas::place_at))]
     pub fn place(&self, text: &[u8]) -> Result<usize, AllocError>
         ensures { IfOk result (λ n. n ≡ literal_from 0 self.now text.now) }
     {
@@ -88,7 +88,7 @@ impl Literals {
     }
 
     /// Whether a text is there. The error is want of memory.
-    #[tactic(auto, using(crate::proofs::Places::has_place))]
+    #[tactic(auto, using(crate::proofs::PlacesLemmas::has_place))]
     fn has(&self, text: &[u8]) -> Result<bool, AllocError>
         ensures { IfOk result (λ b. b ≡ has_text self.now text.now) }
     {

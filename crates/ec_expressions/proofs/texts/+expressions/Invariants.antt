@@ -1,7 +1,7 @@
 use Rattle.std.proofs.Common.{◌≡◌, ◌++◌, drop, map}
 use Rattle.ec_emission.specs.Literals.{all_of, texts_of}
-use Rattle.ec_literals.specs.Texts.{texts_of_addend, texts_of_factor, texts_of_link}
-use Rattle.ec_literals.proofs.texts.+expressions.Given as goal
+use Rattle.ec_expressions.specs.Texts.{texts_of_addend, texts_of_factor, texts_of_link}
+use Rattle.ec_expressions.proofs.texts.+expressions.Given as goal
 
 abbrev pub invariant-add_addends-loop-a : goal.invariant-add_addends-loop-a
 invariant-add_addends-loop-a l =

@@ -1,6 +1,6 @@
 use Rattle.std.proofs.Common.{◌≡◌, ◌++◌, drop}
 use Rattle.ec_emission.specs.Literals.{texts_of_operations}
-use Rattle.ec_literals.proofs.texts.add_operations.Given as goal
+use Rattle.ec_expressions.proofs.texts.add_operations.Given as goal
 
 abbrev pub invariant-loop-operation : goal.invariant-loop-operation
 invariant-loop-operation l =

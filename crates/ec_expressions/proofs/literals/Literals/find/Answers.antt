@@ -1,6 +1,6 @@
 use Rattle.std.proofs.Common.{ap, ◌∙◌}
-use Rattle.ec_literals.specs.Places.{place_from}
-use Rattle.ec_literals.proofs.literals.Literals.find.Goals as goal
+use Rattle.ec_expressions.specs.Places.{place_from}
+use Rattle.ec_expressions.proofs.literals.Literals.find.Goals as goal
 
 -- the map has the place of the text at its bytes
 pub returns : goal.returns

@@ -11,7 +11,7 @@ use lib.Dec.{eqb}
 use lib.Pointwise.{pointwise}
 use Rattle.ec_emission.specs.Expressions.{is_text, has_text, literal_from}
 use Rattle.ec_emission.specs.Literals.{Texts}
-use Rattle.ec_literals.specs.Places.{ArePlaces, by_bytes, place_from}
+use Rattle.ec_expressions.specs.Places.{ArePlaces, by_bytes, place_from}
 
 -- ---- texts that are the same
 

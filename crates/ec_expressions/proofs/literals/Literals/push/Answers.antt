@@ -1,7 +1,7 @@
 use Rattle.std.proofs.Common.{◌≡◌, [], ◌∷◌, ◌++◌, false, length, ap, sym, ◌∙◌}
 use Rattle.ec_emission.specs.Expressions.{has_text}
-use Rattle.ec_literals.proofs.Places.{are_places_entered}
-use Rattle.ec_literals.proofs.literals.Literals.push.Goals as goal
+use Rattle.ec_expressions.proofs.PlacesLemmas.{are_places_entered}
+use Rattle.ec_expressions.proofs.literals.Literals.push.Goals as goal
 
 -- the text's bytes are in the map, with its place
 pub invariant_of-self-2 : goal.invariant_of-self-2
