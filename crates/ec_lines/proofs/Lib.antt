@@ -1,4 +1,0 @@
-mod Declared
-mod Making
-mod NextLine
-mod Put

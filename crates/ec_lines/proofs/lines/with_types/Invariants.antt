@@ -1,7 +1,0 @@
-use Rattle.std.proofs.Common.{◌≡◌, take}
-use Rattle.ec_lines.specs.Sites.{around_by}
-use Rattle.ec_emission.specs.Types.{with_types}
-use Rattle.ec_lines.proofs.lines.with_types.Given as goal
-
-abbrev pub invariant-loop-x : goal.invariant-loop-x
-invariant-loop-x l = l.live ≡ with_types (around_by l.site) l.temporaries (take l.x-index l.list)

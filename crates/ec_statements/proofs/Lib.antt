@@ -1,4 +1,0 @@
-pub mod Forms
-pub mod Jumping
-pub mod Programs
-pub mod Turning
