@@ -23,9 +23,9 @@ use Rattle.ec_core_shapes.specs.Formed.{IsFormed}
 use Rattle.ec_fine_programs.proofs.Whole.{fine}
 use Rattle.ec_fine_programs.specs.Sound.{IsSound}
 use Rattle.ec_emission.specs.Lowered.{IsLowered, declared_of}
-use Rattle.ec_lowered_code.proofs.Accepting.{is_lowerable}
-use Rattle.ec_lowered_code.proofs.Lowering as lowering
-use Rattle.ec_lowered_code.specs.Lowerable.{lowered_loops}
+use Rattle.ec_emission_laws.proofs.Accepting.{is_lowerable}
+use Rattle.ec_emission_laws.proofs.Lowering as lowering
+use Rattle.ec_emission_laws.specs.Lowerable.{lowered_loops}
 use Rattle.ec_meaning.specs.Activations.{source_meaning}
 use Rattle.ec_meaning.specs.Meaning.{source_silent, source_start}
 use Rattle.ec_meaning.specs.Programs.{Source}

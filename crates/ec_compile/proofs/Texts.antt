@@ -27,7 +27,7 @@ use Rattle.ec_micro.specs.Fitting.{NumbersFit, OperandFits, TestFits}
 use Rattle.ec_places.proofs.Programs.{declared_among}
 use Rattle.ec_places.proofs.RisingTokens.{all_behind, they_rise}
 use Rattle.ec_code.specs.Code.{SmallLine, SmallOp, SmallOperand, SmallOperation, SmallProgram, SmallTest}
-use Rattle.ec_small_programs.proofs.Programs.{lowered_small}
+use Rattle.ec_emission_laws.proofs.Programs.{lowered_small}
 
 each_at : {A : Type 0} (P : A → Type 0) (xs : List A) (k : ℕ) (x : A) → Each P xs → slice_get xs k ≡ Some x → P x
 each_at P [] k x all e = cc

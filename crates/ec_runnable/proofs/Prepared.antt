@@ -24,14 +24,14 @@ use Rattle.ec_going.specs.Nodes.{IsCodeFor}
 use Rattle.ec_code.specs.Idle.{HasOperations, OfClasses}
 use Rattle.ec_images.specs.declared.image.Image.{Image}
 use Rattle.ec_emission.specs.Lowered.{AreOperationsOf, IsLowered, declared_of}
-use Rattle.ec_lowered_code.proofs.Accepting.{is_lowerable}
-use Rattle.ec_lowered_code.proofs.Parts.{made_of}
+use Rattle.ec_emission_laws.proofs.Accepting.{is_lowerable}
+use Rattle.ec_emission_laws.proofs.Parts.{made_of}
 use Rattle.ec_meaning.specs.Programs.{Source}
 use Rattle.ec_micro.specs.Speaks.{words_end}
 use Rattle.ec_node_frames.specs.Frames.{HasTables}
 use Rattle.ec_code.specs.Code.{SmallProgram}
 use Rattle.ec_runnable.specs.Runnable.{IsRunnable}
-use Rattle.ec_small_programs.proofs.Programs.{lowered_small}
+use Rattle.ec_emission_laws.proofs.Programs.{lowered_small}
 use Rattle.ec_stop_tables.specs.Addresses.{address_in}
 use Rattle.ec_stop_tables.specs.Tables.{AreTablesOf, all_homes}
 use Rattle.ec_typed_once.proofs.Lines.{typed_once}

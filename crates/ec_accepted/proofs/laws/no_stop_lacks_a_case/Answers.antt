@@ -3,7 +3,7 @@ use Rattle.ec_accepted.proofs.Accepted.{is_code}
 use Rattle.ec_emission.proofs.Agreeing as agreeing
 use Rattle.ec_emission.proofs.Programs.{lowered}
 use Rattle.ec_emission.specs.Lowered.{declared_of}
-use Rattle.ec_lowered_code.specs.Lowerable.{lowered_loops}
+use Rattle.ec_emission_laws.specs.Lowerable.{lowered_loops}
 use Rattle.ec_accepted.proofs.laws.no_stop_lacks_a_case.Goals as goal
 
 pub returns : goal.returns

@@ -1,7 +1,0 @@
-//! What the core of a program that breaks no static rule drops.
-ghost use Rattle.ec_core_drops.specs.Laws.{EachDropGivesOrCalls};
-
-/// What a statement drops gives a value, or it is a call.
-pub fn each_drop_gives_or_calls()
-    ensures { EachDropGivesOrCalls }
-{}

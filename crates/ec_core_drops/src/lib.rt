@@ -1,4 +1,0 @@
-//! That an accepted core drops values and calls alone.
-#![tactic(auto)]
-
-pub mod laws;

@@ -1,4 +1,0 @@
-pub mod Parts
-pub mod Standing
-pub mod Lowering
-pub mod Accepting

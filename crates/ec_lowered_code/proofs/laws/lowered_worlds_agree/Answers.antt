@@ -1,6 +1,0 @@
--- The worlds of a source and of what it is lowered to agree.
-use Rattle.ec_lowered_code.proofs.Lowering as lowering
-use Rattle.ec_lowered_code.proofs.laws.lowered_worlds_agree.Goals as goal
-
-pub returns : goal.returns
-returns start = lowering.lowered_worlds_agree

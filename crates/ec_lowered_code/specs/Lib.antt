@@ -1,2 +1,0 @@
-pub mod Lowerable
-pub mod Laws

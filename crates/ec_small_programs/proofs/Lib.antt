@@ -1,6 +1,0 @@
-mod Lists
-mod Emitted
-mod Expressions
-mod Statements
-mod Texts
-pub mod Programs
