@@ -20,8 +20,8 @@ use Rattle.ec_core_shapes.specs.Makings.{IsMadeRight}
 use Rattle.ec_core_shapes.proofs.FormedPrograms.{core_is_formed}
 use Rattle.ec_core_shapes.proofs.Tables.{few_types, none_unknown}
 use Rattle.ec_core_shapes.specs.Formed.{IsFormed}
-use Rattle.ec_fine_programs.proofs.Whole.{fine}
-use Rattle.ec_fine_programs.specs.Sound.{IsSound}
+use Rattle.ec_accepted.proofs.Whole.{fine}
+use Rattle.ec_accepted.specs.FineProgramsSound.{IsSound}
 use Rattle.ec_emission.specs.Lowered.{IsLowered, declared_of}
 use Rattle.ec_emission_laws.proofs.Accepting.{is_lowerable}
 use Rattle.ec_emission_laws.proofs.Lowering as lowering

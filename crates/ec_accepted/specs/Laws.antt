@@ -10,7 +10,7 @@ use Rattle.ec_code.specs.Fine.{Fine}
 use Rattle.ec_code.specs.Typing.{kind_of}
 use Rattle.ec_types.specs.Declarations.{declarations_of}
 use Rattle.ec_types.specs.Types.{places_of}
-use Rattle.ec_fine_programs.specs.Sound.{IsSound}
+use Rattle.ec_accepted.specs.FineProgramsSound.{IsSound}
 use Rattle.ec_lexer.specs.Tokens.{HasTokens}
 use Rattle.ec_lexer.specs.declared.token.Token.{Token}
 use Rattle.ec_emission.specs.Lowered.{IsLowered, declared_of}

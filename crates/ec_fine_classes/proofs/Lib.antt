@@ -1,4 +1,0 @@
-pub mod Beginnings
-pub mod Classes
-pub mod Finding
-pub mod Naming
