@@ -17,12 +17,12 @@ use Rattle.ec_code.specs.declared.code.Live.{Live}
 use Rattle.ec_code.specs.declared.code.Operation.{Operation}
 use Rattle.ec_code.specs.declared.code.Parts.{Parts}
 use Rattle.ec_code.specs.declared.code.Variable.{Variable}
-use Rattle.ec_code_limits.specs.Limits.{HasColumn, HasLimits, IsSmallOperation}
-use Rattle.ec_faithful.specs.Frames.{home_word, slots}
-use Rattle.ec_faithful.specs.Stops.{live_list, row_or_empty}
-use Rattle.ec_homes.specs.Homes.{column}
-use Rattle.ec_homes.specs.Meeting.{Meet, live_first, live_in}
-use Rattle.ec_homes.specs.declared.homes.Home.{Home}
+use Rattle.ec_machine_code.specs.Limits.{HasColumn, HasLimits, IsSmallOperation}
+use Rattle.ec_machine_code.specs.Frames.{home_word, slots}
+use Rattle.ec_machine_code.specs.Stops.{live_list, row_or_empty}
+use Rattle.ec_machine_code.specs.Homes.{column}
+use Rattle.ec_machine_code.specs.Meeting.{Meet, live_first, live_in}
+use Rattle.ec_machine_code.specs.declared.homes.Home.{Home}
 use Rattle.ec_stop_tables.proofs.Listing.{all_at}
 use Rattle.ec_stop_tables.specs.Entries.{entries_of, result_of, typed}
 use Rattle.ec_stop_tables.specs.Tables.{AreTablesOf, IsTableOf, all_homes}

@@ -15,12 +15,12 @@ use Rattle.ec_code.specs.declared.code.StopRow.{StopRow}
 use Rattle.ec_code.specs.declared.code.Variable.{Variable}
 use Rattle.ec_types.specs.declared.conform.static_type.StaticType.{StaticType}
 use Rattle.ec_activations.proofs.Stops.{in_without}
-use Rattle.ec_faithful.specs.Stops.{live_list, stop_of}
-use Rattle.ec_homes.specs.Meeting.{Meet, all_if, live_first, live_in, met_at, met_behind, met_by}
+use Rattle.ec_machine_code.specs.Stops.{live_list, stop_of}
+use Rattle.ec_machine_code.specs.Meeting.{Meet, all_if, live_first, live_in, met_at, met_behind, met_by}
 use Rattle.ec_code.proofs.Among.{in_among, is_same_self}
 use Rattle.ec_code.specs.Live.{stays, writes}
 use Rattle.ec_code.specs.Marks.{is_among, is_same, is_written}
-use Rattle.ec_micro.proofs.FineAt.{fine_at}
+use Rattle.ec_machine_code.proofs.FineAt.{fine_at}
 use Rattle.ec_stop_tables.proofs.Homed.{has_in}
 use Rattle.ec_world.specs.declared.stop.Stop.{Stop}
 use Rattle.ec_world.specs.declared.stop.Stop.TheVariants as stop

@@ -12,14 +12,14 @@ use Rattle.ec_code.specs.declared.code.Line.{Line}
 use Rattle.ec_code.specs.declared.code.Live.{Live}
 use Rattle.ec_code.specs.declared.code.Parts.{Parts}
 use Rattle.ec_code.specs.declared.code.Variable.{Variable}
-use Rattle.ec_faithful.specs.Frames.{home_word, own_reference}
-use Rattle.ec_code_limits.specs.Limits.{HasColumn}
+use Rattle.ec_machine_code.specs.Frames.{home_word, own_reference}
+use Rattle.ec_machine_code.specs.Limits.{HasColumn}
 use Rattle.ec_types.specs.declared.conform.static_type.StaticType.{StaticType}
-use Rattle.ec_homes.specs.Homes.{AreHomes, IsWithin, column}
-use Rattle.ec_homes.specs.Meeting.{Meet}
-use Rattle.ec_homes.specs.declared.homes.Home.{Home}
-use Rattle.ec_homes.specs.declared.homes.Home.TheVariants.{Register, Slot}
-use Rattle.ec_laid_out.proofs.Variables.{one_variable}
+use Rattle.ec_machine_code.specs.Homes.{AreHomes, IsWithin, column}
+use Rattle.ec_machine_code.specs.Meeting.{Meet}
+use Rattle.ec_machine_code.specs.declared.homes.Home.{Home}
+use Rattle.ec_machine_code.specs.declared.homes.Home.TheVariants.{Register, Slot}
+use Rattle.ec_machine_code.proofs.Variables.{one_variable}
 use Rattle.ec_code.specs.Marks.{is_same}
 use Rattle.ec_stop_tables.proofs.Homed.{has_home}
 use Rattle.ec_stop_tables.specs.Entries.{result_of, typed}

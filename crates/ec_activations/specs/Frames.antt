@@ -10,9 +10,9 @@ use Rattle.ec_code.specs.declared.code.Operation.{Operation}
 use Rattle.ec_code.specs.declared.code.Parts.{Parts}
 use Rattle.ec_code.specs.declared.code.Variable.{Variable}
 use Rattle.ec_code.specs.declared.code.Variable.TheVariants.{Named, Temporary}
-use Rattle.ec_faithful.specs.Frames.{home_word, own_reference}
-use Rattle.ec_faithful.specs.Stops.{home_in}
-use Rattle.ec_homes.specs.declared.homes.Home.{Home}
+use Rattle.ec_machine_code.specs.Frames.{home_word, own_reference}
+use Rattle.ec_machine_code.specs.Stops.{home_in}
+use Rattle.ec_machine_code.specs.declared.homes.Home.{Home}
 use Rattle.ec_stop_tables.specs.Entries.{entries_of}
 use Rattle.ec_stop_tables.specs.declared.table.StopEntry.{StopEntry}
 use Rattle.ec_things.specs.Things.{Thing}

@@ -5,7 +5,7 @@ use Rattle.ec_arrivals.specs.Carried.{IsCarried, values_carried}
 use Rattle.ec_code.specs.Typing.{Declared}
 use Rattle.ec_code.specs.declared.activation.CodeActivation.{CodeActivation}
 use Rattle.ec_code.specs.declared.code.Parts.{Parts}
-use Rattle.ec_homes.specs.declared.homes.Home.{Home}
+use Rattle.ec_machine_code.specs.declared.homes.Home.{Home}
 use Rattle.ec_node_frames.specs.Frames.{AreHeadings, HasTables}
 use Rattle.ec_node_frames.specs.declared.frames.Headings.{Headings}
 use Rattle.ec_world.specs.declared.key.Key.TheVariants.{Frame}

@@ -3,7 +3,7 @@ use Rattle.std.specs.Prelude.{◌≡◌, List, Some, slice_get}
 use Rattle.ec_code.specs.Typing.{Declared}
 use Rattle.ec_code.specs.declared.activation.CodeActivation.{CodeActivation}
 use Rattle.ec_code.specs.declared.code.Parts.{Parts}
-use Rattle.ec_homes.specs.declared.homes.Home.{Home}
+use Rattle.ec_machine_code.specs.declared.homes.Home.{Home}
 use Rattle.ec_node_frames.specs.Frames.{AreHeadings, HasTables, RestsAt}
 use Rattle.ec_node_frames.specs.declared.frames.Headings.{Headings}
 use Rattle.ec_stop_tables.specs.declared.table.OperationTable.{OperationTable}

@@ -23,7 +23,7 @@ use Rattle.ec_code.specs.declared.code.Line.{Line}
 use Rattle.ec_code.specs.declared.code.Operation.{Operation}
 use Rattle.ec_code.specs.declared.code.Parts.{Parts}
 use Rattle.ec_code.specs.declared.code.StopRow.{StopRow}
-use Rattle.ec_faithful.specs.Stops as stops
+use Rattle.ec_machine_code.specs.Stops as stops
 use Rattle.ec_node_frames.specs.Finishing.{RestsHere}
 use Rattle.ec_node_frames.specs.Operands.{ActsHere}
 use Rattle.ec_world.proofs.Procs.{get_end}

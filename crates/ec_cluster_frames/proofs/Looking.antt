@@ -10,7 +10,7 @@ use Rattle.ec_cluster_frames.specs.Finding.{NoFrame, NoneBefore, TellsOf}
 use Rattle.ec_code.specs.declared.activation.CodeActivation.{CodeActivation}
 use Rattle.ec_code.specs.declared.code.Parts.{Parts}
 use Rattle.ec_activations.specs.Frames.{frame_thing}
-use Rattle.ec_homes.specs.declared.homes.Home.{Home}
+use Rattle.ec_machine_code.specs.declared.homes.Home.{Home}
 use Rattle.ec_node_frames.specs.Frames.{AreHeadings, IsFrame}
 use Rattle.ec_node_frames.specs.declared.frames.Headings.{Headings}
 use Rattle.ec_world.proofs.Procs.{activation_is}

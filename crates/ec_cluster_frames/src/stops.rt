@@ -4,7 +4,7 @@ ghost use Rattle.ec_cluster_frames.specs.Stops.{RestsThere, SomeRests, SomeRests
 ghost use Rattle.ec_code.specs.Typing.{Declared};
 ghost use Rattle.ec_code.specs.declared.activation.CodeActivation.{CodeActivation};
 ghost use Rattle.ec_code.specs.declared.code.Parts.{Parts as PartsData};
-ghost use Rattle.ec_homes.specs.declared.homes.Home.{Home};
+ghost use Rattle.ec_machine_code.specs.declared.homes.Home.{Home};
 ghost use Rattle.ec_node_frames.specs.Finishing.{RestsHere};
 ghost use Rattle.ec_stop_tables.specs.declared.table.OperationTable.{OperationTable as Table};
 ghost use Rattle.ec_stop_tables.specs.declared.table.StopEntry.{StopEntry as Entry};

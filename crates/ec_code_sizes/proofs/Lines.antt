@@ -7,11 +7,11 @@ use Rattle.ec_code.specs.declared.code.Op.{Op}
 use Rattle.ec_code.specs.declared.code.Variable.{Variable}
 use Rattle.ec_code.specs.declared.code.Variable.TheVariants.{Named, Temporary}
 use Rattle.ec_code.specs.Fine.{IsIn}
-use Rattle.ec_code_limits.specs.Limits.{HasColumn, HasColumns}
+use Rattle.ec_machine_code.specs.Limits.{HasColumn, HasColumns}
 use Rattle.ec_code_sizes.proofs.Within.{Reach, StepReaches}
 use Rattle.ec_types.specs.declared.conform.static_type.StaticType.{StaticType}
-use Rattle.ec_homes.specs.Homes.{HasItsVariables, IsVariable}
-use Rattle.ec_homes.specs.Meeting.{all_if, live_first, live_in, met_at, met_behind, met_by}
+use Rattle.ec_machine_code.specs.Homes.{HasItsVariables, IsVariable}
+use Rattle.ec_machine_code.specs.Meeting.{all_if, live_first, live_in, met_at, met_behind, met_by}
 use Rattle.ec_code.proofs.Among.{among_in, in_append, same_is}
 use Rattle.ec_code.specs.Live.{IsLive, is_passed, is_read, reads, writes}
 use Rattle.ec_code.specs.Marks.{is_among, is_same}

@@ -14,7 +14,7 @@ use Rattle.ec_code.specs.declared.code.Line.{Line}
 use Rattle.ec_code.specs.declared.code.Operation.{Operation as Made}
 use Rattle.ec_code.specs.declared.code.Parts.{Parts}
 use Rattle.ec_code.specs.Fine.{IsIn}
-use Rattle.ec_code_limits.specs.Limits.{HasColumns, HasFewFields, HasLimits, IsSmallOperation, steps_of}
+use Rattle.ec_machine_code.specs.Limits.{HasColumns, HasFewFields, HasLimits, IsSmallOperation, steps_of}
 use Rattle.ec_code_sizes.proofs.Forms.{IsCounted}
 use Rattle.ec_code_sizes.proofs.Lines.{as_long, each_is, has_its_variables, lines_have}
 use Rattle.ec_code_sizes.proofs.Operations.{operation_within, program_within}

@@ -5,7 +5,7 @@ use Rattle.ec_check.specs.Accepted.{HasCore}
 use Rattle.ec_code.specs.declared.code.Operation.{Operation as Made}
 use Rattle.ec_code.specs.declared.code.Parts.{Parts}
 use Rattle.ec_code.specs.Fine.{IsIn}
-use Rattle.ec_code_limits.specs.Limits.{HasLimits, steps_of}
+use Rattle.ec_machine_code.specs.Limits.{HasLimits, steps_of}
 use Rattle.ec_core.specs.declared.Operation.{Operation}
 use Rattle.ec_core_laws.specs.Measures.{size_of_block}
 use Rattle.ec_core_texts.specs.Captures.{captures_of_block}

@@ -4,12 +4,12 @@ use Rattle.std.specs.Prelude.{slice_get}
 use Rattle.ec_code.specs.Fine.{Fine}
 use Rattle.ec_code.specs.Typing.{Declared, DeclaredClass, field_types, fields_if}
 use Rattle.ec_code.specs.declared.code.Parts.{Parts}
-use Rattle.ec_code_limits.specs.Limits.{HasFewFields, HasLimits}
+use Rattle.ec_machine_code.specs.Limits.{HasFewFields, HasLimits}
 use Rattle.ec_compile.proofs.Literals.{literals_differ}
 use Rattle.ec_compile.proofs.Texts.{text_has_limits, text_is_fine}
 use Rattle.ec_compile.specs.Texts.{IsOfText}
-use Rattle.ec_faithful.specs.Frames.{block_words}
-use Rattle.ec_laid_out.specs.Fitted.{HasFew}
+use Rattle.ec_machine_code.specs.Frames.{block_words}
+use Rattle.ec_machine_code.specs.Fitted.{HasFew}
 use Rattle.ec_emission.specs.Lowered.{IsLowered, declared_of}
 use Rattle.ec_meaning.specs.Programs.{Source}
 use Rattle.ec_code.proofs.Carried.{all_two_length}

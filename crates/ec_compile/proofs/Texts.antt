@@ -14,7 +14,7 @@ use Rattle.ec_code.specs.declared.code.Operation.{Operation}
 use Rattle.ec_code.specs.declared.code.Parts.{Parts}
 use Rattle.ec_code.specs.declared.code.Test.{Test}
 use Rattle.ec_code.specs.declared.code.Test.TheVariants as test
-use Rattle.ec_code_limits.specs.Limits.{HasLimits}
+use Rattle.ec_machine_code.specs.Limits.{HasLimits}
 use Rattle.ec_code_sizes.proofs.Whole.{has_limits}
 use Rattle.ec_compile.specs.Texts.{IsOfText}
 use Rattle.ec_types.specs.Declarations.{declarations_of}
@@ -23,7 +23,7 @@ use Rattle.ec_core_laws.proofs.TextPrograms.{text_has_small_numbers}
 use Rattle.ec_core_texts.proofs.TextPrograms.{text_has_bytes}
 use Rattle.ec_emission.specs.Lowered.{IsLowered, declared_of}
 use Rattle.ec_meaning.specs.Programs.{Source}
-use Rattle.ec_micro.specs.Fitting.{NumbersFit, OperandFits, TestFits}
+use Rattle.ec_machine_code.specs.Fitting.{NumbersFit, OperandFits, TestFits}
 use Rattle.ec_places.proofs.Programs.{declared_among}
 use Rattle.ec_places.proofs.RisingTokens.{all_behind, they_rise}
 use Rattle.ec_code.specs.Code.{SmallLine, SmallOp, SmallOperand, SmallOperation, SmallProgram, SmallTest}

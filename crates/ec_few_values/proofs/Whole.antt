@@ -5,7 +5,7 @@ use Rattle.std.specs.Prelude.{slice_get}
 use Rattle.ec_code.specs.declared.code.Op.{Op}
 use Rattle.ec_code.specs.declared.code.Operation.{Operation as Made}
 use Rattle.ec_code.specs.declared.code.Parts.{Parts}
-use Rattle.ec_code_limits.specs.Limits.{HasLimits, IsSmallOperation}
+use Rattle.ec_machine_code.specs.Limits.{HasLimits, IsSmallOperation}
 use Rattle.ec_core.specs.declared.Operation.{Operation}
 use Rattle.ec_emission.specs.Literals.{literals_of}
 use Rattle.ec_emission.specs.Statements.{operation_fits}

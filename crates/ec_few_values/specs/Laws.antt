@@ -5,7 +5,7 @@ use Rattle.ec_code.specs.declared.code.Live.{Live}
 use Rattle.ec_code.specs.declared.code.Operation.{Operation}
 use Rattle.ec_code.specs.declared.code.Parts.{Parts}
 use Rattle.ec_code.specs.declared.code.Variable.{Variable}
-use Rattle.ec_code_limits.specs.Limits.{HasLimits}
+use Rattle.ec_machine_code.specs.Limits.{HasLimits}
 use Rattle.ec_emission_laws.specs.Laws.{PartsFit}
 use Rattle.ec_code.specs.Live.{InOrder}
 use Rattle.ec_emission.specs.Lowered.{IsLowered}

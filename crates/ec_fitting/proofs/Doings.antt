@@ -15,7 +15,7 @@ use Rattle.ec_code.specs.Steps.{with_itself}
 use Rattle.ec_code.specs.Typing.{Declared, DeclaredClass, class_type}
 use Rattle.ec_code.specs.declared.activation.CodeActivation.{CodeActivation}
 use Rattle.ec_code.specs.declared.code.Operation.{Operation}
-use Rattle.ec_code_limits.specs.Limits.{HasFewFields, HasLimits}
+use Rattle.ec_machine_code.specs.Limits.{HasFewFields, HasLimits}
 use Rattle.ec_types.specs.declared.conform.static_type.StaticType.{StaticType}
 use Rattle.ec_fitting.proofs.Asking.{its_own, its_stop}
 use Rattle.ec_fitting.proofs.Blocks.{made_fits, new_length, vector_fits}

@@ -11,8 +11,8 @@ use Rattle.ec_code.specs.declared.code.Line.{Line}
 use Rattle.ec_code.specs.declared.code.Op.TheVariants.{Rest}
 use Rattle.ec_code.specs.declared.code.Operation.{Operation}
 use Rattle.ec_code.specs.declared.code.StopRow.{StopRow}
-use Rattle.ec_faithful.specs.Frames.{slots}
-use Rattle.ec_faithful.specs.Stops as stops
+use Rattle.ec_machine_code.specs.Frames.{slots}
+use Rattle.ec_machine_code.specs.Stops as stops
 use Rattle.ec_fitting.specs.Fitting.{HasEntries}
 use Rattle.ec_stop_tables.specs.Entries.{entries_from, entries_of, entry_of, with_entry}
 use Rattle.ec_stop_tables.specs.Tables.{IsTableOf}

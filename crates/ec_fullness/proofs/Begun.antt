@@ -14,7 +14,7 @@ use Rattle.ec_code.specs.declared.code.Parts.{Parts}
 use Rattle.ec_code.specs.declared.code.StopRow.{StopRow}
 use Rattle.ec_code.specs.declared.code.Variable.{Variable}
 use Rattle.ec_code.specs.declared.code.Variable.TheVariants.{Named, Temporary}
-use Rattle.ec_faithful.specs.Stops as stops
+use Rattle.ec_machine_code.specs.Stops as stops
 use Rattle.ec_fullness.proofs.Values.{HoldsText, Holds, held_text, has_either, in_held, values_of}
 use Rattle.ec_node_frames.proofs.Items.{filled_up, map_both}
 use Rattle.ec_node_frames.specs.Beginning.{HasEntry, first_held, first_held_in, first_value, first_values}

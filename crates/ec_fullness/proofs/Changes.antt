@@ -9,7 +9,7 @@ use Rattle.ec_cluster.specs.declared.cluster.Cluster.{Cluster}
 use Rattle.ec_code.specs.Activations.{begun, code_meaning}
 use Rattle.ec_code.specs.Typing.{Declared}
 use Rattle.ec_code.specs.declared.activation.CodeActivation.{CodeActivation}
-use Rattle.ec_code_limits.specs.Limits.{HasLimits}
+use Rattle.ec_machine_code.specs.Limits.{HasLimits}
 use Rattle.ec_fullness.proofs.Begun.{no_text_begun}
 use Rattle.ec_fullness.proofs.Blocks.{held_after, object_sum, objects_same, one}
 use Rattle.ec_fullness.proofs.Doings.{then}

@@ -7,7 +7,7 @@ use Rattle.ec_cluster.specs.declared.cluster.Cluster.{Cluster}
 use Rattle.ec_code.specs.Activations.{code_meaning}
 use Rattle.ec_code.specs.Typing.{Declared}
 use Rattle.ec_code.specs.declared.activation.CodeActivation.{CodeActivation}
-use Rattle.ec_code_limits.specs.Limits.{HasLimits}
+use Rattle.ec_machine_code.specs.Limits.{HasLimits}
 use Rattle.ec_fullness.proofs.Acting.{action_is}
 use Rattle.ec_fullness.proofs.Blocks.{held_after, objects_same, one}
 use Rattle.ec_fullness.proofs.Effects.{Brought, TakenIf, brought_now, goes_weight, leaves_weight, wanted_before}

@@ -12,7 +12,7 @@ use Rattle.ec_code.specs.Activations.{begun, code_meaning, finished}
 use Rattle.ec_code.specs.Fine.{Fine}
 use Rattle.ec_code.specs.Typing.{Declared}
 use Rattle.ec_code.specs.declared.activation.CodeActivation.{CodeActivation}
-use Rattle.ec_code_limits.specs.Limits.{HasLimits}
+use Rattle.ec_machine_code.specs.Limits.{HasLimits}
 use Rattle.ec_fullness.proofs.Begun.{no_text_begun}
 use Rattle.ec_fullness.proofs.Blocks.{one, summed_push, top_finished}
 use Rattle.ec_fullness.proofs.Stacks.{after, all_after, all_push, begun_stacks, there_after}

@@ -15,8 +15,8 @@ use Rattle.ec_code.specs.declared.code.Live.{Live}
 use Rattle.ec_code.specs.declared.code.Parts.{Parts}
 use Rattle.ec_code.specs.declared.code.Variable.{Variable}
 use Rattle.ec_code.specs.declared.code.Variable.TheVariants.{Named, Temporary}
-use Rattle.ec_code_limits.specs.Limits.{HasLimits}
-use Rattle.ec_homes.specs.Homes.{IsVariable}
+use Rattle.ec_machine_code.specs.Limits.{HasLimits}
+use Rattle.ec_machine_code.specs.Homes.{IsVariable}
 use Rattle.ec_node_frames.proofs.AtStop.{has_column, no_entry, not_taken}
 use Rattle.ec_node_frames.proofs.Done.{ended_is_done}
 use Rattle.ec_node_frames.proofs.Items.{get_behind, get_map, put_beside, put_here}

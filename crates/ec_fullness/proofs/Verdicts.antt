@@ -18,7 +18,7 @@ use Rattle.ec_code.specs.Typing.{Declared}
 use Rattle.ec_code.specs.declared.activation.CodeActivation.{CodeActivation}
 use Rattle.ec_code.specs.declared.code.Live.{Live}
 use Rattle.ec_code.specs.declared.code.Parts.{Parts}
-use Rattle.ec_faithful.specs.Frames.{slots}
+use Rattle.ec_machine_code.specs.Frames.{slots}
 use Rattle.ec_fullness.proofs.Acting.{below_is, outcome_is, top_is}
 use Rattle.ec_fullness.proofs.Asked.{names_what_is_there}
 use Rattle.ec_fullness.proofs.Begun.{table_begins, values_first}

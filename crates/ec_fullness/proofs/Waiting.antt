@@ -14,7 +14,7 @@ use Rattle.ec_code.specs.declared.activation.CodeActivation.{CodeActivation}
 use Rattle.ec_code.specs.declared.code.Parts.{Parts}
 use Rattle.ec_code.specs.declared.code.Variable.{Variable}
 use Rattle.ec_types.specs.declared.conform.static_type.StaticType.{StaticType}
-use Rattle.ec_faithful.specs.Stops.{without}
+use Rattle.ec_machine_code.specs.Stops.{without}
 use Rattle.ec_fullness.proofs.Acting.{top_is}
 use Rattle.ec_fullness.proofs.Effects.{GoerWaits, Waiting, WaitingIf}
 use Rattle.ec_fullness.proofs.Values.{IsLast, WaitsAt}

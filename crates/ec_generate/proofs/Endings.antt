@@ -4,11 +4,11 @@ use Rattle.std.specs.Prelude.{slice_get}
 use Rattle.ec_code.specs.declared.code.Op.{Op}
 use Rattle.ec_generate.specs.Sites.{home_there, ops_there, place_there, size_there}
 use Rattle.ec_generate.specs.declared.site.Site.{Site}
-use Rattle.ec_micro.specs.Layout.{ending_size, plain_size}
-use Rattle.ec_micro.specs.Lowering.{ending_of}
-use Rattle.ec_micro.specs.Speaks.{Vocabulary}
-use Rattle.ec_micro.specs.declared.step.Ending.{Ending}
-use Rattle.ec_micro.proofs.Sizes.{before_next, before_rises, before_within}
+use Rattle.ec_machine_code.specs.Layout.{ending_size, plain_size}
+use Rattle.ec_machine_code.specs.Lowering.{ending_of}
+use Rattle.ec_machine_code.specs.Speaks.{Vocabulary}
+use Rattle.ec_machine_code.specs.declared.step.Ending.{Ending}
+use Rattle.ec_machine_code.proofs.MicroSizes.{before_next, before_rises, before_within}
 
 module _ (V : Vocabulary) (site : Site) (start q : ℕ) (o : Op) (e : Ending) (from : ℕ)
     (there : slice_get (ops_there site) q ≡ Some o) (is : ending_of (home_there site) o ≡ Some e)

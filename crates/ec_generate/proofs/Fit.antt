@@ -9,15 +9,15 @@ use Rattle.ec_code.specs.declared.code.Line.{Line}
 use Rattle.ec_code.specs.declared.code.Operation.{Operation}
 use Rattle.ec_code.specs.declared.code.Parts.{Parts}
 use Rattle.ec_code.specs.declared.code.Variable.{Variable}
-use Rattle.ec_code_limits.specs.Limits.{HasColumn, HasLimits, IsSmallOperation}
+use Rattle.ec_machine_code.specs.Limits.{HasColumn, HasLimits, IsSmallOperation}
 use Rattle.ec_types.specs.declared.conform.static_type.StaticType.{StaticType}
-use Rattle.ec_faithful.specs.Frames.{slots}
-use Rattle.ec_faithful.specs.Stops.{row_or_empty}
-use Rattle.ec_homes.specs.Homes.{IsVariable, IsWithin, column}
-use Rattle.ec_homes.specs.declared.homes.Home.{Home}
+use Rattle.ec_machine_code.specs.Frames.{slots}
+use Rattle.ec_machine_code.specs.Stops.{row_or_empty}
+use Rattle.ec_machine_code.specs.Homes.{IsVariable, IsWithin, column}
+use Rattle.ec_machine_code.specs.declared.homes.Home.{Home}
 use Rattle.ec_code.specs.Live.{reads, writes}
-use Rattle.ec_micro.specs.Fitting.{HomesFit, IsNamedBy}
-use Rattle.ec_micro.specs.Layout.{home_of, home_or}
+use Rattle.ec_machine_code.specs.Fitting.{HomesFit, IsNamedBy}
+use Rattle.ec_machine_code.specs.Layout.{home_of, home_or}
 use Rattle.ec_stop_tables.proofs.Homed.{has_home, has_in, homes_apart}
 use Rattle.ec_stop_tables.proofs.Listing.{all_at}
 use Rattle.ec_stop_tables.specs.Tables.{AreTablesOf, IsTableOf, all_homes}

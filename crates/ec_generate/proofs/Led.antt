@@ -9,13 +9,13 @@ use Rattle.ec_code.specs.declared.code.Live.{Live}
 use Rattle.ec_code.specs.declared.code.Op.{Op}
 use Rattle.ec_code.specs.declared.code.Variable.{Variable}
 use Rattle.ec_code.specs.declared.code.Variable.TheVariants.{Temporary}
-use Rattle.ec_homes.specs.declared.homes.Home.{Home}
+use Rattle.ec_machine_code.specs.declared.homes.Home.{Home}
 use Rattle.ec_code.specs.Marks.{is_among}
-use Rattle.ec_micro.proofs.Direct.{nothing_moved, same_ending}
-use Rattle.ec_micro.specs.Direct.{direct_before, direct_by, direct_if, direct_of, if_so, into_named, is_unled, laid_by, laid_op, led_to}
-use Rattle.ec_micro.specs.Direct.{marked}
-use Rattle.ec_micro.specs.Direct.{marked_one, temporary_of}
-use Rattle.ec_micro.specs.Lowering.{ending_of, steps_of}
+use Rattle.ec_machine_code.proofs.Direct.{nothing_moved, same_ending}
+use Rattle.ec_machine_code.specs.Direct.{direct_before, direct_by, direct_if, direct_of, if_so, into_named, is_unled, laid_by, laid_op, led_to}
+use Rattle.ec_machine_code.specs.Direct.{marked}
+use Rattle.ec_machine_code.specs.Direct.{marked_one, temporary_of}
+use Rattle.ec_machine_code.specs.Lowering.{ending_of, steps_of}
 
 pub live_there : (code : List Line) (p : ℕ) (line : Line) → slice_get code p ≡ Some line → live_at code p ≡ line.live
 live_there code p line e = ap live_if e

@@ -8,12 +8,12 @@ use Rattle.ec_code.specs.declared.code.Line.{Line}
 use Rattle.ec_code.specs.declared.code.Op.{Op}
 use Rattle.ec_code.specs.declared.code.StopRow.{StopRow}
 use Rattle.ec_code.specs.declared.code.Variable.{Variable}
-use Rattle.ec_faithful.specs.Stops.{places_from, stop_of, with_place}
+use Rattle.ec_machine_code.specs.Stops.{places_from, stop_of, with_place}
 use Rattle.ec_generate.specs.Puts.{IsSized}
-use Rattle.ec_homes.specs.declared.homes.Home.{Home}
-use Rattle.ec_micro.specs.Layout.{before, op_words, place, words_from}
-use Rattle.ec_micro.specs.Speaks.{Vocabulary}
-use Rattle.ec_micro.proofs.Sizes.{before_next, op_long}
+use Rattle.ec_machine_code.specs.declared.homes.Home.{Home}
+use Rattle.ec_machine_code.specs.Layout.{before, op_words, place, words_from}
+use Rattle.ec_machine_code.specs.Speaks.{Vocabulary}
+use Rattle.ec_machine_code.proofs.MicroSizes.{before_next, op_long}
 
 -- one item more of a list of what f gives
 pub one_more : (xs new : List ℕ) (x : ℕ) (f : ℕ → ℕ) (n : ℕ) → new ≡ xs ++ x ∷ [] → length xs ≡ n → x ≡ f n →

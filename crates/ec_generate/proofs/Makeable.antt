@@ -19,25 +19,25 @@ use Rattle.ec_code.specs.declared.code.Test.{Test}
 use Rattle.ec_code.specs.declared.code.Test.TheVariants as test
 use Rattle.ec_code.specs.declared.code.Variable.{Variable}
 use Rattle.ec_code.specs.declared.code.Variable.TheVariants.{Named}
-use Rattle.ec_code_limits.specs.Limits.{HasFewFields, HasLimits, IsSmallOperation}
+use Rattle.ec_machine_code.specs.Limits.{HasFewFields, HasLimits, IsSmallOperation}
 use Rattle.ec_types.specs.declared.conform.static_type.StaticType.{StaticType}
-use Rattle.ec_faithful.specs.Frames.{block_words, slots}
+use Rattle.ec_machine_code.specs.Frames.{block_words, slots}
 use Rattle.ec_generate.specs.Puts.{CanPutQuestion, CanPutSource}
 use Rattle.ec_generate.proofs.Led.{laid_ending}
 use Rattle.ec_generate.specs.Sites.{CanPutAll, CanPutEnding, IsMakeable, home_there, ops_there}
 use Rattle.ec_generate.specs.declared.site.Site.{Site}
-use Rattle.ec_homes.specs.Homes.{IsWithin}
-use Rattle.ec_homes.specs.declared.homes.Home.{Home}
+use Rattle.ec_machine_code.specs.Homes.{IsWithin}
+use Rattle.ec_machine_code.specs.declared.homes.Home.{Home}
 use Rattle.ec_code.specs.Live.{read_by, read_in, reads, writes}
-use Rattle.ec_micro.proofs.Direct.{IsDirect, is_direct, line_there, nothing_moved, ops_long}
-use Rattle.ec_micro.proofs.FineAt.{fine_at}
-use Rattle.ec_micro.specs.Direct.{direct_before, direct_of, into_named, laid_by, laid_op}
-use Rattle.ec_micro.specs.Fitting.{HomesFit, IsNamedBy}
-use Rattle.ec_micro.specs.Layout.{home_of, home_or, ops_of}
-use Rattle.ec_micro.specs.Lowering.{branch_by, ending_of, is_there, known, question_of, source_of, steps_of}
-use Rattle.ec_micro.specs.declared.step.Question.{Question}
-use Rattle.ec_micro.specs.declared.step.Source.{Source}
-use Rattle.ec_micro.specs.declared.step.Step.TheVariants as step
+use Rattle.ec_machine_code.proofs.Direct.{IsDirect, is_direct, line_there, nothing_moved, ops_long}
+use Rattle.ec_machine_code.proofs.FineAt.{fine_at}
+use Rattle.ec_machine_code.specs.Direct.{direct_before, direct_of, into_named, laid_by, laid_op}
+use Rattle.ec_machine_code.specs.Fitting.{HomesFit, IsNamedBy}
+use Rattle.ec_machine_code.specs.Layout.{home_of, home_or, ops_of}
+use Rattle.ec_machine_code.specs.Lowering.{branch_by, ending_of, is_there, known, question_of, source_of, steps_of}
+use Rattle.ec_machine_code.specs.declared.step.Question.{Question}
+use Rattle.ec_machine_code.specs.declared.step.Source.{Source}
+use Rattle.ec_machine_code.specs.declared.step.Step.TheVariants as step
 use Rattle.ec_world.proofs.Related.{all-length}
 use Rattle.ec_world.specs.declared.class.ClassNo.{ClassNo}
 use Rattle.ec_world.specs.declared.class.ClassNo.TheVariants.{Node, Program, Made, Vector}

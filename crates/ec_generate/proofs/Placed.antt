@@ -4,19 +4,19 @@ use Rattle.std.specs.Prelude.{slice_get}
 use Rattle.ec_code.specs.declared.code.Line.{Line}
 use Rattle.ec_code.specs.declared.code.Operation.{Operation}
 use Rattle.ec_code.specs.declared.code.Variable.{Variable}
-use Rattle.ec_faithful.specs.Stops.{row_or_empty, stop_places}
-use Rattle.ec_faithful.specs.declared.code.OperationCode.{OperationCode}
+use Rattle.ec_machine_code.specs.Stops.{row_or_empty, stop_places}
+use Rattle.ec_machine_code.specs.declared.code.OperationCode.{OperationCode}
 use Rattle.ec_generate.specs.Puts.{Sized, pick}
 use Rattle.ec_generate.specs.Sites.{code_there, home_there, ops_there, size_there}
 use Rattle.ec_generate.specs.declared.kind.Span.{Span}
 use Rattle.ec_generate.specs.declared.site.Site.{Site}
 use Rattle.ec_generate.proofs.Programs.{words_at}
 use Rattle.ec_generate.proofs.Room.{chosen_near}
-use Rattle.ec_homes.specs.Homes.{column}
-use Rattle.ec_homes.specs.declared.homes.Home.{Home}
-use Rattle.ec_micro.specs.Layout.{Vocabularies, chosen, home_of, home_or, operation_words, ops_of, place, size_of, stop_addresses}
-use Rattle.ec_micro.specs.Layout.{vocabulary_of, words_in}
-use Rattle.ec_micro.specs.Speaks.{Vocabulary, words_end}
+use Rattle.ec_machine_code.specs.Homes.{column}
+use Rattle.ec_machine_code.specs.declared.homes.Home.{Home}
+use Rattle.ec_machine_code.specs.Layout.{Vocabularies, chosen, home_of, home_or, operation_words, ops_of, place, size_of, stop_addresses}
+use Rattle.ec_machine_code.specs.Layout.{vocabulary_of, words_in}
+use Rattle.ec_machine_code.specs.Speaks.{Vocabulary, words_end}
 use Rattle.ec_target.specs.Code.{pc_of}
 
 -- the homes of variables by those of their columns

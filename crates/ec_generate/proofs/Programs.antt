@@ -6,14 +6,14 @@ use Rattle.ec_base.proofs.Lists.{drop_at}
 use Rattle.ec_code.specs.declared.code.Op.{Op}
 use Rattle.ec_code.specs.declared.code.Operation.{Operation}
 use Rattle.ec_code.specs.declared.code.Variable.{Variable}
-use Rattle.ec_faithful.specs.declared.code.OperationCode.{OperationCode}
+use Rattle.ec_machine_code.specs.declared.code.OperationCode.{OperationCode}
 use Rattle.ec_generate.specs.Puts.{IsSized}
-use Rattle.ec_homes.specs.declared.homes.Home.{Home}
-use Rattle.ec_micro.specs.Layout.{Vocabularies, home_of, op_words, operation_codes, operation_words, ops_of, program_words, size_of}
-use Rattle.ec_micro.specs.Layout.{size_of_all}
-use Rattle.ec_micro.specs.Layout.{stop_addresses, vocabulary_of, words_from, words_in}
-use Rattle.ec_micro.specs.Speaks.{Vocabulary}
-use Rattle.ec_micro.proofs.Sizes.{op_long}
+use Rattle.ec_machine_code.specs.declared.homes.Home.{Home}
+use Rattle.ec_machine_code.specs.Layout.{Vocabularies, home_of, op_words, operation_codes, operation_words, ops_of, program_words, size_of}
+use Rattle.ec_machine_code.specs.Layout.{size_of_all}
+use Rattle.ec_machine_code.specs.Layout.{stop_addresses, vocabulary_of, words_from, words_in}
+use Rattle.ec_machine_code.specs.Speaks.{Vocabulary}
+use Rattle.ec_machine_code.proofs.MicroSizes.{op_long}
 
 module _ (V : Vocabulary) (home : Variable → Home) (sized : IsSized V) (all : List Op) (start : ℕ) where
   pub words_long : (p : ℕ) (os : List Op) → length (words_from V home all start p os) ≡ size_of V home os

@@ -11,20 +11,20 @@ use Rattle.ec_code.specs.declared.code.Op.TheVariants as op
 use Rattle.ec_code.specs.declared.code.Operation.{Operation}
 use Rattle.ec_code.specs.declared.code.Parts.{Parts}
 use Rattle.ec_code.specs.declared.code.Variable.{Variable}
-use Rattle.ec_code_limits.specs.Limits as limits
+use Rattle.ec_machine_code.specs.Limits as limits
 use Rattle.ec_generate.specs.Puts.{IsSized, Sized, most_words, pick}
 use Rattle.ec_generate.specs.declared.kind.Span.{Span}
 use Rattle.ec_generate.specs.declared.kind.Span.TheVariants.{Near, Middle, Far}
-use Rattle.ec_micro.proofs.Direct.{ops_long}
-use Rattle.ec_homes.specs.declared.homes.Home.{Home}
-use Rattle.ec_micro.specs.Layout.{HasRoom, Vocabularies, chosen, ending_size, home_of, is_within, op_size, ops_of, size_of, size_of_all}
-use Rattle.ec_micro.specs.Layout.{vocabulary_of, words_in, words_of_steps}
-use Rattle.ec_micro.specs.Lowering.{branch_by, is_there, known, question_of, source_of}
-use Rattle.ec_micro.specs.Speaks.{Vocabulary, words_end}
-use Rattle.ec_micro.specs.declared.step.Question.{Question}
-use Rattle.ec_micro.specs.declared.step.Source.TheVariants as source
-use Rattle.ec_micro.specs.declared.step.Step.{Step}
-use Rattle.ec_micro.specs.declared.step.Step.TheVariants as step
+use Rattle.ec_machine_code.proofs.Direct.{ops_long}
+use Rattle.ec_machine_code.specs.declared.homes.Home.{Home}
+use Rattle.ec_machine_code.specs.Layout.{HasRoom, Vocabularies, chosen, ending_size, home_of, is_within, op_size, ops_of, size_of, size_of_all}
+use Rattle.ec_machine_code.specs.Layout.{vocabulary_of, words_in, words_of_steps}
+use Rattle.ec_machine_code.specs.Lowering.{branch_by, is_there, known, question_of, source_of}
+use Rattle.ec_machine_code.specs.Speaks.{Vocabulary, words_end}
+use Rattle.ec_machine_code.specs.declared.step.Question.{Question}
+use Rattle.ec_machine_code.specs.declared.step.Source.TheVariants as source
+use Rattle.ec_machine_code.specs.declared.step.Step.{Step}
+use Rattle.ec_machine_code.specs.declared.step.Step.TheVariants as step
 
 -- ---- one step of three-address code is a step on words, or a way of going on
 

@@ -1,16 +1,16 @@
 -- When words can be written.
 use Rattle.std.specs.Prelude.{◌≡◌, ℕ, ◌<◌, ◌≤◌, ◌^◌, length}
-use Rattle.ec_faithful.specs.Frames.{block_words, slots}
+use Rattle.ec_machine_code.specs.Frames.{block_words, slots}
 use Rattle.ec_generate.specs.declared.kind.Span.{Span}
 use Rattle.ec_generate.specs.declared.kind.Span.TheVariants.{Near, Middle, Far}
-use Rattle.ec_homes.specs.Homes.{IsWithin}
-use Rattle.ec_micro.specs.Layout.{Vocabularies}
-use Rattle.ec_micro.specs.Speaks.{Vocabulary, words_end}
-use Rattle.ec_micro.specs.declared.step.Question.{Question}
-use Rattle.ec_micro.specs.declared.step.Source.{Source}
-use Rattle.ec_micro.specs.declared.step.Source.TheVariants as source
-use Rattle.ec_micro.specs.declared.step.Step.{Step}
-use Rattle.ec_micro.specs.declared.step.Step.TheVariants as step
+use Rattle.ec_machine_code.specs.Homes.{IsWithin}
+use Rattle.ec_machine_code.specs.Layout.{Vocabularies}
+use Rattle.ec_machine_code.specs.Speaks.{Vocabulary, words_end}
+use Rattle.ec_machine_code.specs.declared.step.Question.{Question}
+use Rattle.ec_machine_code.specs.declared.step.Source.{Source}
+use Rattle.ec_machine_code.specs.declared.step.Source.TheVariants as source
+use Rattle.ec_machine_code.specs.declared.step.Step.{Step}
+use Rattle.ec_machine_code.specs.declared.step.Step.TheVariants as step
 
 abbrev pub pick : Vocabularies → Span → Vocabulary
 pick vs Near = vs.near

@@ -2,20 +2,20 @@
 use Rattle.std.specs.Prelude.{◌≡◌, ℕ, suc, ◌+◌, ◌<◌, ◌≤◌, List, [], ◌∷◌, length, map, Option, Some, None, slice_get}
 use Rattle.ec_code.specs.declared.code.Op.{Op}
 use Rattle.ec_code.specs.declared.code.Variable.{Variable}
-use Rattle.ec_faithful.specs.Stops.{stop_places}
-use Rattle.ec_faithful.specs.declared.code.OperationCode.{OperationCode}
+use Rattle.ec_machine_code.specs.Stops.{stop_places}
+use Rattle.ec_machine_code.specs.declared.code.OperationCode.{OperationCode}
 use Rattle.ec_generate.specs.Puts.{CanPut, CanPutQuestion}
 use Rattle.ec_generate.specs.declared.site.Site.{Site}
-use Rattle.ec_homes.specs.Homes.{column}
-use Rattle.ec_homes.specs.declared.homes.Home.{Home}
-use Rattle.ec_micro.specs.Direct.{led_to}
-use Rattle.ec_micro.specs.Layout as layout
-use Rattle.ec_micro.specs.Layout.{home_or, ops_of}
-use Rattle.ec_micro.specs.Lowering.{ending_of, steps_of}
-use Rattle.ec_micro.specs.Speaks.{Vocabulary}
-use Rattle.ec_micro.specs.declared.step.Ending.{Ending}
-use Rattle.ec_micro.specs.declared.step.Ending.TheVariants.{Again, Branch, Jump, Stop}
-use Rattle.ec_micro.specs.declared.step.Step.{Step}
+use Rattle.ec_machine_code.specs.Homes.{column}
+use Rattle.ec_machine_code.specs.declared.homes.Home.{Home}
+use Rattle.ec_machine_code.specs.Direct.{led_to}
+use Rattle.ec_machine_code.specs.Layout as layout
+use Rattle.ec_machine_code.specs.Layout.{home_or, ops_of}
+use Rattle.ec_machine_code.specs.Lowering.{ending_of, steps_of}
+use Rattle.ec_machine_code.specs.Speaks.{Vocabulary}
+use Rattle.ec_machine_code.specs.declared.step.Ending.{Ending}
+use Rattle.ec_machine_code.specs.declared.step.Ending.TheVariants.{Again, Branch, Jump, Stop}
+use Rattle.ec_machine_code.specs.declared.step.Step.{Step}
 use Rattle.ec_target.specs.Code.{pc_of}
 
 -- no operation has more steps of three-address code

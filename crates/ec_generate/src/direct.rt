@@ -4,7 +4,7 @@ ghost use Rattle.std.specs.Prelude.{slice_get, slice_set};
 ghost use Rattle.ec_code.specs.Fine.{live_at};
 ghost use Rattle.ec_generate.specs.Sites.{IsLed};
 ghost use Rattle.ec_code.specs.Marks.{is_among};
-ghost use Rattle.ec_micro.specs.Direct as spec;
+ghost use Rattle.ec_machine_code.specs.Direct as spec;
 
 use crate::site::Site;
 use ec_base::list::Seq;

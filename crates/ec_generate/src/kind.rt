@@ -1,11 +1,11 @@
 //! What a kind of machine writes.
 ghost use Rattle.std.specs.Prelude.{◌≡◌, ℕ, ◌+◌, ◌≤◌, [], ◌∷◌, ◌++◌, OnOk, length};
 ghost use Rattle.ec_generate.specs.Puts.{CanPut, CanPutQuestion, Sized, most_words, pick};
-ghost use Rattle.ec_micro.specs.Layout.{Vocabularies};
-ghost use Rattle.ec_micro.specs.Speaks.{words_end};
+ghost use Rattle.ec_machine_code.specs.Layout.{Vocabularies};
+ghost use Rattle.ec_machine_code.specs.Speaks.{words_end};
 
 use ec_base::list::Seq;
-use ec_micro::step::{Question, Step};
+use ec_machine_code::step::{Question, Step};
 use std::alloc::AllocError;
 
 /// How far the words of an operation reach: those that reach less far are fewer.

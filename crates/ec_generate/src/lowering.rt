@@ -1,14 +1,14 @@
 //! The steps on words for a step of three-address code.
 ghost use Rattle.std.specs.Prelude.{◌≡◌, ◌<◌, length};
 ghost use Rattle.ec_generate.specs.Sites.{IsLed, home_there, listed};
-ghost use Rattle.ec_micro.specs.Direct as direct;
-ghost use Rattle.ec_micro.specs.Lowering as spec;
-ghost use Rattle.ec_micro.specs.Micro.{related};
+ghost use Rattle.ec_machine_code.specs.Direct as direct;
+ghost use Rattle.ec_machine_code.specs.Lowering as spec;
+ghost use Rattle.ec_machine_code.specs.Micro.{related};
 
 use crate::site::Site;
 use ec_code::code::{Op, Operand, Test, Variable};
-use ec_homes::homes::Home;
-use ec_micro::step::{Ending, Question, Relation, Source, Step};
+use ec_machine_code::homes::Home;
+use ec_machine_code::step::{Ending, Question, Relation, Source, Step};
 
 /// A word that is 0.
 const NOTHING: Source = Source::Word(0);

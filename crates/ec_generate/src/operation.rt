@@ -1,13 +1,13 @@
 //! The words of an operation.
 ghost use Rattle.std.specs.Prelude.{◌≡◌, ℕ, ◌≤◌, ◌<◌, ◌+◌, ◌++◌, true, false, IfOk, IsSome, OnOk, Some, None, length, map, slice_get};
-ghost use Rattle.ec_faithful.specs.Stops.{stop_of, stop_places};
+ghost use Rattle.ec_machine_code.specs.Stops.{stop_of, stop_places};
 ghost use Rattle.ec_generate.specs.Puts.{pick};
 ghost use Rattle.ec_generate.specs.Sites.{ArePlaces, CanPutAll, IsLed, IsMakeable, code_there, home_there};
 ghost use Rattle.ec_generate.specs.Sites.{ops_there, place_there, size_there};
-ghost use Rattle.ec_micro.specs.Direct.{laid_op};
-ghost use Rattle.ec_micro.specs.Layout as layout;
-ghost use Rattle.ec_micro.specs.Lowering as lowering;
-ghost use Rattle.ec_micro.specs.Speaks.{words_end};
+ghost use Rattle.ec_machine_code.specs.Direct.{laid_op};
+ghost use Rattle.ec_machine_code.specs.Layout as layout;
+ghost use Rattle.ec_machine_code.specs.Lowering as lowering;
+ghost use Rattle.ec_machine_code.specs.Speaks.{words_end};
 ghost use Rattle.ec_target.specs.Code.{pc_of};
 
 use crate::kind::{Kind, Span};
@@ -15,8 +15,8 @@ use crate::site::Site;
 use crate::sizes::places;
 use ec_base::list::Seq;
 use ec_code::code::Op;
-use ec_faithful::code::OperationCode;
-use ec_micro::step::Ending;
+use ec_machine_code::code::OperationCode;
+use ec_machine_code::step::Ending;
 use std::alloc::{AllocError, Global};
 
 /// Where code starts, in bytes.

@@ -3,10 +3,10 @@ ghost use Rattle.std.specs.Prelude.{◌≡◌, ℕ, ◌≤◌, Some, IfOk, lengt
 ghost use Rattle.ec_code.specs.declared.code.Operation.{Operation as One};
 ghost use Rattle.ec_code.specs.Fine.{Fine};
 ghost use Rattle.ec_code.specs.Typing.{Declared};
-ghost use Rattle.ec_code_limits.specs.Limits.{HasLimits};
-ghost use Rattle.ec_faithful.specs.Frames.{slots};
-ghost use Rattle.ec_micro.specs.Fitting.{HomesFit};
-ghost use Rattle.ec_micro.specs.Layout.{HasRoom, code_of};
+ghost use Rattle.ec_machine_code.specs.Limits.{HasLimits};
+ghost use Rattle.ec_machine_code.specs.Frames.{slots};
+ghost use Rattle.ec_machine_code.specs.Fitting.{HomesFit};
+ghost use Rattle.ec_machine_code.specs.Layout.{HasRoom, code_of};
 ghost use Rattle.ec_stop_tables.specs.Tables.{AreTablesOf, all_homes};
 
 use crate::direct::led_to;
@@ -16,8 +16,8 @@ use crate::site::Site;
 use crate::sizes::span_of;
 use ec_base::list::Seq;
 use ec_code::code::{Operation, Parts};
-use ec_faithful::code::Code;
-use ec_homes::homes::Home;
+use ec_machine_code::code::Code;
+use ec_machine_code::homes::Home;
 use ec_stop_tables::table::StopTable;
 use std::alloc::{AllocError, Global};
 

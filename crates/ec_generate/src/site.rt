@@ -1,11 +1,11 @@
 //! An operation that is laid out.
 ghost use Rattle.std.specs.Prelude.{◌≡◌, ◌≤◌, ◌^◌, IfNone, IfSome};
 ghost use Rattle.ec_generate.specs.Sites.{home_there};
-ghost use Rattle.ec_homes.specs.Homes as homes;
+ghost use Rattle.ec_machine_code.specs.Homes as homes;
 
 use ec_base::list::Seq;
 use ec_code::code::{Line, Variable};
-use ec_homes::homes::Home;
+use ec_machine_code::homes::Home;
 
 /// The code of an operation, for each place of it whether a step leads there past the next one, how many named variables it has, and the
 /// homes of its variables by their places: named ones first.

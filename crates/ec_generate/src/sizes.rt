@@ -2,15 +2,15 @@
 ghost use Rattle.std.specs.Prelude.{◌≡◌, ℕ, ◌≤◌, ◌<◌, ◌+◌, ◌*◌, ◌^◌, IfOk, length};
 ghost use Rattle.ec_generate.specs.Puts.{most_words, pick};
 ghost use Rattle.ec_generate.specs.Sites.{ArePlaces, IsLed, home_there, most_steps, ops_there, size_there};
-ghost use Rattle.ec_micro.specs.Direct.{laid_op};
-ghost use Rattle.ec_micro.specs.Layout as layout;
-ghost use Rattle.ec_micro.specs.Layout.{chosen};
+ghost use Rattle.ec_machine_code.specs.Direct.{laid_op};
+ghost use Rattle.ec_machine_code.specs.Layout as layout;
+ghost use Rattle.ec_machine_code.specs.Layout.{chosen};
 
 use crate::kind::{Kind, Span};
 use crate::site::Site;
 use ec_base::list::Seq;
 use ec_code::code::Op;
-use ec_micro::step::Ending;
+use ec_machine_code::step::Ending;
 use std::alloc::{AllocError, Global};
 
 /// How many words a way of going on has.

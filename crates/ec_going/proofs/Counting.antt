@@ -8,7 +8,7 @@ use Rattle.ec_cluster.specs.Cluster.{place, stores, stores_of}
 use Rattle.ec_cluster.specs.Images.{homes_on, image_of}
 use Rattle.ec_cluster.specs.declared.cluster.Cluster.{Cluster}
 use Rattle.ec_code.specs.declared.activation.CodeActivation.{CodeActivation}
-use Rattle.ec_faithful.specs.Stops.{words_of}
+use Rattle.ec_machine_code.specs.Stops.{words_of}
 use Rattle.ec_going.specs.Going.{IsFew, Ran, RanAt, SameRoom}
 use Rattle.ec_legs.specs.Legs.{Leg}
 use Rattle.ec_stores.specs.Node.{NodeData, store_of}

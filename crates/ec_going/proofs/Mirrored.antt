@@ -7,7 +7,7 @@ use Rattle.ec_cluster.specs.Cluster.{CodeWorld, place}
 use Rattle.ec_cluster.specs.Images.{homes_on}
 use Rattle.ec_code.specs.Activations.{code_meaning, code_silent}
 use Rattle.ec_code.specs.declared.activation.CodeActivation.{CodeActivation}
-use Rattle.ec_faithful.specs.declared.code.Code.{Code}
+use Rattle.ec_machine_code.specs.declared.code.Code.{Code}
 use Rattle.ec_going.proofs.Shown.{went_shown}
 use Rattle.ec_going.proofs.Tops.{count_is, goes_on_is, length_push, went, with_top}
 use Rattle.ec_going.proofs.Walked.{OwnRan, silent_ran}

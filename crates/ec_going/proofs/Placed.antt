@@ -10,7 +10,7 @@ use Rattle.ec_cluster_frames.specs.Finding.{NoFrame, TellsOf}
 use Rattle.ec_code.specs.Fine.{Fine}
 use Rattle.ec_code.specs.Typing.{Declared}
 use Rattle.ec_code.specs.declared.activation.CodeActivation.{CodeActivation}
-use Rattle.ec_code_limits.specs.Limits.{HasLimits}
+use Rattle.ec_machine_code.specs.Limits.{HasLimits}
 use Rattle.ec_going.proofs.Showing.{frame_at, its_object, own_there, shows_all}
 use Rattle.ec_going.proofs.Stepping.{can_step}
 use Rattle.ec_going.proofs.Tops.{count_is, there, top_ranged, top_sound}

@@ -6,7 +6,7 @@ use Rattle.ec_code.specs.Steps.{variable_at}
 use Rattle.ec_code.specs.declared.activation.CodeActivation.{CodeActivation}
 use Rattle.ec_code.specs.declared.code.Parts.{Parts}
 use Rattle.ec_code.specs.declared.code.Variable.{Variable}
-use Rattle.ec_faithful.specs.Standing.{FitsWord}
+use Rattle.ec_machine_code.specs.Standing.{FitsWord}
 use Rattle.ec_code.proofs.RangesSteps.{variable_ranged}
 use Rattle.ec_code.specs.RangesValues.{AllInRange, GivenInRange, InRange}
 use Rattle.ec_code.specs.Worlds.{RangedActivation, RangedCommon, RangedMachine, RangedObject}

@@ -9,7 +9,7 @@ use Rattle.ec_code.specs.Fine.{Fine, IsFieldOf}
 use Rattle.ec_code.specs.Typing.{Declared, field_types, fields_if}
 use Rattle.ec_code.specs.declared.activation.CodeActivation.{CodeActivation}
 use Rattle.ec_code.specs.declared.code.Parts.{Parts}
-use Rattle.ec_code_limits.specs.Limits.{HasFewFields, HasLimits}
+use Rattle.ec_machine_code.specs.Limits.{HasFewFields, HasLimits}
 use Rattle.ec_going.proofs.Ranging.{constant_fits, field_fits}
 use Rattle.ec_going.proofs.Tops.{there, top_sound}
 use Rattle.ec_going.specs.Going.{HasLiterals, IsDoneTop, IsInOneBlock}

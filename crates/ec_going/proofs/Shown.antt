@@ -10,7 +10,7 @@ use Rattle.ec_cluster.specs.Images.{homes_on}
 use Rattle.ec_cluster.specs.declared.cluster.Cluster.{Cluster}
 use Rattle.ec_code.specs.Activations.{code_silent}
 use Rattle.ec_code.specs.declared.activation.CodeActivation.{CodeActivation}
-use Rattle.ec_faithful.specs.declared.code.Code.{Code}
+use Rattle.ec_machine_code.specs.declared.code.Code.{Code}
 use Rattle.ec_going.proofs.Tops.{set_end, there, went, with_top}
 use Rattle.ec_going.proofs.Touched.{HasShown, some_shown}
 use Rattle.ec_going.proofs.Walked.{OwnRan, silent_own, silent_ran}

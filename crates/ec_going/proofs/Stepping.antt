@@ -16,8 +16,8 @@ use Rattle.ec_code.specs.declared.code.Parts.{Parts}
 use Rattle.ec_code.specs.declared.code.Variable.{Variable}
 use Rattle.ec_code.specs.declared.code.Variable.TheVariants.{Named, Temporary}
 use Rattle.ec_types.specs.declared.conform.static_type.StaticType.{StaticType}
-use Rattle.ec_faithful.specs.Standing.{FitsWord, HasWhatIsSet}
-use Rattle.ec_faithful.specs.Stops.{stop_in, stop_of}
+use Rattle.ec_machine_code.specs.Standing.{FitsWord, HasWhatIsSet}
+use Rattle.ec_machine_code.specs.Stops.{stop_in, stop_of}
 use Rattle.ec_going.proofs.Ranging.{variable_fits}
 use Rattle.ec_legs.specs.Legs.{CanStep}
 use Rattle.ec_code.specs.Live.{stays}

@@ -5,7 +5,7 @@ use Rattle.ec_cluster.specs.Images.{homes_on, image_of}
 use Rattle.ec_cluster.specs.declared.cluster.Cluster.{Cluster}
 use Rattle.ec_code.specs.Typing.{Declared}
 use Rattle.ec_code.specs.declared.activation.CodeActivation.{CodeActivation}
-use Rattle.ec_faithful.specs.Stops.{words_of}
+use Rattle.ec_machine_code.specs.Stops.{words_of}
 use Rattle.ec_legs.specs.Legs.{IsCodeOf}
 use Rattle.ec_code.specs.Live.{stays}
 use Rattle.ec_world.specs.Things.{blocks_of}

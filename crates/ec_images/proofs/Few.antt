@@ -8,11 +8,11 @@ use Rattle.ec_code.specs.declared.code.Line.{Line}
 use Rattle.ec_code.specs.declared.code.Operation.{Operation}
 use Rattle.ec_code.specs.declared.code.Parts.{Parts}
 use Rattle.ec_code.specs.declared.code.StopRow.{StopRow}
-use Rattle.ec_code_limits.specs.Limits.{HasLimits, IsSmallOperation}
-use Rattle.ec_faithful.specs.Stops.{places_from, stop_of, stop_places, with_place}
-use Rattle.ec_faithful.specs.declared.code.OperationCode.{OperationCode}
-use Rattle.ec_homes.specs.declared.homes.Home.{Home}
-use Rattle.ec_micro.specs.Layout.{Vocabularies, code_of, home_of, operation_codes, ops_of, place, stop_addresses, vocabulary_of, words_in}
+use Rattle.ec_machine_code.specs.Limits.{HasLimits, IsSmallOperation}
+use Rattle.ec_machine_code.specs.Stops.{places_from, stop_of, stop_places, with_place}
+use Rattle.ec_machine_code.specs.declared.code.OperationCode.{OperationCode}
+use Rattle.ec_machine_code.specs.declared.homes.Home.{Home}
+use Rattle.ec_machine_code.specs.Layout.{Vocabularies, code_of, home_of, operation_codes, ops_of, place, stop_addresses, vocabulary_of, words_in}
 use Rattle.ec_stop_tables.specs.Addresses.{HasFew}
 use Rattle.ec_target.specs.Code.{pc_of}
 use Rattle.ec_stop_tables.proofs.Listing.{all_at}

@@ -6,11 +6,11 @@ use Rattle.ec_code.specs.Typing.{Declared}
 use Rattle.ec_code.specs.declared.code.Line.{Line}
 use Rattle.ec_code.specs.declared.code.Operation.{Operation}
 use Rattle.ec_code.specs.declared.code.Parts.{Parts}
-use Rattle.ec_faithful.specs.Machine.{MachineMeaning}
-use Rattle.ec_homes.specs.declared.homes.Home.{Home}
-use Rattle.ec_micro.specs.Fitting.{CanBeLaidOut, HomesFit, NumbersFit}
-use Rattle.ec_micro.specs.Layout.{HasRoom, Vocabularies}
-use Rattle.ec_micro.specs.Speaks.{Speaks}
+use Rattle.ec_machine_code.specs.Machine.{MachineMeaning}
+use Rattle.ec_machine_code.specs.declared.homes.Home.{Home}
+use Rattle.ec_machine_code.specs.Fitting.{CanBeLaidOut, HomesFit, NumbersFit}
+use Rattle.ec_machine_code.specs.Layout.{HasRoom, Vocabularies}
+use Rattle.ec_machine_code.specs.Speaks.{Speaks}
 
 pub can_be_laid_out : {S : Type 0} (M : MachineMeaning S) (vs : Vocabularies) (homes : List (List Home)) (d : Declared) (p : Parts)
     (registers : ℕ) → Speaks M vs.near → Speaks M vs.middle → Speaks M vs.far → M.homes ≡ registers → Fine d p →

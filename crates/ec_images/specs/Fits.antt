@@ -3,11 +3,11 @@ use Rattle.std.specs.Prelude.{◌≡◌, ℕ, List, Some, slice_get}
 use Rattle.ec_code.specs.Activations.{operation_at}
 use Rattle.ec_code.specs.declared.code.Operation.{Operation}
 use Rattle.ec_code.specs.declared.code.Parts.{Parts}
-use Rattle.ec_faithful.specs.Machine.{MachineMeaning}
-use Rattle.ec_faithful.specs.Stops.{stop_places}
-use Rattle.ec_faithful.specs.declared.code.Code.{Code}
-use Rattle.ec_homes.specs.declared.homes.Home.{Home}
-use Rattle.ec_laid_out.specs.Fitted.{FitAt}
+use Rattle.ec_machine_code.specs.Machine.{MachineMeaning}
+use Rattle.ec_machine_code.specs.Stops.{stop_places}
+use Rattle.ec_machine_code.specs.declared.code.Code.{Code}
+use Rattle.ec_machine_code.specs.declared.homes.Home.{Home}
+use Rattle.ec_machine_code.specs.Fitted.{FitAt}
 
 -- Behind each stop some activation, state and memory fit one another.
 abbrev pub EachFits : {S : Type 0} → MachineMeaning S → Parts → Code → List (List Home) → Type 0

@@ -19,19 +19,19 @@ use Rattle.ec_code.specs.declared.code.Parts.{Parts}
 use Rattle.ec_code.specs.declared.code.StopRow.{StopRow}
 use Rattle.ec_code.specs.declared.code.Variable.{Variable}
 use Rattle.ec_types.specs.declared.conform.static_type.StaticType.{StaticType}
-use Rattle.ec_faithful.specs.Faithful.{Arrives, homes_of}
-use Rattle.ec_faithful.specs.Frames.{home_word, slots}
-use Rattle.ec_faithful.specs.Machine.{MachineMeaning}
-use Rattle.ec_faithful.specs.Standing.{AreTables, ConstantsStand, FieldsStand, Fits, HomeStands, Lives}
-use Rattle.ec_faithful.specs.Stops.{IsStopAt, address_of, home_in, row_or_empty, stop_in, stop_places, without}
-use Rattle.ec_faithful.specs.declared.code.Code.{Code}
-use Rattle.ec_homes.specs.Homes.{IsWithin, column}
-use Rattle.ec_homes.specs.declared.homes.Home.{Home}
-use Rattle.ec_homes.specs.declared.homes.Home.TheVariants.{Register, Slot}
-use Rattle.ec_laid_out.proofs.Stops.{rest_is}
+use Rattle.ec_machine_code.specs.Faithful.{Arrives, homes_of}
+use Rattle.ec_machine_code.specs.Frames.{home_word, slots}
+use Rattle.ec_machine_code.specs.Machine.{MachineMeaning}
+use Rattle.ec_machine_code.specs.Standing.{AreTables, ConstantsStand, FieldsStand, Fits, HomeStands, Lives}
+use Rattle.ec_machine_code.specs.Stops.{IsStopAt, address_of, home_in, row_or_empty, stop_in, stop_places, without}
+use Rattle.ec_machine_code.specs.declared.code.Code.{Code}
+use Rattle.ec_machine_code.specs.Homes.{IsWithin, column}
+use Rattle.ec_machine_code.specs.declared.homes.Home.{Home}
+use Rattle.ec_machine_code.specs.declared.homes.Home.TheVariants.{Register, Slot}
+use Rattle.ec_machine_code.proofs.Stops.{rest_is}
 use Rattle.ec_code.specs.Live.{stays}
 use Rattle.ec_memory.specs.Words.{block_word_at, global_word_at, word_in}
-use Rattle.ec_micro.proofs.FineAt.{fine_at}
+use Rattle.ec_machine_code.proofs.FineAt.{fine_at}
 use Rattle.ec_world.specs.Words.{StandsFor}
 use Rattle.ec_world.specs.Things.{blocks_of, class_blocks}
 use Rattle.ec_world.specs.declared.key.Key.TheVariants.{Frame, Object}

@@ -5,11 +5,11 @@ use Rattle.ec_code.specs.Activations.{machine_behind}
 use Rattle.ec_code.specs.Typing.{Declared}
 use Rattle.ec_code.specs.declared.activation.CodeActivation.{CodeActivation}
 use Rattle.ec_code.specs.declared.code.Parts.{Parts}
-use Rattle.ec_faithful.specs.Faithful.{Arrives}
-use Rattle.ec_faithful.specs.Machine.{MachineMeaning}
-use Rattle.ec_faithful.specs.Stops.{address_of}
-use Rattle.ec_faithful.specs.declared.code.Code.{Code}
-use Rattle.ec_homes.specs.declared.homes.Home.{Home}
+use Rattle.ec_machine_code.specs.Faithful.{Arrives}
+use Rattle.ec_machine_code.specs.Machine.{MachineMeaning}
+use Rattle.ec_machine_code.specs.Stops.{address_of}
+use Rattle.ec_machine_code.specs.declared.code.Code.{Code}
+use Rattle.ec_machine_code.specs.declared.homes.Home.{Home}
 use Rattle.ec_world.specs.declared.key.Key.TheVariants.{Frame, Object}
 use Rattle.ec_stop_tables.specs.Addresses.{address_in}
 use Rattle.ec_stop_tables.specs.Tables.{all_homes}

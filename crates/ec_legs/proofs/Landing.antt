@@ -18,14 +18,14 @@ use Rattle.ec_code.specs.declared.code.Operation.{Operation}
 use Rattle.ec_code.specs.declared.code.Parts.{Parts}
 use Rattle.ec_code.specs.declared.code.StopRow.{StopRow}
 use Rattle.ec_code.specs.declared.code.Variable.{Variable}
-use Rattle.ec_faithful.specs.Faithful.{Arrives, homes_of, machine_at}
-use Rattle.ec_faithful.specs.Frames.{first_saved, home_word}
-use Rattle.ec_faithful.specs.Machine.{MachineMeaning}
-use Rattle.ec_faithful.specs.Standing.{HomeStands, Lives}
-use Rattle.ec_faithful.specs.Stops.{live_list, stop_in, stop_places}
-use Rattle.ec_faithful.specs.declared.code.Code.{Code}
-use Rattle.ec_homes.specs.declared.homes.Home.{Home}
-use Rattle.ec_homes.specs.declared.homes.Home.TheVariants.{Register, Slot}
+use Rattle.ec_machine_code.specs.Faithful.{Arrives, homes_of, machine_at}
+use Rattle.ec_machine_code.specs.Frames.{first_saved, home_word}
+use Rattle.ec_machine_code.specs.Machine.{MachineMeaning}
+use Rattle.ec_machine_code.specs.Standing.{HomeStands, Lives}
+use Rattle.ec_machine_code.specs.Stops.{live_list, stop_in, stop_places}
+use Rattle.ec_machine_code.specs.declared.code.Code.{Code}
+use Rattle.ec_machine_code.specs.declared.homes.Home.{Home}
+use Rattle.ec_machine_code.specs.declared.homes.Home.TheVariants.{Register, Slot}
 use Rattle.ec_memory.specs.Words.{block_word_at, global_word_at, word_in}
 use Rattle.ec_world.specs.Words.{StandsFor}
 use Rattle.ec_world.specs.Things.{class_blocks}

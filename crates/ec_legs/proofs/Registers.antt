@@ -1,7 +1,7 @@
 -- Registers that are homes are restored from the words of a frame, and saved in them.
 use Rattle.std.proofs.Common.{◌≡◌, ◌≢◌, ℕ, ◌+◌, ◌<◌, ◌≤◌, List, Some, refl, sym, ap, ◌∙◌, subst, arith, ⊎_elim}
-use Rattle.ec_faithful.specs.Frames.{block_at, first_saved}
-use Rattle.ec_faithful.specs.Machine.{MachineMeaning}
+use Rattle.ec_machine_code.specs.Frames.{block_at, first_saved}
+use Rattle.ec_machine_code.specs.Machine.{MachineMeaning}
 use Rattle.ec_world.specs.declared.key.Key.TheVariants.{Frame, Object}
 use Rattle.ec_stop_tables.specs.Addresses.{address_in}
 use Rattle.ec_stores.specs.Changes.{FirstBlock, WordIs, WritesWord}

@@ -3,13 +3,13 @@ use Rattle.std.proofs.Common.{◌≡◌, ℕ, zero, suc, ◌+◌, ◌^◌, ◌<�
 use Rattle.std.specs.Prelude.{slice_get}
 use Rattle.ec_base.specs.Bytes.{Bytes}
 use Rattle.ec_code.specs.declared.code.Parts.{Parts}
-use Rattle.ec_faithful.specs.Faithful.{Faithful}
-use Rattle.ec_faithful.specs.Machine.{MachineMeaning}
-use Rattle.ec_faithful.specs.Stops.{address_of, words_before, words_if, words_in_all, words_of}
-use Rattle.ec_faithful.specs.declared.code.Code.{Code}
-use Rattle.ec_faithful.specs.declared.code.OperationCode.{OperationCode}
-use Rattle.ec_homes.specs.declared.homes.Home.{Home}
-use Rattle.ec_micro.specs.Speaks.{words_end}
+use Rattle.ec_machine_code.specs.Faithful.{Faithful}
+use Rattle.ec_machine_code.specs.Machine.{MachineMeaning}
+use Rattle.ec_machine_code.specs.Stops.{address_of, words_before, words_if, words_in_all, words_of}
+use Rattle.ec_machine_code.specs.declared.code.Code.{Code}
+use Rattle.ec_machine_code.specs.declared.code.OperationCode.{OperationCode}
+use Rattle.ec_machine_code.specs.declared.homes.Home.{Home}
+use Rattle.ec_machine_code.specs.Speaks.{words_end}
 use Rattle.ec_target.specs.Runs.{Going, Leads, Native, Standing}
 use Rattle.ec_world.specs.declared.node.Kind.{Kind}
 use Rattle.ec_legs.specs.Kinds.{Means}

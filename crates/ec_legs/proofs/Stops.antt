@@ -6,8 +6,8 @@ use Rattle.std.proofs.lemmas.Option.{same_Some}
 use Rattle.ec_activations.specs.Frames.{Numbered, at_place}
 use Rattle.ec_code.specs.declared.code.Line.{Line}
 use Rattle.ec_code.specs.declared.code.StopRow.{StopRow}
-use Rattle.ec_faithful.specs.Stops.{places_from, stop_of, with_place}
-use Rattle.ec_laid_out.proofs.Stops.{numbered}
+use Rattle.ec_machine_code.specs.Stops.{places_from, stop_of, with_place}
+use Rattle.ec_machine_code.proofs.Stops.{numbered}
 use Rattle.ec_stop_tables.specs.Entries.{entries_from, entry_of, with_entry}
 
 -- the number of a stop, behind so many others, is that of its place

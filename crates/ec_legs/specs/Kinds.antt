@@ -1,7 +1,7 @@
 -- What a kind of machine means to code is what its machine does; and its registers that are homes.
 use Rattle.std.specs.Prelude.{◌≡◌, ◌≢◌, ℕ, ◌+◌, ◌<◌, ◌≤◌, ◌^◌, List}
 use Rattle.ec_base.specs.Bytes.{Bytes}
-use Rattle.ec_faithful.specs.Machine.{MachineMeaning}
+use Rattle.ec_machine_code.specs.Machine.{MachineMeaning}
 use Rattle.ec_stores.specs.Memory.{number_of}
 use Rattle.ec_target.specs.Runs.{Going, Standing}
 use Rattle.ec_world.specs.declared.node.Kind.{Kind}

@@ -12,15 +12,15 @@ use Rattle.ec_code.specs.declared.code.Parts.{Parts}
 use Rattle.ec_code.specs.declared.code.StopRow.{StopRow}
 use Rattle.ec_code.specs.declared.code.Variable.{Variable}
 use Rattle.ec_types.specs.declared.conform.static_type.StaticType.{StaticType}
-use Rattle.ec_faithful.specs.Faithful.{Faithful}
-use Rattle.ec_faithful.specs.Frames.{slots}
-use Rattle.ec_faithful.specs.Machine.{MachineMeaning}
-use Rattle.ec_faithful.specs.Standing.{FitsWord, HasWhatIsSet}
-use Rattle.ec_faithful.specs.Stops.{address_of, stop_at, words_of}
-use Rattle.ec_faithful.specs.declared.code.Code.{Code}
-use Rattle.ec_homes.specs.declared.homes.Home.{Home}
+use Rattle.ec_machine_code.specs.Faithful.{Faithful}
+use Rattle.ec_machine_code.specs.Frames.{slots}
+use Rattle.ec_machine_code.specs.Machine.{MachineMeaning}
+use Rattle.ec_machine_code.specs.Standing.{FitsWord, HasWhatIsSet}
+use Rattle.ec_machine_code.specs.Stops.{address_of, stop_at, words_of}
+use Rattle.ec_machine_code.specs.declared.code.Code.{Code}
+use Rattle.ec_machine_code.specs.declared.homes.Home.{Home}
 use Rattle.ec_code.specs.Live.{stays}
-use Rattle.ec_micro.specs.Speaks.{words_end}
+use Rattle.ec_machine_code.specs.Speaks.{words_end}
 use Rattle.ec_world.specs.Things.{blocks_of}
 use Rattle.ec_world.specs.declared.key.Key.{Key}
 use Rattle.ec_world.specs.declared.key.Key.TheVariants.{Frame, Object}

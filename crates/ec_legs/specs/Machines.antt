@@ -1,7 +1,7 @@
 -- A machine that is set up for an activation, and an activation that rests where a machine has come to.
 use Rattle.std.specs.Prelude.{◌≡◌, ◌≢◌, ℕ, ◌+◌, ◌<◌, ◌^◌, List, Some}
-use Rattle.ec_faithful.specs.Frames.{block_at, first_saved}
-use Rattle.ec_faithful.specs.Machine.{MachineMeaning}
+use Rattle.ec_machine_code.specs.Frames.{block_at, first_saved}
+use Rattle.ec_machine_code.specs.Machine.{MachineMeaning}
 use Rattle.ec_world.specs.declared.key.Key.TheVariants.{Frame, Object}
 use Rattle.ec_stop_tables.specs.Addresses.{address_in}
 use Rattle.ec_stores.specs.Changes.{FirstBlock, HasBlock, WordIs}

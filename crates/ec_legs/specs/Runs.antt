@@ -1,7 +1,7 @@
 -- What is run between two stops: the code itself, on a machine, from what the frame keeps to what the frame then keeps.
 use Rattle.std.specs.Prelude.{ℕ, List}
-use Rattle.ec_faithful.specs.Machine.{MachineMeaning}
-use Rattle.ec_faithful.specs.declared.code.Code.{Code}
+use Rattle.ec_machine_code.specs.Machine.{MachineMeaning}
+use Rattle.ec_machine_code.specs.declared.code.Code.{Code}
 use Rattle.ec_stop_tables.specs.declared.table.StopTable.{StopTable}
 use Rattle.ec_stores.specs.Changes.{Ran}
 use Rattle.ec_stores.specs.Node.{NodeData, bytes_in, store_of}

@@ -1,6 +1,6 @@
 //! Kinds of machines that native code of activations runs on.
 ghost use Rattle.std.specs.Prelude.{ℕ};
-ghost use Rattle.ec_faithful.specs.Machine.{MachineMeaning};
+ghost use Rattle.ec_machine_code.specs.Machine.{MachineMeaning};
 ghost use Rattle.ec_legs.specs.Kinds.{AreHomeRegisters, Means};
 
 use ec_target::machine::Machine;

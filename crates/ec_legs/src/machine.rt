@@ -1,6 +1,6 @@
 //! A machine is set up for an activation, and an activation rests where a machine has come to.
 ghost use Rattle.std.specs.Prelude.{◌≡◌, ◌<◌, ℕ, Some};
-ghost use Rattle.ec_faithful.specs.Frames.{block_at};
+ghost use Rattle.ec_machine_code.specs.Frames.{block_at};
 ghost use Rattle.ec_legs.specs.Machines.{IsBehindStop, IsSetUp, NamesObject, NamesStop, Restores, RestsWhere, Saves};
 ghost use Rattle.ec_legs.specs.Words.{IsFrame};
 ghost use Rattle.ec_world.specs.declared.key.Key.TheVariants.{Object as OfObject};

@@ -10,9 +10,9 @@ use Rattle.ec_code.specs.declared.code.Parts.{Parts}
 use Rattle.ec_code.specs.declared.code.StopRow.{StopRow}
 use Rattle.ec_code.specs.declared.code.Variable.{Variable}
 use Rattle.ec_code.specs.declared.code.Variable.TheVariants.{Named, Temporary}
-use Rattle.ec_faithful.specs.Frames.{slots}
-use Rattle.ec_faithful.specs.Stops.{stop_of}
-use Rattle.ec_homes.specs.declared.homes.Home.{Home}
+use Rattle.ec_machine_code.specs.Frames.{slots}
+use Rattle.ec_machine_code.specs.Stops.{stop_of}
+use Rattle.ec_machine_code.specs.declared.homes.Home.{Home}
 use Rattle.ec_loading.proofs.Making.{fit_none}
 use Rattle.ec_node_frames.specs.Beginning.{HasEntry, first_held, first_value, first_values}
 use Rattle.ec_node_frames.specs.Frames.{HasTables}

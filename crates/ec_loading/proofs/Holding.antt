@@ -5,7 +5,7 @@ use Rattle.std.proofs.lemmas.List.{length-replicate}
 use Rattle.ec_activations.specs.Frames.{frame_thing}
 use Rattle.ec_code.specs.declared.activation.CodeActivation.{CodeActivation}
 use Rattle.ec_code.specs.declared.code.Parts.{Parts}
-use Rattle.ec_homes.specs.declared.homes.Home.{Home}
+use Rattle.ec_machine_code.specs.declared.homes.Home.{Home}
 use Rattle.ec_loading.specs.Worlds.{first_blocks, first_process, with_first, with_objects}
 use Rattle.ec_world.proofs.Procs.{total_push}
 use Rattle.ec_world.specs.Held.{if_at, total}

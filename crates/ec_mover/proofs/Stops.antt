@@ -12,8 +12,8 @@ use Rattle.ec_code.specs.declared.activation.CodeActivation.{CodeActivation}
 use Rattle.ec_code.specs.declared.code.Live.{Live}
 use Rattle.ec_code.specs.declared.code.Operation.{Operation}
 use Rattle.ec_code.specs.declared.code.Parts.{Parts}
-use Rattle.ec_faithful.specs.Frames.{slots}
-use Rattle.ec_homes.specs.declared.homes.Home.{Home}
+use Rattle.ec_machine_code.specs.Frames.{slots}
+use Rattle.ec_machine_code.specs.declared.homes.Home.{Home}
 use Rattle.ec_mover.specs.Activations.{HasStop, Leaves, activation_part_of, headings_in}
 use Rattle.ec_node_frames.specs.Frames.{AreHeadings, HasTables}
 use Rattle.ec_node_frames.specs.declared.frames.Headings.{Headings}

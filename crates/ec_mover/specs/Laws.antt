@@ -6,7 +6,7 @@ use Rattle.ec_arrivals.specs.Carried.{IsCarried}
 use Rattle.ec_code.specs.Typing.{Declared}
 use Rattle.ec_code.specs.declared.activation.CodeActivation.{CodeActivation}
 use Rattle.ec_code.specs.declared.code.Parts.{Parts}
-use Rattle.ec_homes.specs.declared.homes.Home.{Home}
+use Rattle.ec_machine_code.specs.declared.homes.Home.{Home}
 use Rattle.ec_mover.specs.Activations.{HasStop, IsStopOf, activation_part_of, headings_in}
 use Rattle.ec_mover.specs.Classes.{ClassTable, IsClassTable, class_of, number_of}
 use Rattle.ec_node_frames.specs.Frames.{HasTables}

@@ -4,7 +4,7 @@ ghost use Rattle.ec_arrivals.specs.Arriving.{Arrives};
 ghost use Rattle.ec_code.specs.Typing.{Declared};
 ghost use Rattle.ec_code.specs.declared.activation.CodeActivation.{CodeActivation};
 ghost use Rattle.ec_code.specs.declared.code.Parts.{Parts};
-ghost use Rattle.ec_homes.specs.declared.homes.Home.{Home};
+ghost use Rattle.ec_machine_code.specs.declared.homes.Home.{Home};
 ghost use Rattle.ec_mover.specs.Activations.{CanLeave, HasStop, IsStopOf, Leaves, activation_part_of, headings_in};
 ghost use Rattle.ec_node_frames.specs.Frames.{IsFrame};
 ghost use Rattle.ec_world.specs.declared.key.Key.TheVariants.{Frame as OfFrame};

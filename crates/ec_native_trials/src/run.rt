@@ -2,7 +2,7 @@
 use crate::stops::{entry_of_loop, home_of_operand, is_passed};
 use byteorder::{BigEndian, ByteOrder, LittleEndian};
 use ec_compile::compile::Compiled;
-use ec_homes::homes::Home;
+use ec_machine_code::homes::Home;
 use ec_memory::blocks::Blocks;
 use ec_target::machine::Machine;
 use ec_target::outcome::Outcome;

@@ -1,7 +1,7 @@
 //! The stops of native code that a run of a loop comes to.
 use ec_code::code::{Op, Operation, Parts, StopRow};
 use ec_compile::compile::Compiled;
-use ec_homes::homes::Home;
+use ec_machine_code::homes::Home;
 use ec_stop_tables::table::StopId;
 use ec_world::stop::Stop;
 

@@ -16,8 +16,8 @@ use Rattle.ec_code.specs.declared.code.Live.{Live}
 use Rattle.ec_code.specs.declared.code.Operation.{Operation}
 use Rattle.ec_code.specs.declared.code.Parts.{Parts}
 use Rattle.ec_code.specs.declared.code.StopRow.{StopRow}
-use Rattle.ec_code_limits.specs.Limits.{HasColumn, HasLimits, IsSmallOperation}
-use Rattle.ec_faithful.specs.Stops.{stop_of, without}
+use Rattle.ec_machine_code.specs.Limits.{HasColumn, HasLimits, IsSmallOperation}
+use Rattle.ec_machine_code.specs.Stops.{stop_of, without}
 use Rattle.ec_code.proofs.Among.{is_same_self}
 use Rattle.ec_code.specs.Live.{stays}
 use Rattle.ec_code.specs.Marks.{is_same, is_written}

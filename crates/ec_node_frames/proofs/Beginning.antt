@@ -16,7 +16,7 @@ use Rattle.ec_code.specs.declared.code.Operation.{Operation}
 use Rattle.ec_code.specs.declared.code.Parts.{Parts}
 use Rattle.ec_code.specs.declared.code.Variable.{Variable}
 use Rattle.ec_code.specs.declared.code.Variable.TheVariants.{Named, Temporary}
-use Rattle.ec_homes.specs.declared.homes.Home.{Home}
+use Rattle.ec_machine_code.specs.declared.homes.Home.{Home}
 use Rattle.ec_node_frames.proofs.Changes.{puts_after}
 use Rattle.ec_node_frames.proofs.Homed.{homes_of, its_operation, spot_is}
 use Rattle.ec_node_frames.proofs.Items.{filled_up, get_map, map_both}

@@ -15,9 +15,9 @@ use Rattle.ec_code.specs.declared.code.Live.{Live}
 use Rattle.ec_code.specs.declared.code.Parts.{Parts}
 use Rattle.ec_code.specs.declared.code.Variable.{Variable}
 use Rattle.ec_code.specs.declared.code.Variable.TheVariants.{Named, Temporary}
-use Rattle.ec_faithful.specs.Frames.{home_word}
-use Rattle.ec_homes.specs.Homes.{IsVariable}
-use Rattle.ec_homes.specs.declared.homes.Home.{Home}
+use Rattle.ec_machine_code.specs.Frames.{home_word}
+use Rattle.ec_machine_code.specs.Homes.{IsVariable}
+use Rattle.ec_machine_code.specs.declared.homes.Home.{Home}
 use Rattle.ec_node_frames.proofs.AtStop.{has_column, no_entry, not_taken}
 use Rattle.ec_node_frames.proofs.Changes.{Rewritten, only_rewritten, rewritten_but, rewritten_on, word_rewritten, word_there}
 use Rattle.ec_node_frames.proofs.Homed.{behind_eight, has_spot, homes_of, its_operation, spot_is, word_from_eight}

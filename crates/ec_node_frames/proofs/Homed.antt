@@ -10,12 +10,12 @@ use Rattle.ec_code.specs.Typing.{Declared}
 use Rattle.ec_code.specs.declared.code.Operation.{Operation}
 use Rattle.ec_code.specs.declared.code.Parts.{Parts}
 use Rattle.ec_code.specs.declared.code.Variable.{Variable}
-use Rattle.ec_code_limits.specs.Limits.{HasColumn}
-use Rattle.ec_faithful.specs.Frames.{home_word, slots}
-use Rattle.ec_faithful.specs.Stops.{row_or_empty}
-use Rattle.ec_homes.specs.Homes.{IsWithin, column}
-use Rattle.ec_homes.specs.declared.homes.Home.{Home}
-use Rattle.ec_homes.specs.declared.homes.Home.TheVariants.{Register, Slot}
+use Rattle.ec_machine_code.specs.Limits.{HasColumn}
+use Rattle.ec_machine_code.specs.Frames.{home_word, slots}
+use Rattle.ec_machine_code.specs.Stops.{row_or_empty}
+use Rattle.ec_machine_code.specs.Homes.{IsWithin, column}
+use Rattle.ec_machine_code.specs.declared.homes.Home.{Home}
+use Rattle.ec_machine_code.specs.declared.homes.Home.TheVariants.{Register, Slot}
 use Rattle.ec_node_frames.specs.Frames.{HasTables}
 use Rattle.ec_stop_tables.proofs.Homed.{has_home}
 use Rattle.ec_stop_tables.specs.Tables.{IsTableOf, all_homes, home_in, or_first}

@@ -8,7 +8,7 @@ use Rattle.ec_code.specs.Typing.{Declared, kind_of}
 use Rattle.ec_code.specs.declared.activation.CodeActivation.{CodeActivation}
 use Rattle.ec_code.specs.declared.code.Live.{Live}
 use Rattle.ec_code.specs.declared.code.Parts.{Parts}
-use Rattle.ec_homes.specs.declared.homes.Home.{Home}
+use Rattle.ec_machine_code.specs.declared.homes.Home.{Home}
 use Rattle.ec_node_frames.proofs.Homed.{spot_is}
 use Rattle.ec_node_frames.proofs.Items.{get_front, get_map, map_both}
 use Rattle.ec_node_frames.specs.Frames.{IsFrame}

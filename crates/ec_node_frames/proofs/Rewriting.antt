@@ -10,7 +10,7 @@ use Rattle.ec_code.specs.Activations.{operation_at}
 use Rattle.ec_code.specs.declared.activation.CodeActivation.{CodeActivation}
 use Rattle.ec_code.specs.declared.code.Live.{Live}
 use Rattle.ec_code.specs.declared.code.Parts.{Parts}
-use Rattle.ec_homes.specs.declared.homes.Home.{Home}
+use Rattle.ec_machine_code.specs.declared.homes.Home.{Home}
 use Rattle.ec_node_frames.proofs.Changes.{Rewritten, word_within}
 use Rattle.ec_node_frames.proofs.Items.{get_behind, get_map}
 use Rattle.ec_node_frames.specs.Frames.{RestsAt}

@@ -7,7 +7,7 @@ use Rattle.ec_code.specs.declared.code.Live.{Live}
 use Rattle.ec_code.specs.declared.code.Parts.{Parts}
 use Rattle.ec_code.specs.declared.code.Variable.{Variable}
 use Rattle.ec_code.specs.declared.code.Variable.TheVariants.{Named, Temporary}
-use Rattle.ec_homes.specs.declared.homes.Home.{Home}
+use Rattle.ec_machine_code.specs.declared.homes.Home.{Home}
 use Rattle.ec_node_frames.specs.Frames.{HasTables}
 use Rattle.ec_world.specs.declared.key.Key.TheVariants.{Frame}
 use Rattle.ec_stop_tables.specs.declared.table.OperationTable.{OperationTable}

@@ -1,7 +1,7 @@
 -- A frame with the words of a new activation.
 use Rattle.std.specs.Prelude.{◌≡◌, ℕ, suc, ◌<◌, List, length, Some, slice_get}
 use Rattle.ec_code.specs.declared.code.Live.{Live}
-use Rattle.ec_faithful.specs.Frames.{home_word}
+use Rattle.ec_machine_code.specs.Frames.{home_word}
 use Rattle.ec_stop_tables.specs.Tables.{home_in}
 use Rattle.ec_stop_tables.specs.declared.table.OperationTable.{OperationTable}
 

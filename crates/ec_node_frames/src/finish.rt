@@ -1,6 +1,6 @@
 //! An action is done: its activation goes on.
 ghost use Rattle.std.specs.Prelude.{◌<◌, option_copied, OnOk};
-ghost use Rattle.ec_faithful.specs.Frames as spec;
+ghost use Rattle.ec_machine_code.specs.Frames as spec;
 ghost use Rattle.ec_node_frames.specs.Finishing.{FinishesFrame, Gives, HasRoomIn, IsTaken};
 ghost use Rattle.ec_node_frames.specs.Frames.{IsFrame};
 ghost use Rattle.ec_world.specs.declared.key.Key.TheVariants.{Frame as OfFrame};

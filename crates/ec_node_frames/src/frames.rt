@@ -3,8 +3,8 @@ ghost use Rattle.std.specs.Prelude.{◌≡◌, List, None};
 ghost use Rattle.ec_activations.specs.Frames.{frame_thing};
 ghost use Rattle.ec_code.specs.declared.activation.CodeActivation.{CodeActivation};
 ghost use Rattle.ec_code.specs.declared.code.Parts.{Parts};
-ghost use Rattle.ec_faithful.specs.Frames as spec;
-ghost use Rattle.ec_homes.specs.declared.homes.Home.{Home as HomeData};
+ghost use Rattle.ec_machine_code.specs.Frames as spec;
+ghost use Rattle.ec_machine_code.specs.declared.homes.Home.{Home as HomeData};
 ghost use Rattle.ec_node_frames.specs.Frames.{AreHeadings, IsFrame};
 ghost use Rattle.ec_world.specs.declared.key.Key.TheVariants.{Frame as OfFrame};
 ghost use Rattle.ec_stores.specs.Node.{store_of};
@@ -12,7 +12,7 @@ ghost use Rattle.ec_things.specs.Texts.{GetsTexts, NoTexts};
 ghost use Rattle.ec_things.specs.Things.{Puts, Shown};
 ghost use Rattle.ec_world.specs.declared.node.Kind.{Kind as KindData};
 
-use ec_homes::homes::Home;
+use ec_machine_code::homes::Home;
 use ec_stores::node::NodeStore;
 use ec_world::value::{Oid, OpNo, Pid};
 

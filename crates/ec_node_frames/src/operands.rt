@@ -5,7 +5,7 @@ ghost use Rattle.ec_code.specs.Typing as typing;
 ghost use Rattle.ec_code.specs.Typing.{Declared};
 ghost use Rattle.ec_code.specs.declared.activation.CodeActivation.{CodeActivation};
 ghost use Rattle.ec_code.specs.declared.code.Parts.{Parts};
-ghost use Rattle.ec_homes.specs.declared.homes.Home.{Home as HomeData};
+ghost use Rattle.ec_machine_code.specs.declared.homes.Home.{Home as HomeData};
 ghost use Rattle.ec_node_frames.specs.Operands.{ActsHere, HasOperand, HasOperands, ReadsAs};
 ghost use Rattle.ec_stop_tables.specs.declared.table.OperationTable.{OperationTable as TableData};
 ghost use Rattle.ec_stores.specs.Node.{store_of};

@@ -8,7 +8,7 @@ use crate::frames::{close_frame, headings_of};
 use ec_base::list::Seq;
 use ec_code::code::{Live, Variable};
 use ec_types::conform::static_type::{Plain, StaticType};
-use ec_homes::homes::Home;
+use ec_machine_code::homes::Home;
 use ec_stop_tables::table::{OperationTable, StopEntry};
 use ec_stores::node::NodeStore;
 use ec_world::node::Kind;

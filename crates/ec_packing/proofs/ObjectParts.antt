@@ -10,7 +10,7 @@ use Rattle.ec_base.proofs.Lists.{get_within}
 use Rattle.ec_cluster.specs.Cluster.{CodeWorld}
 use Rattle.ec_cluster.specs.declared.cluster.Cluster.{Cluster}
 use Rattle.ec_code.specs.Fine.{IsFieldOf}
-use Rattle.ec_code_limits.specs.Limits.{HasFewFields}
+use Rattle.ec_machine_code.specs.Limits.{HasFewFields}
 use Rattle.ec_code.specs.Typing.{Declared, DeclaredClass, element_static, fields_if as types_if}
 use Rattle.ec_types.specs.declared.conform.static_type.StaticType.{StaticType}
 use Rattle.ec_code.specs.Idle.{IsPlain}

@@ -11,7 +11,7 @@ ghost use Rattle.ec_world.specs.declared.value.Value.TheVariants.{Ref};
 use ec_base::list::Seq;
 use ec_code::code::{Live, Variable};
 use ec_types::conform::static_type::{Plain, StaticType};
-use ec_homes::homes::Home;
+use ec_machine_code::homes::Home;
 use ec_mover::activations::put_activation;
 use ec_stop_tables::table::{OperationTable, StopEntry};
 use ec_stores::node::NodeStore;

@@ -13,7 +13,7 @@ use Rattle.ec_code.specs.declared.code.Op.{Op}
 use Rattle.ec_code.specs.declared.code.Op.TheVariants.{Rest}
 use Rattle.ec_code.specs.declared.code.Parts.{Parts}
 use Rattle.ec_code.specs.declared.code.StopRow.{StopRow}
-use Rattle.ec_faithful.specs.Stops as stops
+use Rattle.ec_machine_code.specs.Stops as stops
 use Rattle.ec_resting.specs.Laws.{EachRestsAtAnEntry, its_entry}
 use Rattle.ec_code.specs.Sound.{RestsAt}
 use Rattle.ec_stop_tables.specs.Entries.{entries_from, entries_of, entry_of, with_entry}

@@ -15,10 +15,10 @@ use Rattle.ec_emission.proofs.Expressions.{found}
 use Rattle.ec_emission.proofs.Literals.{empty_among}
 use Rattle.ec_emission.specs.Expressions.{has_text, literal_from}
 use Rattle.ec_emission_laws.proofs.Cores.{parts_fit}
-use Rattle.ec_faithful.specs.Faithful.{Faithful}
-use Rattle.ec_faithful.specs.Frames.{slots}
-use Rattle.ec_faithful.specs.Machine.{MachineMeaning}
-use Rattle.ec_faithful.specs.Stops.{address_of}
+use Rattle.ec_machine_code.specs.Faithful.{Faithful}
+use Rattle.ec_machine_code.specs.Frames.{slots}
+use Rattle.ec_machine_code.specs.Machine.{MachineMeaning}
+use Rattle.ec_machine_code.specs.Stops.{address_of}
 use Rattle.ec_few_values.proofs.Whole.{carries_few}
 use Rattle.ec_going.specs.Nodes.{IsCodeFor}
 use Rattle.ec_code.specs.Idle.{HasOperations, OfClasses}
@@ -27,7 +27,7 @@ use Rattle.ec_emission.specs.Lowered.{AreOperationsOf, IsLowered, declared_of}
 use Rattle.ec_emission_laws.proofs.Accepting.{is_lowerable}
 use Rattle.ec_emission_laws.proofs.Parts.{made_of}
 use Rattle.ec_meaning.specs.Programs.{Source}
-use Rattle.ec_micro.specs.Speaks.{words_end}
+use Rattle.ec_machine_code.specs.Speaks.{words_end}
 use Rattle.ec_node_frames.specs.Frames.{HasTables}
 use Rattle.ec_code.specs.Code.{SmallProgram}
 use Rattle.ec_runnable.specs.Runnable.{IsRunnable}

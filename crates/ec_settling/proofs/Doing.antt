@@ -22,9 +22,9 @@ use Rattle.ec_code.specs.declared.code.Operation.{Operation}
 use Rattle.ec_code.specs.declared.code.Parts.{Parts}
 use Rattle.ec_code.specs.declared.code.Variable.{Variable}
 use Rattle.ec_code.specs.declared.code.Variable.TheVariants.{Named, Temporary}
-use Rattle.ec_code_limits.specs.Limits.{HasLimits}
-use Rattle.ec_homes.specs.Homes.{IsVariable}
-use Rattle.ec_homes.specs.declared.homes.Home.{Home}
+use Rattle.ec_machine_code.specs.Limits.{HasLimits}
+use Rattle.ec_machine_code.specs.Homes.{IsVariable}
+use Rattle.ec_machine_code.specs.declared.homes.Home.{Home}
 use Rattle.ec_node_frames.proofs.AtStop.{has_column, no_entry}
 use Rattle.ec_node_frames.proofs.Homed.{its_operation}
 use Rattle.ec_node_frames.proofs.Items.{filled_up, map_both, put_here}

@@ -2,8 +2,8 @@
 use crate::steps::print_words;
 use ec_base::list::Seq;
 use ec_generate::kind::{Kind, Span};
-use ec_homes::homes::Home;
-use ec_micro::step::{Question, Relation, Source};
+use ec_machine_code::homes::Home;
+use ec_machine_code::step::{Question, Relation, Source};
 use mips_generate::mips::Mips;
 use rv_generate::riscv::Riscv;
 use std::alloc::Global;

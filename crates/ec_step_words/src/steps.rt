@@ -5,8 +5,8 @@ ghost use Rattle.ec_generate.specs.Puts.{CanPut};
 use ec_base::list::Seq;
 use ec_code::code::Arithmetic;
 use ec_generate::kind::{Kind, Span};
-use ec_homes::homes::Home;
-use ec_micro::step::{Question, Relation, Source, Step};
+use ec_machine_code::homes::Home;
+use ec_machine_code::step::{Question, Relation, Source, Step};
 use std::alloc::Global;
 use std::io;
 

@@ -11,11 +11,11 @@ use Rattle.ec_code.specs.declared.code.Line.{Line}
 use Rattle.ec_code.specs.declared.code.Live.{Live}
 use Rattle.ec_code.specs.declared.code.Variable.{Variable}
 use Rattle.ec_code.specs.declared.code.Variable.TheVariants.{Named, Temporary}
-use Rattle.ec_code_limits.specs.Limits.{HasColumn, HasColumns}
+use Rattle.ec_machine_code.specs.Limits.{HasColumn, HasColumns}
 use Rattle.ec_types.specs.declared.conform.static_type.StaticType.{StaticType}
-use Rattle.ec_homes.specs.Homes.{AreHomes, IsVariable, IsWithin, LivesIn, column}
-use Rattle.ec_homes.specs.Meeting.{Meet, all_if, live_first, live_in, met_at, met_behind, met_by}
-use Rattle.ec_homes.specs.declared.homes.Home.{Home}
+use Rattle.ec_machine_code.specs.Homes.{AreHomes, IsVariable, IsWithin, LivesIn, column}
+use Rattle.ec_machine_code.specs.Meeting.{Meet, all_if, live_first, live_in, met_at, met_behind, met_by}
+use Rattle.ec_machine_code.specs.declared.homes.Home.{Home}
 use Rattle.ec_code.specs.Live.{writes}
 use Rattle.ec_code.specs.Marks.{is_among, is_same}
 

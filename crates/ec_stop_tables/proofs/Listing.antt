@@ -8,7 +8,7 @@ use Rattle.std.proofs.lemmas.Option.{same_Some, slice_get-get_or}
 use Rattle.ec_base.proofs.Lists.{drop_at, get_within, take_next}
 use Rattle.ec_code.specs.declared.code.Line.{Line}
 use Rattle.ec_code.specs.declared.code.StopRow.{StopRow}
-use Rattle.ec_faithful.specs.Stops.{stop_of}
+use Rattle.ec_machine_code.specs.Stops.{stop_of}
 use Rattle.ec_stop_tables.specs.Entries.{entries_from, stop_here, stop_if, with_entry}
 use Rattle.ec_stop_tables.specs.declared.table.StopEntry.{StopEntry}
 use Rattle.ec_world.specs.Agree.{AllTwo}

@@ -8,9 +8,9 @@ use Rattle.std.specs.Ordering.{nat_cmp}
 use Rattle.std.proofs.lemmas.Bool.{cases_eq, cases_lt}
 use Rattle.std.proofs.lemmas.Option.{same_Some}
 use Rattle.ec_base.proofs.Lists.{get_within}
-use Rattle.ec_faithful.specs.Stops.{address_of, row_or_empty, stops_if}
-use Rattle.ec_faithful.specs.declared.code.Code.{Code}
-use Rattle.ec_faithful.specs.declared.code.OperationCode.{OperationCode}
+use Rattle.ec_machine_code.specs.Stops.{address_of, row_or_empty, stops_if}
+use Rattle.ec_machine_code.specs.declared.code.Code.{Code}
+use Rattle.ec_machine_code.specs.declared.code.OperationCode.{OperationCode}
 use Rattle.ec_stop_tables.specs.Addresses.{AreApart, AreFound, Notes, address_in}
 use Rattle.ec_stop_tables.specs.declared.table.StopId.{StopId}
 

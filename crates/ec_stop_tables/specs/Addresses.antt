@@ -2,9 +2,9 @@
 use Rattle.std.specs.Prelude.{◌≡◌, ◌≢◌, ℕ, ◌≤◌, ◌^◌, List, length, Option, Some, slice_get}
 use Rattle.std.specs.BTreeMap.{BTreeMap, get}
 use Rattle.std.specs.Ordering.{nat_cmp}
-use Rattle.ec_faithful.specs.Stops.{address_of, row_or_empty}
-use Rattle.ec_faithful.specs.declared.code.Code.{Code}
-use Rattle.ec_faithful.specs.declared.code.OperationCode.{OperationCode}
+use Rattle.ec_machine_code.specs.Stops.{address_of, row_or_empty}
+use Rattle.ec_machine_code.specs.declared.code.Code.{Code}
+use Rattle.ec_machine_code.specs.declared.code.OperationCode.{OperationCode}
 use Rattle.ec_stop_tables.specs.declared.table.StopId.{StopId}
 
 -- the address of stop n of an operation, among those of each operation's stops

@@ -6,7 +6,7 @@ use Rattle.ec_code.specs.declared.code.StopRow.{StopRow}
 use Rattle.ec_code.specs.declared.code.Variable.{Variable}
 use Rattle.ec_types.specs.declared.conform.static_type.StaticType.{StaticType}
 use Rattle.ec_types.specs.declared.conform.static_type.StaticType.TheVariants as type
-use Rattle.ec_faithful.specs.Stops.{live_list, stop_of}
+use Rattle.ec_machine_code.specs.Stops.{live_list, stop_of}
 use Rattle.ec_code.specs.Marks.{is_same}
 use Rattle.ec_stop_tables.specs.declared.table.StopEntry.{StopEntry}
 

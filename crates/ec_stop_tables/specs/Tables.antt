@@ -3,9 +3,9 @@ use Rattle.std.specs.Prelude.{◌≡◌, ℕ, Bool, false, List, [], length, map
 use Rattle.ec_code.specs.declared.code.Operation.{Operation}
 use Rattle.ec_code.specs.declared.code.Parts.{Parts}
 use Rattle.ec_code.specs.declared.code.Variable.{Variable}
-use Rattle.ec_homes.specs.Homes.{AreHomes, column}
-use Rattle.ec_homes.specs.declared.homes.Home.{Home}
-use Rattle.ec_homes.specs.declared.homes.Home.TheVariants.{Slot}
+use Rattle.ec_machine_code.specs.Homes.{AreHomes, column}
+use Rattle.ec_machine_code.specs.declared.homes.Home.{Home}
+use Rattle.ec_machine_code.specs.declared.homes.Home.TheVariants.{Slot}
 use Rattle.ec_stop_tables.specs.Entries.{entries_of, is_live}
 use Rattle.ec_stop_tables.specs.declared.table.OperationTable.{OperationTable}
 use Rattle.ec_stop_tables.specs.declared.table.StopEntry.{StopEntry}

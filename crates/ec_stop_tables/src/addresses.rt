@@ -4,7 +4,7 @@ ghost use Rattle.ec_stop_tables.specs.Addresses.{AreApart, HasFew, Notes, addres
 
 use crate::table::StopId;
 use ec_base::list::Seq;
-use ec_faithful::code::Code;
+use ec_machine_code::code::Code;
 use std::alloc::{AllocError, Global};
 use std::collections::BTreeMap;
 use std::marker::Model;

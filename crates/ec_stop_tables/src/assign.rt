@@ -1,6 +1,6 @@
 //! Homes for the variables of a program, and its stops.
 ghost use Rattle.std.specs.Prelude.{◌≡◌, ◌≤◌, ◌^◌, [], length, IfOk};
-ghost use Rattle.ec_code_limits.specs.Limits.{HasLimits, IsSmallOperation};
+ghost use Rattle.ec_machine_code.specs.Limits.{HasLimits, IsSmallOperation};
 ghost use Rattle.ec_stop_tables.specs.Tables.{AreTablesOf, IsTableOf};
 
 use crate::addresses::Addresses;
@@ -8,7 +8,7 @@ use crate::entries::entries_of;
 use crate::table::{OperationTable, StopTable};
 use ec_base::list::Seq;
 use ec_code::code::{Operation, Parts};
-use ec_homes::homes::homes_of;
+use ec_machine_code::homes::homes_of;
 use std::alloc::{AllocError, Global};
 
 /// The table of an operation. The error is want of memory.

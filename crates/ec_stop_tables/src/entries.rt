@@ -1,7 +1,7 @@
 //! The stops of an operation, each with what is live there.
 ghost use Rattle.std.specs.Prelude.{◌≡◌, suc, ◌<◌, ◌≤◌, ◌^◌, ◌++◌, IfOk, OnOk, length, map};
 ghost use Rattle.ec_code.specs.Fine.{live_at};
-ghost use Rattle.ec_faithful.specs.Stops.{live_list};
+ghost use Rattle.ec_machine_code.specs.Stops.{live_list};
 ghost use Rattle.ec_code.specs.Live as live;
 ghost use Rattle.ec_code.specs.Marks.{is_written};
 ghost use Rattle.ec_stop_tables.specs.Entries as spec;

@@ -1,16 +1,16 @@
 //! The stop table of a program.
 ghost use Rattle.std.specs.Prelude.{◌≡◌, ◌≢◌, ◌<◌, ◌≤◌, ◌^◌, ℕ, true, false, IfNone, IfSome, IsSome, OnOk, Some, None, length, slice_get};
-ghost use Rattle.ec_faithful.specs.Stops.{address_of};
+ghost use Rattle.ec_machine_code.specs.Stops.{address_of};
 ghost use Rattle.ec_stop_tables.specs.Addresses.{AreApart, HasFew, address_in};
-ghost use Rattle.ec_homes.specs.Homes as homes;
+ghost use Rattle.ec_machine_code.specs.Homes as homes;
 ghost use Rattle.ec_stop_tables.specs.Entries as entries;
 ghost use Rattle.ec_stop_tables.specs.Tables.{home_at, home_in, is_live_at, stops_at};
 
 use crate::addresses::Addresses;
 use ec_base::list::Seq;
 use ec_code::code::{Live, Variable};
-use ec_faithful::code::Code;
-use ec_homes::homes::Home;
+use ec_machine_code::code::Code;
+use ec_machine_code::homes::Home;
 use ec_code::steps::is_same;
 use ec_world::value::OpNo;
 use std::alloc::AllocError;

@@ -1,6 +1,6 @@
 -- A MIPS machine can rest at any place, with any words in its base registers and its homes.
 use Rattle.std.proofs.Common.{◌≡◌, ℕ, zero, suc, ◌+◌, ◌<◌, ◌≤◌, List, [], ◌∷◌, length, refl, arith}
-use Rattle.ec_laid_out.specs.Fitted.{CanRest}
+use Rattle.ec_machine_code.specs.Fitted.{CanRest}
 use Rattle.mips_machine.specs.Machine.{mips_register}
 use Rattle.mips_machine.specs.Step.{resting}
 use Rattle.mips_machine.specs.declared.machine.MipsMachine.{MipsMachine}

@@ -2,7 +2,7 @@
 use Rattle.std.proofs.Common.{◌≡◌, ℕ, ◌+◌, ◌-◌, ◌^◌, List, [], ◌∷◌, ◌++◌, refl, sym, ap, ◌∙◌}
 use mathlib.Core.List.{append_assoc}
 use Rattle.std.specs.Prelude.{not}
-use Rattle.ec_micro.specs.declared.step.Question.{Question}
+use Rattle.ec_machine_code.specs.declared.step.Question.{Question}
 use Rattle.mips_generate.specs.Sizes.{branch_words}
 use Rattle.mips_words.specs.Words.{branch_at, far_words, jump, near_words, no_op, order_words, source_register, source_words, taken_where}
 

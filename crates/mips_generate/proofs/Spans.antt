@@ -3,7 +3,7 @@ use Rattle.std.proofs.Common.{◌≡◌, ℕ, ◌+◌, ◌^◌, [], ◌∷◌, l
 use Rattle.ec_generate.specs.Puts.{pick}
 use Rattle.ec_generate.specs.declared.kind.Span.{Span}
 use Rattle.ec_generate.specs.declared.kind.Span.TheVariants.{Near, Middle, Far}
-use Rattle.ec_micro.specs.declared.step.Step.{Step}
+use Rattle.ec_machine_code.specs.declared.step.Step.{Step}
 use Rattle.mips_generate.specs.Sized.{mips_vocabularies, step_length}
 use Rattle.mips_generate.specs.Sizes.{step_size}
 use Rattle.mips_words.specs.Words.{jump, no_op, step_words}

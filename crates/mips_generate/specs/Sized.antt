@@ -5,16 +5,16 @@ use Rattle.std.specs.Prelude.{◌==◌, Bool, if◌then◌else◌, not}
 use Rattle.ec_code.specs.declared.code.Arithmetic.{Arithmetic}
 use Rattle.ec_code.specs.declared.code.Arithmetic.TheVariants.{Sum, Difference, Product, Quotient, Remainder}
 use Rattle.ec_generate.specs.Puts.{IsSized, Sized, most_words}
-use Rattle.ec_homes.specs.declared.homes.Home.{Home as Homes}
-use Rattle.ec_homes.specs.declared.homes.Home.TheVariants.{Register, Slot}
-use Rattle.ec_micro.specs.Layout.{Vocabularies}
-use Rattle.ec_micro.specs.declared.step.Question.{Question}
-use Rattle.ec_micro.specs.declared.step.Relation.{Relation}
-use Rattle.ec_micro.specs.declared.step.Relation.TheVariants.{Less, Same}
-use Rattle.ec_micro.specs.declared.step.Source.{Source}
-use Rattle.ec_micro.specs.declared.step.Source.TheVariants.{Home, Word}
-use Rattle.ec_micro.specs.declared.step.Step.{Step}
-use Rattle.ec_micro.specs.declared.step.Step.TheVariants.{Constant, Decide, Field, Itself, Move, SetField, Work}
+use Rattle.ec_machine_code.specs.declared.homes.Home.{Home as Homes}
+use Rattle.ec_machine_code.specs.declared.homes.Home.TheVariants.{Register, Slot}
+use Rattle.ec_machine_code.specs.Layout.{Vocabularies}
+use Rattle.ec_machine_code.specs.declared.step.Question.{Question}
+use Rattle.ec_machine_code.specs.declared.step.Relation.{Relation}
+use Rattle.ec_machine_code.specs.declared.step.Relation.TheVariants.{Less, Same}
+use Rattle.ec_machine_code.specs.declared.step.Source.{Source}
+use Rattle.ec_machine_code.specs.declared.step.Source.TheVariants.{Home, Word}
+use Rattle.ec_machine_code.specs.declared.step.Step.{Step}
+use Rattle.ec_machine_code.specs.declared.step.Step.TheVariants.{Constant, Decide, Field, Itself, Move, SetField, Work}
 use Rattle.mips_generate.specs.Sizes.{answer_size, both_size, copied_size, division_size, move_size, number_size, one_size, order_size}
 use Rattle.mips_generate.specs.Sizes.{source_size, step_size, sum_size, target_size, two_size, with_number_size, work_size}
 use Rattle.mips_isa.specs.Parts.{high_of, low_of}

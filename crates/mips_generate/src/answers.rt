@@ -1,7 +1,7 @@
 //! Questions: their answers as 1 or 0, and branches.
 ghost use Rattle.std.specs.Prelude.{◌≡◌, ℕ, ◌+◌, ◌-◌, ◌≤◌, [], ◌∷◌, ◌++◌, OnOk};
 ghost use Rattle.ec_generate.specs.Puts.{CanPutQuestion, CanPutSource};
-ghost use Rattle.ec_micro.specs.Speaks.{words_end};
+ghost use Rattle.ec_machine_code.specs.Speaks.{words_end};
 ghost use Rattle.mips_generate.specs.Sizes.{branch_words};
 ghost use Rattle.mips_isa.specs.Words.{word_of};
 ghost use Rattle.mips_words.specs.Words as spec;
@@ -14,7 +14,7 @@ use crate::sizes::branch_at;
 use crate::sources::{put_source, register_of};
 use crate::work::{put_difference, put_one, put_two};
 use ec_base::list::Seq;
-use ec_micro::step::{Question, Relation, Source};
+use ec_machine_code::step::{Question, Relation, Source};
 use mips_isa::field::{Register, Sixteen};
 use mips_isa::instr::{Branch, Immediate, Instr, Operation};
 use std::alloc::AllocError;

@@ -1,6 +1,6 @@
 //! Instructions, by their registers and numbers.
 ghost use Rattle.std.specs.Prelude.{◌≡◌, ◌+◌, ◌≤◌, ◌^◌, [], ◌∷◌, ◌++◌, OnOk};
-ghost use Rattle.ec_micro.specs.Speaks.{words_end};
+ghost use Rattle.ec_machine_code.specs.Speaks.{words_end};
 ghost use Rattle.mips_isa.specs.Words.{word_of};
 ghost use Rattle.mips_words.specs.Words as spec;
 

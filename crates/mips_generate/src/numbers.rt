@@ -2,7 +2,7 @@
 ghost use Rattle.std.specs.Prelude.{◌≡◌};
 ghost use Rattle.mips_words.specs.Words as spec;
 
-use ec_micro::step::Source;
+use ec_machine_code::step::Source;
 
 /// Sixteen bits spell the word, as a signed number.
 pub(crate) fn is_small(n: u32) -> bool

@@ -5,8 +5,8 @@ ghost use Rattle.mips_words.specs.Words as spec;
 
 use crate::numbers::{is_other_number, is_small, small, small_negative};
 use ec_code::code::Arithmetic;
-use ec_homes::homes::Home;
-use ec_micro::step::{Question, Relation, Source, Step};
+use ec_machine_code::homes::Home;
+use ec_machine_code::step::{Question, Relation, Source, Step};
 
 fn number_size(n: u32) -> u32
     ensures is { result ≡ sizes.number_size n }

@@ -1,15 +1,15 @@
 //! Sources of steps in their registers, and what goes into homes.
 ghost use Rattle.std.specs.Prelude.{◌≡◌, ◌+◌, ◌*◌, ◌<◌, ◌^◌, ◌++◌, OnOk};
-ghost use Rattle.ec_faithful.specs.Frames.{block_words, slots};
+ghost use Rattle.ec_machine_code.specs.Frames.{block_words, slots};
 ghost use Rattle.ec_generate.specs.Puts.{CanPutSource};
-ghost use Rattle.ec_homes.specs.Homes.{IsWithin};
+ghost use Rattle.ec_machine_code.specs.Homes.{IsWithin};
 ghost use Rattle.mips_words.specs.Words as spec;
 
 use crate::instructions::{A, FRAME, ZERO, lui, on_number, on_registers, put, put_load, store};
 use crate::numbers::is_small;
 use ec_base::list::Seq;
-use ec_homes::homes::Home;
-use ec_micro::step::Source;
+use ec_machine_code::homes::Home;
+use ec_machine_code::step::Source;
 use mips_isa::field::{Register, Sixteen, high_part, low_part};
 use mips_isa::instr::{Immediate, Operation};
 use std::alloc::AllocError;

@@ -8,7 +8,7 @@ use crate::instructions::{FRAME, OWN, lui, put, put_load};
 use crate::sources::{put_move, put_stored, put_target, target_of, word_offset};
 use crate::work::put_work;
 use ec_base::list::Seq;
-use ec_micro::step::Step;
+use ec_machine_code::step::Step;
 use mips_isa::field::{Register, high_part, low_part};
 use std::alloc::AllocError;
 

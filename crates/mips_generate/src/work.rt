@@ -13,7 +13,7 @@ use crate::numbers::{is_other_number, small, small_negative};
 use crate::sources::{put_source, register_of};
 use ec_base::list::Seq;
 use ec_code::code::Arithmetic;
-use ec_micro::step::Source;
+use ec_machine_code::step::Source;
 use mips_isa::field::{Register, Sixteen, low_part};
 use mips_isa::instr::{Branch, HiLoOperation, Immediate, Instr, MoveFrom, Operation};
 use std::alloc::AllocError;

@@ -5,12 +5,12 @@ use Rattle.std.specs.Prelude.{Bool, slice_get, ◌==◌, int_lt, nat_lt, not}
 use Rattle.std.specs.Int.{w32, cast_signed, from_bool}
 use Rattle.std.proofs.lemmas.Bool.Decides.{nat_tests}
 use Rattle.ec_base.specs.Bytes.{Bytes}
-use Rattle.ec_faithful.specs.Frames.{most_blocks}
-use Rattle.ec_micro.specs.Micro.{CanAsk, Sight, asked, related}
-use Rattle.ec_micro.specs.Speaks.{AskLaw, Ends, HasAt, JumpLaw, words_end}
-use Rattle.ec_micro.specs.declared.step.Question.{Question}
-use Rattle.ec_micro.specs.declared.step.Relation.{Relation}
-use Rattle.ec_micro.specs.declared.step.Relation.TheVariants.{Less, Same}
+use Rattle.ec_machine_code.specs.Frames.{most_blocks}
+use Rattle.ec_machine_code.specs.Micro.{CanAsk, Sight, asked, related}
+use Rattle.ec_machine_code.specs.Speaks.{AskLaw, Ends, HasAt, JumpLaw, words_end}
+use Rattle.ec_machine_code.specs.declared.step.Question.{Question}
+use Rattle.ec_machine_code.specs.declared.step.Relation.{Relation}
+use Rattle.ec_machine_code.specs.declared.step.Relation.TheVariants.{Less, Same}
 use Rattle.ec_world.specs.Same.{is_same_truth}
 use Rattle.ec_target.specs.Code.{pc_of}
 use Rattle.mips_isa.specs.declared.field.Sixteen.{Sixteen}

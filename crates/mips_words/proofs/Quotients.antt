@@ -7,7 +7,7 @@ use Rattle.std.proofs.lemmas.Bool.{cases_lt}
 use Rattle.std.proofs.lemmas.Bool.Decides.{nat_tests}
 use Rattle.std.proofs.lemmas.Int.{ints, of_z-to_z, rem_below}
 use Rattle.ec_code.specs.declared.code.Arithmetic.TheVariants.{Quotient, Remainder}
-use Rattle.ec_micro.specs.Micro.{reckoned}
+use Rattle.ec_machine_code.specs.Micro.{reckoned}
 use Rattle.mips_isa.specs.declared.instr.MoveFrom.{MoveFrom}
 use Rattle.mips_isa.specs.declared.instr.MoveFrom.TheVariants.{Mfhi, Mflo}
 use Rattle.mips_machine.proofs.Divisions.{not_zero, quotient_fits, remainder_fits, signed_fits}

@@ -7,14 +7,14 @@ use Rattle.std.proofs.lemmas.Bool.{cases_lt}
 use Rattle.std.proofs.lemmas.Bool.Decides.{nat_tests}
 use Rattle.byteorder.specs.Endian.{big_bytes, big_number}
 use Rattle.ec_base.specs.Bytes.{Bytes, bytes_from, with_bytes}
-use Rattle.ec_faithful.specs.Frames.{block_at, most_blocks, slot_at, slots}
-use Rattle.ec_homes.specs.declared.homes.Home.{Home}
-use Rattle.ec_homes.specs.declared.homes.Home.TheVariants as home
+use Rattle.ec_machine_code.specs.Frames.{block_at, most_blocks, slot_at, slots}
+use Rattle.ec_machine_code.specs.declared.homes.Home.{Home}
+use Rattle.ec_machine_code.specs.declared.homes.Home.TheVariants as home
 use Rattle.ec_memory.specs.Words.{HasWord, word_in}
-use Rattle.ec_micro.specs.Micro.{CanFind, HasHome, Sight, found, gets, or_zero}
-use Rattle.ec_micro.specs.Speaks.{Ends, HasAt, words_end}
-use Rattle.ec_micro.specs.declared.step.Source.{Source}
-use Rattle.ec_micro.specs.declared.step.Source.TheVariants as source
+use Rattle.ec_machine_code.specs.Micro.{CanFind, HasHome, Sight, found, gets, or_zero}
+use Rattle.ec_machine_code.specs.Speaks.{Ends, HasAt, words_end}
+use Rattle.ec_machine_code.specs.declared.step.Source.{Source}
+use Rattle.ec_machine_code.specs.declared.step.Source.TheVariants as source
 use Rattle.ec_target.proofs.Running.{leads_first, leads_one}
 use Rattle.ec_target.specs.Code.{pc_of, word_at}
 use Rattle.mips_isa.specs.Parts.{high_of, low_of}

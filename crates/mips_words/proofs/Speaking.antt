@@ -10,19 +10,19 @@ use Rattle.byteorder.specs.Numbers.{length-bytes_high_first, big_number-reads_ba
 use Rattle.ec_base.specs.Bytes.{with_bytes}
 use Rattle.ec_code.specs.declared.code.Arithmetic.{Arithmetic}
 use Rattle.ec_code.specs.declared.code.Arithmetic.TheVariants.{Sum, Difference, Product, Quotient, Remainder}
-use Rattle.ec_faithful.specs.Frames.{block_at, field_at, most_blocks, own_reference, slot_at}
-use Rattle.ec_homes.specs.declared.homes.Home.{Home}
-use Rattle.ec_homes.specs.declared.homes.Home.TheVariants as home
+use Rattle.ec_machine_code.specs.Frames.{block_at, field_at, most_blocks, own_reference, slot_at}
+use Rattle.ec_machine_code.specs.declared.homes.Home.{Home}
+use Rattle.ec_machine_code.specs.declared.homes.Home.TheVariants as home
 use Rattle.ec_memory.specs.Words.{HasWord, block_word_at, global_word_at, word_in}
-use Rattle.ec_micro.specs.Micro.{Can, HasHome, Sight, asked, does, or_zero, reckoned}
-use Rattle.ec_micro.specs.Speaks.{Ends, HasAt, IsNone, Speaks, StepLaw, words_end}
-use Rattle.ec_micro.specs.declared.step.Question.{Question}
-use Rattle.ec_micro.specs.declared.step.Relation.{Relation}
-use Rattle.ec_micro.specs.declared.step.Relation.TheVariants.{Less, Same}
-use Rattle.ec_micro.specs.declared.step.Source.{Source}
-use Rattle.ec_micro.specs.declared.step.Source.TheVariants as source
-use Rattle.ec_micro.specs.declared.step.Step.{Step}
-use Rattle.ec_micro.specs.declared.step.Step.TheVariants as step
+use Rattle.ec_machine_code.specs.Micro.{Can, HasHome, Sight, asked, does, or_zero, reckoned}
+use Rattle.ec_machine_code.specs.Speaks.{Ends, HasAt, IsNone, Speaks, StepLaw, words_end}
+use Rattle.ec_machine_code.specs.declared.step.Question.{Question}
+use Rattle.ec_machine_code.specs.declared.step.Relation.{Relation}
+use Rattle.ec_machine_code.specs.declared.step.Relation.TheVariants.{Less, Same}
+use Rattle.ec_machine_code.specs.declared.step.Source.{Source}
+use Rattle.ec_machine_code.specs.declared.step.Source.TheVariants as source
+use Rattle.ec_machine_code.specs.declared.step.Step.{Step}
+use Rattle.ec_machine_code.specs.declared.step.Step.TheVariants as step
 use Rattle.ec_target.specs.Code.{pc_of}
 use Rattle.ec_target.specs.Runs.{Leads}
 use Rattle.mips_isa.specs.Parts.{high_of, low_of}

@@ -4,7 +4,7 @@ use Rattle.std.proofs.Common.{refl, sym, ap, ◌∙◌, arith, ⊎_elim, cond, t
 use Rattle.std.specs.Prelude.{slice_get, ◌==◌}
 use Rattle.std.proofs.lemmas.Bool.Decides.{nat_tests}
 use Rattle.ec_base.specs.Bytes.{Bytes}
-use Rattle.ec_micro.specs.Speaks.{HasAt, Sees}
+use Rattle.ec_machine_code.specs.Speaks.{HasAt, Sees}
 use Rattle.ec_target.proofs.Running.{leads_append, leads_none, leads_one}
 use Rattle.ec_target.specs.Code.{pc_of, word_at}
 use Rattle.ec_target.specs.Runs.{Leads}

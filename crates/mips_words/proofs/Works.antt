@@ -8,13 +8,13 @@ use Rattle.std.proofs.lemmas.Option.{same_Some}
 use Rattle.ec_base.specs.Bytes.{Bytes}
 use Rattle.ec_code.specs.declared.code.Arithmetic.{Arithmetic}
 use Rattle.ec_code.specs.declared.code.Arithmetic.TheVariants.{Sum, Difference, Product, Quotient, Remainder}
-use Rattle.ec_faithful.specs.Frames.{most_blocks}
-use Rattle.ec_micro.specs.Micro.{CanReckon, Sight, reckoned, related}
-use Rattle.ec_micro.specs.Speaks.{HasAt, words_end}
-use Rattle.ec_micro.specs.declared.step.Relation.{Relation}
-use Rattle.ec_micro.specs.declared.step.Relation.TheVariants.{Less, Same}
-use Rattle.ec_micro.specs.declared.step.Source.{Source}
-use Rattle.ec_micro.specs.declared.step.Source.TheVariants as source
+use Rattle.ec_machine_code.specs.Frames.{most_blocks}
+use Rattle.ec_machine_code.specs.Micro.{CanReckon, Sight, reckoned, related}
+use Rattle.ec_machine_code.specs.Speaks.{HasAt, words_end}
+use Rattle.ec_machine_code.specs.declared.step.Relation.{Relation}
+use Rattle.ec_machine_code.specs.declared.step.Relation.TheVariants.{Less, Same}
+use Rattle.ec_machine_code.specs.declared.step.Source.{Source}
+use Rattle.ec_machine_code.specs.declared.step.Source.TheVariants as source
 use Rattle.ec_world.specs.Same.{is_same_truth}
 use Rattle.ec_target.proofs.Running.{leads_first, leads_one}
 use Rattle.ec_target.specs.Code.{pc_of, word_at}

@@ -1,5 +1,5 @@
 -- What holds of the words of steps on MIPS I.
-use Rattle.ec_micro.specs.Speaks.{Speaks}
+use Rattle.ec_machine_code.specs.Speaks.{Speaks}
 use Rattle.mips_words.specs.Meaning.{mips_meaning}
 use Rattle.mips_words.specs.Words.{mips_far, mips_near}
 

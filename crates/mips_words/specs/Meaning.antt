@@ -1,7 +1,7 @@
 -- What a MIPS machine means to code: $30 has the address of the frame, $23 that of the own object, and $16 to $21 are homes.
 use Rattle.std.specs.Prelude.{◌≡◌}
 use Rattle.byteorder.specs.Endian.{big_bytes, big_number}
-use Rattle.ec_faithful.specs.Machine.{MachineMeaning}
+use Rattle.ec_machine_code.specs.Machine.{MachineMeaning}
 use Rattle.ec_world.specs.declared.node.Kind.TheVariants.{Mips}
 use Rattle.mips_machine.specs.Machine.{mips_goes, mips_place, mips_register, mips_rests, mips_stops}
 use Rattle.mips_machine.specs.declared.machine.MipsMachine.{MipsMachine}

@@ -1,6 +1,6 @@
 -- A RISC-V machine can rest at any place, with any words in its base registers and its homes.
 use Rattle.std.proofs.Common.{◌≡◌, ℕ, zero, suc, ◌+◌, ◌<◌, ◌≤◌, List, [], ◌∷◌, length, refl, arith}
-use Rattle.ec_laid_out.specs.Fitted.{CanRest}
+use Rattle.ec_machine_code.specs.Fitted.{CanRest}
 use Rattle.rv_machine.specs.Machine.{rv_register}
 use Rattle.rv_machine.specs.declared.machine.RvMachine.{RvMachine}
 use Rattle.rv_words.specs.Meaning.{rv_meaning}

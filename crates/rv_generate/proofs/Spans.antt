@@ -3,7 +3,7 @@ use Rattle.std.proofs.Common.{◌≡◌, length, refl, ap, ◌∙◌}
 use Rattle.ec_generate.specs.Puts.{pick}
 use Rattle.ec_generate.specs.declared.kind.Span.{Span}
 use Rattle.ec_generate.specs.declared.kind.Span.TheVariants.{Near, Middle, Far}
-use Rattle.ec_micro.specs.declared.step.Step.{Step}
+use Rattle.ec_machine_code.specs.declared.step.Step.{Step}
 use Rattle.rv_generate.specs.Sized.{step_length}
 use Rattle.rv_generate.specs.Sizes.{step_size}
 use Rattle.rv_words.specs.Words.{rv_vocabularies, step_words}

@@ -2,14 +2,14 @@
 use Rattle.std.specs.Prelude.{ℕ, ◌+◌, ◌==◌, Bool, true, false, if◌then◌else◌, Option, Some, None}
 use Rattle.ec_code.specs.declared.code.Arithmetic.{Arithmetic}
 use Rattle.ec_code.specs.declared.code.Arithmetic.TheVariants.{Sum, Difference, Product, Quotient, Remainder}
-use Rattle.ec_homes.specs.declared.homes.Home.{Home}
-use Rattle.ec_homes.specs.declared.homes.Home.TheVariants.{Register, Slot}
-use Rattle.ec_micro.specs.declared.step.Relation.{Relation}
-use Rattle.ec_micro.specs.declared.step.Relation.TheVariants.{Less, Same}
-use Rattle.ec_micro.specs.declared.step.Source.{Source}
-use Rattle.ec_micro.specs.declared.step.Source.TheVariants as source
-use Rattle.ec_micro.specs.declared.step.Step.{Step}
-use Rattle.ec_micro.specs.declared.step.Step.TheVariants as step
+use Rattle.ec_machine_code.specs.declared.homes.Home.{Home}
+use Rattle.ec_machine_code.specs.declared.homes.Home.TheVariants.{Register, Slot}
+use Rattle.ec_machine_code.specs.declared.step.Relation.{Relation}
+use Rattle.ec_machine_code.specs.declared.step.Relation.TheVariants.{Less, Same}
+use Rattle.ec_machine_code.specs.declared.step.Source.{Source}
+use Rattle.ec_machine_code.specs.declared.step.Source.TheVariants as source
+use Rattle.ec_machine_code.specs.declared.step.Step.{Step}
+use Rattle.ec_machine_code.specs.declared.step.Step.TheVariants as step
 use Rattle.rv_isa.specs.Parts.{low_of}
 use Rattle.rv_words.specs.Words.{is_small, is_zero, small, small_negative}
 

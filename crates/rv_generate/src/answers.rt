@@ -1,7 +1,7 @@
 //! Questions: their answers as 1 or 0, and branches.
 ghost use Rattle.std.specs.Prelude.{◌≡◌, ℕ, ◌+◌, ◌-◌, ◌*◌, ◌≤◌, ◌++◌, OnOk};
 ghost use Rattle.ec_generate.specs.Puts.{CanPutQuestion, CanPutSource};
-ghost use Rattle.ec_micro.specs.Speaks.{words_end};
+ghost use Rattle.ec_machine_code.specs.Speaks.{words_end};
 ghost use Rattle.rv_isa.specs.Words.{word_of};
 ghost use Rattle.rv_words.specs.Words as spec;
 
@@ -13,7 +13,7 @@ use crate::sizes::fetch_size;
 use crate::sources::{put_both, put_source, register_of};
 use crate::work::{put_difference, put_one, put_two};
 use ec_base::list::Seq;
-use ec_micro::step::{Question, Relation, Source};
+use ec_machine_code::step::{Question, Relation, Source};
 use rv_isa::field::{BranchOffset, Register, Twelve, high_part, low_part};
 use rv_isa::instr::{Branch, Immediate, Instr, Operation};
 use std::alloc::AllocError;

@@ -8,7 +8,7 @@ use crate::sizes::{fetch_size, step_size};
 use crate::steps::put_step;
 use ec_base::list::Seq;
 use ec_generate::kind::{Kind, Span};
-use ec_micro::step::{Question, Step};
+use ec_machine_code::step::{Question, Step};
 use rv_isa::instr::Instr;
 use std::alloc::AllocError;
 

@@ -5,8 +5,8 @@ ghost use Rattle.rv_words.specs.Words as spec;
 
 use crate::numbers::{is_small, is_zero, small, small_negative};
 use ec_code::code::Arithmetic;
-use ec_homes::homes::Home;
-use ec_micro::step::{Question, Relation, Source, Step};
+use ec_machine_code::homes::Home;
+use ec_machine_code::step::{Question, Relation, Source, Step};
 use rv_isa::field::low_part;
 
 fn number_size(n: u32) -> u32

@@ -1,15 +1,15 @@
 //! Sources of steps in their registers, and what goes into homes.
 ghost use Rattle.std.specs.Prelude.{◌≡◌, ◌+◌, ◌*◌, ◌<◌, ◌^◌, ◌++◌, OnOk};
-ghost use Rattle.ec_faithful.specs.Frames.{block_words, slots};
+ghost use Rattle.ec_machine_code.specs.Frames.{block_words, slots};
 ghost use Rattle.ec_generate.specs.Puts.{CanPutSource};
-ghost use Rattle.ec_homes.specs.Homes.{IsWithin};
+ghost use Rattle.ec_machine_code.specs.Homes.{IsWithin};
 ghost use Rattle.rv_words.specs.Words as spec;
 
 use crate::instructions::{A, B, FRAME, ZERO, load, lui, on_number, put, store};
 use crate::numbers::is_small;
 use ec_base::list::Seq;
-use ec_homes::homes::Home;
-use ec_micro::step::Source;
+use ec_machine_code::homes::Home;
+use ec_machine_code::step::Source;
 use rv_isa::field::{Register, Twelve, high_part, low_part};
 use rv_isa::instr::Immediate;
 use std::alloc::AllocError;

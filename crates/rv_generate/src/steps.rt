@@ -1,6 +1,6 @@
 //! The words of each step.
 ghost use Rattle.std.specs.Prelude.{◌≡◌, ◌*◌, ◌<◌, ◌^◌, ◌++◌, OnOk};
-ghost use Rattle.ec_faithful.specs.Frames.{block_words};
+ghost use Rattle.ec_machine_code.specs.Frames.{block_words};
 ghost use Rattle.ec_generate.specs.Puts.{CanPut};
 ghost use Rattle.rv_words.specs.Words as spec;
 
@@ -9,7 +9,7 @@ use crate::instructions::{FRAME, OWN, load, lui, put};
 use crate::sources::{put_move, put_stored, put_target, target_of, word_offset};
 use crate::work::put_work;
 use ec_base::list::Seq;
-use ec_micro::step::Step;
+use ec_machine_code::step::Step;
 use rv_isa::field::{Register, high_part, low_part};
 use std::alloc::AllocError;
 

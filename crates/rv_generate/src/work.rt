@@ -8,7 +8,7 @@ use crate::numbers::{small, small_negative};
 use crate::sources::{put_both, put_source, register_of};
 use ec_base::list::Seq;
 use ec_code::code::Arithmetic;
-use ec_micro::step::Source;
+use ec_machine_code::step::Source;
 use rv_isa::field::{Register, low_part};
 use rv_isa::instr::{Immediate, Operation};
 use std::alloc::AllocError;

@@ -5,12 +5,12 @@ use Rattle.std.proofs.Common.{lit<}
 use Rattle.std.specs.Int.{from_bool}
 use Rattle.std.specs.Prelude.{◌==◌, Bool, if◌then◌else◌, not}
 use Rattle.ec_code.specs.declared.code.Arithmetic.TheVariants.{Difference}
-use Rattle.ec_faithful.specs.Frames.{most_blocks}
-use Rattle.ec_micro.specs.Micro.{Sight, reckoned, related}
-use Rattle.ec_micro.specs.declared.step.Relation.{Relation}
-use Rattle.ec_micro.specs.declared.step.Relation.TheVariants.{Less, Same}
-use Rattle.ec_micro.specs.declared.step.Source.{Source}
-use Rattle.ec_micro.specs.declared.step.Source.TheVariants.{Home, Word}
+use Rattle.ec_machine_code.specs.Frames.{most_blocks}
+use Rattle.ec_machine_code.specs.Micro.{Sight, reckoned, related}
+use Rattle.ec_machine_code.specs.declared.step.Relation.{Relation}
+use Rattle.ec_machine_code.specs.declared.step.Relation.TheVariants.{Less, Same}
+use Rattle.ec_machine_code.specs.declared.step.Source.{Source}
+use Rattle.ec_machine_code.specs.declared.step.Source.TheVariants.{Home, Word}
 use Rattle.ec_world.specs.Same.{is_same_truth}
 use Rattle.rv_isa.specs.declared.field.Register.{Register}
 use Rattle.rv_isa.specs.declared.field.Twelve.{Twelve}

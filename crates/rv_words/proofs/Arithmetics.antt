@@ -2,11 +2,11 @@
 use Rattle.std.proofs.Common.{◌≡◌, ℕ, ◌^◌, ◌<◌, List, Option, Some, None, refl, sym, ap, ◌∙◌, arith, true}
 use Rattle.ec_code.specs.declared.code.Arithmetic.{Arithmetic}
 use Rattle.ec_code.specs.declared.code.Arithmetic.TheVariants.{Sum, Difference, Product, Quotient, Remainder}
-use Rattle.ec_faithful.specs.Frames.{most_blocks}
-use Rattle.ec_homes.specs.declared.homes.Home.TheVariants.{Register as Homely, Slot}
-use Rattle.ec_micro.specs.Micro.{CanReckon, Sight, reckoned}
-use Rattle.ec_micro.specs.declared.step.Source.{Source}
-use Rattle.ec_micro.specs.declared.step.Source.TheVariants.{Home, Word}
+use Rattle.ec_machine_code.specs.Frames.{most_blocks}
+use Rattle.ec_machine_code.specs.declared.homes.Home.TheVariants.{Register as Homely, Slot}
+use Rattle.ec_machine_code.specs.Micro.{CanReckon, Sight, reckoned}
+use Rattle.ec_machine_code.specs.declared.step.Source.{Source}
+use Rattle.ec_machine_code.specs.declared.step.Source.TheVariants.{Home, Word}
 use Rattle.rv_isa.specs.declared.field.Register.{Register}
 use Rattle.rv_isa.specs.declared.instr.Immediate.TheVariants.{Addi}
 use Rattle.rv_isa.specs.declared.instr.Operation.TheVariants.{Add, Div, Mul, Rem, Sub}

@@ -5,12 +5,12 @@ use Rattle.std.proofs.Common.{◌≢◌, Some, ⊎_elim, lit<}
 use Rattle.std.proofs.lemmas.Bool.{cases_lt}
 use Rattle.std.proofs.lemmas.Bool.Decides.{nat_tests}
 use Rattle.std.specs.Prelude.{Bool, if◌then◌else◌, nat_lt, not}
-use Rattle.ec_faithful.specs.Frames.{most_blocks}
-use Rattle.ec_micro.specs.Micro.{CanAsk, Sight, asked, related}
-use Rattle.ec_micro.specs.Speaks.{Ends, HasAt, Sees, words_end}
-use Rattle.ec_micro.specs.declared.step.Question.{Question}
-use Rattle.ec_micro.specs.declared.step.Relation.{Relation}
-use Rattle.ec_micro.specs.declared.step.Relation.TheVariants.{Less, Same}
+use Rattle.ec_machine_code.specs.Frames.{most_blocks}
+use Rattle.ec_machine_code.specs.Micro.{CanAsk, Sight, asked, related}
+use Rattle.ec_machine_code.specs.Speaks.{Ends, HasAt, Sees, words_end}
+use Rattle.ec_machine_code.specs.declared.step.Question.{Question}
+use Rattle.ec_machine_code.specs.declared.step.Relation.{Relation}
+use Rattle.ec_machine_code.specs.declared.step.Relation.TheVariants.{Less, Same}
 use Rattle.ec_world.specs.Same.{is_same_truth}
 use Rattle.ec_target.proofs.Running.{leads_append, leads_first, leads_more, leads_one}
 use Rattle.ec_target.specs.Code.{pc_of, word_at}

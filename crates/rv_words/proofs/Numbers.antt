@@ -11,9 +11,9 @@ use Rattle.std.specs.Int.{w32, cast_signed, cast_unsigned, from_bool}
 use Rattle.std.specs.Prelude.{◌==◌, ◌||◌, Bool, not, nat_le, nat_lt, ℤ, pos, negsuc, neg_ℤ, int_div, int_rem, bit_xor}
 use mir.Val.{SFits}
 use Rattle.ec_code.specs.declared.code.Arithmetic.TheVariants.{Difference, Quotient, Remainder}
-use Rattle.ec_faithful.specs.Frames.{block_at}
+use Rattle.ec_machine_code.specs.Frames.{block_at}
 use Rattle.ec_memory.specs.Words.{block_word_at}
-use Rattle.ec_micro.specs.Micro.{reckoned}
+use Rattle.ec_machine_code.specs.Micro.{reckoned}
 use Rattle.rv_isa.specs.Parts.{high_of, low_of}
 use Rattle.rv_machine.proofs.Effects.{small_offset}
 use Rattle.rv_machine.specs.Values.{extended, plus, quotient, remainder}

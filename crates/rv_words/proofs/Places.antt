@@ -1,7 +1,7 @@
 -- Words at their places in code.
 use Rattle.std.proofs.Common.{◌≡◌, ℕ, zero, suc, ◌+◌, List, [], ◌∷◌, ◌++◌, length, Some, refl, ap, ◌∙◌, arith}
 use Rattle.std.specs.Prelude.{slice_get}
-use Rattle.ec_micro.specs.Speaks.{HasAt}
+use Rattle.ec_machine_code.specs.Speaks.{HasAt}
 use Rattle.ec_target.specs.Code.{pc_of, word_at}
 
 get_front : (xs ys : List ℕ) (i v : ℕ) → slice_get xs i ≡ Some v → slice_get (xs ++ ys) i ≡ Some v

@@ -7,14 +7,14 @@ use Rattle.std.proofs.lemmas.List.{append-nil}
 use Rattle.std.specs.Prelude.{◌==◌, Bool, if◌then◌else◌}
 use Rattle.byteorder.specs.Endian.{little_bytes, little_number}
 use Rattle.ec_base.specs.Bytes.{with_bytes}
-use Rattle.ec_faithful.specs.Frames.{most_blocks, slot_at}
-use Rattle.ec_homes.specs.declared.homes.Home.{Home as Homes}
-use Rattle.ec_homes.specs.declared.homes.Home.TheVariants.{Register as Homely, Slot}
+use Rattle.ec_machine_code.specs.Frames.{most_blocks, slot_at}
+use Rattle.ec_machine_code.specs.declared.homes.Home.{Home as Homes}
+use Rattle.ec_machine_code.specs.declared.homes.Home.TheVariants.{Register as Homely, Slot}
 use Rattle.ec_memory.specs.Words.{HasWord, word_in}
-use Rattle.ec_micro.specs.Micro.{CanFind, HasHome, Sight, found, gets, or_zero}
-use Rattle.ec_micro.specs.Speaks.{Ends, HasAt, Sees, words_end}
-use Rattle.ec_micro.specs.declared.step.Source.{Source}
-use Rattle.ec_micro.specs.declared.step.Source.TheVariants.{Home, Word}
+use Rattle.ec_machine_code.specs.Micro.{CanFind, HasHome, Sight, found, gets, or_zero}
+use Rattle.ec_machine_code.specs.Speaks.{Ends, HasAt, Sees, words_end}
+use Rattle.ec_machine_code.specs.declared.step.Source.{Source}
+use Rattle.ec_machine_code.specs.declared.step.Source.TheVariants.{Home, Word}
 use Rattle.ec_target.proofs.Running.{leads_more}
 use Rattle.ec_target.specs.Code.{pc_of, word_at}
 use Rattle.rv_isa.specs.Parts.{low_of}

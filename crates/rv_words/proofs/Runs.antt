@@ -8,7 +8,7 @@ use Rattle.std.specs.Prelude.{◌==◌, IsSome}
 use Rattle.byteorder.specs.Endian.{little_bytes, little_number}
 use Rattle.ec_base.specs.Bytes.{Bytes, bytes_from, with_bytes}
 use Rattle.ec_memory.specs.Words.{HasWord, word_in}
-use Rattle.ec_micro.specs.Micro.{or_zero}
+use Rattle.ec_machine_code.specs.Micro.{or_zero}
 use Rattle.ec_target.proofs.Running.{leads_append, leads_more, leads_none}
 use Rattle.ec_target.specs.Code.{pc_of, word_at}
 use Rattle.ec_target.specs.Runs.{Leads}

@@ -4,13 +4,13 @@ use Rattle.std.proofs.Common.{false}
 use Rattle.std.specs.Prelude.{◌==◌, Bool, if◌then◌else◌}
 use Rattle.byteorder.specs.Endian.{little_number}
 use Rattle.ec_base.specs.Bytes.{Bytes}
-use Rattle.ec_faithful.specs.Frames.{most_blocks, slot_at}
-use Rattle.ec_homes.specs.declared.homes.Home.TheVariants.{Register as Homely, Slot}
+use Rattle.ec_machine_code.specs.Frames.{most_blocks, slot_at}
+use Rattle.ec_machine_code.specs.declared.homes.Home.TheVariants.{Register as Homely, Slot}
 use Rattle.ec_memory.specs.Words.{word_in}
-use Rattle.ec_micro.specs.Micro.{CanFind, found, or_zero}
-use Rattle.ec_micro.specs.Speaks.{HasAt, Sees, words_end}
-use Rattle.ec_micro.specs.declared.step.Source.{Source}
-use Rattle.ec_micro.specs.declared.step.Source.TheVariants.{Home, Word}
+use Rattle.ec_machine_code.specs.Micro.{CanFind, found, or_zero}
+use Rattle.ec_machine_code.specs.Speaks.{HasAt, Sees, words_end}
+use Rattle.ec_machine_code.specs.declared.step.Source.{Source}
+use Rattle.ec_machine_code.specs.declared.step.Source.TheVariants.{Home, Word}
 use Rattle.ec_target.specs.Code.{pc_of}
 use Rattle.rv_isa.specs.Parts.{high_of, low_of}
 use Rattle.rv_isa.specs.declared.field.Register.{Register}

@@ -1,7 +1,7 @@
 -- The words of steps on RISC-V do what the steps do.
 use Rattle.std.proofs.Common.{refl, arith}
 use Rattle.byteorder.specs.Numbers.{length-bytes_low_first, little_number-reads_back}
-use Rattle.ec_micro.specs.Speaks.{Speaks}
+use Rattle.ec_machine_code.specs.Speaks.{Speaks}
 use Rattle.rv_machine.proofs.Effects.{ecall_stops}
 use Rattle.rv_words.proofs.Asks.{far, far_jumped, jumped, middle, near}
 use Rattle.rv_words.proofs.Steps.{step}

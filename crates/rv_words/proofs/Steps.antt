@@ -3,16 +3,16 @@ use Rattle.std.proofs.Common.{◌≡◌, ℕ, ◌+◌, ◌*◌, ◌^◌, ◌<◌
 use Rattle.std.specs.Int.{from_bool}
 use Rattle.byteorder.specs.Endian.{little_number}
 use Rattle.ec_code.specs.declared.code.Arithmetic.{Arithmetic}
-use Rattle.ec_faithful.specs.Frames.{block_words, field_at, most_blocks, own_reference, slot_at}
-use Rattle.ec_homes.specs.declared.homes.Home.{Home as Homes}
-use Rattle.ec_homes.specs.declared.homes.Home.TheVariants.{Register as Homely, Slot}
+use Rattle.ec_machine_code.specs.Frames.{block_words, field_at, most_blocks, own_reference, slot_at}
+use Rattle.ec_machine_code.specs.declared.homes.Home.{Home as Homes}
+use Rattle.ec_machine_code.specs.declared.homes.Home.TheVariants.{Register as Homely, Slot}
 use Rattle.ec_memory.specs.Words.{HasWord, block_word_at, global_word_at, word_in}
-use Rattle.ec_micro.specs.Micro.{Can, Sight, asked, does, or_zero, reckoned}
-use Rattle.ec_micro.specs.declared.step.Question.{Question}
-use Rattle.ec_micro.specs.declared.step.Source.{Source}
-use Rattle.ec_micro.specs.declared.step.Source.TheVariants.{Home, Word}
-use Rattle.ec_micro.specs.declared.step.Step.{Step}
-use Rattle.ec_micro.specs.declared.step.Step.TheVariants.{Constant, Decide, Field, Itself, Move, SetField, Work}
+use Rattle.ec_machine_code.specs.Micro.{Can, Sight, asked, does, or_zero, reckoned}
+use Rattle.ec_machine_code.specs.declared.step.Question.{Question}
+use Rattle.ec_machine_code.specs.declared.step.Source.{Source}
+use Rattle.ec_machine_code.specs.declared.step.Source.TheVariants.{Home, Word}
+use Rattle.ec_machine_code.specs.declared.step.Step.{Step}
+use Rattle.ec_machine_code.specs.declared.step.Step.TheVariants.{Constant, Decide, Field, Itself, Move, SetField, Work}
 use Rattle.rv_isa.specs.Parts.{high_of, low_of}
 use Rattle.rv_isa.specs.declared.field.Register.{Register}
 use Rattle.rv_isa.specs.declared.field.Twelve.{Twelve}

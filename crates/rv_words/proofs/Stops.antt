@@ -6,17 +6,17 @@ use Rattle.std.proofs.lemmas.Option.{same_Some}
 use Rattle.std.specs.Prelude.{◌==◌, Bool, if◌then◌else◌, not}
 use Rattle.ec_code.specs.declared.code.Arithmetic.{Arithmetic}
 use Rattle.ec_code.specs.declared.code.Arithmetic.TheVariants.{Sum, Difference, Product, Quotient, Remainder}
-use Rattle.ec_homes.specs.declared.homes.Home.{Home as Homes}
-use Rattle.ec_homes.specs.declared.homes.Home.TheVariants.{Register as Homely, Slot}
+use Rattle.ec_machine_code.specs.declared.homes.Home.{Home as Homes}
+use Rattle.ec_machine_code.specs.declared.homes.Home.TheVariants.{Register as Homely, Slot}
 use Rattle.ec_memory.specs.Words.{global_word_at}
-use Rattle.ec_micro.specs.Speaks.{IsNone}
-use Rattle.ec_micro.specs.declared.step.Question.{Question}
-use Rattle.ec_micro.specs.declared.step.Relation.{Relation}
-use Rattle.ec_micro.specs.declared.step.Relation.TheVariants.{Less, Same}
-use Rattle.ec_micro.specs.declared.step.Source.{Source}
-use Rattle.ec_micro.specs.declared.step.Source.TheVariants.{Home, Word}
-use Rattle.ec_micro.specs.declared.step.Step.{Step}
-use Rattle.ec_micro.specs.declared.step.Step.TheVariants.{Constant, Decide, Field, Itself, Move, SetField, Work}
+use Rattle.ec_machine_code.specs.Speaks.{IsNone}
+use Rattle.ec_machine_code.specs.declared.step.Question.{Question}
+use Rattle.ec_machine_code.specs.declared.step.Relation.{Relation}
+use Rattle.ec_machine_code.specs.declared.step.Relation.TheVariants.{Less, Same}
+use Rattle.ec_machine_code.specs.declared.step.Source.{Source}
+use Rattle.ec_machine_code.specs.declared.step.Source.TheVariants.{Home, Word}
+use Rattle.ec_machine_code.specs.declared.step.Step.{Step}
+use Rattle.ec_machine_code.specs.declared.step.Step.TheVariants.{Constant, Decide, Field, Itself, Move, SetField, Work}
 use Rattle.ec_target.specs.Code.{pc_of}
 use Rattle.rv_isa.specs.Parts.{high_of, low_of}
 use Rattle.rv_isa.specs.declared.instr.Branch.{Branch}

@@ -1,5 +1,5 @@
 -- What holds of the words of steps on RISC-V.
-use Rattle.ec_micro.specs.Speaks.{Speaks}
+use Rattle.ec_machine_code.specs.Speaks.{Speaks}
 use Rattle.rv_words.specs.Meaning.{rv_meaning}
 use Rattle.rv_words.specs.Words.{rv_far, rv_middle, rv_near}
 

@@ -1,7 +1,7 @@
 -- What a RISC-V machine means to code: x8 has the address of the frame, x9 that of the own object, and x18 to x27 are homes. It
 -- leaves nothing from one instruction to the next.
 use Rattle.byteorder.specs.Endian.{little_bytes, little_number}
-use Rattle.ec_faithful.specs.Machine.{MachineMeaning}
+use Rattle.ec_machine_code.specs.Machine.{MachineMeaning}
 use Rattle.ec_world.specs.declared.node.Kind.TheVariants.{Riscv}
 use Rattle.rv_machine.specs.Machine.{rv_goes, rv_register, rv_stops}
 use Rattle.rv_machine.specs.declared.machine.RvMachine.{RvMachine}

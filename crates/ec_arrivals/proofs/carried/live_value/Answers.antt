@@ -2,7 +2,7 @@
 use Rattle.std.proofs.Common.{◌≡◌, ◌<◌, Option, Some, sym, ap, ◌∙◌, subst}
 use Rattle.std.specs.Prelude.{Err, IfOk, IsSome, Ok, Result, refl}
 use Rattle.std.proofs.lemmas.Option.{same_Some}
-use Rattle.ec_faithful.specs.Frames.{home_word}
+use Rattle.ec_machine_code.specs.Frames.{home_word}
 use Rattle.ec_node_frames.proofs.Reading.{frame_read, word_read}
 use Rattle.ec_node_frames.proofs.Shown.{owns_word}
 use Rattle.ec_arrivals.proofs.carried.live_value.Goals as goal

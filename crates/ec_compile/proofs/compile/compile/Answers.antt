@@ -1,6 +1,6 @@
 -- Machine code can be made of what an accepted text is lowered to.
 use Rattle.std.proofs.Common.{sym, subst}
-use Rattle.ec_code_limits.specs.Limits.{HasLimits}
+use Rattle.ec_machine_code.specs.Limits.{HasLimits}
 use Rattle.ec_compile.proofs.Few.{text_has_few}
 use Rattle.ec_compile.proofs.Texts.{all_numbers_fit, text_has_limits, text_is_accepted, text_is_fine}
 use Rattle.ec_compile.proofs.compile.compile.Goals as goal

@@ -1,6 +1,6 @@
 use Rattle.std.proofs.Common.{◌+◌, drop, ap, ◌∙◌}
 use Rattle.ec_generate.proofs.Led.{marked_next}
-use Rattle.ec_micro.specs.Direct.{marked}
+use Rattle.ec_machine_code.specs.Direct.{marked}
 use Rattle.ec_generate.proofs.direct.led_to.Goals as goal
 
 pub loop-place-preserved : goal.loop-place-preserved

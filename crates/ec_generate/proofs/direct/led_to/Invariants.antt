@@ -1,5 +1,5 @@
 use Rattle.std.proofs.Common.{◌≡◌, drop}
-use Rattle.ec_micro.specs.Direct.{led_to, marked}
+use Rattle.ec_machine_code.specs.Direct.{led_to, marked}
 use Rattle.ec_generate.proofs.direct.led_to.Given as goal
 
 -- the lines from this one on are still to be looked at

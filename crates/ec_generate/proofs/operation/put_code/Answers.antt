@@ -3,9 +3,9 @@ use Rattle.ec_generate.specs.Puts.{pick}
 use Rattle.ec_generate.specs.Sites.{home_there, ops_there}
 use Rattle.ec_generate.proofs.Loops.{all_there, here_next, rest_next}
 use Rattle.ec_generate.proofs.Room.{picked_sized}
-use Rattle.ec_micro.proofs.Direct.{laid_there as op_there, ops_long}
-use Rattle.ec_micro.proofs.Sizes.{before_none}
-use Rattle.ec_micro.specs.Direct.{laid_op}
+use Rattle.ec_machine_code.proofs.Direct.{laid_there as op_there, ops_long}
+use Rattle.ec_machine_code.proofs.MicroSizes.{before_none}
+use Rattle.ec_machine_code.specs.Direct.{laid_op}
 use Rattle.ec_generate.proofs.operation.put_code.Goals as goal
 
 pub loop-q-init : goal.loop-q-init

@@ -1,7 +1,7 @@
 use Rattle.std.proofs.Common.{◌≡◌, ◌++◌, length}
 use Rattle.ec_generate.specs.Puts.{pick}
 use Rattle.ec_generate.specs.Sites.{home_there, ops_there, place_there}
-use Rattle.ec_micro.specs.Layout.{operation_words}
+use Rattle.ec_machine_code.specs.Layout.{operation_words}
 use Rattle.ec_generate.proofs.Loops.{rest_words}
 use Rattle.ec_generate.proofs.operation.put_code.Given as goal
 

@@ -3,8 +3,8 @@ use Rattle.ec_base.proofs.Lists.{get_within}
 use Rattle.ec_generate.specs.Puts.{pick}
 use Rattle.ec_generate.specs.Sites.{ops_there}
 use Rattle.ec_generate.proofs.Endings.{ends_before, ends_within}
-use Rattle.ec_micro.specs.Direct.{laid_op}
-use Rattle.ec_micro.specs.declared.step.Ending.TheVariants.{Again, Branch, Jump}
+use Rattle.ec_machine_code.specs.Direct.{laid_op}
+use Rattle.ec_machine_code.specs.declared.step.Ending.TheVariants.{Again, Branch, Jump}
 use Rattle.ec_generate.proofs.operation.put_ending.Goals as goal
 
 pub overflow_cast-from : goal.overflow_cast-from

@@ -1,12 +1,12 @@
 use Rattle.std.proofs.Common.{◌≡◌, ◌∙◌, List, ℕ, ap, sym, map, length, arith, Some}
 use Rattle.std.proofs.lemmas.Option.{same_Some}
 use Rattle.std.specs.Prelude.{slice_get}
-use Rattle.ec_faithful.specs.Stops.{stop_places}
-use Rattle.ec_faithful.specs.declared.code.OperationCode.{OperationCode}
+use Rattle.ec_machine_code.specs.Stops.{stop_places}
+use Rattle.ec_machine_code.specs.declared.code.OperationCode.{OperationCode}
 use Rattle.ec_generate.specs.Puts.{pick}
 use Rattle.ec_generate.specs.Sites.{home_there, ops_there, place_there, size_there}
-use Rattle.ec_micro.proofs.Direct.{ops_long}
-use Rattle.ec_micro.proofs.Sizes.{before_all}
+use Rattle.ec_machine_code.proofs.Direct.{ops_long}
+use Rattle.ec_machine_code.proofs.MicroSizes.{before_all}
 use Rattle.ec_target.specs.Code.{pc_of}
 use Rattle.ec_generate.proofs.operation.put_operation.Goals as goal
 

@@ -1,10 +1,10 @@
 use Rattle.std.proofs.Common.{ℕ, ◌∙◌, List, ap, map, arith}
 use Rattle.ec_base.proofs.Lists.{get_within}
-use Rattle.ec_faithful.specs.Stops.{stop_places}
+use Rattle.ec_machine_code.specs.Stops.{stop_places}
 use Rattle.ec_generate.specs.Puts.{pick}
 use Rattle.ec_generate.specs.Sites.{place_there}
 use Rattle.ec_generate.proofs.Loops.{stops_none, stops_one}
-use Rattle.ec_micro.proofs.Direct.{ops_long}
+use Rattle.ec_machine_code.proofs.Direct.{ops_long}
 use Rattle.ec_target.specs.Code.{pc_of}
 use Rattle.ec_generate.proofs.operation.stops_of.Goals as goal
 use Rattle.ec_generate.proofs.operation.stops_of.Goals.{then-is_stop+in_ok-push, else-is_stop}

@@ -1,5 +1,5 @@
 use Rattle.std.proofs.Common.{◌≡◌, ◌++◌, ℕ, map}
-use Rattle.ec_faithful.specs.Stops.{stop_places}
+use Rattle.ec_machine_code.specs.Stops.{stop_places}
 use Rattle.ec_generate.specs.Puts.{pick}
 use Rattle.ec_generate.specs.Sites.{place_there}
 use Rattle.ec_generate.proofs.Loops.{rest_stops}

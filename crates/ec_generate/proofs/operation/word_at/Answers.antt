@@ -2,8 +2,8 @@ use Rattle.std.proofs.Common.{◌≡◌, ◌∙◌, sym, arith}
 use Rattle.std.proofs.lemmas.Option.{same_Some}
 use Rattle.ec_generate.specs.Puts.{pick}
 use Rattle.ec_generate.specs.Sites.{home_there, ops_there}
-use Rattle.ec_micro.specs.Layout.{before}
-use Rattle.ec_micro.proofs.Sizes.{before_within}
+use Rattle.ec_machine_code.specs.Layout.{before}
+use Rattle.ec_machine_code.proofs.MicroSizes.{before_within}
 use Rattle.ec_generate.proofs.operation.word_at.Goals as goal
 
 pub overflow_add-result : goal.overflow_add-result

@@ -1,16 +1,16 @@
 use Rattle.std.proofs.Common.{◌≡◌, ◌∙◌, ◌+◌, ◌++◌, ℕ, ap, length, arith, refl}
 use Rattle.ec_code.specs.declared.code.Operation.{Operation}
 use Rattle.ec_generate.proofs.Fit.{row_at, tables_fit}
-use Rattle.ec_micro.proofs.Direct.{ops_long}
+use Rattle.ec_machine_code.proofs.Direct.{ops_long}
 use Rattle.ec_generate.proofs.Makeable.{makeable}
 use Rattle.ec_generate.proofs.Placed.{IsPlaced, code_is, near, same_home, same_size, words_are}
 use Rattle.ec_generate.proofs.Programs.{codes_more, longer, size_more, words_at, words_more}
 use Rattle.ec_generate.proofs.Room.{chosen_sized, fits_room, is_at_most}
 use Rattle.ec_generate.proofs.program.generate.Goals as goal
-use Rattle.ec_micro.specs.Layout.{home_of, operation_codes, ops_of, program_words, size_of_all, words_in}
+use Rattle.ec_machine_code.specs.Layout.{home_of, operation_codes, ops_of, program_words, size_of_all, words_in}
 use Rattle.ec_base.proofs.Lists.{get_within}
-use Rattle.ec_code_limits.specs.Limits.{IsSmallOperation}
-use Rattle.ec_faithful.specs.Frames.{slots}
+use Rattle.ec_machine_code.specs.Limits.{IsSmallOperation}
+use Rattle.ec_machine_code.specs.Frames.{slots}
 use Rattle.ec_stop_tables.proofs.Listing.{all_at}
 use Rattle.ec_stop_tables.specs.Tables.{IsTableOf, all_homes}
 use Rattle.ec_world.proofs.Related.{all-length}

@@ -2,7 +2,7 @@ use Rattle.std.proofs.Common.{◌≡◌, ◌≤◌, ◌<◌, ◌+◌, ◌*◌, �
 use Rattle.std.specs.Prelude.{slice_get}
 use Rattle.ec_generate.specs.Puts.{most_words, pick}
 use Rattle.ec_generate.specs.Sites.{home_there, ops_there}
-use Rattle.ec_micro.specs.Layout.{before}
+use Rattle.ec_machine_code.specs.Layout.{before}
 use Rattle.ec_generate.proofs.sizes.places.Given as goal
 
 abbrev pub invariant-loop-q : goal.invariant-loop-q

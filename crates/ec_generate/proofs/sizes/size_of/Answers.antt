@@ -2,10 +2,10 @@ use Rattle.std.proofs.Common.{◌≡◌, ◌+◌, suc, ◌∙◌, sym, ap, arith
 use Rattle.ec_base.proofs.Lists.{get_within}
 use Rattle.ec_generate.specs.Puts.{pick}
 use Rattle.ec_generate.specs.Sites.{home_there, ops_there}
-use Rattle.ec_micro.proofs.Direct.{laid_there as op_there, ops_long}
-use Rattle.ec_micro.specs.Direct.{laid_op}
-use Rattle.ec_micro.specs.Layout.{before}
-use Rattle.ec_micro.proofs.Sizes.{before_all, before_next, before_none}
+use Rattle.ec_machine_code.proofs.Direct.{laid_there as op_there, ops_long}
+use Rattle.ec_machine_code.specs.Direct.{laid_op}
+use Rattle.ec_machine_code.specs.Layout.{before}
+use Rattle.ec_machine_code.proofs.MicroSizes.{before_all, before_next, before_none}
 use Rattle.ec_generate.proofs.sizes.size_of.Goals as goal
 
 pub loop-q-init : goal.loop-q-init

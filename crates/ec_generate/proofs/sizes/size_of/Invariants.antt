@@ -1,7 +1,7 @@
 use Rattle.std.proofs.Common.{◌≡◌, ◌≤◌, ◌*◌}
 use Rattle.ec_generate.specs.Puts.{most_words, pick}
 use Rattle.ec_generate.specs.Sites.{home_there, ops_there}
-use Rattle.ec_micro.specs.Layout.{before}
+use Rattle.ec_machine_code.specs.Layout.{before}
 use Rattle.ec_generate.proofs.sizes.size_of.Given as goal
 
 abbrev pub invariant-loop-q : goal.invariant-loop-q

@@ -1,14 +1,14 @@
 use Rattle.std.proofs.Common.{◌≡◌, ◌≤◌, ap, sym, subst, length, arith}
-use Rattle.ec_faithful.specs.Faithful.{Faithful}
+use Rattle.ec_machine_code.specs.Faithful.{Faithful}
 use Rattle.ec_images.proofs.Few.{has_few}
 use Rattle.ec_images.proofs.LaidOut.{can_be_laid_out}
 use Rattle.ec_images.proofs.image.build.Goals as goal
 use Rattle.ec_images.specs.Fits.{EachFits}
-use Rattle.ec_laid_out.proofs.Faithful.{faithful}
-use Rattle.ec_faithful.specs.declared.code.Code.{Code}
-use Rattle.ec_laid_out.proofs.Fitted.{each_fit}
-use Rattle.ec_laid_out.proofs.Programs.{long_is}
-use Rattle.ec_micro.specs.Speaks.{words_end}
+use Rattle.ec_machine_code.proofs.Faithful.{faithful}
+use Rattle.ec_machine_code.specs.declared.code.Code.{Code}
+use Rattle.ec_machine_code.proofs.Fitted.{each_fit}
+use Rattle.ec_machine_code.proofs.Programs.{long_is}
+use Rattle.ec_machine_code.specs.Speaks.{words_end}
 use Rattle.ec_stop_tables.specs.Addresses.{AreApart, HasFew}
 use Rattle.ec_stop_tables.specs.Tables.{all_homes}
 

@@ -2,7 +2,7 @@
 use Rattle.std.proofs.Common.{◌+◌, get_or, ap, ◌∙◌, arith}
 use Rattle.std.specs.Prelude.{slice_set}
 use Rattle.std.proofs.lemmas.Option.{slice_get-get_or}
-use Rattle.ec_faithful.specs.Frames.{home_word}
+use Rattle.ec_machine_code.specs.Frames.{home_word}
 use Rattle.ec_node_frames.proofs.Filling.{one_filled}
 use Rattle.ec_node_frames.proofs.begin.filled.Goals as goal
 

@@ -2,7 +2,7 @@
 use Rattle.std.proofs.Common.{◌≡◌, ℕ, Bor, Option, Some, option_copied, sym, subst}
 use Rattle.std.specs.Prelude.{Err, Ok, OnOk, Result}
 use Rattle.ec_code.specs.declared.code.Live.{Live}
-use Rattle.ec_faithful.specs.Frames.{home_word}
+use Rattle.ec_machine_code.specs.Frames.{home_word}
 use Rattle.ec_node_frames.proofs.Done.{nothing_given, nothing_waits}
 use Rattle.ec_node_frames.proofs.Given.{texts_given, value_given}
 use Rattle.ec_node_frames.proofs.finish.finish_frame.Goals as goal

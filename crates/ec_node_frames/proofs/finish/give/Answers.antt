@@ -1,6 +1,6 @@
 -- Three steps.
 use Rattle.std.proofs.Common.{◌<◌, ap, ◌∙◌, subst}
-use Rattle.ec_faithful.specs.Frames.{home_word}
+use Rattle.ec_machine_code.specs.Frames.{home_word}
 use Rattle.ec_node_frames.proofs.Shown.{frame_kept}
 use Rattle.ec_node_frames.proofs.finish.give.Goals as goal
 use Rattle.ec_world.specs.declared.key.Key.TheVariants.{Frame}

@@ -3,7 +3,7 @@ use Rattle.ec_activations.specs.Frames.{held_in}
 use Rattle.ec_code.specs.Typing.{Declared}
 use Rattle.ec_code.specs.declared.activation.CodeActivation.{CodeActivation}
 use Rattle.ec_code.specs.declared.code.Parts.{Parts}
-use Rattle.ec_homes.specs.declared.homes.Home.{Home}
+use Rattle.ec_machine_code.specs.declared.homes.Home.{Home}
 use Rattle.ec_node_frames.proofs.operands.operands_of.Given as goal
 use Rattle.ec_node_frames.specs.Operands.{ActsHere}
 use Rattle.ec_stop_tables.specs.declared.table.OperationTable.{OperationTable}

@@ -3,7 +3,7 @@ use Rattle.std.specs.Prelude.{slice_get}
 use Rattle.std.proofs.lemmas.Option.{slice_get_read}
 use Rattle.ec_base.proofs.Lists.{take_next}
 use Rattle.ec_code.specs.declared.code.Operation.{Operation}
-use Rattle.ec_code_limits.specs.Limits.{IsSmallOperation}
+use Rattle.ec_machine_code.specs.Limits.{IsSmallOperation}
 use Rattle.ec_stop_tables.specs.Tables.{IsTableOf}
 use Rattle.ec_stop_tables.specs.declared.table.OperationTable.{OperationTable}
 use Rattle.ec_stop_tables.proofs.Listing.{all_at, two_more}

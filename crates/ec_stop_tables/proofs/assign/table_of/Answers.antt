@@ -1,5 +1,5 @@
 use Rattle.std.proofs.Common.{subst, sym}
-use Rattle.ec_homes.specs.Homes.{HasItsVariables}
+use Rattle.ec_machine_code.specs.Homes.{HasItsVariables}
 use Rattle.ec_stop_tables.proofs.assign.table_of.Goals as goal
 
 pub homes_of-requires-clause-variables : goal.homes_of-requires-clause-variables

@@ -1,6 +1,6 @@
 use Rattle.std.proofs.Common.{◌≡◌, suc, ◌++◌, drop}
 use Rattle.ec_code.specs.Fine.{live_at}
-use Rattle.ec_faithful.specs.Stops.{without}
+use Rattle.ec_machine_code.specs.Stops.{without}
 use Rattle.ec_stop_tables.proofs.entries.live_of.Given as goal
 
 abbrev pub invariant-loop-one : goal.invariant-loop-one

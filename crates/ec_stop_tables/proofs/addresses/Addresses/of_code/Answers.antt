@@ -1,7 +1,7 @@
 use Rattle.std.proofs.Common.{◌≡◌, ◌+◌, ◌++◌, [], ◌∷◌, ℕ, List, Some, ap, sym, ◌∙◌, take, map, arith, length}
 use Rattle.std.specs.Prelude.{slice_get}
 use Rattle.ec_base.proofs.Lists.{take_next}
-use Rattle.ec_faithful.specs.Stops.{address_of, stops_if}
+use Rattle.ec_machine_code.specs.Stops.{address_of, stops_if}
 use Rattle.ec_stop_tables.proofs.Noting.{found_all, map_append, one_found}
 use Rattle.ec_stop_tables.proofs.addresses.Addresses.of_code.Goals as goal
 

@@ -1,5 +1,0 @@
-pub mod Machine
-pub mod Frames
-pub mod Stops
-pub mod Standing
-pub mod Faithful

@@ -1,5 +1,0 @@
-use Rattle.ec_homes.specs.Rows.{HaveRegisters}
-use Rattle.ec_homes.proofs.homes.taken.Given as goal
-
-abbrev pub invariant-loop-c : goal.invariant-loop-c
-invariant-loop-c l = HaveRegisters l.row l.homes l.registers l.c l.taken.items

@@ -1,5 +1,0 @@
-//! Where the variables of three-address code live: registers, and slots of the frame.
-#![tactic(auto)]
-
-pub mod homes;
-mod meeting;

@@ -1,6 +1,0 @@
--- The parts of the proof, for any kind.
-use Rattle.ec_laid_out.proofs.Faithful.{faithful}
-use Rattle.ec_laid_out.proofs.laws.laid_out_is_faithful.Goals as goal
-
-pub returns : goal.returns
-returns g c = faithful g.T.Target.meaning

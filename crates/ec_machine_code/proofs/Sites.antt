@@ -1,0 +1,170 @@
+-- Code of an operation, where it stands in the code of a program; and what the typing of three-address code says of a place.
+use Rattle.std.proofs.Common.{◌≡◌, ◌≢◌, ℕ, zero, suc, ◌+◌, ◌≤◌, List, [], ◌∷◌, length, drop, Some, sym, ap, ◌∙◌}
+use Rattle.std.proofs.Common.{subst, arith, inl, inr, ⊎_elim}
+use Rattle.std.specs.Prelude.{slice_get}
+use Rattle.std.proofs.lemmas.Option.{same_Some}
+use Rattle.ec_code.specs.Fine.{FineCode, FineOp, FineOperation, Has, Passes, Writes, live_at, live_if}
+use Rattle.ec_code.specs.Steps.{own_field}
+use Rattle.ec_code.specs.Typing.{Declared}
+use Rattle.ec_code.specs.declared.code.Line.{Line}
+use Rattle.ec_code.specs.declared.code.Live.{Live}
+use Rattle.ec_code.specs.declared.code.Op.{Op}
+use Rattle.ec_code.specs.declared.code.Op.TheVariants.{SetField}
+use Rattle.ec_code.specs.declared.code.Operand.{Operand}
+use Rattle.ec_code.specs.declared.code.Operation.{Operation}
+use Rattle.ec_code.specs.declared.code.Parts.{Parts}
+use Rattle.ec_code.specs.declared.code.Variable.{Variable}
+use Rattle.ec_code.specs.declared.code.Variable.TheVariants.{Named, Temporary}
+use Rattle.ec_types.specs.declared.conform.static_type.StaticType.{StaticType}
+use Rattle.ec_machine_code.specs.Frames.{slots}
+use Rattle.ec_machine_code.specs.Machine.{MachineMeaning}
+use Rattle.ec_machine_code.specs.Homes.{IsWithin}
+use Rattle.ec_machine_code.specs.declared.homes.Home.{Home}
+use Rattle.ec_code.specs.Live.{writes}
+use Rattle.ec_machine_code.specs.Fitting.{IsNamedBy, NumbersFit}
+use Rattle.ec_machine_code.proofs.Direct.{laid_there}
+use Rattle.ec_machine_code.specs.Direct.{laid_op}
+use Rattle.ec_machine_code.specs.Layout.{ending_words, op_size, op_words, ops_of, place, plain_size, size_of, words_of_steps}
+use Rattle.ec_machine_code.specs.Lowering.{ending_of, steps_of}
+use Rattle.ec_machine_code.specs.Micro.{Sight}
+use Rattle.ec_machine_code.specs.Speaks.{Ends, HasAt, Speaks, Vocabulary, words_end}
+use Rattle.ec_world.specs.declared.value.Value.{Value}
+use Rattle.ec_machine_code.proofs.LaidOutSizes.{before_next, before_within}
+use Rattle.ec_machine_code.proofs.Standing.{AreThere, Flows, Setting}
+use Rattle.ec_machine_code.proofs.Stretches.{get_behind, has_back, has_front}
+
+abbrev pub line_of : Op → List Live → Line
+line_of o live = record { op = o; live = live }
+
+-- the words of an operation with this code stand in the code of a program from word `start` on
+pub record Laid (V : Vocabulary) (home : Variable → Home) (ops : List Op) (code : List ℕ) (start : ℕ) : Type 0 where
+  pub stand :
+      (p : ℕ) (o : Op) → slice_get ops p ≡ Some o → HasAt code (place V home ops start p) (op_words V home ops start p o)
+  pub low : start + size_of V home ops ≤ words_end
+  pub near : size_of V home ops ≤ V.reach
+
+-- an operation, its homes, and where its code stands
+pub record Site {S : Type 0} (M : MachineMeaning S) (V : Vocabulary) (g : Setting M) : Type 0 where
+  pub speaks : Speaks M V
+  pub declared : Declared
+  pub number : ℕ
+  pub of : Operation
+  pub home : Variable → Home
+  pub fine : FineOperation declared g.parts number of
+  pub numbers : (q : ℕ) (line : Line) → slice_get of.code q ≡ Some line → NumbersFit line.op
+  pub within :
+      (q : ℕ) (line : Line) (x : Variable) → slice_get of.code q ≡ Some line → IsNamedBy line x → IsWithin M.homes slots (home x)
+  pub apart :
+      (q : ℕ) (line : Line) (to x : Variable) (t : StaticType) → slice_get of.code q ≡ Some line → writes line.op ≡ Some to →
+      Has (live_at of.code (suc q)) x t → x ≢ to → home x ≢ home to
+  pub sets :
+      (q n : ℕ) (line : Line) (from : Operand) → slice_get of.code q ≡ Some line → line.op ≡ SetField n from →
+      (v : Value) × (own_field g.before.common g.self n ≡ Some v)
+  pub code : List ℕ
+  pub start : ℕ
+  pub laid : Laid V home (ops_of of.code) code start
+
+-- ---- the typing of a place
+
+module _ (d : Declared) (p : Parts) (number : ℕ) (o : Operation) where
+  fine_from :
+      (code : List Line) (first q : ℕ) (line : Line) → FineCode d p number o first code → slice_get code q ≡ Some line →
+      FineOp d p number o (first + q) (drop (suc q) code) line.live line.op
+  fine_from [] first q line fine e = absurd cc
+  fine_from (l ∷ rest) first zero line fine e =
+      let same : l ≡ line = same_Some l line e in
+      let none : first ≡ first + 0 = omega arith in
+      subst (λ n. FineOp d p number o n rest line.live line.op) none
+      (subst (λ x. FineOp d p number o first rest x.live x.op) same fine.0)
+  fine_from (l ∷ rest) first (suc q) line fine e =
+      let next : suc first + q ≡ first + suc q = omega arith in
+      subst (λ n. FineOp d p number o n (drop (suc q) rest) line.live line.op) next (fine_from rest (suc first) q line fine.1 e)
+
+  pub fine_at :
+      (q : ℕ) (line : Line) → FineOperation d p number o → slice_get o.code q ≡ Some line →
+      FineOp d p number o q (drop (suc q) o.code) line.live line.op
+  fine_at q line fine e =
+      let none : 0 + q ≡ q = omega arith in
+      subst (λ n. FineOp d p number o n (drop (suc q) o.code) line.live line.op) none (fine_from o.code 0 q line fine.code e)
+
+-- what is live behind so many lines of what is behind a place
+pub live_behind : (code : List Line) (q over : ℕ) → live_at (drop (suc q) code) over ≡ live_at code (suc (q + over))
+live_behind code q over =
+    let next : suc q + over ≡ suc (q + over) = omega arith in
+    ap live_if (get_behind code (suc q) over) ∙ ap (live_at code) next
+
+pub live_next : (code : List Line) (q : ℕ) → live_at (drop (suc q) code) 0 ≡ live_at code (suc q)
+live_next code q = let none : q + 0 ≡ q = omega arith in live_behind code q 0 ∙ ap (λ n. live_at code (suc n)) none
+
+module _ {S : Type 0} (M : MachineMeaning S) (V : Vocabulary) (g : Setting M) (z : Site M V g) where
+  abbrev pub named : ℕ
+  named = length z.of.variables
+
+  abbrev pub next_live : ℕ → List Live
+  next_live q = live_at z.of.code (suc q)
+
+  abbrev pub At : ℕ → Op → List Live → Type 0
+  At q o here = slice_get z.of.code q ≡ Some (line_of o here)
+
+  pub there_next : (q : ℕ) → AreThere M g z.home named (next_live q)
+  there_next q (Named n) t h = z.fine.named (suc q) n t h
+  there_next q (Temporary k) t h = tt
+
+  pub flows_next :
+      (q : ℕ) (here : List Live) (to : Variable) (s : StaticType) → Writes z.declared g.parts (drop (suc q) z.of.code) to s here →
+      Flows M g z.home named to here (next_live q)
+  flows_next q here to s w x t h = ⊎_elim
+      (λ e. inl e.0)
+      (λ e. inr e)
+      (w.1 x t (subst (λ l. Has l x t) (sym (live_next z.of.code q)) h))
+
+  pub passes_next :
+      (q over : ℕ) (here : List Live) → Passes z.declared g.parts (drop (suc q) z.of.code) over here →
+      (x : Variable) (t : StaticType) → Has (live_at z.of.code (suc (q + over))) x t → Has here x t
+  passes_next q over here w x t h = w.1 x t (subst (λ l. Has l x t) (sym (live_behind z.of.code q over)) h)
+
+  -- ---- the words of a place
+
+  abbrev pub ops : List Op
+  ops = ops_of z.of.code
+
+  abbrev pub word_of : ℕ → ℕ
+  word_of q = place V z.home ops z.start q
+
+  -- the step that is laid out for the one at a place
+  pub op_at : (q : ℕ) (o x : Op) (here : List Live) → At q o here → laid_op z.of.code q o ≡ x → slice_get ops q ≡ Some x
+  op_at q o x here e same = laid_there z.of.code q (line_of o here) e ∙ ap Some same
+
+  pub plain_there :
+      (q : ℕ) (o x : Op) (here : List Live) → At q o here → laid_op z.of.code q o ≡ x →
+      HasAt z.code (word_of q) (words_of_steps V (steps_of z.home x))
+  plain_there q o x here e same =
+      has_front z.code (word_of q) (words_of_steps V (steps_of z.home x))
+      (ending_words V z.home ops z.start q (word_of q + plain_size V z.home x) (ending_of z.home x))
+      (z.laid.stand q x (op_at q o x here e same))
+
+  pub ending_there :
+      (q : ℕ) (o x : Op) (here : List Live) → At q o here → laid_op z.of.code q o ≡ x →
+      HasAt z.code (word_of q + plain_size V z.home x)
+      (ending_words V z.home ops z.start q (word_of q + plain_size V z.home x) (ending_of z.home x))
+  ending_there q o x here e same =
+      has_back z.code (word_of q) (words_of_steps V (steps_of z.home x))
+      (ending_words V z.home ops z.start q (word_of q + plain_size V z.home x) (ending_of z.home x))
+      (z.laid.stand q x (op_at q o x here e same))
+
+  -- ---- places
+
+  pub in_code : (q : ℕ) → word_of q ≤ words_end
+  in_code q =
+      let within = before_within V z.home ops q in
+      let low = z.laid.low in
+      omega (arith, within, low)
+
+  -- where the next step begins
+  pub next_word :
+      (q : ℕ) (o x : Op) (here : List Live) → At q o here → laid_op z.of.code q o ≡ x → word_of (suc q) ≡ word_of q + op_size V z.home x
+  next_word q o x here at same = let next = before_next V z.home ops q x (op_at q o x here at same) in omega (arith, next)
+
+  pub ends_at :
+      (s : S) (v u : Sight) (size n k : ℕ) → n ≡ k → Ends M g.f g.own z.code s v size n u → Ends M g.f g.own z.code s v size k u
+  ends_at s v u size n k e h = subst (λ to. Ends M g.f g.own z.code s v size to u) e h

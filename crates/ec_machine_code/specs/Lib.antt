@@ -1,0 +1,16 @@
+pub mod Homes
+pub mod Meeting
+pub mod Rows
+pub mod Machine
+pub mod Frames
+pub mod Stops
+pub mod Standing
+pub mod Faithful
+pub mod Micro
+pub mod Speaks
+pub mod Lowering
+pub mod Direct
+pub mod Layout
+pub mod Fitting
+pub mod Fitted
+pub mod Limits
