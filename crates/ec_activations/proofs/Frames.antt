@@ -23,11 +23,11 @@ use Rattle.ec_machine_code.specs.Stops.{live_list, row_or_empty}
 use Rattle.ec_machine_code.specs.Homes.{column}
 use Rattle.ec_machine_code.specs.Meeting.{Meet, live_first, live_in}
 use Rattle.ec_machine_code.specs.declared.homes.Home.{Home}
-use Rattle.ec_stop_tables.proofs.Listing.{all_at}
-use Rattle.ec_stop_tables.specs.Entries.{entries_of, result_of, typed}
-use Rattle.ec_stop_tables.specs.Tables.{AreTablesOf, IsTableOf, all_homes}
-use Rattle.ec_stop_tables.specs.declared.table.OperationTable.{OperationTable}
-use Rattle.ec_stop_tables.specs.declared.table.StopEntry.{StopEntry}
+use Rattle.ec_generate.proofs.Listing.{all_at}
+use Rattle.ec_generate.specs.Entries.{entries_of, result_of, typed}
+use Rattle.ec_generate.specs.Tables.{AreTablesOf, IsTableOf, all_homes}
+use Rattle.ec_generate.specs.declared.table.OperationTable.{OperationTable}
+use Rattle.ec_generate.specs.declared.table.StopEntry.{StopEntry}
 use Rattle.ec_world.specs.Agree.{AllTwo}
 
 pub all_two_at : {A B : Type 0} (R : A → B → Type 0) (xs : List A) (ys : List B) (i : ℕ) (x : A) → AllTwo R xs ys → slice_get xs i ≡ Some x →

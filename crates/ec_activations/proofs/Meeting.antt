@@ -21,7 +21,7 @@ use Rattle.ec_code.proofs.Among.{in_among, is_same_self}
 use Rattle.ec_code.specs.Live.{stays, writes}
 use Rattle.ec_code.specs.Marks.{is_among, is_same, is_written}
 use Rattle.ec_machine_code.proofs.FineAt.{fine_at}
-use Rattle.ec_stop_tables.proofs.Homed.{has_in}
+use Rattle.ec_generate.proofs.Homed.{has_in}
 use Rattle.ec_world.specs.declared.stop.Stop.{Stop}
 use Rattle.ec_world.specs.declared.stop.Stop.TheVariants as stop
 

@@ -11,8 +11,8 @@ use Rattle.ec_code.specs.declared.code.StopRow.{StopRow}
 use Rattle.ec_code.specs.declared.code.Variable.{Variable}
 use Rattle.ec_machine_code.specs.Stops.{stop_of, without}
 use Rattle.ec_code.specs.Marks.{is_written}
-use Rattle.ec_stop_tables.specs.Entries.{entries_from, entry_of, with_entry}
-use Rattle.ec_stop_tables.specs.declared.table.StopEntry.{StopEntry}
+use Rattle.ec_generate.specs.Entries.{entries_from, entry_of, with_entry}
+use Rattle.ec_generate.specs.declared.table.StopEntry.{StopEntry}
 
 -- ---- the stop
 

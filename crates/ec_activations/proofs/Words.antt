@@ -21,8 +21,8 @@ use Rattle.ec_machine_code.specs.declared.homes.Home.{Home}
 use Rattle.ec_machine_code.specs.declared.homes.Home.TheVariants.{Register, Slot}
 use Rattle.ec_machine_code.proofs.Variables.{one_variable}
 use Rattle.ec_code.specs.Marks.{is_same}
-use Rattle.ec_stop_tables.proofs.Homed.{has_home}
-use Rattle.ec_stop_tables.specs.Entries.{result_of, typed}
+use Rattle.ec_generate.proofs.Homed.{has_home}
+use Rattle.ec_generate.specs.Entries.{result_of, typed}
 
 -- ---- words of homes
 

@@ -13,8 +13,8 @@ use Rattle.ec_code.specs.declared.code.Variable.TheVariants.{Named, Temporary}
 use Rattle.ec_machine_code.specs.Frames.{home_word, own_reference}
 use Rattle.ec_machine_code.specs.Stops.{home_in}
 use Rattle.ec_machine_code.specs.declared.homes.Home.{Home}
-use Rattle.ec_stop_tables.specs.Entries.{entries_of}
-use Rattle.ec_stop_tables.specs.declared.table.StopEntry.{StopEntry}
+use Rattle.ec_generate.specs.Entries.{entries_of}
+use Rattle.ec_generate.specs.declared.table.StopEntry.{StopEntry}
 use Rattle.ec_things.specs.Things.{Thing}
 use Rattle.ec_world.specs.declared.node.Kind.{Kind}
 use Rattle.ec_world.specs.declared.value.Value.{Value}

@@ -8,8 +8,8 @@ use Rattle.ec_code.specs.declared.code.Parts.{Parts}
 use Rattle.ec_machine_code.specs.Limits.{HasLimits}
 use Rattle.ec_machine_code.specs.Frames.{slots}
 use Rattle.ec_machine_code.specs.declared.homes.Home.{Home}
-use Rattle.ec_stop_tables.specs.Tables.{AreTablesOf, all_homes}
-use Rattle.ec_stop_tables.specs.declared.table.OperationTable.{OperationTable}
+use Rattle.ec_generate.specs.Tables.{AreTablesOf, all_homes}
+use Rattle.ec_generate.specs.declared.table.OperationTable.{OperationTable}
 use Rattle.ec_world.specs.declared.node.Kind.{Kind}
 use Rattle.ec_world.specs.declared.value.Value.{Value}
 

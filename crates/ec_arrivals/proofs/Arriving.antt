@@ -24,8 +24,8 @@ use Rattle.ec_node_frames.specs.declared.frames.Headings.{Headings}
 use Rattle.ec_world.specs.declared.key.Key.TheVariants.{Frame}
 use Rattle.ec_objects.proofs.Gets.{gets_on, gets_words}
 use Rattle.ec_objects.specs.Values.{HasWords}
-use Rattle.ec_stop_tables.specs.declared.table.OperationTable.{OperationTable}
-use Rattle.ec_stop_tables.specs.declared.table.StopEntry.{StopEntry}
+use Rattle.ec_generate.specs.declared.table.OperationTable.{OperationTable}
+use Rattle.ec_generate.specs.declared.table.StopEntry.{StopEntry}
 use Rattle.ec_stores.proofs.Putting.{GivenAt, placed_puts, rest_grown}
 use Rattle.ec_stores.specs.Changes.{PlacedFrame, frame_row}
 use Rattle.ec_things.proofs.Kept.{carries_of, stands_kept}

@@ -6,7 +6,7 @@ use Rattle.ec_activations.specs.Frames.{Numbered, at_place, entries_if, number_i
 use Rattle.ec_arrivals.specs.Laws.{OneStopOnEachKind}
 use Rattle.ec_code.specs.Activations.{operation_at}
 use Rattle.ec_node_frames.proofs.Homed.{its_operation}
-use Rattle.ec_stop_tables.specs.declared.table.StopEntry.{StopEntry}
+use Rattle.ec_generate.specs.declared.table.StopEntry.{StopEntry}
 
 abbrev numbered : ℕ → StopEntry → Numbered
 numbered n e = record { number = n; entry = e }

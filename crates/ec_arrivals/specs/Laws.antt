@@ -6,8 +6,8 @@ use Rattle.ec_code.specs.declared.code.Parts.{Parts}
 use Rattle.ec_machine_code.specs.declared.homes.Home.{Home}
 use Rattle.ec_node_frames.specs.Frames.{AreHeadings, HasTables, RestsAt}
 use Rattle.ec_node_frames.specs.declared.frames.Headings.{Headings}
-use Rattle.ec_stop_tables.specs.declared.table.OperationTable.{OperationTable}
-use Rattle.ec_stop_tables.specs.declared.table.StopEntry.{StopEntry}
+use Rattle.ec_generate.specs.declared.table.OperationTable.{OperationTable}
+use Rattle.ec_generate.specs.declared.table.StopEntry.{StopEntry}
 use Rattle.ec_world.specs.declared.node.Kind.{Kind}
 
 -- The stop at which an activation rests stands in the table of its operation, on any kind, at the number that its headings say.

@@ -2,7 +2,7 @@
 use Rattle.std.specs.Prelude.{◌≡◌, ℕ, List, Some, slice_get}
 use Rattle.ec_code.specs.declared.code.Live.{Live}
 use Rattle.ec_node_frames.specs.Operands.{HasOperand, ReadsAs}
-use Rattle.ec_stop_tables.specs.declared.table.OperationTable.{OperationTable}
+use Rattle.ec_generate.specs.declared.table.OperationTable.{OperationTable}
 use Rattle.ec_things.specs.Store.{Store}
 use Rattle.ec_world.specs.declared.value.Value.{Value}
 

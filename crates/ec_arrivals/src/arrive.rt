@@ -15,7 +15,7 @@ use crate::carried::{carried, home_word, live_at};
 use ec_code::code::Live;
 use ec_node_frames::frames::Headings;
 use ec_objects::values::{word_for, words_for};
-use ec_stop_tables::table::{OperationTable, StopEntry};
+use ec_generate::table::{OperationTable, StopEntry};
 use ec_stores::node::NodeStore;
 use ec_world::value::{Oid, Pid, Value};
 use std::alloc::{AllocError, Global};

@@ -24,7 +24,7 @@ use Rattle.ec_code.specs.RangesValues.{AllInRange}
 use Rattle.ec_resting.specs.Laws.{its_entry}
 use Rattle.ec_code.specs.Sound.{SoundPending}
 use Rattle.ec_code.specs.SoundValues.{AreHeld, HasType, held}
-use Rattle.ec_stop_tables.specs.Entries.{typed}
+use Rattle.ec_generate.specs.Entries.{typed}
 use Rattle.ec_world.specs.Agree.{AllTwo}
 use Rattle.ec_world.specs.declared.object.ObjectRec.{ObjectRec}
 use Rattle.ec_world.specs.declared.value.Value.{Value}

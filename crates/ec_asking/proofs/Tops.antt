@@ -34,8 +34,8 @@ use Rattle.ec_resting.specs.Laws.{its_entry}
 use Rattle.ec_code.proofs.Carried.{each_get}
 use Rattle.ec_code.proofs.Facts.{never_lacks, pending_top}
 use Rattle.ec_code.specs.Sound.{SoundPending}
-use Rattle.ec_stop_tables.specs.declared.table.OperationTable.{OperationTable}
-use Rattle.ec_stop_tables.specs.declared.table.StopEntry.{StopEntry}
+use Rattle.ec_generate.specs.declared.table.OperationTable.{OperationTable}
+use Rattle.ec_generate.specs.declared.table.StopEntry.{StopEntry}
 use Rattle.ec_stores.specs.Node.{NodeData, store_of}
 use Rattle.ec_system.specs.Acting.{Asks}
 use Rattle.ec_system.specs.declared.system.System.{System}

@@ -22,7 +22,7 @@ use Rattle.ec_code.specs.declared.activation.CodeActivation.{CodeActivation}
 use Rattle.ec_code.specs.declared.code.Parts.{Parts}
 use Rattle.ec_forward.specs.Directory.{place_at}
 use Rattle.ec_forward.specs.declared.directory.Whereabouts.{Whereabouts}
-use Rattle.ec_images.specs.declared.image.Image.{Image}
+use Rattle.ec_generate.specs.declared.image.Image.{Image}
 use Rattle.ec_mover.proofs.Stops.{part_has_its_stop, part_heads, stop_there, table_there}
 use Rattle.ec_mover.specs.Activations.{HasStop, IsStopOf, activation_part_of, headings_in}
 use Rattle.ec_node_frames.specs.Frames.{AreHeadings, HasTables}
@@ -30,8 +30,8 @@ use Rattle.ec_world.specs.declared.key.Key.{Key}
 use Rattle.ec_world.specs.declared.key.Key.TheVariants.{Frame}
 use Rattle.ec_objects.proofs.Wording.{take_all}
 use Rattle.ec_parcels.specs.Owners.{among, frame_keys, frame_values}
-use Rattle.ec_stop_tables.specs.declared.table.OperationTable.{OperationTable}
-use Rattle.ec_stop_tables.specs.declared.table.StopEntry.{StopEntry}
+use Rattle.ec_generate.specs.declared.table.OperationTable.{OperationTable}
+use Rattle.ec_generate.specs.declared.table.StopEntry.{StopEntry}
 use Rattle.ec_things.specs.Store.{Store}
 use Rattle.ec_things.specs.Texts.{GetsTexts, InPool}
 use Rattle.ec_things.specs.Things.{Puts, frame_if}

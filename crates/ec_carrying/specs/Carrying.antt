@@ -15,7 +15,7 @@ use Rattle.ec_node_frames.specs.Frames.{RestsAt}
 use Rattle.ec_objects.specs.Values.{TextsFit}
 use Rattle.ec_parcels.specs.Owners.{blocks_in, values_in}
 use Rattle.ec_parcels.specs.Parcels.{ActivationGoes, ObjectGoes, Packs}
-use Rattle.ec_stop_tables.specs.declared.table.StopEntry.{StopEntry}
+use Rattle.ec_generate.specs.declared.table.StopEntry.{StopEntry}
 use Rattle.ec_things.specs.Store.{Store}
 use Rattle.ec_wire.specs.WireForm.{IsWire}
 use Rattle.ec_wire.specs.declared.parcel.Contents.{Contents}

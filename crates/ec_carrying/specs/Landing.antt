@@ -14,7 +14,7 @@ use Rattle.ec_world.specs.Held.{Distinct}
 use Rattle.ec_world.specs.Things.{activation_at, class_blocks}
 use Rattle.ec_world.specs.declared.key.Key.{Key}
 use Rattle.ec_objects.specs.Values.{TextsFit}
-use Rattle.ec_stop_tables.specs.declared.table.StopEntry.{StopEntry}
+use Rattle.ec_generate.specs.declared.table.StopEntry.{StopEntry}
 use Rattle.ec_things.specs.Store.{Store, Tidy}
 use Rattle.ec_wire.specs.declared.parcel.ActivationPart.{ActivationPart}
 use Rattle.ec_wire.specs.declared.parcel.Contents.{Contents}

@@ -12,7 +12,7 @@ ghost use Rattle.ec_mover.specs.Classes.{class_of};
 ghost use Rattle.ec_mover.specs.Objects.{object_of};
 ghost use Rattle.ec_world.specs.declared.key.Key.TheVariants.{Frame, Object};
 ghost use Rattle.ec_parcels.specs.Owners.{among, blocks_in, frame_keys, frame_values, keys_of, object_blocks, object_values, values_in};
-ghost use Rattle.ec_stop_tables.specs.declared.table.StopEntry.{StopEntry};
+ghost use Rattle.ec_generate.specs.declared.table.StopEntry.{StopEntry};
 ghost use Rattle.ec_things.specs.Things.{object_thing};
 ghost use Rattle.ec_world.specs.Group.{Has};
 ghost use Rattle.ec_world.specs.declared.class.ClassNo.{ClassNo as Class};

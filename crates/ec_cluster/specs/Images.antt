@@ -2,8 +2,8 @@
 use Rattle.std.specs.Prelude.{ℕ, List}
 use Rattle.ec_cluster.specs.declared.cluster.Images.{Images}
 use Rattle.ec_machine_code.specs.declared.homes.Home.{Home}
-use Rattle.ec_images.specs.declared.image.Image.{Image}
-use Rattle.ec_stop_tables.specs.Tables.{all_homes}
+use Rattle.ec_generate.specs.declared.image.Image.{Image}
+use Rattle.ec_generate.specs.Tables.{all_homes}
 use Rattle.ec_world.specs.declared.node.Kind.{Kind}
 use Rattle.ec_world.specs.declared.node.Kind.TheVariants.{Riscv, Mips}
 

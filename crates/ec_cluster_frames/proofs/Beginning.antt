@@ -8,7 +8,7 @@ use Rattle.ec_cluster.specs.Steps.{Changes}
 use Rattle.ec_cluster.specs.declared.cluster.Cluster.{Cluster}
 use Rattle.ec_cluster_frames.specs.Frames.{BeginsWith, HasNode, tables_on}
 use Rattle.ec_node_frames.specs.Beginning.{HasEntry, first_values}
-use Rattle.ec_stop_tables.specs.declared.table.OperationTable.{OperationTable}
+use Rattle.ec_generate.specs.declared.table.OperationTable.{OperationTable}
 use Rattle.ec_stores.specs.Node.{NodeData, store_of}
 use Rattle.ec_things.specs.Store.{Store}
 use Rattle.ec_things.specs.Texts.{GetsTexts, InPool}

@@ -19,8 +19,8 @@ use Rattle.ec_node_frames.specs.Finishing.{RestsHere}
 use Rattle.ec_node_frames.specs.Frames.{IsFrame}
 use Rattle.ec_world.proofs.Procs.{activation_is}
 use Rattle.ec_world.specs.declared.key.Key.TheVariants.{Frame}
-use Rattle.ec_stop_tables.specs.declared.table.OperationTable.{OperationTable}
-use Rattle.ec_stop_tables.specs.declared.table.StopEntry.{StopEntry}
+use Rattle.ec_generate.specs.declared.table.OperationTable.{OperationTable}
+use Rattle.ec_generate.specs.declared.table.StopEntry.{StopEntry}
 use Rattle.ec_stores.specs.Node.{NodeData, store_of}
 use Rattle.ec_things.specs.Things.{ShownAt, frame_if}
 use Rattle.ec_world.specs.declared.process.Proc.{Proc}

@@ -6,8 +6,8 @@ use Rattle.ec_base.proofs.Lists.{get_within}
 use Rattle.ec_cluster.specs.Images.{image_of}
 use Rattle.ec_cluster.specs.declared.cluster.Images.{Images}
 use Rattle.ec_cluster_frames.specs.Stops.{tables_for}
-use Rattle.ec_images.specs.declared.image.Image.{Image}
-use Rattle.ec_stop_tables.specs.declared.table.OperationTable.{OperationTable}
+use Rattle.ec_generate.specs.declared.image.Image.{Image}
+use Rattle.ec_generate.specs.declared.table.OperationTable.{OperationTable}
 use Rattle.ec_things.specs.Store.{Store}
 use Rattle.ec_world.specs.declared.node.Kind.{Kind}
 

@@ -9,7 +9,7 @@ ghost use Rattle.ec_code.specs.Activations.{begun, finished};
 ghost use Rattle.ec_code.specs.Typing.{Declared};
 ghost use Rattle.ec_code.specs.declared.activation.CodeActivation.{CodeActivation};
 ghost use Rattle.ec_node_frames.specs.Finishing.{IsTaken};
-ghost use Rattle.ec_stop_tables.specs.declared.table.StopEntry.{StopEntry};
+ghost use Rattle.ec_generate.specs.declared.table.StopEntry.{StopEntry};
 ghost use Rattle.ec_world.specs.declared.process.Proc.{Proc};
 ghost use Rattle.ec_world.specs.declared.process.ProcStatus.{ProcStatus};
 

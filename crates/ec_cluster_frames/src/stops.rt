@@ -6,14 +6,14 @@ ghost use Rattle.ec_code.specs.declared.activation.CodeActivation.{CodeActivatio
 ghost use Rattle.ec_code.specs.declared.code.Parts.{Parts as PartsData};
 ghost use Rattle.ec_machine_code.specs.declared.homes.Home.{Home};
 ghost use Rattle.ec_node_frames.specs.Finishing.{RestsHere};
-ghost use Rattle.ec_stop_tables.specs.declared.table.OperationTable.{OperationTable as Table};
-ghost use Rattle.ec_stop_tables.specs.declared.table.StopEntry.{StopEntry as Entry};
+ghost use Rattle.ec_generate.specs.declared.table.OperationTable.{OperationTable as Table};
+ghost use Rattle.ec_generate.specs.declared.table.StopEntry.{StopEntry as Entry};
 ghost use Rattle.ec_stores.specs.Node.{store_of};
 ghost use Rattle.ec_world.specs.declared.node.Kind.{Kind};
 
 use ec_cluster::cluster::Images;
 use ec_node_frames::frames::headings_of;
-use ec_stop_tables::table::{OperationTable, StopEntry};
+use ec_generate::table::{OperationTable, StopEntry};
 use ec_stores::node::NodeStore;
 use ec_world::value::Pid;
 

@@ -13,7 +13,7 @@ use Rattle.ec_machine_code.specs.Fitted.{HasFew}
 use Rattle.ec_emission.specs.Lowered.{IsLowered, declared_of}
 use Rattle.ec_meaning.specs.Programs.{Source}
 use Rattle.ec_code.proofs.Carried.{all_two_length}
-use Rattle.ec_stop_tables.proofs.Listing.{all_at}
+use Rattle.ec_generate.proofs.Listing.{all_at}
 use Rattle.ec_world.specs.declared.class.ClassNo.{ClassNo}
 use Rattle.ec_world.specs.declared.class.ClassNo.TheVariants as class
 

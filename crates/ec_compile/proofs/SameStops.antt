@@ -3,9 +3,9 @@ use Rattle.std.proofs.Common.{◌≡◌, ℕ, List, [], ◌∷◌, refl, sym, ap
 use Rattle.std.specs.Prelude.{map}
 use Rattle.ec_code.specs.declared.code.Operation.{Operation}
 use Rattle.ec_compile.specs.Kinds.{KindsNameTheSame}
-use Rattle.ec_stop_tables.specs.Entries.{entries_of}
-use Rattle.ec_stop_tables.specs.Tables.{IsTableOf}
-use Rattle.ec_stop_tables.specs.declared.table.OperationTable.{OperationTable}
+use Rattle.ec_generate.specs.Entries.{entries_of}
+use Rattle.ec_generate.specs.Tables.{IsTableOf}
+use Rattle.ec_generate.specs.declared.table.OperationTable.{OperationTable}
 use Rattle.ec_world.specs.Agree.{AllTwo}
 
 stops_are : (registers slots : ℕ) (os : List Operation) (ts : List OperationTable) → AllTwo (IsTableOf registers slots) os ts →

@@ -2,8 +2,8 @@
 -- agree on what is live).
 use Rattle.std.specs.Prelude.{◌≡◌, ℕ, List, map}
 use Rattle.ec_code.specs.declared.code.Parts.{Parts}
-use Rattle.ec_stop_tables.specs.Tables.{AreTablesOf}
-use Rattle.ec_stop_tables.specs.declared.table.OperationTable.{OperationTable}
+use Rattle.ec_generate.specs.Tables.{AreTablesOf}
+use Rattle.ec_generate.specs.declared.table.OperationTable.{OperationTable}
 
 -- each operation has the same stops in both: the same operands, the same variable for the result, and the same live variables, in the
 -- same order

@@ -24,8 +24,8 @@ use Rattle.ec_code.specs.Live.{InOrder, IsBefore, IsLive, IsLiveList, reads, sta
 use Rattle.ec_code.specs.Marks.{is_same, is_written}
 use Rattle.ec_emission.specs.Lowered.{HasLines}
 use Rattle.ec_emission.specs.Types.{Around, behind, lines_of, with_types}
-use Rattle.ec_stop_tables.specs.Entries.{entries_from, entries_of, entry_of, typed, with_entry}
-use Rattle.ec_stop_tables.specs.declared.table.StopEntry.{StopEntry}
+use Rattle.ec_generate.specs.Entries.{entries_from, entries_of, entry_of, typed, with_entry}
+use Rattle.ec_generate.specs.declared.table.StopEntry.{StopEntry}
 use Rattle.ec_world.specs.Group.{Has}
 
 -- ---- variables in order

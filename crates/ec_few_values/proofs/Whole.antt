@@ -18,7 +18,7 @@ use Rattle.ec_emission.specs.Lowered.{AreOperationsOf, HasLines, IsLowered, IsOp
 use Rattle.ec_emission.specs.Types.{Around}
 use Rattle.ec_meaning.specs.Programs.{Source}
 use Rattle.ec_meaning.specs.Steps.{captured_by}
-use Rattle.ec_wire_limits.specs.Limits.{CarriesFew}
+use Rattle.ec_generate.specs.Limits.{CarriesFew}
 use Rattle.ec_world.specs.Agree.{AllTwo}
 
 all_at : {A : Type 0} (P : A → Type 0) (xs : List A) → All P xs → (n : ℕ) (x : A) → slice_get xs n ≡ Some x → P x

@@ -10,9 +10,9 @@ use Rattle.ec_emission_laws.specs.Laws.{PartsFit}
 use Rattle.ec_code.specs.Live.{InOrder}
 use Rattle.ec_emission.specs.Lowered.{IsLowered}
 use Rattle.ec_meaning.specs.Programs.{Source}
-use Rattle.ec_stop_tables.specs.Entries.{entries_of}
-use Rattle.ec_stop_tables.specs.declared.table.StopEntry.{StopEntry}
-use Rattle.ec_wire_limits.specs.Limits.{CarriesFew}
+use Rattle.ec_generate.specs.Entries.{entries_of}
+use Rattle.ec_generate.specs.declared.table.StopEntry.{StopEntry}
+use Rattle.ec_generate.specs.Limits.{CarriesFew}
 use Rattle.ec_world.specs.Group.{Has}
 
 abbrev pub variables_of : List Live → List Variable

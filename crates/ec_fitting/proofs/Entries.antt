@@ -14,8 +14,8 @@ use Rattle.ec_code.specs.declared.code.StopRow.{StopRow}
 use Rattle.ec_machine_code.specs.Frames.{slots}
 use Rattle.ec_machine_code.specs.Stops as stops
 use Rattle.ec_fitting.specs.Fitting.{HasEntries}
-use Rattle.ec_stop_tables.specs.Entries.{entries_from, entries_of, entry_of, with_entry}
-use Rattle.ec_stop_tables.specs.Tables.{IsTableOf}
+use Rattle.ec_generate.specs.Entries.{entries_from, entries_of, entry_of, with_entry}
+use Rattle.ec_generate.specs.Tables.{IsTableOf}
 
 first_entry : (code : List Line) (line : Line) (row : StopRow) → slice_get code 0 ≡ Some line → line.op ≡ Rest row →
     slice_get (entries_of code) 0 ≡ Some (entry_of code 0 line row)

@@ -19,7 +19,7 @@ use Rattle.ec_fitting.specs.Waiters.{WaitersStay}
 use Rattle.ec_forward.specs.Directory.{made_count}
 use Rattle.ec_node_frames.specs.Finishing.{HasRoomIn}
 use Rattle.ec_code.specs.Sound.{FineSection}
-use Rattle.ec_stop_tables.specs.declared.table.StopEntry.{StopEntry}
+use Rattle.ec_generate.specs.declared.table.StopEntry.{StopEntry}
 use Rattle.ec_system.specs.Acting.{Asks}
 use Rattle.ec_system.specs.Steps.{ByClass, CanBeDone, CanSettle, CanStart, CanTake, Does, StartsBehind, TakesBelow}
 use Rattle.ec_system.specs.Systems.{Runs, Steady}

@@ -18,9 +18,9 @@ use Rattle.ec_machine_code.specs.Stops as stops
 use Rattle.ec_fullness.proofs.Values.{HoldsText, Holds, held_text, has_either, in_held, values_of}
 use Rattle.ec_node_frames.proofs.Items.{filled_up, map_both}
 use Rattle.ec_node_frames.specs.Beginning.{HasEntry, first_held, first_held_in, first_value, first_values}
-use Rattle.ec_stop_tables.specs.Entries.{entries_from, entries_of, entry_of, with_entry}
-use Rattle.ec_stop_tables.specs.declared.table.OperationTable.{OperationTable}
-use Rattle.ec_stop_tables.specs.declared.table.StopEntry.{StopEntry}
+use Rattle.ec_generate.specs.Entries.{entries_from, entries_of, entry_of, with_entry}
+use Rattle.ec_generate.specs.declared.table.OperationTable.{OperationTable}
+use Rattle.ec_generate.specs.declared.table.StopEntry.{StopEntry}
 use Rattle.ec_world.specs.Group.{Has}
 use Rattle.ec_world.specs.declared.value.Value.{Value}
 use Rattle.ec_world.specs.declared.value.Value.TheVariants.{Ref, Str}

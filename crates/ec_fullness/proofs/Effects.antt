@@ -25,7 +25,7 @@ use Rattle.ec_world.specs.Held.{if_at}
 use Rattle.ec_world.specs.Things.{activation_at}
 use Rattle.ec_world.specs.declared.key.Key.{Key}
 use Rattle.ec_world.specs.declared.key.Key.TheVariants.{Frame, Object}
-use Rattle.ec_stop_tables.specs.declared.table.StopEntry.{StopEntry}
+use Rattle.ec_generate.specs.declared.table.StopEntry.{StopEntry}
 use Rattle.ec_things.proofs.Sums.{summed}
 use Rattle.ec_things.specs.Texts.{IsHeld}
 use Rattle.ec_things.specs.Things.{Thing, frame_if, object_if, object_thing, things_of}

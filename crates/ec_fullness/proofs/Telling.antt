@@ -15,7 +15,7 @@ use Rattle.ec_needs.specs.Lacks.{HasRoomForAll, LacksRoom}
 use Rattle.ec_node_frames.specs.Beginning.{first_values}
 use Rattle.ec_world.specs.Things.{class_blocks}
 use Rattle.ec_world.specs.declared.room.Lack.{Lack}
-use Rattle.ec_stop_tables.specs.declared.table.OperationTable.{OperationTable}
+use Rattle.ec_generate.specs.declared.table.OperationTable.{OperationTable}
 use Rattle.ec_stores.specs.Node.{NodeData, store_of}
 use Rattle.ec_things.proofs.Put.{same_or_not}
 use Rattle.ec_things.specs.Store.{Store}

@@ -23,7 +23,7 @@ use Rattle.ec_node_frames.proofs.Items.{get_behind, get_map, put_beside, put_her
 use Rattle.ec_node_frames.proofs.Rewriting.{IsDone, held_now}
 use Rattle.ec_node_frames.specs.Finishing.{IsTaken}
 use Rattle.ec_node_frames.specs.Frames.{RestsAt}
-use Rattle.ec_stop_tables.specs.declared.table.StopEntry.{StopEntry}
+use Rattle.ec_generate.specs.declared.table.StopEntry.{StopEntry}
 use Rattle.ec_world.specs.Group.{Has}
 use Rattle.ec_world.specs.declared.value.Value.{Value}
 use Rattle.ec_world.specs.declared.value.Value.TheVariants.{Ref, Str}

@@ -46,9 +46,9 @@ use Rattle.ec_world.specs.declared.room.Lack.{Lack}
 use Rattle.ec_objects.specs.Values.{HasRoom, TextsFit}
 use Rattle.ec_code.proofs.Carried.{there}
 use Rattle.ec_code.proofs.Facts.{call_fits}
-use Rattle.ec_stop_tables.specs.Tables.{IsTableOf}
-use Rattle.ec_stop_tables.specs.declared.table.OperationTable.{OperationTable}
-use Rattle.ec_stop_tables.specs.declared.table.StopEntry.{StopEntry}
+use Rattle.ec_generate.specs.Tables.{IsTableOf}
+use Rattle.ec_generate.specs.declared.table.OperationTable.{OperationTable}
+use Rattle.ec_generate.specs.declared.table.StopEntry.{StopEntry}
 use Rattle.ec_system.specs.Acting.{Asks}
 use Rattle.ec_system.specs.Systems.{Runs}
 use Rattle.ec_system.specs.declared.system.System.{System}

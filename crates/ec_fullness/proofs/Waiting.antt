@@ -26,7 +26,7 @@ use Rattle.ec_resting.specs.Laws.{its_entry}
 use Rattle.ec_code.proofs.Carried.{each_get}
 use Rattle.ec_code.proofs.Facts.{each_is_there, pending_top}
 use Rattle.ec_code.specs.Sound.{Chain, RestsAt, SoundProc, SoundTower, Waits}
-use Rattle.ec_stop_tables.specs.Entries.{result_of}
+use Rattle.ec_generate.specs.Entries.{result_of}
 use Rattle.ec_system.specs.Acting.{Asks}
 use Rattle.ec_system.specs.Systems.{Runs}
 use Rattle.ec_system.specs.declared.system.System.{System}

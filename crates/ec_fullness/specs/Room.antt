@@ -11,8 +11,8 @@ use Rattle.ec_node_frames.specs.Beginning.{first_values}
 use Rattle.ec_node_frames.specs.Frames.{RestsAt}
 use Rattle.ec_world.specs.Things.{class_blocks}
 use Rattle.ec_objects.specs.Values.{HasRoom, TextsFit}
-use Rattle.ec_stop_tables.specs.declared.table.OperationTable.{OperationTable}
-use Rattle.ec_stop_tables.specs.declared.table.StopEntry.{StopEntry}
+use Rattle.ec_generate.specs.declared.table.OperationTable.{OperationTable}
+use Rattle.ec_generate.specs.declared.table.StopEntry.{StopEntry}
 use Rattle.ec_things.specs.Store.{Store}
 use Rattle.ec_world.specs.Objects.{class_at, element_kind}
 use Rattle.ec_world.specs.Values.{default_of, new_fields}

@@ -10,7 +10,7 @@ use Rattle.ec_needs.specs.Lacks.{HasRoomForAll, LacksRoom}
 use Rattle.ec_node_frames.specs.Frames.{RestsAt}
 use Rattle.ec_world.specs.Things.{class_blocks}
 use Rattle.ec_world.specs.declared.room.Lack.{Lack}
-use Rattle.ec_stop_tables.specs.declared.table.StopEntry.{StopEntry}
+use Rattle.ec_generate.specs.declared.table.StopEntry.{StopEntry}
 use Rattle.ec_system.specs.Acting.{Asks}
 use Rattle.ec_system.specs.Systems.{Runs}
 use Rattle.ec_system.specs.declared.system.System.{System}

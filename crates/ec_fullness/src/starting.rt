@@ -5,7 +5,7 @@ ghost use Rattle.ec_cluster_frames.specs.Frames.{HasNode, tables_on};
 ghost use Rattle.ec_fullness.specs.Told.{Tells};
 ghost use Rattle.ec_node_frames.specs.Beginning as spec;
 ghost use Rattle.ec_node_frames.specs.Beginning.{HasEntry};
-ghost use Rattle.ec_stop_tables.specs.declared.table.OperationTable.{OperationTable as Table};
+ghost use Rattle.ec_generate.specs.declared.table.OperationTable.{OperationTable as Table};
 ghost use Rattle.ec_things.specs.Store.{Store};
 ghost use Rattle.ec_world.specs.declared.node.Kind.{Kind};
 ghost use Rattle.ec_world.specs.declared.value.Value.TheVariants.{Ref};
@@ -15,7 +15,7 @@ use ec_cluster::objects::node_of;
 use ec_code::code::{Live, Variable};
 use ec_needs::lacks::lack_of;
 use ec_world::room::Lack;
-use ec_stop_tables::table::OperationTable;
+use ec_generate::table::OperationTable;
 use ec_world::value::{Oid, OpNo, Value};
 use std::alloc::{AllocError, Global};
 

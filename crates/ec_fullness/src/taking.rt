@@ -6,7 +6,7 @@ ghost use Rattle.ec_cluster_frames.specs.Frames.{RestsIn, RestsOn};
 ghost use Rattle.ec_code.specs.Typing.{Declared};
 ghost use Rattle.ec_code.specs.declared.activation.CodeActivation.{CodeActivation};
 ghost use Rattle.ec_fullness.specs.Told.{ActsInAny, Tells, TellsOfOne, taken};
-ghost use Rattle.ec_stop_tables.specs.declared.table.StopEntry.{StopEntry};
+ghost use Rattle.ec_generate.specs.declared.table.StopEntry.{StopEntry};
 ghost use Rattle.ec_system.specs.Acting.{Asks};
 ghost use Rattle.ec_system.specs.Systems.{Runs};
 ghost use Rattle.ec_world.specs.declared.doing.Doing.{Doing};

@@ -48,7 +48,7 @@ use Rattle.ec_packing.proofs.Frames.{is_of}
 use Rattle.ec_packing.specs.Room.{AreOfClasses}
 use Rattle.ec_code.proofs.Carried.{each_get}
 use Rattle.ec_code.specs.Sound.{SoundProc}
-use Rattle.ec_stop_tables.specs.declared.table.StopEntry.{StopEntry}
+use Rattle.ec_generate.specs.declared.table.StopEntry.{StopEntry}
 use Rattle.ec_system.proofs.Pools.{strings_come}
 use Rattle.ec_system.specs.Systems.{Strings}
 use Rattle.ec_system.specs.declared.system.System.{System}

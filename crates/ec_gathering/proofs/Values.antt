@@ -5,8 +5,8 @@ use Rattle.ec_cluster_frames.proofs.Resting.{of_operation}
 use Rattle.ec_code.specs.declared.activation.CodeActivation.{CodeActivation}
 use Rattle.ec_code.specs.declared.code.Parts.{Parts}
 use Rattle.ec_node_frames.specs.Frames.{RestsAt}
-use Rattle.ec_stop_tables.specs.declared.table.StopEntry.{StopEntry}
-use Rattle.ec_wire_limits.specs.Limits.{CarriesFew}
+use Rattle.ec_generate.specs.declared.table.StopEntry.{StopEntry}
+use Rattle.ec_generate.specs.Limits.{CarriesFew}
 
 few_carried : (e : StopEntry) (pending : Bool) → length e.operands + length e.live ≤ 100 → length (carried e pending) ≤ 100
 few_carried e true few = let all = length-append e.operands e.live in omega (arith, all, few)

@@ -16,7 +16,7 @@ use Rattle.ec_needs.specs.Lacks.{HasRoomForAll}
 use Rattle.ec_node_frames.specs.Frames.{RestsAt}
 use Rattle.ec_world.specs.Held.{Distinct}
 use Rattle.ec_world.specs.Things.{activation_at}
-use Rattle.ec_stop_tables.specs.declared.table.StopEntry.{StopEntry}
+use Rattle.ec_generate.specs.declared.table.StopEntry.{StopEntry}
 use Rattle.ec_system.specs.Systems.{Steady, Strings}
 use Rattle.ec_things.specs.Store.{Store}
 use Rattle.ec_wire.specs.declared.parcel.Contents.{Contents}

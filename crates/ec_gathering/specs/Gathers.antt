@@ -15,7 +15,7 @@ use Rattle.ec_mover.specs.Classes.{ClassTable}
 use Rattle.ec_world.specs.declared.room.Lack.{Lack}
 use Rattle.ec_system.specs.Systems.{Mirrors, Runs, Strings}
 use Rattle.ec_system.specs.declared.system.System.{System}
-use Rattle.ec_wire_limits.specs.Limits.{CarriesFew}
+use Rattle.ec_generate.specs.Limits.{CarriesFew}
 use Rattle.ec_world.specs.Group.{Has, IsRising}
 use Rattle.ec_world.specs.Objects.{object_at}
 use Rattle.ec_world.specs.Outcomes.{gone}

@@ -20,7 +20,7 @@ use Rattle.ec_node_frames.specs.Frames.{RestsAt}
 use Rattle.ec_resting.proofs.Operands.{held_for_it}
 use Rattle.ec_resting.specs.Laws.{its_entry}
 use Rattle.ec_code.specs.Sound.{SoundPending}
-use Rattle.ec_stop_tables.specs.declared.table.StopEntry.{StopEntry}
+use Rattle.ec_generate.specs.declared.table.StopEntry.{StopEntry}
 use Rattle.ec_world.proofs.Members.{has_either, has_later}
 use Rattle.ec_world.specs.Group.{Has}
 use Rattle.ec_world.specs.declared.object.ObjectRec.{ObjectRec}

@@ -25,7 +25,7 @@ use Rattle.ec_world.specs.declared.key.Key.TheVariants.{Frame, Object}
 use Rattle.ec_parcels.proofs.Rising.{get_mapped, map_get}
 use Rattle.ec_parcels.specs.Owners.{blocks_if, blocks_in, frame_keys, keys_of, object_blocks, object_keys, values_in}
 use Rattle.ec_parcels.specs.Parcels.{Packs}
-use Rattle.ec_stop_tables.specs.declared.table.StopEntry.{StopEntry}
+use Rattle.ec_generate.specs.declared.table.StopEntry.{StopEntry}
 use Rattle.ec_things.specs.Things.{Thing, frame_if, object_if, object_thing, size_of, things_of}
 use Rattle.ec_wire.specs.declared.parcel.ActivationPart.{ActivationPart}
 use Rattle.ec_wire.specs.declared.parcel.Contents.{Contents}

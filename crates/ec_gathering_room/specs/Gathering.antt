@@ -9,7 +9,7 @@ use Rattle.ec_node_frames.specs.Frames.{RestsAt}
 use Rattle.ec_world.specs.Held.{Distinct}
 use Rattle.ec_world.specs.Things.{activation_at}
 use Rattle.ec_parcels.specs.Parcels.{Packs}
-use Rattle.ec_stop_tables.specs.declared.table.StopEntry.{StopEntry}
+use Rattle.ec_generate.specs.declared.table.StopEntry.{StopEntry}
 use Rattle.ec_wire.specs.WireForm.{KeepsRules}
 use Rattle.ec_wire.specs.declared.parcel.Contents.{Contents}
 use Rattle.ec_world.specs.Group.{Has, is_in}

@@ -18,10 +18,10 @@ use Rattle.ec_machine_code.specs.declared.homes.Home.{Home}
 use Rattle.ec_code.specs.Live.{reads, writes}
 use Rattle.ec_machine_code.specs.Fitting.{HomesFit, IsNamedBy}
 use Rattle.ec_machine_code.specs.Layout.{home_of, home_or}
-use Rattle.ec_stop_tables.proofs.Homed.{has_home, has_in, homes_apart}
-use Rattle.ec_stop_tables.proofs.Listing.{all_at}
-use Rattle.ec_stop_tables.specs.Tables.{AreTablesOf, IsTableOf, all_homes}
-use Rattle.ec_stop_tables.specs.declared.table.OperationTable.{OperationTable}
+use Rattle.ec_generate.proofs.Homed.{has_home, has_in, homes_apart}
+use Rattle.ec_generate.proofs.Listing.{all_at}
+use Rattle.ec_generate.specs.Tables.{AreTablesOf, IsTableOf, all_homes}
+use Rattle.ec_generate.specs.declared.table.OperationTable.{OperationTable}
 use Rattle.ec_world.specs.Agree.{AllTwo}
 
 -- the homes of an operation's table

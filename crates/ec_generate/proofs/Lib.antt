@@ -6,3 +6,8 @@ pub mod Endings
 pub mod Led
 pub mod Placed
 pub mod Fit
+pub mod Noting
+pub mod Listing
+pub mod Homed
+pub mod Few
+pub mod LaidOut

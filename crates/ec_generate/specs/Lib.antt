@@ -1,2 +1,7 @@
 pub mod Puts
 pub mod Sites
+pub mod Addresses
+pub mod Entries
+pub mod Tables
+pub mod Fits
+pub mod Limits

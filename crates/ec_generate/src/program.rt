@@ -7,7 +7,7 @@ ghost use Rattle.ec_machine_code.specs.Limits.{HasLimits};
 ghost use Rattle.ec_machine_code.specs.Frames.{slots};
 ghost use Rattle.ec_machine_code.specs.Fitting.{HomesFit};
 ghost use Rattle.ec_machine_code.specs.Layout.{HasRoom, code_of};
-ghost use Rattle.ec_stop_tables.specs.Tables.{AreTablesOf, all_homes};
+ghost use Rattle.ec_generate.specs.Tables.{AreTablesOf, all_homes};
 
 use crate::direct::led_to;
 use crate::kind::Kind;
@@ -18,7 +18,7 @@ use ec_base::list::Seq;
 use ec_code::code::{Operation, Parts};
 use ec_machine_code::code::Code;
 use ec_machine_code::homes::Home;
-use ec_stop_tables::table::StopTable;
+use crate::table::StopTable;
 use std::alloc::{AllocError, Global};
 
 /// An operation with the places to which its steps lead and the homes of its variables.

@@ -22,7 +22,7 @@ use Rattle.ec_code.proofs.Carried.{IsThere, all_two_length, each_object}
 use Rattle.ec_code.proofs.Carried as carried
 use Rattle.ec_code.specs.Sound.{FineFields, FineObject, SoundWorld}
 use Rattle.ec_code.specs.SoundValues.{HasType}
-use Rattle.ec_stop_tables.proofs.Listing.{all_at}
+use Rattle.ec_generate.proofs.Listing.{all_at}
 use Rattle.ec_things.specs.Store.{Store}
 use Rattle.ec_things.specs.Things.{ShownAt, frame_if, object_if, object_thing, things_of}
 use Rattle.ec_world.specs.Objects.{object_at}

@@ -21,7 +21,7 @@ use Rattle.ec_placing.specs.Places.{HasPlaces}
 use Rattle.ec_system.specs.Acting.{Asks}
 use Rattle.ec_system.specs.Systems.{Runs, Strings}
 use Rattle.ec_system.specs.declared.system.System.{System}
-use Rattle.ec_wire_limits.specs.Limits.{CarriesFew}
+use Rattle.ec_generate.specs.Limits.{CarriesFew}
 use Rattle.ec_world.specs.World.{Action}
 use Rattle.ec_world.specs.declared.doing.Doing.{Doing}
 use Rattle.ec_world.specs.declared.stop.Who.{Who}

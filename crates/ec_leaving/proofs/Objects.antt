@@ -11,7 +11,7 @@ use Rattle.ec_monitors.specs.declared.record.Entry.{Entry as Within}
 use Rattle.ec_monitors.specs.declared.record.Granted.{Granted}
 use Rattle.ec_monitors.specs.declared.record.MonitorRec.{MonitorRec}
 use Rattle.ec_code.proofs.Carried.{each_append, each_changed, each_object}
-use Rattle.ec_wire_limits.specs.Limits.{FewConditionsIn}
+use Rattle.ec_generate.specs.Limits.{FewConditionsIn}
 use Rattle.ec_world.specs.Doings.{Asked, doing_of, is_node}
 use Rattle.ec_world.specs.Objects.{changed_object, class_at, element_kind, is_node_class, object_at}
 use Rattle.ec_world.specs.Outcomes.{Acted, Done, acted_if, acting, at_condition, by_holder, done, dropped_at, dropped_each, dropped_if}

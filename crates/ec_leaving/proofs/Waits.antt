@@ -14,8 +14,8 @@ use Rattle.ec_leaving.specs.Between.{StillWaits}
 use Rattle.ec_resting.proofs.Entries.{rests_at_an_entry}
 use Rattle.ec_resting.specs.Laws.{its_entry}
 use Rattle.ec_code.specs.Sound.{RestsAt}
-use Rattle.ec_stop_tables.specs.Entries.{result_of}
-use Rattle.ec_stop_tables.specs.declared.table.StopEntry.{StopEntry}
+use Rattle.ec_generate.specs.Entries.{result_of}
+use Rattle.ec_generate.specs.declared.table.StopEntry.{StopEntry}
 use Rattle.ec_world.specs.declared.object.ObjectRec.{ObjectRec}
 use Rattle.ec_world.specs.declared.value.Value.{Value}
 

@@ -17,7 +17,7 @@ use Rattle.ec_loading.specs.Worlds.{world_first}
 use Rattle.ec_monitors.specs.declared.record.MonitorRec.{MonitorRec}
 use Rattle.ec_code.proofs.Carried.{each_append, each_object, each_replicate}
 use Rattle.ec_code.specs.Sound.{SoundWorld}
-use Rattle.ec_wire_limits.specs.Limits.{FewConditions, FewConditionsIn}
+use Rattle.ec_generate.specs.Limits.{FewConditions, FewConditionsIn}
 use Rattle.ec_world.specs.Moves.{OperatorMove, is_idle_move, moved_unless}
 use Rattle.ec_world.specs.Objects.{object_at}
 use Rattle.ec_world.specs.Outcomes.{Acted, with_element}

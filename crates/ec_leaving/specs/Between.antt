@@ -10,7 +10,7 @@ use Rattle.ec_code.specs.declared.code.Parts.{Parts}
 use Rattle.ec_monitors.specs.Laws.{HasDepths}
 use Rattle.ec_monitors.specs.declared.record.MonitorRec.{MonitorRec}
 use Rattle.ec_node_frames.specs.Frames.{RestsAt}
-use Rattle.ec_stop_tables.specs.declared.table.StopEntry.{StopEntry}
+use Rattle.ec_generate.specs.declared.table.StopEntry.{StopEntry}
 use Rattle.ec_world.specs.Objects.{object_at}
 use Rattle.ec_world.specs.declared.class.ClassNo.TheVariants.{Node}
 use Rattle.ec_world.specs.declared.object.ObjectRec.{ObjectRec}

@@ -35,11 +35,11 @@ use Rattle.ec_machine_code.proofs.FineAt.{fine_at}
 use Rattle.ec_world.specs.Words.{StandsFor}
 use Rattle.ec_world.specs.Things.{blocks_of, class_blocks}
 use Rattle.ec_world.specs.declared.key.Key.TheVariants.{Frame, Object}
-use Rattle.ec_stop_tables.specs.Entries.{entries_of}
-use Rattle.ec_stop_tables.specs.Tables.{AreTablesOf, IsTableOf, all_homes}
-use Rattle.ec_stop_tables.specs.declared.table.OperationTable.{OperationTable}
-use Rattle.ec_stop_tables.specs.declared.table.StopEntry.{StopEntry}
-use Rattle.ec_stop_tables.specs.declared.table.StopTable.{StopTable}
+use Rattle.ec_generate.specs.Entries.{entries_of}
+use Rattle.ec_generate.specs.Tables.{AreTablesOf, IsTableOf, all_homes}
+use Rattle.ec_generate.specs.declared.table.OperationTable.{OperationTable}
+use Rattle.ec_generate.specs.declared.table.StopEntry.{StopEntry}
+use Rattle.ec_generate.specs.declared.table.StopTable.{StopTable}
 use Rattle.ec_stores.specs.Changes.{FirstBlock, WordIs}
 use Rattle.ec_stores.specs.Memory.{number_of}
 use Rattle.ec_stores.specs.Readable.{IsSmall, StandsIn}

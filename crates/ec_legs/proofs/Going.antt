@@ -11,9 +11,9 @@ use Rattle.ec_machine_code.specs.Stops.{address_of}
 use Rattle.ec_machine_code.specs.declared.code.Code.{Code}
 use Rattle.ec_machine_code.specs.declared.homes.Home.{Home}
 use Rattle.ec_world.specs.declared.key.Key.TheVariants.{Frame, Object}
-use Rattle.ec_stop_tables.specs.Addresses.{address_in}
-use Rattle.ec_stop_tables.specs.Tables.{all_homes}
-use Rattle.ec_stop_tables.specs.declared.table.StopTable.{StopTable}
+use Rattle.ec_generate.specs.Addresses.{address_in}
+use Rattle.ec_generate.specs.Tables.{all_homes}
+use Rattle.ec_generate.specs.declared.table.StopTable.{StopTable}
 use Rattle.ec_stores.specs.Changes.{HasBlock, Ran, WordIs}
 use Rattle.ec_stores.specs.Memory.{number_of}
 use Rattle.ec_stores.specs.Readable.{IsSmall, StandsIn}

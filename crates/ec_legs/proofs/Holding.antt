@@ -20,8 +20,8 @@ use Rattle.ec_types.specs.declared.conform.static_type.StaticType.{StaticType}
 use Rattle.ec_machine_code.specs.Stops.{without}
 use Rattle.ec_code.specs.Live.{stays}
 use Rattle.ec_code.specs.Marks.{is_same, is_written}
-use Rattle.ec_stop_tables.specs.Entries.{result_of, typed}
-use Rattle.ec_stop_tables.specs.declared.table.StopEntry.{StopEntry}
+use Rattle.ec_generate.specs.Entries.{result_of, typed}
+use Rattle.ec_generate.specs.declared.table.StopEntry.{StopEntry}
 use Rattle.ec_world.specs.Group.{Has}
 use Rattle.ec_world.specs.declared.stop.Stop.{Stop}
 use Rattle.ec_world.specs.declared.stop.Stop.TheVariants as stop

@@ -31,10 +31,10 @@ use Rattle.ec_world.specs.Words.{StandsFor}
 use Rattle.ec_world.specs.Things.{class_blocks}
 use Rattle.ec_world.specs.declared.key.Key.{Key}
 use Rattle.ec_world.specs.declared.key.Key.TheVariants.{Frame, Object}
-use Rattle.ec_stop_tables.specs.Entries.{entries_of}
-use Rattle.ec_stop_tables.specs.Tables.{all_homes}
-use Rattle.ec_stop_tables.specs.declared.table.StopEntry.{StopEntry}
-use Rattle.ec_stop_tables.specs.declared.table.StopTable.{StopTable}
+use Rattle.ec_generate.specs.Entries.{entries_of}
+use Rattle.ec_generate.specs.Tables.{all_homes}
+use Rattle.ec_generate.specs.declared.table.StopEntry.{StopEntry}
+use Rattle.ec_generate.specs.declared.table.StopTable.{StopTable}
 use Rattle.ec_stores.specs.Changes.{Ran, WordIs}
 use Rattle.ec_stores.specs.Memory.{number_of}
 use Rattle.ec_stores.specs.Readable.{IsSmall, StandsIn}

@@ -3,7 +3,7 @@ use Rattle.std.proofs.Common.{◌≡◌, ◌≢◌, ℕ, ◌+◌, ◌<◌, ◌�
 use Rattle.ec_machine_code.specs.Frames.{block_at, first_saved}
 use Rattle.ec_machine_code.specs.Machine.{MachineMeaning}
 use Rattle.ec_world.specs.declared.key.Key.TheVariants.{Frame, Object}
-use Rattle.ec_stop_tables.specs.Addresses.{address_in}
+use Rattle.ec_generate.specs.Addresses.{address_in}
 use Rattle.ec_stores.specs.Changes.{FirstBlock, WordIs, WritesWord}
 use Rattle.ec_target.specs.Runs.{Going, SetsPlace, SetsRegister, Standing}
 use Rattle.ec_things.proofs.Put.{same_or_not}

@@ -8,7 +8,7 @@ use Rattle.ec_code.specs.declared.code.Line.{Line}
 use Rattle.ec_code.specs.declared.code.StopRow.{StopRow}
 use Rattle.ec_machine_code.specs.Stops.{places_from, stop_of, with_place}
 use Rattle.ec_machine_code.proofs.Stops.{numbered}
-use Rattle.ec_stop_tables.specs.Entries.{entries_from, entry_of, with_entry}
+use Rattle.ec_generate.specs.Entries.{entries_from, entry_of, with_entry}
 
 -- the number of a stop, behind so many others, is that of its place
 abbrev pub HasNumber : List Line → ℕ → ℕ → ℕ → ℕ → Type 0

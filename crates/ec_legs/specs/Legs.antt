@@ -24,9 +24,9 @@ use Rattle.ec_machine_code.specs.Speaks.{words_end}
 use Rattle.ec_world.specs.Things.{blocks_of}
 use Rattle.ec_world.specs.declared.key.Key.{Key}
 use Rattle.ec_world.specs.declared.key.Key.TheVariants.{Frame, Object}
-use Rattle.ec_stop_tables.specs.Addresses.{address_in}
-use Rattle.ec_stop_tables.specs.Tables.{AreTablesOf, all_homes}
-use Rattle.ec_stop_tables.specs.declared.table.StopTable.{StopTable}
+use Rattle.ec_generate.specs.Addresses.{address_in}
+use Rattle.ec_generate.specs.Tables.{AreTablesOf, all_homes}
+use Rattle.ec_generate.specs.declared.table.StopTable.{StopTable}
 use Rattle.ec_things.specs.Shows.{GlobalStands}
 use Rattle.ec_things.specs.Store.{KeptRow, Store, Tidy}
 use Rattle.ec_things.specs.Things.{Shown, object_thing}

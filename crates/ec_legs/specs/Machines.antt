@@ -3,7 +3,7 @@ use Rattle.std.specs.Prelude.{◌≡◌, ◌≢◌, ℕ, ◌+◌, ◌<◌, ◌^�
 use Rattle.ec_machine_code.specs.Frames.{block_at, first_saved}
 use Rattle.ec_machine_code.specs.Machine.{MachineMeaning}
 use Rattle.ec_world.specs.declared.key.Key.TheVariants.{Frame, Object}
-use Rattle.ec_stop_tables.specs.Addresses.{address_in}
+use Rattle.ec_generate.specs.Addresses.{address_in}
 use Rattle.ec_stores.specs.Changes.{FirstBlock, HasBlock, WordIs}
 use Rattle.ec_things.specs.Store.{Store}
 use Rattle.ec_legs.specs.Words.{KeepsWords}

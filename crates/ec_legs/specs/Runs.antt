@@ -2,7 +2,7 @@
 use Rattle.std.specs.Prelude.{ℕ, List}
 use Rattle.ec_machine_code.specs.Machine.{MachineMeaning}
 use Rattle.ec_machine_code.specs.declared.code.Code.{Code}
-use Rattle.ec_stop_tables.specs.declared.table.StopTable.{StopTable}
+use Rattle.ec_generate.specs.declared.table.StopTable.{StopTable}
 use Rattle.ec_stores.specs.Changes.{Ran}
 use Rattle.ec_stores.specs.Node.{NodeData, bytes_in, store_of}
 use Rattle.ec_target.specs.Runs.{Going, Native, Standing}

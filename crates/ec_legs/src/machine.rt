@@ -4,12 +4,12 @@ ghost use Rattle.ec_machine_code.specs.Frames.{block_at};
 ghost use Rattle.ec_legs.specs.Machines.{IsBehindStop, IsSetUp, NamesObject, NamesStop, Restores, RestsWhere, Saves};
 ghost use Rattle.ec_legs.specs.Words.{IsFrame};
 ghost use Rattle.ec_world.specs.declared.key.Key.TheVariants.{Object as OfObject};
-ghost use Rattle.ec_stop_tables.specs.Addresses.{address_in};
+ghost use Rattle.ec_generate.specs.Addresses.{address_in};
 ghost use Rattle.ec_stores.specs.Changes.{HasBlock};
 ghost use Rattle.ec_stores.specs.Node.{store_of};
 
 use crate::kind::NativeKind;
-use ec_stop_tables::table::{StopId, StopTable};
+use ec_generate::table::{StopId, StopTable};
 use ec_stores::node::NodeStore;
 use ec_target::machine::Machine;
 use ec_world::value::{Oid, Pid};

@@ -19,7 +19,7 @@ use Rattle.ec_loading.specs.Loading.{IsSet}
 use Rattle.ec_loading.specs.Worlds.{first_process, with_first}
 use Rattle.ec_node_frames.specs.Beginning.{BeginsFrame, first_values}
 use Rattle.ec_world.specs.declared.key.Key.TheVariants.{Frame}
-use Rattle.ec_stop_tables.specs.declared.table.OperationTable.{OperationTable}
+use Rattle.ec_generate.specs.declared.table.OperationTable.{OperationTable}
 use Rattle.ec_stores.specs.Node.{NodeData, store_of}
 use Rattle.ec_things.specs.Texts.{GetsTexts}
 use Rattle.ec_things.specs.Things.{Puts}

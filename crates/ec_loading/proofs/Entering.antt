@@ -17,10 +17,10 @@ use Rattle.ec_loading.proofs.Making.{fit_none}
 use Rattle.ec_node_frames.specs.Beginning.{HasEntry, first_held, first_value, first_values}
 use Rattle.ec_node_frames.specs.Frames.{HasTables}
 use Rattle.ec_objects.specs.Values.{TextsFit}
-use Rattle.ec_stop_tables.specs.Entries.{entries_from, entries_of, entry_of, with_entry}
-use Rattle.ec_stop_tables.specs.Tables.{IsTableOf}
-use Rattle.ec_stop_tables.specs.declared.table.OperationTable.{OperationTable}
-use Rattle.ec_stop_tables.specs.declared.table.StopEntry.{StopEntry}
+use Rattle.ec_generate.specs.Entries.{entries_from, entries_of, entry_of, with_entry}
+use Rattle.ec_generate.specs.Tables.{IsTableOf}
+use Rattle.ec_generate.specs.declared.table.OperationTable.{OperationTable}
+use Rattle.ec_generate.specs.declared.table.StopEntry.{StopEntry}
 use Rattle.ec_things.specs.Store.{Store}
 use Rattle.ec_world.specs.Group.{Has}
 use Rattle.ec_world.specs.declared.node.Kind.{Kind}

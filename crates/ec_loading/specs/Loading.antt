@@ -20,7 +20,7 @@ use Rattle.ec_world.specs.Things.{class_blocks}
 use Rattle.ec_world.specs.declared.key.Key.TheVariants.{Frame, Object}
 use Rattle.ec_world.specs.declared.room.Lack.{Lack}
 use Rattle.ec_world.specs.declared.room.Needs.{Needs}
-use Rattle.ec_stop_tables.specs.declared.table.OperationTable.{OperationTable}
+use Rattle.ec_generate.specs.declared.table.OperationTable.{OperationTable}
 use Rattle.ec_things.specs.Held.{Held}
 use Rattle.ec_things.specs.Store.{Store}
 use Rattle.ec_world.specs.Group.{Has}

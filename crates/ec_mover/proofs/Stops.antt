@@ -18,9 +18,9 @@ use Rattle.ec_mover.specs.Activations.{HasStop, Leaves, activation_part_of, head
 use Rattle.ec_node_frames.specs.Frames.{AreHeadings, HasTables}
 use Rattle.ec_node_frames.specs.declared.frames.Headings.{Headings}
 use Rattle.ec_objects.specs.Kinds.{IsOfKind}
-use Rattle.ec_stop_tables.specs.Tables.{IsTableOf}
-use Rattle.ec_stop_tables.specs.declared.table.OperationTable.{OperationTable}
-use Rattle.ec_stop_tables.specs.declared.table.StopEntry.{StopEntry}
+use Rattle.ec_generate.specs.Tables.{IsTableOf}
+use Rattle.ec_generate.specs.declared.table.OperationTable.{OperationTable}
+use Rattle.ec_generate.specs.declared.table.StopEntry.{StopEntry}
 use Rattle.ec_things.specs.Store.{Store}
 use Rattle.ec_world.specs.declared.node.Kind.{Kind}
 

@@ -11,8 +11,8 @@ use Rattle.ec_node_frames.specs.Frames.{HasTables}
 use Rattle.ec_node_frames.specs.declared.frames.Headings.{Headings}
 use Rattle.ec_world.specs.declared.key.Key.TheVariants.{Frame}
 use Rattle.ec_objects.specs.Kinds.{IsOfKind}
-use Rattle.ec_stop_tables.specs.declared.table.OperationTable.{OperationTable}
-use Rattle.ec_stop_tables.specs.declared.table.StopEntry.{StopEntry}
+use Rattle.ec_generate.specs.declared.table.OperationTable.{OperationTable}
+use Rattle.ec_generate.specs.declared.table.StopEntry.{StopEntry}
 use Rattle.ec_things.specs.Store.{Store}
 use Rattle.ec_things.specs.Things.{Shown}
 use Rattle.ec_wire.specs.declared.parcel.ActivationPart.{ActivationPart}

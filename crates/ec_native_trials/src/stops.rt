@@ -2,7 +2,7 @@
 use ec_code::code::{Op, Operation, Parts, StopRow};
 use ec_compile::compile::Compiled;
 use ec_machine_code::homes::Home;
-use ec_stop_tables::table::StopId;
+use ec_generate::table::StopId;
 use ec_world::stop::Stop;
 
 /// The address of the entry of the first operation that has a loop.

@@ -22,8 +22,8 @@ use Rattle.ec_code.proofs.Among.{is_same_self}
 use Rattle.ec_code.specs.Live.{stays}
 use Rattle.ec_code.specs.Marks.{is_same, is_written}
 use Rattle.ec_node_frames.specs.Frames.{RestsAt}
-use Rattle.ec_stop_tables.proofs.Listing.{all_at}
-use Rattle.ec_stop_tables.specs.declared.table.StopEntry.{StopEntry}
+use Rattle.ec_generate.proofs.Listing.{all_at}
+use Rattle.ec_generate.specs.declared.table.StopEntry.{StopEntry}
 
 module _ (d : Declared) (p : Parts) (fine : Fine d p) (limits : HasLimits p) (a : CodeActivation) (o : Operation)
     (is : operation_at p a.operation ≡ Some o) (e : StopEntry) (rests : RestsAt p a e) (l : Live) (result : e.result ≡ Some l) where

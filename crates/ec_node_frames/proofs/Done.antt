@@ -17,8 +17,8 @@ use Rattle.ec_node_frames.proofs.Rewriting.{IsDone, IsThere, held_now, live_stoo
 use Rattle.ec_node_frames.specs.Finishing.{FinishesFrame}
 use Rattle.ec_node_frames.specs.Frames.{RestsAt}
 use Rattle.ec_world.specs.declared.key.Key.TheVariants.{Frame}
-use Rattle.ec_stop_tables.specs.declared.table.OperationTable.{OperationTable}
-use Rattle.ec_stop_tables.specs.declared.table.StopEntry.{StopEntry}
+use Rattle.ec_generate.specs.declared.table.OperationTable.{OperationTable}
+use Rattle.ec_generate.specs.declared.table.StopEntry.{StopEntry}
 use Rattle.ec_stores.specs.Changes.{WritesWord}
 use Rattle.ec_things.specs.Store.{StandsAt, Store, Tidy, word_of}
 use Rattle.ec_things.specs.Things.{Puts, Shown}

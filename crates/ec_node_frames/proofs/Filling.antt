@@ -8,8 +8,8 @@ use Rattle.ec_node_frames.proofs.Homed.{behind_eight}
 use Rattle.ec_node_frames.proofs.Items.{get_front}
 use Rattle.ec_node_frames.specs.Loops.{IsFilled, spot_of}
 use Rattle.ec_objects.proofs.Wording.{take_all}
-use Rattle.ec_stop_tables.specs.Tables.{home_in}
-use Rattle.ec_stop_tables.specs.declared.table.OperationTable.{OperationTable}
+use Rattle.ec_generate.specs.Tables.{home_in}
+use Rattle.ec_generate.specs.declared.table.OperationTable.{OperationTable}
 use Rattle.ec_things.proofs.Put.{same_or_not}
 
 -- what stands at the head of a list stands there when it is made longer

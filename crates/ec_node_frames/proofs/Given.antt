@@ -27,9 +27,9 @@ use Rattle.ec_node_frames.specs.Finishing.{FinishesFrame, Gives, IsTaken, RestsH
 use Rattle.ec_world.specs.declared.key.Key.TheVariants.{Frame}
 use Rattle.ec_objects.proofs.Gets.{gets_on, gets_word}
 use Rattle.ec_objects.specs.Values.{HasWord}
-use Rattle.ec_stop_tables.specs.Tables.{home_in}
-use Rattle.ec_stop_tables.specs.declared.table.OperationTable.{OperationTable}
-use Rattle.ec_stop_tables.specs.declared.table.StopEntry.{StopEntry}
+use Rattle.ec_generate.specs.Tables.{home_in}
+use Rattle.ec_generate.specs.declared.table.OperationTable.{OperationTable}
+use Rattle.ec_generate.specs.declared.table.StopEntry.{StopEntry}
 use Rattle.ec_stores.proofs.Putting.{rest_grown}
 use Rattle.ec_stores.specs.Changes.{WritesWord}
 use Rattle.ec_things.proofs.Kept.{carries_of, stands_kept}

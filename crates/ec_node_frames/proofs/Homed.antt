@@ -17,9 +17,9 @@ use Rattle.ec_machine_code.specs.Homes.{IsWithin, column}
 use Rattle.ec_machine_code.specs.declared.homes.Home.{Home}
 use Rattle.ec_machine_code.specs.declared.homes.Home.TheVariants.{Register, Slot}
 use Rattle.ec_node_frames.specs.Frames.{HasTables}
-use Rattle.ec_stop_tables.proofs.Homed.{has_home}
-use Rattle.ec_stop_tables.specs.Tables.{IsTableOf, all_homes, home_in, or_first}
-use Rattle.ec_stop_tables.specs.declared.table.OperationTable.{OperationTable}
+use Rattle.ec_generate.proofs.Homed.{has_home}
+use Rattle.ec_generate.specs.Tables.{IsTableOf, all_homes, home_in, or_first}
+use Rattle.ec_generate.specs.declared.table.OperationTable.{OperationTable}
 use Rattle.ec_world.specs.Agree.{AllTwo}
 use Rattle.ec_world.specs.declared.node.Kind.{Kind}
 

@@ -18,8 +18,8 @@ use Rattle.ec_world.specs.declared.key.Key.TheVariants.{Frame}
 use Rattle.ec_objects.proofs.Reading.{read_back}
 use Rattle.ec_objects.proofs.Wording.{take_all}
 use Rattle.ec_objects.specs.Values.{value_of}
-use Rattle.ec_stop_tables.specs.declared.table.OperationTable.{OperationTable}
-use Rattle.ec_stop_tables.specs.declared.table.StopEntry.{StopEntry}
+use Rattle.ec_generate.specs.declared.table.OperationTable.{OperationTable}
+use Rattle.ec_generate.specs.declared.table.StopEntry.{StopEntry}
 use Rattle.ec_stores.specs.Changes.{WordIs}
 use Rattle.ec_things.specs.Store.{Owned, Stands, StandsAt, Store, Tidy, word_of}
 use Rattle.ec_world.specs.declared.node.Kind.{Kind}

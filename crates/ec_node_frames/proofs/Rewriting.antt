@@ -15,7 +15,7 @@ use Rattle.ec_node_frames.proofs.Changes.{Rewritten, word_within}
 use Rattle.ec_node_frames.proofs.Items.{get_behind, get_map}
 use Rattle.ec_node_frames.specs.Frames.{RestsAt}
 use Rattle.ec_world.specs.declared.key.Key.TheVariants.{Frame}
-use Rattle.ec_stop_tables.specs.declared.table.StopEntry.{StopEntry}
+use Rattle.ec_generate.specs.declared.table.StopEntry.{StopEntry}
 use Rattle.ec_things.proofs.Kept.{carries_of, stands_kept}
 use Rattle.ec_things.specs.Store.{StandsAt, Store, Tidy, word_of}
 use Rattle.ec_things.specs.Things.{Puts, Shown, row_size}

@@ -8,7 +8,7 @@ use Rattle.ec_code.specs.declared.code.Variable.{Variable}
 use Rattle.ec_code.specs.declared.code.Variable.TheVariants.{Named, Temporary}
 use Rattle.ec_node_frames.specs.Beginning.{first_held, first_value, first_values}
 use Rattle.ec_objects.specs.Values.{TextsFit}
-use Rattle.ec_stop_tables.specs.declared.table.OperationTable.{OperationTable}
+use Rattle.ec_generate.specs.declared.table.OperationTable.{OperationTable}
 use Rattle.ec_things.specs.Store.{Store}
 use Rattle.ec_world.specs.Group.{Has}
 use Rattle.ec_world.specs.declared.value.Value.{Value}

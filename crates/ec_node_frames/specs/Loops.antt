@@ -2,8 +2,8 @@
 use Rattle.std.specs.Prelude.{◌≡◌, ℕ, suc, ◌<◌, List, length, Some, slice_get}
 use Rattle.ec_code.specs.declared.code.Live.{Live}
 use Rattle.ec_machine_code.specs.Frames.{home_word}
-use Rattle.ec_stop_tables.specs.Tables.{home_in}
-use Rattle.ec_stop_tables.specs.declared.table.OperationTable.{OperationTable}
+use Rattle.ec_generate.specs.Tables.{home_in}
+use Rattle.ec_generate.specs.declared.table.OperationTable.{OperationTable}
 
 -- the word of a frame that a variable has by a table
 abbrev pub spot_of : OperationTable → Live → ℕ

@@ -5,7 +5,7 @@ ghost use Rattle.ec_node_frames.specs.Finishing.{FinishesFrame, Gives, HasRoomIn
 ghost use Rattle.ec_node_frames.specs.Frames.{IsFrame};
 ghost use Rattle.ec_world.specs.declared.key.Key.TheVariants.{Frame as OfFrame};
 ghost use Rattle.ec_objects.specs.Values.{HasRoom};
-ghost use Rattle.ec_stop_tables.specs.Tables.{home_in};
+ghost use Rattle.ec_generate.specs.Tables.{home_in};
 ghost use Rattle.ec_stores.specs.Changes.{SameRest, WritesWord};
 ghost use Rattle.ec_stores.specs.Node.{store_of};
 ghost use Rattle.ec_things.specs.Store.{Tidy};
@@ -14,7 +14,7 @@ ghost use Rattle.ec_things.specs.Texts.{GetsTexts};
 use crate::frames::{PENDING, home_word};
 use ec_code::code::Variable;
 use ec_objects::values::word_for;
-use ec_stop_tables::table::{OperationTable, StopEntry};
+use ec_generate::table::{OperationTable, StopEntry};
 use ec_stores::node::NodeStore;
 use ec_world::value::{Pid, Value};
 use std::alloc::AllocError;

@@ -7,7 +7,7 @@ ghost use Rattle.ec_code.specs.declared.activation.CodeActivation.{CodeActivatio
 ghost use Rattle.ec_code.specs.declared.code.Parts.{Parts};
 ghost use Rattle.ec_machine_code.specs.declared.homes.Home.{Home as HomeData};
 ghost use Rattle.ec_node_frames.specs.Operands.{ActsHere, HasOperand, HasOperands, ReadsAs};
-ghost use Rattle.ec_stop_tables.specs.declared.table.OperationTable.{OperationTable as TableData};
+ghost use Rattle.ec_generate.specs.declared.table.OperationTable.{OperationTable as TableData};
 ghost use Rattle.ec_stores.specs.Node.{store_of};
 ghost use Rattle.ec_world.specs.declared.node.Kind.{Kind as KindData};
 ghost use Rattle.ec_world.specs.declared.value.Value.{Value as ValueData};
@@ -17,7 +17,7 @@ use ec_base::list::Seq;
 use ec_code::code::Live;
 use ec_types::conform::static_type::{Plain, StaticType};
 use ec_objects::values::value_of;
-use ec_stop_tables::table::{OperationTable, StopEntry};
+use ec_generate::table::{OperationTable, StopEntry};
 use ec_stores::node::NodeStore;
 use ec_world::value::{Pid, Value, ValueType, Values};
 use std::alloc::{AllocError, Global};

@@ -9,7 +9,7 @@ use ec_base::list::Seq;
 use ec_code::code::{Live, Variable};
 use ec_types::conform::static_type::{Plain, StaticType};
 use ec_machine_code::homes::Home;
-use ec_stop_tables::table::{OperationTable, StopEntry};
+use ec_generate::table::{OperationTable, StopEntry};
 use ec_stores::node::NodeStore;
 use ec_world::node::Kind;
 use ec_world::value::Value;

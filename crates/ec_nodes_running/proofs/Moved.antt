@@ -35,7 +35,7 @@ use Rattle.ec_code.specs.Sound.{SoundWorld}
 use Rattle.ec_system.proofs.Pools.{strings_come}
 use Rattle.ec_system.specs.Systems.{Mirrors, Strings}
 use Rattle.ec_system.specs.declared.system.System.{System}
-use Rattle.ec_wire_limits.specs.Limits.{CarriesFew, FewConditions}
+use Rattle.ec_generate.specs.Limits.{CarriesFew, FewConditions}
 use Rattle.ec_world.specs.Doings.{any_fixed as any_seen}
 use Rattle.ec_world.proofs.Members.{object_within}
 use Rattle.ec_world.specs.Group.{Has, any_fixed, group_of, is_in}

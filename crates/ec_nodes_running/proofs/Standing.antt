@@ -22,7 +22,7 @@ use Rattle.ec_placing.proofs.Stepping.{silent_steps_keep_places}
 use Rattle.ec_code.specs.Code.{SmallProgram}
 use Rattle.ec_system.specs.Systems.{Mirrors}
 use Rattle.ec_system.specs.declared.system.System.{System}
-use Rattle.ec_wire_limits.specs.Limits.{CarriesFew, FewConditions}
+use Rattle.ec_generate.specs.Limits.{CarriesFew, FewConditions}
 use Rattle.ec_world.specs.World.{Action}
 
 -- where texts come, each that was there keeps its place

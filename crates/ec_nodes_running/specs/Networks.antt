@@ -21,7 +21,7 @@ use Rattle.ec_nodes_running.specs.declared.turns.TurnError.TheVariants.{Full, Me
 use Rattle.ec_code.specs.Code.{SmallProgram}
 use Rattle.ec_system.specs.declared.system.System.{System}
 use Rattle.ec_things.specs.Store.{Store}
-use Rattle.ec_wire_limits.specs.Limits.{CarriesFew}
+use Rattle.ec_generate.specs.Limits.{CarriesFew}
 use Rattle.ec_world.specs.Objects.{object_at}
 use Rattle.ec_world.specs.Sights.{class_of}
 use Rattle.ec_world.specs.declared.class.ClassNo.{ClassNo}

@@ -10,7 +10,7 @@ use Rattle.ec_leaving.specs.Between.{IsBetween}
 use Rattle.ec_mover.specs.Classes.{ClassTable}
 use Rattle.ec_code.specs.Code.{SmallProgram}
 use Rattle.ec_system.specs.declared.system.System.{System}
-use Rattle.ec_wire_limits.specs.Limits.{CarriesFew, FewConditions}
+use Rattle.ec_generate.specs.Limits.{CarriesFew, FewConditions}
 
 -- The images of the nodes are the code of the program, its literals are at their places, its literals and numbers are in range, its
 -- operations are of classes or of the program, and its activations and monitors have a spelling on the wire.

@@ -12,7 +12,7 @@ use ec_loading::load as loading;
 use ec_loading::load::LoadError;
 use ec_mover::classes::ClassNumbers;
 use ec_system::system::System;
-use ec_wire_limits::conditions::look_at_conditions;
+use ec_generate::conditions::look_at_conditions;
 use ec_world::class::ClassNo;
 use ec_world::node::NodeSpec;
 use ec_world::process::ProcStatus;

@@ -32,7 +32,7 @@ use Rattle.ec_packing.specs.Packing.{CanGo, activation_goes, activation_if, at_s
 use Rattle.ec_parcels.specs.Parcels.{ActivationGoes, IsOfActivation}
 use Rattle.ec_resting.proofs.Entries.{rests_at_an_entry}
 use Rattle.ec_code.specs.SoundValues.{class_in}
-use Rattle.ec_stop_tables.specs.declared.table.StopEntry.{StopEntry}
+use Rattle.ec_generate.specs.declared.table.StopEntry.{StopEntry}
 use Rattle.ec_stores.specs.Changes.{FirstBlock}
 use Rattle.ec_stores.specs.Node.{NodeData, store_of}
 use Rattle.ec_system.specs.declared.system.System.{System}

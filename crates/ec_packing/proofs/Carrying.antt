@@ -38,8 +38,8 @@ use Rattle.ec_code.proofs.Carried.{each_append, each_get, each_replicate}
 use Rattle.ec_code.specs.Sound.{Chain, LiveBehind, RestsAt, SoundDone, SoundPending, SoundProc, SoundTop}
 use Rattle.ec_code.specs.Sound.{SoundTower, SoundWaiting, TopIs, Waits}
 use Rattle.ec_code.specs.SoundValues.{AreHeld, HasType, IsOfType, held}
-use Rattle.ec_stop_tables.specs.Entries.{result_of, typed}
-use Rattle.ec_stop_tables.specs.declared.table.StopEntry.{StopEntry}
+use Rattle.ec_generate.specs.Entries.{result_of, typed}
+use Rattle.ec_generate.specs.declared.table.StopEntry.{StopEntry}
 use Rattle.ec_world.specs.Agree.{AllTwo}
 use Rattle.ec_world.specs.declared.object.ObjectRec.{ObjectRec}
 use Rattle.ec_world.specs.declared.process.Proc.{Proc}

@@ -26,8 +26,8 @@ use Rattle.ec_code.specs.Worlds.{RangedActivation, RangedProc}
 use Rattle.ec_resting.proofs.Entries.{rests_at_an_entry}
 use Rattle.ec_code.proofs.Carried.{each_get}
 use Rattle.ec_code.specs.Sound.{SoundProc}
-use Rattle.ec_stop_tables.specs.declared.table.OperationTable.{OperationTable}
-use Rattle.ec_stop_tables.specs.declared.table.StopEntry.{StopEntry}
+use Rattle.ec_generate.specs.declared.table.OperationTable.{OperationTable}
+use Rattle.ec_generate.specs.declared.table.StopEntry.{StopEntry}
 use Rattle.ec_stores.specs.Node.{NodeData, store_of}
 use Rattle.ec_system.specs.Systems.{row_of}
 use Rattle.ec_system.specs.declared.system.System.{System}

@@ -17,7 +17,7 @@ use Rattle.ec_mover.specs.Objects.{monitor_part_of, part_of}
 use Rattle.ec_node_frames.specs.Frames.{RestsAt}
 use Rattle.ec_world.specs.Things.{activation_at}
 use Rattle.ec_parcels.specs.Parcels.{ActivationGoes, ObjectGoes}
-use Rattle.ec_stop_tables.specs.declared.table.StopEntry.{StopEntry}
+use Rattle.ec_generate.specs.declared.table.StopEntry.{StopEntry}
 use Rattle.ec_system.specs.Systems.{Runs}
 use Rattle.ec_system.specs.declared.system.System.{System}
 use Rattle.ec_wire.specs.declared.parcel.ActivationPart.{ActivationPart}

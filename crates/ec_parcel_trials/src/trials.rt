@@ -13,7 +13,7 @@ use ec_code::code::{Live, Variable};
 use ec_types::conform::static_type::{Plain, StaticType};
 use ec_machine_code::homes::Home;
 use ec_mover::activations::put_activation;
-use ec_stop_tables::table::{OperationTable, StopEntry};
+use ec_generate::table::{OperationTable, StopEntry};
 use ec_stores::node::NodeStore;
 use ec_wire::parcel::ActivationPart;
 use ec_wire::read;

@@ -9,7 +9,7 @@ use Rattle.ec_mover.specs.Classes.{ClassTable, number_of}
 use Rattle.ec_mover.specs.Objects.{part_of}
 use Rattle.ec_node_frames.specs.Frames.{RestsAt}
 use Rattle.ec_world.specs.Things.{activation_at}
-use Rattle.ec_stop_tables.specs.declared.table.StopEntry.{StopEntry}
+use Rattle.ec_generate.specs.declared.table.StopEntry.{StopEntry}
 use Rattle.ec_wire.specs.declared.parcel.ActivationPart.{ActivationPart}
 use Rattle.ec_wire.specs.declared.parcel.Contents.{Contents}
 use Rattle.ec_wire.specs.declared.parcel.MonitorPart.{MonitorPart}

@@ -18,7 +18,7 @@ use Rattle.ec_code.specs.Live.{stays}
 use Rattle.ec_resting.specs.Laws.{its_entry}
 use Rattle.ec_code.specs.Sound.{RestsAt, SoundPending}
 use Rattle.ec_code.specs.SoundValues.{AreHeld, held}
-use Rattle.ec_stop_tables.specs.Entries.{result_of, typed}
+use Rattle.ec_generate.specs.Entries.{result_of, typed}
 use Rattle.ec_world.specs.declared.object.ObjectRec.{ObjectRec}
 use Rattle.ec_world.specs.declared.stop.Stop.{Stop}
 use Rattle.ec_world.specs.declared.stop.Stop.TheVariants as stop

@@ -11,8 +11,8 @@ use Rattle.ec_code.specs.declared.code.Parts.{Parts}
 use Rattle.ec_code.specs.declared.code.StopRow.{StopRow}
 use Rattle.ec_code.specs.Live.{stays}
 use Rattle.ec_code.specs.Sound.{RestsAt, SoundPending}
-use Rattle.ec_stop_tables.specs.Entries.{entry_of}
-use Rattle.ec_stop_tables.specs.declared.table.StopEntry.{StopEntry}
+use Rattle.ec_generate.specs.Entries.{entry_of}
+use Rattle.ec_generate.specs.declared.table.StopEntry.{StopEntry}
 use Rattle.ec_world.specs.declared.object.ObjectRec.{ObjectRec}
 
 -- the entry of the stop at which an activation rests

@@ -22,7 +22,7 @@ use Rattle.ec_machine_code.specs.Stops.{address_of}
 use Rattle.ec_few_values.proofs.Whole.{carries_few}
 use Rattle.ec_going.specs.Nodes.{IsCodeFor}
 use Rattle.ec_code.specs.Idle.{HasOperations, OfClasses}
-use Rattle.ec_images.specs.declared.image.Image.{Image}
+use Rattle.ec_generate.specs.declared.image.Image.{Image}
 use Rattle.ec_emission.specs.Lowered.{AreOperationsOf, IsLowered, declared_of}
 use Rattle.ec_emission_laws.proofs.Accepting.{is_lowerable}
 use Rattle.ec_emission_laws.proofs.Parts.{made_of}
@@ -32,8 +32,8 @@ use Rattle.ec_node_frames.specs.Frames.{HasTables}
 use Rattle.ec_code.specs.Code.{SmallProgram}
 use Rattle.ec_runnable.specs.Runnable.{IsRunnable}
 use Rattle.ec_emission_laws.proofs.Programs.{lowered_small}
-use Rattle.ec_stop_tables.specs.Addresses.{address_in}
-use Rattle.ec_stop_tables.specs.Tables.{AreTablesOf, all_homes}
+use Rattle.ec_generate.specs.Addresses.{address_in}
+use Rattle.ec_generate.specs.Tables.{AreTablesOf, all_homes}
 use Rattle.ec_typed_once.proofs.Lines.{typed_once}
 use Rattle.ec_world.specs.Group.{Has}
 use Rattle.ec_world.specs.declared.class.ClassNo.TheVariants.{Program}

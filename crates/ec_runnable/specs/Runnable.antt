@@ -10,7 +10,7 @@ use Rattle.ec_code.specs.Idle.{OfClasses}
 use Rattle.ec_node_frames.specs.Frames.{HasTables}
 use Rattle.ec_world.specs.Held.{Distinct}
 use Rattle.ec_code.specs.Code.{SmallProgram}
-use Rattle.ec_wire_limits.specs.Limits.{CarriesFew}
+use Rattle.ec_generate.specs.Limits.{CarriesFew}
 use Rattle.ec_world.specs.Group.{Has}
 use Rattle.ec_world.specs.declared.node.Kind.{Kind}
 

@@ -23,7 +23,7 @@ use Rattle.ec_settling.proofs.Owning.{AnswersOwn}
 use Rattle.ec_settling.proofs.Stacking.{frame_at, get_at, restack, stack_with, stacked, stacked_at}
 use Rattle.ec_settling.proofs.Wording.{strings_join, strings_moved}
 use Rattle.ec_settling.specs.Taking.{Becomes, HasActivation, TakesIn}
-use Rattle.ec_stop_tables.specs.declared.table.StopEntry.{StopEntry}
+use Rattle.ec_generate.specs.declared.table.StopEntry.{StopEntry}
 use Rattle.ec_system.proofs.Pools.{strings_come}
 use Rattle.ec_system.specs.Steps.{CanFinish, TakesBelow}
 use Rattle.ec_world.specs.World.{finish_top}

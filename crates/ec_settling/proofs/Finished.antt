@@ -13,7 +13,7 @@ use Rattle.ec_node_frames.specs.Finishing.{IsTaken}
 use Rattle.ec_world.specs.Things.{activation_at}
 use Rattle.ec_settling.proofs.Doing.{taken_string}
 use Rattle.ec_settling.proofs.Stacking.{get_at, set_at}
-use Rattle.ec_stop_tables.specs.declared.table.StopEntry.{StopEntry}
+use Rattle.ec_generate.specs.declared.table.StopEntry.{StopEntry}
 use Rattle.ec_system.specs.Steps.{CanFinish}
 use Rattle.ec_system.specs.Systems.{Strings}
 use Rattle.ec_world.specs.declared.process.Proc.{Proc}

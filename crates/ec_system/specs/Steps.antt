@@ -12,8 +12,8 @@ use Rattle.ec_code.specs.declared.activation.CodeActivation.{CodeActivation}
 use Rattle.ec_forward.specs.Directory.{made_count}
 use Rattle.ec_node_frames.specs.Beginning.{HasEntry}
 use Rattle.ec_node_frames.specs.Frames.{RestsAt}
-use Rattle.ec_stop_tables.specs.declared.table.OperationTable.{OperationTable}
-use Rattle.ec_stop_tables.specs.declared.table.StopEntry.{StopEntry}
+use Rattle.ec_generate.specs.declared.table.OperationTable.{OperationTable}
+use Rattle.ec_generate.specs.declared.table.StopEntry.{StopEntry}
 use Rattle.ec_system.specs.Systems.{Mirrors, Strings}
 use Rattle.ec_system.specs.declared.system.System.{System}
 use Rattle.ec_world.specs.Objects.{class_at, element_kind}

@@ -4,12 +4,12 @@ ghost use Rattle.ec_compile.specs.Texts.{IsOfText};
 ghost use Rattle.ec_machine_code.specs.Faithful.{Faithful};
 ghost use Rattle.ec_machine_code.specs.Frames.{slots};
 ghost use Rattle.ec_machine_code.specs.Stops.{address_of};
-ghost use Rattle.ec_images.specs.Fits.{EachFits};
+ghost use Rattle.ec_generate.specs.Fits.{EachFits};
 ghost use Rattle.ec_emission.specs.Lowered.{IsLowered};
 ghost use Rattle.ec_meaning.specs.Sources.{source_of};
 ghost use Rattle.ec_machine_code.specs.Speaks.{words_end};
-ghost use Rattle.ec_stop_tables.specs.Addresses.{address_in};
-ghost use Rattle.ec_stop_tables.specs.Tables.{AreTablesOf, all_homes};
+ghost use Rattle.ec_generate.specs.Addresses.{address_in};
+ghost use Rattle.ec_generate.specs.Tables.{AreTablesOf, all_homes};
 ghost use Rattle.mips_machine.specs.declared.machine.MipsMachine.{MipsMachine};
 ghost use Rattle.mips_words.specs.Meaning.{mips_meaning};
 

@@ -13,7 +13,7 @@ use Rattle.ec_cluster_frames.specs.Stops.{tables_for}
 use Rattle.ec_code.specs.Activations.{begun}
 use Rattle.ec_node_frames.specs.Beginning.{HasEntry}
 use Rattle.ec_world.specs.declared.key.Key.TheVariants.{Frame}
-use Rattle.ec_stop_tables.specs.declared.table.OperationTable.{OperationTable}
+use Rattle.ec_generate.specs.declared.table.OperationTable.{OperationTable}
 use Rattle.ec_stores.specs.Node.{store_of}
 use Rattle.ec_things.specs.Things.{Puts}
 

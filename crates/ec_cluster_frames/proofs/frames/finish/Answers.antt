@@ -14,7 +14,7 @@ use Rattle.ec_cluster_frames.proofs.frames.finish.Goals as goal
 use Rattle.ec_cluster_frames.specs.Stops.{tables_for}
 use Rattle.ec_code.specs.Activations.{finished}
 use Rattle.ec_node_frames.specs.Finishing.{HasRoomIn, IsTaken, RestsHere}
-use Rattle.ec_stop_tables.specs.declared.table.StopEntry.{StopEntry}
+use Rattle.ec_generate.specs.declared.table.StopEntry.{StopEntry}
 use Rattle.ec_stores.specs.Node.{store_of}
 use Rattle.ec_things.specs.Texts.{GetsTexts}
 

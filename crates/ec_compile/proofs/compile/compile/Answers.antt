@@ -4,10 +4,10 @@ use Rattle.ec_machine_code.specs.Limits.{HasLimits}
 use Rattle.ec_compile.proofs.Few.{text_has_few}
 use Rattle.ec_compile.proofs.Texts.{all_numbers_fit, text_has_limits, text_is_accepted, text_is_fine}
 use Rattle.ec_compile.proofs.compile.compile.Goals as goal
-use Rattle.ec_images.specs.Fits.{EachFits}
+use Rattle.ec_generate.specs.Fits.{EachFits}
 use Rattle.ec_emission.specs.Lowered.{IsLowered, declared_of}
 use Rattle.ec_meaning.specs.Sources.{source_of}
-use Rattle.ec_stop_tables.specs.Tables.{all_homes}
+use Rattle.ec_generate.specs.Tables.{all_homes}
 
 pub new-requires : goal.new-requires
 new-requires g c = record {

@@ -7,7 +7,7 @@ use Rattle.ec_code.specs.declared.code.Live.{Live}
 use Rattle.ec_fullness.proofs.Telling.{start_told, told_ok}
 use Rattle.ec_fullness.proofs.starting.lack_to_start.Goals as goal
 use Rattle.ec_node_frames.specs.Beginning.{HasEntry, first_value}
-use Rattle.ec_stop_tables.specs.declared.table.OperationTable.{OperationTable}
+use Rattle.ec_generate.specs.declared.table.OperationTable.{OperationTable}
 use Rattle.ec_stores.specs.Node.{store_of}
 use Rattle.ec_world.specs.declared.value.Value.TheVariants.{Ref}
 

@@ -10,7 +10,7 @@ use Rattle.ec_cluster_frames.specs.Stops.{tables_for}
 use Rattle.ec_fullness.proofs.Telling.{none_given, none_takes, one_takes, told_ok}
 use Rattle.ec_fullness.proofs.taking.lack_to_take.Goals as goal
 use Rattle.ec_fullness.specs.Told.{Tells}
-use Rattle.ec_stop_tables.specs.declared.table.StopEntry.{StopEntry}
+use Rattle.ec_generate.specs.declared.table.StopEntry.{StopEntry}
 use Rattle.ec_stores.specs.Node.{store_of}
 use Rattle.ec_world.specs.declared.value.Value.{Value}
 

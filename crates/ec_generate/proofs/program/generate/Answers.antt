@@ -11,8 +11,8 @@ use Rattle.ec_machine_code.specs.Layout.{home_of, operation_codes, ops_of, progr
 use Rattle.ec_base.proofs.Lists.{get_within}
 use Rattle.ec_machine_code.specs.Limits.{IsSmallOperation}
 use Rattle.ec_machine_code.specs.Frames.{slots}
-use Rattle.ec_stop_tables.proofs.Listing.{all_at}
-use Rattle.ec_stop_tables.specs.Tables.{IsTableOf, all_homes}
+use Rattle.ec_generate.proofs.Listing.{all_at}
+use Rattle.ec_generate.specs.Tables.{IsTableOf, all_homes}
 use Rattle.ec_world.proofs.Related.{all-length}
 
 pub at-requires : goal.at-requires

@@ -4,7 +4,7 @@ use Rattle.ec_legs.proofs.Registers.{rests_where}
 use Rattle.ec_legs.proofs.machine.rest_at.Goals as goal
 use Rattle.ec_legs.specs.Machines.{IsUnsaved}
 use Rattle.ec_world.specs.declared.key.Key.TheVariants.{Frame}
-use Rattle.ec_stop_tables.specs.Addresses.{address_in}
+use Rattle.ec_generate.specs.Addresses.{address_in}
 use Rattle.ec_stores.specs.Node.{store_of}
 
 pub unreachable-requires : goal.unreachable-requires

@@ -8,7 +8,7 @@ use Rattle.ec_loading.proofs.Beginning.{first_set}
 use Rattle.ec_loading.proofs.Entering.{first_values_fit}
 use Rattle.ec_loading.proofs.objects.begin_first.Goals as goal
 use Rattle.ec_node_frames.specs.Beginning.{HasEntry}
-use Rattle.ec_stop_tables.specs.declared.table.OperationTable.{OperationTable}
+use Rattle.ec_generate.specs.declared.table.OperationTable.{OperationTable}
 use Rattle.ec_stores.specs.Node.{store_of}
 
 pub at-table-requires : goal.at-table-requires

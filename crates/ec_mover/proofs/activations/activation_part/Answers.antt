@@ -6,7 +6,7 @@ use Rattle.ec_arrivals.specs.Carried.{CarriedHere, values_carried}
 use Rattle.ec_base.proofs.Lists.{get_within}
 use Rattle.ec_mover.proofs.Stops.{carried_from, stop_of_leaving, table_there}
 use Rattle.ec_mover.proofs.activations.activation_part.Goals as goal
-use Rattle.ec_stop_tables.specs.declared.table.StopEntry.{StopEntry}
+use Rattle.ec_generate.specs.declared.table.StopEntry.{StopEntry}
 use Rattle.ec_stores.specs.Node.{store_of}
 use Rattle.ec_wire.specs.declared.parcel.ActivationPart.{ActivationPart}
 use Rattle.ec_world.specs.declared.value.Value.{Value}

@@ -6,8 +6,8 @@ use Rattle.ec_arrivals.specs.Arriving.{Arrives}
 use Rattle.ec_mover.proofs.activations.put_activation.Goals as goal
 use Rattle.ec_mover.specs.Activations.{headings_in}
 use Rattle.ec_objects.specs.Values.{TextsFit}
-use Rattle.ec_stop_tables.specs.declared.table.OperationTable.{OperationTable}
-use Rattle.ec_stop_tables.specs.declared.table.StopEntry.{StopEntry}
+use Rattle.ec_generate.specs.declared.table.OperationTable.{OperationTable}
+use Rattle.ec_generate.specs.declared.table.StopEntry.{StopEntry}
 use Rattle.ec_stores.specs.Node.{store_of}
 use Rattle.ec_things.specs.Texts.{GetsTexts}
 use Rattle.ec_world.specs.Group.{Has}

@@ -8,7 +8,7 @@ use Rattle.ec_mover.proofs.Stops.{part_heads, stop_there}
 use Rattle.ec_mover.proofs.laws.activations_come_whole.Goals as goal
 use Rattle.ec_mover.specs.Activations.{IsStopOf, activation_part_of, headings_in}
 use Rattle.ec_world.specs.declared.key.Key.TheVariants.{Frame}
-use Rattle.ec_stop_tables.specs.declared.table.StopEntry.{StopEntry}
+use Rattle.ec_generate.specs.declared.table.StopEntry.{StopEntry}
 use Rattle.ec_things.specs.Things.{Puts}
 use Rattle.ec_wire.specs.declared.parcel.ActivationPart.{ActivationPart}
 

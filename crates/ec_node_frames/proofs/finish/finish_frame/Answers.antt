@@ -7,9 +7,9 @@ use Rattle.ec_node_frames.proofs.Done.{nothing_given, nothing_waits}
 use Rattle.ec_node_frames.proofs.Given.{texts_given, value_given}
 use Rattle.ec_node_frames.proofs.finish.finish_frame.Goals as goal
 use Rattle.ec_node_frames.specs.Finishing.{FinishesFrame, Gives, IsTaken}
-use Rattle.ec_stop_tables.specs.Tables.{home_in}
-use Rattle.ec_stop_tables.specs.declared.table.OperationTable.{OperationTable}
-use Rattle.ec_stop_tables.specs.declared.table.StopEntry.{StopEntry}
+use Rattle.ec_generate.specs.Tables.{home_in}
+use Rattle.ec_generate.specs.declared.table.OperationTable.{OperationTable}
+use Rattle.ec_generate.specs.declared.table.StopEntry.{StopEntry}
 use Rattle.ec_stores.specs.Node.{store_of}
 use Rattle.ec_things.specs.Store.{Store}
 use Rattle.ec_things.specs.Texts.{GetsTexts}

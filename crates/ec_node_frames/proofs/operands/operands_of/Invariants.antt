@@ -6,7 +6,7 @@ use Rattle.ec_code.specs.declared.code.Parts.{Parts}
 use Rattle.ec_machine_code.specs.declared.homes.Home.{Home}
 use Rattle.ec_node_frames.proofs.operands.operands_of.Given as goal
 use Rattle.ec_node_frames.specs.Operands.{ActsHere}
-use Rattle.ec_stop_tables.specs.declared.table.OperationTable.{OperationTable}
+use Rattle.ec_generate.specs.declared.table.OperationTable.{OperationTable}
 use Rattle.ec_stores.specs.Node.{store_of}
 use Rattle.ec_world.specs.declared.node.Kind.{Kind}
 

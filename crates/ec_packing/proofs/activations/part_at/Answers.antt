@@ -1,7 +1,7 @@
 -- The activation that is in the frame here, in each world that shows it.
 use Rattle.std.proofs.Common.{ap, ◌∙◌}
 use Rattle.ec_cluster.specs.Images.{homes_on, image_of}
-use Rattle.ec_images.specs.declared.image.Image.{Image}
+use Rattle.ec_generate.specs.declared.image.Image.{Image}
 use Rattle.ec_packing.proofs.Frames.{activation, entry, leaves_by}
 use Rattle.ec_packing.proofs.Standing.{is_row, part_goes}
 use Rattle.ec_packing.proofs.activations.part_at.Goals as goal

@@ -4,7 +4,7 @@ use Rattle.ec_class_numbers.specs.Vectors.{table_of}
 use Rattle.ec_loading.specs.Worlds.{world_first}
 use Rattle.ec_nodes_running.proofs.Loading.{stands_first}
 use Rattle.ec_nodes_running.proofs.network.Network.load.Goals as goal
-use Rattle.ec_wire_limits.specs.Limits.{FewConditionsIn}
+use Rattle.ec_generate.specs.Limits.{FewConditionsIn}
 use Rattle.ec_world.specs.declared.class.ClassRec.{ClassRec}
 
 pub load-requires : goal.load-requires

@@ -1,7 +1,0 @@
-use Rattle.std.proofs.Common.{take}
-use Rattle.ec_stop_tables.specs.Tables.{IsTableOf}
-use Rattle.ec_world.specs.Agree.{AllTwo}
-use Rattle.ec_stop_tables.proofs.assign.assign.Given as goal
-
-abbrev pub invariant-loop-operation : goal.invariant-loop-operation
-invariant-loop-operation l = AllTwo (IsTableOf l.registers l.slots) (take l.operation-index l.parts.operations) l.operations

@@ -1,6 +1,0 @@
-use Rattle.std.proofs.Common.{◌≡◌, ◌++◌, drop}
-use Rattle.ec_stop_tables.specs.Entries.{entries_from, entries_of}
-use Rattle.ec_stop_tables.proofs.entries.entries_of.Given as goal
-
-abbrev pub invariant-loop-q : goal.invariant-loop-q
-invariant-loop-q l = l.entries ++ entries_from l.code l.q (drop l.q l.code) ≡ entries_of l.code

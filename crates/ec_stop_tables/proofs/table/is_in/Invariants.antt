@@ -1,7 +1,0 @@
-use Rattle.std.proofs.Common.{◌≡◌, drop}
-use Rattle.ec_stop_tables.specs.Entries.{is_in}
-use Rattle.ec_stop_tables.proofs.table.is_in.Given as goal
-
--- none before this one is it
-abbrev pub invariant-loop-l : goal.invariant-loop-l
-invariant-loop-l l = is_in (drop l.l-index l.live) l.x ≡ is_in l.live l.x
