@@ -26,7 +26,7 @@ use Rattle.ec_system.specs.declared.system.System.{System}
 use Rattle.ec_things.specs.Store.{Store}
 use Rattle.ec_world.specs.World.{GoOn}
 use Rattle.mips_words.specs.Meaning.{mips_meaning}
-use Rattle.rv_words.specs.Meaning.{rv_meaning}
+use Rattle.rv_code.specs.Meaning.{rv_meaning}
 
 module _ (d : Declared) (c c' : Cluster) (parts : c'.parts ≡ c.parts) (images : c'.images ≡ c.images) where
   -- what is said of a program and its images

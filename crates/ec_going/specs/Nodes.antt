@@ -16,7 +16,7 @@ use Rattle.ec_world.specs.declared.object.ObjectRec.{ObjectRec}
 use Rattle.mips_machine.specs.Machine.{mips_goes, mips_stops}
 use Rattle.mips_words.specs.Meaning.{mips_meaning}
 use Rattle.rv_machine.specs.Machine.{rv_goes, rv_stops}
-use Rattle.rv_words.specs.Meaning.{rv_meaning}
+use Rattle.rv_code.specs.Meaning.{rv_meaning}
 
 -- the image for a kind is the code and the stop table of a program
 abbrev pub IsCodeFor : Declared → Parts → Images → Kind → Type 0

@@ -6,7 +6,7 @@ use Rattle.mips_machine.specs.Machine.{mips_goes, mips_place, mips_register, mip
 use Rattle.mips_words.specs.Meaning.{mips_meaning}
 use Rattle.rv_machine.specs.Machine.{rv_goes, rv_register, rv_stops}
 use Rattle.rv_machine.specs.declared.machine.RvMachine.{RvMachine}
-use Rattle.rv_words.specs.Meaning.{rv_meaning}
+use Rattle.rv_code.specs.Meaning.{rv_meaning}
 
 pub rv_means : Means rv_meaning Riscv rv_goes rv_stops rv_register (λ (m : RvMachine). m.pc) (λ (m : RvMachine). Unit {0})
 rv_means = record {

@@ -7,7 +7,7 @@ pub struct RiscvKind;
 
 impl NativeKind<RvMachine> for RiscvKind {
     ghost use Rattle.ec_native_kinds.specs.Kinds.{rv_means, rv_registers};
-    ghost use Rattle.rv_words.specs.Meaning.{rv_meaning};
+    ghost use Rattle.rv_code.specs.Meaning.{rv_meaning};
 
     ghost meaning = { rv_meaning };
 

@@ -40,7 +40,7 @@ use Rattle.ec_world.specs.declared.class.ClassNo.TheVariants.{Program}
 use Rattle.ec_world.specs.declared.node.Kind.{Kind}
 use Rattle.ec_world.specs.declared.node.Kind.TheVariants.{Riscv, Mips}
 use Rattle.mips_words.specs.Meaning.{mips_meaning}
-use Rattle.rv_words.specs.Meaning.{rv_meaning}
+use Rattle.rv_code.specs.Meaning.{rv_meaning}
 
 -- ---- the program
 

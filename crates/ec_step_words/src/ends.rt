@@ -5,7 +5,7 @@ use ec_generate::kind::{Kind, Span};
 use ec_machine_code::homes::Home;
 use ec_machine_code::step::{Question, Relation, Source};
 use mips_generate::mips::Mips;
-use rv_generate::riscv::Riscv;
+use rv_code::riscv::Riscv;
 use std::alloc::Global;
 use std::io;
 

@@ -8,7 +8,7 @@ mod steps;
 use crate::ends::{print_mips_ends, print_riscv_ends};
 use crate::steps::print_steps;
 use mips_generate::mips::Mips;
-use rv_generate::riscv::Riscv;
+use rv_code::riscv::Riscv;
 use std::io;
 
 fn main(rt: HostRuntime) -> io::Result<()> {

@@ -3,7 +3,7 @@ use Rattle.std.proofs.Common.{◌≡◌, ℕ, zero, suc, ◌+◌, ◌<◌, ◌�
 use Rattle.ec_machine_code.specs.Fitted.{CanRest}
 use Rattle.rv_machine.specs.Machine.{rv_register}
 use Rattle.rv_machine.specs.declared.machine.RvMachine.{RvMachine}
-use Rattle.rv_words.specs.Meaning.{rv_meaning}
+use Rattle.rv_code.specs.Meaning.{rv_meaning}
 
 -- x8, x9, and x18 to x27
 abbrev registers_with : ℕ → ℕ → (ℕ → ℕ) → List ℕ

@@ -11,12 +11,12 @@ ghost use Rattle.ec_machine_code.specs.Speaks.{words_end};
 ghost use Rattle.ec_generate.specs.Addresses.{address_in};
 ghost use Rattle.ec_generate.specs.Tables.{AreTablesOf, all_homes};
 ghost use Rattle.rv_machine.specs.declared.machine.RvMachine.{RvMachine};
-ghost use Rattle.rv_words.specs.Meaning.{rv_meaning};
+ghost use Rattle.rv_code.specs.Meaning.{rv_meaning};
 
 use ec_compile::compile::{Compiled, compile};
 use ec_machine_code::laws::Target;
 use ec_meaning::source::Program;
-use rv_generate::riscv::Riscv;
+use rv_code::riscv::Riscv;
 use std::alloc::{AllocError, Global};
 
 /// What a RISC-V machine means to code.

@@ -1,7 +1,7 @@
 -- The words of RISC-V do what their steps do.
 use Rattle.rv_compile.proofs.Resting.{rv_can_rest}
 use Rattle.rv_compile.proofs.compile.compile_for_riscv.Goals as goal
-use Rattle.rv_words.proofs.Speaking.{far_speaks, middle_speaks, near_speaks}
+use Rattle.rv_code.proofs.Speaking.{far_speaks, middle_speaks, near_speaks}
 
 pub compile-requires-clause-near : goal.compile-requires-clause-near
 compile-requires-clause-near c = near_speaks

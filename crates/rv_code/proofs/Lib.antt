@@ -1,0 +1,12 @@
+pub mod Places
+pub mod Runs
+pub mod NumbersLemmas
+pub mod SourcesLemmas
+pub mod Results
+pub mod Arithmetics
+pub mod AnswersLemmas
+pub mod StepsLemmas
+pub mod Asks
+pub mod Stops
+pub mod Speaking
+pub mod Spans

@@ -1,0 +1,5 @@
+pub mod Meaning
+pub mod Words
+pub mod Laws
+pub mod Sizes
+pub mod Sized

@@ -1,6 +1,0 @@
--- The words do what the steps do, where questions and jumps lead anywhere.
-use Rattle.rv_words.proofs.Speaking.{far_speaks}
-use Rattle.rv_words.proofs.laws.far_words_speak.Goals as goal
-
-pub returns : goal.returns
-returns start = far_speaks

@@ -1,6 +1,0 @@
--- The words do what the steps do, where questions lead near.
-use Rattle.rv_words.proofs.Speaking.{near_speaks}
-use Rattle.rv_words.proofs.laws.near_words_speak.Goals as goal
-
-pub returns : goal.returns
-returns start = near_speaks
