@@ -25,7 +25,7 @@ use Rattle.ec_system.specs.Systems.{Mirrors, Runs, Steady}
 use Rattle.ec_system.specs.declared.system.System.{System}
 use Rattle.ec_things.specs.Store.{Store}
 use Rattle.ec_world.specs.World.{GoOn}
-use Rattle.mips_words.specs.Meaning.{mips_meaning}
+use Rattle.mips_code.specs.Meaning.{mips_meaning}
 use Rattle.rv_code.specs.Meaning.{rv_meaning}
 
 module _ (d : Declared) (c c' : Cluster) (parts : c'.parts ≡ c.parts) (images : c'.images ≡ c.images) where

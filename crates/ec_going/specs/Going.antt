@@ -19,7 +19,7 @@ use Rattle.ec_world.specs.declared.class.ClassNo.{ClassNo}
 use Rattle.ec_world.specs.declared.class.ClassNo.TheVariants.{Node, Program, Made, Vector}
 use Rattle.ec_world.specs.declared.object.ObjectRec.{ObjectRec}
 use Rattle.ec_world.specs.declared.process.ProcStatus.TheVariants.{Ready}
-use Rattle.mips_words.specs.Meaning.{mips_meaning}
+use Rattle.mips_code.specs.Meaning.{mips_meaning}
 use Rattle.rv_code.specs.Meaning.{rv_meaning}
 use Rattle.ec_going.specs.Nodes.{RunsOn}
 

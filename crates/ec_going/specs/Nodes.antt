@@ -14,7 +14,7 @@ use Rattle.ec_world.specs.declared.node.Kind.{Kind}
 use Rattle.ec_world.specs.declared.node.Kind.TheVariants.{Riscv, Mips}
 use Rattle.ec_world.specs.declared.object.ObjectRec.{ObjectRec}
 use Rattle.mips_machine.specs.Machine.{mips_goes, mips_stops}
-use Rattle.mips_words.specs.Meaning.{mips_meaning}
+use Rattle.mips_code.specs.Meaning.{mips_meaning}
 use Rattle.rv_machine.specs.Machine.{rv_goes, rv_stops}
 use Rattle.rv_code.specs.Meaning.{rv_meaning}
 

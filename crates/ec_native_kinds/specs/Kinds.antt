@@ -3,7 +3,7 @@ use Rattle.std.proofs.Common.{refl, arith}
 use Rattle.ec_legs.specs.Kinds.{AreHomeRegisters, Means}
 use Rattle.ec_world.specs.declared.node.Kind.TheVariants.{Mips, Riscv}
 use Rattle.mips_machine.specs.Machine.{mips_goes, mips_place, mips_register, mips_rests, mips_stops}
-use Rattle.mips_words.specs.Meaning.{mips_meaning}
+use Rattle.mips_code.specs.Meaning.{mips_meaning}
 use Rattle.rv_machine.specs.Machine.{rv_goes, rv_register, rv_stops}
 use Rattle.rv_machine.specs.declared.machine.RvMachine.{RvMachine}
 use Rattle.rv_code.specs.Meaning.{rv_meaning}

@@ -7,7 +7,7 @@ pub struct MipsKind;
 
 impl NativeKind<MipsMachine> for MipsKind {
     ghost use Rattle.ec_native_kinds.specs.Kinds.{mips_means, mips_registers};
-    ghost use Rattle.mips_words.specs.Meaning.{mips_meaning};
+    ghost use Rattle.mips_code.specs.Meaning.{mips_meaning};
 
     ghost meaning = { mips_meaning };
 

@@ -26,7 +26,7 @@ use Rattle.ec_system.specs.declared.system.System.{System}
 use Rattle.ec_generate.specs.Limits.{CarriesFew, FewConditions}
 use Rattle.ec_world.specs.declared.node.Kind.TheVariants.{Riscv, Mips}
 use Rattle.ec_world.specs.declared.node.NodeSpec.{NodeSpec}
-use Rattle.mips_words.specs.Meaning.{mips_meaning}
+use Rattle.mips_code.specs.Meaning.{mips_meaning}
 use Rattle.rv_code.specs.Meaning.{rv_meaning}
 
 module _ (p : Parts) (images : Images) (specs : List NodeSpec) (s : System) (loaded : Loaded p images specs s) where

@@ -4,7 +4,7 @@ use ec_base::list::Seq;
 use ec_generate::kind::{Kind, Span};
 use ec_machine_code::homes::Home;
 use ec_machine_code::step::{Question, Relation, Source};
-use mips_generate::mips::Mips;
+use mips_code::mips::Mips;
 use rv_code::riscv::Riscv;
 use std::alloc::Global;
 use std::io;

@@ -7,7 +7,7 @@ mod steps;
 
 use crate::ends::{print_mips_ends, print_riscv_ends};
 use crate::steps::print_steps;
-use mips_generate::mips::Mips;
+use mips_code::mips::Mips;
 use rv_code::riscv::Riscv;
 use std::io;
 

@@ -4,7 +4,7 @@ use Rattle.ec_machine_code.specs.Fitted.{CanRest}
 use Rattle.mips_machine.specs.Machine.{mips_register}
 use Rattle.mips_machine.specs.Step.{resting}
 use Rattle.mips_machine.specs.declared.machine.MipsMachine.{MipsMachine}
-use Rattle.mips_words.specs.Meaning.{mips_meaning}
+use Rattle.mips_code.specs.Meaning.{mips_meaning}
 
 -- $16 to $21, $23 and $30
 abbrev registers_with : ℕ → ℕ → (ℕ → ℕ) → List ℕ

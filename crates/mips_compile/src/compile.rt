@@ -11,12 +11,12 @@ ghost use Rattle.ec_machine_code.specs.Speaks.{words_end};
 ghost use Rattle.ec_generate.specs.Addresses.{address_in};
 ghost use Rattle.ec_generate.specs.Tables.{AreTablesOf, all_homes};
 ghost use Rattle.mips_machine.specs.declared.machine.MipsMachine.{MipsMachine};
-ghost use Rattle.mips_words.specs.Meaning.{mips_meaning};
+ghost use Rattle.mips_code.specs.Meaning.{mips_meaning};
 
 use ec_compile::compile::{Compiled, compile};
 use ec_machine_code::laws::Target;
 use ec_meaning::source::Program;
-use mips_generate::mips::Mips;
+use mips_code::mips::Mips;
 use std::alloc::{AllocError, Global};
 
 /// What a MIPS I machine means to code.

@@ -6,7 +6,7 @@ use Rattle.ec_emission.specs.Lowered.{IsLowered}
 use Rattle.ec_meaning.specs.Sources.{source_of}
 use Rattle.ec_runnable.proofs.Prepared.{IsCompiled, prepared}
 use Rattle.ec_runnable.proofs.prepare.prepare.Goals as goal
-use Rattle.mips_words.specs.Meaning.{mips_meaning}
+use Rattle.mips_code.specs.Meaning.{mips_meaning}
 use Rattle.rv_code.specs.Meaning.{rv_meaning}
 
 pub returns-clause-lowered : goal.returns-clause-lowered

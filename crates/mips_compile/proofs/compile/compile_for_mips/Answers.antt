@@ -1,7 +1,7 @@
 -- The words of MIPS I do what their steps do.
 use Rattle.mips_compile.proofs.Resting.{mips_can_rest}
 use Rattle.mips_compile.proofs.compile.compile_for_mips.Goals as goal
-use Rattle.mips_words.proofs.Speaking.{far_speaks, near_speaks}
+use Rattle.mips_code.proofs.Speaking.{far_speaks, near_speaks}
 
 pub compile-requires-clause-near : goal.compile-requires-clause-near
 compile-requires-clause-near c = near_speaks

@@ -1,0 +1,5 @@
+pub mod Laws
+pub mod Meaning
+pub mod Words
+pub mod Sizes
+pub mod Sized
