@@ -1,4 +1,17 @@
+pub mod Blocks
+pub mod Expressions
+pub mod Forms
+pub mod Lines
+pub mod Operations
+pub mod Sized
+pub mod Statements
+pub mod CodeSizesTexts
+pub mod Whole
+pub mod Within
+pub mod Typing
 pub mod SameStops
 pub mod Few
 pub mod Literals
 pub mod Texts
+pub mod RvCompileResting
+pub mod MipsCompileResting

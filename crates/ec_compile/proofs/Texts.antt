@@ -15,7 +15,7 @@ use Rattle.ec_code.specs.declared.code.Parts.{Parts}
 use Rattle.ec_code.specs.declared.code.Test.{Test}
 use Rattle.ec_code.specs.declared.code.Test.TheVariants as test
 use Rattle.ec_machine_code.specs.Limits.{HasLimits}
-use Rattle.ec_code_sizes.proofs.Whole.{has_limits}
+use Rattle.ec_compile.proofs.Whole.{has_limits}
 use Rattle.ec_compile.specs.Texts.{IsOfText}
 use Rattle.ec_types.specs.Declarations.{declarations_of}
 use Rattle.ec_types.specs.Types.{places_of}

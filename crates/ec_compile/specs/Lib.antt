@@ -1,2 +1,4 @@
+pub mod Laws
+pub mod Programs
 pub mod Kinds
 pub mod Texts

@@ -15,7 +15,7 @@ ghost use Rattle.ec_generate.specs.Tables.{AreTablesOf, all_homes};
 use ec_generate::kind::Kind;
 use ec_generate::image::{Image, build};
 use ec_machine_code::laws::Target;
-use ec_lowered_programs::program::LoweredProgram;
+use crate::program::LoweredProgram;
 use ec_meaning::source::Program;
 use std::alloc::{AllocError, Global};
 

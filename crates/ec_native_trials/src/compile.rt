@@ -9,8 +9,8 @@ use ec_lexer::lex;
 use ec_meaning::source::Program;
 use ec_parser::parse;
 use ec_world::node::Kind;
-use mips_compile::compile::compile_for_mips;
-use rv_compile::compile::compile_for_riscv;
+use ec_compile::mips_compile::compile_for_mips;
+use ec_compile::rv_compile::compile_for_riscv;
 use std::alloc::{AllocError, Global};
 use std::mem::ManuallyDrop;
 

@@ -1,6 +1,0 @@
--- An operation of an accepted program has few steps.
-use Rattle.ec_code_sizes.proofs.Whole.{operation_is_short}
-use Rattle.ec_code_sizes.proofs.laws.each_operation_is_short.Goals as goal
-
-pub returns : goal.returns
-returns start s program o made core there lowered = operation_is_short s program core o made there lowered

@@ -1,0 +1,61 @@
+//! Programs of three-address code that are those of accepted programs.
+ghost use Rattle.std.specs.Prelude.{◌≡◌, IfOk};
+ghost use Rattle.ec_accepted.specs.Laws.{IsAccepted};
+ghost use Rattle.ec_ast.specs.declared.Program.{Program as Tree};
+ghost use Rattle.ec_emission.specs.Lowered.{IsLowered};
+ghost use Rattle.ec_meaning.specs.Sources.{source_of};
+
+use ec_code::code::Parts;
+use ec_lowering::lower::lower;
+use ec_meaning::source::Program;
+use std::alloc::{AllocError, Global};
+use std::marker::Model;
+
+/// A program of three-address code to which the source of some accepted program is lowered. So it is well typed: code behind a
+/// stop reaches a stop, what a step reads and gives has the static types of its variables, and what is live is known.
+#[derive(Drop)]
+pub struct LoweredProgram {
+    parts: Parts,
+}
+
+impl Model for LoweredProgram {
+    ghost use Rattle.ec_code.specs.declared.code.Parts.{Parts};
+    ghost use Rattle.ec_compile.specs.Programs.{IsOfAccepted};
+
+    ghost Value = { Parts };
+
+    ghost view = { λ p. p.parts };
+
+    ghost invariant = { λ p. IsOfAccepted p.parts };
+}
+
+impl LoweredProgram {
+    ghost use Rattle.ec_compile.specs.Programs.{IsOfAccepted, IsWellTyped};
+
+    /// What the source of an accepted program is lowered to. The error is that of `lower`.
+    pub fn new(alloc: Global, program: &Program<'_>) -> Result<LoweredProgram, AllocError>
+        requires accepted { (tree : Tree) × IsAccepted (source_of program.now) tree }
+        ensures of_it { IfOk result (IsLowered (source_of program.now)) }
+    {
+        let parts = lower(alloc, program)?;
+        Ok(LoweredProgram { parts })
+    }
+
+    /// The parts, with what the type keeps of them.
+    pub fn parts(&self) -> &Parts
+        ensures parts { result.now ≡ self.now }
+        ensures accepted { IsOfAccepted self.now }
+        ensures well_typed { IsWellTyped self.now }
+    {
+        &self.parts
+    }
+
+    /// The parts alone, with what the type kept of them.
+    pub fn into_parts(self) -> Parts
+        ensures parts { result ≡ self }
+        ensures accepted { IsOfAccepted result }
+        ensures well_typed { IsWellTyped result }
+    {
+        self.parts
+    }
+}

@@ -1,9 +1,0 @@
--- What the type keeps.
-use Rattle.ec_lowered_programs.proofs.Typing.{well_typed}
-use Rattle.ec_lowered_programs.proofs.program.LoweredProgram.into_parts.Goals as goal
-
-pub returns-clause-accepted : goal.returns-clause-accepted
-returns-clause-accepted c = c.self.invariant
-
-pub returns-clause-well_typed : goal.returns-clause-well_typed
-returns-clause-well_typed c = well_typed c.self.inside.parts c.self.invariant

@@ -1,4 +1,0 @@
-//! MIPS I machine code of accepted texts.
-#![tactic(auto)]
-
-pub mod compile;

@@ -1,4 +1,0 @@
-//! RISC-V machine code of accepted texts.
-#![tactic(auto)]
-
-pub mod compile;
