@@ -1,1 +1,13 @@
+pub mod Lines
 pub mod Prepared
+pub mod Uses
+pub mod Stops
+pub mod Values
+pub mod Forms
+pub mod Expressions
+pub mod Exits
+pub mod Statements
+pub mod Live
+pub mod Operations
+pub mod Entries
+pub mod Whole

@@ -19,7 +19,7 @@ use Rattle.ec_machine_code.specs.Faithful.{Faithful}
 use Rattle.ec_machine_code.specs.Frames.{slots}
 use Rattle.ec_machine_code.specs.Machine.{MachineMeaning}
 use Rattle.ec_machine_code.specs.Stops.{address_of}
-use Rattle.ec_few_values.proofs.Whole.{carries_few}
+use Rattle.ec_runnable.proofs.Whole.{carries_few}
 use Rattle.ec_going.specs.Nodes.{IsCodeFor}
 use Rattle.ec_code.specs.Idle.{HasOperations, OfClasses}
 use Rattle.ec_generate.specs.declared.image.Image.{Image}
@@ -34,7 +34,7 @@ use Rattle.ec_runnable.specs.Runnable.{IsRunnable}
 use Rattle.ec_emission_laws.proofs.Programs.{lowered_small}
 use Rattle.ec_generate.specs.Addresses.{address_in}
 use Rattle.ec_generate.specs.Tables.{AreTablesOf, all_homes}
-use Rattle.ec_typed_once.proofs.Lines.{typed_once}
+use Rattle.ec_runnable.proofs.Lines.{typed_once}
 use Rattle.ec_world.specs.Group.{Has}
 use Rattle.ec_world.specs.declared.class.ClassNo.TheVariants.{Program}
 use Rattle.ec_world.specs.declared.node.Kind.{Kind}

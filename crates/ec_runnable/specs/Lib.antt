@@ -1,1 +1,3 @@
+pub mod TypedOnceLaws
 pub mod Runnable
+pub mod FewValuesLaws

@@ -8,10 +8,10 @@ use Rattle.ec_emission.specs.Expressions.{Condition, Emitted, fits_here}
 use Rattle.ec_emission.specs.Statements.{Choice, Done, arm_code}
 use Rattle.ec_emission.specs.Statements.{jump_over, loop_code}
 use Rattle.ec_emission.specs.Statements.{where_it_holds}
-use Rattle.ec_few_values.proofs.Uses.{AreHeld, Code, From, IsClearStep, IsHeld, Leads, clear_joined, each_joined, each_weaker, join}
-use Rattle.ec_few_values.proofs.Uses.{next, none_held}
-use Rattle.ec_few_values.proofs.Uses.{nothing, past_code, step, temporaries_in, uses, uses_at, uses_dropped, uses_joined, uses_of}
-use Rattle.ec_few_values.proofs.Values.{Asks, IsClean}
+use Rattle.ec_runnable.proofs.Uses.{AreHeld, Code, From, IsClearStep, IsHeld, Leads, clear_joined, each_joined, each_weaker, join}
+use Rattle.ec_runnable.proofs.Uses.{next, none_held}
+use Rattle.ec_runnable.proofs.Uses.{nothing, past_code, step, temporaries_in, uses, uses_at, uses_dropped, uses_joined, uses_of}
+use Rattle.ec_runnable.proofs.Values.{Asks, IsClean}
 use Rattle.ec_code.specs.Live.{read_by, reads}
 
 -- ---- code that may exit

@@ -10,10 +10,10 @@ use Rattle.ec_core.specs.declared.Operation.{Operation}
 use Rattle.ec_emission.specs.Literals.{literals_of}
 use Rattle.ec_emission.specs.Statements.{operation_fits}
 use Rattle.ec_emission_laws.specs.Laws.{PartsFit}
-use Rattle.ec_few_values.proofs.Entries.{entry_carries, entry_in_order}
-use Rattle.ec_few_values.proofs.Operations.{operation_clear, program_clear}
-use Rattle.ec_few_values.proofs.Uses.{AreClear, uses}
-use Rattle.ec_few_values.specs.Laws.{StandOnce}
+use Rattle.ec_runnable.proofs.Entries.{entry_carries, entry_in_order}
+use Rattle.ec_runnable.proofs.Operations.{operation_clear, program_clear}
+use Rattle.ec_runnable.proofs.Uses.{AreClear, uses}
+use Rattle.ec_runnable.specs.FewValuesLaws.{StandOnce}
 use Rattle.ec_emission.specs.Lowered.{AreOperationsOf, HasLines, IsLowered, IsOperationOf, class_of_operation}
 use Rattle.ec_emission.specs.Types.{Around}
 use Rattle.ec_meaning.specs.Programs.{Source}

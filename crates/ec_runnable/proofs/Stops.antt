@@ -9,9 +9,9 @@ use Rattle.ec_code.specs.declared.code.Variable.{Variable}
 use Rattle.ec_code.specs.declared.code.Variable.TheVariants.{Temporary}
 use Rattle.ec_types.specs.declared.conform.static_type.StaticType.{StaticType}
 use Rattle.ec_emission.specs.Expressions.{gives_result}
-use Rattle.ec_few_values.proofs.Uses.{AreHeld, From, IsAbove, IsClearStep, IsHeld, Leads, Within, below}
-use Rattle.ec_few_values.proofs.Uses.{but_for, but_for_held, but_for_written, each_joined, each_weaker}
-use Rattle.ec_few_values.proofs.Uses.{temporaries_in, uses_at, uses_of}
+use Rattle.ec_runnable.proofs.Uses.{AreHeld, From, IsAbove, IsClearStep, IsHeld, Leads, Within, below}
+use Rattle.ec_runnable.proofs.Uses.{but_for, but_for_held, but_for_written, each_joined, each_weaker}
+use Rattle.ec_runnable.proofs.Uses.{temporaries_in, uses_at, uses_of}
 use Rattle.ec_code.specs.Live.{InOrder, IsBefore, reads}
 use Rattle.ec_emission.specs.Rows.{bare_row, into_if, own_row, rest_row, temporaries}
 use Rattle.ec_world.specs.declared.stop.Stop.{Stop}

@@ -15,8 +15,8 @@ use Rattle.ec_code.specs.declared.code.Variable.TheVariants as variable
 use Rattle.ec_emission.specs.Expressions.{Applied, Condition, Emitted, Following, by_condition, code_or, first_code, first_operand}
 use Rattle.ec_emission.specs.Expressions.{fits_here, holds, operand_code, operand_of, operand_or, pair_code, pair_first, pair_second}
 use Rattle.ec_emission.specs.Expressions.{test_of}
-use Rattle.ec_few_values.proofs.Stops.{bare_rests, writes_next}
-use Rattle.ec_few_values.proofs.Uses.{AreHeld, IsHeld, Leads, Within, each_joined, lead, nothing, step, temporaries_in}
+use Rattle.ec_runnable.proofs.Stops.{bare_rests, writes_next}
+use Rattle.ec_runnable.proofs.Uses.{AreHeld, IsHeld, Leads, Within, each_joined, lead, nothing, step, temporaries_in}
 use Rattle.ec_code.specs.Live.{read_by, read_in}
 use Rattle.ec_emission.specs.Rows.{fail_row}
 use Rattle.ec_world.specs.declared.process.Cause.TheVariants as cause

@@ -20,17 +20,17 @@ use Rattle.ec_emission.specs.Expressions.{links_fit, links_give, literal_number,
 use Rattle.ec_emission.specs.Expressions.{by_code}
 use Rattle.ec_emission.specs.Expressions.{own_call, own_code, stop_order, stops_at}
 use Rattle.ec_emission.specs.Literals.{Texts}
-use Rattle.ec_few_values.proofs.Stops.{above, own_rests, rests}
-use Rattle.ec_few_values.proofs.Uses.{Leads, Within, lead, less, nothing}
-use Rattle.ec_few_values.proofs.Values.{Applies, Follows, IsClean}
-use Rattle.ec_few_values.proofs.Values.{held_by, value}
+use Rattle.ec_runnable.proofs.Stops.{above, own_rests, rests}
+use Rattle.ec_runnable.proofs.Uses.{Leads, Within, lead, less, nothing}
+use Rattle.ec_runnable.proofs.Values.{Applies, Follows, IsClean}
+use Rattle.ec_runnable.proofs.Values.{held_by, value}
 use Rattle.ec_meaning.specs.Programs.{Source, class_number, line, name_number}
 use Rattle.ec_meaning.specs.Steps.{stop_of}
 use Rattle.ec_emission.specs.Leaves.{Number, Truth, Nil, temporary}
 use Rattle.ec_world.specs.declared.stop.Stop.{Stop}
 use Rattle.ec_world.specs.declared.stop.Stop.TheVariants as stop
-use Rattle.ec_few_values.proofs.Forms.{as_leaf_clean, comparison_clean, fetch_each, fetch_one, inverted_clean, joined_applies}
-use Rattle.ec_few_values.proofs.Forms.{multiplied_applies, negated_clean, one, same, skips, stop_at, then_stop_clean}
+use Rattle.ec_runnable.proofs.Forms.{as_leaf_clean, comparison_clean, fetch_each, fetch_one, inverted_clean, joined_applies}
+use Rattle.ec_runnable.proofs.Forms.{multiplied_applies, negated_clean, one, same, skips, stop_at, then_stop_clean}
 
 module _ (s : Source) (captured count : ℕ) (literals : Texts) where
   abbrev of_layer : Expression-F Emitted Following Applied Applied → Emitted

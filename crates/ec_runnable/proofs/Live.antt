@@ -7,8 +7,8 @@ use Rattle.ec_code.specs.declared.code.Op.{Op}
 use Rattle.ec_code.specs.declared.code.Op.TheVariants as op
 use Rattle.ec_code.specs.declared.code.Variable.{Variable}
 use Rattle.ec_code.specs.declared.code.Variable.TheVariants.{Named, Temporary}
-use Rattle.ec_few_values.proofs.Uses.{AreClear, IsClearStep, but_for_others, but_for_written, temporaries_in, uses, uses_at, uses_behind}
-use Rattle.ec_few_values.proofs.Uses.{uses_dropped, uses_of}
+use Rattle.ec_runnable.proofs.Uses.{AreClear, IsClearStep, but_for_others, but_for_written, temporaries_in, uses, uses_at, uses_behind}
+use Rattle.ec_runnable.proofs.Uses.{uses_dropped, uses_of}
 use Rattle.ec_code.proofs.Among.{in_left, in_right}
 use Rattle.ec_code.specs.Live.{IsLive, goes_on, is_passed, is_read, reads, stays, writes}
 

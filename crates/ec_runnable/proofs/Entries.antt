@@ -15,9 +15,9 @@ use Rattle.ec_code.specs.declared.code.Variable.TheVariants.{Named, Temporary}
 use Rattle.ec_machine_code.specs.Limits.{HasColumn, HasColumns}
 use Rattle.ec_types.specs.declared.conform.static_type.StaticType.{StaticType}
 use Rattle.ec_machine_code.specs.Stops.{live_list, stop_of, without}
-use Rattle.ec_few_values.proofs.Live.{IsUsed, clear_here, live_used, unwritten}
-use Rattle.ec_few_values.proofs.Uses.{AreClear, IsAbove, IsClear, but_for_written, each_in, uses, uses_at, uses_dropped}
-use Rattle.ec_few_values.specs.Laws.{variables_of}
+use Rattle.ec_runnable.proofs.Live.{IsUsed, clear_here, live_used, unwritten}
+use Rattle.ec_runnable.proofs.Uses.{AreClear, IsAbove, IsClear, but_for_written, each_in, uses, uses_at, uses_dropped}
+use Rattle.ec_runnable.specs.FewValuesLaws.{variables_of}
 use Rattle.ec_machine_code.specs.Homes.{IsVariable, column}
 use Rattle.ec_code.proofs.Among.{in_append, is_same_self}
 use Rattle.ec_code.specs.Live.{InOrder, IsBefore, IsLive, IsLiveList, reads, stays}

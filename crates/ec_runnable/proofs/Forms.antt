@@ -24,11 +24,11 @@ use Rattle.ec_emission.specs.Expressions.{multiplied, negated, operand_of}
 use Rattle.ec_emission.specs.Expressions.{as_leaf, by_code, by_condition, compared_pair}
 use Rattle.ec_emission.specs.Expressions.{pair_first, pair_second, stops_at, then_stop}
 use Rattle.ec_emission.specs.Literals.{Texts}
-use Rattle.ec_few_values.proofs.Stops.{above, rests, writes_next}
-use Rattle.ec_few_values.proofs.Uses.{AreHeld, IsHeld, Leads, Within, each_joined, each_weaker, lead, nothing, past_code, step, uses}
-use Rattle.ec_few_values.proofs.Uses.{IsClearStep, but_for, temporaries_in, uses_at, uses_of}
-use Rattle.ec_few_values.proofs.Values.{Applies, IsClean, alone, both, computes, condition_held, divides}
-use Rattle.ec_few_values.proofs.Values.{held_by, leaf_held, pair, tested, value}
+use Rattle.ec_runnable.proofs.Stops.{above, rests, writes_next}
+use Rattle.ec_runnable.proofs.Uses.{AreHeld, IsHeld, Leads, Within, each_joined, each_weaker, lead, nothing, past_code, step, uses}
+use Rattle.ec_runnable.proofs.Uses.{IsClearStep, but_for, temporaries_in, uses_at, uses_of}
+use Rattle.ec_runnable.proofs.Values.{Applies, IsClean, alone, both, computes, condition_held, divides}
+use Rattle.ec_runnable.proofs.Values.{held_by, leaf_held, pair, tested, value}
 use Rattle.ec_code.specs.Live.{reads}
 use Rattle.ec_meaning.specs.Programs.{Source}
 use Rattle.ec_emission.specs.Leaves.{Leaf, leaf_operand, temporary}

@@ -12,12 +12,12 @@ use Rattle.ec_emission.specs.Expressions.{emitted, fits_here}
 use Rattle.ec_emission.specs.Literals.{Texts}
 use Rattle.ec_emission.specs.Statements.{body_done, constant_ops, default_ops, defaults_from, entry, given, leave_ops, leave_row}
 use Rattle.ec_emission.specs.Statements.{operation_fits, operation_ops, program_fits, program_ops, result_of}
-use Rattle.ec_few_values.proofs.Expressions.{is_clean}
-use Rattle.ec_few_values.proofs.Exits.{Exits}
-use Rattle.ec_few_values.proofs.Statements.{block_fits, given_leads}
-use Rattle.ec_few_values.proofs.Stops.{above, bare_rests, rests}
-use Rattle.ec_few_values.proofs.Uses.{AreClear, Leads, join, lead, less, nothing, uses}
-use Rattle.ec_few_values.proofs.Values.{value}
+use Rattle.ec_runnable.proofs.Expressions.{is_clean}
+use Rattle.ec_runnable.proofs.Exits.{Exits}
+use Rattle.ec_runnable.proofs.Statements.{block_fits, given_leads}
+use Rattle.ec_runnable.proofs.Stops.{above, bare_rests, rests}
+use Rattle.ec_runnable.proofs.Uses.{AreClear, Leads, join, lead, less, nothing, uses}
+use Rattle.ec_runnable.proofs.Values.{value}
 use Rattle.ec_meaning.specs.Programs.{Source}
 use Rattle.ec_meaning.specs.Types.{kind_of}
 use Rattle.ec_emission.specs.Rows.{rest_row, return_row}

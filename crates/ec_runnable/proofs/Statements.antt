@@ -19,12 +19,12 @@ use Rattle.ec_emission.specs.Literals.{Texts}
 use Rattle.ec_emission.specs.Statements.{Choice, Done, all_choices, all_done, arms_code, block_code, block_of, choice_code}
 use Rattle.ec_emission.specs.Statements.{done_of, given, in_order, statement_code}
 use Rattle.ec_emission.specs.Statements.{stop_with, store, stored, value_of, where_it_holds}
-use Rattle.ec_few_values.proofs.Expressions.{is_clean}
-use Rattle.ec_few_values.proofs.Stops.{above, bare_rests, rests}
-use Rattle.ec_few_values.proofs.Uses.{AreHeld, Leads}
-use Rattle.ec_few_values.proofs.Uses.{lead, less}
-use Rattle.ec_few_values.proofs.Uses.{nothing, step, temporaries_in}
-use Rattle.ec_few_values.proofs.Values.{IsClean, alone, value}
+use Rattle.ec_runnable.proofs.Expressions.{is_clean}
+use Rattle.ec_runnable.proofs.Stops.{above, bare_rests, rests}
+use Rattle.ec_runnable.proofs.Uses.{AreHeld, Leads}
+use Rattle.ec_runnable.proofs.Uses.{lead, less}
+use Rattle.ec_runnable.proofs.Uses.{nothing, step, temporaries_in}
+use Rattle.ec_runnable.proofs.Values.{IsClean, alone, value}
 use Rattle.ec_code.specs.Live.{read_in}
 use Rattle.ec_meaning.specs.Programs.{Source, line}
 use Rattle.ec_meaning.specs.Steps.{default_if}
@@ -34,8 +34,8 @@ use Rattle.ec_world.specs.declared.stop.Stop.{Stop}
 use Rattle.ec_world.specs.declared.stop.Stop.TheVariants as stop
 use Rattle.ec_world.specs.declared.value.Value.{Value}
 use Rattle.ec_world.specs.declared.value.Value.TheVariants as value
-use Rattle.ec_few_values.proofs.Exits.{Exits, Fits, FitsArm, arm_exits, conditional_exits, exits_where, forgets, goes_on, loop_exits}
-use Rattle.ec_few_values.proofs.Exits.{straight, tests, writes_none}
+use Rattle.ec_runnable.proofs.Exits.{Exits, Fits, FitsArm, arm_exits, conditional_exits, exits_where, forgets, goes_on, loop_exits}
+use Rattle.ec_runnable.proofs.Exits.{straight, tests, writes_none}
 
 -- The code is of an operation with variables of these types, of objects whose class captures so many names; `leaves` is the code of
 -- its end.
