@@ -18,8 +18,8 @@ use Rattle.ec_settling.proofs.Wording.{changes_join}
 use Rattle.ec_things.specs.Store.{Store, Tidy}
 use Rattle.ec_things.specs.Texts.{GetsTexts, InPool}
 use Rattle.ec_things.specs.Things.{Thing, row_size, things_of}
-use Rattle.ec_travelling.proofs.Turns.{lands}
-use Rattle.ec_travelling.specs.Travelling.{ShowsBut}
+use Rattle.ec_things.proofs.Turns.{lands}
+use Rattle.ec_things.specs.Travelling.{ShowsBut}
 use Rattle.ec_world.proofs.Members.{has_back, has_either, has_first, has_front, has_later, has_none, has_one}
 use Rattle.ec_world.specs.Group.{Has}
 use Rattle.ec_world.specs.declared.value.Value.{Value}

@@ -29,7 +29,7 @@ use Rattle.ec_parcels.specs.Owners.{among, blocks_in, frame_keys, keys_of, objec
 use Rattle.ec_parcels.specs.Parcels.{ActivationGoes, IsOfObject}
 use Rattle.ec_settling.proofs.Wording.{nothing_join}
 use Rattle.ec_things.specs.Things.{Thing, frame_if, object_if, object_thing}
-use Rattle.ec_travelling.proofs.Others.{stand_nowhere}
+use Rattle.ec_things.proofs.Others.{stand_nowhere}
 use Rattle.ec_wire.specs.declared.parcel.ActivationPart.{ActivationPart}
 use Rattle.ec_wire.specs.declared.parcel.Contents.{Contents}
 use Rattle.ec_wire.specs.declared.parcel.MonitorPart.{MonitorPart}

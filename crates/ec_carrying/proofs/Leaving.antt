@@ -19,8 +19,8 @@ use Rattle.ec_parcels.specs.Owners.{among}
 use Rattle.ec_settling.proofs.Wording.{nothing_changes, nothing_join}
 use Rattle.ec_cluster.specs.Steps.{Nothing}
 use Rattle.ec_things.specs.Texts.{NoTexts}
-use Rattle.ec_travelling.proofs.Turns.{takes_off}
-use Rattle.ec_travelling.specs.Travelling.{ShowsBut}
+use Rattle.ec_things.proofs.Turns.{takes_off}
+use Rattle.ec_things.specs.Travelling.{ShowsBut}
 use Rattle.ec_world.proofs.Members.{has_back, has_first, has_front, has_later}
 use Rattle.ec_world.specs.Group.{Has}
 

@@ -9,7 +9,7 @@ use Rattle.ec_parcels.specs.Owners.{among}
 use Rattle.ec_things.specs.Store.{Store}
 use Rattle.ec_things.specs.Texts.{GetsTexts}
 use Rattle.ec_things.specs.Things.{NodePut, Puts, Thing, things_of}
-use Rattle.ec_travelling.specs.Travelling.{ShowsBut}
+use Rattle.ec_things.specs.Travelling.{ShowsBut}
 use Rattle.ec_world.specs.Group.{Has}
 
 -- The nodes show a world but for what travels.

@@ -34,7 +34,7 @@ use Rattle.ec_things.specs.Held.{Held, frame_weight, object_weight, process_weig
 use Rattle.ec_things.specs.Store.{Store}
 use Rattle.ec_things.specs.Texts.{GetsTexts, InPool, IsHeld}
 use Rattle.ec_things.specs.Things.{Thing, object_thing, things_of}
-use Rattle.ec_travelling.proofs.Totals.{total_same}
+use Rattle.ec_things.proofs.Totals.{total_same}
 use Rattle.ec_wire.specs.WireForm.{KeepsRules}
 use Rattle.ec_wire.specs.declared.parcel.Contents.{Contents}
 use Rattle.ec_world.proofs.Members.{has_later, has_parts}

@@ -18,8 +18,8 @@ use Rattle.ec_things.proofs.Put.{same_or_not}
 use Rattle.ec_things.proofs.World.{if_elsewhere, if_here}
 use Rattle.ec_things.specs.Held.{Held}
 use Rattle.ec_things.specs.Things.{Thing, size_of, things_of}
-use Rattle.ec_travelling.proofs.Held.{held_same}
-use Rattle.ec_travelling.specs.Travelling.{HeldBut}
+use Rattle.ec_things.proofs.Held.{held_same}
+use Rattle.ec_things.specs.Travelling.{HeldBut}
 use Rattle.ec_wire.specs.declared.parcel.Contents.{Contents}
 use Rattle.ec_world.specs.Group.{Has, is_in}
 

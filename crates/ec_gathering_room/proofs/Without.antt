@@ -10,8 +10,8 @@ use Rattle.ec_parcels.proofs.Rising.{once_first, once_tail}
 use Rattle.ec_parcels.specs.Owners.{among}
 use Rattle.ec_things.specs.Held.{Held}
 use Rattle.ec_things.specs.Things.{Thing, things_of}
-use Rattle.ec_travelling.proofs.Held.{held_turned}
-use Rattle.ec_travelling.specs.Travelling.{HeldBut, Turned, weight_but}
+use Rattle.ec_things.proofs.Held.{held_turned}
+use Rattle.ec_things.specs.Travelling.{HeldBut, Turned, weight_but}
 use Rattle.ec_world.proofs.Members.{has_first, has_later}
 use Rattle.ec_world.specs.Group.{Has}
 use Rattle.ec_world.specs.declared.world.World.{World}

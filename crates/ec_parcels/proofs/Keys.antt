@@ -5,7 +5,7 @@ use Rattle.ec_world.specs.declared.key.Key.{Key}
 use Rattle.ec_world.specs.declared.key.Key.TheVariants.{Frame, Object}
 use Rattle.ec_parcels.specs.Laws.{AmongIsHas, OneFewerTravels, OneMoreTravels}
 use Rattle.ec_parcels.specs.Owners.{among, is_same_key}
-use Rattle.ec_travelling.specs.Travelling.{Turned}
+use Rattle.ec_things.specs.Travelling.{Turned}
 use Rattle.ec_world.proofs.Members.{has_back, has_either, has_first, has_front, has_later, has_none, has_one, has_parts}
 use Rattle.ec_world.specs.Group.{Has}
 

@@ -3,7 +3,7 @@ use Rattle.std.specs.Prelude.{◌≡◌, ◌↔◌, true, false, List, ◌∷◌
 use Rattle.ec_world.specs.Held.{Distinct}
 use Rattle.ec_world.specs.declared.key.Key.{Key}
 use Rattle.ec_parcels.specs.Owners.{among, keys_of}
-use Rattle.ec_travelling.specs.Travelling.{Turned}
+use Rattle.ec_things.specs.Travelling.{Turned}
 use Rattle.ec_wire.specs.WireForm.{KeepsRules}
 use Rattle.ec_wire.specs.declared.parcel.Contents.{Contents}
 use Rattle.ec_world.specs.Group.{Has}

@@ -12,3 +12,7 @@ pub mod Same
 pub mod Objects
 pub mod Began
 pub mod Globals
+pub mod Totals
+pub mod Held
+pub mod Turns
+pub mod Others

@@ -6,3 +6,5 @@ pub mod Shows
 pub mod Changes
 pub mod Items
 pub mod Laws
+pub mod Travelling
+pub mod TravellingLaws

@@ -1,6 +1,6 @@
 //! What nodes show while objects and activations travel between them.
-ghost use Rattle.ec_travelling.specs.Laws.{NothingTravels, OneLands, OneTakesOff, SameTravellers, TravellersAreNowhere};
-ghost use Rattle.ec_travelling.specs.Laws.{TravellersMayChange, TravellersMayGoElsewhere};
+ghost use Rattle.ec_things.specs.TravellingLaws.{NothingTravels, OneLands, OneTakesOff, SameTravellers, TravellersAreNowhere};
+ghost use Rattle.ec_things.specs.TravellingLaws.{TravellersMayChange, TravellersMayGoElsewhere};
 
 /// Where nothing travels, the nodes show the world.
 pub fn nothing_travels<A>()

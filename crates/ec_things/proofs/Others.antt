@@ -12,9 +12,9 @@ use Rattle.ec_things.proofs.Same.{same_things}
 use Rattle.ec_things.specs.Shows.{Shows}
 use Rattle.ec_things.specs.Store.{Owned}
 use Rattle.ec_things.specs.Things.{Thing, frame_if, object_if, things_of}
-use Rattle.ec_travelling.proofs.Held.{held_same, weight_same}
-use Rattle.ec_travelling.specs.Laws.{NothingTravels, SameTravellers, TravellersAreNowhere, TravellersMayChange, TravellersMayGoElsewhere}
-use Rattle.ec_travelling.specs.Travelling.{HeldBut, object_weight, staying}
+use Rattle.ec_things.proofs.Held.{held_same, weight_same}
+use Rattle.ec_things.specs.TravellingLaws.{NothingTravels, SameTravellers, TravellersAreNowhere, TravellersMayChange, TravellersMayGoElsewhere}
+use Rattle.ec_things.specs.Travelling.{HeldBut, object_weight, staying}
 use Rattle.ec_world.specs.declared.object.ObjectRec.{ObjectRec}
 use Rattle.ec_world.specs.declared.world.World.{World}
 

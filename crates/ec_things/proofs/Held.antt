@@ -7,8 +7,8 @@ use Rattle.ec_world.specs.Things.{in_process}
 use Rattle.ec_world.specs.declared.key.Key.{Key}
 use Rattle.ec_world.specs.declared.key.Key.TheVariants.{Object, Frame}
 use Rattle.ec_things.specs.Things.{Thing, frame_if, object_if, object_thing, things_of}
-use Rattle.ec_travelling.proofs.Totals.{total_but, total_same}
-use Rattle.ec_travelling.specs.Travelling.{HeldBut, Turned, frame_weight, object_weight, process_weight, weight_but}
+use Rattle.ec_things.proofs.Totals.{total_but, total_same}
+use Rattle.ec_things.specs.Travelling.{HeldBut, Turned, frame_weight, object_weight, process_weight, weight_but}
 use Rattle.ec_world.specs.declared.object.ObjectRec.{ObjectRec}
 use Rattle.ec_world.specs.declared.process.Proc.{Proc}
 use Rattle.ec_world.specs.declared.world.World.{World}

@@ -5,7 +5,7 @@ use Rattle.ec_world.specs.declared.key.Key.TheVariants.{Object}
 use Rattle.ec_things.specs.Shows.{ShowsWorld}
 use Rattle.ec_things.specs.Store.{Store}
 use Rattle.ec_things.specs.Things.{NodePut, Puts, Thing, things_of}
-use Rattle.ec_travelling.specs.Travelling.{ShowsBut, Turned, nothing}
+use Rattle.ec_things.specs.Travelling.{ShowsBut, Turned, nothing}
 use Rattle.ec_world.specs.declared.object.ObjectRec.{ObjectRec}
 use Rattle.ec_world.specs.declared.world.World.{World}
 

@@ -6,9 +6,9 @@ use Rattle.ec_world.specs.declared.key.Key.{Key}
 use Rattle.ec_things.proofs.World.{if_none, put_one}
 use Rattle.ec_things.specs.Store.{Store}
 use Rattle.ec_things.specs.Things.{IsAt, NodePut, Puts, Thing, ThingPut, size_of, things_of}
-use Rattle.ec_travelling.proofs.Held.{held_turned}
-use Rattle.ec_travelling.specs.Laws.{OneLands, OneTakesOff}
-use Rattle.ec_travelling.specs.Travelling.{HeldBut, ShowsBut, Turned, staying, weight_but}
+use Rattle.ec_things.proofs.Held.{held_turned}
+use Rattle.ec_things.specs.TravellingLaws.{OneLands, OneTakesOff}
+use Rattle.ec_things.specs.Travelling.{HeldBut, ShowsBut, Turned, staying, weight_but}
 use Rattle.ec_world.specs.declared.world.World.{World}
 
 -- a thing, unless it travels

@@ -1,4 +1,0 @@
-pub mod Totals
-pub mod Held
-pub mod Turns
-pub mod Others

@@ -1,2 +1,0 @@
-pub mod Travelling
-pub mod Laws
