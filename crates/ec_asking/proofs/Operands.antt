@@ -21,7 +21,7 @@ use Rattle.ec_code.proofs.Among.{is_same_self, same_is}
 use Rattle.ec_code.specs.Marks.{is_same}
 use Rattle.ec_objects.specs.Kinds.{IsOfKind}
 use Rattle.ec_code.specs.RangesValues.{AllInRange}
-use Rattle.ec_resting.specs.Laws.{its_entry}
+use Rattle.ec_activations.specs.RestingLaws.{its_entry}
 use Rattle.ec_code.specs.Sound.{SoundPending}
 use Rattle.ec_code.specs.SoundValues.{AreHeld, HasType, held}
 use Rattle.ec_generate.specs.Entries.{typed}

@@ -8,8 +8,8 @@ use Rattle.ec_code.specs.Typing.{Declared}
 use Rattle.ec_code.specs.declared.activation.CodeActivation.{CodeActivation}
 use Rattle.ec_code.specs.declared.code.Parts.{Parts}
 use Rattle.ec_node_frames.specs.Frames.{RestsAt as RestsInFrame}
-use Rattle.ec_resting.proofs.Entries.{rests_at_an_entry}
-use Rattle.ec_resting.specs.Laws.{its_entry}
+use Rattle.ec_activations.proofs.Entries.{rests_at_an_entry}
+use Rattle.ec_activations.specs.RestingLaws.{its_entry}
 use Rattle.ec_code.proofs.Facts.{each_is_there}
 use Rattle.ec_code.specs.Sound.{RestsAt}
 use Rattle.ec_system.specs.Systems.{Runs}

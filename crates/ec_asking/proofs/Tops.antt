@@ -29,8 +29,8 @@ use Rattle.ec_node_frames.specs.Operands.{ActsHere}
 use Rattle.ec_world.proofs.Procs.{get_end}
 use Rattle.ec_code.specs.RangesValues.{AllInRange}
 use Rattle.ec_code.specs.Worlds.{RangedActivation, RangedProc}
-use Rattle.ec_resting.proofs.Operands.{held_for_it}
-use Rattle.ec_resting.specs.Laws.{its_entry}
+use Rattle.ec_activations.proofs.Operands.{held_for_it}
+use Rattle.ec_activations.specs.RestingLaws.{its_entry}
 use Rattle.ec_code.proofs.Carried.{each_get}
 use Rattle.ec_code.proofs.Facts.{never_lacks, pending_top}
 use Rattle.ec_code.specs.Sound.{SoundPending}

@@ -17,9 +17,9 @@ use Rattle.ec_fitting.specs.Fitting.{BelowTakes, CanTakeIt, OneTakes, TopTakes}
 use Rattle.ec_fitting.specs.Waiters.{AllStay, WaitersStay}
 use Rattle.ec_code.specs.Live.{stays}
 use Rattle.ec_node_frames.specs.Frames.{RestsAt as RestsThere}
-use Rattle.ec_resting.proofs.Entries.{rests_at_an_entry}
-use Rattle.ec_resting.proofs.Operands.{waits_for}
-use Rattle.ec_resting.specs.Laws.{its_entry}
+use Rattle.ec_activations.proofs.Entries.{rests_at_an_entry}
+use Rattle.ec_activations.proofs.Operands.{waits_for}
+use Rattle.ec_activations.specs.RestingLaws.{its_entry}
 use Rattle.ec_code.proofs.Facts.{each_is_there}
 use Rattle.ec_code.proofs.Table.{Continues, EffectGoes}
 use Rattle.ec_code.specs.Sound.{Chain, FineEffect, IsLowest, RestsAt, SoundPending, Waits, lowest_of}

@@ -20,9 +20,9 @@ use Rattle.ec_fullness.proofs.Effects.{GoerWaits, Waiting, WaitingIf}
 use Rattle.ec_fullness.proofs.Values.{IsLast, WaitsAt}
 use Rattle.ec_code.specs.Live.{stays}
 use Rattle.ec_node_frames.specs.Frames.{RestsAt as Resting}
-use Rattle.ec_resting.proofs.Entries.{rests_at_an_entry}
-use Rattle.ec_resting.proofs.Operands.{waits_for}
-use Rattle.ec_resting.specs.Laws.{its_entry}
+use Rattle.ec_activations.proofs.Entries.{rests_at_an_entry}
+use Rattle.ec_activations.proofs.Operands.{waits_for}
+use Rattle.ec_activations.specs.RestingLaws.{its_entry}
 use Rattle.ec_code.proofs.Carried.{each_get}
 use Rattle.ec_code.proofs.Facts.{each_is_there, pending_top}
 use Rattle.ec_code.specs.Sound.{Chain, RestsAt, SoundProc, SoundTower, Waits}

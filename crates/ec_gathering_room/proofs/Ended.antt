@@ -17,8 +17,8 @@ use Rattle.ec_node_frames.proofs.Done.{ended_is_done}
 use Rattle.ec_node_frames.proofs.Items.{get_behind, get_map}
 use Rattle.ec_node_frames.proofs.Rewriting.{held_before, held_now}
 use Rattle.ec_node_frames.specs.Frames.{RestsAt}
-use Rattle.ec_resting.proofs.Operands.{held_for_it}
-use Rattle.ec_resting.specs.Laws.{its_entry}
+use Rattle.ec_activations.proofs.Operands.{held_for_it}
+use Rattle.ec_activations.specs.RestingLaws.{its_entry}
 use Rattle.ec_code.specs.Sound.{SoundPending}
 use Rattle.ec_generate.specs.declared.table.StopEntry.{StopEntry}
 use Rattle.ec_world.proofs.Members.{has_either, has_later}

@@ -22,8 +22,8 @@ use Rattle.ec_going.proofs.Ranging.{variable_fits}
 use Rattle.ec_legs.specs.Legs.{CanStep}
 use Rattle.ec_code.specs.Live.{stays}
 use Rattle.ec_code.specs.Worlds.{RangedActivation, RangedCommon}
-use Rattle.ec_resting.proofs.Entries.{rests_at_an_entry}
-use Rattle.ec_resting.specs.Laws.{its_entry}
+use Rattle.ec_activations.proofs.Entries.{rests_at_an_entry}
+use Rattle.ec_activations.specs.RestingLaws.{its_entry}
 use Rattle.ec_code.proofs.Carried.{all_two_get, each_object}
 use Rattle.ec_code.proofs.Carried as carried
 use Rattle.ec_code.proofs.Silent.{reaches}

@@ -11,8 +11,8 @@ use Rattle.ec_code.specs.declared.code.Parts.{Parts}
 use Rattle.ec_code.specs.declared.code.Variable.{Variable}
 use Rattle.ec_types.specs.declared.conform.static_type.StaticType.{StaticType}
 use Rattle.ec_leaving.specs.Between.{StillWaits}
-use Rattle.ec_resting.proofs.Entries.{rests_at_an_entry}
-use Rattle.ec_resting.specs.Laws.{its_entry}
+use Rattle.ec_activations.proofs.Entries.{rests_at_an_entry}
+use Rattle.ec_activations.specs.RestingLaws.{its_entry}
 use Rattle.ec_code.specs.Sound.{RestsAt}
 use Rattle.ec_generate.specs.Entries.{result_of}
 use Rattle.ec_generate.specs.declared.table.StopEntry.{StopEntry}

@@ -30,7 +30,7 @@ use Rattle.ec_packing.specs.Blocks.{AreThere, HasSmallBlock, HaveSmallBlocks}
 use Rattle.ec_packing.specs.Narrow.{EachIs}
 use Rattle.ec_packing.specs.Packing.{CanGo, activation_goes, activation_if, at_stop, depths_if, is_here, process_goes, up_to}
 use Rattle.ec_parcels.specs.Parcels.{ActivationGoes, IsOfActivation}
-use Rattle.ec_resting.proofs.Entries.{rests_at_an_entry}
+use Rattle.ec_activations.proofs.Entries.{rests_at_an_entry}
 use Rattle.ec_code.specs.SoundValues.{class_in}
 use Rattle.ec_generate.specs.declared.table.StopEntry.{StopEntry}
 use Rattle.ec_stores.specs.Changes.{FirstBlock}

@@ -33,7 +33,7 @@ use Rattle.ec_code.specs.Marks.{is_same, is_written}
 use Rattle.ec_objects.specs.Kinds.{IsOfKind}
 use Rattle.ec_code.specs.RangesValues.{AllInRange, InRange}
 use Rattle.ec_code.specs.Worlds.{RangedActivation}
-use Rattle.ec_resting.specs.Laws.{its_entry}
+use Rattle.ec_activations.specs.RestingLaws.{its_entry}
 use Rattle.ec_code.proofs.Carried.{each_append, each_get, each_replicate}
 use Rattle.ec_code.specs.Sound.{Chain, LiveBehind, RestsAt, SoundDone, SoundPending, SoundProc, SoundTop}
 use Rattle.ec_code.specs.Sound.{SoundTower, SoundWaiting, TopIs, Waits}

@@ -23,7 +23,7 @@ use Rattle.ec_packing.proofs.Carrying.{Knows, can_go, carried_good, entry_of, kn
 use Rattle.ec_packing.proofs.Members.{is_here_it}
 use Rattle.ec_packing.specs.Packing.{CanGo, activation_goes, activation_if, at_stop}
 use Rattle.ec_code.specs.Worlds.{RangedActivation, RangedProc}
-use Rattle.ec_resting.proofs.Entries.{rests_at_an_entry}
+use Rattle.ec_activations.proofs.Entries.{rests_at_an_entry}
 use Rattle.ec_code.proofs.Carried.{each_get}
 use Rattle.ec_code.specs.Sound.{SoundProc}
 use Rattle.ec_generate.specs.declared.table.OperationTable.{OperationTable}

@@ -14,7 +14,7 @@ use Rattle.ec_code.specs.declared.code.Op.TheVariants.{Rest}
 use Rattle.ec_code.specs.declared.code.Parts.{Parts}
 use Rattle.ec_code.specs.declared.code.StopRow.{StopRow}
 use Rattle.ec_machine_code.specs.Stops as stops
-use Rattle.ec_resting.specs.Laws.{EachRestsAtAnEntry, its_entry}
+use Rattle.ec_activations.specs.RestingLaws.{EachRestsAtAnEntry, its_entry}
 use Rattle.ec_code.specs.Sound.{RestsAt}
 use Rattle.ec_generate.specs.Entries.{entries_from, entries_of, entry_of, with_entry}
 use Rattle.ec_world.specs.declared.object.ObjectRec.{ObjectRec}

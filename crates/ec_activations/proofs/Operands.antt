@@ -15,7 +15,7 @@ use Rattle.ec_code.specs.declared.code.Variable.{Variable}
 use Rattle.ec_code.specs.declared.code.Variable.TheVariants.{Named, Temporary}
 use Rattle.ec_types.specs.declared.conform.static_type.StaticType.{StaticType}
 use Rattle.ec_code.specs.Live.{stays}
-use Rattle.ec_resting.specs.Laws.{its_entry}
+use Rattle.ec_activations.specs.RestingLaws.{its_entry}
 use Rattle.ec_code.specs.Sound.{RestsAt, SoundPending}
 use Rattle.ec_code.specs.SoundValues.{AreHeld, held}
 use Rattle.ec_generate.specs.Entries.{result_of, typed}

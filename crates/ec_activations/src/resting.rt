@@ -1,5 +1,5 @@
 //! What holds of each activation of a sound world.
-ghost use Rattle.ec_resting.specs.Laws.{EachRestsAtAnEntry, OperandsAreHeld, WaitsForTheResult};
+ghost use Rattle.ec_activations.specs.RestingLaws.{EachRestsAtAnEntry, OperandsAreHeld, WaitsForTheResult};
 
 /// Each activation of a sound world rests at a stop that has an entry in the table of its operation.
 pub fn each_rests_at_an_entry()
