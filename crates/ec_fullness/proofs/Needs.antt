@@ -10,7 +10,7 @@ use Rattle.ec_fullness.proofs.Blocks.{held_moved}
 use Rattle.ec_fullness.specs.Fullness.{EachFits, FitsAt, IsFull, NeedsAt, Wants, place_then}
 use Rattle.ec_fullness.specs.Room.{HasRoomWith}
 use Rattle.ec_fullness.specs.Told.{LacksAt, LacksFirst}
-use Rattle.ec_needs.specs.Lacks.{HasRoomForAll, LacksRoom, needs_at}
+use Rattle.ec_objects.specs.Lacks.{HasRoomForAll, LacksRoom, needs_at}
 use Rattle.ec_world.proofs.Procs.{get_past}
 use Rattle.ec_world.specs.Held.{if_at}
 use Rattle.ec_world.specs.declared.key.Key.{Key}

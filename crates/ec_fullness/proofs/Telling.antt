@@ -11,7 +11,7 @@ use Rattle.ec_code.specs.declared.code.Live.{Live}
 use Rattle.ec_fullness.proofs.Needs.{fits_without}
 use Rattle.ec_fullness.specs.Room.{HasRoomWith}
 use Rattle.ec_fullness.specs.Told.{HaveRoomBefore, LacksFirst, Tells, TellsOfAll, TellsOfMaking, taken}
-use Rattle.ec_needs.specs.Lacks.{HasRoomForAll, LacksRoom}
+use Rattle.ec_objects.specs.Lacks.{HasRoomForAll, LacksRoom}
 use Rattle.ec_node_frames.specs.Beginning.{first_values}
 use Rattle.ec_world.specs.Things.{class_blocks}
 use Rattle.ec_world.specs.declared.room.Lack.{Lack}

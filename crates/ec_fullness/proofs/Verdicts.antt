@@ -31,7 +31,7 @@ use Rattle.ec_fullness.proofs.Waiting.{below_waiting, top_waiting}
 use Rattle.ec_fullness.specs.Fullness.{EachFits, IsFull, Wants, place_then}
 use Rattle.ec_fullness.specs.Room.{HasRoomBelow, HasRoomToBegin, HasRoomToMake, HasRoomToTake, HasRoomWith, RoomFor}
 use Rattle.ec_fullness.specs.Told.{Tells, TellsOfAll, TellsOfMaking, TellsOfOne, taken}
-use Rattle.ec_needs.specs.Lacks.{HasRoomForAll}
+use Rattle.ec_objects.specs.Lacks.{HasRoomForAll}
 use Rattle.ec_node_frames.proofs.Items.{get_front}
 use Rattle.ec_node_frames.specs.Beginning.{HasEntry, first_values}
 use Rattle.ec_node_frames.specs.Finishing.{HasRoomIn, IsTaken}

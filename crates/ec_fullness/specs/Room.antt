@@ -6,7 +6,7 @@ use Rattle.ec_cluster.specs.Steps.{HasRoomAt}
 use Rattle.ec_cluster.specs.declared.cluster.Cluster.{Cluster}
 use Rattle.ec_cluster_frames.specs.Frames.{HasRoomFor, tables_on}
 use Rattle.ec_code.specs.declared.activation.CodeActivation.{CodeActivation}
-use Rattle.ec_needs.specs.Lacks.{HasRoomForAll}
+use Rattle.ec_objects.specs.Lacks.{HasRoomForAll}
 use Rattle.ec_node_frames.specs.Beginning.{first_values}
 use Rattle.ec_node_frames.specs.Frames.{RestsAt}
 use Rattle.ec_world.specs.Things.{class_blocks}

@@ -6,7 +6,7 @@ use Rattle.ec_code.specs.Typing.{Declared}
 use Rattle.ec_code.specs.declared.activation.CodeActivation.{CodeActivation}
 use Rattle.ec_code.specs.declared.code.Live.{Live}
 use Rattle.ec_fullness.specs.Room.{HasRoomWith}
-use Rattle.ec_needs.specs.Lacks.{HasRoomForAll, LacksRoom}
+use Rattle.ec_objects.specs.Lacks.{HasRoomForAll, LacksRoom}
 use Rattle.ec_node_frames.specs.Frames.{RestsAt}
 use Rattle.ec_world.specs.Things.{class_blocks}
 use Rattle.ec_world.specs.declared.room.Lack.{Lack}

@@ -5,7 +5,7 @@ ghost use Rattle.ec_fullness.specs.Told.{Tells, TellsOfAll};
 
 use ec_cluster::cluster::Cluster;
 use ec_cluster::objects::node_of;
-use ec_needs::lacks::lack_of;
+use ec_objects::lacks::lack_of;
 use ec_world::room::Lack;
 use ec_world::value::{Oid, Value};
 use std::alloc::{AllocError, Global};

@@ -16,7 +16,7 @@ use ec_cluster::cluster::Cluster;
 use ec_cluster::objects::node_of;
 use ec_cluster_frames::finding::headings_at;
 use ec_cluster_frames::stops::{entry_of, table_of};
-use ec_needs::lacks::lack_of;
+use ec_objects::lacks::lack_of;
 use ec_world::room::Lack;
 use ec_system::system::System;
 use ec_world::stop::Who;

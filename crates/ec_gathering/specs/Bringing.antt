@@ -12,7 +12,7 @@ use Rattle.ec_gathering.specs.Shipping.{IsShipped, froms}
 use Rattle.ec_gathering.specs.declared.shipping.Shipment.{Shipment}
 use Rattle.ec_parcels.specs.Owners.{all_blocks, all_values}
 use Rattle.ec_mover.specs.Classes.{ClassTable, IsClassTable}
-use Rattle.ec_needs.specs.Lacks.{HasRoomForAll}
+use Rattle.ec_objects.specs.Lacks.{HasRoomForAll}
 use Rattle.ec_node_frames.specs.Frames.{RestsAt}
 use Rattle.ec_world.specs.Held.{Distinct}
 use Rattle.ec_world.specs.Things.{activation_at}

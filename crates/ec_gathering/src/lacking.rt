@@ -3,7 +3,7 @@ ghost use Rattle.std.specs.Prelude.{◌≡◌, List, IfNone, IfOk, IfSome, Some}
 ghost use Rattle.ec_cluster.specs.Cluster.{stores};
 ghost use Rattle.ec_gathering.specs.Shipping.{AreBytes, AreRead, CanBeRead};
 ghost use Rattle.ec_parcels.specs.Owners.{all_blocks, all_values};
-ghost use Rattle.ec_needs.specs.Lacks.{HasRoomForAll, LacksRoom};
+ghost use Rattle.ec_objects.specs.Lacks.{HasRoomForAll, LacksRoom};
 ghost use Rattle.ec_things.specs.Store.{Store};
 ghost use Rattle.ec_wire.specs.WireForm.{IsWire};
 ghost use Rattle.ec_wire.specs.declared.parcel.Contents.{Contents};

@@ -10,7 +10,7 @@ use Rattle.ec_fullness.specs.Fullness.{EachFits, IsFull}
 use Rattle.ec_gathering_room.specs.Gathering.{ButFixed, CanGather, gathered}
 use Rattle.ec_parcels.specs.Owners.{all_blocks, all_values}
 use Rattle.ec_mover.specs.Classes.{ClassTable}
-use Rattle.ec_needs.specs.Lacks.{HasRoomForAll, LacksRoom}
+use Rattle.ec_objects.specs.Lacks.{HasRoomForAll, LacksRoom}
 use Rattle.ec_world.specs.declared.room.Lack.{Lack}
 use Rattle.ec_system.specs.Acting.{Asks}
 use Rattle.ec_system.specs.Systems.{Runs}

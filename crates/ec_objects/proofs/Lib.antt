@@ -7,3 +7,4 @@ pub mod Setting
 pub mod Gets
 pub mod Rows
 pub mod Defining
+pub mod Noting

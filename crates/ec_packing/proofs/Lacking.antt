@@ -1,7 +1,7 @@
 -- What is told of room for blocks and for the texts of values.
 use Rattle.std.proofs.Common.{◌≡◌, ℕ, List, Option, Some, None, sym, subst}
 use Rattle.std.specs.Prelude.{IfNone, IfSome}
-use Rattle.ec_needs.specs.Lacks.{HasRoomForAll, LacksRoom, needs_at}
+use Rattle.ec_objects.specs.Lacks.{HasRoomForAll, LacksRoom, needs_at}
 use Rattle.ec_world.specs.Held.{Fits, Lacks}
 use Rattle.ec_world.specs.declared.room.Lack.{Lack}
 use Rattle.ec_world.specs.declared.room.Needs.{Needs}

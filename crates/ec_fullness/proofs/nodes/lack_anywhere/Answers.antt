@@ -3,7 +3,7 @@ use Rattle.std.proofs.Common.{[], ◌∷◌, ◌≡◌, List, arith, false, subs
 use Rattle.std.specs.Prelude.{IfNone, IfSome, is_some}
 use Rattle.ec_fullness.proofs.Telling.{all_before, first_told, none_told, one_more}
 use Rattle.ec_fullness.proofs.nodes.lack_anywhere.Goals as goal
-use Rattle.ec_needs.specs.Lacks.{HasRoomForAll, LacksRoom}
+use Rattle.ec_objects.specs.Lacks.{HasRoomForAll, LacksRoom}
 use Rattle.ec_stores.specs.Node.{store_of}
 use Rattle.ec_world.specs.declared.value.Value.{Value}
 

@@ -12,7 +12,7 @@ use Rattle.ec_gathering.specs.Shipping.{CanBeRead}
 use Rattle.ec_gathering.specs.declared.shipping.Shipment.{Shipment}
 use Rattle.ec_parcels.specs.Owners.{all_blocks, all_values}
 use Rattle.ec_mover.specs.Classes.{ClassTable}
-use Rattle.ec_needs.specs.Lacks.{LacksRoom}
+use Rattle.ec_objects.specs.Lacks.{LacksRoom}
 use Rattle.ec_world.specs.declared.room.Lack.{Lack}
 use Rattle.ec_system.specs.declared.system.System.{System}
 

@@ -5,7 +5,7 @@ use Rattle.std.specs.Prelude.{IfNone, IfOk, IfSome, option_map}
 use Rattle.ec_gathering.proofs.Spelled.{same_parcels}
 use Rattle.ec_gathering.proofs.lacking.lack_of.Goals as goal
 use Rattle.ec_parcels.specs.Owners.{all_blocks, all_values}
-use Rattle.ec_needs.specs.Lacks.{HasRoomForAll, LacksRoom}
+use Rattle.ec_objects.specs.Lacks.{HasRoomForAll, LacksRoom}
 use Rattle.ec_packing.specs.Room.{AreOfClasses}
 use Rattle.ec_stores.specs.Node.{store_of}
 use Rattle.ec_things.specs.Store.{Store}

@@ -1,5 +1,5 @@
-use Rattle.ec_needs.proofs.texts.new_bytes.Given as goal
-use Rattle.ec_needs.specs.Texts.{Noted}
+use Rattle.ec_objects.proofs.texts.new_bytes.Given as goal
+use Rattle.ec_objects.specs.Texts.{Noted}
 use Rattle.ec_stores.specs.Node.{store_of}
 
 abbrev pub invariant-loop-i : goal.invariant-loop-i

@@ -4,7 +4,7 @@ use Rattle.std.proofs.Common.{arith}
 use Rattle.std.proofs.Common.{inl, inr, ⊎_elim}
 use Rattle.std.specs.Prelude.{slice_get, take, ◌↔◌}
 use Rattle.ec_base.proofs.Lists.{take_next}
-use Rattle.ec_needs.specs.Texts.{Noted, Notes}
+use Rattle.ec_objects.specs.Texts.{Noted, Notes}
 use Rattle.ec_world.specs.Held.{Distinct}
 use Rattle.ec_world.specs.Words.{text_bytes}
 use Rattle.ec_objects.proofs.Wording.{has_end, has_last, has_more, take_all}

@@ -1,9 +1,9 @@
 -- A text that is new is kept.
 use Rattle.std.proofs.Common.{◌≡◌, ◌≢◌, ◌-◌, ◌≤◌, ◌++◌, [], ◌∷◌, List, ℕ, Some, length, sym, subst}
 use Rattle.std.specs.Prelude.{Err, Ok, OnOk, Result, slice_get}
-use Rattle.ec_needs.proofs.Noting.{notes_one}
-use Rattle.ec_needs.proofs.texts.note.Goals as goal
-use Rattle.ec_needs.specs.Texts.{Notes}
+use Rattle.ec_objects.proofs.Noting.{notes_one}
+use Rattle.ec_objects.proofs.texts.note.Goals as goal
+use Rattle.ec_objects.specs.Texts.{Notes}
 use Rattle.ec_stores.specs.Node.{store_of}
 use Rattle.ec_stores.specs.Tables.{TextPool}
 use Rattle.ec_things.specs.Store.{Store}

@@ -2,8 +2,8 @@
 use Rattle.std.proofs.Common.{◌≡◌, ◌-◌, Some, sym, ap, ◌∙◌, arith}
 use Rattle.std.specs.Prelude.{slice_get}
 use Rattle.std.proofs.lemmas.Option.{slice_get-get_or}
-use Rattle.ec_needs.proofs.Noting.{all_noted, one_noted}
-use Rattle.ec_needs.proofs.texts.new_bytes.Goals as goal
+use Rattle.ec_objects.proofs.Noting.{all_noted, one_noted}
+use Rattle.ec_objects.proofs.texts.new_bytes.Goals as goal
 use Rattle.ec_stores.specs.Node.{store_of}
 
 pub loop-i-preserved : goal.loop-i-preserved

@@ -1,6 +1,6 @@
 //! What a node lacks.
 ghost use Rattle.std.specs.Prelude.{IfOk, IfNone, IfSome};
-ghost use Rattle.ec_needs.specs.Lacks.{HasRoomForAll, LacksRoom};
+ghost use Rattle.ec_objects.specs.Lacks.{HasRoomForAll, LacksRoom};
 ghost use Rattle.ec_stores.specs.Node.{store_of};
 
 use crate::texts::new_bytes;

@@ -1,6 +1,6 @@
 //! The bytes of texts that are new at a node.
 ghost use Rattle.std.specs.Prelude.{◌≡◌, ◌≢◌, ◌-◌, ◌≤◌, ◌++◌, [], ◌∷◌, ℕ, IfOk, OnOk, Some, length, slice_get};
-ghost use Rattle.ec_needs.specs.Texts.{Notes};
+ghost use Rattle.ec_objects.specs.Texts.{Notes};
 ghost use Rattle.ec_stores.specs.Node.{store_of};
 ghost use Rattle.ec_things.specs.Texts.{NewBytes};
 ghost use Rattle.ec_world.specs.Group.{Has};
