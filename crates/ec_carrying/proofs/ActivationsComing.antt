@@ -4,8 +4,8 @@ use Rattle.std.proofs.Common.{⊎_elim}
 use Rattle.std.proofs.lemmas.List.{append-nil, drop_all}
 use Rattle.std.proofs.lemmas.List.Concat.{flat_map-append}
 use Rattle.std.specs.Prelude.{slice_get}
-use Rattle.ec_arrivals.specs.Arriving.{Arrives}
-use Rattle.ec_arrivals.specs.Carried.{IsCarried, values_carried}
+use Rattle.ec_node_frames.specs.Arriving.{Arrives}
+use Rattle.ec_node_frames.specs.Carried.{IsCarried, values_carried}
 use Rattle.ec_base.proofs.Lists.{drop_at, take_next}
 use Rattle.ec_carrying.proofs.Coming.{one_lands, room_for_first, room_for_others, texts_none, texts_of_both, texts_of_one}
 use Rattle.ec_carrying.specs.Landing.{CanArrive, EachArrivesAs, EachCanArrive, HasRoomFor, IsPartOf, TextsAt}

@@ -1,6 +1,6 @@
 -- A parcel that goes from one node to another, and what is shown when it has come.
 use Rattle.std.specs.Prelude.{◌≡◌, ◌≢◌, ℕ, ◌≤◌, false, List, Some}
-use Rattle.ec_arrivals.specs.Carried.{IsCarried}
+use Rattle.ec_node_frames.specs.Carried.{IsCarried}
 use Rattle.ec_carrying.specs.Landing.{TextsAt}
 use Rattle.ec_carrying.specs.Moves.{NotAny}
 use Rattle.ec_cluster.specs.Cluster.{CodeWorld, Shows, place, stores}

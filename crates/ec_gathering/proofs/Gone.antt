@@ -4,7 +4,7 @@ use Rattle.std.proofs.Common.{inl, refl, subst, sym, ⊎_elim}
 use Rattle.std.proofs.lemmas.Option.{same_Some}
 use Rattle.std.specs.Prelude.{IfSome, IsSome, if◌then◌else◌}
 use Rattle.ec_activations.specs.Frames.{Numbered}
-use Rattle.ec_arrivals.specs.Carried.{IsCarried}
+use Rattle.ec_node_frames.specs.Carried.{IsCarried}
 use Rattle.ec_base.proofs.Lists.{get_there, get_within}
 use Rattle.ec_carrying.proofs.Steps.{places_along}
 use Rattle.ec_carrying.proofs.Texts.{back_fits}

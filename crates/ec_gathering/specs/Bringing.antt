@@ -1,6 +1,6 @@
 -- The parcels of a group come to a node, one after another.
 use Rattle.std.specs.Prelude.{◌≡◌, ◌≢◌, ◌<◌, ◌⊎◌, ℕ, false, Bool, List, Option, Some, None, length}
-use Rattle.ec_arrivals.specs.Carried.{IsCarried}
+use Rattle.ec_node_frames.specs.Carried.{IsCarried}
 use Rattle.ec_cluster.specs.Cluster.{CodeWorld, Shows, place, stores}
 use Rattle.ec_cluster.specs.Steps.{Changes}
 use Rattle.ec_cluster.specs.declared.cluster.Cluster.{Cluster}

@@ -6,7 +6,7 @@ use Rattle.std.proofs.lemmas.Option.{same_Some}
 use Rattle.std.specs.List.{flat_map, sum_by}
 use Rattle.std.specs.Prelude.{if◌then◌else◌, slice_get}
 use Rattle.ec_activations.specs.Frames.{Held, held_if, held_in, held_of, result_in, value_in}
-use Rattle.ec_arrivals.specs.Carried.{IsCarried, values_carried}
+use Rattle.ec_node_frames.specs.Carried.{IsCarried, values_carried}
 use Rattle.ec_cluster.specs.Cluster.{CodeWorld, frame_of, place}
 use Rattle.ec_cluster.specs.declared.cluster.Cluster.{Cluster}
 use Rattle.ec_code.specs.declared.activation.CodeActivation.{CodeActivation}

@@ -1,6 +1,6 @@
 -- A group of objects that goes to a node in parcels, one from each other node that has some of it.
 use Rattle.std.specs.Prelude.{◌≡◌, ◌≢◌, ℕ, Bool, if◌then◌else◌, List, length, Option, Some, slice_get}
-use Rattle.ec_arrivals.specs.Carried.{IsCarried}
+use Rattle.ec_node_frames.specs.Carried.{IsCarried}
 use Rattle.ec_cluster.specs.Cluster.{CodeWorld, Shows, place}
 use Rattle.ec_cluster.specs.declared.cluster.Cluster.{Cluster}
 use Rattle.ec_code.specs.declared.activation.CodeActivation.{CodeActivation}

@@ -1,7 +1,7 @@
 -- What holds of a program's worlds between turns, so that things of them can leave their nodes.
 use Rattle.std.specs.Prelude.{◌≡◌, ◌<◌, ◌^◌, ℕ, false, true, length, Option, Some, None}
 use Rattle.std.specs.List.{AllByRecursion as Each}
-use Rattle.ec_arrivals.specs.Carried.{IsCarried}
+use Rattle.ec_node_frames.specs.Carried.{IsCarried}
 use Rattle.ec_base.specs.Stack.{below_of, top_of}
 use Rattle.ec_class_numbers.specs.Vectors.{VectorsAreMade}
 use Rattle.ec_cluster.specs.Cluster.{CodeWorld}

@@ -3,9 +3,9 @@ use Rattle.std.proofs.Common.{◌≡◌, ℕ, Bool, List, Option, Some, None, re
 use Rattle.std.specs.Prelude.{slice_get}
 use Rattle.ec_activations.proofs.Frames.{all_two_at}
 use Rattle.ec_activations.specs.Frames.{at_place, entries_if, value_in}
-use Rattle.ec_arrivals.proofs.Carrying.{many_carried}
-use Rattle.ec_arrivals.proofs.Stops.{stop_in_table}
-use Rattle.ec_arrivals.specs.Carried.{CarriedHere, IsCarried, carried}
+use Rattle.ec_node_frames.proofs.Carrying.{many_carried}
+use Rattle.ec_node_frames.proofs.Stops.{stop_in_table}
+use Rattle.ec_node_frames.specs.Carried.{CarriedHere, IsCarried, carried}
 use Rattle.ec_code.specs.Activations.{operation_at}
 use Rattle.ec_code.specs.Typing.{Declared, kind_of}
 use Rattle.ec_code.specs.declared.activation.CodeActivation.{CodeActivation}

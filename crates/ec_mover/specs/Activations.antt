@@ -1,7 +1,7 @@
 -- What goes of an activation that a node shows, and what comes of it.
 use Rattle.std.specs.Prelude.{◌≡◌, ℕ, List, length, Some, slice_get}
 use Rattle.ec_activations.specs.Frames.{frame_thing, number_if, stop_of, value_in}
-use Rattle.ec_arrivals.specs.Carried.{IsCarried, carried, values_carried}
+use Rattle.ec_node_frames.specs.Carried.{IsCarried, carried, values_carried}
 use Rattle.ec_code.specs.Typing.{Declared, kind_of}
 use Rattle.ec_code.specs.declared.activation.CodeActivation.{CodeActivation}
 use Rattle.ec_code.specs.declared.code.Live.{Live}

@@ -1,8 +1,8 @@
 -- What holds of each class on the wire, and of each activation that goes in a parcel.
 use Rattle.std.specs.Prelude.{◌≡◌, ◌↔◌, ℕ, List, Some}
 use Rattle.ec_activations.specs.Frames.{frame_thing}
-use Rattle.ec_arrivals.specs.Arriving.{Arrives}
-use Rattle.ec_arrivals.specs.Carried.{IsCarried}
+use Rattle.ec_node_frames.specs.Arriving.{Arrives}
+use Rattle.ec_node_frames.specs.Carried.{IsCarried}
 use Rattle.ec_code.specs.Typing.{Declared}
 use Rattle.ec_code.specs.declared.activation.CodeActivation.{CodeActivation}
 use Rattle.ec_code.specs.declared.code.Parts.{Parts}

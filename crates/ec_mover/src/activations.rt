@@ -1,6 +1,6 @@
 //! Activations that go from a node, and activations that come to it.
 ghost use Rattle.std.specs.Prelude.{◌≡◌, ◌<◌, ◌∷◌, List, length, slice_get, IfOk, None, OnOk, Some};
-ghost use Rattle.ec_arrivals.specs.Arriving.{Arrives};
+ghost use Rattle.ec_node_frames.specs.Arriving.{Arrives};
 ghost use Rattle.ec_code.specs.Typing.{Declared};
 ghost use Rattle.ec_code.specs.declared.activation.CodeActivation.{CodeActivation};
 ghost use Rattle.ec_code.specs.declared.code.Parts.{Parts};
@@ -17,8 +17,8 @@ ghost use Rattle.ec_world.specs.Group.{Has};
 ghost use Rattle.ec_world.specs.declared.node.Kind.{Kind};
 ghost use Rattle.ec_world.specs.declared.value.Value.TheVariants.{Ref, Str};
 
-use ec_arrivals::arrive::arrive;
-use ec_arrivals::carried::carried_values;
+use ec_node_frames::arrive::arrive;
+use ec_node_frames::carried::carried_values;
 use ec_node_frames::frames::{Headings, headings_of};
 use ec_generate::table::OperationTable;
 use ec_stores::node::NodeStore;

@@ -10,3 +10,7 @@ pub mod Beginning
 pub mod Filling
 pub mod Reading
 pub mod Texts
+pub mod Carrying
+pub mod Stops
+pub mod Wording
+pub mod Arriving

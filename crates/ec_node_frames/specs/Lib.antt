@@ -3,3 +3,7 @@ pub mod Beginning
 pub mod Finishing
 pub mod Loops
 pub mod Operands
+pub mod Carried
+pub mod Arriving
+pub mod ArrivalsLoops
+pub mod Laws

@@ -5,7 +5,7 @@ use Rattle.std.proofs.lemmas.List.{length-map}
 use Rattle.std.proofs.lemmas.Option.{same_Some}
 use Rattle.std.specs.Prelude.{if◌then◌else◌, is_some, option_map, slice_get}
 use Rattle.ec_activations.specs.Frames.{Held, Numbered, held_in, stop_of, value_in}
-use Rattle.ec_arrivals.specs.Carried.{carried, values_carried}
+use Rattle.ec_node_frames.specs.Carried.{carried, values_carried}
 use Rattle.ec_base.proofs.Lists.{get_within}
 use Rattle.ec_cluster.proofs.Putting.{shown_there}
 use Rattle.ec_cluster.specs.Cluster.{CodeWorld, frame_of}

@@ -7,7 +7,7 @@ use Rattle.std.specs.Prelude.{if◌then◌else◌, replicate, slice_get}
 use Rattle.ec_activations.proofs.Stops.{in_list, in_without}
 use Rattle.ec_activations.proofs.Words.{typed_variable}
 use Rattle.ec_activations.specs.Frames.{or_nil, value_in}
-use Rattle.ec_arrivals.specs.Carried.{IsCarried, carried}
+use Rattle.ec_node_frames.specs.Carried.{IsCarried, carried}
 use Rattle.ec_asking.proofs.OfKind.{of_kind}
 use Rattle.ec_asking.proofs.Operands.{behind_itself, operand_kinds}
 use Rattle.ec_asking.proofs.Resting.{rests_at}

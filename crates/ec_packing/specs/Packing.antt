@@ -2,7 +2,7 @@
 use Rattle.std.specs.Prelude.{◌≡◌, ◌≤◌, ◌<◌, ◌==◌, ◌&&◌, ℕ, zero, suc, Bool, false, if◌then◌else◌, IsSome, List, [], ◌∷◌, ◌++◌, length}
 use Rattle.std.specs.Prelude.{Option, Some, None, option_to_list, slice_get}
 use Rattle.ec_activations.specs.Frames.{Numbered, stop_of}
-use Rattle.ec_arrivals.specs.Carried.{carried}
+use Rattle.ec_node_frames.specs.Carried.{carried}
 use Rattle.ec_asking.specs.Bare.{IsBareProgram}
 use Rattle.ec_asking.specs.Typed.{IsTypedOnce}
 use Rattle.ec_cluster.specs.Cluster.{CodeWorld, place}

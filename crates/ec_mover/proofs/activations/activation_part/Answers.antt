@@ -2,7 +2,7 @@
 use Rattle.std.proofs.Common.{◌≡◌, ℕ, ◌<◌, Bool, List, length, ap, subst, sym, ◌∙◌}
 use Rattle.std.proofs.lemmas.Option.{same_Some}
 use Rattle.ec_activations.specs.Frames.{number_if, stop_of}
-use Rattle.ec_arrivals.specs.Carried.{CarriedHere, values_carried}
+use Rattle.ec_node_frames.specs.Carried.{CarriedHere, values_carried}
 use Rattle.ec_base.proofs.Lists.{get_within}
 use Rattle.ec_mover.proofs.Stops.{carried_from, stop_of_leaving, table_there}
 use Rattle.ec_mover.proofs.activations.activation_part.Goals as goal

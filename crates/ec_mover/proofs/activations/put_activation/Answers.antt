@@ -2,7 +2,7 @@
 use Rattle.std.proofs.Common.{◌≡◌, ◌∷◌, List, ap, subst, sym, ◌∙◌}
 use Rattle.std.specs.Prelude.{OnOk, slice_get}
 use Rattle.std.proofs.lemmas.Option.{same_Some}
-use Rattle.ec_arrivals.specs.Arriving.{Arrives}
+use Rattle.ec_node_frames.specs.Arriving.{Arrives}
 use Rattle.ec_mover.proofs.activations.put_activation.Goals as goal
 use Rattle.ec_mover.specs.Activations.{headings_in}
 use Rattle.ec_objects.specs.Values.{TextsFit}

@@ -2,8 +2,8 @@
 use Rattle.std.proofs.Common.{refl, ◌∙◌, Some, subst, sym}
 use Rattle.std.proofs.lemmas.Option.{same_Some}
 use Rattle.ec_activations.specs.Frames.{frame_thing}
-use Rattle.ec_arrivals.specs.Arriving.{Arrives}
-use Rattle.ec_arrivals.specs.Carried.{values_carried}
+use Rattle.ec_node_frames.specs.Arriving.{Arrives}
+use Rattle.ec_node_frames.specs.Carried.{values_carried}
 use Rattle.ec_mover.proofs.Stops.{part_heads, stop_there}
 use Rattle.ec_mover.proofs.laws.activations_come_whole.Goals as goal
 use Rattle.ec_mover.specs.Activations.{IsStopOf, activation_part_of, headings_in}

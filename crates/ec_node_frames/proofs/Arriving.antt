@@ -6,9 +6,9 @@ use Rattle.std.proofs.lemmas.Option.{same_Some}
 use Rattle.ec_activations.proofs.Stops.{mapped}
 use Rattle.ec_activations.proofs.ValueByValue.{each_value_has_a_word, one_word_one_value}
 use Rattle.ec_activations.specs.Frames.{Held, frame_thing, headings, held_in, held_of, value_in, variable_word, word_if}
-use Rattle.ec_arrivals.proofs.Carrying.{held_when, with_value}
-use Rattle.ec_arrivals.specs.Arriving.{Arrives}
-use Rattle.ec_arrivals.specs.Carried.{IsCarried, carried, values_carried}
+use Rattle.ec_node_frames.proofs.Carrying.{held_when, with_value}
+use Rattle.ec_node_frames.specs.Arriving.{Arrives}
+use Rattle.ec_node_frames.specs.Carried.{IsCarried, carried, values_carried}
 use Rattle.ec_base.proofs.Lists.{get_within}
 use Rattle.ec_code.specs.Typing.{Declared}
 use Rattle.ec_code.specs.declared.activation.CodeActivation.{CodeActivation}

@@ -1,8 +1,8 @@
 //! What goes with an activation to another node.
 ghost use Rattle.std.specs.Prelude.{◌≡◌, ◌<◌, List, [], if◌then◌else◌, length, map, slice_get, IfOk, Some};
-ghost use Rattle.ec_arrivals.specs.Carried as spec;
-ghost use Rattle.ec_arrivals.specs.Carried.{CarriedHere, HasCarried, values_carried};
-ghost use Rattle.ec_arrivals.specs.Loops.{AreRead, HaveValues};
+ghost use Rattle.ec_node_frames.specs.Carried as spec;
+ghost use Rattle.ec_node_frames.specs.Carried.{CarriedHere, HasCarried, values_carried};
+ghost use Rattle.ec_node_frames.specs.ArrivalsLoops.{AreRead, HaveValues};
 ghost use Rattle.ec_code.specs.Typing as typing;
 ghost use Rattle.ec_code.specs.Typing.{Declared};
 ghost use Rattle.ec_code.specs.declared.activation.CodeActivation.{CodeActivation};

@@ -3,7 +3,7 @@ use Rattle.std.proofs.Common.{◌≡◌, ℕ, suc, ◌+◌, ◌==◌, Bool, true
 use Rattle.std.specs.Prelude.{if◌then◌else◌, slice_get}
 use Rattle.std.proofs.lemmas.Option.{same_Some}
 use Rattle.ec_activations.specs.Frames.{Numbered, at_place, entries_if, number_if}
-use Rattle.ec_arrivals.specs.Laws.{OneStopOnEachKind}
+use Rattle.ec_node_frames.specs.Laws.{OneStopOnEachKind}
 use Rattle.ec_code.specs.Activations.{operation_at}
 use Rattle.ec_node_frames.proofs.Homed.{its_operation}
 use Rattle.ec_generate.specs.declared.table.StopEntry.{StopEntry}

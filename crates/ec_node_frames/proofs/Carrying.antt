@@ -3,8 +3,8 @@ use Rattle.std.proofs.Common.{◌≡◌, ℕ, suc, ◌+◌, ◌<◌, ◌≤◌, 
 use Rattle.std.proofs.Common.{Option, Some, None, refl, sym, ap, ◌∙◌, subst}
 use Rattle.std.specs.Prelude.{if◌then◌else◌, slice_get}
 use Rattle.ec_activations.specs.Frames.{Held, held_if, held_in, held_of, result_in, value_in, variable_word, word_if}
-use Rattle.ec_arrivals.specs.Carried.{CarriedHere, HasCarried, IsCarried, carried, values_carried}
-use Rattle.ec_arrivals.specs.Loops.{AreRead, HaveValues}
+use Rattle.ec_node_frames.specs.Carried.{CarriedHere, HasCarried, IsCarried, carried, values_carried}
+use Rattle.ec_node_frames.specs.ArrivalsLoops.{AreRead, HaveValues}
 use Rattle.ec_base.proofs.Lists.{take_next}
 use Rattle.ec_code.specs.Typing.{Declared}
 use Rattle.ec_code.specs.declared.activation.CodeActivation.{CodeActivation}

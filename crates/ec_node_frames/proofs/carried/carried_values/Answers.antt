@@ -2,9 +2,9 @@
 use Rattle.std.proofs.Common.{◌≡◌, List, map, sym, ap, ◌∙◌, subst}
 use Rattle.std.specs.Prelude.{IfOk}
 use Rattle.ec_activations.specs.Frames.{value_in}
-use Rattle.ec_arrivals.proofs.Carrying.{are_read, have_values, read_carried}
-use Rattle.ec_arrivals.proofs.carried.carried_values.Goals as goal
-use Rattle.ec_arrivals.specs.Loops.{AreRead, HaveValues}
+use Rattle.ec_node_frames.proofs.Carrying.{are_read, have_values, read_carried}
+use Rattle.ec_node_frames.proofs.carried.carried_values.Goals as goal
+use Rattle.ec_node_frames.specs.ArrivalsLoops.{AreRead, HaveValues}
 use Rattle.ec_code.specs.declared.code.Live.{Live}
 use Rattle.ec_stores.specs.Node.{store_of}
 use Rattle.ec_world.specs.declared.value.Value.{Value}

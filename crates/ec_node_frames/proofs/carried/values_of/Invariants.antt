@@ -1,6 +1,6 @@
 use Rattle.std.proofs.Common.{◌≡◌, map, take}
-use Rattle.ec_arrivals.proofs.carried.values_of.Given as goal
-use Rattle.ec_arrivals.specs.Loops.{AreRead}
+use Rattle.ec_node_frames.proofs.carried.values_of.Given as goal
+use Rattle.ec_node_frames.specs.ArrivalsLoops.{AreRead}
 use Rattle.ec_code.specs.declared.code.Live.{Live}
 use Rattle.ec_stores.specs.Node.{store_of}
 use Rattle.ec_world.specs.declared.value.Value.{Value}

@@ -1,7 +1,7 @@
 //! An activation comes from another node: its frame is made.
 ghost use Rattle.std.specs.Prelude.{◌≡◌, suc, ◌≤◌, ◌<◌, ◌∷◌, ℕ, length, slice_get, slice_set, if◌then◌else◌, IfOk, None, OnOk, Some};
-ghost use Rattle.ec_arrivals.specs.Arriving.{Arrives};
-ghost use Rattle.ec_arrivals.specs.Carried as spec;
+ghost use Rattle.ec_node_frames.specs.Arriving.{Arrives};
+ghost use Rattle.ec_node_frames.specs.Carried as spec;
 ghost use Rattle.ec_node_frames.specs.Frames.{IsFrame};
 ghost use Rattle.ec_node_frames.specs.Loops.{IsFilled};
 ghost use Rattle.ec_world.specs.declared.key.Key.TheVariants.{Frame as OfFrame};
@@ -13,7 +13,7 @@ ghost use Rattle.ec_world.specs.declared.value.Value.TheVariants.{Ref, Str};
 
 use crate::carried::{carried, home_word, live_at};
 use ec_code::code::Live;
-use ec_node_frames::frames::Headings;
+use crate::frames::Headings;
 use ec_objects::values::{word_for, words_for};
 use ec_generate::table::{OperationTable, StopEntry};
 use ec_stores::node::NodeStore;

@@ -5,7 +5,7 @@ use Rattle.std.proofs.lemmas.Option.{same_Some}
 use Rattle.ec_machine_code.specs.Frames.{home_word}
 use Rattle.ec_node_frames.proofs.Reading.{frame_read, word_read}
 use Rattle.ec_node_frames.proofs.Shown.{owns_word}
-use Rattle.ec_arrivals.proofs.carried.live_value.Goals as goal
+use Rattle.ec_node_frames.proofs.carried.live_value.Goals as goal
 use Rattle.ec_objects.specs.Values.{value_of}
 use Rattle.ec_stores.specs.Node.{store_of}
 use Rattle.ec_world.specs.declared.value.Value.{Value}

@@ -1,7 +1,7 @@
 -- One value after another.
 use Rattle.std.proofs.Common.{◌∷◌, ◌++◌, [], ap, ◌∙◌, sym, arith}
-use Rattle.ec_arrivals.proofs.Carrying.{all_taken, next_taken, none_taken}
-use Rattle.ec_arrivals.proofs.carried.values_of.Goals as goal
+use Rattle.ec_node_frames.proofs.Carrying.{all_taken, next_taken, none_taken}
+use Rattle.ec_node_frames.proofs.carried.values_of.Goals as goal
 
 pub loop-i-init : goal.loop-i-init
 loop-i-init c = λ value reads. c.new-values.ensures ∙ sym (none_taken value c.args.held.now)

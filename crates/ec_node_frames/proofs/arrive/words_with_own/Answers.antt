@@ -1,7 +1,7 @@
 -- The first word, and those behind it.
 use Rattle.std.proofs.Common.{◌≡◌, ℕ, List, ◌∷◌, ◌++◌, sym, ap, ◌∙◌, subst}
-use Rattle.ec_arrivals.proofs.Wording.{words_behind}
-use Rattle.ec_arrivals.proofs.arrive.words_with_own.Goals as goal
+use Rattle.ec_node_frames.proofs.Wording.{words_behind}
+use Rattle.ec_node_frames.proofs.arrive.words_with_own.Goals as goal
 use Rattle.ec_objects.proofs.Rooms.{texts_fit_next}
 use Rattle.ec_objects.proofs.Wording.{pool_or_not}
 use Rattle.ec_objects.specs.Values.{HasWords}

@@ -2,10 +2,10 @@
 use Rattle.std.proofs.Common.{◌≡◌, ℕ, ◌<◌, List, [], ◌∷◌, get_or, length, None, suc, sym, ◌∙◌, subst, arith}
 use Rattle.std.specs.Prelude.{if◌then◌else◌, Err, Ok, OnOk, Result}
 use Rattle.std.proofs.lemmas.Option.{slice_get-get_or}
-use Rattle.ec_arrivals.proofs.Arriving.{Made, frame_arrives, head_words, texts_come}
-use Rattle.ec_arrivals.proofs.arrive.arrive.Goals as goal
-use Rattle.ec_arrivals.specs.Arriving.{Arrives}
-use Rattle.ec_arrivals.specs.Carried.{carried}
+use Rattle.ec_node_frames.proofs.Arriving.{Made, frame_arrives, head_words, texts_come}
+use Rattle.ec_node_frames.proofs.arrive.arrive.Goals as goal
+use Rattle.ec_node_frames.specs.Arriving.{Arrives}
+use Rattle.ec_node_frames.specs.Carried.{carried}
 use Rattle.ec_code.specs.declared.code.Live.{Live}
 use Rattle.ec_node_frames.specs.Loops.{IsFilled}
 use Rattle.ec_node_frames.specs.declared.frames.Headings.{Headings}

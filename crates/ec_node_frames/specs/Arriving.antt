@@ -1,7 +1,7 @@
 -- What an activation is at the node to which it comes.
 use Rattle.std.specs.Prelude.{◌≡◌, ℕ, List, Some, slice_get}
 use Rattle.ec_activations.specs.Frames.{frame_thing}
-use Rattle.ec_arrivals.specs.Carried.{IsCarried, values_carried}
+use Rattle.ec_node_frames.specs.Carried.{IsCarried, values_carried}
 use Rattle.ec_code.specs.Typing.{Declared}
 use Rattle.ec_code.specs.declared.activation.CodeActivation.{CodeActivation}
 use Rattle.ec_code.specs.declared.code.Parts.{Parts}

@@ -1,4 +1,0 @@
-pub mod Carrying
-pub mod Stops
-pub mod Wording
-pub mod Arriving

@@ -1,4 +1,0 @@
-pub mod Carried
-pub mod Arriving
-pub mod Loops
-pub mod Laws
