@@ -19,15 +19,15 @@ use Rattle.ec_world.specs.Things.{class_blocks}
 use Rattle.ec_world.specs.declared.key.Key.TheVariants.{Object}
 use Rattle.ec_objects.specs.Kinds.{IsOfKind}
 use Rattle.ec_code.specs.RangesValues.{InRange}
-use Rattle.ec_seen.proofs.Reading.{all_can}
-use Rattle.ec_seen.specs.Kinds.{IsOfKindAt, kind_at}
-use Rattle.ec_seen.specs.Seeing.{CanBeSeen, ShowsProgram}
+use Rattle.ec_cluster.proofs.Reading.{all_can}
+use Rattle.ec_cluster.specs.Kinds.{IsOfKindAt, kind_at}
+use Rattle.ec_cluster.specs.Seeing.{CanBeSeen, ShowsProgram}
 use Rattle.ec_code.proofs.Carried.{each_get, each_object}
 use Rattle.ec_code.specs.Sound.{FineFields, FineObject}
 use Rattle.ec_code.specs.SoundValues.{HasType}
 use Rattle.ec_code.specs.Worlds.{RangedObject}
-use Rattle.ec_system.specs.Systems.{Runs}
-use Rattle.ec_system.specs.declared.system.System.{System}
+use Rattle.ec_cluster.specs.Systems.{Runs}
+use Rattle.ec_cluster.specs.declared.system.System.{System}
 use Rattle.ec_things.specs.Store.{Owned, Store, word_in, word_of}
 use Rattle.ec_things.specs.Things.{ShownAt, Thing, object_if, object_thing}
 use Rattle.ec_world.specs.Agree.{AllTwo}

@@ -2,7 +2,7 @@
 use Rattle.std.proofs.Common.{◌≡◌, ◌<◌, ◌≤◌, ℕ, List, Some, ap, arith}
 use Rattle.std.specs.Prelude.{length, slice_get}
 use Rattle.ec_cluster.specs.Cluster.{CodeWorld}
-use Rattle.ec_cluster_frames.specs.Frames.{RestsIn}
+use Rattle.ec_cluster.specs.Frames.{RestsIn}
 use Rattle.ec_code.specs.Activations.{operation_at, variables_if}
 use Rattle.ec_code.specs.Typing.{Declared}
 use Rattle.ec_code.specs.declared.activation.CodeActivation.{CodeActivation}
@@ -12,8 +12,8 @@ use Rattle.ec_activations.proofs.Entries.{rests_at_an_entry}
 use Rattle.ec_activations.specs.RestingLaws.{its_entry}
 use Rattle.ec_code.proofs.Facts.{each_is_there}
 use Rattle.ec_code.specs.Sound.{RestsAt}
-use Rattle.ec_system.specs.Systems.{Runs}
-use Rattle.ec_system.specs.declared.system.System.{System}
+use Rattle.ec_cluster.specs.Systems.{Runs}
+use Rattle.ec_cluster.specs.declared.system.System.{System}
 use Rattle.ec_world.specs.declared.object.ObjectRec.{ObjectRec}
 use Rattle.ec_world.specs.declared.process.Proc.{Proc}
 

@@ -8,16 +8,16 @@ use Rattle.ec_asking.specs.Rows.{depth_if}
 use Rattle.ec_base.proofs.Stacks.{stack_parts}
 use Rattle.ec_base.specs.Stack.{below_of, top_of}
 use Rattle.ec_cluster.specs.Cluster.{CodeWorld, frame_of, place, stores}
-use Rattle.ec_cluster_frames.specs.Finding.{NoFrame, TellsOf}
+use Rattle.ec_cluster.specs.Finding.{NoFrame, TellsOf}
 use Rattle.ec_code.specs.Activations.{code_meaning}
 use Rattle.ec_code.specs.Typing.{Declared}
 use Rattle.ec_code.specs.declared.activation.CodeActivation.{CodeActivation}
 use Rattle.ec_node_frames.specs.declared.frames.Headings.{Headings}
 use Rattle.ec_world.proofs.Procs.{activation_is}
 use Rattle.ec_world.specs.declared.key.Key.TheVariants.{Frame}
-use Rattle.ec_system.specs.Systems.{Runs, row_of}
-use Rattle.ec_system.specs.declared.system.ProcessRow.{ProcessRow}
-use Rattle.ec_system.specs.declared.system.System.{System}
+use Rattle.ec_cluster.specs.Systems.{Runs, row_of}
+use Rattle.ec_cluster.specs.declared.system.ProcessRow.{ProcessRow}
+use Rattle.ec_cluster.specs.declared.system.System.{System}
 use Rattle.ec_things.specs.Things.{ShownAt, frame_if}
 use Rattle.ec_world.specs.World.{Action, act_if_pending, act_on, ready_stack, stack_at, stack_if_ready}
 use Rattle.ec_world.specs.declared.process.Proc.{Proc}

@@ -12,9 +12,9 @@ use Rattle.ec_base.specs.Stack.{below_of, top_of}
 use Rattle.ec_cluster.specs.Cluster.{CodeWorld, place}
 use Rattle.ec_cluster.specs.Images.{homes_on}
 use Rattle.ec_cluster.specs.Steps.{HasPlace}
-use Rattle.ec_cluster_frames.proofs.Finishing.{its_node, own_has_place, rests_here, rests_there, some_rests, some_rests_here}
-use Rattle.ec_cluster_frames.specs.Frames.{RestsIn}
-use Rattle.ec_cluster_frames.specs.Stops.{RestsThere, SomeRests, SomeRestsHere, tables_for}
+use Rattle.ec_cluster.proofs.Finishing.{its_node, own_has_place, rests_here, rests_there, some_rests, some_rests_here}
+use Rattle.ec_cluster.specs.Frames.{RestsIn}
+use Rattle.ec_cluster.specs.Stops.{RestsThere, SomeRests, SomeRestsHere, tables_for}
 use Rattle.ec_code.specs.Activations.{code_meaning, operation_at}
 use Rattle.ec_code.specs.Steps.{with_itself}
 use Rattle.ec_code.specs.Typing.{Declared}
@@ -37,8 +37,8 @@ use Rattle.ec_code.specs.Sound.{SoundPending}
 use Rattle.ec_generate.specs.declared.table.OperationTable.{OperationTable}
 use Rattle.ec_generate.specs.declared.table.StopEntry.{StopEntry}
 use Rattle.ec_stores.specs.Node.{NodeData, store_of}
-use Rattle.ec_system.specs.Acting.{Asks}
-use Rattle.ec_system.specs.declared.system.System.{System}
+use Rattle.ec_cluster.specs.Acting.{Asks}
+use Rattle.ec_cluster.specs.declared.system.System.{System}
 use Rattle.ec_world.specs.Doings.{doing_of}
 use Rattle.ec_world.specs.Outcomes.{acted_if}
 use Rattle.ec_world.specs.Sights.{sight_of}

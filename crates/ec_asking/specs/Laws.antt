@@ -3,9 +3,9 @@ use Rattle.ec_asking.specs.Bare.{HasBareProgram, IsBareProgram}
 use Rattle.ec_cluster.specs.Cluster.{CodeWorld, Shows}
 use Rattle.ec_cluster.specs.declared.cluster.Cluster.{Cluster}
 use Rattle.ec_code.specs.Typing.{Declared}
-use Rattle.ec_seen.specs.Seeing.{CanBeSeen, ShowsProgram}
-use Rattle.ec_system.specs.Systems.{Runs}
-use Rattle.ec_system.specs.declared.system.System.{System}
+use Rattle.ec_cluster.specs.Seeing.{CanBeSeen, ShowsProgram}
+use Rattle.ec_cluster.specs.Systems.{Runs}
+use Rattle.ec_cluster.specs.declared.system.System.{System}
 
 -- Nodes show a world that their system runs as one of their program.
 abbrev pub WhatRunsIsSeen : Type 0

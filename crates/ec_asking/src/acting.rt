@@ -3,8 +3,8 @@ ghost use Rattle.std.specs.Prelude.{◌≡◌, IfNone, IfSome};
 ghost use Rattle.ec_asking.specs.Asking.{EachActs, IsIdle};
 ghost use Rattle.ec_asking.specs.Rows.{depth_if};
 
-use ec_cluster_frames::finding::headings_at;
-use ec_system::system::{ProcessRow, System};
+use ec_cluster::finding::headings_at;
+use ec_cluster::system::{ProcessRow, System};
 use ec_world::process::ProcStatus;
 use ec_world::stop::Who;
 use ec_world::value::Pid;

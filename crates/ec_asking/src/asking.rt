@@ -5,15 +5,15 @@ ghost use Rattle.ec_cluster.specs.Cluster.{CodeWorld};
 ghost use Rattle.ec_code.specs.Activations.{code_meaning};
 ghost use Rattle.ec_code.specs.Typing.{Declared};
 ghost use Rattle.ec_code.specs.declared.activation.CodeActivation.{CodeActivation};
-ghost use Rattle.ec_system.specs.Acting.{Asks};
-ghost use Rattle.ec_system.specs.Systems.{Runs, RunsSome};
+ghost use Rattle.ec_cluster.specs.Acting.{Asks};
+ghost use Rattle.ec_cluster.specs.Systems.{Runs, RunsSome};
 ghost use Rattle.ec_world.specs.World.{Action};
 
 use crate::acting::acting;
 use crate::requests::Asked;
 use crate::stops::stop_of;
-use ec_seen::doings::doing_on;
-use ec_system::system::System;
+use ec_cluster::seen::doings::doing_on;
+use ec_cluster::system::System;
 use ec_world::value::Pid;
 use std::alloc::{AllocError, Global};
 

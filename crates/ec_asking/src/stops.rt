@@ -10,10 +10,10 @@ ghost use Rattle.ec_code.specs.declared.code.StopRow.{StopRow as Row};
 
 use ec_base::list::Seq;
 use ec_cluster::objects::node_of;
-use ec_cluster_frames::stops::{entry_of, table_of};
+use ec_cluster::stops::{entry_of, table_of};
 use ec_code::code::{Op, Parts, StopRow};
 use ec_node_frames::operands::operands_of;
-use ec_system::system::System;
+use ec_cluster::system::System;
 use ec_world::stop::{Stop, Who};
 use ec_world::value::{Oid, OpNo, Value, Values};
 use std::alloc::{AllocError, Global};

@@ -15,13 +15,13 @@ use Rattle.ec_cluster.specs.Images.{homes_on, image_of}
 use Rattle.ec_cluster.specs.Steps.{Changes}
 use Rattle.ec_cluster.specs.declared.cluster.Cluster.{Cluster}
 use Rattle.ec_cluster.specs.declared.cluster.Images.{Images}
-use Rattle.ec_cluster_frames.specs.Frames.{HasImages}
-use Rattle.ec_cluster_frames.specs.Stops.{tables_for}
+use Rattle.ec_cluster.specs.Frames.{HasImages}
+use Rattle.ec_cluster.specs.Stops.{tables_for}
 use Rattle.ec_code.specs.Typing.{Declared}
 use Rattle.ec_code.specs.declared.activation.CodeActivation.{CodeActivation}
 use Rattle.ec_code.specs.declared.code.Parts.{Parts}
-use Rattle.ec_forward.specs.Directory.{place_at}
-use Rattle.ec_forward.specs.declared.directory.Whereabouts.{Whereabouts}
+use Rattle.ec_cluster.specs.Directory.{place_at}
+use Rattle.ec_cluster.specs.declared.forward.directory.Whereabouts.{Whereabouts}
 use Rattle.ec_generate.specs.declared.image.Image.{Image}
 use Rattle.ec_mover.proofs.Stops.{part_has_its_stop, part_heads, stop_there, table_there}
 use Rattle.ec_mover.specs.Activations.{HasStop, IsStopOf, activation_part_of, headings_in}

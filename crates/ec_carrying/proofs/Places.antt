@@ -3,9 +3,9 @@ use Rattle.std.proofs.Common.{◌≡◌, ◌≢◌, ℕ, ◌+◌, ◌≤◌, Lis
 use Rattle.std.specs.Prelude.{slice_get}
 use Rattle.ec_base.proofs.Lists.{take_next}
 use Rattle.ec_carrying.specs.Moves.{AreAll, NotAny}
-use Rattle.ec_forward.specs.Directory.{Gives, made_count, place_at}
-use Rattle.ec_forward.specs.Located.{Located, moved_to, with_at}
-use Rattle.ec_forward.specs.declared.directory.Whereabouts.{Whereabouts}
+use Rattle.ec_cluster.specs.Directory.{Gives, made_count, place_at}
+use Rattle.ec_cluster.specs.Located.{Located, moved_to, with_at}
+use Rattle.ec_cluster.specs.declared.forward.directory.Whereabouts.{Whereabouts}
 use Rattle.ec_world.proofs.Keys.{same_or_not}
 use Rattle.ec_world.specs.Held.{Distinct}
 use Rattle.ec_world.specs.declared.key.Key.TheVariants.{Object}

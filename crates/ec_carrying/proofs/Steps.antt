@@ -12,8 +12,8 @@ use Rattle.ec_cluster.specs.declared.cluster.Cluster.{Cluster}
 use Rattle.ec_cluster.specs.declared.cluster.Images.{Images}
 use Rattle.ec_code.specs.declared.activation.CodeActivation.{CodeActivation}
 use Rattle.ec_code.specs.declared.code.Parts.{Parts}
-use Rattle.ec_forward.specs.Directory.{place_at}
-use Rattle.ec_forward.specs.declared.directory.Whereabouts.{Whereabouts}
+use Rattle.ec_cluster.specs.Directory.{place_at}
+use Rattle.ec_cluster.specs.declared.forward.directory.Whereabouts.{Whereabouts}
 use Rattle.ec_world.proofs.Keys.{same_or_not}
 use Rattle.ec_world.specs.declared.key.Key.{Key}
 use Rattle.ec_stores.specs.Node.{NodeData, store_of}

@@ -6,10 +6,10 @@ use Rattle.ec_carrying.specs.Moves.{NotAny}
 use Rattle.ec_cluster.specs.Cluster.{CodeWorld, Shows, place, stores}
 use Rattle.ec_cluster.specs.Steps.{Changes}
 use Rattle.ec_cluster.specs.declared.cluster.Cluster.{Cluster}
-use Rattle.ec_cluster_frames.specs.Frames.{HasImages}
+use Rattle.ec_cluster.specs.Frames.{HasImages}
 use Rattle.ec_code.specs.Typing.{Declared}
 use Rattle.ec_code.specs.declared.activation.CodeActivation.{CodeActivation}
-use Rattle.ec_forward.specs.Directory.{made_count}
+use Rattle.ec_cluster.specs.Directory.{made_count}
 use Rattle.ec_mover.specs.Classes.{ClassTable}
 use Rattle.ec_node_frames.specs.Frames.{RestsAt}
 use Rattle.ec_objects.specs.Values.{TextsFit}

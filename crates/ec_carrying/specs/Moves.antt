@@ -4,8 +4,8 @@ use Rattle.ec_carrying.specs.Steps.{ShowsStaying, ThingsAt}
 use Rattle.ec_cluster.specs.Cluster.{CodeWorld, Shows, frame_of, place, stores}
 use Rattle.ec_cluster.specs.Steps.{Changes, Nothing}
 use Rattle.ec_cluster.specs.declared.cluster.Cluster.{Cluster}
-use Rattle.ec_forward.specs.Directory.{made_count, place_at}
-use Rattle.ec_forward.specs.declared.directory.Whereabouts.{Whereabouts}
+use Rattle.ec_cluster.specs.Directory.{made_count, place_at}
+use Rattle.ec_cluster.specs.declared.forward.directory.Whereabouts.{Whereabouts}
 use Rattle.ec_world.specs.declared.key.Key.{Key}
 use Rattle.ec_parcels.specs.Owners.{among, keys_of}
 use Rattle.ec_things.specs.Things.{Thing, things_of}

@@ -6,7 +6,7 @@ ghost use Rattle.ec_carrying.specs.Moves.{AreAll, SetOff};
 ghost use Rattle.ec_carrying.specs.Steps.{AreKept, ShowsStaying};
 ghost use Rattle.ec_cluster.specs.Cluster.{CodeWorld, Shows};
 ghost use Rattle.ec_cluster.specs.Steps.{Changes};
-ghost use Rattle.ec_cluster_frames.specs.Frames.{HasImages};
+ghost use Rattle.ec_cluster.specs.Frames.{HasImages};
 ghost use Rattle.ec_code.specs.Typing.{Declared};
 ghost use Rattle.ec_parcels.specs.Owners.{among, blocks_in, keys_of, values_in};
 ghost use Rattle.ec_wire.specs.WireForm.{IsWire};

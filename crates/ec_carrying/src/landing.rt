@@ -5,7 +5,7 @@ ghost use Rattle.ec_carrying.specs.Landing.{CanArrive, EachArrivesAs, EachCanArr
 ghost use Rattle.ec_carrying.specs.Steps.{OnePut, ShowsStaying};
 ghost use Rattle.ec_cluster.specs.Cluster.{CodeWorld, Shows, frame_of};
 ghost use Rattle.ec_cluster.specs.Steps.{Changes};
-ghost use Rattle.ec_cluster_frames.specs.Frames.{HasImages};
+ghost use Rattle.ec_cluster.specs.Frames.{HasImages};
 ghost use Rattle.ec_code.specs.Typing.{Declared};
 ghost use Rattle.ec_code.specs.declared.activation.CodeActivation.{CodeActivation};
 ghost use Rattle.ec_mover.specs.Classes.{class_of};

@@ -1,12 +1,12 @@
 //! The directory notes that objects go from one node to another.
 ghost use Rattle.std.specs.Prelude.{◌≡◌, ◌≢◌, ℕ, Some};
 ghost use Rattle.ec_carrying.specs.Moves.{AreAll, NotAny};
-ghost use Rattle.ec_forward.specs.Directory.{made_count, place_at};
+ghost use Rattle.ec_cluster.specs.Directory.{made_count, place_at};
 ghost use Rattle.ec_world.specs.Held.{Distinct};
 ghost use Rattle.ec_parcels.specs.Owners.{object_keys};
 
 use ec_base::list::Seq;
-use ec_forward::directory::Directory;
+use ec_cluster::forward::directory::Directory;
 use ec_wire::parcel::ObjectPart;
 use ec_world::value::NodeNo;
 

@@ -6,9 +6,9 @@ use Rattle.ec_cluster.proofs.Putting.{node_put}
 use Rattle.ec_cluster.specs.Cluster.{CodeWorld, Shows, frame_of, place, stores_of}
 use Rattle.ec_cluster.specs.Makings.{Made, with_one}
 use Rattle.ec_cluster.specs.declared.cluster.Cluster.{Cluster}
-use Rattle.ec_forward.specs.Directory.{Gives, made_count, place_at}
-use Rattle.ec_forward.specs.Located.{Located, made_at, with_at}
-use Rattle.ec_forward.specs.declared.directory.Whereabouts.{Whereabouts}
+use Rattle.ec_cluster.specs.Directory.{Gives, made_count, place_at}
+use Rattle.ec_cluster.specs.Located.{Located, made_at, with_at}
+use Rattle.ec_cluster.specs.declared.forward.directory.Whereabouts.{Whereabouts}
 use Rattle.ec_world.proofs.Procs.{get_past}
 use Rattle.ec_world.specs.declared.key.Key.{Key}
 use Rattle.ec_world.specs.declared.key.Key.TheVariants.{Object}

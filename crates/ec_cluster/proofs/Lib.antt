@@ -1,3 +1,4 @@
+pub mod Noting
 pub mod Putting
 pub mod Changing
 pub mod Acting
@@ -5,3 +6,17 @@ pub mod Creating
 pub mod Defining
 pub mod Answered
 pub mod Before
+pub mod Stacks
+pub mod Resting
+pub mod Tables
+pub mod Finishing
+pub mod Beginning
+pub mod Looking
+pub mod Listing
+pub mod FindingLemmas
+pub mod Reading
+pub mod Elements
+pub mod Linking
+pub mod Marking
+pub mod Sighting
+pub mod Pools

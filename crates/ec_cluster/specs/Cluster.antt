@@ -4,7 +4,7 @@ use Rattle.ec_activations.specs.Frames.{frame_thing}
 use Rattle.ec_cluster.specs.Images.{homes_on}
 use Rattle.ec_cluster.specs.declared.cluster.Cluster.{Cluster}
 use Rattle.ec_code.specs.declared.activation.CodeActivation.{CodeActivation}
-use Rattle.ec_forward.specs.Directory.{place_at}
+use Rattle.ec_cluster.specs.Directory.{place_at}
 use Rattle.ec_stores.specs.Node.{NodeData, store_of}
 use Rattle.ec_things.specs.Shows.{ShowsWorld}
 use Rattle.ec_things.specs.Store.{Store}

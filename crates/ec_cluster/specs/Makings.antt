@@ -3,8 +3,8 @@ use Rattle.std.specs.Prelude.{◌≡◌, ℕ, suc, ◌*◌, ◌^◌, ◌<◌, �
 use Rattle.ec_cluster.specs.Cluster.{CodeWorld, Shows, place, stores}
 use Rattle.ec_cluster.specs.Steps.{Changes, HasObject, WhereIs, with_common}
 use Rattle.ec_cluster.specs.declared.cluster.Cluster.{Cluster}
-use Rattle.ec_forward.specs.Directory.{Gives, made_count}
-use Rattle.ec_forward.specs.Located.{Located, made_at}
+use Rattle.ec_cluster.specs.Directory.{Gives, made_count}
+use Rattle.ec_cluster.specs.Located.{Located, made_at}
 use Rattle.ec_world.specs.Things.{class_blocks}
 use Rattle.ec_world.specs.declared.key.Key.TheVariants.{Object}
 use Rattle.ec_objects.specs.Values.{TextsFit}

@@ -4,7 +4,7 @@ ghost use Rattle.ec_cluster.specs.Images.{image_of};
 
 use ec_base::list::Seq;
 use ec_code::code::Parts;
-use ec_forward::directory::Directory;
+use crate::forward::directory::Directory;
 use ec_generate::image::Image;
 use ec_stores::node::NodeStore;
 use ec_world::node::Kind;

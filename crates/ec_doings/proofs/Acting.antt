@@ -7,14 +7,14 @@ use Rattle.ec_cluster.specs.declared.cluster.Cluster.{Cluster}
 use Rattle.ec_doings.proofs.Holding.{guard_open, guard_shut, holder_acts, monitor_again, other_acts}
 use Rattle.ec_doings.proofs.Objects.{length_changed}
 use Rattle.ec_doings.proofs.Stepping.{done_nothing, done_there, with_cluster}
-use Rattle.ec_forward.specs.Directory.{made_count}
+use Rattle.ec_cluster.specs.Directory.{made_count}
 use Rattle.ec_monitors.specs.Monitors.{Granting, entered, is_held_by, left, signalled, waited}
 use Rattle.ec_monitors.specs.declared.record.Entry.{Entry}
 use Rattle.ec_monitors.specs.declared.record.Granted.{Granted}
 use Rattle.ec_monitors.specs.declared.record.MonitorRec.{MonitorRec}
-use Rattle.ec_system.specs.Steps.{Does}
-use Rattle.ec_system.specs.Systems.{Mirrors}
-use Rattle.ec_system.specs.declared.system.System.{System}
+use Rattle.ec_cluster.specs.SystemSteps.{Does}
+use Rattle.ec_cluster.specs.Systems.{Mirrors}
+use Rattle.ec_cluster.specs.declared.system.System.{System}
 use Rattle.ec_world.specs.Outcomes.{Done, acting, at_condition, by_holder, done, entry_done, entry_effect, left_behind}
 use Rattle.ec_world.specs.Outcomes.{monitor_of, only, return_done, section_on, signal_done, signal_effect, wait_done, with_monitor}
 use Rattle.ec_world.specs.declared.common.Common.{Common}

@@ -5,9 +5,9 @@ use Rattle.ec_cluster.specs.Makings.{Made}
 use Rattle.ec_cluster.specs.Steps.{HasObject}
 use Rattle.ec_cluster.specs.declared.cluster.Cluster.{Cluster}
 use Rattle.ec_doings.specs.Doings.{OneMore}
-use Rattle.ec_forward.specs.Directory.{Gives, made_count, place_at}
-use Rattle.ec_forward.specs.Located.{Located, with_at}
-use Rattle.ec_forward.specs.declared.directory.Whereabouts.{Whereabouts}
+use Rattle.ec_cluster.specs.Directory.{Gives, made_count, place_at}
+use Rattle.ec_cluster.specs.Located.{Located, with_at}
+use Rattle.ec_cluster.specs.declared.forward.directory.Whereabouts.{Whereabouts}
 use Rattle.ec_world.specs.declared.object.ObjectRec.{ObjectRec}
 
 -- what a directory gives: its objects at their places, each of which may have moved

@@ -7,13 +7,13 @@ use Rattle.ec_cluster.specs.Steps.{HasObject, WhereIs, with_common}
 use Rattle.ec_cluster.specs.declared.cluster.Cluster.{Cluster}
 use Rattle.ec_doings.proofs.Counting.{new_place, one_more}
 use Rattle.ec_doings.proofs.Stepping.{done_there, with_cluster}
-use Rattle.ec_forward.specs.Directory.{made_count}
+use Rattle.ec_cluster.specs.Directory.{made_count}
 use Rattle.ec_monitors.specs.declared.record.MonitorRec.{MonitorRec}
 use Rattle.ec_world.proofs.Procs.{get_end}
 use Rattle.ec_world.specs.declared.key.Key.TheVariants.{Object}
-use Rattle.ec_system.specs.Steps.{ByClass, Does}
-use Rattle.ec_system.specs.Systems.{Mirrors, Strings}
-use Rattle.ec_system.specs.declared.system.System.{System}
+use Rattle.ec_cluster.specs.SystemSteps.{ByClass, Does}
+use Rattle.ec_cluster.specs.Systems.{Mirrors, Strings}
+use Rattle.ec_cluster.specs.declared.system.System.{System}
 use Rattle.ec_things.specs.Things.{object_if, object_thing}
 use Rattle.ec_world.specs.Group.{Has}
 use Rattle.ec_world.specs.Objects.{class_at, element_kind, object_at}

@@ -5,11 +5,11 @@ use Rattle.ec_cluster.proofs.Putting.{nothing_got}
 use Rattle.ec_cluster.specs.Cluster.{CodeWorld, Shows}
 use Rattle.ec_cluster.specs.Steps.{Changes, Nothing, with_common}
 use Rattle.ec_cluster.specs.declared.cluster.Cluster.{Cluster}
-use Rattle.ec_forward.specs.Directory.{made_count}
-use Rattle.ec_system.proofs.Pools.{strings_come}
-use Rattle.ec_system.specs.Steps.{Does}
-use Rattle.ec_system.specs.Systems.{Mirrors, Strings}
-use Rattle.ec_system.specs.declared.system.System.{System}
+use Rattle.ec_cluster.specs.Directory.{made_count}
+use Rattle.ec_cluster.proofs.Pools.{strings_come}
+use Rattle.ec_cluster.specs.SystemSteps.{Does}
+use Rattle.ec_cluster.specs.Systems.{Mirrors, Strings}
+use Rattle.ec_cluster.specs.declared.system.System.{System}
 use Rattle.ec_world.specs.Outcomes.{Done, done, only}
 use Rattle.ec_world.specs.declared.common.Common.{Common}
 use Rattle.ec_world.specs.declared.doing.Doing.{Doing}

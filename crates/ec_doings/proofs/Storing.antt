@@ -10,12 +10,12 @@ use Rattle.ec_cluster.specs.Steps.{Changes, Everywhere, HasField, Nothing, Where
 use Rattle.ec_cluster.specs.declared.cluster.Cluster.{Cluster}
 use Rattle.ec_doings.proofs.Objects.{changed_here, length_changed}
 use Rattle.ec_doings.proofs.Stepping.{done_nothing, done_there, with_cluster}
-use Rattle.ec_forward.specs.Directory.{made_count, place_at}
-use Rattle.ec_forward.specs.declared.directory.Whereabouts.{Whereabouts}
+use Rattle.ec_cluster.specs.Directory.{made_count, place_at}
+use Rattle.ec_cluster.specs.declared.forward.directory.Whereabouts.{Whereabouts}
 use Rattle.ec_world.specs.declared.key.Key.TheVariants.{Object}
-use Rattle.ec_system.specs.Steps.{Does}
-use Rattle.ec_system.specs.Systems.{Mirrors}
-use Rattle.ec_system.specs.declared.system.System.{System}
+use Rattle.ec_cluster.specs.SystemSteps.{Does}
+use Rattle.ec_cluster.specs.Systems.{Mirrors}
+use Rattle.ec_cluster.specs.declared.system.System.{System}
 use Rattle.ec_things.specs.Store.{Owned}
 use Rattle.ec_things.specs.Things.{Shown, object_if, object_thing}
 use Rattle.ec_world.specs.Objects.{object_at}

@@ -3,13 +3,13 @@ ghost use Rattle.std.specs.Prelude.{◌≡◌, IfOk, OnOk};
 ghost use Rattle.ec_cluster.specs.Cluster.{CodeWorld};
 ghost use Rattle.ec_cluster.specs.Steps.{Changes, Nothing};
 ghost use Rattle.ec_doings.specs.Doings.{BringsNothing, Places};
-ghost use Rattle.ec_system.specs.Steps.{CanBeDone, Does};
-ghost use Rattle.ec_system.specs.Systems.{Mirrors};
+ghost use Rattle.ec_cluster.specs.SystemSteps.{CanBeDone, Does};
+ghost use Rattle.ec_cluster.specs.Systems.{Mirrors};
 
 use crate::making::{make, make_vector};
 use crate::monitors::{enter, leave, signal, wait};
 use crate::plain::{define, only, print, store, unfix};
-use ec_system::system::System;
+use ec_cluster::system::System;
 use ec_world::doing::{Doing, Outcome};
 use ec_world::stop::{Effect, Who};
 use std::alloc::{AllocError, Global};

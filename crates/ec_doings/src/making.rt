@@ -1,8 +1,8 @@
 //! New objects, at the nodes where their makers are.
 ghost use Rattle.std.specs.Prelude.{◌≡◌, ◌+◌, ◌-◌, ◌^◌, ◌<◌, ◌≤◌, suc, ◌++◌, drop, replicate, IfOk, IsSome, OnErr, OnOk, Some, true, false};
 ghost use Rattle.ec_doings.specs.Doings.{DoneTo, OneMore};
-ghost use Rattle.ec_forward.specs.Directory.{made_count};
-ghost use Rattle.ec_system.specs.Steps.{CanBeDone};
+ghost use Rattle.ec_cluster.specs.Directory.{made_count};
+ghost use Rattle.ec_cluster.specs.SystemSteps.{CanBeDone};
 ghost use Rattle.ec_world.specs.Objects.{class_at};
 ghost use Rattle.ec_world.specs.Outcomes as spec;
 ghost use Rattle.ec_world.specs.Values.{default_of, field_defaults, new_fields};
@@ -11,9 +11,9 @@ ghost use Rattle.ec_world.specs.declared.doing.Doing.TheVariants.{Makes, MakesVe
 use crate::plain::only;
 use ec_base::list::Seq;
 use ec_cluster::making;
-use ec_forward::directory::Directory;
+use ec_cluster::forward::directory::Directory;
 use ec_monitors::monitor::Monitor;
-use ec_system::system::System;
+use ec_cluster::system::System;
 use ec_world::class::{ClassNo, ClassRec, Classes, FieldRec, VectorType};
 use ec_world::doing::Outcome;
 use ec_world::stop::{Effect, Who};

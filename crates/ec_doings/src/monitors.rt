@@ -13,7 +13,7 @@ use ec_cluster::monitors;
 use ec_cluster::objects::node_of;
 use ec_monitors::monitor::Monitor;
 use ec_monitors::record::{Entry, Granted};
-use ec_system::system::System;
+use ec_cluster::system::System;
 use ec_world::doing::{Outcome, Section};
 use ec_world::stop::{Effect, Queue, Who};
 use ec_world::value::{Oid, OpNo, Pid, Value};

@@ -7,7 +7,7 @@ ghost use Rattle.ec_world.specs.declared.stop.Who.{Who as AnyWho};
 
 use ec_cluster::constants;
 use ec_cluster::objects::{set_field, set_flag};
-use ec_system::system::System;
+use ec_cluster::system::System;
 use ec_world::doing::Outcome;
 use ec_world::stop::Effect;
 use ec_world::value::{Oid, Text, Value};

@@ -10,9 +10,9 @@ use Rattle.ec_code.specs.declared.code.Parts.{Parts}
 use Rattle.ec_code.proofs.Carried.{each_get}
 use Rattle.ec_code.proofs.Facts.{outcome_fine, pending_top}
 use Rattle.ec_code.specs.Sound.{FineDone, SoundPending, SoundProc, SoundTower}
-use Rattle.ec_system.specs.Acting.{Asks}
-use Rattle.ec_system.specs.Systems.{Runs}
-use Rattle.ec_system.specs.declared.system.System.{System}
+use Rattle.ec_cluster.specs.Acting.{Asks}
+use Rattle.ec_cluster.specs.Systems.{Runs}
+use Rattle.ec_cluster.specs.declared.system.System.{System}
 use Rattle.ec_world.specs.Outcomes.{acted_if, done, outcome_of}
 use Rattle.ec_world.specs.World.{outcome_at, ready_stack, stack_at, stack_if_ready, who_of}
 use Rattle.ec_world.specs.declared.doing.Doing.{Doing}

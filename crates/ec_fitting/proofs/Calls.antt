@@ -2,8 +2,8 @@
 use Rattle.std.proofs.Common.{◌≡◌, ℕ, suc, List, length, Option, Some, sym, subst}
 use Rattle.ec_cluster.specs.Cluster.{CodeWorld}
 use Rattle.ec_cluster.specs.declared.cluster.Cluster.{Cluster}
-use Rattle.ec_cluster_frames.specs.Finding.{NoFrame}
-use Rattle.ec_cluster_frames.specs.Frames.{HasNode}
+use Rattle.ec_cluster.specs.Finding.{NoFrame}
+use Rattle.ec_cluster.specs.Frames.{HasNode}
 use Rattle.ec_code.specs.Typing.{Declared}
 use Rattle.ec_code.specs.declared.activation.CodeActivation.{CodeActivation}
 use Rattle.ec_code.specs.declared.code.Operation.{Operation}
@@ -15,10 +15,10 @@ use Rattle.ec_fitting.proofs.Shown.{has_object, no_frame, node_of_object}
 use Rattle.ec_fitting.specs.Fitting.{CallIsNew, CalledHasNode}
 use Rattle.ec_code.proofs.Carried.{there}
 use Rattle.ec_code.specs.Sound.{FineEffect}
-use Rattle.ec_system.specs.Acting.{Asks}
-use Rattle.ec_system.specs.Steps.{Does, world_done}
-use Rattle.ec_system.specs.Systems.{Runs, Steady, Strings}
-use Rattle.ec_system.specs.declared.system.System.{System}
+use Rattle.ec_cluster.specs.Acting.{Asks}
+use Rattle.ec_cluster.specs.SystemSteps.{Does, world_done}
+use Rattle.ec_cluster.specs.Systems.{Runs, Steady, Strings}
+use Rattle.ec_cluster.specs.declared.system.System.{System}
 use Rattle.ec_world.specs.Objects.{object_at}
 use Rattle.ec_world.specs.Outcomes.{done}
 use Rattle.ec_world.specs.declared.doing.Doing.{Doing}

@@ -21,15 +21,15 @@ use Rattle.ec_fitting.proofs.Asking.{its_own, its_stop}
 use Rattle.ec_fitting.proofs.Blocks.{made_fits, new_length, vector_fits}
 use Rattle.ec_fitting.proofs.Shown.{has_constant, has_field, has_object, no_object}
 use Rattle.ec_fitting.specs.Fitting.{HasNamed, IsMakable}
-use Rattle.ec_forward.specs.Directory.{made_count}
+use Rattle.ec_cluster.specs.Directory.{made_count}
 use Rattle.ec_world.specs.Things.{class_blocks}
 use Rattle.ec_code.proofs.Carried.{all_two_length, each_get, there}
 use Rattle.ec_code.specs.Sound.{SoundPending}
 use Rattle.ec_code.specs.SoundValues.{HasType, class_in}
-use Rattle.ec_system.specs.Acting.{Asks}
-use Rattle.ec_system.specs.Steps.{ByClass}
-use Rattle.ec_system.specs.Systems.{Runs}
-use Rattle.ec_system.specs.declared.system.System.{System}
+use Rattle.ec_cluster.specs.Acting.{Asks}
+use Rattle.ec_cluster.specs.SystemSteps.{ByClass}
+use Rattle.ec_cluster.specs.Systems.{Runs}
+use Rattle.ec_cluster.specs.declared.system.System.{System}
 use Rattle.ec_world.specs.Agree.{AllTwo}
 use Rattle.ec_world.specs.Doings.{Asked, any_fixed, breaks, called, compare_asks, concat_asks, condition_asks, conditions_of, doing_of}
 use Rattle.ec_world.specs.Doings.{element_at, element_or, entry_asks, fix_at, fixed_asks, get_asks, gives, global_asks, invoke_asks}

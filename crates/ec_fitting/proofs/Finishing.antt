@@ -5,7 +5,7 @@ use Rattle.std.specs.Prelude.{IsSome}
 use Rattle.ec_base.specs.Stack.{top_of}
 use Rattle.ec_cluster.specs.Cluster.{CodeWorld}
 use Rattle.ec_cluster.specs.declared.cluster.Cluster.{Cluster}
-use Rattle.ec_cluster_frames.specs.Frames.{HasRoomFor}
+use Rattle.ec_cluster.specs.Frames.{HasRoomFor}
 use Rattle.ec_code.specs.Activations.{operation_at, variables_if}
 use Rattle.ec_code.specs.Typing.{Declared}
 use Rattle.ec_code.specs.declared.activation.CodeActivation.{CodeActivation}
@@ -23,10 +23,10 @@ use Rattle.ec_activations.specs.RestingLaws.{its_entry}
 use Rattle.ec_code.proofs.Facts.{each_is_there}
 use Rattle.ec_code.proofs.Table.{Continues, EffectGoes}
 use Rattle.ec_code.specs.Sound.{Chain, FineEffect, IsLowest, RestsAt, SoundPending, Waits, lowest_of}
-use Rattle.ec_system.specs.Acting.{Asks}
-use Rattle.ec_system.specs.Steps.{CanFinish}
-use Rattle.ec_system.specs.Systems.{Runs}
-use Rattle.ec_system.specs.declared.system.System.{System}
+use Rattle.ec_cluster.specs.Acting.{Asks}
+use Rattle.ec_cluster.specs.SystemSteps.{CanFinish}
+use Rattle.ec_cluster.specs.Systems.{Runs}
+use Rattle.ec_cluster.specs.declared.system.System.{System}
 use Rattle.ec_world.specs.Outcomes.{acted_if, done}
 use Rattle.ec_world.specs.declared.doing.Doing.{Doing}
 use Rattle.ec_world.specs.declared.object.ObjectRec.{ObjectRec}

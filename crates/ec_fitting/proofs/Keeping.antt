@@ -4,13 +4,13 @@ use Rattle.ec_cluster.specs.Cluster.{CodeWorld, Shows}
 use Rattle.ec_cluster.specs.Steps.{Changes}
 use Rattle.ec_cluster.specs.declared.cluster.Cluster.{Cluster}
 use Rattle.ec_cluster.specs.declared.cluster.Images.{Images}
-use Rattle.ec_cluster_frames.specs.Frames.{HasImages}
+use Rattle.ec_cluster.specs.Frames.{HasImages}
 use Rattle.ec_code.specs.Fine.{Fine}
 use Rattle.ec_code.specs.Typing.{Declared}
 use Rattle.ec_code.specs.declared.code.Parts.{Parts}
 use Rattle.ec_code.specs.Worlds.{most_nodes}
-use Rattle.ec_system.proofs.Pools.{strings_in_pool}
-use Rattle.ec_system.specs.Systems.{Steady, Strings}
+use Rattle.ec_cluster.proofs.Pools.{strings_in_pool}
+use Rattle.ec_cluster.specs.Systems.{Steady, Strings}
 use Rattle.ec_things.specs.Texts.{GetsTexts, InPool}
 
 -- A step brings the texts of a world, and the next one those of another, which has each text of the first that the nodes hadn't at first:

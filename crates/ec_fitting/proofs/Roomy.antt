@@ -3,7 +3,7 @@ use Rattle.std.proofs.Common.{◌≡◌, ℕ, suc, List, Option, Some, None, ref
 use Rattle.ec_cluster.specs.Cluster.{CodeWorld}
 use Rattle.ec_cluster.specs.Makings.{CanMake}
 use Rattle.ec_cluster.specs.declared.cluster.Cluster.{Cluster}
-use Rattle.ec_cluster_frames.specs.Frames.{HasRoomFor}
+use Rattle.ec_cluster.specs.Frames.{HasRoomFor}
 use Rattle.ec_code.specs.Typing.{Declared}
 use Rattle.ec_code.specs.declared.activation.CodeActivation.{CodeActivation}
 use Rattle.ec_code.specs.declared.code.Live.{Live}
@@ -16,14 +16,14 @@ use Rattle.ec_fitting.proofs.Sections.{IsOn, can_start, done_starts}
 use Rattle.ec_fitting.specs.Fitting.{BelowTakes, CallIsNew, CalledHasNode, HasNamed, IsMakable, TopTakes}
 use Rattle.ec_fitting.specs.Room.{RoomToDo, RoomToMake, RoomToSettle}
 use Rattle.ec_fitting.specs.Waiters.{WaitersStay}
-use Rattle.ec_forward.specs.Directory.{made_count}
+use Rattle.ec_cluster.specs.Directory.{made_count}
 use Rattle.ec_node_frames.specs.Finishing.{HasRoomIn}
 use Rattle.ec_code.specs.Sound.{FineSection}
 use Rattle.ec_generate.specs.declared.table.StopEntry.{StopEntry}
-use Rattle.ec_system.specs.Acting.{Asks}
-use Rattle.ec_system.specs.Steps.{ByClass, CanBeDone, CanSettle, CanStart, CanTake, Does, StartsBehind, TakesBelow}
-use Rattle.ec_system.specs.Systems.{Runs, Steady}
-use Rattle.ec_system.specs.declared.system.System.{System}
+use Rattle.ec_cluster.specs.Acting.{Asks}
+use Rattle.ec_cluster.specs.SystemSteps.{ByClass, CanBeDone, CanSettle, CanStart, CanTake, Does, StartsBehind, TakesBelow}
+use Rattle.ec_cluster.specs.Systems.{Runs, Steady}
+use Rattle.ec_cluster.specs.declared.system.System.{System}
 use Rattle.ec_world.specs.Objects.{class_at}
 use Rattle.ec_world.specs.Outcomes.{done}
 use Rattle.ec_world.specs.Values.{new_fields}

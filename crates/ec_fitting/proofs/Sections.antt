@@ -2,7 +2,7 @@
 use Rattle.std.proofs.Common.{◌≡◌, ℕ, Bool, true, false, List, Option, Some, None, refl, subst}
 use Rattle.ec_cluster.specs.Cluster.{CodeWorld}
 use Rattle.ec_cluster.specs.declared.cluster.Cluster.{Cluster}
-use Rattle.ec_cluster_frames.specs.Frames.{HasImages}
+use Rattle.ec_cluster.specs.Frames.{HasImages}
 use Rattle.ec_code.specs.Fine.{Fine}
 use Rattle.ec_code.specs.Typing.{Declared}
 use Rattle.ec_code.specs.declared.activation.CodeActivation.{CodeActivation}
@@ -14,10 +14,10 @@ use Rattle.ec_monitors.specs.declared.record.Entry.TheVariants.{Entered, Queued}
 use Rattle.ec_monitors.specs.declared.record.Granted.{Granted}
 use Rattle.ec_monitors.specs.declared.record.MonitorRec.{MonitorRec}
 use Rattle.ec_code.specs.Sound.{FineSection}
-use Rattle.ec_system.specs.Acting.{Asks}
-use Rattle.ec_system.specs.Steps.{CanStart, StartsBehind}
-use Rattle.ec_system.specs.Systems.{Runs}
-use Rattle.ec_system.specs.declared.system.System.{System}
+use Rattle.ec_cluster.specs.Acting.{Asks}
+use Rattle.ec_cluster.specs.SystemSteps.{CanStart, StartsBehind}
+use Rattle.ec_cluster.specs.Systems.{Runs}
+use Rattle.ec_cluster.specs.declared.system.System.{System}
 use Rattle.ec_world.specs.Objects.{class_at}
 use Rattle.ec_world.specs.Outcomes.{Done, acting, at_condition, by_holder, done, entering, entry_done, left_behind, made_object, monitor_of}
 use Rattle.ec_world.specs.Outcomes.{return_done, section_on, signal_done, signal_effect, wait_done}

@@ -6,18 +6,18 @@ use Rattle.ec_base.proofs.Lists.{get_there}
 use Rattle.ec_cluster.specs.Cluster.{CodeWorld, Shows, frame_of, place, stores}
 use Rattle.ec_cluster.specs.Steps.{HasField, HasObject}
 use Rattle.ec_cluster.specs.declared.cluster.Cluster.{Cluster}
-use Rattle.ec_cluster_frames.specs.Finding.{NoFrame}
-use Rattle.ec_cluster_frames.specs.Frames.{HasNode}
+use Rattle.ec_cluster.specs.Finding.{NoFrame}
+use Rattle.ec_cluster.specs.Frames.{HasNode}
 use Rattle.ec_code.specs.declared.activation.CodeActivation.{CodeActivation}
 use Rattle.ec_fitting.specs.Fitting.{HasConstant}
-use Rattle.ec_forward.specs.Directory.{made_count}
+use Rattle.ec_cluster.specs.Directory.{made_count}
 use Rattle.ec_world.proofs.Procs.{activation_is, get_past}
 use Rattle.ec_world.specs.Things.{blocks_of}
 use Rattle.ec_world.specs.declared.key.Key.{Key}
 use Rattle.ec_world.specs.declared.key.Key.TheVariants.{Frame, Object}
 use Rattle.ec_things.specs.Store.{Owned, Store}
 use Rattle.ec_things.specs.Things.{ShownAt, frame_if, object_if, object_thing, things_of}
-use Rattle.ec_system.specs.Acting.{IsTop}
+use Rattle.ec_cluster.specs.Acting.{IsTop}
 use Rattle.ec_world.specs.Objects.{object_at}
 use Rattle.ec_world.specs.declared.object.ObjectRec.{ObjectRec}
 

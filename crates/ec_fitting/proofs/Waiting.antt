@@ -14,8 +14,8 @@ use Rattle.ec_code.specs.Live.{stays}
 use Rattle.ec_code.proofs.Carried.{each_append, each_get, each_set}
 use Rattle.ec_code.proofs.Table.{Continues, EffectGoes, continues}
 use Rattle.ec_code.specs.Example.{dividing, main_operation, nothing_declared}
-use Rattle.ec_system.specs.Acting.{Asks, IsTop}
-use Rattle.ec_system.specs.Steps.{world_done, world_settled}
+use Rattle.ec_cluster.specs.Acting.{Asks, IsTop}
+use Rattle.ec_cluster.specs.SystemSteps.{world_done, world_settled}
 use Rattle.ec_world.specs.Moves.{OperatorMove}
 use Rattle.ec_world.specs.Outcomes.{Acted, acted_if, all_granted, done, outcome_of}
 use Rattle.ec_world.specs.Run.{after_entry}

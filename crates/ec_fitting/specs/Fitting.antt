@@ -5,18 +5,18 @@ use Rattle.ec_base.specs.Stack.{top_of}
 use Rattle.ec_cluster.specs.Cluster.{stores}
 use Rattle.ec_cluster.specs.Steps.{HasField, HasObject}
 use Rattle.ec_cluster.specs.declared.cluster.Cluster.{Cluster}
-use Rattle.ec_cluster_frames.specs.Finding.{NoFrame}
-use Rattle.ec_cluster_frames.specs.Frames.{HasNode, tables_on}
+use Rattle.ec_cluster.specs.Finding.{NoFrame}
+use Rattle.ec_cluster.specs.Frames.{HasNode, tables_on}
 use Rattle.ec_code.specs.declared.activation.CodeActivation.{CodeActivation}
 use Rattle.ec_code.specs.declared.code.Parts.{Parts}
-use Rattle.ec_forward.specs.Directory.{made_count}
+use Rattle.ec_cluster.specs.Directory.{made_count}
 use Rattle.ec_node_frames.specs.Beginning.{HasEntry}
 use Rattle.ec_node_frames.specs.Frames.{RestsAt}
 use Rattle.ec_world.specs.Things.{class_blocks}
 use Rattle.ec_world.specs.declared.key.Key.TheVariants.{Object}
 use Rattle.ec_generate.specs.declared.table.OperationTable.{OperationTable}
 use Rattle.ec_generate.specs.declared.table.StopEntry.{StopEntry}
-use Rattle.ec_system.specs.Steps.{ByClass}
+use Rattle.ec_cluster.specs.SystemSteps.{ByClass}
 use Rattle.ec_things.specs.Store.{Store}
 use Rattle.ec_world.specs.Objects.{class_at, element_kind}
 use Rattle.ec_world.specs.Values.{default_of, new_fields}

@@ -8,10 +8,10 @@ use Rattle.ec_code.specs.declared.code.Parts.{Parts}
 use Rattle.ec_fitting.specs.Fitting.{BelowTakes, CallIsNew, CalledHasNode, HasNamed, TopTakes}
 use Rattle.ec_fitting.specs.Room.{RoomToDo, RoomToSettle}
 use Rattle.ec_fitting.specs.Waiters.{WaitersStay}
-use Rattle.ec_system.specs.Acting.{Asks}
-use Rattle.ec_system.specs.Steps.{CanBeDone, CanSettle, CanStart, Does, StartsBehind}
-use Rattle.ec_system.specs.Systems.{Runs}
-use Rattle.ec_system.specs.declared.system.System.{System}
+use Rattle.ec_cluster.specs.Acting.{Asks}
+use Rattle.ec_cluster.specs.SystemSteps.{CanBeDone, CanSettle, CanStart, Does, StartsBehind}
+use Rattle.ec_cluster.specs.Systems.{Runs}
+use Rattle.ec_cluster.specs.declared.system.System.{System}
 use Rattle.ec_world.specs.Outcomes.{done}
 use Rattle.ec_world.specs.Run.{after_entry, first_world}
 use Rattle.ec_world.specs.declared.doing.Doing.{Doing}

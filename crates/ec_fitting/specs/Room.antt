@@ -4,7 +4,7 @@ use Rattle.ec_base.specs.Stack.{top_of}
 use Rattle.ec_cluster.specs.Cluster.{place, stores}
 use Rattle.ec_cluster.specs.Steps.{HasRoomAt}
 use Rattle.ec_cluster.specs.declared.cluster.Cluster.{Cluster}
-use Rattle.ec_cluster_frames.specs.Frames.{HasRoomFor, tables_on}
+use Rattle.ec_cluster.specs.Frames.{HasRoomFor, tables_on}
 use Rattle.ec_code.specs.declared.activation.CodeActivation.{CodeActivation}
 use Rattle.ec_node_frames.specs.Beginning.{first_values}
 use Rattle.ec_node_frames.specs.Frames.{RestsAt}
@@ -12,7 +12,7 @@ use Rattle.ec_world.specs.Things.{class_blocks}
 use Rattle.ec_objects.specs.Values.{HasRoom, TextsFit}
 use Rattle.ec_generate.specs.declared.table.OperationTable.{OperationTable}
 use Rattle.ec_generate.specs.declared.table.StopEntry.{StopEntry}
-use Rattle.ec_system.specs.Steps.{ByClass}
+use Rattle.ec_cluster.specs.SystemSteps.{ByClass}
 use Rattle.ec_things.specs.Store.{Store}
 use Rattle.ec_world.specs.Objects.{class_at, element_kind}
 use Rattle.ec_world.specs.Values.{default_of, new_fields}

@@ -5,8 +5,8 @@ use Rattle.ec_base.specs.Stack.{below_of, top_of}
 use Rattle.ec_cluster.specs.Cluster.{CodeWorld}
 use Rattle.ec_code.specs.Activations.{code_meaning}
 use Rattle.ec_code.specs.declared.activation.CodeActivation.{CodeActivation}
-use Rattle.ec_system.specs.Acting.{Asks}
-use Rattle.ec_system.specs.Steps.{world_done, world_settled}
+use Rattle.ec_cluster.specs.Acting.{Asks}
+use Rattle.ec_cluster.specs.SystemSteps.{world_done, world_settled}
 use Rattle.ec_world.specs.Outcomes.{acted_if, done, outcome_of}
 use Rattle.ec_world.specs.World.{Action, act_if_pending, act_on, acted, outcome_at, ready_stack, stack_at, stack_if_ready}
 use Rattle.ec_world.specs.declared.doing.Doing.{Doing}

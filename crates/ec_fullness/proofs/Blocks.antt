@@ -3,7 +3,7 @@ use Rattle.std.proofs.Common.{◌≡◌, ℕ, zero, suc, ◌+◌, List, [], ◌�
 use Rattle.std.specs.Prelude.{slice_get, slice_set}
 use Rattle.ec_cluster.specs.Cluster.{CodeWorld, frame_of}
 use Rattle.ec_cluster.specs.declared.cluster.Cluster.{Cluster}
-use Rattle.ec_cluster_frames.proofs.Finishing.{finished_own}
+use Rattle.ec_cluster.proofs.Finishing.{finished_own}
 use Rattle.ec_code.specs.Activations.{finished}
 use Rattle.ec_code.specs.declared.activation.CodeActivation.{CodeActivation}
 use Rattle.ec_fullness.proofs.Stacks.{after, begun_stacks, new_stack, stacks_after}

@@ -27,9 +27,9 @@ use Rattle.ec_world.proofs.Procs.{get_end, total_push}
 use Rattle.ec_world.specs.Held.{if_at}
 use Rattle.ec_world.specs.Things.{blocks_of, class_blocks}
 use Rattle.ec_world.specs.declared.key.Key.TheVariants.{Object}
-use Rattle.ec_system.specs.Acting.{Asks}
-use Rattle.ec_system.specs.Systems.{Runs}
-use Rattle.ec_system.specs.declared.system.System.{System}
+use Rattle.ec_cluster.specs.Acting.{Asks}
+use Rattle.ec_cluster.specs.Systems.{Runs}
+use Rattle.ec_cluster.specs.declared.system.System.{System}
 use Rattle.ec_things.proofs.Sums.{summed}
 use Rattle.ec_things.proofs.World.{if_none}
 use Rattle.ec_things.specs.Held.{object_weight}

@@ -26,9 +26,9 @@ use Rattle.ec_monitors.specs.Monitors.{entered, left, signalled}
 use Rattle.ec_world.specs.Held.{if_at}
 use Rattle.ec_world.specs.Things.{blocks_of}
 use Rattle.ec_world.specs.declared.key.Key.TheVariants.{Object}
-use Rattle.ec_system.specs.Acting.{Asks}
-use Rattle.ec_system.specs.Systems.{Runs}
-use Rattle.ec_system.specs.declared.system.System.{System}
+use Rattle.ec_cluster.specs.Acting.{Asks}
+use Rattle.ec_cluster.specs.Systems.{Runs}
+use Rattle.ec_cluster.specs.declared.system.System.{System}
 use Rattle.ec_things.proofs.Same.{stacks}
 use Rattle.ec_things.proofs.Sums.{summed}
 use Rattle.ec_things.specs.Things.{object_if, object_thing}

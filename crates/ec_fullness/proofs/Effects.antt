@@ -7,7 +7,7 @@ use Rattle.ec_base.proofs.Stacks.{stack_parts, top_of_none}
 use Rattle.ec_base.specs.Stack.{below_of, top_of}
 use Rattle.ec_cluster.specs.Cluster.{CodeWorld, frame_of}
 use Rattle.ec_cluster.specs.declared.cluster.Cluster.{Cluster}
-use Rattle.ec_cluster_frames.proofs.Finishing.{finished_own}
+use Rattle.ec_cluster.proofs.Finishing.{finished_own}
 use Rattle.ec_code.specs.Activations.{begun, code_meaning, finished}
 use Rattle.ec_code.specs.Fine.{Fine}
 use Rattle.ec_code.specs.Typing.{Declared}

@@ -4,8 +4,8 @@ use Rattle.std.proofs.Common.{arith}
 use Rattle.std.specs.Prelude.{◌↔◌}
 use Rattle.ec_cluster.specs.Cluster.{CodeWorld, Shows, frame_of, place, stores}
 use Rattle.ec_cluster.specs.declared.cluster.Cluster.{Cluster}
-use Rattle.ec_forward.specs.Directory.{made_count, place_at}
-use Rattle.ec_forward.specs.declared.directory.Whereabouts.{Whereabouts}
+use Rattle.ec_cluster.specs.Directory.{made_count, place_at}
+use Rattle.ec_cluster.specs.declared.forward.directory.Whereabouts.{Whereabouts}
 use Rattle.ec_fullness.proofs.Blocks.{held_moved}
 use Rattle.ec_fullness.specs.Fullness.{EachFits, FitsAt, IsFull, NeedsAt, Wants, place_then}
 use Rattle.ec_fullness.specs.Room.{HasRoomWith}
@@ -16,8 +16,8 @@ use Rattle.ec_world.specs.Held.{if_at}
 use Rattle.ec_world.specs.declared.key.Key.{Key}
 use Rattle.ec_world.specs.declared.room.Lack.{Lack}
 use Rattle.ec_objects.specs.Values.{TextsFit}
-use Rattle.ec_system.proofs.Pools.{strings_in_pool}
-use Rattle.ec_system.specs.Systems.{Strings}
+use Rattle.ec_cluster.proofs.Pools.{strings_in_pool}
+use Rattle.ec_cluster.specs.Systems.{Strings}
 use Rattle.ec_things.proofs.Put.{same_or_not}
 use Rattle.ec_things.proofs.World.{if_elsewhere, if_here}
 use Rattle.ec_things.specs.Held.{Held}

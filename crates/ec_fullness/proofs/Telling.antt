@@ -6,7 +6,7 @@ use Rattle.std.proofs.lemmas.Option.{same_Some}
 use Rattle.ec_cluster.proofs.Putting.{is_node}
 use Rattle.ec_cluster.specs.Cluster.{place, stores}
 use Rattle.ec_cluster.specs.declared.cluster.Cluster.{Cluster}
-use Rattle.ec_cluster_frames.specs.Frames.{tables_on}
+use Rattle.ec_cluster.specs.Frames.{tables_on}
 use Rattle.ec_code.specs.declared.code.Live.{Live}
 use Rattle.ec_fullness.proofs.Needs.{fits_without}
 use Rattle.ec_fullness.specs.Room.{HasRoomWith}

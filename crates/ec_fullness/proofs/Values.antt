@@ -6,7 +6,7 @@ use Rattle.std.proofs.lemmas.Option.{same_Some}
 use Rattle.ec_activations.proofs.Stops.{in_list, mapped}
 use Rattle.ec_activations.specs.Frames.{Held, held_if, held_in, held_of, or_nil, result_in, taker_of, value_in}
 use Rattle.ec_base.proofs.Lists.{get_set_other, get_set_same}
-use Rattle.ec_cluster_frames.proofs.Resting.{OfOperation, of_operation}
+use Rattle.ec_cluster.proofs.Resting.{OfOperation, of_operation}
 use Rattle.ec_code.specs.Activations.{finished, into_variable, variables_behind, variables_if, with_result}
 use Rattle.ec_code.specs.Fine.{Fine}
 use Rattle.ec_code.specs.Typing.{Declared}

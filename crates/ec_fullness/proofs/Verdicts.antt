@@ -11,8 +11,8 @@ use Rattle.ec_base.proofs.Stacks.{stack_parts}
 use Rattle.ec_base.specs.Stack.{below_of, top_of}
 use Rattle.ec_cluster.specs.Cluster.{CodeWorld, Shows, frame_of, place, stores}
 use Rattle.ec_cluster.specs.declared.cluster.Cluster.{Cluster}
-use Rattle.ec_cluster_frames.specs.Finding.{NoFrame, TellsOf}
-use Rattle.ec_cluster_frames.specs.Frames.{HasNode, RestsIn, RestsOn, tables_on}
+use Rattle.ec_cluster.specs.Finding.{NoFrame, TellsOf}
+use Rattle.ec_cluster.specs.Frames.{HasNode, RestsIn, RestsOn, tables_on}
 use Rattle.ec_code.specs.Activations.{begun, code_meaning}
 use Rattle.ec_code.specs.Typing.{Declared}
 use Rattle.ec_code.specs.declared.activation.CodeActivation.{CodeActivation}
@@ -49,9 +49,9 @@ use Rattle.ec_code.proofs.Facts.{call_fits}
 use Rattle.ec_generate.specs.Tables.{IsTableOf}
 use Rattle.ec_generate.specs.declared.table.OperationTable.{OperationTable}
 use Rattle.ec_generate.specs.declared.table.StopEntry.{StopEntry}
-use Rattle.ec_system.specs.Acting.{Asks}
-use Rattle.ec_system.specs.Systems.{Runs}
-use Rattle.ec_system.specs.declared.system.System.{System}
+use Rattle.ec_cluster.specs.Acting.{Asks}
+use Rattle.ec_cluster.specs.Systems.{Runs}
+use Rattle.ec_cluster.specs.declared.system.System.{System}
 use Rattle.ec_things.specs.Store.{Store}
 use Rattle.ec_things.specs.Things.{ShownAt, frame_if, object_if, object_thing}
 use Rattle.ec_world.specs.Group.{Has}

@@ -27,9 +27,9 @@ use Rattle.ec_code.proofs.Carried.{each_get}
 use Rattle.ec_code.proofs.Facts.{each_is_there, pending_top}
 use Rattle.ec_code.specs.Sound.{Chain, RestsAt, SoundProc, SoundTower, Waits}
 use Rattle.ec_generate.specs.Entries.{result_of}
-use Rattle.ec_system.specs.Acting.{Asks}
-use Rattle.ec_system.specs.Systems.{Runs}
-use Rattle.ec_system.specs.declared.system.System.{System}
+use Rattle.ec_cluster.specs.Acting.{Asks}
+use Rattle.ec_cluster.specs.Systems.{Runs}
+use Rattle.ec_cluster.specs.declared.system.System.{System}
 use Rattle.ec_world.specs.declared.doing.Doing.{Doing}
 use Rattle.ec_world.specs.declared.object.ObjectRec.{ObjectRec}
 use Rattle.ec_world.specs.declared.stop.Effect.{Effect}

@@ -4,7 +4,7 @@ use Rattle.ec_base.specs.Stack.{top_of}
 use Rattle.ec_cluster.specs.Cluster.{place, stores}
 use Rattle.ec_cluster.specs.Steps.{HasRoomAt}
 use Rattle.ec_cluster.specs.declared.cluster.Cluster.{Cluster}
-use Rattle.ec_cluster_frames.specs.Frames.{HasRoomFor, tables_on}
+use Rattle.ec_cluster.specs.Frames.{HasRoomFor, tables_on}
 use Rattle.ec_code.specs.declared.activation.CodeActivation.{CodeActivation}
 use Rattle.ec_objects.specs.Lacks.{HasRoomForAll}
 use Rattle.ec_node_frames.specs.Beginning.{first_values}

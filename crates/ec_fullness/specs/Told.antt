@@ -11,9 +11,9 @@ use Rattle.ec_node_frames.specs.Frames.{RestsAt}
 use Rattle.ec_world.specs.Things.{class_blocks}
 use Rattle.ec_world.specs.declared.room.Lack.{Lack}
 use Rattle.ec_generate.specs.declared.table.StopEntry.{StopEntry}
-use Rattle.ec_system.specs.Acting.{Asks}
-use Rattle.ec_system.specs.Systems.{Runs}
-use Rattle.ec_system.specs.declared.system.System.{System}
+use Rattle.ec_cluster.specs.Acting.{Asks}
+use Rattle.ec_cluster.specs.Systems.{Runs}
+use Rattle.ec_cluster.specs.declared.system.System.{System}
 use Rattle.ec_things.specs.Store.{Store}
 use Rattle.ec_world.specs.Values.{new_fields}
 use Rattle.ec_world.specs.declared.class.ClassNo.{ClassNo}

@@ -1,6 +1,6 @@
 //! What the node of a maker lacks for a new object.
 ghost use Rattle.std.specs.Prelude.{◌≡◌, ◌++◌, drop, IfOk, OnOk, length, replicate};
-ghost use Rattle.ec_cluster_frames.specs.Frames.{HasNode};
+ghost use Rattle.ec_cluster.specs.Frames.{HasNode};
 ghost use Rattle.ec_fullness.specs.Told.{Tells, TellsOfMaking};
 ghost use Rattle.ec_world.specs.Things as things;
 ghost use Rattle.ec_world.specs.Objects.{class_at, element_kind};

@@ -1,6 +1,6 @@
 //! What nodes lack for blocks and values that come to them.
 ghost use Rattle.std.specs.Prelude.{◌≤◌, [], ◌∷◌, IfOk, length};
-ghost use Rattle.ec_cluster_frames.specs.Frames.{HasNode};
+ghost use Rattle.ec_cluster.specs.Frames.{HasNode};
 ghost use Rattle.ec_fullness.specs.Told.{Tells, TellsOfAll};
 
 use ec_cluster::cluster::Cluster;

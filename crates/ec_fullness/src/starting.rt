@@ -1,7 +1,7 @@
 //! What the node of an object lacks for a new activation on it.
 ghost use Rattle.std.specs.Prelude.{◌≡◌, ◌∷◌, ℕ, map, slice_get, IfOk, Some};
 ghost use Rattle.ec_cluster.specs.Cluster.{place, stores};
-ghost use Rattle.ec_cluster_frames.specs.Frames.{HasNode, tables_on};
+ghost use Rattle.ec_cluster.specs.Frames.{HasNode, tables_on};
 ghost use Rattle.ec_fullness.specs.Told.{Tells};
 ghost use Rattle.ec_node_frames.specs.Beginning as spec;
 ghost use Rattle.ec_node_frames.specs.Beginning.{HasEntry};

@@ -19,7 +19,7 @@ use Rattle.ec_mover.specs.Classes.{ClassTable}
 use Rattle.ec_world.proofs.Keys.{same_or_not}
 use Rattle.ec_parcels.specs.Owners.{all_values, blocks_in, values_in}
 use Rattle.ec_stores.specs.Node.{store_of}
-use Rattle.ec_system.proofs.Pools.{strings_come}
+use Rattle.ec_cluster.proofs.Pools.{strings_come}
 use Rattle.ec_things.specs.Store.{Store}
 use Rattle.ec_wire.specs.declared.parcel.Contents.{Contents}
 use Rattle.ec_world.proofs.Members.{has_first, has_none}

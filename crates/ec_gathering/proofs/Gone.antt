@@ -18,8 +18,8 @@ use Rattle.ec_doings.proofs.Objects.{length_changed}
 use Rattle.ec_doings.proofs.Stepping.{Beside, mirrors_with_common, with_cluster}
 use Rattle.ec_fitting.proofs.Keeping.{steady_after}
 use Rattle.ec_fitting.proofs.Shown.{has_object}
-use Rattle.ec_forward.specs.Directory.{made_count, place_at}
-use Rattle.ec_forward.specs.declared.directory.Whereabouts.{Whereabouts}
+use Rattle.ec_cluster.specs.Directory.{made_count, place_at}
+use Rattle.ec_cluster.specs.declared.forward.directory.Whereabouts.{Whereabouts}
 use Rattle.ec_fullness.specs.Fullness.{IsFull}
 use Rattle.ec_gathering.proofs.Along.{but_back, but_then, packs_along}
 use Rattle.ec_gathering.proofs.Changing.{changes_before, changes_behind}
@@ -49,9 +49,9 @@ use Rattle.ec_packing.specs.Room.{AreOfClasses}
 use Rattle.ec_code.proofs.Carried.{each_get}
 use Rattle.ec_code.specs.Sound.{SoundProc}
 use Rattle.ec_generate.specs.declared.table.StopEntry.{StopEntry}
-use Rattle.ec_system.proofs.Pools.{strings_come}
-use Rattle.ec_system.specs.Systems.{Strings}
-use Rattle.ec_system.specs.declared.system.System.{System}
+use Rattle.ec_cluster.proofs.Pools.{strings_come}
+use Rattle.ec_cluster.specs.Systems.{Strings}
+use Rattle.ec_cluster.specs.declared.system.System.{System}
 use Rattle.ec_things.specs.Held.{Held}
 use Rattle.ec_things.specs.Store.{Store}
 use Rattle.ec_things.specs.Texts.{GetsTexts, InPool, IsHeld}

@@ -16,8 +16,8 @@ use Rattle.ec_leaving.specs.Between.{NodesAreFixed}
 use Rattle.ec_mover.specs.Classes.{ClassTable}
 use Rattle.ec_world.proofs.Keys.{same_or_not}
 use Rattle.ec_code.specs.SoundValues.{HasType, class_in}
-use Rattle.ec_system.specs.Acting.{Asks}
-use Rattle.ec_system.specs.declared.system.System.{System}
+use Rattle.ec_cluster.specs.Acting.{Asks}
+use Rattle.ec_cluster.specs.declared.system.System.{System}
 use Rattle.ec_world.proofs.Members.{has_none, has_parts, has_first, has_later}
 use Rattle.ec_world.proofs.Rounds.{group_of_is}
 use Rattle.ec_world.specs.Agree.{AllTwo}

@@ -28,8 +28,8 @@ use Rattle.ec_world.specs.Held.{Distinct, if_at, total}
 use Rattle.ec_parcels.proofs.Rising.{get_mapped, map_get, once_first, once_tail}
 use Rattle.ec_parcels.specs.Owners.{all_blocks, all_values, values_in}
 use Rattle.ec_parcels.specs.Parcels.{Packs}
-use Rattle.ec_system.proofs.Pools.{strings_come}
-use Rattle.ec_system.specs.Systems.{Strings}
+use Rattle.ec_cluster.proofs.Pools.{strings_come}
+use Rattle.ec_cluster.specs.Systems.{Strings}
 use Rattle.ec_things.specs.Held.{Held, frame_weight, object_weight, process_weight}
 use Rattle.ec_things.specs.Store.{Store}
 use Rattle.ec_things.specs.Texts.{GetsTexts, InPool, IsHeld}

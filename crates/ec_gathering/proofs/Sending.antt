@@ -16,7 +16,7 @@ use Rattle.ec_world.proofs.Keys.{same_or_not}
 use Rattle.ec_world.specs.Held.{Distinct}
 use Rattle.ec_packing.specs.Packing.{CanGo}
 use Rattle.ec_parcels.proofs.Rising.{once_both, once_cons, once_none}
-use Rattle.ec_system.specs.declared.system.System.{System}
+use Rattle.ec_cluster.specs.declared.system.System.{System}
 use Rattle.ec_wire.specs.declared.parcel.Contents.{Contents}
 use Rattle.ec_world.proofs.Members.{has_back, has_either, has_first, has_front, has_none, has_one}
 use Rattle.ec_world.specs.Group.{Has}

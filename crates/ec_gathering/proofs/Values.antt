@@ -1,7 +1,7 @@
 -- At most 100 values go with each activation of a program that carries at most 100 together at each stop.
 use Rattle.std.proofs.Common.{◌+◌, ◌≤◌, Bool, true, false, length, length-append, arith}
 use Rattle.ec_node_frames.specs.Carried.{carried}
-use Rattle.ec_cluster_frames.proofs.Resting.{of_operation}
+use Rattle.ec_cluster.proofs.Resting.{of_operation}
 use Rattle.ec_code.specs.declared.activation.CodeActivation.{CodeActivation}
 use Rattle.ec_code.specs.declared.code.Parts.{Parts}
 use Rattle.ec_node_frames.specs.Frames.{RestsAt}

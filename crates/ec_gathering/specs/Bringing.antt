@@ -7,7 +7,7 @@ use Rattle.ec_cluster.specs.declared.cluster.Cluster.{Cluster}
 use Rattle.ec_code.specs.Typing.{Declared}
 use Rattle.ec_code.specs.declared.activation.CodeActivation.{CodeActivation}
 use Rattle.ec_code.specs.declared.code.Parts.{Parts}
-use Rattle.ec_forward.specs.Directory.{made_count}
+use Rattle.ec_cluster.specs.Directory.{made_count}
 use Rattle.ec_gathering.specs.Shipping.{IsShipped, froms}
 use Rattle.ec_gathering.specs.declared.shipping.Shipment.{Shipment}
 use Rattle.ec_parcels.specs.Owners.{all_blocks, all_values}
@@ -17,7 +17,7 @@ use Rattle.ec_node_frames.specs.Frames.{RestsAt}
 use Rattle.ec_world.specs.Held.{Distinct}
 use Rattle.ec_world.specs.Things.{activation_at}
 use Rattle.ec_generate.specs.declared.table.StopEntry.{StopEntry}
-use Rattle.ec_system.specs.Systems.{Steady, Strings}
+use Rattle.ec_cluster.specs.Systems.{Steady, Strings}
 use Rattle.ec_things.specs.Store.{Store}
 use Rattle.ec_wire.specs.declared.parcel.Contents.{Contents}
 use Rattle.ec_world.specs.Agree.{AllTwo}

@@ -5,9 +5,9 @@ use Rattle.ec_code.specs.Typing.{Declared}
 use Rattle.ec_code.specs.declared.activation.CodeActivation.{CodeActivation}
 use Rattle.ec_gathering.specs.Gathers.{Gathers, LetsGo, MayGather}
 use Rattle.ec_mover.specs.Classes.{ClassTable}
-use Rattle.ec_system.specs.Acting.{Asks}
-use Rattle.ec_system.specs.Steps.{Does}
-use Rattle.ec_system.specs.declared.system.System.{System}
+use Rattle.ec_cluster.specs.Acting.{Asks}
+use Rattle.ec_cluster.specs.SystemSteps.{Does}
+use Rattle.ec_cluster.specs.declared.system.System.{System}
 use Rattle.ec_world.specs.Group.{group_of}
 use Rattle.ec_world.specs.Moves.{is_idle_move}
 use Rattle.ec_world.specs.Outcomes.{only}

@@ -9,7 +9,7 @@ use Rattle.ec_mover.specs.Classes.{ClassTable}
 use Rattle.ec_world.specs.Held.{Distinct}
 use Rattle.ec_packing.specs.Room.{AreOfClasses}
 use Rattle.ec_parcels.specs.Parcels.{Packs}
-use Rattle.ec_system.specs.declared.system.System.{System}
+use Rattle.ec_cluster.specs.declared.system.System.{System}
 use Rattle.ec_wire.specs.WireForm.{IsWire}
 use Rattle.ec_wire.specs.declared.parcel.Contents.{Contents}
 use Rattle.ec_world.specs.Agree.{AllTwo}

@@ -10,7 +10,7 @@ use crate::shipping::ship;
 use ec_cluster::objects::node_of;
 use ec_mover::classes::ClassNumbers;
 use ec_world::room::Lack;
-use ec_system::system::System;
+use ec_cluster::system::System;
 use ec_world::value::Oid;
 use std::alloc::{AllocError, Global};
 

@@ -8,7 +8,7 @@ ghost use Rattle.ec_gathering.specs.Shipping.{AreShipped, HasNoneAt, HasSomeAt, 
 use ec_cluster::cluster::Cluster;
 use ec_mover::classes::ClassNumbers;
 use ec_packing::packing::pack;
-use ec_system::system::System;
+use ec_cluster::system::System;
 use ec_world::value::{NodeNo, Oid};
 use std::alloc::{AllocError, Global};
 

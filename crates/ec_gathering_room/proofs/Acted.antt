@@ -26,9 +26,9 @@ use Rattle.ec_world.specs.Things.{activation_at}
 use Rattle.ec_world.specs.declared.key.Key.{Key}
 use Rattle.ec_world.specs.declared.key.Key.TheVariants.{Frame, Object}
 use Rattle.ec_code.proofs.Facts.{pending_top}
-use Rattle.ec_system.specs.Acting.{Asks}
-use Rattle.ec_system.specs.Systems.{Runs}
-use Rattle.ec_system.specs.declared.system.System.{System}
+use Rattle.ec_cluster.specs.Acting.{Asks}
+use Rattle.ec_cluster.specs.Systems.{Runs}
+use Rattle.ec_cluster.specs.declared.system.System.{System}
 use Rattle.ec_things.proofs.Put.{same_or_not}
 use Rattle.ec_things.proofs.Sums.{summed}
 use Rattle.ec_things.specs.Held.{Held}

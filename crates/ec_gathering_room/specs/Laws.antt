@@ -12,9 +12,9 @@ use Rattle.ec_parcels.specs.Owners.{all_blocks, all_values}
 use Rattle.ec_mover.specs.Classes.{ClassTable}
 use Rattle.ec_objects.specs.Lacks.{HasRoomForAll, LacksRoom}
 use Rattle.ec_world.specs.declared.room.Lack.{Lack}
-use Rattle.ec_system.specs.Acting.{Asks}
-use Rattle.ec_system.specs.Systems.{Runs}
-use Rattle.ec_system.specs.declared.system.System.{System}
+use Rattle.ec_cluster.specs.Acting.{Asks}
+use Rattle.ec_cluster.specs.Systems.{Runs}
+use Rattle.ec_cluster.specs.declared.system.System.{System}
 use Rattle.ec_things.specs.Store.{Store}
 use Rattle.ec_wire.specs.declared.parcel.Contents.{Contents}
 use Rattle.ec_world.specs.Moves.{OperatorMove}

@@ -16,7 +16,7 @@ use Rattle.ec_world.specs.Things.{class_blocks}
 use Rattle.ec_code.proofs.Carried.{each_get, each_object}
 use Rattle.ec_code.proofs.Facts.{activation_rests}
 use Rattle.ec_code.specs.Sound.{SoundWorld}
-use Rattle.ec_system.specs.Acting.{IsTop}
+use Rattle.ec_cluster.specs.Acting.{IsTop}
 use Rattle.ec_world.specs.Sights.{class_of}
 use Rattle.ec_world.specs.declared.class.ClassNo.{ClassNo}
 use Rattle.ec_world.specs.declared.class.ClassNo.TheVariants.{Node, Program, Made, Vector}

@@ -21,8 +21,8 @@ use Rattle.ec_code.specs.Worlds.{most_nodes}
 use Rattle.ec_code.proofs.SoundWorlds.{go_on_sound}
 use Rattle.ec_code.specs.Sound.{SoundWorld}
 use Rattle.ec_stores.specs.Node.{store_of}
-use Rattle.ec_system.specs.Systems.{Mirrors, Runs, Steady}
-use Rattle.ec_system.specs.declared.system.System.{System}
+use Rattle.ec_cluster.specs.Systems.{Mirrors, Runs, Steady}
+use Rattle.ec_cluster.specs.declared.system.System.{System}
 use Rattle.ec_things.specs.Store.{Store}
 use Rattle.ec_world.specs.World.{GoOn}
 use Rattle.mips_code.specs.Meaning.{mips_meaning}

@@ -14,9 +14,9 @@ use Rattle.ec_going.proofs.Walked.{OwnRan, silent_ran}
 use Rattle.ec_going.specs.Going.{IsDoneTop}
 use Rattle.ec_legs.specs.Legs.{Leg}
 use Rattle.ec_stores.specs.Node.{NodeData, store_of}
-use Rattle.ec_system.specs.Systems.{Mirrors, row_of}
-use Rattle.ec_system.specs.declared.system.ProcessRow.{ProcessRow}
-use Rattle.ec_system.specs.declared.system.System.{System}
+use Rattle.ec_cluster.specs.Systems.{Mirrors, row_of}
+use Rattle.ec_cluster.specs.declared.system.ProcessRow.{ProcessRow}
+use Rattle.ec_cluster.specs.declared.system.System.{System}
 use Rattle.ec_world.specs.World.{GoOn}
 use Rattle.ec_world.specs.declared.common.Common.{Common}
 use Rattle.ec_world.specs.declared.object.ObjectRec.{ObjectRec}

@@ -10,9 +10,9 @@ use Rattle.ec_legs.specs.Legs.{IsCodeOf}
 use Rattle.ec_code.specs.Live.{stays}
 use Rattle.ec_world.specs.Things.{blocks_of}
 use Rattle.ec_stores.specs.Node.{NodeData}
-use Rattle.ec_system.specs.Acting.{IsTop}
-use Rattle.ec_system.specs.Systems.{Runs}
-use Rattle.ec_system.specs.declared.system.System.{System}
+use Rattle.ec_cluster.specs.Acting.{IsTop}
+use Rattle.ec_cluster.specs.Systems.{Runs}
+use Rattle.ec_cluster.specs.declared.system.System.{System}
 use Rattle.ec_things.specs.Store.{Store}
 use Rattle.ec_world.specs.Objects.{object_at}
 use Rattle.ec_world.specs.declared.class.ClassNo.{ClassNo}

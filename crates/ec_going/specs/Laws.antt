@@ -11,9 +11,9 @@ use Rattle.ec_going.specs.Going.{HasCode, HasLiterals, IsDoneTop, Ran}
 use Rattle.ec_code.specs.Idle.{IdleWorld, OfClasses}
 use Rattle.ec_code.specs.Code.{SmallProgram}
 use Rattle.ec_code.specs.Sound.{SoundWorld}
-use Rattle.ec_system.specs.Acting.{IsTop}
-use Rattle.ec_system.specs.Systems.{Mirrors, Runs}
-use Rattle.ec_system.specs.declared.system.System.{System}
+use Rattle.ec_cluster.specs.Acting.{IsTop}
+use Rattle.ec_cluster.specs.Systems.{Mirrors, Runs}
+use Rattle.ec_cluster.specs.declared.system.System.{System}
 use Rattle.ec_world.specs.World.{GoOn}
 use Rattle.ec_world.specs.declared.process.ProcStatus.TheVariants.{Ready}
 

@@ -5,14 +5,14 @@ ghost use Rattle.ec_code.specs.Activations.{code_meaning, code_silent};
 ghost use Rattle.ec_code.specs.Typing.{Declared};
 ghost use Rattle.ec_code.specs.declared.activation.CodeActivation.{CodeActivation};
 ghost use Rattle.ec_going.specs.Going.{GoesIn, GoesInSome, IsFew, Ran, RanNatively};
-ghost use Rattle.ec_system.specs.Systems.{Mirrors};
+ghost use Rattle.ec_cluster.specs.Systems.{Mirrors};
 ghost use Rattle.ec_world.specs.World.{GoOn};
 
 use crate::machines::Machines;
 use crate::nodes::run_here;
 use ec_cluster::objects::node_of;
-use ec_cluster_frames::finding::headings_at;
-use ec_system::system::System;
+use ec_cluster::finding::headings_at;
+use ec_cluster::system::System;
 use ec_world::value::Pid;
 
 /// Runs the native code of the activation on top of a process, whose action is done, to the next stop, at the node of its own object, on

@@ -22,9 +22,9 @@ use Rattle.ec_code.proofs.RangesWorlds.{action_ranged}
 use Rattle.ec_settling.specs.Settling.{CanBeSettled, SettlesIn}
 use Rattle.ec_code.proofs.SoundWorlds.{action_sound}
 use Rattle.ec_code.specs.Sound.{SoundWorld}
-use Rattle.ec_system.specs.Steps.{Does, Settles, world_done, world_settled}
-use Rattle.ec_system.specs.Systems.{Mirrors, Runs, Strings}
-use Rattle.ec_system.specs.declared.system.System.{System}
+use Rattle.ec_cluster.specs.SystemSteps.{Does, Settles, world_done, world_settled}
+use Rattle.ec_cluster.specs.Systems.{Mirrors, Runs, Strings}
+use Rattle.ec_cluster.specs.declared.system.System.{System}
 use Rattle.ec_world.specs.World.{Action}
 use Rattle.ec_world.specs.declared.doing.Doing.{Doing}
 use Rattle.ec_world.specs.declared.doing.Outcome.{Outcome}

@@ -10,7 +10,7 @@ use Rattle.ec_fitting.proofs.Doings.{doing_is_there}
 use Rattle.ec_fitting.proofs.Roomy.{can_be_done_there}
 use Rattle.ec_fitting.specs.Fitting.{HasNamed, IsMakable}
 use Rattle.ec_fitting.specs.Room.{RoomToDo, RoomToMake, RoomToSettle}
-use Rattle.ec_forward.specs.Directory.{place_at}
+use Rattle.ec_cluster.specs.Directory.{place_at}
 use Rattle.ec_fullness.specs.Room.{HasRoomToMake, RoomFor}
 use Rattle.ec_kernel.proofs.Behind.{acted_behind, can_settle_behind, settles_behind}
 use Rattle.ec_kernel.proofs.Rooming.{frames_same, room_behind}
@@ -18,8 +18,8 @@ use Rattle.ec_kernel.proofs.Strings.{still_there, texts_between}
 use Rattle.ec_kernel.specs.Acts.{AsksOfEach, HasActed}
 use Rattle.ec_placing.proofs.Doing.{doings_keep_places}
 use Rattle.ec_settling.specs.Settling.{CanBeSettled, SettlesIn}
-use Rattle.ec_system.specs.Steps.{ByClass, CanBeDone, Does, Settles, world_done}
-use Rattle.ec_system.specs.declared.system.System.{System}
+use Rattle.ec_cluster.specs.SystemSteps.{ByClass, CanBeDone, Does, Settles, world_done}
+use Rattle.ec_cluster.specs.declared.system.System.{System}
 use Rattle.ec_world.specs.Objects.{class_at}
 use Rattle.ec_world.specs.Values.{new_fields}
 use Rattle.ec_world.specs.declared.class.ClassNo.{ClassNo}

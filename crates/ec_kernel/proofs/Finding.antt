@@ -15,7 +15,7 @@ use Rattle.ec_mover.specs.Classes.{ClassTable}
 use Rattle.ec_world.specs.declared.room.Lack.{Lack}
 use Rattle.ec_placing.proofs.Refusing.{agrees_gathered, agrees_then}
 use Rattle.ec_placing.specs.Full.{FindsFull}
-use Rattle.ec_system.specs.declared.system.System.{System}
+use Rattle.ec_cluster.specs.declared.system.System.{System}
 use Rattle.ec_world.specs.World.{Action}
 use Rattle.ec_world.specs.declared.doing.Doing.{Doing}
 use Rattle.ec_world.specs.declared.doing.Doing.TheVariants.{Moves}

@@ -6,7 +6,7 @@ use Rattle.ec_cluster.specs.Steps.{HasObject}
 use Rattle.ec_code.specs.Typing.{Declared}
 use Rattle.ec_code.specs.declared.activation.CodeActivation.{CodeActivation}
 use Rattle.ec_fitting.proofs.Shown.{has_object}
-use Rattle.ec_forward.specs.Directory.{place_at}
+use Rattle.ec_cluster.specs.Directory.{place_at}
 use Rattle.ec_fullness.proofs.Acting.{action_is}
 use Rattle.ec_fullness.specs.Fullness.{Wants}
 use Rattle.ec_gathering.proofs.Moves.{object_of}
@@ -21,9 +21,9 @@ use Rattle.ec_placing.proofs.Moving.{moves_keep_places}
 use Rattle.ec_placing.specs.Laws.{AreGathered}
 use Rattle.ec_placing.specs.Places.{HasPlaces}
 use Rattle.ec_settling.specs.Settling.{CanBeSettled, SettlesIn}
-use Rattle.ec_system.specs.Steps.{Does, Settles, world_done, world_settled}
-use Rattle.ec_system.specs.Systems.{Strings}
-use Rattle.ec_system.specs.declared.system.System.{System}
+use Rattle.ec_cluster.specs.SystemSteps.{Does, Settles, world_done, world_settled}
+use Rattle.ec_cluster.specs.Systems.{Strings}
+use Rattle.ec_cluster.specs.declared.system.System.{System}
 use Rattle.ec_things.specs.Texts.{IsHeld}
 use Rattle.ec_things.specs.Things.{Thing, things_of}
 use Rattle.ec_world.specs.Group.{Has}

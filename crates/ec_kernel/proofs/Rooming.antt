@@ -9,12 +9,12 @@ use Rattle.ec_cluster.specs.Cluster.{CodeWorld, Shows, frame_of, place, stores}
 use Rattle.ec_cluster.specs.Images.{homes_on, image_of}
 use Rattle.ec_cluster.specs.Steps.{Changes, Nothing, with_common}
 use Rattle.ec_cluster.specs.declared.cluster.Cluster.{Cluster}
-use Rattle.ec_cluster_frames.specs.Frames.{tables_on}
+use Rattle.ec_cluster.specs.Frames.{tables_on}
 use Rattle.ec_code.specs.declared.activation.CodeActivation.{CodeActivation}
 use Rattle.ec_code.specs.declared.code.Live.{Live}
 use Rattle.ec_doings.specs.Doings.{BringsNothing, OneMore, Places, SamePlaces}
 use Rattle.ec_fitting.specs.Room.{RoomToBegin, RoomToSettle, RoomToTake}
-use Rattle.ec_forward.specs.Directory.{place_at}
+use Rattle.ec_cluster.specs.Directory.{place_at}
 use Rattle.ec_fullness.specs.Room.{HasRoomBelow, HasRoomToMake, RoomFor}
 use Rattle.ec_cluster.proofs.Before.{before}
 use Rattle.ec_kernel.proofs.Nodes.{free_there, room_in_there, same_texts}
@@ -26,9 +26,9 @@ use Rattle.ec_monitors.specs.declared.record.MonitorRec.{MonitorRec}
 use Rattle.ec_node_frames.specs.Beginning.{first_values}
 use Rattle.ec_node_frames.specs.Finishing.{HasRoomIn}
 use Rattle.ec_node_frames.specs.Frames.{RestsAt}
-use Rattle.ec_system.specs.Steps.{world_done}
-use Rattle.ec_system.specs.Systems.{Mirrors, Strings}
-use Rattle.ec_system.specs.declared.system.System.{System}
+use Rattle.ec_cluster.specs.SystemSteps.{world_done}
+use Rattle.ec_cluster.specs.Systems.{Mirrors, Strings}
+use Rattle.ec_cluster.specs.declared.system.System.{System}
 use Rattle.ec_things.specs.Held.{Held}
 use Rattle.ec_things.specs.Store.{Store}
 use Rattle.ec_world.specs.Outcomes.{acting, at_condition, by_holder, done, entering, entry_done, left_behind, monitor_of, return_done}
@@ -46,7 +46,7 @@ use Rattle.ec_world.specs.declared.value.Value.{Value}
 use Rattle.ec_world.specs.declared.value.Value.TheVariants.{Ref}
 use Rattle.ec_code.specs.declared.code.Variable.{Variable}
 use Rattle.ec_code.specs.declared.code.Variable.TheVariants.{Named, Temporary}
-use Rattle.ec_forward.specs.Directory.{made_count}
+use Rattle.ec_cluster.specs.Directory.{made_count}
 use Rattle.ec_fullness.proofs.Blocks.{held_is, held_moved, object_sum}
 use Rattle.ec_fullness.proofs.Needs.{fits_without}
 use Rattle.ec_kernel.proofs.Strings.{more_stay}

@@ -10,14 +10,14 @@ use Rattle.ec_cluster.specs.declared.cluster.Cluster.{Cluster}
 use Rattle.ec_code.specs.Activations.{code_meaning}
 use Rattle.ec_code.specs.declared.activation.CodeActivation.{CodeActivation}
 use Rattle.ec_doings.specs.Doings.{OneMore, Places}
-use Rattle.ec_forward.specs.Directory.{made_count, place_at}
-use Rattle.ec_forward.specs.declared.directory.Whereabouts.{Whereabouts}
+use Rattle.ec_cluster.specs.Directory.{made_count, place_at}
+use Rattle.ec_cluster.specs.declared.forward.directory.Whereabouts.{Whereabouts}
 use Rattle.ec_monitors.specs.Monitors.{dropped}
 use Rattle.ec_monitors.specs.declared.record.MonitorRec.{MonitorRec}
 use Rattle.ec_world.specs.declared.key.Key.{Key}
 use Rattle.ec_world.specs.declared.key.Key.TheVariants.{Frame, Object}
-use Rattle.ec_system.specs.Steps.{world_done, world_settled}
-use Rattle.ec_system.specs.Systems.{Strings}
+use Rattle.ec_cluster.specs.SystemSteps.{world_done, world_settled}
+use Rattle.ec_cluster.specs.Systems.{Strings}
 use Rattle.ec_things.proofs.Put.{same_or_not}
 use Rattle.ec_things.specs.Texts.{IsHeld}
 use Rattle.ec_things.specs.Things.{Thing, object_if, object_thing, things_of}

@@ -18,9 +18,9 @@ use Rattle.ec_mover.specs.Classes.{ClassTable}
 use Rattle.ec_world.specs.declared.room.Lack.{Lack}
 use Rattle.ec_placing.specs.Full.{FindsFull}
 use Rattle.ec_placing.specs.Places.{HasPlaces}
-use Rattle.ec_system.specs.Acting.{Asks}
-use Rattle.ec_system.specs.Systems.{Runs, Strings}
-use Rattle.ec_system.specs.declared.system.System.{System}
+use Rattle.ec_cluster.specs.Acting.{Asks}
+use Rattle.ec_cluster.specs.Systems.{Runs, Strings}
+use Rattle.ec_cluster.specs.declared.system.System.{System}
 use Rattle.ec_generate.specs.Limits.{CarriesFew}
 use Rattle.ec_world.specs.World.{Action}
 use Rattle.ec_world.specs.declared.doing.Doing.{Doing}

@@ -12,7 +12,7 @@ use ec_asking::asking::asked;
 use ec_asking::requests::Asked;
 use ec_fullness::fullness::fullness;
 use ec_mover::classes::ClassNumbers;
-use ec_system::system::System;
+use ec_cluster::system::System;
 use ec_world::doing::Doing;
 use ec_world::stop::Who;
 use ec_world::value::Pid;

@@ -9,7 +9,7 @@ use crate::acts::{ActError, Acted};
 use ec_gathering::gathering::gather;
 use ec_mover::classes::ClassNumbers;
 use ec_settling::settling::settle;
-use ec_system::system::System;
+use ec_cluster::system::System;
 use ec_world::doing::Outcome;
 use ec_world::stop::{Effect, Who};
 use ec_world::value::Oid;

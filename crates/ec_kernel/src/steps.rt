@@ -7,7 +7,7 @@ ghost use Rattle.ec_kernel.specs.Acts.{ActedIn, AsksInSome, AsksOfEach, HasRoomI
 use crate::acts::{ActError, Acted};
 use ec_doings::doings::does;
 use ec_settling::settling::settle;
-use ec_system::system::System;
+use ec_cluster::system::System;
 use ec_world::doing::Doing;
 use ec_world::stop::Who;
 use std::alloc::Global;

@@ -8,12 +8,12 @@ use Rattle.ec_cluster.specs.declared.cluster.Cluster.{Cluster}
 use Rattle.ec_cluster.specs.declared.cluster.Images.{Images}
 use Rattle.ec_code.specs.Typing.{kind_of}
 use Rattle.ec_code.specs.declared.code.Parts.{Parts}
-use Rattle.ec_forward.specs.Located.{first_made}
+use Rattle.ec_cluster.specs.Located.{first_made}
 use Rattle.ec_loading.specs.Loaded.{Loaded}
 use Rattle.ec_loading.specs.Loading.{HaveRoom, IsSet, first_needs}
 use Rattle.ec_loading.specs.Worlds.{world_first}
-use Rattle.ec_system.specs.Systems.{Strings}
-use Rattle.ec_system.specs.declared.system.ProcessRow.{ProcessRow}
+use Rattle.ec_cluster.specs.Systems.{Strings}
+use Rattle.ec_cluster.specs.declared.system.ProcessRow.{ProcessRow}
 use Rattle.ec_things.proofs.Texts.{shown_text}
 use Rattle.ec_things.specs.Store.{Store}
 use Rattle.ec_things.specs.Texts.{InPool, IsHeld}

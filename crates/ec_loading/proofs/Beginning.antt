@@ -6,13 +6,13 @@ use Rattle.ec_cluster.specs.Cluster.{CodeWorld, Shows, frame_of, place}
 use Rattle.ec_cluster.specs.Images.{homes_on}
 use Rattle.ec_cluster.specs.declared.cluster.Cluster.{Cluster}
 use Rattle.ec_cluster.specs.declared.cluster.Images.{Images}
-use Rattle.ec_cluster_frames.proofs.Stacks.{process_begun}
-use Rattle.ec_cluster_frames.specs.Frames.{HasImages, tables_on}
+use Rattle.ec_cluster.proofs.Stacks.{process_begun}
+use Rattle.ec_cluster.specs.Frames.{HasImages, tables_on}
 use Rattle.ec_code.specs.Activations.{begun}
 use Rattle.ec_code.specs.Typing.{Declared}
 use Rattle.ec_code.specs.declared.activation.CodeActivation.{CodeActivation}
 use Rattle.ec_code.specs.declared.code.Parts.{Parts}
-use Rattle.ec_forward.specs.Located.{Located}
+use Rattle.ec_cluster.specs.Located.{Located}
 use Rattle.ec_loading.proofs.Entering.{no_first_text}
 use Rattle.ec_loading.proofs.Setting.{gets_none, set_with}
 use Rattle.ec_loading.specs.Loading.{IsSet}

@@ -11,9 +11,9 @@ use Rattle.ec_cluster.specs.declared.cluster.Cluster.{Cluster}
 use Rattle.ec_cluster.specs.declared.cluster.Images.{Images}
 use Rattle.ec_code.specs.Typing.{kind_of}
 use Rattle.ec_code.specs.declared.code.Parts.{Parts}
-use Rattle.ec_forward.specs.Directory.{Gives}
-use Rattle.ec_forward.specs.Located.{nothing_made}
-use Rattle.ec_forward.specs.declared.directory.Whereabouts.{Whereabouts}
+use Rattle.ec_cluster.specs.Directory.{Gives}
+use Rattle.ec_cluster.specs.Located.{nothing_made}
+use Rattle.ec_cluster.specs.declared.forward.directory.Whereabouts.{Whereabouts}
 use Rattle.ec_loading.proofs.Holding.{held_nodes}
 use Rattle.ec_loading.specs.Fresh.{AreAtFirst, IsAtFirst}
 use Rattle.ec_loading.specs.Loading.{IsSet}

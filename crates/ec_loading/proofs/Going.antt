@@ -8,9 +8,9 @@ use Rattle.ec_cluster.specs.Images.{homes_on, image_of}
 use Rattle.ec_cluster.specs.Makings.{with_one}
 use Rattle.ec_cluster.specs.declared.cluster.Cluster.{Cluster}
 use Rattle.ec_cluster.specs.declared.cluster.Images.{Images}
-use Rattle.ec_cluster_frames.specs.Frames.{HasImages}
+use Rattle.ec_cluster.specs.Frames.{HasImages}
 use Rattle.ec_code.specs.declared.code.Parts.{Parts}
-use Rattle.ec_forward.specs.Located.{Located, first_made, made_at, nodes_made}
+use Rattle.ec_cluster.specs.Located.{Located, first_made, made_at, nodes_made}
 use Rattle.ec_loading.proofs.Entering.{entry_there}
 use Rattle.ec_loading.proofs.Holding.{held_nodes, held_objects}
 use Rattle.ec_loading.proofs.Making.{no_frame, no_object}

@@ -8,9 +8,9 @@ use Rattle.ec_cluster.specs.Makings.{with_one}
 use Rattle.ec_cluster.specs.declared.cluster.Cluster.{Cluster}
 use Rattle.ec_cluster.specs.declared.cluster.Images.{Images}
 use Rattle.ec_code.specs.declared.code.Parts.{Parts}
-use Rattle.ec_forward.specs.Directory.{Gives, made_count, place_at}
-use Rattle.ec_forward.specs.Located.{Located, made_at}
-use Rattle.ec_forward.specs.declared.directory.Whereabouts.{Whereabouts}
+use Rattle.ec_cluster.specs.Directory.{Gives, made_count, place_at}
+use Rattle.ec_cluster.specs.Located.{Located, made_at}
+use Rattle.ec_cluster.specs.declared.forward.directory.Whereabouts.{Whereabouts}
 use Rattle.ec_loading.proofs.Setting.{gets_none, set_with}
 use Rattle.ec_loading.specs.Loading.{IsSet}
 use Rattle.ec_world.proofs.Procs.{get_past}

@@ -7,7 +7,7 @@ use Rattle.ec_base.proofs.Lists.{drop_at, get_within}
 use Rattle.ec_cluster.specs.Images.{homes_on}
 use Rattle.ec_cluster.specs.declared.cluster.Images.{Images}
 use Rattle.ec_code.specs.declared.code.Parts.{Parts}
-use Rattle.ec_forward.specs.Located.{nodes_made, with_at}
+use Rattle.ec_cluster.specs.Located.{nodes_made, with_at}
 use Rattle.ec_loading.proofs.Holding.{held_first}
 use Rattle.ec_loading.specs.Fresh.{CanHold}
 use Rattle.ec_loading.specs.Loading.{CanLoad, HaveRoom, LacksFirst, counted, first_needs}

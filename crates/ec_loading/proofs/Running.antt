@@ -15,8 +15,8 @@ use Rattle.ec_code.specs.Worlds.{RangedObject, RangedWorld, most_nodes}
 use Rattle.ec_code.proofs.Carried.{each_append, each_replicate}
 use Rattle.ec_code.proofs.SoundWorlds.{start_sound}
 use Rattle.ec_code.specs.Sound.{SoundWorld}
-use Rattle.ec_system.specs.Systems.{Runs}
-use Rattle.ec_system.specs.declared.system.System.{System}
+use Rattle.ec_cluster.specs.Systems.{Runs}
+use Rattle.ec_cluster.specs.declared.system.System.{System}
 use Rattle.ec_world.specs.Run.{node_object, program_object}
 use Rattle.ec_world.specs.declared.node.Kind.TheVariants.{Riscv}
 use Rattle.ec_world.specs.declared.node.NodeSpec.{NodeSpec}

@@ -7,9 +7,9 @@ use Rattle.ec_cluster.specs.Cluster.{CodeWorld, Shows, stores, stores_of}
 use Rattle.ec_cluster.specs.declared.cluster.Cluster.{Cluster}
 use Rattle.ec_cluster.specs.declared.cluster.Images.{Images}
 use Rattle.ec_code.specs.declared.code.Parts.{Parts}
-use Rattle.ec_forward.specs.Directory.{Gives}
-use Rattle.ec_forward.specs.Located.{Located}
-use Rattle.ec_forward.specs.declared.directory.Whereabouts.{Whereabouts}
+use Rattle.ec_cluster.specs.Directory.{Gives}
+use Rattle.ec_cluster.specs.Located.{Located}
+use Rattle.ec_cluster.specs.declared.forward.directory.Whereabouts.{Whereabouts}
 use Rattle.ec_loading.proofs.Keeping.{texts_same}
 use Rattle.ec_loading.specs.Fresh.{HasSize}
 use Rattle.ec_loading.specs.Loading.{IsSet}

@@ -5,8 +5,8 @@ use Rattle.ec_cluster.specs.Images.{homes_on, image_of}
 use Rattle.ec_cluster.specs.declared.cluster.Images.{Images}
 use Rattle.ec_code.specs.Typing.{Declared}
 use Rattle.ec_code.specs.declared.code.Parts.{Parts}
-use Rattle.ec_forward.specs.Directory.{Gives}
-use Rattle.ec_forward.specs.Located.{first_made}
+use Rattle.ec_cluster.specs.Directory.{Gives}
+use Rattle.ec_cluster.specs.Located.{first_made}
 use Rattle.ec_loading.specs.Fresh.{HasSize}
 use Rattle.ec_loading.specs.Loading.{HaveRoom, first_needs}
 use Rattle.ec_loading.specs.Worlds.{world_first}
@@ -14,8 +14,8 @@ use Rattle.ec_loading.specs.declared.load.LoadError.{LoadError}
 use Rattle.ec_loading.specs.declared.load.LoadError.TheVariants.{Full, Memory}
 use Rattle.ec_node_frames.specs.Frames.{HasTables}
 use Rattle.ec_world.specs.declared.room.Lack.{Lack}
-use Rattle.ec_system.specs.Systems.{Mirrors, Strings}
-use Rattle.ec_system.specs.declared.system.System.{System}
+use Rattle.ec_cluster.specs.Systems.{Mirrors, Strings}
+use Rattle.ec_cluster.specs.declared.system.System.{System}
 use Rattle.ec_things.specs.Store.{Store}
 use Rattle.ec_things.specs.Texts.{InPool}
 use Rattle.ec_world.specs.Group.{Has}

@@ -7,11 +7,11 @@ use Rattle.ec_cluster.specs.declared.cluster.Cluster.{Cluster}
 use Rattle.ec_cluster.specs.declared.cluster.Images.{Images}
 use Rattle.ec_code.specs.Typing.{Declared}
 use Rattle.ec_code.specs.declared.code.Parts.{Parts}
-use Rattle.ec_forward.specs.Directory.{Gives, made_count}
-use Rattle.ec_forward.specs.Located.{Located}
+use Rattle.ec_cluster.specs.Directory.{Gives, made_count}
+use Rattle.ec_cluster.specs.Located.{Located}
 use Rattle.ec_loading.specs.Fresh.{HasSize, IsNodeSize}
 use Rattle.ec_loading.specs.Worlds.{first_blocks, first_place, world_first}
-use Rattle.ec_cluster_frames.specs.Frames.{tables_on}
+use Rattle.ec_cluster.specs.Frames.{tables_on}
 use Rattle.ec_node_frames.specs.Beginning.{HasEntry}
 use Rattle.ec_node_frames.specs.Frames.{HasTables}
 use Rattle.ec_world.specs.Held.{Distinct, Fits, Lacks}

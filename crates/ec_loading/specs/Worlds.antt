@@ -5,7 +5,7 @@ use Rattle.ec_code.specs.Activations.{begun, code_meaning}
 use Rattle.ec_code.specs.Typing.{kind_of}
 use Rattle.ec_code.specs.declared.activation.CodeActivation.{CodeActivation}
 use Rattle.ec_code.specs.declared.code.Parts.{Parts}
-use Rattle.ec_forward.specs.Located.{first_made}
+use Rattle.ec_cluster.specs.Located.{first_made}
 use Rattle.ec_world.specs.Run.{first_common, first_world}
 use Rattle.ec_world.specs.declared.object.ObjectRec.{ObjectRec}
 use Rattle.ec_world.specs.declared.process.Proc.{Proc}

@@ -1,12 +1,12 @@
 //! The load of a program onto nodes.
 ghost use Rattle.std.specs.Prelude.{◌≡◌, ◌≤◌, ◌^◌, ◌++◌, [], ◌∷◌, length, replicate, IfNone, IfOk, IfSome};
 ghost use Rattle.ec_code.specs.Typing.{Declared};
-ghost use Rattle.ec_forward.specs.Located.{first_made, nodes_made};
+ghost use Rattle.ec_cluster.specs.Located.{first_made, nodes_made};
 ghost use Rattle.ec_loading.specs.Loaded.{AreImages, Loaded, WhenFull};
 ghost use Rattle.ec_loading.specs.Loading.{CanLoad, HaveRoom, IsSet, LacksFirst, counted, first_needs};
 ghost use Rattle.ec_loading.specs.Worlds.{with_objects, world_first};
 ghost use Rattle.ec_world.specs.Words.{text_bytes};
-ghost use Rattle.ec_system.specs.Systems.{Runs};
+ghost use Rattle.ec_cluster.specs.Systems.{Runs};
 ghost use Rattle.ec_world.specs.Run as spec;
 
 use crate::fresh::fresh_nodes;
@@ -14,9 +14,9 @@ use crate::objects::{begin_first, make_at};
 use ec_base::list::Seq;
 use ec_cluster::cluster::{Cluster, Images};
 use ec_code::code::Parts;
-use ec_forward::directory::Directory;
+use ec_cluster::forward::directory::Directory;
 use ec_world::room::{Lack, Needs, lack_at};
-use ec_system::system::{ProcessRow, System};
+use ec_cluster::system::{ProcessRow, System};
 use ec_world::class::ClassNo;
 use ec_world::node::NodeSpec;
 use ec_world::process::ProcStatus;

@@ -3,7 +3,7 @@ use Rattle.std.specs.Prelude.{◌≡◌, ◌*◌, ◌<◌, ℕ, false, List, len
 use Rattle.ec_monitors.specs.declared.record.MonitorRec.{MonitorRec}
 use Rattle.ec_mover.specs.Classes.{ClassTable, number_of}
 use Rattle.ec_world.specs.declared.key.Key.TheVariants.{Object}
-use Rattle.ec_seen.specs.Kinds.{IsOfKindAt}
+use Rattle.ec_cluster.specs.Kinds.{IsOfKindAt}
 use Rattle.ec_things.specs.Store.{Owned, StandsAt, Store}
 use Rattle.ec_things.specs.Things.{Shown, object_thing}
 use Rattle.ec_wire.specs.declared.parcel.MonitorPart.{MonitorPart}

@@ -6,7 +6,7 @@ ghost use Rattle.ec_mover.specs.Objects.{monitor_part_of, object_of, part_of};
 ghost use Rattle.ec_world.specs.Things.{class_blocks};
 ghost use Rattle.ec_world.specs.declared.key.Key.TheVariants.{Object as OfObject};
 ghost use Rattle.ec_objects.specs.Values.{TextsFit};
-ghost use Rattle.ec_seen.specs.Kinds as kinds;
+ghost use Rattle.ec_cluster.specs.Kinds as kinds;
 ghost use Rattle.ec_stores.specs.Changes.{IsObject};
 ghost use Rattle.ec_stores.specs.Node.{store_of};
 ghost use Rattle.ec_things.specs.Texts.{GetsTexts, NoTexts};

@@ -38,7 +38,7 @@ use Rattle.ec_rooms.proofs.Loads.{loads_full}
 use Rattle.ec_rooms.specs.Rooms.{LoadFull}
 use Rattle.ec_rooms.specs.Runs.{code_run}
 use Rattle.ec_runnable.specs.Runnable.{IsRunnable}
-use Rattle.ec_system.specs.declared.system.System.{System}
+use Rattle.ec_cluster.specs.declared.system.System.{System}
 use Rattle.ec_world.proofs.Simulation.{ends_agree, statuses_agree}
 use Rattle.ec_world.specs.Agree.{SameRest}
 use Rattle.ec_world.specs.Places.{places}

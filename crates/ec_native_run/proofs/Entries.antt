@@ -26,7 +26,7 @@ use Rattle.ec_rooms.specs.Rooms.{Strings}
 use Rattle.ec_rooms.specs.Runs.{after_action}
 use Rattle.ec_rooms.specs.Standing.{HavePools, HaveSizes, ShowsWith}
 use Rattle.ec_stores.specs.Node.{store_of}
-use Rattle.ec_system.specs.declared.system.System.{System}
+use Rattle.ec_cluster.specs.declared.system.System.{System}
 use Rattle.ec_things.specs.Store.{Store}
 use Rattle.ec_world.specs.Moves.{OperatorMove}
 use Rattle.ec_world.specs.Run.{after_entries, after_entry}

@@ -35,7 +35,7 @@ use Rattle.ec_rooms.specs.Runs.{NextFull, PoolAfter, action_if, after_action, co
 use Rattle.ec_rooms.specs.Standing.{HavePools}
 use Rattle.ec_code.proofs.SoundWorlds.{action_sound, move_sound}
 use Rattle.ec_code.specs.Sound.{SoundWorld}
-use Rattle.ec_system.specs.declared.system.System.{System}
+use Rattle.ec_cluster.specs.declared.system.System.{System}
 use Rattle.ec_world.proofs.Entries.{run_world}
 use Rattle.ec_world.specs.Run.{RunState, after_entries, after_entry, statuses_of, stepped}
 use Rattle.ec_world.specs.declared.node.NodeSpec.{NodeSpec}

@@ -10,7 +10,7 @@ use Rattle.ec_loading.specs.Worlds.{world_first}
 use Rattle.ec_nodes_running.specs.Moving.{MovedTo}
 use Rattle.ec_nodes_running.specs.Networks.{AreCode, Net}
 use Rattle.ec_nodes_running.specs.Turns.{NoTurn, TurnOf}
-use Rattle.ec_system.specs.declared.system.System.{System}
+use Rattle.ec_cluster.specs.declared.system.System.{System}
 use Rattle.ec_world.specs.Run.{after_entry}
 use Rattle.ec_world.specs.declared.node.NodeSpec.{NodeSpec}
 use Rattle.ec_world.specs.declared.run.RunEntry.{RunEntry}

@@ -23,7 +23,7 @@ use Rattle.ec_report.specs.declared.end.ReportEnd.{ReportEnd}
 use Rattle.ec_report.specs.declared.status.Status.{Status}
 use Rattle.ec_rooms.specs.Runs.{NextFull, NoneFullBefore, PoolAfter, code_run}
 use Rattle.ec_rooms.specs.Standing.{ShowsWith}
-use Rattle.ec_system.specs.declared.system.System.{System}
+use Rattle.ec_cluster.specs.declared.system.System.{System}
 use Rattle.ec_world.specs.Run.{statuses_of}
 use Rattle.ec_world.specs.declared.node.NodeSpec.{NodeSpec}
 use Rattle.ec_world.specs.declared.process.ProcStatus.{ProcStatus}

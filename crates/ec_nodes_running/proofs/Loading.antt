@@ -21,8 +21,8 @@ use Rattle.ec_nodes_running.specs.Networks.{AreCode, CanRun}
 use Rattle.ec_nodes_running.specs.Standing.{Stands, Works}
 use Rattle.ec_placing.proofs.First.{first_are_placed}
 use Rattle.ec_code.specs.Code.{SmallProgram}
-use Rattle.ec_system.specs.Systems.{Runs}
-use Rattle.ec_system.specs.declared.system.System.{System}
+use Rattle.ec_cluster.specs.Systems.{Runs}
+use Rattle.ec_cluster.specs.declared.system.System.{System}
 use Rattle.ec_generate.specs.Limits.{CarriesFew, FewConditions}
 use Rattle.ec_world.specs.declared.node.Kind.TheVariants.{Riscv, Mips}
 use Rattle.ec_world.specs.declared.node.NodeSpec.{NodeSpec}

@@ -32,9 +32,9 @@ use Rattle.ec_code.proofs.RangesWorlds.{move_ranged}
 use Rattle.ec_code.specs.Code.{SmallProgram}
 use Rattle.ec_code.proofs.SoundWorlds.{move_sound}
 use Rattle.ec_code.specs.Sound.{SoundWorld}
-use Rattle.ec_system.proofs.Pools.{strings_come}
-use Rattle.ec_system.specs.Systems.{Mirrors, Strings}
-use Rattle.ec_system.specs.declared.system.System.{System}
+use Rattle.ec_cluster.proofs.Pools.{strings_come}
+use Rattle.ec_cluster.specs.Systems.{Mirrors, Strings}
+use Rattle.ec_cluster.specs.declared.system.System.{System}
 use Rattle.ec_generate.specs.Limits.{CarriesFew, FewConditions}
 use Rattle.ec_world.specs.Doings.{any_fixed as any_seen}
 use Rattle.ec_world.proofs.Members.{object_within}

@@ -15,7 +15,7 @@ use Rattle.ec_nodes_running.specs.Turns.{RefusedIn, TurnedIn, turned}
 use Rattle.ec_nodes_running.specs.declared.turns.Did.{Did}
 use Rattle.ec_nodes_running.specs.declared.turns.Did.TheVariants.{Idle, Acted}
 use Rattle.ec_nodes_running.specs.declared.turns.TurnError.TheVariants.{Full}
-use Rattle.ec_system.specs.declared.system.System.{System}
+use Rattle.ec_cluster.specs.declared.system.System.{System}
 use Rattle.ec_world.specs.Moves.{OperatorMove}
 
 -- what is told of each world of a system is told of a network that has it

@@ -20,8 +20,8 @@ use Rattle.ec_nodes_running.specs.Running.{TopTold, WentOn, gone_on}
 use Rattle.ec_nodes_running.specs.Standing.{Works}
 use Rattle.ec_placing.proofs.Stepping.{silent_steps_keep_places}
 use Rattle.ec_code.specs.Code.{SmallProgram}
-use Rattle.ec_system.specs.Systems.{Mirrors}
-use Rattle.ec_system.specs.declared.system.System.{System}
+use Rattle.ec_cluster.specs.Systems.{Mirrors}
+use Rattle.ec_cluster.specs.declared.system.System.{System}
 use Rattle.ec_generate.specs.Limits.{CarriesFew, FewConditions}
 use Rattle.ec_world.specs.World.{Action}
 

@@ -7,7 +7,7 @@ use Rattle.ec_asking.specs.Rows.{depth_if}
 use Rattle.ec_base.proofs.Stacks.{stack_parts, top_of-push}
 use Rattle.ec_base.specs.Stack.{below_of, top_of}
 use Rattle.ec_cluster.specs.Cluster.{CodeWorld, frame_of, place, stores}
-use Rattle.ec_cluster_frames.specs.Finding.{NoFrame, TellsOf}
+use Rattle.ec_cluster.specs.Finding.{NoFrame, TellsOf}
 use Rattle.ec_code.specs.Activations.{code_meaning, code_silent}
 use Rattle.ec_code.specs.Typing.{Declared}
 use Rattle.ec_code.specs.declared.activation.CodeActivation.{CodeActivation}
@@ -15,9 +15,9 @@ use Rattle.ec_node_frames.specs.declared.frames.Headings.{Headings}
 use Rattle.ec_world.proofs.Procs.{activation_is}
 use Rattle.ec_world.specs.declared.key.Key.TheVariants.{Frame}
 use Rattle.ec_nodes_running.specs.Running.{EachTop, HasNoTop, TopTold, Waits, gone_on}
-use Rattle.ec_system.specs.Systems.{Runs, row_of}
-use Rattle.ec_system.specs.declared.system.ProcessRow.{ProcessRow}
-use Rattle.ec_system.specs.declared.system.System.{System}
+use Rattle.ec_cluster.specs.Systems.{Runs, row_of}
+use Rattle.ec_cluster.specs.declared.system.ProcessRow.{ProcessRow}
+use Rattle.ec_cluster.specs.declared.system.System.{System}
 use Rattle.ec_things.specs.Things.{ShownAt, frame_if}
 use Rattle.ec_world.specs.World.{go_on, go_on_unless, ready_stack, stack_at, stack_if_ready}
 use Rattle.ec_world.specs.declared.process.Proc.{Proc}

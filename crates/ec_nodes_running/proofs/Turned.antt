@@ -18,8 +18,8 @@ use Rattle.ec_nodes_running.proofs.Tops.{without_top}
 use Rattle.ec_nodes_running.specs.Running.{AfterAction, Rested, WentOn, gone_on}
 use Rattle.ec_nodes_running.specs.Standing.{HasNumbers, Stands, Works, WorksInSome}
 use Rattle.ec_nodes_running.specs.Turns.{NoTurn, TurnOf, turned}
-use Rattle.ec_system.proofs.Pools.{strings_come}
-use Rattle.ec_system.specs.declared.system.System.{System}
+use Rattle.ec_cluster.proofs.Pools.{strings_come}
+use Rattle.ec_cluster.specs.declared.system.System.{System}
 use Rattle.ec_world.specs.World.{Action, GoOn, act_on, stack_at}
 
 -- an action begins in a world in which a system stands

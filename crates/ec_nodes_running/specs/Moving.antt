@@ -7,8 +7,8 @@ use Rattle.ec_kernel.specs.Acts.{FoundFull}
 use Rattle.ec_nodes_running.specs.Standing.{Stands}
 use Rattle.ec_nodes_running.specs.declared.turns.TurnError.{TurnError}
 use Rattle.ec_nodes_running.specs.declared.turns.TurnError.TheVariants.{Full, Memory}
-use Rattle.ec_system.specs.Systems.{Strings}
-use Rattle.ec_system.specs.declared.system.System.{System}
+use Rattle.ec_cluster.specs.Systems.{Strings}
+use Rattle.ec_cluster.specs.declared.system.System.{System}
 use Rattle.ec_world.specs.Doings.{any_fixed}
 use Rattle.ec_world.specs.Group.{group_of}
 use Rattle.ec_world.specs.Moves.{OperatorMove, is_idle_move}

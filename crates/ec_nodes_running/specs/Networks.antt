@@ -19,7 +19,7 @@ use Rattle.ec_nodes_running.specs.declared.turns.Did.{Did}
 use Rattle.ec_nodes_running.specs.declared.turns.TurnError.{TurnError}
 use Rattle.ec_nodes_running.specs.declared.turns.TurnError.TheVariants.{Full, Memory}
 use Rattle.ec_code.specs.Code.{SmallProgram}
-use Rattle.ec_system.specs.declared.system.System.{System}
+use Rattle.ec_cluster.specs.declared.system.System.{System}
 use Rattle.ec_things.specs.Store.{Store}
 use Rattle.ec_generate.specs.Limits.{CarriesFew}
 use Rattle.ec_world.specs.Objects.{object_at}

@@ -8,9 +8,9 @@ use Rattle.ec_code.specs.declared.activation.CodeActivation.{CodeActivation}
 use Rattle.ec_going.specs.Going.{IsDoneTop, IsFew, Ran, RanNatively}
 use Rattle.ec_node_frames.specs.declared.frames.Headings.{Headings}
 use Rattle.ec_nodes_running.specs.Standing.{Works}
-use Rattle.ec_system.specs.Acting.{IsTop}
-use Rattle.ec_system.specs.Systems.{Runs}
-use Rattle.ec_system.specs.declared.system.System.{System}
+use Rattle.ec_cluster.specs.Acting.{IsTop}
+use Rattle.ec_cluster.specs.Systems.{Runs}
+use Rattle.ec_cluster.specs.declared.system.System.{System}
 use Rattle.ec_world.specs.World.{GoOn, stack_at}
 use Rattle.ec_world.specs.declared.process.ProcStatus.TheVariants.{Ready}
 

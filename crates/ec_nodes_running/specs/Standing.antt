@@ -9,7 +9,7 @@ use Rattle.ec_kernel.specs.Acts.{Goes}
 use Rattle.ec_leaving.specs.Between.{IsBetween}
 use Rattle.ec_mover.specs.Classes.{ClassTable}
 use Rattle.ec_code.specs.Code.{SmallProgram}
-use Rattle.ec_system.specs.declared.system.System.{System}
+use Rattle.ec_cluster.specs.declared.system.System.{System}
 use Rattle.ec_generate.specs.Limits.{CarriesFew, FewConditions}
 
 -- The images of the nodes are the code of the program, its literals are at their places, its literals and numbers are in range, its

@@ -11,7 +11,7 @@ use Rattle.ec_nodes_running.specs.declared.turns.Did.{Did}
 use Rattle.ec_nodes_running.specs.declared.turns.Did.TheVariants.{Idle, Acted}
 use Rattle.ec_nodes_running.specs.declared.turns.TurnError.{TurnError}
 use Rattle.ec_nodes_running.specs.declared.turns.TurnError.TheVariants.{Full, Memory}
-use Rattle.ec_system.specs.declared.system.System.{System}
+use Rattle.ec_cluster.specs.declared.system.System.{System}
 use Rattle.ec_world.specs.World.{Action, Turn, stack_at}
 
 -- the world after a turn of process p

@@ -11,7 +11,7 @@ use ec_going::machines::Machines;
 use ec_loading::load as loading;
 use ec_loading::load::LoadError;
 use ec_mover::classes::ClassNumbers;
-use ec_system::system::System;
+use ec_cluster::system::System;
 use ec_generate::conditions::look_at_conditions;
 use ec_world::class::ClassNo;
 use ec_world::node::NodeSpec;

@@ -6,11 +6,11 @@ ghost use Rattle.ec_code.specs.Typing.{Declared};
 ghost use Rattle.ec_nodes_running.specs.Running.{EachTop, HasNoTop, Rested, WentOn};
 ghost use Rattle.ec_nodes_running.specs.Standing.{Works, WorksInSome};
 
-use ec_cluster_frames::finding::headings_at;
+use ec_cluster::finding::headings_at;
 use ec_going::going::go_on;
 use ec_going::machines::Machines;
 use ec_node_frames::frames::Headings;
-use ec_system::system::{ProcessRow, System};
+use ec_cluster::system::{ProcessRow, System};
 use ec_world::process::ProcStatus;
 use ec_world::value::Pid;
 

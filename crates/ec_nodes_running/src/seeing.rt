@@ -3,11 +3,11 @@ ghost use Rattle.std.specs.Prelude.{◌≡◌};
 ghost use Rattle.ec_cluster.specs.Cluster.{CodeWorld};
 ghost use Rattle.ec_code.specs.Typing.{Declared};
 ghost use Rattle.ec_nodes_running.specs.Standing.{Stands, StandsInSome};
-ghost use Rattle.ec_seen.specs.Decoded.{seen_common};
+ghost use Rattle.ec_cluster.specs.Decoded.{seen_common};
 ghost use Rattle.ec_world.specs.Sights.{sight_of};
 
-use ec_seen::seen::Seen;
-use ec_system::system::System;
+use ec_cluster::seen::seen::Seen;
+use ec_cluster::system::System;
 
 /// The nodes of a system: a reader sees each world in which the system stands.
 pub(crate) fn seen(system: &System) -> Seen<'_>

@@ -12,7 +12,7 @@ use ec_going::machines::Machines;
 use ec_kernel::acting::act;
 use ec_kernel::acts::{ActError, Acted};
 use ec_mover::classes::ClassNumbers;
-use ec_system::system::System;
+use ec_cluster::system::System;
 use ec_world::value::Pid;
 use std::alloc::Global;
 

@@ -35,7 +35,7 @@ use Rattle.ec_code.specs.SoundValues.{class_in}
 use Rattle.ec_generate.specs.declared.table.StopEntry.{StopEntry}
 use Rattle.ec_stores.specs.Changes.{FirstBlock}
 use Rattle.ec_stores.specs.Node.{NodeData, store_of}
-use Rattle.ec_system.specs.declared.system.System.{System}
+use Rattle.ec_cluster.specs.declared.system.System.{System}
 use Rattle.ec_things.specs.Store.{Owned, Store, Tidy}
 use Rattle.ec_things.specs.Things.{Shown, frame_if}
 use Rattle.ec_wire.specs.declared.parcel.ActivationPart.{ActivationPart}

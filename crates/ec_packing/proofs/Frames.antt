@@ -9,8 +9,8 @@ use Rattle.ec_cluster.proofs.Putting.{shown_there}
 use Rattle.ec_cluster.specs.Cluster.{CodeWorld, frame_of, place, stores}
 use Rattle.ec_cluster.specs.Images.{homes_on}
 use Rattle.ec_cluster.specs.declared.cluster.Cluster.{Cluster}
-use Rattle.ec_cluster_frames.proofs.Looking.{here_is_frame}
-use Rattle.ec_cluster_frames.specs.Frames.{tables_on}
+use Rattle.ec_cluster.proofs.Looking.{here_is_frame}
+use Rattle.ec_cluster.specs.Frames.{tables_on}
 use Rattle.ec_code.specs.Typing.{Declared}
 use Rattle.ec_code.specs.declared.activation.CodeActivation.{CodeActivation}
 use Rattle.ec_leaving.specs.Between.{RestsBetween}
@@ -29,8 +29,8 @@ use Rattle.ec_code.specs.Sound.{SoundProc}
 use Rattle.ec_generate.specs.declared.table.OperationTable.{OperationTable}
 use Rattle.ec_generate.specs.declared.table.StopEntry.{StopEntry}
 use Rattle.ec_stores.specs.Node.{NodeData, store_of}
-use Rattle.ec_system.specs.Systems.{row_of}
-use Rattle.ec_system.specs.declared.system.System.{System}
+use Rattle.ec_cluster.specs.Systems.{row_of}
+use Rattle.ec_cluster.specs.declared.system.System.{System}
 use Rattle.ec_things.specs.Things.{Shown, Thing, frame_if}
 use Rattle.ec_world.specs.Group.{is_in}
 use Rattle.ec_world.specs.declared.process.Proc.{Proc}

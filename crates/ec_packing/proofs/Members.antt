@@ -8,15 +8,15 @@ use Rattle.ec_cluster.proofs.Putting.{shown_there}
 use Rattle.ec_cluster.specs.Cluster.{CodeWorld, place}
 use Rattle.ec_cluster.specs.declared.cluster.Cluster.{Cluster}
 use Rattle.ec_code.specs.Typing.{Declared}
-use Rattle.ec_forward.specs.Directory.{place_at}
-use Rattle.ec_forward.specs.declared.directory.Whereabouts.{Whereabouts}
+use Rattle.ec_cluster.specs.Directory.{place_at}
+use Rattle.ec_cluster.specs.declared.forward.directory.Whereabouts.{Whereabouts}
 use Rattle.ec_mover.specs.Classes.{ClassTable, number_of}
 use Rattle.ec_mover.specs.Objects.{GoesAs, monitor_part_of, part_of}
 use Rattle.ec_world.specs.declared.key.Key.TheVariants.{Object}
 use Rattle.ec_packing.specs.Packing.{CanGo, is_at, is_here, monitor_goes, monitor_if, object_goes, object_if, with_number}
 use Rattle.ec_parcels.specs.Parcels.{ObjectGoes}
 use Rattle.ec_stores.specs.Node.{NodeData, store_of}
-use Rattle.ec_system.specs.declared.system.System.{System}
+use Rattle.ec_cluster.specs.declared.system.System.{System}
 use Rattle.ec_things.specs.Things.{Shown, object_if as thing_if, object_thing}
 use Rattle.ec_world.specs.Group.{Has}
 use Rattle.ec_world.specs.Objects.{object_at}

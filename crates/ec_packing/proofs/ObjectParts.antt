@@ -31,7 +31,7 @@ use Rattle.ec_code.specs.Worlds.{FewElements, RangedObject}
 use Rattle.ec_code.proofs.Carried.{all_two_length, each_get, each_object}
 use Rattle.ec_code.specs.Sound.{FineFields, FineObject}
 use Rattle.ec_code.specs.SoundValues.{HasType}
-use Rattle.ec_system.specs.declared.system.System.{System}
+use Rattle.ec_cluster.specs.declared.system.System.{System}
 use Rattle.ec_world.proofs.Queues.{queues_tell}
 use Rattle.ec_world.specs.Waiting.{QueuesTell, in_conditions, processes_of, queued}
 use Rattle.ec_wire.specs.declared.parcel.MonitorPart.{MonitorPart}

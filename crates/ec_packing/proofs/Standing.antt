@@ -13,7 +13,7 @@ use Rattle.std.specs.declared.cmp.Ordering.TheVariants.{Less, Equal, Greater}
 use Rattle.ec_cluster.proofs.Putting.{shown_there}
 use Rattle.ec_cluster.specs.Cluster.{CodeWorld, frame_of, stores}
 use Rattle.ec_cluster.specs.Images.{homes_on}
-use Rattle.ec_cluster_frames.specs.Frames.{tables_on}
+use Rattle.ec_cluster.specs.Frames.{tables_on}
 use Rattle.ec_cluster.specs.declared.cluster.Cluster.{Cluster}
 use Rattle.ec_code.specs.Typing.{Declared}
 use Rattle.ec_code.specs.declared.activation.CodeActivation.{CodeActivation}
@@ -39,7 +39,7 @@ use Rattle.ec_stores.proofs.Standing.{any_has, has_any_frame, same_frame}
 use Rattle.ec_stores.specs.Changes.{HasOn, StandsOn}
 use Rattle.ec_stores.specs.Node.{NodeData, store_of}
 use Rattle.ec_stores.specs.Tables.{frame_cmp}
-use Rattle.ec_system.specs.declared.system.System.{System}
+use Rattle.ec_cluster.specs.declared.system.System.{System}
 use Rattle.ec_things.specs.Store.{Owned, Store}
 use Rattle.ec_things.specs.Things.{Shown, frame_if}
 use Rattle.ec_wire.specs.declared.parcel.ActivationPart.{ActivationPart}

@@ -19,7 +19,7 @@ use Rattle.ec_packing.specs.Narrow.{EachIs, IsNarrow, NarrowContents}
 use Rattle.ec_packing.specs.Packing.{CanGo}
 use Rattle.ec_parcels.specs.Parcels.{Packs}
 use Rattle.ec_stores.specs.Node.{NodeData, store_of}
-use Rattle.ec_system.specs.declared.system.System.{System}
+use Rattle.ec_cluster.specs.declared.system.System.{System}
 use Rattle.ec_things.specs.Store.{Store, Tidy}
 use Rattle.ec_wire.specs.WireForm.{KeepsRules, activation, monitor, most, object, value_fits}
 use Rattle.ec_wire.specs.declared.parcel.ActivationPart.{ActivationPart}

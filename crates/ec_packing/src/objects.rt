@@ -11,7 +11,7 @@ use ec_base::list::Seq;
 use ec_cluster::cluster::Cluster;
 use ec_mover::classes::ClassNumbers;
 use ec_mover::objects::{monitor_part, object_part};
-use ec_system::system::System;
+use ec_cluster::system::System;
 use ec_wire::parcel::{MonitorPart, ObjectPart};
 use ec_world::value::{NodeNo, Oid};
 use std::alloc::{AllocError, Global};

@@ -11,7 +11,7 @@ use crate::blocks::look_at_blocks;
 use crate::objects::{monitors_at, objects_at};
 use crate::widths::look_at;
 use ec_mover::classes::ClassNumbers;
-use ec_system::system::System;
+use ec_cluster::system::System;
 use ec_wire::parcel::{Contents, Parcel};
 use ec_wire::write;
 use ec_world::value::{NodeNo, Oid};

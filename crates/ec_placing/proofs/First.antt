@@ -1,6 +1,6 @@
 -- What has just been loaded is where the first world has it.
 use Rattle.std.proofs.Common.{length, ◌∙◌}
-use Rattle.ec_forward.proofs.Noting.{first_are_at}
+use Rattle.ec_cluster.proofs.Noting.{first_are_at}
 use Rattle.ec_placing.proofs.Worlds.{first_placed}
 use Rattle.ec_placing.specs.Laws.{FirstArePlaced}
 

@@ -10,7 +10,7 @@ use Rattle.ec_code.specs.Typing.{Declared}
 use Rattle.ec_code.specs.declared.activation.CodeActivation.{CodeActivation}
 use Rattle.ec_fitting.proofs.Doings.{doing_is_there}
 use Rattle.ec_fitting.specs.Fitting.{HasNamed, IsMakable}
-use Rattle.ec_forward.specs.Directory.{made_count}
+use Rattle.ec_cluster.specs.Directory.{made_count}
 use Rattle.ec_fullness.proofs.Acting.{action_is}
 use Rattle.ec_fullness.proofs.Needs.{then_new}
 use Rattle.ec_fullness.specs.Fullness.{StaysPut, place_then}
@@ -20,10 +20,10 @@ use Rattle.ec_placing.proofs.Moving.{gone_place}
 use Rattle.ec_placing.proofs.Settling.{settled_stays}
 use Rattle.ec_placing.proofs.Staying.{stays_place}
 use Rattle.ec_placing.specs.Places.{AgreeWith, HasPlaces}
-use Rattle.ec_system.specs.Acting.{Asks}
-use Rattle.ec_system.specs.Steps.{ByClass, world_done, world_settled}
-use Rattle.ec_system.specs.Systems.{Runs}
-use Rattle.ec_system.specs.declared.system.System.{System}
+use Rattle.ec_cluster.specs.Acting.{Asks}
+use Rattle.ec_cluster.specs.SystemSteps.{ByClass, world_done, world_settled}
+use Rattle.ec_cluster.specs.Systems.{Runs}
+use Rattle.ec_cluster.specs.declared.system.System.{System}
 use Rattle.ec_world.specs.Group.{Has, is_in}
 use Rattle.ec_world.specs.Objects.{class_at, element_kind, object_at}
 use Rattle.ec_world.specs.Outcomes.{done, made_object, monitor_for, with_object}

@@ -7,7 +7,7 @@ use Rattle.ec_placing.proofs.Counting.{Stays}
 use Rattle.ec_placing.proofs.Staying.{stays_places}
 use Rattle.ec_placing.specs.Laws.{SettlingKeepsPlaces}
 use Rattle.ec_settling.proofs.Mirrored.{given_length}
-use Rattle.ec_system.specs.Steps.{world_settled}
+use Rattle.ec_cluster.specs.SystemSteps.{world_settled}
 use Rattle.ec_world.specs.World.{given_up, owns_of, settled}
 use Rattle.ec_world.specs.declared.doing.Outcome.{Outcome}
 use Rattle.ec_world.specs.declared.object.ObjectRec.{ObjectRec}

@@ -2,7 +2,7 @@
 use Rattle.std.proofs.Common.{◌≡◌, ℕ, List, [], ◌∷◌, ◌++◌, refl, sym, ap, ◌∙◌}
 use Rattle.ec_cluster.specs.Cluster.{CodeWorld}
 use Rattle.ec_cluster.specs.declared.cluster.Cluster.{Cluster}
-use Rattle.ec_forward.specs.Directory.{place_at}
+use Rattle.ec_cluster.specs.Directory.{place_at}
 use Rattle.ec_placing.proofs.Counting.{Stays, placed_after, stays_grows}
 use Rattle.ec_placing.specs.Places.{HasPlaces, place_of}
 use Rattle.ec_world.specs.Places.{place_in, placed, places, places_after}

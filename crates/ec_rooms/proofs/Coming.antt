@@ -10,8 +10,8 @@ use Rattle.ec_rooms.proofs.Retelling.{strings_by}
 use Rattle.ec_rooms.specs.Laws.{HadRoom, HaveCome, StepsHadRoom}
 use Rattle.ec_rooms.specs.Rooms.{Strings, held}
 use Rattle.ec_rooms.specs.Standing.{HavePools, HaveSizes, ShowsWith}
-use Rattle.ec_system.specs.Systems.{Strings as Shown}
-use Rattle.ec_system.specs.declared.system.System.{System}
+use Rattle.ec_cluster.specs.Systems.{Strings as Shown}
+use Rattle.ec_cluster.specs.declared.system.System.{System}
 use Rattle.ec_things.specs.Texts.{InPool}
 use Rattle.ec_world.specs.declared.node.NodeSpec.{NodeSpec}
 

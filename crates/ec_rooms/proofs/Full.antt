@@ -26,7 +26,7 @@ use Rattle.ec_rooms.specs.Standing.{ShowsWith}
 use Rattle.ec_code.proofs.Carried.{there}
 use Rattle.ec_code.proofs.Facts.{activation_rests}
 use Rattle.ec_code.specs.Sound.{SoundWorld}
-use Rattle.ec_system.specs.declared.system.System.{System}
+use Rattle.ec_cluster.specs.declared.system.System.{System}
 use Rattle.ec_things.specs.Store.{Store}
 use Rattle.ec_things.specs.Things.{Thing, frame_if, object_if, object_thing, things_of}
 use Rattle.ec_world.specs.Objects.{object_at}

@@ -23,7 +23,7 @@ use Rattle.ec_rooms.proofs.Fitting.{Both, Holds, needs_fit, never_full}
 use Rattle.ec_rooms.specs.Laws.{LoadsAreFull}
 use Rattle.ec_rooms.specs.Rooms.{BytesOf, Literals, LoadFull, NoTexts, held, nothing}
 use Rattle.ec_rooms.specs.Standing.{HavePools, HaveSizes}
-use Rattle.ec_system.specs.declared.system.System.{System}
+use Rattle.ec_cluster.specs.declared.system.System.{System}
 use Rattle.ec_things.specs.Held.{Held}
 use Rattle.ec_world.proofs.Placement.{length-first_places}
 use Rattle.ec_world.specs.Group.{Has}

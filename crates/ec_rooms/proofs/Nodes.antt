@@ -12,8 +12,8 @@ use Rattle.ec_rooms.specs.Laws.{SameNodesHaveRoom}
 use Rattle.ec_rooms.specs.Rooms.{BytesOf, Strings, held}
 use Rattle.ec_rooms.specs.Standing.{ShowsWith}
 use Rattle.ec_stores.specs.Node.{store_of}
-use Rattle.ec_system.proofs.Pools.{strings_in_pool}
-use Rattle.ec_system.specs.declared.system.System.{System}
+use Rattle.ec_cluster.proofs.Pools.{strings_in_pool}
+use Rattle.ec_cluster.specs.declared.system.System.{System}
 use Rattle.ec_things.specs.Store.{Store}
 use Rattle.ec_things.specs.Texts.{InPool}
 use Rattle.ec_world.specs.declared.node.NodeSpec.{NodeSpec}

@@ -15,8 +15,8 @@ use Rattle.ec_rooms.specs.Rooms.{FullAt, Literals, LoadFull, Strings, held}
 use Rattle.ec_rooms.specs.Runs.{NextFull, PoolAfter}
 use Rattle.ec_rooms.specs.Standing.{HavePools, HaveSizes, ShowsWith}
 use Rattle.ec_code.specs.Sound.{SoundWorld}
-use Rattle.ec_system.specs.Systems.{Mirrors, Runs, Strings as Shown}
-use Rattle.ec_system.specs.declared.system.System.{System}
+use Rattle.ec_cluster.specs.Systems.{Mirrors, Runs, Strings as Shown}
+use Rattle.ec_cluster.specs.declared.system.System.{System}
 use Rattle.ec_world.specs.declared.node.NodeSpec.{NodeSpec}
 use Rattle.ec_world.specs.declared.run.Entry.{Entry}
 

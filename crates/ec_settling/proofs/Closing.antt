@@ -7,7 +7,7 @@ use Rattle.ec_base.proofs.Lists.{take_next}
 use Rattle.ec_cluster.specs.Cluster.{CodeWorld, Shows}
 use Rattle.ec_cluster.specs.Steps.{Changes, Nothing}
 use Rattle.ec_cluster.specs.declared.cluster.Cluster.{Cluster}
-use Rattle.ec_cluster_frames.specs.Frames.{FrameAt, with_stack}
+use Rattle.ec_cluster.specs.Frames.{FrameAt, with_stack}
 use Rattle.ec_code.specs.declared.activation.CodeActivation.{CodeActivation}
 use Rattle.ec_settling.proofs.Effected.{ShowsClosed}
 use Rattle.ec_settling.proofs.Owning.{AnswersOwn, below_is}

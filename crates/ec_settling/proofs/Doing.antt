@@ -10,9 +10,9 @@ use Rattle.ec_cluster.specs.Cluster.{CodeWorld, frame_of, place}
 use Rattle.ec_cluster.specs.Images.{homes_on}
 use Rattle.ec_cluster.specs.Steps.{WhereIs}
 use Rattle.ec_cluster.specs.declared.cluster.Cluster.{Cluster}
-use Rattle.ec_cluster_frames.proofs.Finishing.{finished_own}
-use Rattle.ec_cluster_frames.proofs.Resting.{OfOperation, of_operation}
-use Rattle.ec_cluster_frames.specs.Frames.{BeginsWith, HasImages, tables_on}
+use Rattle.ec_cluster.proofs.Finishing.{finished_own}
+use Rattle.ec_cluster.proofs.Resting.{OfOperation, of_operation}
+use Rattle.ec_cluster.specs.Frames.{BeginsWith, HasImages, tables_on}
 use Rattle.ec_code.specs.Activations.{begun, finished, into_variable, operation_at, variables_behind, variables_if, with_result}
 use Rattle.ec_code.specs.Fine.{Fine}
 use Rattle.ec_code.specs.Typing.{Declared}
@@ -37,7 +37,7 @@ use Rattle.ec_settling.proofs.Wording.{frame_string}
 use Rattle.ec_generate.specs.Entries.{entries_of}
 use Rattle.ec_generate.specs.declared.table.OperationTable.{OperationTable}
 use Rattle.ec_generate.specs.declared.table.StopEntry.{StopEntry}
-use Rattle.ec_system.specs.Systems.{Strings}
+use Rattle.ec_cluster.specs.Systems.{Strings}
 use Rattle.ec_things.specs.Store.{Store}
 use Rattle.ec_world.specs.Group.{Has}
 use Rattle.ec_world.specs.declared.node.Kind.{Kind}

@@ -9,7 +9,7 @@ use Rattle.ec_cluster.specs.Images.{homes_on, image_of}
 use Rattle.ec_cluster.specs.Steps.{Changes, Nothing, WhereIs}
 use Rattle.ec_cluster.specs.declared.cluster.Cluster.{Cluster}
 use Rattle.ec_cluster.specs.declared.cluster.Images.{Images}
-use Rattle.ec_cluster_frames.specs.Frames.{BeginsWith, CanBegin, FrameAt, HasImages, HasRoomFor, RestsOn, with_stack}
+use Rattle.ec_cluster.specs.Frames.{BeginsWith, CanBegin, FrameAt, HasImages, HasRoomFor, RestsOn, with_stack}
 use Rattle.ec_code.specs.Activations.{begun, code_meaning, finished}
 use Rattle.ec_code.specs.Typing.{Declared}
 use Rattle.ec_code.specs.declared.activation.CodeActivation.{CodeActivation}
@@ -24,8 +24,8 @@ use Rattle.ec_settling.proofs.Stacking.{frame_at, get_at, restack, stack_with, s
 use Rattle.ec_settling.proofs.Wording.{strings_join, strings_moved}
 use Rattle.ec_settling.specs.Taking.{Becomes, HasActivation, TakesIn}
 use Rattle.ec_generate.specs.declared.table.StopEntry.{StopEntry}
-use Rattle.ec_system.proofs.Pools.{strings_come}
-use Rattle.ec_system.specs.Steps.{CanFinish, TakesBelow}
+use Rattle.ec_cluster.proofs.Pools.{strings_come}
+use Rattle.ec_cluster.specs.SystemSteps.{CanFinish, TakesBelow}
 use Rattle.ec_world.specs.World.{finish_top}
 use Rattle.ec_world.specs.declared.node.Kind.{Kind}
 use Rattle.ec_world.specs.declared.process.Proc.{Proc}

@@ -5,7 +5,7 @@ use Rattle.ec_activations.specs.Frames.{taker_of}
 use Rattle.ec_cluster.specs.Cluster.{CodeWorld, Shows, place}
 use Rattle.ec_cluster.specs.Steps.{Changes, WhereIs}
 use Rattle.ec_cluster.specs.declared.cluster.Cluster.{Cluster}
-use Rattle.ec_cluster_frames.specs.Frames.{HasImages, HasRoomFor, RestsIn, RestsOn, with_stack}
+use Rattle.ec_cluster.specs.Frames.{HasImages, HasRoomFor, RestsIn, RestsOn, with_stack}
 use Rattle.ec_code.specs.Activations.{finished}
 use Rattle.ec_code.specs.Typing.{Declared}
 use Rattle.ec_code.specs.declared.activation.CodeActivation.{CodeActivation}
@@ -14,8 +14,8 @@ use Rattle.ec_world.specs.Things.{activation_at}
 use Rattle.ec_settling.proofs.Doing.{taken_string}
 use Rattle.ec_settling.proofs.Stacking.{get_at, set_at}
 use Rattle.ec_generate.specs.declared.table.StopEntry.{StopEntry}
-use Rattle.ec_system.specs.Steps.{CanFinish}
-use Rattle.ec_system.specs.Systems.{Strings}
+use Rattle.ec_cluster.specs.SystemSteps.{CanFinish}
+use Rattle.ec_cluster.specs.Systems.{Strings}
 use Rattle.ec_world.specs.declared.process.Proc.{Proc}
 use Rattle.ec_world.specs.declared.process.ProcStatus.{ProcStatus}
 use Rattle.ec_world.specs.declared.value.Value.{Value}

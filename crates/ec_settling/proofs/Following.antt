@@ -10,13 +10,13 @@ use Rattle.ec_cluster.specs.Images.{image_of}
 use Rattle.ec_cluster.specs.Steps.{Changes}
 use Rattle.ec_cluster.specs.declared.cluster.Cluster.{Cluster}
 use Rattle.ec_cluster.specs.declared.cluster.Images.{Images}
-use Rattle.ec_cluster_frames.proofs.Finishing.{finished_own}
-use Rattle.ec_cluster_frames.specs.Frames.{BeginsWith, CanBegin, HasImages, HasNode, with_one_more, with_stack}
+use Rattle.ec_cluster.proofs.Finishing.{finished_own}
+use Rattle.ec_cluster.specs.Frames.{BeginsWith, CanBegin, HasImages, HasNode, with_one_more, with_stack}
 use Rattle.ec_code.specs.Activations.{begun, code_meaning, finished}
 use Rattle.ec_code.specs.Typing.{Declared}
 use Rattle.ec_code.specs.declared.activation.CodeActivation.{CodeActivation}
-use Rattle.ec_forward.specs.Directory.{place_at}
-use Rattle.ec_forward.specs.declared.directory.Whereabouts.{Whereabouts}
+use Rattle.ec_cluster.specs.Directory.{place_at}
+use Rattle.ec_cluster.specs.declared.forward.directory.Whereabouts.{Whereabouts}
 use Rattle.ec_node_frames.proofs.Texts.{no_texts_begun}
 use Rattle.ec_world.proofs.Procs.{get_end, get_past}
 use Rattle.ec_world.specs.Things.{activation_at, in_process}
@@ -27,11 +27,11 @@ use Rattle.ec_settling.proofs.Readied.{rows_many}
 use Rattle.ec_settling.proofs.Stacking.{at_node, get_at, no_frame}
 use Rattle.ec_settling.proofs.Wording.{nothing_changes, nothing_said, strings_moved}
 use Rattle.ec_settling.specs.Taking.{Becomes, CanFollow, TakesIn, with_changed, with_section}
-use Rattle.ec_system.proofs.Pools.{strings_come}
-use Rattle.ec_system.specs.Steps.{CanStart, TakesBelow}
-use Rattle.ec_system.specs.Systems.{Mirrors, Strings, row_of}
-use Rattle.ec_system.specs.declared.system.ProcessRow.{ProcessRow}
-use Rattle.ec_system.specs.declared.system.System.{System}
+use Rattle.ec_cluster.proofs.Pools.{strings_come}
+use Rattle.ec_cluster.specs.SystemSteps.{CanStart, TakesBelow}
+use Rattle.ec_cluster.specs.Systems.{Mirrors, Strings, row_of}
+use Rattle.ec_cluster.specs.declared.system.ProcessRow.{ProcessRow}
+use Rattle.ec_cluster.specs.declared.system.System.{System}
 use Rattle.ec_things.specs.Store.{Store}
 use Rattle.ec_world.specs.World.{changed, finish_top}
 use Rattle.ec_world.specs.declared.doing.Section.{Section}

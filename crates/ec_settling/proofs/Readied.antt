@@ -5,8 +5,8 @@ use Rattle.std.proofs.lemmas.Option.{slice_get-map}
 use Rattle.ec_base.proofs.Lists.{set_there}
 use Rattle.ec_code.specs.declared.activation.CodeActivation.{CodeActivation}
 use Rattle.ec_settling.specs.Rows.{row_readied, rows_readied}
-use Rattle.ec_system.specs.Systems.{row_of}
-use Rattle.ec_system.specs.declared.system.ProcessRow.{ProcessRow}
+use Rattle.ec_cluster.specs.Systems.{row_of}
+use Rattle.ec_cluster.specs.declared.system.ProcessRow.{ProcessRow}
 use Rattle.ec_things.proofs.Same.{stacks}
 use Rattle.ec_world.specs.World.{all_readied, readied}
 use Rattle.ec_world.specs.declared.process.Proc.{Proc}

@@ -9,7 +9,7 @@ use Rattle.ec_cluster.specs.Images.{image_of}
 use Rattle.ec_cluster.specs.Steps.{Changes, Nothing}
 use Rattle.ec_cluster.specs.declared.cluster.Cluster.{Cluster}
 use Rattle.ec_cluster.specs.declared.cluster.Images.{Images}
-use Rattle.ec_cluster_frames.specs.Frames.{CanBegin, HasImages}
+use Rattle.ec_cluster.specs.Frames.{CanBegin, HasImages}
 use Rattle.ec_code.specs.Activations.{code_meaning}
 use Rattle.ec_code.specs.Typing.{Declared}
 use Rattle.ec_code.specs.declared.activation.CodeActivation.{CodeActivation}
@@ -26,10 +26,10 @@ use Rattle.ec_settling.specs.Rows.{row_readied, rows_readied}
 use Rattle.ec_settling.specs.Settling.{CanBeSettled, SettlesIn}
 use Rattle.ec_settling.specs.Taking.{Becomes, CanBeTaken, CanFollow, GivesUp, ShowsSomeTop, ShowsTop, TakesIn, with_changed, with_objects}
 use Rattle.ec_settling.specs.Taking.{with_section}
-use Rattle.ec_system.specs.Steps.{CanStart, CanTake, Settles, StartsBehind}
-use Rattle.ec_system.specs.Systems.{Mirrors, Strings, row_of}
-use Rattle.ec_system.specs.declared.system.ProcessRow.{ProcessRow}
-use Rattle.ec_system.specs.declared.system.System.{System}
+use Rattle.ec_cluster.specs.SystemSteps.{CanStart, CanTake, Settles, StartsBehind}
+use Rattle.ec_cluster.specs.Systems.{Mirrors, Strings, row_of}
+use Rattle.ec_cluster.specs.declared.system.ProcessRow.{ProcessRow}
+use Rattle.ec_cluster.specs.declared.system.System.{System}
 use Rattle.ec_things.proofs.Same.{restated, stacks}
 use Rattle.ec_things.specs.Things.{Thing, frame_if, things_of}
 use Rattle.ec_world.specs.Outcomes.{all_granted}

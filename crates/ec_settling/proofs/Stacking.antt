@@ -7,8 +7,8 @@ use Rattle.ec_base.specs.Stack.{below_of, top_of}
 use Rattle.ec_cluster.specs.Cluster.{CodeWorld, Shows, frame_of, place, stores}
 use Rattle.ec_cluster.specs.Images.{homes_on}
 use Rattle.ec_cluster.specs.declared.cluster.Cluster.{Cluster}
-use Rattle.ec_cluster_frames.specs.Finding.{NoFrame}
-use Rattle.ec_cluster_frames.specs.Frames.{FrameAt, with_stack}
+use Rattle.ec_cluster.specs.Finding.{NoFrame}
+use Rattle.ec_cluster.specs.Frames.{FrameAt, with_stack}
 use Rattle.ec_code.specs.Activations.{code_meaning, finished}
 use Rattle.ec_code.specs.declared.activation.CodeActivation.{CodeActivation}
 use Rattle.ec_node_frames.proofs.Shown.{shown_here}

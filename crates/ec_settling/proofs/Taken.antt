@@ -2,7 +2,7 @@
 use Rattle.std.proofs.Common.{◌≡◌, List, ◌∷◌, ◌++◌, [], None, subst}
 use Rattle.ec_cluster.specs.Cluster.{CodeWorld}
 use Rattle.ec_cluster.specs.declared.cluster.Cluster.{Cluster}
-use Rattle.ec_cluster_frames.specs.Frames.{with_stack}
+use Rattle.ec_cluster.specs.Frames.{with_stack}
 use Rattle.ec_code.specs.Activations.{finished}
 use Rattle.ec_code.specs.Typing.{Declared}
 use Rattle.ec_code.specs.declared.activation.CodeActivation.{CodeActivation}

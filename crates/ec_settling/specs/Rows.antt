@@ -1,6 +1,6 @@
 -- Rows of processes that were granted a monitor.
 use Rattle.std.specs.Prelude.{ℕ, List, [], ◌∷◌, Option, Some, None, slice_get, slice_set}
-use Rattle.ec_system.specs.declared.system.ProcessRow.{ProcessRow}
+use Rattle.ec_cluster.specs.declared.system.ProcessRow.{ProcessRow}
 use Rattle.ec_world.specs.declared.process.ProcStatus.TheVariants.{Ready}
 
 abbrev pub row_readied : List ProcessRow → ℕ → Option ProcessRow → List ProcessRow

@@ -1,13 +1,13 @@
 -- What the settling of an outcome asks of a system.
 use Rattle.std.specs.Prelude.{◌≡◌, List, length}
 use Rattle.ec_cluster.specs.Cluster.{CodeWorld}
-use Rattle.ec_cluster_frames.specs.Frames.{HasImages}
+use Rattle.ec_cluster.specs.Frames.{HasImages}
 use Rattle.ec_code.specs.Typing.{Declared}
 use Rattle.ec_code.specs.declared.activation.CodeActivation.{CodeActivation}
-use Rattle.ec_system.specs.Acting.{IsTop}
-use Rattle.ec_system.specs.Steps.{CanSettle}
-use Rattle.ec_system.specs.Systems.{Mirrors}
-use Rattle.ec_system.specs.declared.system.System.{System}
+use Rattle.ec_cluster.specs.Acting.{IsTop}
+use Rattle.ec_cluster.specs.SystemSteps.{CanSettle}
+use Rattle.ec_cluster.specs.Systems.{Mirrors}
+use Rattle.ec_cluster.specs.declared.system.System.{System}
 use Rattle.ec_world.specs.declared.doing.Outcome.{Outcome}
 use Rattle.ec_world.specs.declared.stop.Who.{Who}
 

@@ -3,14 +3,14 @@ use Rattle.std.specs.Prelude.{◌≡◌, ℕ, ◌++◌, [], List, Option, Some, 
 use Rattle.ec_cluster.specs.Cluster.{CodeWorld, Shows}
 use Rattle.ec_cluster.specs.Steps.{Changes, with_common}
 use Rattle.ec_cluster.specs.declared.cluster.Cluster.{Cluster}
-use Rattle.ec_cluster_frames.specs.Frames.{CanBegin, HasImages}
+use Rattle.ec_cluster.specs.Frames.{CanBegin, HasImages}
 use Rattle.ec_code.specs.Activations.{code_meaning}
 use Rattle.ec_code.specs.Typing.{Declared}
 use Rattle.ec_code.specs.declared.activation.CodeActivation.{CodeActivation}
-use Rattle.ec_system.specs.Acting.{IsTop}
-use Rattle.ec_system.specs.Steps.{CanTake}
-use Rattle.ec_system.specs.Systems.{Strings}
-use Rattle.ec_system.specs.declared.system.System.{System}
+use Rattle.ec_cluster.specs.Acting.{IsTop}
+use Rattle.ec_cluster.specs.SystemSteps.{CanTake}
+use Rattle.ec_cluster.specs.Systems.{Strings}
+use Rattle.ec_cluster.specs.declared.system.System.{System}
 use Rattle.ec_world.specs.Outcomes.{dropped_at}
 use Rattle.ec_world.specs.World.{begun_for, changed, given_up}
 use Rattle.ec_world.specs.declared.doing.Section.{Section}

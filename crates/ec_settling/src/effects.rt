@@ -2,7 +2,7 @@
 ghost use Rattle.std.specs.Prelude.{◌≡◌, ◌++◌, [], ◌∷◌, List, None, OnOk, option_copied};
 ghost use Rattle.ec_base.specs.Stack.{below_of, top_of};
 ghost use Rattle.ec_cluster.specs.Cluster.{CodeWorld};
-ghost use Rattle.ec_cluster_frames.specs.Frames.{with_stack};
+ghost use Rattle.ec_cluster.specs.Frames.{with_stack};
 ghost use Rattle.ec_code.specs.Activations.{begun, code_meaning, finished};
 ghost use Rattle.ec_code.specs.Typing.{Declared};
 ghost use Rattle.ec_code.specs.declared.activation.CodeActivation.{CodeActivation};
@@ -13,7 +13,7 @@ ghost use Rattle.ec_world.specs.declared.process.ProcStatus.{ProcStatus as Statu
 use crate::rows::next;
 use crate::seeking::own_at;
 use ec_cluster::cluster::Cluster;
-use ec_cluster_frames::frames::{begin, close, finish};
+use ec_cluster::frames::{begin, close, finish};
 use ec_world::stop::{Effect, Who};
 use ec_world::value::{Oid, OpNo, Value};
 use std::alloc::{AllocError, Global};

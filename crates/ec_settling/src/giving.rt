@@ -6,7 +6,7 @@ ghost use Rattle.ec_code.specs.Activations.{code_meaning};
 ghost use Rattle.ec_code.specs.declared.activation.CodeActivation.{CodeActivation};
 ghost use Rattle.ec_settling.specs.Taking.{GivesUp, LeavesAlone, ShowsSomeTop, ShowsTop, with_objects};
 ghost use Rattle.ec_stores.specs.Changes.{HoldsMonitor};
-ghost use Rattle.ec_system.specs.Steps.{CanTake};
+ghost use Rattle.ec_cluster.specs.SystemSteps.{CanTake};
 ghost use Rattle.ec_world.specs.Outcomes.{all_granted, dropped_at, dropped_each};
 ghost use Rattle.ec_world.specs.World as spec;
 

@@ -3,14 +3,14 @@ ghost use Rattle.std.specs.Prelude.{◌≡◌, ◌+◌, IfOk, List, length, slic
 ghost use Rattle.ec_code.specs.Activations.{code_meaning};
 ghost use Rattle.ec_code.specs.declared.activation.CodeActivation.{CodeActivation};
 ghost use Rattle.ec_settling.specs.Rows.{row_readied, rows_readied};
-ghost use Rattle.ec_system.specs.Systems.{row_of};
+ghost use Rattle.ec_cluster.specs.Systems.{row_of};
 ghost use Rattle.ec_world.specs.Outcomes.{all_granted};
 ghost use Rattle.ec_world.specs.World as spec;
 ghost use Rattle.ec_world.specs.World.{changed};
 
 use ec_base::list::Seq;
 use ec_monitors::record::Granted;
-use ec_system::system::ProcessRow;
+use ec_cluster::system::ProcessRow;
 use ec_world::process::ProcStatus;
 use ec_world::stop::{Effect, Queue};
 use ec_world::value::{Oid, Pid};

@@ -6,7 +6,7 @@ ghost use Rattle.ec_settling.specs.Taking.{HasActivation};
 ghost use Rattle.ec_world.specs.declared.process.Proc.{Proc};
 
 use ec_cluster::cluster::Cluster;
-use ec_cluster_frames::finding::headings_at;
+use ec_cluster::finding::headings_at;
 use ec_world::value::{Oid, Pid};
 
 /// The own object of an activation, by its process and its depth (from 0).

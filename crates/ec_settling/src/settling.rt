@@ -2,20 +2,20 @@
 ghost use Rattle.std.specs.Prelude.{◌≡◌, List, OnOk};
 ghost use Rattle.ec_cluster.specs.Cluster.{CodeWorld};
 ghost use Rattle.ec_cluster.specs.Steps.{Changes};
-ghost use Rattle.ec_cluster_frames.specs.Frames.{HasImages};
+ghost use Rattle.ec_cluster.specs.Frames.{HasImages};
 ghost use Rattle.ec_code.specs.Typing.{Declared};
 ghost use Rattle.ec_code.specs.declared.activation.CodeActivation.{CodeActivation};
 ghost use Rattle.ec_settling.specs.Settling.{CanBeSettled, SettlesIn};
 ghost use Rattle.ec_settling.specs.Taking.{CanFollow, with_section};
-ghost use Rattle.ec_system.specs.Steps.{Settles};
-ghost use Rattle.ec_system.specs.Systems.{Mirrors, Strings};
+ghost use Rattle.ec_cluster.specs.SystemSteps.{Settles};
+ghost use Rattle.ec_cluster.specs.Systems.{Mirrors, Strings};
 
 use crate::effects::take_effect;
 use crate::giving::give_up;
 use crate::rows::{number_of, ready_each, ready_granted, row_after};
 use ec_base::list::Seq;
-use ec_cluster_frames::frames::begin;
-use ec_system::system::{ProcessRow, System};
+use ec_cluster::frames::begin;
+use ec_cluster::system::{ProcessRow, System};
 use ec_world::doing::{Outcome, Section};
 use ec_world::process::ProcStatus;
 use ec_world::stop::Who;

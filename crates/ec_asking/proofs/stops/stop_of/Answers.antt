@@ -5,7 +5,7 @@ use Rattle.ec_asking.proofs.Tops.{some_there, there}
 use Rattle.ec_asking.proofs.stops.stop_of.Goals as goal
 use Rattle.ec_asking.specs.Asking.{HasStop}
 use Rattle.ec_cluster.specs.Images.{homes_on}
-use Rattle.ec_cluster_frames.specs.Stops.{tables_for}
+use Rattle.ec_cluster.specs.Stops.{tables_for}
 use Rattle.ec_generate.specs.declared.table.StopEntry.{StopEntry}
 use Rattle.ec_stores.specs.Node.{store_of}
 

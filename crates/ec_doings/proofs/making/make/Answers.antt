@@ -4,7 +4,7 @@ use Rattle.ec_cluster.specs.Makings.{CanMake}
 use Rattle.ec_doings.proofs.Made.{class_is, object_made}
 use Rattle.ec_doings.proofs.Stepping.{answered}
 use Rattle.ec_doings.proofs.making.make.Goals as goal
-use Rattle.ec_forward.specs.Directory.{made_count}
+use Rattle.ec_cluster.specs.Directory.{made_count}
 use Rattle.ec_world.specs.Objects.{class_at}
 use Rattle.ec_world.specs.Outcomes.{only}
 use Rattle.ec_world.specs.Values.{new_fields}

@@ -1,6 +1,6 @@
 use Rattle.std.proofs.Common.{◌<◌, ◌≤◌, ◌-◌}
 use Rattle.ec_doings.proofs.making.next_number.Given as goal
-use Rattle.ec_forward.specs.Directory.{made_count}
+use Rattle.ec_cluster.specs.Directory.{made_count}
 
 -- there are so many objects, and not as many as that
 abbrev pub invariant-loop-made : goal.invariant-loop-made

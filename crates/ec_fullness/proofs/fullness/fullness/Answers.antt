@@ -2,7 +2,7 @@
 use Rattle.std.proofs.Common.{◌≡◌, ◌∷◌, [], ℕ, List, length, Option, Some, ap, ◌∙◌, subst, sym}
 use Rattle.std.specs.Prelude.{IfOk, option_copied, replicate, slice_get}
 use Rattle.ec_cluster.specs.Cluster.{CodeWorld, place, stores}
-use Rattle.ec_cluster_frames.specs.Frames.{RestsIn, tables_on}
+use Rattle.ec_cluster.specs.Frames.{RestsIn, tables_on}
 use Rattle.ec_code.specs.Typing.{Declared}
 use Rattle.ec_code.specs.declared.activation.CodeActivation.{CodeActivation}
 use Rattle.ec_fullness.proofs.Verdicts.{answers_define, answers_make, answers_pass, answers_return, answers_start, answers_store}
@@ -17,9 +17,9 @@ use Rattle.ec_world.specs.Things.{class_blocks}
 use Rattle.ec_world.specs.declared.room.Lack.{Lack}
 use Rattle.ec_generate.specs.declared.table.OperationTable.{OperationTable}
 use Rattle.ec_generate.specs.declared.table.StopEntry.{StopEntry}
-use Rattle.ec_system.specs.Acting.{Asks}
-use Rattle.ec_system.specs.Systems.{Runs}
-use Rattle.ec_system.specs.declared.system.System.{System}
+use Rattle.ec_cluster.specs.Acting.{Asks}
+use Rattle.ec_cluster.specs.Systems.{Runs}
+use Rattle.ec_cluster.specs.declared.system.System.{System}
 use Rattle.ec_things.specs.Store.{Store}
 use Rattle.ec_world.specs.Objects.{class_at, element_kind}
 use Rattle.ec_world.specs.Values.{default_of}

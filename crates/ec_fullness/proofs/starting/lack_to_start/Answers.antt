@@ -2,7 +2,7 @@
 use Rattle.std.proofs.Common.{◌∷◌, List, ap, map, refl, sym, ◌∙◌, subst}
 use Rattle.std.proofs.lemmas.Option.{same_Some}
 use Rattle.ec_cluster.proofs.Answered.{if_ok}
-use Rattle.ec_cluster_frames.proofs.Tables.{table_got, table_within}
+use Rattle.ec_cluster.proofs.Tables.{table_got, table_within}
 use Rattle.ec_code.specs.declared.code.Live.{Live}
 use Rattle.ec_fullness.proofs.Telling.{start_told, told_ok}
 use Rattle.ec_fullness.proofs.starting.lack_to_start.Goals as goal

@@ -2,7 +2,7 @@
 use Rattle.std.proofs.Common.{◌≡◌, ◌≤◌, ◌-◌, Option, subst}
 use Rattle.std.specs.Prelude.{IfNone, IfSome, option_copied}
 use Rattle.ec_cluster.proofs.Answered.{if_ok}
-use Rattle.ec_cluster_frames.specs.Finding.{NoFrame, TellsOf}
+use Rattle.ec_cluster.specs.Finding.{NoFrame, TellsOf}
 use Rattle.ec_fullness.proofs.Verdicts.{lower_rests, lower_shown, lower_told}
 use Rattle.ec_fullness.proofs.taking.lack_below.Goals as goal
 use Rattle.ec_node_frames.specs.declared.frames.Headings.{Headings}

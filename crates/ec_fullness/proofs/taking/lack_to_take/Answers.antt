@@ -5,8 +5,8 @@ use Rattle.ec_cluster.proofs.Answered.{if_ok}
 use Rattle.ec_cluster.specs.Cluster.{place}
 use Rattle.ec_cluster.specs.Images.{homes_on}
 use Rattle.ec_cluster.specs.Steps.{HasPlace}
-use Rattle.ec_cluster_frames.proofs.Finishing.{its_node, own_has_place, rests_here, rests_there, some_rests, some_rests_here}
-use Rattle.ec_cluster_frames.specs.Stops.{tables_for}
+use Rattle.ec_cluster.proofs.Finishing.{its_node, own_has_place, rests_here, rests_there, some_rests, some_rests_here}
+use Rattle.ec_cluster.specs.Stops.{tables_for}
 use Rattle.ec_fullness.proofs.Telling.{none_given, none_takes, one_takes, told_ok}
 use Rattle.ec_fullness.proofs.taking.lack_to_take.Goals as goal
 use Rattle.ec_fullness.specs.Told.{Tells}

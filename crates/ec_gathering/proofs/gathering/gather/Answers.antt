@@ -14,7 +14,7 @@ use Rattle.ec_parcels.specs.Owners.{all_blocks, all_values}
 use Rattle.ec_mover.specs.Classes.{ClassTable}
 use Rattle.ec_objects.specs.Lacks.{LacksRoom}
 use Rattle.ec_world.specs.declared.room.Lack.{Lack}
-use Rattle.ec_system.specs.declared.system.System.{System}
+use Rattle.ec_cluster.specs.declared.system.System.{System}
 
 pub node_of-to-requires : goal.node_of-to-requires
 node_of-to-requires c =

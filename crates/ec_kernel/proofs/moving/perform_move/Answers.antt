@@ -4,7 +4,7 @@ use Rattle.ec_kernel.proofs.Finding.{move_finds_full}
 use Rattle.ec_kernel.proofs.Gathered.{has_moved, move_can_settle, move_settles}
 use Rattle.ec_kernel.proofs.Told.{none_told, some_told}
 use Rattle.ec_kernel.proofs.moving.perform_move.Goals as goal
-use Rattle.ec_system.specs.Steps.{world_done}
+use Rattle.ec_cluster.specs.SystemSteps.{world_done}
 use Rattle.ec_world.specs.declared.doing.Doing.TheVariants.{Moves}
 
 pub gather-requires : goal.gather-requires

@@ -1,7 +1,7 @@
 -- The second step finds what it asks for behind the first, and both make the world that the table of actions has.
 use Rattle.ec_kernel.proofs.Both.{can_be_settled, can_do, has_acted, settles_in}
 use Rattle.ec_kernel.proofs.steps.both_steps.Goals as goal
-use Rattle.ec_system.specs.Steps.{world_done}
+use Rattle.ec_cluster.specs.SystemSteps.{world_done}
 
 pub does-requires : goal.does-requires
 does-requires c =

@@ -1,11 +1,11 @@
 -- Process 0 is about to run operation 0.
 use Rattle.std.proofs.Common.{◌++◌, List, [], ◌∷◌, length, replicate, refl, ap, ◌∙◌}
-use Rattle.ec_forward.specs.Located.{first_made}
+use Rattle.ec_cluster.specs.Located.{first_made}
 use Rattle.ec_loading.proofs.Arriving.{loaded}
 use Rattle.ec_loading.proofs.Going.{can_begin, has_images, own_at, world_set}
 use Rattle.ec_loading.proofs.load.start.Goals as goal
 use Rattle.ec_loading.specs.Worlds.{with_objects}
-use Rattle.ec_system.specs.declared.system.ProcessRow.{ProcessRow}
+use Rattle.ec_cluster.specs.declared.system.ProcessRow.{ProcessRow}
 use Rattle.ec_world.specs.Run.{node_object, program_object}
 use Rattle.ec_world.specs.declared.process.ProcStatus.TheVariants.{Ready}
 

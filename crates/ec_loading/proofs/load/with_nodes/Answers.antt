@@ -1,6 +1,6 @@
 -- One node's own object more.
 use Rattle.std.proofs.Common.{length, replicate, arith, subst}
-use Rattle.ec_forward.specs.Located.{nodes_made}
+use Rattle.ec_cluster.specs.Located.{nodes_made}
 use Rattle.ec_loading.proofs.Freshly.{fresh_set}
 use Rattle.ec_loading.proofs.Going.{can_make_node, one_node_more}
 use Rattle.ec_loading.proofs.Rooms.{can_hold}

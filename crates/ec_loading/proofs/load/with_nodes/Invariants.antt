@@ -1,5 +1,5 @@
 use Rattle.std.proofs.Common.{length, replicate}
-use Rattle.ec_forward.specs.Located.{nodes_made}
+use Rattle.ec_cluster.specs.Located.{nodes_made}
 use Rattle.ec_loading.proofs.load.with_nodes.Given as goal
 use Rattle.ec_loading.specs.Loading.{IsSet}
 use Rattle.ec_loading.specs.Worlds.{with_objects}

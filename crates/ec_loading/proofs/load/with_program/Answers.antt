@@ -1,6 +1,6 @@
 -- The program's object is at node 0.
 use Rattle.std.proofs.Common.{length, replicate}
-use Rattle.ec_forward.specs.Located.{nodes_made}
+use Rattle.ec_cluster.specs.Located.{nodes_made}
 use Rattle.ec_loading.proofs.Going.{can_make_program, program_set}
 use Rattle.ec_loading.proofs.load.with_program.Goals as goal
 use Rattle.ec_loading.specs.Worlds.{with_objects}

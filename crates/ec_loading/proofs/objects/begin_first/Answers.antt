@@ -3,7 +3,7 @@ use Rattle.std.proofs.Common.{ap, ◌∙◌, sym, subst, refl}
 use Rattle.std.specs.Prelude.{option_map}
 use Rattle.std.proofs.lemmas.Option.{same_Some}
 use Rattle.ec_cluster.proofs.Answered.{on_ok_two}
-use Rattle.ec_cluster_frames.proofs.Tables.{table_got, table_within}
+use Rattle.ec_cluster.proofs.Tables.{table_got, table_within}
 use Rattle.ec_loading.proofs.Beginning.{first_set}
 use Rattle.ec_loading.proofs.Entering.{first_values_fit}
 use Rattle.ec_loading.proofs.objects.begin_first.Goals as goal

@@ -1,6 +1,6 @@
 use Rattle.std.proofs.Common.{◌≡◌, drop}
 use Rattle.ec_nodes_running.proofs.moving.any_fixed.Given as goal
-use Rattle.ec_seen.specs.Decoded.{seen_common}
+use Rattle.ec_cluster.specs.Decoded.{seen_common}
 use Rattle.ec_world.specs.Doings.{any_fixed}
 use Rattle.ec_world.specs.Sights.{sight_of}
 

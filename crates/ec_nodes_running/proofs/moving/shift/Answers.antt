@@ -5,8 +5,8 @@ use Rattle.ec_kernel.specs.Acts.{FoundFull}
 use Rattle.ec_nodes_running.proofs.Moved.{found_full, has_moved, may, members_are, not_moved}
 use Rattle.ec_nodes_running.proofs.Told.{from_none, from_some}
 use Rattle.ec_nodes_running.proofs.moving.shift.Goals as goal
-use Rattle.ec_seen.specs.Decoded.{seen_common}
-use Rattle.ec_system.specs.declared.system.System.{System}
+use Rattle.ec_cluster.specs.Decoded.{seen_common}
+use Rattle.ec_cluster.specs.declared.system.System.{System}
 use Rattle.ec_world.specs.Moves.{OperatorMove}
 
 pub returns-in-Ok-None-clause-moved : goal.returns-in-Ok-None-clause-moved

@@ -3,8 +3,8 @@ use Rattle.std.proofs.Common.{ℕ, sym, ap, ◌∙◌}
 use Rattle.ec_code.specs.Activations.{code_meaning}
 use Rattle.ec_settling.proofs.Stacking.{left_length}
 use Rattle.ec_settling.proofs.rows.row_after.Goals as goal
-use Rattle.ec_system.specs.Systems.{row_of}
-use Rattle.ec_system.specs.declared.system.ProcessRow.{ProcessRow}
+use Rattle.ec_cluster.specs.Systems.{row_of}
+use Rattle.ec_cluster.specs.declared.system.ProcessRow.{ProcessRow}
 use Rattle.ec_world.specs.World.{changed}
 use Rattle.ec_world.specs.declared.process.ProcStatus.TheVariants.{Ready}
 use Rattle.ec_world.specs.declared.stop.Effect.{Effect}

@@ -5,7 +5,7 @@ use Rattle.ec_cluster.specs.Steps.{Changes}
 use Rattle.ec_settling.proofs.Following.{follows_changes, follows_mirrors, none_changes}
 use Rattle.ec_settling.proofs.settling.follow.Goals as goal
 use Rattle.ec_settling.specs.Taking.{with_section}
-use Rattle.ec_system.specs.Systems.{Strings}
+use Rattle.ec_cluster.specs.Systems.{Strings}
 use Rattle.ec_world.specs.declared.doing.Section.{Section}
 
 pub returns-in_default-clause-changes : goal.returns-in_default-clause-changes

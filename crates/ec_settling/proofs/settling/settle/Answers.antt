@@ -4,7 +4,7 @@ use Rattle.ec_cluster.proofs.Answered.{on_ok, on_ok_two}
 use Rattle.ec_settling.proofs.Settled.{becomes, can_follow, can_take, row_there, settled_so, shows_some_top, top_shown}
 use Rattle.ec_settling.proofs.settling.settle.Goals as goal
 use Rattle.ec_settling.specs.Rows.{rows_readied}
-use Rattle.ec_system.specs.declared.system.ProcessRow.{ProcessRow}
+use Rattle.ec_cluster.specs.declared.system.ProcessRow.{ProcessRow}
 use Rattle.ec_world.specs.Outcomes.{all_granted}
 
 pub give_up-requires : goal.give_up-requires

@@ -2,7 +2,7 @@
 use Rattle.ec_nodes_running.proofs.Networks.{for_standing}
 use Rattle.ec_nodes_running.proofs.Reading.{class_read}
 use Rattle.ec_nodes_running.proofs.network.Network.class_of.Goals as goal
-use Rattle.ec_seen.specs.Decoded.{seen_common}
+use Rattle.ec_cluster.specs.Decoded.{seen_common}
 
 pub returns : goal.returns
 returns c = for_standing _ c.args.self.now c.standing.result.now c.standing.ensures.is

@@ -3,7 +3,7 @@ use Rattle.std.proofs.Common.{sym, ◌∙◌}
 use Rattle.ec_nodes_running.proofs.Networks.{for_standing}
 use Rattle.ec_nodes_running.proofs.Reading.{fixed_read, none_read}
 use Rattle.ec_nodes_running.proofs.network.Network.is_fixed.Goals as goal
-use Rattle.ec_seen.specs.Decoded.{seen_common}
+use Rattle.ec_cluster.specs.Decoded.{seen_common}
 
 pub returns-in-Some : goal.returns-in-Some
 returns-in-Some c = for_standing _ c.args.self.now c.standing.result.now c.standing.ensures.is

@@ -1,0 +1,4 @@
+//! Which node each object is at.
+
+pub mod directory;
+pub mod laws;

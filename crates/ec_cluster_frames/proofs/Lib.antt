@@ -1,6 +1,0 @@
-pub mod Stacks
-pub mod Resting
-pub mod Tables
-pub mod Finishing
-pub mod Beginning
-pub mod Looking

@@ -1,5 +1,0 @@
-use Rattle.ec_cluster_frames.proofs.finding.headings_at.Given as goal
-use Rattle.ec_cluster_frames.specs.Finding.{NoneBefore}
-
-abbrev pub invariant-loop-k : goal.invariant-loop-k
-invariant-loop-k l = NoneBefore l.cluster l.process l.depth l.k

@@ -1,3 +1,0 @@
-pub mod Stops
-pub mod Frames
-pub mod Finding

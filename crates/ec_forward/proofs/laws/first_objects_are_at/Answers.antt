@@ -1,5 +1,0 @@
-use Rattle.ec_forward.proofs.Noting.{first_are_at}
-use Rattle.ec_forward.proofs.laws.first_objects_are_at.Goals as goal
-
-pub returns : goal.returns
-returns c = first_are_at

@@ -1,3 +1,0 @@
-pub mod Directory
-pub mod Events
-pub mod Located

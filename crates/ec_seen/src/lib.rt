@@ -1,8 +1,0 @@
-//! What nodes let a reader see: the world that they show, read from their words.
-#![tactic(auto)]
-
-pub mod doings;
-pub mod laws;
-mod links;
-mod searching;
-pub mod seen;

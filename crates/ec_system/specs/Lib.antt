@@ -1,3 +1,0 @@
-pub mod Systems
-pub mod Acting
-pub mod Steps
