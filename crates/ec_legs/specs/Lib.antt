@@ -3,3 +3,7 @@ pub mod Words
 pub mod Machines
 pub mod Legs
 pub mod Runs
+pub mod NativeKindsKinds
+pub mod Nodes
+pub mod Going
+pub mod Laws

@@ -11,7 +11,7 @@ use Rattle.ec_code.specs.Activations.{code_meaning, code_silent}
 use Rattle.ec_code.specs.Typing.{Declared}
 use Rattle.ec_code.specs.declared.activation.CodeActivation.{CodeActivation}
 use Rattle.ec_code.specs.declared.code.Parts.{Parts}
-use Rattle.ec_going.specs.Going.{Ran, SameRoom}
+use Rattle.ec_legs.specs.Going.{Ran, SameRoom}
 use Rattle.ec_native_run.specs.Entries.{Along, EntryOf}
 use Rattle.ec_native_run.specs.Entries.EntryOf.{Moves, Rests, Turns}
 use Rattle.ec_nodes_running.specs.Moving.{MovedTo}

@@ -9,7 +9,7 @@ use Rattle.ec_cluster.specs.declared.cluster.Images.{Images}
 use Rattle.ec_code.specs.Fine.{Fine}
 use Rattle.ec_code.specs.Typing.{Declared}
 use Rattle.ec_code.specs.declared.code.Parts.{Parts}
-use Rattle.ec_going.specs.Going.{HasCode, HasLiterals}
+use Rattle.ec_legs.specs.Going.{HasCode, HasLiterals}
 use Rattle.ec_code.proofs.IdleWorlds.{run_idle}
 use Rattle.ec_code.specs.Idle.{OfClasses}
 use Rattle.ec_leaving.proofs.Worlds.{first_between}

@@ -14,7 +14,7 @@ use Rattle.ec_fitting.proofs.Keeping.{steady_after}
 use Rattle.ec_gathering.proofs.Moves.{operator_may}
 use Rattle.ec_gathering.specs.Gathers.{Gathers, LacksFor, LetsGo, MayGather, world_gathered}
 use Rattle.ec_gathering_room.specs.Gathering.{gathered}
-use Rattle.ec_going.proofs.Keeping.{code_kept}
+use Rattle.ec_legs.proofs.GoingKeeping.{code_kept}
 use Rattle.ec_code.proofs.IdleWorlds.{entry_idle}
 use Rattle.ec_code.specs.Idle.{OfClasses}
 use Rattle.ec_kernel.specs.Acts.{FoundFull}

@@ -8,9 +8,9 @@ use Rattle.ec_cluster.specs.declared.cluster.Cluster.{Cluster}
 use Rattle.ec_code.specs.Activations.{code_meaning}
 use Rattle.ec_code.specs.Typing.{Declared}
 use Rattle.ec_code.specs.declared.code.Parts.{Parts}
-use Rattle.ec_going.proofs.Idling.{idle_top_goes_on}
-use Rattle.ec_going.proofs.Keeping.{code_kept, literals_kept, runs_kept}
-use Rattle.ec_going.specs.Going.{GoesIn, HasLiterals, IsDoneTop, IsFew, Ran, RanNatively}
+use Rattle.ec_legs.proofs.Idling.{idle_top_goes_on}
+use Rattle.ec_legs.proofs.GoingKeeping.{code_kept, literals_kept, runs_kept}
+use Rattle.ec_legs.specs.Going.{GoesIn, HasLiterals, IsDoneTop, IsFew, Ran, RanNatively}
 use Rattle.ec_code.proofs.IdleWorlds.{go_on_idle}
 use Rattle.ec_code.specs.Idle.{OfClasses}
 use Rattle.ec_cluster.proofs.Before.{before}

@@ -6,7 +6,7 @@ use Rattle.ec_code.specs.Typing.{Declared}
 use Rattle.ec_code.specs.declared.activation.CodeActivation.{CodeActivation}
 use Rattle.ec_code.specs.declared.code.Parts.{Parts}
 use Rattle.ec_asking.specs.Typed.{IsTypedOnce}
-use Rattle.ec_going.specs.Nodes.{IsCodeFor}
+use Rattle.ec_legs.specs.Nodes.{IsCodeFor}
 use Rattle.ec_code.specs.Idle.{OfClasses}
 use Rattle.ec_loading.specs.Loaded.{AreImages, Loaded}
 use Rattle.ec_loading.specs.Loading.{CanLoad}

@@ -5,7 +5,7 @@ use Rattle.ec_cluster.specs.Cluster.{CodeWorld}
 use Rattle.ec_code.specs.Activations.{code_meaning, code_silent}
 use Rattle.ec_code.specs.Typing.{Declared}
 use Rattle.ec_code.specs.declared.activation.CodeActivation.{CodeActivation}
-use Rattle.ec_going.specs.Going.{IsDoneTop, IsFew, Ran, RanNatively}
+use Rattle.ec_legs.specs.Going.{IsDoneTop, IsFew, Ran, RanNatively}
 use Rattle.ec_node_frames.specs.declared.frames.Headings.{Headings}
 use Rattle.ec_nodes_running.specs.Standing.{Works}
 use Rattle.ec_cluster.specs.Acting.{IsTop}

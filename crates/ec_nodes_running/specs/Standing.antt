@@ -3,7 +3,7 @@ use Rattle.std.specs.Prelude.{◌≡◌}
 use Rattle.ec_class_numbers.specs.Vectors.{table_of}
 use Rattle.ec_cluster.specs.Cluster.{CodeWorld}
 use Rattle.ec_code.specs.Typing.{Declared}
-use Rattle.ec_going.specs.Going.{HasCode, HasLiterals}
+use Rattle.ec_legs.specs.Going.{HasCode, HasLiterals}
 use Rattle.ec_code.specs.Idle.{OfClasses}
 use Rattle.ec_kernel.specs.Acts.{Goes}
 use Rattle.ec_leaving.specs.Between.{IsBetween}

@@ -7,7 +7,7 @@ use crate::{moving, turning};
 use ec_class_numbers::numbers::class_numbers;
 use ec_cluster::cluster::Images;
 use ec_code::code::Parts;
-use ec_going::machines::Machines;
+use ec_legs::machines::Machines;
 use ec_loading::load as loading;
 use ec_loading::load::LoadError;
 use ec_mover::classes::ClassNumbers;

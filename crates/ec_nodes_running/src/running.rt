@@ -7,8 +7,8 @@ ghost use Rattle.ec_nodes_running.specs.Running.{EachTop, HasNoTop, Rested, Went
 ghost use Rattle.ec_nodes_running.specs.Standing.{Works, WorksInSome};
 
 use ec_cluster::finding::headings_at;
-use ec_going::going::go_on;
-use ec_going::machines::Machines;
+use ec_legs::going::go_on;
+use ec_legs::machines::Machines;
 use ec_node_frames::frames::Headings;
 use ec_cluster::system::{ProcessRow, System};
 use ec_world::process::ProcStatus;

@@ -8,7 +8,7 @@ ghost use Rattle.ec_nodes_running.specs.Turns.{RefusedIn, TurnedIn};
 
 use crate::running::{run_on, top_of};
 use crate::turns::{Did, TurnError};
-use ec_going::machines::Machines;
+use ec_legs::machines::Machines;
 use ec_kernel::acting::act;
 use ec_kernel::acts::{ActError, Acted};
 use ec_mover::classes::ClassNumbers;

@@ -20,7 +20,7 @@ use Rattle.ec_machine_code.specs.Frames.{slots}
 use Rattle.ec_machine_code.specs.Machine.{MachineMeaning}
 use Rattle.ec_machine_code.specs.Stops.{address_of}
 use Rattle.ec_runnable.proofs.Whole.{carries_few}
-use Rattle.ec_going.specs.Nodes.{IsCodeFor}
+use Rattle.ec_legs.specs.Nodes.{IsCodeFor}
 use Rattle.ec_code.specs.Idle.{HasOperations, OfClasses}
 use Rattle.ec_generate.specs.declared.image.Image.{Image}
 use Rattle.ec_emission.specs.Lowered.{AreOperationsOf, IsLowered, declared_of}

@@ -5,7 +5,7 @@ use Rattle.ec_cluster.specs.Images.{homes_on, image_of}
 use Rattle.ec_cluster.specs.declared.cluster.Images.{Images}
 use Rattle.ec_code.specs.Typing.{Declared}
 use Rattle.ec_code.specs.declared.code.Parts.{Parts}
-use Rattle.ec_going.specs.Nodes.{IsCodeFor}
+use Rattle.ec_legs.specs.Nodes.{IsCodeFor}
 use Rattle.ec_code.specs.Idle.{OfClasses}
 use Rattle.ec_node_frames.specs.Frames.{HasTables}
 use Rattle.ec_world.specs.Held.{Distinct}

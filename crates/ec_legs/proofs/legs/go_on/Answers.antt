@@ -1,7 +1,7 @@
 use Rattle.std.proofs.Common.{ℕ, ◌≤◌, List, sym, ◌∙◌, subst, arith}
 use Rattle.ec_machine_code.specs.Machine.{MachineMeaning}
 use Rattle.ec_legs.specs.Kinds.{AreHomeRegisters}
-use Rattle.ec_legs.proofs.Going.{comes_to_stop, frame_here, halts_here, leg_here, names_object, names_stop, no_trap_here}
+use Rattle.ec_legs.proofs.GoingLemmas.{comes_to_stop, frame_here, halts_here, leg_here, names_object, names_stop, no_trap_here}
 use Rattle.ec_legs.proofs.legs.go_on.Goals as goal
 use Rattle.ec_world.specs.declared.key.Key.TheVariants.{Frame}
 use Rattle.ec_stores.specs.Node.{bytes_in, store_of}

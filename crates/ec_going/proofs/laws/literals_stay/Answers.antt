@@ -1,6 +1,0 @@
--- The literals stay at their places.
-use Rattle.ec_going.proofs.Keeping.{literals_kept}
-use Rattle.ec_going.proofs.laws.literals_stay.Goals as goal
-
-pub returns : goal.returns
-returns start c c' own count parts ran h = literals_kept c c' own count parts ran h
