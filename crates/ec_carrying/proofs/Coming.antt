@@ -14,7 +14,7 @@ use Rattle.ec_parcels.proofs.Keys.{has_among, one_fewer}
 use Rattle.ec_parcels.proofs.Rising.{once_cons, once_first, once_none, once_tail}
 use Rattle.ec_parcels.specs.Owners.{among}
 use Rattle.ec_objects.specs.Values.{TextsFit}
-use Rattle.ec_settling.proofs.Wording.{changes_join}
+use Rattle.ec_acts.proofs.Wording.{changes_join}
 use Rattle.ec_things.specs.Store.{Store, Tidy}
 use Rattle.ec_things.specs.Texts.{GetsTexts, InPool}
 use Rattle.ec_things.specs.Things.{Thing, row_size, things_of}

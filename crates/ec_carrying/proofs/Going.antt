@@ -27,7 +27,7 @@ use Rattle.ec_parcels.proofs.Keys.{has_among}
 use Rattle.ec_parcels.proofs.Rising.{few_values, get_mapped, keys_once, map_get}
 use Rattle.ec_parcels.specs.Owners.{among, blocks_in, frame_keys, keys_of, object_keys, values_in}
 use Rattle.ec_parcels.specs.Parcels.{ActivationGoes, IsOfObject}
-use Rattle.ec_settling.proofs.Wording.{nothing_join}
+use Rattle.ec_acts.proofs.Wording.{nothing_join}
 use Rattle.ec_things.specs.Things.{Thing, frame_if, object_if, object_thing}
 use Rattle.ec_things.proofs.Others.{stand_nowhere}
 use Rattle.ec_wire.specs.declared.parcel.ActivationPart.{ActivationPart}

@@ -16,7 +16,7 @@ use Rattle.ec_objects.proofs.Wording.{take_all}
 use Rattle.ec_parcels.proofs.Keys.{not_among, one_behind}
 use Rattle.ec_parcels.proofs.Rising.{once_first, once_tail}
 use Rattle.ec_parcels.specs.Owners.{among}
-use Rattle.ec_settling.proofs.Wording.{nothing_changes, nothing_join}
+use Rattle.ec_acts.proofs.Wording.{nothing_changes, nothing_join}
 use Rattle.ec_cluster.specs.Steps.{Nothing}
 use Rattle.ec_things.specs.Texts.{NoTexts}
 use Rattle.ec_things.proofs.Turns.{takes_off}

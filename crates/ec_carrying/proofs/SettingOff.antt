@@ -13,7 +13,7 @@ use Rattle.ec_cluster.specs.declared.forward.directory.Whereabouts.{Whereabouts}
 use Rattle.ec_world.specs.declared.key.Key.{Key}
 use Rattle.ec_parcels.proofs.Keys.{not_has}
 use Rattle.ec_parcels.specs.Owners.{among, frame_keys, keys_of, object_keys}
-use Rattle.ec_settling.proofs.Wording.{nothing_join}
+use Rattle.ec_acts.proofs.Wording.{nothing_join}
 use Rattle.ec_things.specs.Things.{Thing, things_of}
 use Rattle.ec_things.proofs.Others.{go_elsewhere}
 use Rattle.ec_wire.specs.declared.parcel.Contents.{Contents}

@@ -10,7 +10,7 @@ use Rattle.ec_cluster.specs.Cluster.{CodeWorld, Shows, stores}
 use Rattle.ec_cluster.specs.Steps.{Nothing}
 use Rattle.ec_cluster.specs.declared.cluster.Cluster.{Cluster}
 use Rattle.ec_code.specs.Typing.{Declared}
-use Rattle.ec_doings.proofs.Stepping.{unchanged}
+use Rattle.ec_acts.proofs.Stepping.{unchanged}
 use Rattle.ec_gathering.proofs.Next.{came_then, next_room, next_sends, one_came}
 use Rattle.ec_gathering.specs.Bringing.{Brings, Brought, Came}
 use Rattle.ec_gathering.specs.Shipping.{froms}

@@ -8,7 +8,7 @@ use Rattle.ec_cluster.proofs.Changing.{before_suc}
 use Rattle.ec_cluster.specs.Cluster.{CodeWorld, Shows}
 use Rattle.ec_cluster.specs.Steps.{with_common}
 use Rattle.ec_cluster.specs.declared.cluster.Cluster.{Cluster}
-use Rattle.ec_doings.proofs.Objects.{changed_here, length_changed}
+use Rattle.ec_acts.proofs.ObjectsLemmas.{changed_here, length_changed}
 use Rattle.ec_gathering.proofs.Along.{but_itself}
 use Rattle.ec_gathering.specs.Bringing.{IsLoose, flag_if}
 use Rattle.ec_gathering.specs.Gathers.{MayLeave, world_gathered}

@@ -14,8 +14,8 @@ use Rattle.ec_cluster.specs.Steps.{Changes, HasObject, HasPlace, Nothing, with_c
 use Rattle.ec_cluster.specs.declared.cluster.Cluster.{Cluster}
 use Rattle.ec_code.specs.Typing.{Declared}
 use Rattle.ec_code.specs.declared.code.Parts.{Parts}
-use Rattle.ec_doings.proofs.Objects.{length_changed}
-use Rattle.ec_doings.proofs.Stepping.{Beside, mirrors_with_common, with_cluster}
+use Rattle.ec_acts.proofs.ObjectsLemmas.{length_changed}
+use Rattle.ec_acts.proofs.Stepping.{Beside, mirrors_with_common, with_cluster}
 use Rattle.ec_fitting.proofs.Keeping.{steady_after}
 use Rattle.ec_fitting.proofs.Shown.{has_object}
 use Rattle.ec_cluster.specs.Directory.{made_count, place_at}

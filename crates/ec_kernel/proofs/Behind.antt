@@ -19,7 +19,7 @@ use Rattle.ec_kernel.specs.Acts.{AsksOfEach, HasActed}
 use Rattle.ec_placing.proofs.Settling.{settling_keeps_places}
 use Rattle.ec_placing.specs.Places.{HasPlaces}
 use Rattle.ec_code.proofs.RangesWorlds.{action_ranged}
-use Rattle.ec_settling.specs.Settling.{CanBeSettled, SettlesIn}
+use Rattle.ec_acts.specs.Settling.{CanBeSettled, SettlesIn}
 use Rattle.ec_code.proofs.SoundWorlds.{action_sound}
 use Rattle.ec_code.specs.Sound.{SoundWorld}
 use Rattle.ec_cluster.specs.SystemSteps.{Does, Settles, world_done, world_settled}

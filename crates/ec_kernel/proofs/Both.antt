@@ -5,7 +5,7 @@ use Rattle.ec_cluster.specs.Steps.{Changes, Nothing}
 use Rattle.ec_cluster.specs.declared.cluster.Cluster.{Cluster}
 use Rattle.ec_code.specs.Typing.{Declared}
 use Rattle.ec_code.specs.declared.activation.CodeActivation.{CodeActivation}
-use Rattle.ec_doings.specs.Doings.{BringsNothing, Places}
+use Rattle.ec_acts.specs.Doings.{BringsNothing, Places}
 use Rattle.ec_fitting.proofs.Doings.{doing_is_there}
 use Rattle.ec_fitting.proofs.Roomy.{can_be_done_there}
 use Rattle.ec_fitting.specs.Fitting.{HasNamed, IsMakable}
@@ -17,7 +17,7 @@ use Rattle.ec_kernel.proofs.Rooming.{frames_same, room_behind}
 use Rattle.ec_kernel.proofs.Strings.{still_there, texts_between}
 use Rattle.ec_kernel.specs.Acts.{AsksOfEach, HasActed}
 use Rattle.ec_placing.proofs.Doing.{doings_keep_places}
-use Rattle.ec_settling.specs.Settling.{CanBeSettled, SettlesIn}
+use Rattle.ec_acts.specs.Settling.{CanBeSettled, SettlesIn}
 use Rattle.ec_cluster.specs.SystemSteps.{ByClass, CanBeDone, Does, Settles, world_done}
 use Rattle.ec_cluster.specs.declared.system.System.{System}
 use Rattle.ec_world.specs.Objects.{class_at}

@@ -20,7 +20,7 @@ use Rattle.ec_mover.specs.Classes.{ClassTable}
 use Rattle.ec_placing.proofs.Moving.{moves_keep_places}
 use Rattle.ec_placing.specs.Laws.{AreGathered}
 use Rattle.ec_placing.specs.Places.{HasPlaces}
-use Rattle.ec_settling.specs.Settling.{CanBeSettled, SettlesIn}
+use Rattle.ec_acts.specs.Settling.{CanBeSettled, SettlesIn}
 use Rattle.ec_cluster.specs.SystemSteps.{Does, Settles, world_done, world_settled}
 use Rattle.ec_cluster.specs.Systems.{Strings}
 use Rattle.ec_cluster.specs.declared.system.System.{System}

@@ -9,7 +9,7 @@ use Rattle.ec_cluster.specs.Cluster.{CodeWorld, Shows, frame_of, place}
 use Rattle.ec_cluster.specs.declared.cluster.Cluster.{Cluster}
 use Rattle.ec_code.specs.Activations.{code_meaning}
 use Rattle.ec_code.specs.declared.activation.CodeActivation.{CodeActivation}
-use Rattle.ec_doings.specs.Doings.{OneMore, Places}
+use Rattle.ec_acts.specs.Doings.{OneMore, Places}
 use Rattle.ec_cluster.specs.Directory.{made_count, place_at}
 use Rattle.ec_cluster.specs.declared.forward.directory.Whereabouts.{Whereabouts}
 use Rattle.ec_monitors.specs.Monitors.{dropped}

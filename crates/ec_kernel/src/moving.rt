@@ -8,7 +8,7 @@ ghost use Rattle.ec_world.specs.declared.doing.Doing.TheVariants.{Moves};
 use crate::acts::{ActError, Acted};
 use ec_gathering::gathering::gather;
 use ec_mover::classes::ClassNumbers;
-use ec_settling::settling::settle;
+use ec_acts::settling::settle;
 use ec_cluster::system::System;
 use ec_world::doing::Outcome;
 use ec_world::stop::{Effect, Who};

@@ -5,8 +5,8 @@ ghost use Rattle.ec_code.specs.Typing.{Declared};
 ghost use Rattle.ec_kernel.specs.Acts.{ActedIn, AsksInSome, AsksOfEach, HasRoomInEach, RefusedIn};
 
 use crate::acts::{ActError, Acted};
-use ec_doings::doings::does;
-use ec_settling::settling::settle;
+use ec_acts::doings::does;
+use ec_acts::settling::settle;
 use ec_cluster::system::System;
 use ec_world::doing::Doing;
 use ec_world::stop::Who;

@@ -13,7 +13,7 @@ use Rattle.ec_leaving.proofs.Objects.{AreKept, IsKept, KeptActed, SpelledIf, cha
 use Rattle.ec_leaving.proofs.Turns.{turn_rests}
 use Rattle.ec_leaving.proofs.Waits.{begun_waits}
 use Rattle.ec_leaving.specs.Between.{AllRest, CanBeSpelled, IsBetween, MonitorsHaveSpellings, NodesAreFixed}
-use Rattle.ec_loading.specs.Worlds.{world_first}
+use Rattle.ec_acts.specs.Worlds.{world_first}
 use Rattle.ec_monitors.specs.declared.record.MonitorRec.{MonitorRec}
 use Rattle.ec_code.proofs.Carried.{each_append, each_object, each_replicate}
 use Rattle.ec_code.specs.Sound.{SoundWorld}

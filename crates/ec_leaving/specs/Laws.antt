@@ -7,7 +7,7 @@ use Rattle.ec_code.specs.Typing.{Declared}
 use Rattle.ec_code.specs.declared.code.Parts.{Parts}
 use Rattle.ec_leaving.specs.Between.{IsBetween}
 use Rattle.ec_generate.specs.Limits.{FewConditions}
-use Rattle.ec_loading.specs.Worlds.{world_first}
+use Rattle.ec_acts.specs.Worlds.{world_first}
 use Rattle.ec_code.specs.Sound.{SoundWorld}
 use Rattle.ec_world.specs.Moves.{OperatorMove}
 use Rattle.ec_world.specs.World.{Turn}

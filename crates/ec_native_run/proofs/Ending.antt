@@ -11,8 +11,8 @@ use Rattle.ec_compile.specs.Texts.{IsOfText}
 use Rattle.ec_report.proofs.Coming.{end_here, run_ends}
 use Rattle.ec_report.specs.Driver.{EndsAs}
 use Rattle.ec_report.specs.Progress.{Progress}
-use Rattle.ec_loading.specs.Loading.{CanLoad, LacksFirst, first_needs}
-use Rattle.ec_loading.specs.Worlds.{world_first}
+use Rattle.ec_acts.specs.Loading.{CanLoad, LacksFirst, first_needs}
+use Rattle.ec_acts.specs.Worlds.{world_first}
 use Rattle.ec_emission.specs.Lowered.{IsLowered}
 use Rattle.ec_meaning.specs.Activations.{source_meaning}
 use Rattle.ec_meaning.specs.ClassNames.{class_name}

@@ -14,8 +14,8 @@ use Rattle.ec_report.specs.Progress.{IsStep, Progress, advanced, at_start}
 use Rattle.ec_report.specs.declared.driver.Refusal.{Refusal}
 use Rattle.ec_report.specs.declared.step.Step.TheVariants.{Does}
 use Rattle.ec_kernel.specs.Acts.{FoundFull}
-use Rattle.ec_loading.specs.Loaded.{Loaded}
-use Rattle.ec_loading.specs.Worlds.{world_first}
+use Rattle.ec_acts.specs.Loaded.{Loaded}
+use Rattle.ec_acts.specs.Worlds.{world_first}
 use Rattle.ec_native_run.proofs.Entries.{GoneOn, along_none, along_push, move_leaves, rest_leaves, turn_leaves}
 use Rattle.ec_native_run.specs.Entries.{Along, EntryOf}
 use Rattle.ec_native_run.specs.Following.{Follows, FullNext, HasCome, refusal_of}

@@ -5,8 +5,8 @@ use Rattle.ec_cluster.specs.declared.cluster.Images.{Images}
 use Rattle.ec_code.specs.Activations.{code_meaning, code_silent}
 use Rattle.ec_code.specs.Typing.{Declared}
 use Rattle.ec_code.specs.declared.code.Parts.{Parts}
-use Rattle.ec_loading.specs.Loaded.{Loaded}
-use Rattle.ec_loading.specs.Worlds.{world_first}
+use Rattle.ec_acts.specs.Loaded.{Loaded}
+use Rattle.ec_acts.specs.Worlds.{world_first}
 use Rattle.ec_nodes_running.specs.Moving.{MovedTo}
 use Rattle.ec_nodes_running.specs.Networks.{AreCode, Net}
 use Rattle.ec_nodes_running.specs.Turns.{NoTurn, TurnOf}

@@ -8,8 +8,8 @@ use Rattle.ec_report.specs.Driver.{HasEnded}
 use Rattle.ec_report.specs.Progress.{Progress}
 use Rattle.ec_report.specs.declared.driver.Refusal.{Refusal}
 use Rattle.ec_report.specs.declared.driver.Refusal.TheVariants as refusals
-use Rattle.ec_loading.specs.Loaded.{Loaded}
-use Rattle.ec_loading.specs.Worlds.{world_first}
+use Rattle.ec_acts.specs.Loaded.{Loaded}
+use Rattle.ec_acts.specs.Worlds.{world_first}
 use Rattle.ec_meaning.specs.Programs.{Source}
 use Rattle.ec_native_run.specs.Entries.{Along}
 use Rattle.ec_native_run.specs.Runs.{AreNodes, run_report}

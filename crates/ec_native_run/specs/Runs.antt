@@ -1,7 +1,7 @@
 -- What the run of an accepted source by machine code comes to.
 use Rattle.std.specs.Prelude.{◌≡◌, ◌≤◌, ℕ, List, length, None, Some, slice_get}
 use Rattle.ec_code.specs.declared.code.Parts.{Parts}
-use Rattle.ec_loading.specs.Fresh.{IsNodeSize}
+use Rattle.ec_acts.specs.Fresh.{IsNodeSize}
 use Rattle.ec_emission.specs.Lowered.{IsLowered}
 use Rattle.ec_meaning.specs.Activations.{source_meaning}
 use Rattle.ec_meaning.specs.ClassNames.{class_name}

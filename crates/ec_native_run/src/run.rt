@@ -16,7 +16,7 @@ use crate::driver::OnNodes;
 use crate::processes::statuses_in;
 use crate::report::{load_report, report};
 use ec_report::drive::{Ended, drive};
-use ec_loading::load::LoadError;
+use ec_acts::load::LoadError;
 use ec_meaning::source::Program;
 use ec_world::room::Lack;
 use ec_nodes_running::network::Network;

@@ -15,8 +15,8 @@ use Rattle.ec_code.specs.Idle.{OfClasses}
 use Rattle.ec_leaving.proofs.Worlds.{first_between}
 use Rattle.ec_leaving.specs.Between.{IsBetween}
 use Rattle.ec_legs.specs.Legs.{IsCodeOf}
-use Rattle.ec_loading.specs.Loaded.{Loaded}
-use Rattle.ec_loading.specs.Worlds.{world_first}
+use Rattle.ec_acts.specs.Loaded.{Loaded}
+use Rattle.ec_acts.specs.Worlds.{world_first}
 use Rattle.ec_nodes_running.specs.Networks.{AreCode, CanRun}
 use Rattle.ec_nodes_running.specs.Standing.{Stands, Works}
 use Rattle.ec_placing.proofs.First.{first_are_placed}

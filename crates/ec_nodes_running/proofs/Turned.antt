@@ -8,7 +8,7 @@ use Rattle.ec_code.specs.Activations.{code_meaning, code_silent}
 use Rattle.ec_code.specs.Typing.{Declared}
 use Rattle.ec_code.specs.declared.activation.CodeActivation.{CodeActivation}
 use Rattle.ec_code.specs.declared.code.Parts.{Parts}
-use Rattle.ec_doings.proofs.Stepping.{unchanged}
+use Rattle.ec_acts.proofs.Stepping.{unchanged}
 use Rattle.ec_kernel.specs.Acts.{Begins, Goes, HasActed, WasIdle}
 use Rattle.ec_leaving.proofs.Worlds.{turn_between}
 use Rattle.ec_leaving.specs.Between.{IsBetween}

@@ -8,9 +8,9 @@ use Rattle.ec_code.specs.declared.code.Parts.{Parts}
 use Rattle.ec_asking.specs.Typed.{IsTypedOnce}
 use Rattle.ec_legs.specs.Nodes.{IsCodeFor}
 use Rattle.ec_code.specs.Idle.{OfClasses}
-use Rattle.ec_loading.specs.Loaded.{AreImages, Loaded}
-use Rattle.ec_loading.specs.Loading.{CanLoad}
-use Rattle.ec_loading.specs.Worlds.{world_first}
+use Rattle.ec_acts.specs.Loaded.{AreImages, Loaded}
+use Rattle.ec_acts.specs.Loading.{CanLoad}
+use Rattle.ec_acts.specs.Worlds.{world_first}
 use Rattle.ec_nodes_running.specs.Moving.{MoveRefusedIn, MovedTo}
 use Rattle.ec_nodes_running.specs.Standing.{HasNumbers, Stands, StandsInSome}
 use Rattle.ec_nodes_running.specs.Turns.{RefusedIn, TurnedIn}

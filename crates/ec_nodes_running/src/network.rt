@@ -8,8 +8,8 @@ use ec_class_numbers::numbers::class_numbers;
 use ec_cluster::cluster::Images;
 use ec_code::code::Parts;
 use ec_legs::machines::Machines;
-use ec_loading::load as loading;
-use ec_loading::load::LoadError;
+use ec_acts::load as loading;
+use ec_acts::load::LoadError;
 use ec_mover::classes::ClassNumbers;
 use ec_cluster::system::System;
 use ec_generate::conditions::look_at_conditions;
@@ -47,8 +47,8 @@ impl Model for Network {
 
 impl Network {
     ghost use Rattle.std.specs.Prelude.{IfErr, IfOk, IsSome, None, Some, is_some, length};
-    ghost use Rattle.ec_loading.specs.Loaded.{WhenFull};
-    ghost use Rattle.ec_loading.specs.Loading.{LacksFirst, first_needs};
+    ghost use Rattle.ec_acts.specs.Loaded.{WhenFull};
+    ghost use Rattle.ec_acts.specs.Loading.{LacksFirst, first_needs};
     ghost use Rattle.ec_nodes_running.specs.Networks.{CanRun, ForStanding, NetLoaded, NetMoved, NetMoveRefused, NetRefused, NetTurned};
     ghost use Rattle.ec_nodes_running.specs.Networks.{class_at, counts_of, fixed_at, status_at};
     ghost use Rattle.ec_nodes_running.specs.Standing.{StandsInSome};

@@ -5,12 +5,12 @@ use Rattle.ec_base.specs.Stack.{top_of, below_of}
 use Rattle.ec_cluster.specs.Cluster.{CodeWorld}
 use Rattle.ec_code.specs.Activations.{code_meaning}
 use Rattle.ec_code.specs.declared.activation.CodeActivation.{CodeActivation}
-use Rattle.ec_doings.proofs.Objects.{length_changed}
+use Rattle.ec_acts.proofs.ObjectsLemmas.{length_changed}
 use Rattle.ec_monitors.specs.Monitors.{Granting, entered, left, signalled, waited}
 use Rattle.ec_monitors.specs.declared.record.Entry.{Entry as Within}
 use Rattle.ec_monitors.specs.declared.record.Granted.{Granted}
 use Rattle.ec_monitors.specs.declared.record.MonitorRec.{MonitorRec}
-use Rattle.ec_settling.proofs.Mirrored.{given_length}
+use Rattle.ec_acts.proofs.Mirrored.{given_length}
 use Rattle.ec_world.proofs.Placement.{length-places, made_by}
 use Rattle.ec_world.specs.Doings.{Asked, doing_of}
 use Rattle.ec_world.specs.Objects.{changed_object, class_at, element_kind}

@@ -3,7 +3,7 @@ use Rattle.std.proofs.Common.{◌≡◌, ℕ, suc, false, List, length, Option, 
 use Rattle.ec_cluster.specs.Cluster.{CodeWorld, place}
 use Rattle.ec_cluster.specs.Steps.{with_common}
 use Rattle.ec_cluster.specs.declared.cluster.Cluster.{Cluster}
-use Rattle.ec_doings.specs.Doings.{OneMore, Places}
+use Rattle.ec_acts.specs.Doings.{OneMore, Places}
 use Rattle.ec_fitting.proofs.Doings.{doing_is_there}
 use Rattle.ec_fitting.specs.Fitting.{HasNamed, IsMakable}
 use Rattle.ec_cluster.specs.Directory.{made_count}

@@ -6,7 +6,7 @@ use Rattle.ec_code.specs.declared.activation.CodeActivation.{CodeActivation}
 use Rattle.ec_placing.proofs.Counting.{Stays}
 use Rattle.ec_placing.proofs.Staying.{stays_places}
 use Rattle.ec_placing.specs.Laws.{SettlingKeepsPlaces}
-use Rattle.ec_settling.proofs.Mirrored.{given_length}
+use Rattle.ec_acts.proofs.Mirrored.{given_length}
 use Rattle.ec_cluster.specs.SystemSteps.{world_settled}
 use Rattle.ec_world.specs.World.{given_up, owns_of, settled}
 use Rattle.ec_world.specs.declared.doing.Outcome.{Outcome}

@@ -5,7 +5,7 @@ use Rattle.ec_cluster.specs.Cluster.{CodeWorld}
 use Rattle.ec_code.specs.Activations.{code_meaning, code_silent}
 use Rattle.ec_code.specs.declared.activation.CodeActivation.{CodeActivation}
 use Rattle.ec_code.specs.declared.code.Parts.{Parts}
-use Rattle.ec_doings.proofs.Objects.{length_changed}
+use Rattle.ec_acts.proofs.ObjectsLemmas.{length_changed}
 use Rattle.ec_code.proofs.Walks.{silent_keeps}
 use Rattle.ec_placing.proofs.Counting.{Stays, stays_same}
 use Rattle.ec_placing.proofs.Staying.{stays_places}

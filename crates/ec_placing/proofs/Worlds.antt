@@ -3,7 +3,7 @@ use Rattle.std.proofs.Common.{ℕ, suc, Bool, true, false, replicate, refl, arit
 use Rattle.std.proofs.lemmas.List.{length-replicate}
 use Rattle.ec_cluster.specs.Cluster.{CodeWorld}
 use Rattle.ec_code.specs.declared.code.Parts.{Parts}
-use Rattle.ec_loading.specs.Worlds.{world_first}
+use Rattle.ec_acts.specs.Worlds.{world_first}
 use Rattle.ec_placing.proofs.Counting.{action_grows, as_many, length_push, made_push, placed_after, stays_grows}
 use Rattle.ec_placing.proofs.Stepping.{go_on_stays}
 use Rattle.ec_placing.specs.Laws.{EachIsPlaced}

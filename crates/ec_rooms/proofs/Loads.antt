@@ -8,11 +8,11 @@ use Rattle.ec_cluster.specs.Cluster.{CodeWorld}
 use Rattle.ec_cluster.specs.Images.{homes_on}
 use Rattle.ec_cluster.specs.declared.cluster.Images.{Images}
 use Rattle.ec_code.specs.declared.code.Parts.{Parts}
-use Rattle.ec_loading.proofs.Holding.{held_first}
-use Rattle.ec_loading.proofs.Rooms.{program_place}
-use Rattle.ec_loading.specs.Loaded.{Loaded}
-use Rattle.ec_loading.specs.Loading.{CanLoad, HaveRoom, LacksFirst, first_needs}
-use Rattle.ec_loading.specs.Worlds.{first_blocks, first_place, world_first}
+use Rattle.ec_acts.proofs.LoadingHolding.{held_first}
+use Rattle.ec_acts.proofs.Rooms.{program_place}
+use Rattle.ec_acts.specs.Loaded.{Loaded}
+use Rattle.ec_acts.specs.Loading.{CanLoad, HaveRoom, LacksFirst, first_needs}
+use Rattle.ec_acts.specs.Worlds.{first_blocks, first_place, world_first}
 use Rattle.ec_world.proofs.Procs.{get_end}
 use Rattle.ec_world.specs.Words.{text_bytes}
 use Rattle.ec_world.specs.declared.room.Lack.{Lack}

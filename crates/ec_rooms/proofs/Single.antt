@@ -3,7 +3,7 @@ use Rattle.std.proofs.Common.{◌≡◌, ◌<◌, ℕ, ⊎_elim, List, refl, sym
 use Rattle.std.proofs.lemmas.Bool.{cases_order}
 use Rattle.std.proofs.lemmas.Option.{same_Some}
 use Rattle.std.specs.Prelude.{length}
-use Rattle.ec_loading.specs.Worlds.{world_first}
+use Rattle.ec_acts.specs.Worlds.{world_first}
 use Rattle.ec_world.specs.Held.{Lacks}
 use Rattle.ec_world.specs.declared.room.Needs.{Needs}
 use Rattle.ec_world.specs.declared.room.Part.{Part}

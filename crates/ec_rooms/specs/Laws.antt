@@ -5,8 +5,8 @@ use Rattle.ec_cluster.specs.Steps.{Changes}
 use Rattle.ec_cluster.specs.declared.cluster.Images.{Images}
 use Rattle.ec_code.specs.Typing.{Declared}
 use Rattle.ec_code.specs.declared.code.Parts.{Parts}
-use Rattle.ec_loading.specs.Loaded.{Loaded}
-use Rattle.ec_loading.specs.Loading.{CanLoad, LacksFirst, first_needs}
+use Rattle.ec_acts.specs.Loaded.{Loaded}
+use Rattle.ec_acts.specs.Loading.{CanLoad, LacksFirst, first_needs}
 use Rattle.ec_world.specs.declared.room.Lack.{Lack}
 use Rattle.ec_world.specs.declared.room.Part.{Part}
 use Rattle.ec_placing.specs.Full.{FindsFull}

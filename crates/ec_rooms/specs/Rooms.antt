@@ -4,7 +4,7 @@ use Rattle.ec_activations.specs.Frames.{frame_thing}
 use Rattle.ec_cluster.specs.Cluster.{CodeWorld}
 use Rattle.ec_code.specs.declared.activation.CodeActivation.{CodeActivation}
 use Rattle.ec_code.specs.declared.code.Parts.{Parts}
-use Rattle.ec_loading.specs.Worlds.{world_first}
+use Rattle.ec_acts.specs.Worlds.{world_first}
 use Rattle.ec_world.specs.Held.{Distinct, Fits, Lacks}
 use Rattle.ec_world.specs.Words.{text_bytes}
 use Rattle.ec_world.specs.declared.room.Needs.{Needs}

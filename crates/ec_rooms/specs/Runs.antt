@@ -4,7 +4,7 @@ use Rattle.ec_cluster.specs.Cluster.{CodeWorld}
 use Rattle.ec_code.specs.Activations.{code_meaning, code_silent}
 use Rattle.ec_code.specs.declared.activation.CodeActivation.{CodeActivation}
 use Rattle.ec_code.specs.declared.code.Parts.{Parts}
-use Rattle.ec_loading.specs.Worlds.{world_first}
+use Rattle.ec_acts.specs.Worlds.{world_first}
 use Rattle.ec_world.specs.declared.room.Part.{Part}
 use Rattle.ec_rooms.specs.Rooms.{FullAt, Literals, Strings, held}
 use Rattle.ec_world.specs.Moves.{OperatorMove}

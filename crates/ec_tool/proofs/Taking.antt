@@ -8,7 +8,7 @@ use Rattle.ec_inputs.proofs.Sized.{IsSized, sized_nodes}
 use Rattle.ec_inputs.specs.Nodes.{NodesOf}
 use Rattle.ec_inputs.specs.Words.{RunWords, CommandWords}
 use Rattle.ec_inputs.specs.Words.{CommandWords as command}
-use Rattle.ec_loading.specs.Fresh.{IsNodeSize}
+use Rattle.ec_acts.specs.Fresh.{IsNodeSize}
 use Rattle.ec_native_run.specs.Runs.{AreNodes, Net, RunsTo}
 use Rattle.ec_plain.specs.Plain.{IsPlainRun}
 use Rattle.ec_report.specs.declared.status.Status.{Status}

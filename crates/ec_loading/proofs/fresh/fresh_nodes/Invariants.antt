@@ -1,5 +1,0 @@
-use Rattle.ec_loading.proofs.fresh.fresh_nodes.Given as goal
-use Rattle.ec_loading.specs.Fresh.{AreAtFirst}
-
-abbrev pub invariant-loop-k : goal.invariant-loop-k
-invariant-loop-k l = AreAtFirst l.parts l.specs l.k l.nodes

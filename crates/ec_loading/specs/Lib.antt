@@ -1,4 +1,0 @@
-pub mod Worlds
-pub mod Fresh
-pub mod Loading
-pub mod Loaded
