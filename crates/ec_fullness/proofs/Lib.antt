@@ -1,3 +1,14 @@
+pub mod Keeping
+pub mod Entries
+pub mod Shown
+pub mod FittingWaiting
+pub mod Asking
+pub mod Finishing
+pub mod Sections
+pub mod Calls
+pub mod FittingBlocks
+pub mod FittingDoings
+pub mod Roomy
 pub mod Acting
 pub mod Stacks
 pub mod Blocks

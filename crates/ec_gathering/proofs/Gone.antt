@@ -16,8 +16,8 @@ use Rattle.ec_code.specs.Typing.{Declared}
 use Rattle.ec_code.specs.declared.code.Parts.{Parts}
 use Rattle.ec_acts.proofs.ObjectsLemmas.{length_changed}
 use Rattle.ec_acts.proofs.Stepping.{Beside, mirrors_with_common, with_cluster}
-use Rattle.ec_fitting.proofs.Keeping.{steady_after}
-use Rattle.ec_fitting.proofs.Shown.{has_object}
+use Rattle.ec_fullness.proofs.Keeping.{steady_after}
+use Rattle.ec_fullness.proofs.Shown.{has_object}
 use Rattle.ec_cluster.specs.Directory.{made_count, place_at}
 use Rattle.ec_cluster.specs.declared.forward.directory.Whereabouts.{Whereabouts}
 use Rattle.ec_fullness.specs.Fullness.{IsFull}

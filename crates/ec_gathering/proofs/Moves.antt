@@ -10,7 +10,7 @@ use Rattle.ec_code.specs.Steps.{with_itself}
 use Rattle.ec_code.specs.Typing.{Declared, class_type}
 use Rattle.ec_code.specs.declared.activation.CodeActivation.{CodeActivation}
 use Rattle.ec_types.specs.declared.conform.static_type.StaticType.{StaticType}
-use Rattle.ec_fitting.proofs.Asking.{its_stop}
+use Rattle.ec_fullness.proofs.Asking.{its_stop}
 use Rattle.ec_gathering.specs.Gathers.{MayLeave, LetsGo, MayGather}
 use Rattle.ec_leaving.specs.Between.{NodesAreFixed}
 use Rattle.ec_mover.specs.Classes.{ClassTable}

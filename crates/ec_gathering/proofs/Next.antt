@@ -11,7 +11,7 @@ use Rattle.ec_cluster.specs.Cluster.{CodeWorld, Shows, frame_of, place, stores}
 use Rattle.ec_cluster.specs.declared.cluster.Cluster.{Cluster}
 use Rattle.ec_code.specs.Typing.{Declared}
 use Rattle.ec_code.specs.declared.code.Parts.{Parts}
-use Rattle.ec_fitting.proofs.Keeping.{steady_after, strings_then}
+use Rattle.ec_fullness.proofs.Keeping.{steady_after, strings_then}
 use Rattle.ec_gathering.proofs.Along.{SameHere, but_itself, packs_along}
 use Rattle.ec_gathering.proofs.Lists.{as_many, two_at, two_right}
 use Rattle.ec_gathering.specs.Bringing.{Came, NoneHasResult, Sends}

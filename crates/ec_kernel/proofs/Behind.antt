@@ -8,10 +8,10 @@ use Rattle.ec_code.specs.Activations.{code_meaning}
 use Rattle.ec_code.specs.Typing.{Declared}
 use Rattle.ec_code.specs.declared.activation.CodeActivation.{CodeActivation}
 use Rattle.ec_code.specs.declared.code.Parts.{Parts}
-use Rattle.ec_fitting.proofs.Keeping.{images_after, steady_after, strings_then}
-use Rattle.ec_fitting.proofs.Roomy.{settles_with_room}
-use Rattle.ec_fitting.specs.Room.{RoomToSettle}
-use Rattle.ec_fitting.specs.Waiters.{BelowStay, WaitersStay}
+use Rattle.ec_fullness.proofs.Keeping.{images_after, steady_after, strings_then}
+use Rattle.ec_fullness.proofs.Roomy.{settles_with_room}
+use Rattle.ec_fullness.specs.FittingRoom.{RoomToSettle}
+use Rattle.ec_fullness.specs.Waiters.{BelowStay, WaitersStay}
 use Rattle.ec_fullness.proofs.Acting.{action_is}
 use Rattle.ec_code.proofs.IdleWorlds.{action_idle}
 use Rattle.ec_code.specs.Idle.{IdleProc, IdleWorld}

@@ -6,10 +6,10 @@ use Rattle.ec_cluster.specs.declared.cluster.Cluster.{Cluster}
 use Rattle.ec_code.specs.Typing.{Declared}
 use Rattle.ec_code.specs.declared.activation.CodeActivation.{CodeActivation}
 use Rattle.ec_acts.specs.Doings.{BringsNothing, Places}
-use Rattle.ec_fitting.proofs.Doings.{doing_is_there}
-use Rattle.ec_fitting.proofs.Roomy.{can_be_done_there}
-use Rattle.ec_fitting.specs.Fitting.{HasNamed, IsMakable}
-use Rattle.ec_fitting.specs.Room.{RoomToDo, RoomToMake, RoomToSettle}
+use Rattle.ec_fullness.proofs.FittingDoings.{doing_is_there}
+use Rattle.ec_fullness.proofs.Roomy.{can_be_done_there}
+use Rattle.ec_fullness.specs.Fitting.{HasNamed, IsMakable}
+use Rattle.ec_fullness.specs.FittingRoom.{RoomToDo, RoomToMake, RoomToSettle}
 use Rattle.ec_cluster.specs.Directory.{place_at}
 use Rattle.ec_fullness.specs.Room.{HasRoomToMake, RoomFor}
 use Rattle.ec_kernel.proofs.Behind.{acted_behind, can_settle_behind, settles_behind}

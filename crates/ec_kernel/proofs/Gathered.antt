@@ -5,7 +5,7 @@ use Rattle.ec_cluster.specs.Cluster.{CodeWorld, frame_of, place}
 use Rattle.ec_cluster.specs.Steps.{HasObject}
 use Rattle.ec_code.specs.Typing.{Declared}
 use Rattle.ec_code.specs.declared.activation.CodeActivation.{CodeActivation}
-use Rattle.ec_fitting.proofs.Shown.{has_object}
+use Rattle.ec_fullness.proofs.Shown.{has_object}
 use Rattle.ec_cluster.specs.Directory.{place_at}
 use Rattle.ec_fullness.proofs.Acting.{action_is}
 use Rattle.ec_fullness.specs.Fullness.{Wants}

@@ -13,7 +13,7 @@ use Rattle.ec_cluster.specs.Frames.{tables_on}
 use Rattle.ec_code.specs.declared.activation.CodeActivation.{CodeActivation}
 use Rattle.ec_code.specs.declared.code.Live.{Live}
 use Rattle.ec_acts.specs.Doings.{BringsNothing, OneMore, Places, SamePlaces}
-use Rattle.ec_fitting.specs.Room.{RoomToBegin, RoomToSettle, RoomToTake}
+use Rattle.ec_fullness.specs.FittingRoom.{RoomToBegin, RoomToSettle, RoomToTake}
 use Rattle.ec_cluster.specs.Directory.{place_at}
 use Rattle.ec_fullness.specs.Room.{HasRoomBelow, HasRoomToMake, RoomFor}
 use Rattle.ec_cluster.proofs.Before.{before}

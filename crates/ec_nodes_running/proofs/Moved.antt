@@ -10,7 +10,7 @@ use Rattle.ec_cluster.specs.declared.cluster.Cluster.{Cluster}
 use Rattle.ec_code.specs.Typing.{Declared}
 use Rattle.ec_code.specs.declared.code.Parts.{Parts}
 use Rattle.ec_acts.proofs.Stepping.{unchanged}
-use Rattle.ec_fitting.proofs.Keeping.{steady_after}
+use Rattle.ec_fullness.proofs.Keeping.{steady_after}
 use Rattle.ec_gathering.proofs.Moves.{operator_may}
 use Rattle.ec_gathering.specs.Gathers.{Gathers, LacksFor, LetsGo, MayGather, world_gathered}
 use Rattle.ec_gathering_room.specs.Gathering.{gathered}

@@ -4,8 +4,8 @@ use Rattle.ec_cluster.specs.Cluster.{CodeWorld, place}
 use Rattle.ec_cluster.specs.Steps.{with_common}
 use Rattle.ec_cluster.specs.declared.cluster.Cluster.{Cluster}
 use Rattle.ec_acts.specs.Doings.{OneMore, Places}
-use Rattle.ec_fitting.proofs.Doings.{doing_is_there}
-use Rattle.ec_fitting.specs.Fitting.{HasNamed, IsMakable}
+use Rattle.ec_fullness.proofs.FittingDoings.{doing_is_there}
+use Rattle.ec_fullness.specs.Fitting.{HasNamed, IsMakable}
 use Rattle.ec_cluster.specs.Directory.{made_count}
 use Rattle.ec_placing.proofs.Counting.{done_stays}
 use Rattle.ec_placing.proofs.Making.{more_agrees, more_each}

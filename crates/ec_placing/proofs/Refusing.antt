@@ -8,8 +8,8 @@ use Rattle.ec_cluster.specs.declared.cluster.Cluster.{Cluster}
 use Rattle.ec_code.specs.Activations.{code_meaning}
 use Rattle.ec_code.specs.Typing.{Declared}
 use Rattle.ec_code.specs.declared.activation.CodeActivation.{CodeActivation}
-use Rattle.ec_fitting.proofs.Doings.{doing_is_there}
-use Rattle.ec_fitting.specs.Fitting.{HasNamed, IsMakable}
+use Rattle.ec_fullness.proofs.FittingDoings.{doing_is_there}
+use Rattle.ec_fullness.specs.Fitting.{HasNamed, IsMakable}
 use Rattle.ec_cluster.specs.Directory.{made_count}
 use Rattle.ec_fullness.proofs.Acting.{action_is}
 use Rattle.ec_fullness.proofs.Needs.{then_new}

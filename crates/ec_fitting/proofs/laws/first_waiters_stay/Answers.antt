@@ -1,4 +1,0 @@
-use Rattle.ec_fitting.proofs.laws.first_waiters_stay.Goals as goal
-
-pub returns : goal.returns
-returns c p n = (tt, tt)

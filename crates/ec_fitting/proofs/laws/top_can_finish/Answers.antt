@@ -1,5 +1,0 @@
-use Rattle.ec_fitting.proofs.Finishing.{top_takes}
-use Rattle.ec_fitting.proofs.laws.top_can_finish.Goals as goal
-
-pub returns : goal.returns
-returns c = top_takes

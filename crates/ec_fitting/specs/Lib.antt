@@ -1,4 +1,0 @@
-pub mod Fitting
-pub mod Room
-pub mod Waiters
-pub mod Laws
