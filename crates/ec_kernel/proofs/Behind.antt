@@ -16,8 +16,8 @@ use Rattle.ec_fullness.proofs.Acting.{action_is}
 use Rattle.ec_code.proofs.IdleWorlds.{action_idle}
 use Rattle.ec_code.specs.Idle.{IdleProc, IdleWorld}
 use Rattle.ec_kernel.specs.Acts.{AsksOfEach, HasActed}
-use Rattle.ec_placing.proofs.Settling.{settling_keeps_places}
-use Rattle.ec_placing.specs.Places.{HasPlaces}
+use Rattle.ec_rooms.proofs.Settling.{settling_keeps_places}
+use Rattle.ec_rooms.specs.Places.{HasPlaces}
 use Rattle.ec_code.proofs.RangesWorlds.{action_ranged}
 use Rattle.ec_acts.specs.Settling.{CanBeSettled, SettlesIn}
 use Rattle.ec_code.proofs.SoundWorlds.{action_sound}

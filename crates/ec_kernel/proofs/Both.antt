@@ -16,7 +16,7 @@ use Rattle.ec_kernel.proofs.Behind.{acted_behind, can_settle_behind, settles_beh
 use Rattle.ec_kernel.proofs.Rooming.{frames_same, room_behind}
 use Rattle.ec_kernel.proofs.Strings.{still_there, texts_between}
 use Rattle.ec_kernel.specs.Acts.{AsksOfEach, HasActed}
-use Rattle.ec_placing.proofs.Doing.{doings_keep_places}
+use Rattle.ec_rooms.proofs.Doing.{doings_keep_places}
 use Rattle.ec_acts.specs.Settling.{CanBeSettled, SettlesIn}
 use Rattle.ec_cluster.specs.SystemSteps.{ByClass, CanBeDone, Does, Settles, world_done}
 use Rattle.ec_cluster.specs.declared.system.System.{System}

@@ -13,8 +13,8 @@ use Rattle.ec_kernel.proofs.Gathered.{members_there, target_has}
 use Rattle.ec_kernel.specs.Acts.{AsksBetween, AsksOfEach}
 use Rattle.ec_mover.specs.Classes.{ClassTable}
 use Rattle.ec_world.specs.declared.room.Lack.{Lack}
-use Rattle.ec_placing.proofs.Refusing.{agrees_gathered, agrees_then}
-use Rattle.ec_placing.specs.Full.{FindsFull}
+use Rattle.ec_rooms.proofs.Refusing.{agrees_gathered, agrees_then}
+use Rattle.ec_rooms.specs.Full.{FindsFull}
 use Rattle.ec_cluster.specs.declared.system.System.{System}
 use Rattle.ec_world.specs.World.{Action}
 use Rattle.ec_world.specs.declared.doing.Doing.{Doing}

@@ -17,9 +17,9 @@ use Rattle.ec_kernel.proofs.Behind.{acted_behind, can_settle_behind, settles_beh
 use Rattle.ec_kernel.proofs.Rooming.{frames_same, take_nothing}
 use Rattle.ec_kernel.specs.Acts.{AsksBetween, AsksOfEach, HasActed}
 use Rattle.ec_mover.specs.Classes.{ClassTable}
-use Rattle.ec_placing.proofs.Moving.{moves_keep_places}
-use Rattle.ec_placing.specs.Laws.{AreGathered}
-use Rattle.ec_placing.specs.Places.{HasPlaces}
+use Rattle.ec_rooms.proofs.Moving.{moves_keep_places}
+use Rattle.ec_rooms.specs.PlacingLaws.{AreGathered}
+use Rattle.ec_rooms.specs.Places.{HasPlaces}
 use Rattle.ec_acts.specs.Settling.{CanBeSettled, SettlesIn}
 use Rattle.ec_cluster.specs.SystemSteps.{Does, Settles, world_done, world_settled}
 use Rattle.ec_cluster.specs.Systems.{Strings}

@@ -16,8 +16,8 @@ use Rattle.ec_kernel.specs.declared.acts.Acted.TheVariants as came
 use Rattle.ec_leaving.specs.Between.{IsBetween}
 use Rattle.ec_mover.specs.Classes.{ClassTable}
 use Rattle.ec_world.specs.declared.room.Lack.{Lack}
-use Rattle.ec_placing.specs.Full.{FindsFull}
-use Rattle.ec_placing.specs.Places.{HasPlaces}
+use Rattle.ec_rooms.specs.Full.{FindsFull}
+use Rattle.ec_rooms.specs.Places.{HasPlaces}
 use Rattle.ec_cluster.specs.Acting.{Asks}
 use Rattle.ec_cluster.specs.Systems.{Runs, Strings}
 use Rattle.ec_cluster.specs.declared.system.System.{System}

@@ -18,7 +18,7 @@ use Rattle.ec_nodes_running.specs.Moving.{MovedTo}
 use Rattle.ec_nodes_running.specs.Running.{AfterAction, Rested, WentOn}
 use Rattle.ec_nodes_running.specs.Standing.{Stands}
 use Rattle.ec_nodes_running.specs.Turns.{NoTurn, TurnOf}
-use Rattle.ec_placing.specs.Places.{HasPlaces}
+use Rattle.ec_rooms.specs.Places.{HasPlaces}
 use Rattle.ec_rooms.proofs.Coming.{steps_had}
 use Rattle.ec_rooms.proofs.Nodes.{same_nodes}
 use Rattle.ec_rooms.specs.Laws.{HasRoomFor}

@@ -19,7 +19,7 @@ use Rattle.ec_acts.specs.Loaded.{Loaded}
 use Rattle.ec_acts.specs.Worlds.{world_first}
 use Rattle.ec_nodes_running.specs.Networks.{AreCode, CanRun}
 use Rattle.ec_nodes_running.specs.Standing.{Stands, Works}
-use Rattle.ec_placing.proofs.First.{first_are_placed}
+use Rattle.ec_rooms.proofs.First.{first_are_placed}
 use Rattle.ec_code.specs.Code.{SmallProgram}
 use Rattle.ec_cluster.specs.Systems.{Runs}
 use Rattle.ec_cluster.specs.declared.system.System.{System}

@@ -25,9 +25,9 @@ use Rattle.ec_world.specs.declared.room.Lack.{Lack}
 use Rattle.ec_nodes_running.proofs.Standing.{literals_after}
 use Rattle.ec_nodes_running.specs.Moving.{MovedTo, is_idle_seen, members_moved, members_seen}
 use Rattle.ec_nodes_running.specs.Standing.{HasNumbers, Stands, Works}
-use Rattle.ec_placing.proofs.Moving.{gone_place, moves_keep_places}
-use Rattle.ec_placing.specs.Full.{FindsFull}
-use Rattle.ec_placing.specs.Places.{HasPlaces, place_of}
+use Rattle.ec_rooms.proofs.Moving.{gone_place, moves_keep_places}
+use Rattle.ec_rooms.specs.Full.{FindsFull}
+use Rattle.ec_rooms.specs.Places.{HasPlaces, place_of}
 use Rattle.ec_code.proofs.RangesWorlds.{move_ranged}
 use Rattle.ec_code.specs.Code.{SmallProgram}
 use Rattle.ec_code.proofs.SoundWorlds.{move_sound}

@@ -18,7 +18,7 @@ use Rattle.ec_kernel.specs.Acts.{HasActed}
 use Rattle.ec_node_frames.specs.declared.frames.Headings.{Headings}
 use Rattle.ec_nodes_running.specs.Running.{TopTold, WentOn, gone_on}
 use Rattle.ec_nodes_running.specs.Standing.{Works}
-use Rattle.ec_placing.proofs.Stepping.{silent_steps_keep_places}
+use Rattle.ec_rooms.proofs.Stepping.{silent_steps_keep_places}
 use Rattle.ec_code.specs.Code.{SmallProgram}
 use Rattle.ec_cluster.specs.Systems.{Mirrors}
 use Rattle.ec_cluster.specs.declared.system.System.{System}

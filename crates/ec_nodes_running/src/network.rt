@@ -52,7 +52,7 @@ impl Network {
     ghost use Rattle.ec_nodes_running.specs.Networks.{CanRun, ForStanding, NetLoaded, NetMoved, NetMoveRefused, NetRefused, NetTurned};
     ghost use Rattle.ec_nodes_running.specs.Networks.{class_at, counts_of, fixed_at, status_at};
     ghost use Rattle.ec_nodes_running.specs.Standing.{StandsInSome};
-    ghost use Rattle.ec_placing.specs.Places.{place_of};
+    ghost use Rattle.ec_rooms.specs.Places.{place_of};
 
     /// A network of no nodes, on which nothing was loaded. It meets its calls as a spent one does.
     pub fn empty() -> Network

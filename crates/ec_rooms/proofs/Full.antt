@@ -16,7 +16,7 @@ use Rattle.ec_world.specs.declared.key.Key.{Key}
 use Rattle.ec_world.specs.declared.key.Key.TheVariants.{Frame, Object}
 use Rattle.ec_world.specs.declared.room.Needs.{Needs}
 use Rattle.ec_world.specs.declared.room.Part.{Part}
-use Rattle.ec_placing.specs.Places.{AgreeWith, ArePlaced}
+use Rattle.ec_rooms.specs.Places.{AgreeWith, ArePlaced}
 use Rattle.ec_rooms.proofs.Nodes.{NodeAt, node_at}
 use Rattle.ec_rooms.proofs.Retelling.{Agree, held_by, strings_by}
 use Rattle.ec_rooms.proofs.Single.{same_needs}

@@ -6,3 +6,13 @@ pub mod Nodes
 pub mod Loads
 pub mod Full
 pub mod Coming
+pub mod Counting
+pub mod Staying
+pub mod Stepping
+pub mod Worlds
+pub mod First
+pub mod Making
+pub mod Doing
+pub mod Settling
+pub mod Moving
+pub mod Refusing

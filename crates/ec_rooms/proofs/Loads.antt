@@ -17,7 +17,7 @@ use Rattle.ec_world.proofs.Procs.{get_end}
 use Rattle.ec_world.specs.Words.{text_bytes}
 use Rattle.ec_world.specs.declared.room.Lack.{Lack}
 use Rattle.ec_world.specs.declared.room.Part.{Part}
-use Rattle.ec_placing.specs.Places.{place_of}
+use Rattle.ec_rooms.specs.Places.{place_of}
 use Rattle.ec_rooms.proofs.Bytes.{bytes_along, none_bytes}
 use Rattle.ec_rooms.proofs.Fitting.{Both, Holds, needs_fit, never_full}
 use Rattle.ec_rooms.specs.Laws.{LoadsAreFull}

@@ -4,7 +4,7 @@ use Rattle.std.specs.Prelude.{option_map, slice_get}
 use Rattle.ec_base.proofs.Lists.{get_there, get_within}
 use Rattle.ec_cluster.specs.Cluster.{CodeWorld, place, stores}
 use Rattle.ec_world.specs.Words.{text_bytes}
-use Rattle.ec_placing.specs.Places.{ArePlaced}
+use Rattle.ec_rooms.specs.Places.{ArePlaced}
 use Rattle.ec_rooms.proofs.Bytes.{bytes_along, pool_bytes}
 use Rattle.ec_rooms.proofs.Fitting.{Both, Holds, never_full}
 use Rattle.ec_rooms.proofs.Retelling.{held_by, strings_by}

@@ -14,7 +14,7 @@ use Rattle.ec_machine_code.specs.declared.homes.Home.{Home}
 use Rattle.ec_world.specs.Things.{activation_at}
 use Rattle.ec_world.specs.declared.key.Key.{Key}
 use Rattle.ec_world.specs.declared.key.Key.TheVariants.{Frame, Object}
-use Rattle.ec_placing.specs.Places.{place_of}
+use Rattle.ec_rooms.specs.Places.{place_of}
 use Rattle.ec_rooms.specs.Rooms.{Strings, frame, held}
 use Rattle.ec_things.specs.Held.{Held}
 use Rattle.ec_things.specs.Texts.{IsHeld}

@@ -9,8 +9,8 @@ use Rattle.ec_acts.specs.Loaded.{Loaded}
 use Rattle.ec_acts.specs.Loading.{CanLoad, LacksFirst, first_needs}
 use Rattle.ec_world.specs.declared.room.Lack.{Lack}
 use Rattle.ec_world.specs.declared.room.Part.{Part}
-use Rattle.ec_placing.specs.Full.{FindsFull}
-use Rattle.ec_placing.specs.Places.{HasPlaces}
+use Rattle.ec_rooms.specs.Full.{FindsFull}
+use Rattle.ec_rooms.specs.Places.{HasPlaces}
 use Rattle.ec_rooms.specs.Rooms.{FullAt, Literals, LoadFull, Strings, held}
 use Rattle.ec_rooms.specs.Runs.{NextFull, PoolAfter}
 use Rattle.ec_rooms.specs.Standing.{HavePools, HaveSizes, ShowsWith}

@@ -9,7 +9,7 @@ use Rattle.ec_world.specs.Held.{Distinct, Fits, Lacks}
 use Rattle.ec_world.specs.Words.{text_bytes}
 use Rattle.ec_world.specs.declared.room.Needs.{Needs}
 use Rattle.ec_world.specs.declared.room.Part.{Part}
-use Rattle.ec_placing.specs.Places.{place_of}
+use Rattle.ec_rooms.specs.Places.{place_of}
 use Rattle.ec_things.specs.Held.{Held}
 use Rattle.ec_things.specs.Texts.{IsHeld}
 use Rattle.ec_things.specs.Things.{Thing, things_of}

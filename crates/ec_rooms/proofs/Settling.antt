@@ -3,9 +3,9 @@ use Rattle.std.proofs.Common.{◌≡◌, ℕ, List, refl, length}
 use Rattle.ec_cluster.specs.Cluster.{CodeWorld}
 use Rattle.ec_code.specs.Activations.{code_meaning}
 use Rattle.ec_code.specs.declared.activation.CodeActivation.{CodeActivation}
-use Rattle.ec_placing.proofs.Counting.{Stays}
-use Rattle.ec_placing.proofs.Staying.{stays_places}
-use Rattle.ec_placing.specs.Laws.{SettlingKeepsPlaces}
+use Rattle.ec_rooms.proofs.Counting.{Stays}
+use Rattle.ec_rooms.proofs.Staying.{stays_places}
+use Rattle.ec_rooms.specs.PlacingLaws.{SettlingKeepsPlaces}
 use Rattle.ec_acts.proofs.Mirrored.{given_length}
 use Rattle.ec_cluster.specs.SystemSteps.{world_settled}
 use Rattle.ec_world.specs.World.{given_up, owns_of, settled}

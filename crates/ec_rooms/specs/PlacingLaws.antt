@@ -11,7 +11,7 @@ use Rattle.ec_code.specs.declared.code.Parts.{Parts}
 use Rattle.ec_acts.specs.Doings.{Places}
 use Rattle.ec_acts.specs.Loaded.{Loaded}
 use Rattle.ec_acts.specs.Worlds.{world_first}
-use Rattle.ec_placing.specs.Places.{HasPlaces, PlacesEach}
+use Rattle.ec_rooms.specs.Places.{HasPlaces, PlacesEach}
 use Rattle.ec_cluster.specs.Acting.{Asks}
 use Rattle.ec_cluster.specs.SystemSteps.{world_done, world_settled}
 use Rattle.ec_cluster.specs.Systems.{Runs}

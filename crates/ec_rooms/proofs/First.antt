@@ -1,8 +1,8 @@
 -- What has just been loaded is where the first world has it.
 use Rattle.std.proofs.Common.{length, ◌∙◌}
 use Rattle.ec_cluster.proofs.Noting.{first_are_at}
-use Rattle.ec_placing.proofs.Worlds.{first_placed}
-use Rattle.ec_placing.specs.Laws.{FirstArePlaced}
+use Rattle.ec_rooms.proofs.Worlds.{first_placed}
+use Rattle.ec_rooms.specs.PlacingLaws.{FirstArePlaced}
 
 pub first_are_placed : FirstArePlaced
 first_are_placed p images specs s loaded = record {

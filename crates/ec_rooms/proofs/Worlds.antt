@@ -4,10 +4,10 @@ use Rattle.std.proofs.lemmas.List.{length-replicate}
 use Rattle.ec_cluster.specs.Cluster.{CodeWorld}
 use Rattle.ec_code.specs.declared.code.Parts.{Parts}
 use Rattle.ec_acts.specs.Worlds.{world_first}
-use Rattle.ec_placing.proofs.Counting.{action_grows, as_many, length_push, made_push, placed_after, stays_grows}
-use Rattle.ec_placing.proofs.Stepping.{go_on_stays}
-use Rattle.ec_placing.specs.Laws.{EachIsPlaced}
-use Rattle.ec_placing.specs.Places.{PlacesEach}
+use Rattle.ec_rooms.proofs.Counting.{action_grows, as_many, length_push, made_push, placed_after, stays_grows}
+use Rattle.ec_rooms.proofs.Stepping.{go_on_stays}
+use Rattle.ec_rooms.specs.PlacingLaws.{EachIsPlaced}
+use Rattle.ec_rooms.specs.Places.{PlacesEach}
 use Rattle.ec_world.proofs.Placement.{length-first_places}
 use Rattle.ec_world.specs.Group.{group_of}
 use Rattle.ec_world.specs.Moves.{is_idle_move, moved_common, moved_unless}

@@ -4,9 +4,9 @@ use Rattle.std.specs.Prelude.{slice_get}
 use Rattle.ec_cluster.specs.Cluster.{CodeWorld}
 use Rattle.ec_cluster.specs.Steps.{with_common}
 use Rattle.ec_world.proofs.Procs.{get_but_end, get_end}
-use Rattle.ec_placing.proofs.Counting.{one_made, placed_after}
-use Rattle.ec_placing.proofs.Staying.{places_push}
-use Rattle.ec_placing.specs.Places.{PlacesEach, place_of}
+use Rattle.ec_rooms.proofs.Counting.{one_made, placed_after}
+use Rattle.ec_rooms.proofs.Staying.{places_push}
+use Rattle.ec_rooms.specs.Places.{PlacesEach, place_of}
 use Rattle.ec_things.proofs.Put.{same_or_not}
 use Rattle.ec_world.specs.Outcomes.{with_object}
 use Rattle.ec_world.specs.Places.{node_or_first, place_in, places}

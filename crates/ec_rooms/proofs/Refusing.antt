@@ -14,12 +14,12 @@ use Rattle.ec_cluster.specs.Directory.{made_count}
 use Rattle.ec_fullness.proofs.Acting.{action_is}
 use Rattle.ec_fullness.proofs.Needs.{then_new}
 use Rattle.ec_fullness.specs.Fullness.{StaysPut, place_then}
-use Rattle.ec_placing.proofs.Counting.{Stays, done_stays}
-use Rattle.ec_placing.proofs.Making.{more_agrees}
-use Rattle.ec_placing.proofs.Moving.{gone_place}
-use Rattle.ec_placing.proofs.Settling.{settled_stays}
-use Rattle.ec_placing.proofs.Staying.{stays_place}
-use Rattle.ec_placing.specs.Places.{AgreeWith, HasPlaces}
+use Rattle.ec_rooms.proofs.Counting.{Stays, done_stays}
+use Rattle.ec_rooms.proofs.Making.{more_agrees}
+use Rattle.ec_rooms.proofs.Moving.{gone_place}
+use Rattle.ec_rooms.proofs.Settling.{settled_stays}
+use Rattle.ec_rooms.proofs.Staying.{stays_place}
+use Rattle.ec_rooms.specs.Places.{AgreeWith, HasPlaces}
 use Rattle.ec_cluster.specs.Acting.{Asks}
 use Rattle.ec_cluster.specs.SystemSteps.{ByClass, world_done, world_settled}
 use Rattle.ec_cluster.specs.Systems.{Runs}

@@ -7,9 +7,9 @@ use Rattle.ec_code.specs.declared.activation.CodeActivation.{CodeActivation}
 use Rattle.ec_code.specs.declared.code.Parts.{Parts}
 use Rattle.ec_acts.proofs.ObjectsLemmas.{length_changed}
 use Rattle.ec_code.proofs.Walks.{silent_keeps}
-use Rattle.ec_placing.proofs.Counting.{Stays, stays_same}
-use Rattle.ec_placing.proofs.Staying.{stays_places}
-use Rattle.ec_placing.specs.Laws.{SilentStepsKeepPlaces}
+use Rattle.ec_rooms.proofs.Counting.{Stays, stays_same}
+use Rattle.ec_rooms.proofs.Staying.{stays_places}
+use Rattle.ec_rooms.specs.PlacingLaws.{SilentStepsKeepPlaces}
 use Rattle.ec_world.specs.Outcomes.{with_element}
 use Rattle.ec_world.specs.World.{GoOn, advanced, go_on, go_on_unless, stack_at}
 use Rattle.ec_world.specs.declared.common.Common.{Common}

@@ -7,11 +7,11 @@ use Rattle.ec_acts.specs.Doings.{OneMore, Places}
 use Rattle.ec_fullness.proofs.FittingDoings.{doing_is_there}
 use Rattle.ec_fullness.specs.Fitting.{HasNamed, IsMakable}
 use Rattle.ec_cluster.specs.Directory.{made_count}
-use Rattle.ec_placing.proofs.Counting.{done_stays}
-use Rattle.ec_placing.proofs.Making.{more_agrees, more_each}
-use Rattle.ec_placing.proofs.Staying.{stays_places}
-use Rattle.ec_placing.specs.Laws.{DoingsKeepPlaces}
-use Rattle.ec_placing.specs.Places.{HasPlaces}
+use Rattle.ec_rooms.proofs.Counting.{done_stays}
+use Rattle.ec_rooms.proofs.Making.{more_agrees, more_each}
+use Rattle.ec_rooms.proofs.Staying.{stays_places}
+use Rattle.ec_rooms.specs.PlacingLaws.{DoingsKeepPlaces}
+use Rattle.ec_rooms.specs.Places.{HasPlaces}
 use Rattle.ec_cluster.specs.SystemSteps.{ByClass, world_done}
 use Rattle.ec_world.specs.Objects.{class_at, element_kind}
 use Rattle.ec_world.specs.Outcomes.{made_object, monitor_for, with_object}

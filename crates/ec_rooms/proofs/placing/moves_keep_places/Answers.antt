@@ -1,6 +1,6 @@
 -- Where a group goes.
-use Rattle.ec_placing.proofs.Moving.{moves_keep_places}
-use Rattle.ec_placing.proofs.laws.moves_keep_places.Goals as goal
+use Rattle.ec_rooms.proofs.Moving.{moves_keep_places}
+use Rattle.ec_rooms.proofs.placing.moves_keep_places.Goals as goal
 
 pub returns : goal.returns
 returns start old new w members target fixes there gathered has = moves_keep_places old new w members target fixes there gathered has

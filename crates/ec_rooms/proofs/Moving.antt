@@ -6,10 +6,10 @@ use Rattle.std.specs.Prelude.{if◌then◌else◌, slice_get, slice_set, IsSome}
 use Rattle.ec_base.proofs.Lists.{get_set_other, get_set_same, length_set}
 use Rattle.ec_cluster.specs.Cluster.{CodeWorld}
 use Rattle.ec_cluster.specs.Steps.{with_common}
-use Rattle.ec_placing.proofs.Counting.{gone_grows, placed_after}
-use Rattle.ec_placing.proofs.Staying.{places_push}
-use Rattle.ec_placing.specs.Laws.{MovesKeepPlaces}
-use Rattle.ec_placing.specs.Places.{PlacesEach, place_of}
+use Rattle.ec_rooms.proofs.Counting.{gone_grows, placed_after}
+use Rattle.ec_rooms.proofs.Staying.{places_push}
+use Rattle.ec_rooms.specs.PlacingLaws.{MovesKeepPlaces}
+use Rattle.ec_rooms.specs.Places.{PlacesEach, place_of}
 use Rattle.ec_world.proofs.Members.{has_first, has_later, object_within}
 use Rattle.ec_world.specs.Group.{Has, is_in}
 use Rattle.ec_world.specs.Objects.{object_at}

@@ -3,8 +3,8 @@ use Rattle.std.proofs.Common.{◌≡◌, ℕ, List, [], ◌∷◌, ◌++◌, ref
 use Rattle.ec_cluster.specs.Cluster.{CodeWorld}
 use Rattle.ec_cluster.specs.declared.cluster.Cluster.{Cluster}
 use Rattle.ec_cluster.specs.Directory.{place_at}
-use Rattle.ec_placing.proofs.Counting.{Stays, placed_after, stays_grows}
-use Rattle.ec_placing.specs.Places.{HasPlaces, place_of}
+use Rattle.ec_rooms.proofs.Counting.{Stays, placed_after, stays_grows}
+use Rattle.ec_rooms.specs.Places.{HasPlaces, place_of}
 use Rattle.ec_world.specs.Places.{place_in, placed, places, places_after}
 use Rattle.ec_world.specs.declared.event.Event.{Event}
 

@@ -1,6 +1,6 @@
 //! What keeps objects where the events of worlds have them.
-ghost use Rattle.ec_placing.specs.Laws.{DoingsKeepPlaces, EachIsPlaced, FirstArePlaced, MovesKeepPlaces, SettlingKeepsPlaces};
-ghost use Rattle.ec_placing.specs.Laws.{SilentStepsKeepPlaces};
+ghost use Rattle.ec_rooms.specs.PlacingLaws.{DoingsKeepPlaces, EachIsPlaced, FirstArePlaced, MovesKeepPlaces, SettlingKeepsPlaces};
+ghost use Rattle.ec_rooms.specs.PlacingLaws.{SilentStepsKeepPlaces};
 
 /// The events of a world place its objects and no others, at the start and after each entry.
 pub fn each_is_placed()
