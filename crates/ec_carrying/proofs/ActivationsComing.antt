@@ -23,8 +23,8 @@ use Rattle.ec_code.specs.declared.code.Parts.{Parts}
 use Rattle.ec_cluster.specs.Directory.{place_at}
 use Rattle.ec_cluster.specs.declared.forward.directory.Whereabouts.{Whereabouts}
 use Rattle.ec_generate.specs.declared.image.Image.{Image}
-use Rattle.ec_mover.proofs.Stops.{part_has_its_stop, part_heads, stop_there, table_there}
-use Rattle.ec_mover.specs.Activations.{HasStop, IsStopOf, activation_part_of, headings_in}
+use Rattle.ec_parcels.proofs.Stops.{part_has_its_stop, part_heads, stop_there, table_there}
+use Rattle.ec_parcels.specs.Activations.{HasStop, IsStopOf, activation_part_of, headings_in}
 use Rattle.ec_node_frames.specs.Frames.{AreHeadings, HasTables}
 use Rattle.ec_world.specs.declared.key.Key.{Key}
 use Rattle.ec_world.specs.declared.key.Key.TheVariants.{Frame}

@@ -18,8 +18,8 @@ use Rattle.ec_code.specs.declared.activation.CodeActivation.{CodeActivation}
 use Rattle.ec_cluster.specs.Directory.{made_count, place_at}
 use Rattle.ec_cluster.specs.declared.forward.directory.Whereabouts.{Whereabouts}
 use Rattle.ec_monitors.specs.declared.record.MonitorRec.{MonitorRec}
-use Rattle.ec_mover.proofs.Numbers.{class_again}
-use Rattle.ec_mover.specs.Classes.{ClassTable, IsClassTable, class_of, number_of}
+use Rattle.ec_parcels.proofs.Numbers.{class_again}
+use Rattle.ec_parcels.specs.Classes.{ClassTable, IsClassTable, class_of, number_of}
 use Rattle.ec_world.specs.Things.{activation_at, class_blocks}
 use Rattle.ec_world.specs.declared.key.Key.{Key}
 use Rattle.ec_world.specs.declared.key.Key.TheVariants.{Frame, Object}

@@ -18,8 +18,8 @@ use Rattle.ec_cluster.specs.declared.cluster.Cluster.{Cluster}
 use Rattle.ec_cluster.specs.Directory.{place_at}
 use Rattle.ec_cluster.specs.declared.forward.directory.Whereabouts.{Whereabouts}
 use Rattle.ec_monitors.specs.declared.record.MonitorRec.{MonitorRec}
-use Rattle.ec_mover.specs.Classes.{ClassTable, class_of}
-use Rattle.ec_mover.specs.Objects.{object_of}
+use Rattle.ec_parcels.specs.Classes.{ClassTable, class_of}
+use Rattle.ec_parcels.specs.Objects.{object_of}
 use Rattle.ec_world.specs.declared.key.Key.{Key}
 use Rattle.ec_world.specs.declared.key.Key.TheVariants.{Object}
 use Rattle.ec_objects.proofs.Wording.{take_all}

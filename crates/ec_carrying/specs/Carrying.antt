@@ -10,7 +10,7 @@ use Rattle.ec_cluster.specs.Frames.{HasImages}
 use Rattle.ec_code.specs.Typing.{Declared}
 use Rattle.ec_code.specs.declared.activation.CodeActivation.{CodeActivation}
 use Rattle.ec_cluster.specs.Directory.{made_count}
-use Rattle.ec_mover.specs.Classes.{ClassTable}
+use Rattle.ec_parcels.specs.Classes.{ClassTable}
 use Rattle.ec_node_frames.specs.Frames.{RestsAt}
 use Rattle.ec_objects.specs.Values.{TextsFit}
 use Rattle.ec_parcels.specs.Owners.{blocks_in, values_in}

@@ -7,9 +7,9 @@ use Rattle.ec_code.specs.Typing.{Declared}
 use Rattle.ec_code.specs.declared.activation.CodeActivation.{CodeActivation}
 use Rattle.ec_node_frames.specs.Carried.{IsCarried}
 use Rattle.ec_monitors.specs.declared.record.MonitorRec.{MonitorRec}
-use Rattle.ec_mover.specs.Activations.{activation_part_of}
-use Rattle.ec_mover.specs.Classes.{ClassTable, class_of}
-use Rattle.ec_mover.specs.Objects.{object_of}
+use Rattle.ec_parcels.specs.Activations.{activation_part_of}
+use Rattle.ec_parcels.specs.Classes.{ClassTable, class_of}
+use Rattle.ec_parcels.specs.Objects.{object_of}
 use Rattle.ec_world.specs.Held.{Distinct}
 use Rattle.ec_world.specs.Things.{activation_at, class_blocks}
 use Rattle.ec_world.specs.declared.key.Key.{Key}

@@ -16,7 +16,7 @@ use crate::landing::{land_activations, land_objects};
 use crate::moving::note_moves;
 use crate::taking::{take_activations, take_objects};
 use ec_cluster::cluster::Cluster;
-use ec_mover::classes::ClassNumbers;
+use ec_parcels::mover::classes::ClassNumbers;
 use ec_wire::error::ReadError;
 use ec_wire::parcel::{Contents, Parcel};
 use ec_world::value::NodeNo;

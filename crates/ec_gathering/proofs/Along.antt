@@ -7,8 +7,8 @@ use Rattle.ec_cluster.specs.declared.cluster.Cluster.{Cluster}
 use Rattle.ec_code.specs.declared.activation.CodeActivation.{CodeActivation}
 use Rattle.ec_code.specs.declared.code.Parts.{Parts}
 use Rattle.ec_gathering_room.specs.Gathering.{ButFixed}
-use Rattle.ec_mover.specs.Activations.{activation_part_of}
-use Rattle.ec_mover.specs.Classes.{ClassTable}
+use Rattle.ec_parcels.specs.Activations.{activation_part_of}
+use Rattle.ec_parcels.specs.Classes.{ClassTable}
 use Rattle.ec_node_frames.specs.Frames.{RestsAt}
 use Rattle.ec_world.specs.Things.{activation_at}
 use Rattle.ec_parcels.specs.Parcels.{ActivationGoes, IsOfActivation, IsOfMonitor, IsOfObject, ObjectGoes, Packs}

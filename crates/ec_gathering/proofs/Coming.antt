@@ -15,7 +15,7 @@ use Rattle.ec_gathering.proofs.Next.{came_then, next_room, next_sends, one_came}
 use Rattle.ec_gathering.specs.Bringing.{Brings, Brought, Came}
 use Rattle.ec_gathering.specs.Shipping.{froms}
 use Rattle.ec_gathering.specs.declared.shipping.Shipment.{Shipment}
-use Rattle.ec_mover.specs.Classes.{ClassTable}
+use Rattle.ec_parcels.specs.Classes.{ClassTable}
 use Rattle.ec_world.proofs.Keys.{same_or_not}
 use Rattle.ec_parcels.specs.Owners.{all_values, blocks_in, values_in}
 use Rattle.ec_stores.specs.Node.{store_of}

@@ -39,8 +39,8 @@ use Rattle.ec_gathering_room.proofs.Same.{fixed_needs}
 use Rattle.ec_gathering_room.specs.Gathering.{ButFixed, CanGather, gathered}
 use Rattle.ec_leaving.specs.Between.{RestsBetween}
 use Rattle.ec_parcels.specs.Owners.{all_blocks, all_values}
-use Rattle.ec_mover.proofs.Numbers.{class_again}
-use Rattle.ec_mover.specs.Classes.{ClassTable, IsClassTable, class_of}
+use Rattle.ec_parcels.proofs.Numbers.{class_again}
+use Rattle.ec_parcels.specs.Classes.{ClassTable, IsClassTable, class_of}
 use Rattle.ec_objects.specs.Lacks.{HasRoomForAll, LacksRoom}
 use Rattle.ec_world.specs.declared.room.Lack.{Lack}
 use Rattle.ec_packing.proofs.Carrying.{can_go, entry_of, known}

@@ -21,7 +21,7 @@ use Rattle.ec_gathering_room.proofs.Blocks.{held_to}
 use Rattle.ec_gathering_room.proofs.Lists.{has_is_in, has_or_not}
 use Rattle.ec_gathering_room.proofs.One.{text_goes}
 use Rattle.ec_gathering_room.specs.Gathering.{CanGather, PacksAll, gathered}
-use Rattle.ec_mover.specs.Classes.{ClassTable, IsClassTable}
+use Rattle.ec_parcels.specs.Classes.{ClassTable, IsClassTable}
 use Rattle.ec_objects.specs.Lacks.{HasRoomForAll}
 use Rattle.ec_world.proofs.Keys.{same_or_not}
 use Rattle.ec_world.specs.Held.{Distinct, if_at, total}

@@ -2,7 +2,7 @@
 use Rattle.std.proofs.Common.{◌≡◌, ◌≢◌, ◌<◌, ◌+◌, ◌∙◌, ◌∷◌, ◌++◌, ℕ, List, [], length, Option, Some, ⊎_elim, ap, arith, refl, subst, sym}
 use Rattle.std.proofs.lemmas.Option.{same_Some}
 use Rattle.std.specs.Prelude.{IsSome}
-use Rattle.ec_class_numbers.proofs.Numbered.{number_some}
+use Rattle.ec_parcels.proofs.Numbered.{number_some}
 use Rattle.ec_cluster.specs.Cluster.{CodeWorld, place}
 use Rattle.ec_cluster.specs.declared.cluster.Cluster.{Cluster}
 use Rattle.ec_code.specs.Typing.{Declared}
@@ -11,7 +11,7 @@ use Rattle.ec_gathering.proofs.Values.{few_go}
 use Rattle.ec_gathering.specs.Gathers.{MayGather}
 use Rattle.ec_gathering.specs.Shipping.{AreShipped, IsShipped, froms}
 use Rattle.ec_gathering.specs.declared.shipping.Shipment.{Shipment}
-use Rattle.ec_mover.specs.Classes.{ClassTable, number_of}
+use Rattle.ec_parcels.specs.Classes.{ClassTable, number_of}
 use Rattle.ec_world.proofs.Keys.{same_or_not}
 use Rattle.ec_world.specs.Held.{Distinct}
 use Rattle.ec_packing.specs.Packing.{CanGo}

@@ -11,7 +11,7 @@ use Rattle.ec_cluster.specs.Directory.{made_count}
 use Rattle.ec_gathering.specs.Shipping.{IsShipped, froms}
 use Rattle.ec_gathering.specs.declared.shipping.Shipment.{Shipment}
 use Rattle.ec_parcels.specs.Owners.{all_blocks, all_values}
-use Rattle.ec_mover.specs.Classes.{ClassTable, IsClassTable}
+use Rattle.ec_parcels.specs.Classes.{ClassTable, IsClassTable}
 use Rattle.ec_objects.specs.Lacks.{HasRoomForAll}
 use Rattle.ec_node_frames.specs.Frames.{RestsAt}
 use Rattle.ec_world.specs.Held.{Distinct}

@@ -2,7 +2,7 @@
 use Rattle.std.specs.Prelude.{◌≡◌, ◌≢◌, ℕ, false, List, Option, Some, IsSome}
 use Rattle.ec_asking.specs.Bare.{IsBareProgram}
 use Rattle.ec_asking.specs.Typed.{IsTypedOnce}
-use Rattle.ec_class_numbers.specs.Vectors.{table_of}
+use Rattle.ec_parcels.specs.Vectors.{table_of}
 use Rattle.ec_cluster.specs.Cluster.{CodeWorld, place}
 use Rattle.ec_cluster.specs.Steps.{Changes, with_common}
 use Rattle.ec_cluster.specs.declared.cluster.Cluster.{Cluster}
@@ -11,7 +11,7 @@ use Rattle.ec_cluster.specs.Directory.{made_count}
 use Rattle.ec_fullness.specs.Fullness.{IsFull}
 use Rattle.ec_gathering_room.specs.Gathering.{gathered}
 use Rattle.ec_leaving.specs.Between.{IsBetween}
-use Rattle.ec_mover.specs.Classes.{ClassTable}
+use Rattle.ec_parcels.specs.Classes.{ClassTable}
 use Rattle.ec_world.specs.declared.room.Lack.{Lack}
 use Rattle.ec_cluster.specs.Systems.{Mirrors, Runs, Strings}
 use Rattle.ec_cluster.specs.declared.system.System.{System}

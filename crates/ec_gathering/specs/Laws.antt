@@ -4,7 +4,7 @@ use Rattle.ec_cluster.specs.Cluster.{CodeWorld}
 use Rattle.ec_code.specs.Typing.{Declared}
 use Rattle.ec_code.specs.declared.activation.CodeActivation.{CodeActivation}
 use Rattle.ec_gathering.specs.Gathers.{Gathers, LetsGo, MayGather}
-use Rattle.ec_mover.specs.Classes.{ClassTable}
+use Rattle.ec_parcels.specs.Classes.{ClassTable}
 use Rattle.ec_cluster.specs.Acting.{Asks}
 use Rattle.ec_cluster.specs.SystemSteps.{Does}
 use Rattle.ec_cluster.specs.declared.system.System.{System}

@@ -5,7 +5,7 @@ use Rattle.ec_cluster.specs.declared.cluster.Cluster.{Cluster}
 use Rattle.ec_code.specs.Typing.{Declared}
 use Rattle.ec_gathering.specs.Gathers.{MayGather}
 use Rattle.ec_gathering.specs.declared.shipping.Shipment.{Shipment}
-use Rattle.ec_mover.specs.Classes.{ClassTable}
+use Rattle.ec_parcels.specs.Classes.{ClassTable}
 use Rattle.ec_world.specs.Held.{Distinct}
 use Rattle.ec_packing.specs.Room.{AreOfClasses}
 use Rattle.ec_parcels.specs.Parcels.{Packs}

@@ -10,7 +10,7 @@ use crate::shipping::Shipment;
 use ec_carrying::carrying::carry;
 use ec_cluster::cluster::Cluster;
 use ec_cluster::objects::set_flag;
-use ec_mover::classes::ClassNumbers;
+use ec_parcels::mover::classes::ClassNumbers;
 use ec_world::value::{NodeNo, Oid};
 use std::alloc::{AllocError, Global};
 

@@ -6,7 +6,7 @@ ghost use Rattle.ec_gathering.specs.Gathers.{MayGather};
 ghost use Rattle.ec_gathering.specs.Shipping.{AreShipped, HasNoneAt, HasSomeAt, MayShip};
 
 use ec_cluster::cluster::Cluster;
-use ec_mover::classes::ClassNumbers;
+use ec_parcels::mover::classes::ClassNumbers;
 use ec_packing::packing::pack;
 use ec_cluster::system::System;
 use ec_world::value::{NodeNo, Oid};

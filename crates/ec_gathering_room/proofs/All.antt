@@ -9,7 +9,7 @@ use Rattle.ec_cluster.specs.declared.cluster.Cluster.{Cluster}
 use Rattle.ec_gathering_room.proofs.Lists.{in_one, joined_once, one_in}
 use Rattle.ec_gathering_room.proofs.One.{Goes, TextGoes, goes_key, goes_text, key_goes, text_goes}
 use Rattle.ec_gathering_room.specs.Gathering.{CanGather}
-use Rattle.ec_mover.specs.Classes.{ClassTable}
+use Rattle.ec_parcels.specs.Classes.{ClassTable}
 use Rattle.ec_world.specs.Held.{Distinct}
 use Rattle.ec_world.specs.declared.key.Key.{Key}
 use Rattle.ec_parcels.proofs.Rising.{keys_once}

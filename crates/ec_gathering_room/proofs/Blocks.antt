@@ -9,7 +9,7 @@ use Rattle.ec_gathering_room.proofs.Lists.{has_is_in, has_or_not, sum_joined, su
 use Rattle.ec_gathering_room.proofs.One.{size, size_sum}
 use Rattle.ec_gathering_room.proofs.Without.{held_without, key_weight, weight_if}
 use Rattle.ec_gathering_room.specs.Gathering.{CanGather, gathered}
-use Rattle.ec_mover.specs.Classes.{ClassTable}
+use Rattle.ec_parcels.specs.Classes.{ClassTable}
 use Rattle.ec_world.specs.Held.{if_at}
 use Rattle.ec_world.specs.declared.key.Key.{Key}
 use Rattle.ec_parcels.proofs.Keys.{not_has}

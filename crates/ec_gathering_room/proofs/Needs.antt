@@ -8,7 +8,7 @@ use Rattle.ec_gathering_room.proofs.Blocks.{held_off, held_to}
 use Rattle.ec_gathering_room.proofs.Texts.{Comes, comes_wanted, wants_either}
 use Rattle.ec_gathering_room.specs.Gathering.{CanGather, gathered}
 use Rattle.ec_parcels.specs.Owners.{all_blocks, all_values}
-use Rattle.ec_mover.specs.Classes.{ClassTable}
+use Rattle.ec_parcels.specs.Classes.{ClassTable}
 use Rattle.ec_objects.specs.Lacks.{HasRoomForAll, LacksRoom, needs_at}
 use Rattle.ec_world.specs.declared.room.Lack.{Lack}
 use Rattle.ec_things.proofs.Put.{same_or_not}

@@ -16,8 +16,8 @@ use Rattle.ec_fullness.proofs.Values.{values_of}
 use Rattle.ec_gathering_room.proofs.Lists.{in_one, one_in, sum_map, sum_ones, sum_same}
 use Rattle.ec_gathering_room.proofs.Things.{frame_is, object_is}
 use Rattle.ec_gathering_room.specs.Gathering.{AllWait}
-use Rattle.ec_mover.proofs.Numbers.{class_again}
-use Rattle.ec_mover.specs.Classes.{ClassTable, IsClassTable, class_of}
+use Rattle.ec_parcels.proofs.Numbers.{class_again}
+use Rattle.ec_parcels.specs.Classes.{ClassTable, IsClassTable, class_of}
 use Rattle.ec_node_frames.proofs.Items.{map_both}
 use Rattle.ec_world.specs.Things.{activation_at, class_blocks}
 use Rattle.ec_world.specs.declared.key.Key.{Key}

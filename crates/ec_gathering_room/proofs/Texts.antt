@@ -9,7 +9,7 @@ use Rattle.ec_gathering_room.proofs.Blocks.{member_goes, other_stays}
 use Rattle.ec_gathering_room.proofs.Lists.{has_or_not}
 use Rattle.ec_gathering_room.specs.Gathering.{CanGather, gathered}
 use Rattle.ec_parcels.specs.Owners.{all_values}
-use Rattle.ec_mover.specs.Classes.{ClassTable}
+use Rattle.ec_parcels.specs.Classes.{ClassTable}
 use Rattle.ec_cluster.proofs.Pools.{strings_in_pool}
 use Rattle.ec_things.proofs.Put.{same_or_not}
 use Rattle.ec_things.specs.Store.{Store}

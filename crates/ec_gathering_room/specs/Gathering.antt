@@ -4,7 +4,7 @@ use Rattle.ec_node_frames.specs.Carried.{IsCarried}
 use Rattle.ec_cluster.specs.Cluster.{CodeWorld, Shows, place}
 use Rattle.ec_cluster.specs.declared.cluster.Cluster.{Cluster}
 use Rattle.ec_code.specs.declared.activation.CodeActivation.{CodeActivation}
-use Rattle.ec_mover.specs.Classes.{ClassTable, IsClassTable}
+use Rattle.ec_parcels.specs.Classes.{ClassTable, IsClassTable}
 use Rattle.ec_node_frames.specs.Frames.{RestsAt}
 use Rattle.ec_world.specs.Held.{Distinct}
 use Rattle.ec_world.specs.Things.{activation_at}

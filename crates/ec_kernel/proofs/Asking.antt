@@ -5,7 +5,7 @@ use Rattle.ec_code.specs.Typing.{Declared}
 use Rattle.ec_gathering.proofs.Moves.{asks_may}
 use Rattle.ec_gathering.specs.Gathers.{LetsGo, MayGather}
 use Rattle.ec_kernel.specs.Acts.{AsksBetween, AsksOfEach, Begins}
-use Rattle.ec_mover.specs.Classes.{ClassTable}
+use Rattle.ec_parcels.specs.Classes.{ClassTable}
 use Rattle.ec_cluster.specs.declared.system.System.{System}
 use Rattle.ec_world.specs.declared.doing.Doing.{Doing}
 use Rattle.ec_world.specs.declared.doing.Doing.TheVariants.{Moves}

@@ -11,7 +11,7 @@ use Rattle.ec_gathering_room.specs.Gathering.{gathered}
 use Rattle.ec_kernel.proofs.Asking.{may_gather}
 use Rattle.ec_kernel.proofs.Gathered.{members_there, target_has}
 use Rattle.ec_kernel.specs.Acts.{AsksBetween, AsksOfEach}
-use Rattle.ec_mover.specs.Classes.{ClassTable}
+use Rattle.ec_parcels.specs.Classes.{ClassTable}
 use Rattle.ec_world.specs.declared.room.Lack.{Lack}
 use Rattle.ec_rooms.proofs.Refusing.{agrees_gathered, agrees_then}
 use Rattle.ec_rooms.specs.Full.{FindsFull}

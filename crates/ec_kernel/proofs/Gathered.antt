@@ -16,7 +16,7 @@ use Rattle.ec_kernel.proofs.Asking.{asks_of_each, may_gather}
 use Rattle.ec_kernel.proofs.Behind.{acted_behind, can_settle_behind, settles_behind}
 use Rattle.ec_kernel.proofs.Rooming.{frames_same, take_nothing}
 use Rattle.ec_kernel.specs.Acts.{AsksBetween, AsksOfEach, HasActed}
-use Rattle.ec_mover.specs.Classes.{ClassTable}
+use Rattle.ec_parcels.specs.Classes.{ClassTable}
 use Rattle.ec_rooms.proofs.Moving.{moves_keep_places}
 use Rattle.ec_rooms.specs.PlacingLaws.{AreGathered}
 use Rattle.ec_rooms.specs.Places.{HasPlaces}

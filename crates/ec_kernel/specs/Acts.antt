@@ -1,7 +1,7 @@
 -- The action of a process on the nodes of a system.
 use Rattle.std.specs.Prelude.{◌≡◌, ℕ, List}
 use Rattle.ec_asking.specs.Typed.{IsTypedOnce}
-use Rattle.ec_class_numbers.specs.Vectors.{table_of}
+use Rattle.ec_parcels.specs.Vectors.{table_of}
 use Rattle.ec_cluster.specs.Cluster.{CodeWorld}
 use Rattle.ec_cluster.specs.Steps.{Changes}
 use Rattle.ec_code.specs.Activations.{code_meaning}
@@ -14,7 +14,7 @@ use Rattle.ec_kernel.specs.declared.acts.ActError.TheVariants as refusal
 use Rattle.ec_kernel.specs.declared.acts.Acted.{Acted}
 use Rattle.ec_kernel.specs.declared.acts.Acted.TheVariants as came
 use Rattle.ec_leaving.specs.Between.{IsBetween}
-use Rattle.ec_mover.specs.Classes.{ClassTable}
+use Rattle.ec_parcels.specs.Classes.{ClassTable}
 use Rattle.ec_world.specs.declared.room.Lack.{Lack}
 use Rattle.ec_rooms.specs.Full.{FindsFull}
 use Rattle.ec_rooms.specs.Places.{HasPlaces}

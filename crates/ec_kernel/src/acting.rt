@@ -11,7 +11,7 @@ use crate::steps::both_steps;
 use ec_asking::asking::asked;
 use ec_asking::requests::Asked;
 use ec_fullness::fullness::fullness;
-use ec_mover::classes::ClassNumbers;
+use ec_parcels::mover::classes::ClassNumbers;
 use ec_cluster::system::System;
 use ec_world::doing::Doing;
 use ec_world::stop::Who;

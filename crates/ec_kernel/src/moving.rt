@@ -7,7 +7,7 @@ ghost use Rattle.ec_world.specs.declared.doing.Doing.TheVariants.{Moves};
 
 use crate::acts::{ActError, Acted};
 use ec_gathering::gathering::gather;
-use ec_mover::classes::ClassNumbers;
+use ec_parcels::mover::classes::ClassNumbers;
 use ec_acts::settling::settle;
 use ec_cluster::system::System;
 use ec_world::doing::Outcome;

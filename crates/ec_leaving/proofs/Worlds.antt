@@ -1,7 +1,7 @@
 -- The first world is one between turns, and turns and moves by the operator lead from one to another.
 use Rattle.std.proofs.Common.{◌≡◌, ℕ, zero, suc, Bool, true, false, List, [], ◌∷◌, replicate, Option, Some, None, refl, sym, subst}
 use Rattle.ec_base.specs.Stack.{top_of, below_of}
-use Rattle.ec_class_numbers.proofs.Worlds.{action_made, go_on_made, move_made, run_made}
+use Rattle.ec_parcels.proofs.Worlds.{action_made, go_on_made, move_made, run_made}
 use Rattle.ec_cluster.specs.Cluster.{CodeWorld}
 use Rattle.ec_code.specs.Activations.{code_meaning, code_silent}
 use Rattle.ec_code.specs.Fine.{Fine}

@@ -3,7 +3,7 @@ use Rattle.std.specs.Prelude.{◌≡◌, ◌<◌, ◌^◌, ℕ, false, true, len
 use Rattle.std.specs.List.{AllByRecursion as Each}
 use Rattle.ec_node_frames.specs.Carried.{IsCarried}
 use Rattle.ec_base.specs.Stack.{below_of, top_of}
-use Rattle.ec_class_numbers.specs.Vectors.{VectorsAreMade}
+use Rattle.ec_parcels.specs.Vectors.{VectorsAreMade}
 use Rattle.ec_cluster.specs.Cluster.{CodeWorld}
 use Rattle.ec_code.specs.declared.activation.CodeActivation.{CodeActivation}
 use Rattle.ec_code.specs.declared.code.Parts.{Parts}

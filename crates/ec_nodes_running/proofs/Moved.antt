@@ -20,7 +20,7 @@ use Rattle.ec_code.specs.Idle.{OfClasses}
 use Rattle.ec_kernel.specs.Acts.{FoundFull}
 use Rattle.ec_leaving.proofs.Worlds.{move_between}
 use Rattle.ec_leaving.specs.Between.{IsBetween}
-use Rattle.ec_mover.specs.Classes.{ClassTable}
+use Rattle.ec_parcels.specs.Classes.{ClassTable}
 use Rattle.ec_world.specs.declared.room.Lack.{Lack}
 use Rattle.ec_nodes_running.proofs.Standing.{literals_after}
 use Rattle.ec_nodes_running.specs.Moving.{MovedTo, is_idle_seen, members_moved, members_seen}

@@ -2,11 +2,11 @@
 use Rattle.std.proofs.Common.{◌≡◌, ℕ, Some, refl, sym, ap, ◌∙◌, subst}
 use Rattle.std.proofs.lemmas.Option.{same_Some}
 use Rattle.std.specs.Prelude.{IsSome}
-use Rattle.ec_class_numbers.specs.Vectors.{table_of}
+use Rattle.ec_parcels.specs.Vectors.{table_of}
 use Rattle.ec_cluster.specs.Cluster.{CodeWorld}
 use Rattle.ec_code.specs.Typing.{Declared}
 use Rattle.ec_world.specs.declared.room.Lack.{Lack}
-use Rattle.ec_mover.specs.Classes.{ClassTable}
+use Rattle.ec_parcels.specs.Classes.{ClassTable}
 use Rattle.ec_nodes_running.proofs.Turned.{turn_parts}
 use Rattle.ec_nodes_running.specs.Moving.{MoveRefusedIn, MovedTo}
 use Rattle.ec_nodes_running.specs.Networks.{ForStanding, Net, NetMoved, NetTurned, Now}

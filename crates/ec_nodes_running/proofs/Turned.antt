@@ -12,7 +12,7 @@ use Rattle.ec_acts.proofs.Stepping.{unchanged}
 use Rattle.ec_kernel.specs.Acts.{Begins, Goes, HasActed, WasIdle}
 use Rattle.ec_leaving.proofs.Worlds.{turn_between}
 use Rattle.ec_leaving.specs.Between.{IsBetween}
-use Rattle.ec_mover.specs.Classes.{ClassTable}
+use Rattle.ec_parcels.specs.Classes.{ClassTable}
 use Rattle.ec_nodes_running.proofs.Standing.{works_acted}
 use Rattle.ec_nodes_running.proofs.Tops.{without_top}
 use Rattle.ec_nodes_running.specs.Running.{AfterAction, Rested, WentOn, gone_on}

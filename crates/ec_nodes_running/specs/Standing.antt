@@ -1,13 +1,13 @@
 -- Systems that run a world as runs of their program come to it, by the code of this program.
 use Rattle.std.specs.Prelude.{◌≡◌}
-use Rattle.ec_class_numbers.specs.Vectors.{table_of}
+use Rattle.ec_parcels.specs.Vectors.{table_of}
 use Rattle.ec_cluster.specs.Cluster.{CodeWorld}
 use Rattle.ec_code.specs.Typing.{Declared}
 use Rattle.ec_legs.specs.Going.{HasCode, HasLiterals}
 use Rattle.ec_code.specs.Idle.{OfClasses}
 use Rattle.ec_kernel.specs.Acts.{Goes}
 use Rattle.ec_leaving.specs.Between.{IsBetween}
-use Rattle.ec_mover.specs.Classes.{ClassTable}
+use Rattle.ec_parcels.specs.Classes.{ClassTable}
 use Rattle.ec_code.specs.Code.{SmallProgram}
 use Rattle.ec_cluster.specs.declared.system.System.{System}
 use Rattle.ec_generate.specs.Limits.{CarriesFew, FewConditions}

@@ -11,7 +11,7 @@ ghost use Rattle.ec_world.specs.Sights.{sight_of};
 use crate::seeing::seen;
 use crate::turns::TurnError;
 use ec_gathering::gathering::gather;
-use ec_mover::classes::ClassNumbers;
+use ec_parcels::mover::classes::ClassNumbers;
 use ec_cluster::seen::seen::Seen;
 use ec_cluster::system::System;
 use ec_world::sight::Sees;

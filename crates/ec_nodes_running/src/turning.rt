@@ -11,7 +11,7 @@ use crate::turns::{Did, TurnError};
 use ec_legs::machines::Machines;
 use ec_kernel::acting::act;
 use ec_kernel::acts::{ActError, Acted};
-use ec_mover::classes::ClassNumbers;
+use ec_parcels::mover::classes::ClassNumbers;
 use ec_cluster::system::System;
 use ec_world::value::Pid;
 use std::alloc::Global;

@@ -14,8 +14,8 @@ use Rattle.ec_cluster.specs.Frames.{tables_on}
 use Rattle.ec_code.specs.Typing.{Declared}
 use Rattle.ec_code.specs.declared.activation.CodeActivation.{CodeActivation}
 use Rattle.ec_leaving.specs.Between.{RestsBetween}
-use Rattle.ec_mover.specs.Activations.{Leaves, activation_part_of}
-use Rattle.ec_mover.specs.Classes.{ClassTable}
+use Rattle.ec_parcels.specs.Activations.{Leaves, activation_part_of}
+use Rattle.ec_parcels.specs.Classes.{ClassTable}
 use Rattle.ec_node_frames.specs.Frames.{IsFrame}
 use Rattle.ec_world.specs.Things.{activation_at, in_process}
 use Rattle.ec_world.specs.declared.key.Key.TheVariants.{Frame}

@@ -10,8 +10,8 @@ use Rattle.ec_cluster.specs.declared.cluster.Cluster.{Cluster}
 use Rattle.ec_code.specs.Typing.{Declared}
 use Rattle.ec_cluster.specs.Directory.{place_at}
 use Rattle.ec_cluster.specs.declared.forward.directory.Whereabouts.{Whereabouts}
-use Rattle.ec_mover.specs.Classes.{ClassTable, number_of}
-use Rattle.ec_mover.specs.Objects.{GoesAs, monitor_part_of, part_of}
+use Rattle.ec_parcels.specs.Classes.{ClassTable, number_of}
+use Rattle.ec_parcels.specs.Objects.{GoesAs, monitor_part_of, part_of}
 use Rattle.ec_world.specs.declared.key.Key.TheVariants.{Object}
 use Rattle.ec_packing.specs.Packing.{CanGo, is_at, is_here, monitor_goes, monitor_if, object_goes, object_if, with_number}
 use Rattle.ec_parcels.specs.Parcels.{ObjectGoes}

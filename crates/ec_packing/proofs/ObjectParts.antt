@@ -16,8 +16,8 @@ use Rattle.ec_types.specs.declared.conform.static_type.StaticType.{StaticType}
 use Rattle.ec_code.specs.Idle.{IsPlain}
 use Rattle.ec_monitors.specs.declared.record.Hold.{Hold}
 use Rattle.ec_monitors.specs.declared.record.MonitorRec.{MonitorRec}
-use Rattle.ec_mover.specs.Classes.{ClassTable, number_of}
-use Rattle.ec_mover.specs.Objects.{monitor_part_of, part_of}
+use Rattle.ec_parcels.specs.Classes.{ClassTable, number_of}
+use Rattle.ec_parcels.specs.Objects.{monitor_part_of, part_of}
 use Rattle.ec_packing.proofs.Carrying.{IsGood}
 use Rattle.ec_packing.proofs.Counting.{few_below}
 use Rattle.ec_packing.proofs.Joining.{has_joined, joined_has}

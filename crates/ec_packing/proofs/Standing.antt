@@ -19,11 +19,11 @@ use Rattle.ec_code.specs.Typing.{Declared}
 use Rattle.ec_code.specs.declared.activation.CodeActivation.{CodeActivation}
 use Rattle.ec_code.specs.declared.code.Parts.{Parts}
 use Rattle.ec_machine_code.specs.declared.homes.Home.{Home}
-use Rattle.ec_mover.specs.Activations.{Leaves, activation_part_of}
+use Rattle.ec_parcels.specs.Activations.{Leaves, activation_part_of}
 use Rattle.ec_generate.specs.declared.table.OperationTable.{OperationTable}
 use Rattle.ec_generate.specs.declared.table.StopEntry.{StopEntry}
 use Rattle.ec_world.specs.declared.node.Kind.{Kind}
-use Rattle.ec_mover.specs.Classes.{ClassTable}
+use Rattle.ec_parcels.specs.Classes.{ClassTable}
 use Rattle.ec_world.specs.Things.{activation_at}
 use Rattle.ec_world.specs.declared.key.Key.TheVariants.{Frame}
 use Rattle.ec_packing.proofs.ActivationParts.{activation_parts, activations_sorted, part_from, sorted_part, source}

@@ -6,7 +6,7 @@ use Rattle.ec_code.specs.Typing.{Declared}
 use Rattle.ec_formats.proofs.Steps.{both}
 use Rattle.ec_formats.specs.Lists.{list}
 use Rattle.ec_monitors.specs.Laws.{HasDepths}
-use Rattle.ec_mover.specs.Classes.{ClassTable}
+use Rattle.ec_parcels.specs.Classes.{ClassTable}
 use Rattle.ec_packing.proofs.ActivationParts.{Source, activation_parts, activations_sorted, few_there, has_activation, is_activation}
 use Rattle.ec_packing.proofs.ActivationParts.{own_positive, source, values_few, values_good}
 use Rattle.ec_packing.proofs.Carrying.{IsGood}

@@ -2,7 +2,7 @@
 use Rattle.std.specs.Prelude.{ℕ, List}
 use Rattle.ec_cluster.specs.Cluster.{CodeWorld}
 use Rattle.ec_cluster.specs.declared.cluster.Cluster.{Cluster}
-use Rattle.ec_mover.specs.Classes.{ClassTable}
+use Rattle.ec_parcels.specs.Classes.{ClassTable}
 use Rattle.ec_parcels.specs.Parcels.{Packs}
 use Rattle.ec_wire.specs.WireForm.{IsWire}
 use Rattle.ec_wire.specs.declared.parcel.Contents.{Contents}

@@ -11,9 +11,9 @@ use Rattle.ec_code.specs.Typing.{Declared}
 use Rattle.ec_code.specs.declared.activation.CodeActivation.{CodeActivation}
 use Rattle.ec_leaving.specs.Between.{AllRest, CanBeSpelled}
 use Rattle.ec_monitors.specs.declared.record.MonitorRec.{MonitorRec}
-use Rattle.ec_mover.specs.Activations.{activation_part_of}
-use Rattle.ec_mover.specs.Classes.{ClassTable, number_of}
-use Rattle.ec_mover.specs.Objects.{monitor_part_of, part_of}
+use Rattle.ec_parcels.specs.Activations.{activation_part_of}
+use Rattle.ec_parcels.specs.Classes.{ClassTable, number_of}
+use Rattle.ec_parcels.specs.Objects.{monitor_part_of, part_of}
 use Rattle.ec_node_frames.specs.Frames.{RestsAt}
 use Rattle.ec_world.specs.Things.{activation_at}
 use Rattle.ec_parcels.specs.Parcels.{ActivationGoes, ObjectGoes}

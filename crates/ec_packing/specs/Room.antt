@@ -1,6 +1,6 @@
 -- What parcels want together at the node to which they come.
 use Rattle.std.specs.Prelude.{ℕ, IsSome, List}
-use Rattle.ec_mover.specs.Classes.{ClassTable, class_of}
+use Rattle.ec_parcels.specs.Classes.{ClassTable, class_of}
 use Rattle.ec_wire.specs.declared.parcel.Contents.{Contents}
 use Rattle.ec_wire.specs.declared.parcel.ObjectPart.{ObjectPart}
 use Rattle.ec_world.specs.Group.{Has}

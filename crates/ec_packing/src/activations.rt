@@ -2,13 +2,13 @@
 ghost use Rattle.std.specs.Prelude.{◌≡◌, [], ◌∷◌, IfOk, OnOk, length, slice_get, Some};
 ghost use Rattle.ec_cluster.specs.Cluster.{CodeWorld};
 ghost use Rattle.ec_code.specs.Typing.{Declared};
-ghost use Rattle.ec_mover.specs.Classes.{ClassTable};
+ghost use Rattle.ec_parcels.specs.Classes.{ClassTable};
 ghost use Rattle.ec_packing.specs.Packing.{CanGo, CanGoBySome, activation_goes, process_goes, up_to};
 ghost use Rattle.ec_packing.specs.Standing.{AreOnMembers, AreOnOneMore, IsOnMember};
 ghost use Rattle.ec_stores.specs.Node.{NodeData, store_of};
 
 use ec_base::list::Seq;
-use ec_mover::activations::activation_part;
+use ec_parcels::mover::activations::activation_part;
 use ec_stores::node::NodeStore;
 use ec_cluster::system::System;
 use ec_wire::parcel::ActivationPart;

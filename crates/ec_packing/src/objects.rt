@@ -3,14 +3,14 @@ ghost use Rattle.std.specs.List.{flat_map};
 ghost use Rattle.std.specs.Prelude.{◌≡◌, IfOk};
 ghost use Rattle.ec_cluster.specs.Cluster.{CodeWorld};
 ghost use Rattle.ec_code.specs.Typing.{Declared};
-ghost use Rattle.ec_mover.specs.Classes.{ClassTable};
+ghost use Rattle.ec_parcels.specs.Classes.{ClassTable};
 ghost use Rattle.ec_packing.specs.Packing as spec;
 ghost use Rattle.ec_packing.specs.Packing.{CanGo, CanGoBySome, CanGoInSome, monitor_goes, object_goes};
 
 use ec_base::list::Seq;
 use ec_cluster::cluster::Cluster;
-use ec_mover::classes::ClassNumbers;
-use ec_mover::objects::{monitor_part, object_part};
+use ec_parcels::mover::classes::ClassNumbers;
+use ec_parcels::mover::objects::{monitor_part, object_part};
 use ec_cluster::system::System;
 use ec_wire::parcel::{MonitorPart, ObjectPart};
 use ec_world::value::{NodeNo, Oid};

@@ -10,7 +10,7 @@ use crate::activations::activations_at;
 use crate::blocks::look_at_blocks;
 use crate::objects::{monitors_at, objects_at};
 use crate::widths::look_at;
-use ec_mover::classes::ClassNumbers;
+use ec_parcels::mover::classes::ClassNumbers;
 use ec_cluster::system::System;
 use ec_wire::parcel::{Contents, Parcel};
 use ec_wire::write;

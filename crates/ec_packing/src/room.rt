@@ -1,14 +1,14 @@
 //! What a node lacks for parcels to come to it.
 ghost use Rattle.std.specs.Prelude.{◌≡◌, ◌+◌, ◌++◌, ◌^◌, ◌<◌, IfNone, IfOk, IfSome, IsSome, OnOk, length};
 ghost use Rattle.std.specs.List.{flat_map};
-ghost use Rattle.ec_mover.specs.Classes as numbering;
+ghost use Rattle.ec_parcels.specs.Classes as numbering;
 ghost use Rattle.ec_objects.specs.Lacks.{HasRoomForAll, LacksRoom};
 ghost use Rattle.ec_packing.specs.Room.{AreOfClasses, IsOfClasses};
 ghost use Rattle.ec_parcels.specs.Owners as owners;
 ghost use Rattle.ec_parcels.specs.Owners.{values_in};
 ghost use Rattle.ec_stores.specs.Node.{store_of};
 
-use ec_mover::classes::ClassNumbers;
+use ec_parcels::mover::classes::ClassNumbers;
 use ec_objects::texts::new_bytes;
 use ec_world::room::{Lack, Needs, lack_at};
 use ec_stores::node::NodeStore;

@@ -3,7 +3,7 @@
 //! large is never dropped here: how it is dropped is proved in the crates that do so, and would be proved once more.
 ghost use Rattle.std.specs.Prelude.{◌<◌, ◌∷◌};
 ghost use Rattle.std.specs.Bool.{OnTrue};
-ghost use Rattle.ec_mover.specs.Activations.{HasStop};
+ghost use Rattle.ec_parcels.specs.Activations.{HasStop};
 ghost use Rattle.ec_objects.specs.Values.{TextsFit};
 ghost use Rattle.ec_things.specs.Store.{Store};
 ghost use Rattle.ec_world.specs.declared.value.Value.TheVariants.{Ref};
@@ -12,7 +12,7 @@ use ec_base::list::Seq;
 use ec_code::code::{Live, Variable};
 use ec_types::conform::static_type::{Plain, StaticType};
 use ec_machine_code::homes::Home;
-use ec_mover::activations::put_activation;
+use ec_parcels::mover::activations::put_activation;
 use ec_generate::table::{OperationTable, StopEntry};
 use ec_stores::node::NodeStore;
 use ec_wire::parcel::ActivationPart;

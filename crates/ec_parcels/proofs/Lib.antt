@@ -1,2 +1,9 @@
+pub mod Numbers
+pub mod Fields
+pub mod Stops
+pub mod Types
+pub mod Objects
+pub mod Worlds
+pub mod Numbered
 pub mod Keys
 pub mod Rising

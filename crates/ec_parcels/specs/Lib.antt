@@ -1,3 +1,9 @@
+pub mod Classes
+pub mod Objects
+pub mod Activations
+pub mod MoverLaws
+pub mod Vectors
+pub mod ClassNumbersLaws
 pub mod Parcels
 pub mod Owners
 pub mod Laws

@@ -1,7 +1,7 @@
 -- The owners in a parcel, and the room that it wants at the node to which it goes.
 use Rattle.std.specs.Prelude.{ℕ, ◌+◌, ◌==◌, ◌&&◌, ◌||◌, Bool, false, List, [], ◌∷◌, ◌++◌, length, map, Option, Some, None}
 use Rattle.std.specs.List.{flat_map, sum_by}
-use Rattle.ec_mover.specs.Classes.{ClassTable, class_of}
+use Rattle.ec_parcels.specs.Classes.{ClassTable, class_of}
 use Rattle.ec_world.specs.Things.{class_blocks}
 use Rattle.ec_world.specs.declared.key.Key.{Key}
 use Rattle.ec_world.specs.declared.key.Key.TheVariants.{Object, Frame}

@@ -4,9 +4,9 @@ use Rattle.ec_cluster.specs.Cluster.{CodeWorld, place}
 use Rattle.ec_cluster.specs.declared.cluster.Cluster.{Cluster}
 use Rattle.ec_code.specs.declared.activation.CodeActivation.{CodeActivation}
 use Rattle.ec_monitors.specs.declared.record.MonitorRec.{MonitorRec}
-use Rattle.ec_mover.specs.Activations.{activation_part_of}
-use Rattle.ec_mover.specs.Classes.{ClassTable, number_of}
-use Rattle.ec_mover.specs.Objects.{part_of}
+use Rattle.ec_parcels.specs.Activations.{activation_part_of}
+use Rattle.ec_parcels.specs.Classes.{ClassTable, number_of}
+use Rattle.ec_parcels.specs.Objects.{part_of}
 use Rattle.ec_node_frames.specs.Frames.{RestsAt}
 use Rattle.ec_world.specs.Things.{activation_at}
 use Rattle.ec_generate.specs.declared.table.StopEntry.{StopEntry}

@@ -6,7 +6,7 @@ use Rattle.ec_carrying.proofs.ObjectsComing.{here_as}
 use Rattle.ec_carrying.proofs.Steps.{one_put}
 use Rattle.ec_carrying.proofs.landing.land_object.Goals as goal
 use Rattle.ec_cluster.proofs.Answered.{on_ok_two}
-use Rattle.ec_mover.specs.Objects.{object_of}
+use Rattle.ec_parcels.specs.Objects.{object_of}
 use Rattle.ec_world.specs.declared.key.Key.TheVariants.{Object}
 use Rattle.ec_stores.specs.Node.{store_of}
 use Rattle.ec_things.specs.Store.{Store}

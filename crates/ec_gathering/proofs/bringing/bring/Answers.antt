@@ -9,7 +9,7 @@ use Rattle.ec_gathering.proofs.Coming.{IsBringing, all_brought, next_bringing, n
 use Rattle.ec_gathering.proofs.Lists.{item_there}
 use Rattle.ec_gathering.proofs.bringing.bring.Goals as goal
 use Rattle.ec_gathering.specs.declared.shipping.Shipment.{Shipment}
-use Rattle.ec_mover.specs.Classes.{ClassTable}
+use Rattle.ec_parcels.specs.Classes.{ClassTable}
 use Rattle.ec_wire.specs.declared.parcel.Contents.{Contents}
 
 pub loop-shipment-init : goal.loop-shipment-init

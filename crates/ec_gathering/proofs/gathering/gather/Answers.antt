@@ -11,7 +11,7 @@ use Rattle.ec_gathering.specs.Gathers.{Gathers, LacksFor, MayGather}
 use Rattle.ec_gathering.specs.Shipping.{CanBeRead}
 use Rattle.ec_gathering.specs.declared.shipping.Shipment.{Shipment}
 use Rattle.ec_parcels.specs.Owners.{all_blocks, all_values}
-use Rattle.ec_mover.specs.Classes.{ClassTable}
+use Rattle.ec_parcels.specs.Classes.{ClassTable}
 use Rattle.ec_objects.specs.Lacks.{LacksRoom}
 use Rattle.ec_world.specs.declared.room.Lack.{Lack}
 use Rattle.ec_cluster.specs.declared.system.System.{System}

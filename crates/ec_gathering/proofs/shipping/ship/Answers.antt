@@ -9,7 +9,7 @@ use Rattle.ec_gathering.proofs.shipping.ship.Goals.{else-from-to-via-then-from-t
 use Rattle.ec_gathering.proofs.shipping.ship.Goals.{then-from-to+then-has_some_at+in_ok-bytes+in_ok-push}
 use Rattle.ec_gathering.specs.Shipping.{AreShipped, IsShipped}
 use Rattle.ec_gathering.specs.declared.shipping.Shipment.{Shipment}
-use Rattle.ec_mover.specs.Classes.{ClassTable}
+use Rattle.ec_parcels.specs.Classes.{ClassTable}
 use Rattle.ec_world.specs.Group.{Has}
 
 pub pack-requires : goal.pack-requires

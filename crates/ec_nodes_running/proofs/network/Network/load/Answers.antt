@@ -1,6 +1,6 @@
 -- What is loaded stands in its first world, and has the numbers of its classes.
 use Rattle.std.proofs.Common.{List, ap, length, refl, subst, sym, ◌∙◌}
-use Rattle.ec_class_numbers.specs.Vectors.{table_of}
+use Rattle.ec_parcels.specs.Vectors.{table_of}
 use Rattle.ec_acts.specs.Worlds.{world_first}
 use Rattle.ec_nodes_running.proofs.Loading.{stands_first}
 use Rattle.ec_nodes_running.proofs.network.Network.load.Goals as goal

@@ -1,4 +1,0 @@
-pub mod Types
-pub mod Objects
-pub mod Worlds
-pub mod Numbered

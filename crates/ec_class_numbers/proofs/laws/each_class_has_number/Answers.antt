@@ -1,6 +1,0 @@
--- The class of each object has a number, but that of nodes.
-use Rattle.ec_class_numbers.proofs.Numbered.{number_some}
-use Rattle.ec_class_numbers.proofs.laws.each_class_has_number.Goals as goal
-
-pub returns : goal.returns
-returns start d p fine w s made oid o e other = number_some d p fine w s made oid o e other

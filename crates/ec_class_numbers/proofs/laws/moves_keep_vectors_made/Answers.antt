@@ -1,6 +1,0 @@
--- Moves by the operator make no vectors.
-use Rattle.ec_class_numbers.proofs.Worlds.{move_made}
-use Rattle.ec_class_numbers.proofs.laws.moves_keep_vectors_made.Goals as goal
-
-pub returns : goal.returns
-returns start p w o k h = move_made p w o k h

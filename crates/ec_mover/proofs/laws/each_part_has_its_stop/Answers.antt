@@ -1,6 +1,0 @@
--- The stop stands in the table of its operation.
-use Rattle.ec_mover.proofs.Stops.{part_has_its_stop}
-use Rattle.ec_mover.proofs.laws.each_part_has_its_stop.Goals as goal
-
-pub returns : goal.returns
-returns c = part_has_its_stop

@@ -1,6 +1,0 @@
--- Each way by the three sorts of numbers.
-use Rattle.ec_mover.proofs.Numbers.{class_again, number_again}
-use Rattle.ec_mover.proofs.laws.numbers_are_of_one_class.Goals as goal
-
-pub returns : goal.returns
-returns c = λ t class number keeps. (class_again t keeps class number, number_again t keeps class number)

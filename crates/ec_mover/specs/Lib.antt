@@ -1,4 +1,0 @@
-pub mod Classes
-pub mod Objects
-pub mod Activations
-pub mod Laws

@@ -1,7 +1,0 @@
-//! What leaves a node in a parcel, and what a parcel brings to a node.
-#![tactic(auto)]
-
-pub mod activations;
-pub mod classes;
-pub mod laws;
-pub mod objects;

@@ -1,0 +1,6 @@
+-- No type stands twice.
+use Rattle.ec_parcels.proofs.Types.{types_once}
+use Rattle.ec_parcels.proofs.class_numbers.laws.table_once.Goals as goal
+
+pub returns : goal.returns
+returns start p = types_once p
