@@ -37,7 +37,7 @@ use Rattle.ec_gathering_room.proofs.Gathered.{gathering_full, gone_is_such}
 use Rattle.ec_gathering_room.proofs.Lists.{has_is_in, is_in_has}
 use Rattle.ec_gathering_room.proofs.Same.{fixed_needs}
 use Rattle.ec_gathering_room.specs.Gathering.{ButFixed, CanGather, gathered}
-use Rattle.ec_leaving.specs.Between.{RestsBetween}
+use Rattle.ec_packing.specs.Between.{RestsBetween}
 use Rattle.ec_parcels.specs.Owners.{all_blocks, all_values}
 use Rattle.ec_parcels.proofs.Numbers.{class_again}
 use Rattle.ec_parcels.specs.Classes.{ClassTable, IsClassTable, class_of}

@@ -12,7 +12,7 @@ use Rattle.ec_code.specs.declared.activation.CodeActivation.{CodeActivation}
 use Rattle.ec_types.specs.declared.conform.static_type.StaticType.{StaticType}
 use Rattle.ec_fullness.proofs.Asking.{its_stop}
 use Rattle.ec_gathering.specs.Gathers.{MayLeave, LetsGo, MayGather}
-use Rattle.ec_leaving.specs.Between.{NodesAreFixed}
+use Rattle.ec_packing.specs.Between.{NodesAreFixed}
 use Rattle.ec_parcels.specs.Classes.{ClassTable}
 use Rattle.ec_world.proofs.Keys.{same_or_not}
 use Rattle.ec_code.specs.SoundValues.{HasType, class_in}

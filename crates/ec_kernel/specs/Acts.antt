@@ -13,7 +13,7 @@ use Rattle.ec_kernel.specs.declared.acts.ActError.{ActError}
 use Rattle.ec_kernel.specs.declared.acts.ActError.TheVariants as refusal
 use Rattle.ec_kernel.specs.declared.acts.Acted.{Acted}
 use Rattle.ec_kernel.specs.declared.acts.Acted.TheVariants as came
-use Rattle.ec_leaving.specs.Between.{IsBetween}
+use Rattle.ec_packing.specs.Between.{IsBetween}
 use Rattle.ec_parcels.specs.Classes.{ClassTable}
 use Rattle.ec_world.specs.declared.room.Lack.{Lack}
 use Rattle.ec_rooms.specs.Full.{FindsFull}

@@ -12,8 +12,8 @@ use Rattle.ec_code.specs.declared.code.Parts.{Parts}
 use Rattle.ec_legs.specs.Going.{HasCode, HasLiterals}
 use Rattle.ec_code.proofs.IdleWorlds.{run_idle}
 use Rattle.ec_code.specs.Idle.{OfClasses}
-use Rattle.ec_leaving.proofs.Worlds.{first_between}
-use Rattle.ec_leaving.specs.Between.{IsBetween}
+use Rattle.ec_packing.proofs.Worlds.{first_between}
+use Rattle.ec_packing.specs.Between.{IsBetween}
 use Rattle.ec_legs.specs.Legs.{IsCodeOf}
 use Rattle.ec_acts.specs.Loaded.{Loaded}
 use Rattle.ec_acts.specs.Worlds.{world_first}

@@ -18,8 +18,8 @@ use Rattle.ec_legs.proofs.GoingKeeping.{code_kept}
 use Rattle.ec_code.proofs.IdleWorlds.{entry_idle}
 use Rattle.ec_code.specs.Idle.{OfClasses}
 use Rattle.ec_kernel.specs.Acts.{FoundFull}
-use Rattle.ec_leaving.proofs.Worlds.{move_between}
-use Rattle.ec_leaving.specs.Between.{IsBetween}
+use Rattle.ec_packing.proofs.Worlds.{move_between}
+use Rattle.ec_packing.specs.Between.{IsBetween}
 use Rattle.ec_parcels.specs.Classes.{ClassTable}
 use Rattle.ec_world.specs.declared.room.Lack.{Lack}
 use Rattle.ec_nodes_running.proofs.Standing.{literals_after}

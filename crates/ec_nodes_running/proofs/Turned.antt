@@ -10,8 +10,8 @@ use Rattle.ec_code.specs.declared.activation.CodeActivation.{CodeActivation}
 use Rattle.ec_code.specs.declared.code.Parts.{Parts}
 use Rattle.ec_acts.proofs.Stepping.{unchanged}
 use Rattle.ec_kernel.specs.Acts.{Begins, Goes, HasActed, WasIdle}
-use Rattle.ec_leaving.proofs.Worlds.{turn_between}
-use Rattle.ec_leaving.specs.Between.{IsBetween}
+use Rattle.ec_packing.proofs.Worlds.{turn_between}
+use Rattle.ec_packing.specs.Between.{IsBetween}
 use Rattle.ec_parcels.specs.Classes.{ClassTable}
 use Rattle.ec_nodes_running.proofs.Standing.{works_acted}
 use Rattle.ec_nodes_running.proofs.Tops.{without_top}

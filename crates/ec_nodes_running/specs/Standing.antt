@@ -6,7 +6,7 @@ use Rattle.ec_code.specs.Typing.{Declared}
 use Rattle.ec_legs.specs.Going.{HasCode, HasLiterals}
 use Rattle.ec_code.specs.Idle.{OfClasses}
 use Rattle.ec_kernel.specs.Acts.{Goes}
-use Rattle.ec_leaving.specs.Between.{IsBetween}
+use Rattle.ec_packing.specs.Between.{IsBetween}
 use Rattle.ec_parcels.specs.Classes.{ClassTable}
 use Rattle.ec_code.specs.Code.{SmallProgram}
 use Rattle.ec_cluster.specs.declared.system.System.{System}

@@ -26,7 +26,7 @@ use Rattle.ec_code.specs.declared.code.Variable.{Variable}
 use Rattle.ec_code.specs.declared.code.Variable.TheVariants.{Named, Temporary}
 use Rattle.ec_types.specs.declared.conform.static_type.StaticType.{StaticType}
 use Rattle.ec_machine_code.specs.Stops.{without}
-use Rattle.ec_leaving.specs.Between.{RestsBetween, StillWaits, TopWaits}
+use Rattle.ec_packing.specs.Between.{RestsBetween, StillWaits, TopWaits}
 use Rattle.ec_code.proofs.Among.{is_same_self}
 use Rattle.ec_code.specs.Live.{stays}
 use Rattle.ec_code.specs.Marks.{is_same, is_written}

@@ -13,7 +13,7 @@ use Rattle.ec_cluster.proofs.Looking.{here_is_frame}
 use Rattle.ec_cluster.specs.Frames.{tables_on}
 use Rattle.ec_code.specs.Typing.{Declared}
 use Rattle.ec_code.specs.declared.activation.CodeActivation.{CodeActivation}
-use Rattle.ec_leaving.specs.Between.{RestsBetween}
+use Rattle.ec_packing.specs.Between.{RestsBetween}
 use Rattle.ec_parcels.specs.Activations.{Leaves, activation_part_of}
 use Rattle.ec_parcels.specs.Classes.{ClassTable}
 use Rattle.ec_node_frames.specs.Frames.{IsFrame}

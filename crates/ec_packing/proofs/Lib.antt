@@ -13,3 +13,9 @@ pub mod ObjectParts
 pub mod ActivationParts
 pub mod Whole
 pub mod Standing
+pub mod Conditions
+pub mod Acts
+pub mod ObjectsLemmas
+pub mod Waits
+pub mod Turns
+pub mod Worlds

@@ -4,3 +4,5 @@ pub mod Standing
 pub mod Narrow
 pub mod Blocks
 pub mod Packed
+pub mod Between
+pub mod Laws

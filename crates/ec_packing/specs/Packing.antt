@@ -9,7 +9,7 @@ use Rattle.ec_cluster.specs.Cluster.{CodeWorld, place}
 use Rattle.ec_cluster.specs.declared.cluster.Cluster.{Cluster}
 use Rattle.ec_code.specs.Typing.{Declared}
 use Rattle.ec_code.specs.declared.activation.CodeActivation.{CodeActivation}
-use Rattle.ec_leaving.specs.Between.{AllRest, CanBeSpelled}
+use Rattle.ec_packing.specs.Between.{AllRest, CanBeSpelled}
 use Rattle.ec_monitors.specs.declared.record.MonitorRec.{MonitorRec}
 use Rattle.ec_parcels.specs.Activations.{activation_part_of}
 use Rattle.ec_parcels.specs.Classes.{ClassTable, number_of}

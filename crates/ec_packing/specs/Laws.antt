@@ -5,7 +5,7 @@ use Rattle.ec_code.specs.Activations.{code_meaning, code_silent}
 use Rattle.ec_code.specs.Fine.{Fine}
 use Rattle.ec_code.specs.Typing.{Declared}
 use Rattle.ec_code.specs.declared.code.Parts.{Parts}
-use Rattle.ec_leaving.specs.Between.{IsBetween}
+use Rattle.ec_packing.specs.Between.{IsBetween}
 use Rattle.ec_generate.specs.Limits.{FewConditions}
 use Rattle.ec_acts.specs.Worlds.{world_first}
 use Rattle.ec_code.specs.Sound.{SoundWorld}

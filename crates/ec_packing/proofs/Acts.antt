@@ -3,8 +3,8 @@ use Rattle.std.proofs.Common.{ℕ, ◌<◌, ◌^◌, ◌==◌, Bool, true, false
 use Rattle.std.proofs.lemmas.Bool.Decides.{nat_tests}
 use Rattle.std.proofs.lemmas.List.{length-replicate}
 use Rattle.std.specs.Prelude.{nat_lt}
-use Rattle.ec_leaving.proofs.Conditions.{AsMany, dropped_many, left_many, signalled_many, waited_many}
-use Rattle.ec_leaving.specs.Between.{CanBeSpelled}
+use Rattle.ec_packing.proofs.Conditions.{AsMany, dropped_many, left_many, signalled_many, waited_many}
+use Rattle.ec_packing.specs.Between.{CanBeSpelled}
 use Rattle.ec_monitors.proofs.Depths.{each_deep}
 use Rattle.ec_monitors.specs.Laws.{HasDepths, KeptByEachAct}
 use Rattle.ec_monitors.specs.Monitors.{Granting, dropped, enter_by, enter_held, entered, is_held_by, left, made, signalled, waited}

@@ -1,5 +1,5 @@
 //! What a program's worlds keep between turns.
-ghost use Rattle.ec_leaving.specs.Laws.{FirstIsBetween, MovesStayBetween, TurnsStayBetween};
+ghost use Rattle.ec_packing.specs.Laws.{FirstIsBetween, MovesStayBetween, TurnsStayBetween};
 
 /// The first world of a program is one between turns.
 pub fn first_is_between()

@@ -11,8 +11,8 @@ use Rattle.ec_code.specs.Fine.{Fine}
 use Rattle.ec_code.specs.Typing.{Declared}
 use Rattle.ec_code.specs.declared.activation.CodeActivation.{CodeActivation}
 use Rattle.ec_code.specs.declared.code.Parts.{Parts}
-use Rattle.ec_leaving.proofs.Waits.{begun_waits, blocked_waits, pending_waits}
-use Rattle.ec_leaving.specs.Between.{AllRest, RestsBetween, StillWaits, TopWaits}
+use Rattle.ec_packing.proofs.Waits.{begun_waits, blocked_waits, pending_waits}
+use Rattle.ec_packing.specs.Between.{AllRest, RestsBetween, StillWaits, TopWaits}
 use Rattle.ec_code.proofs.Carried.{each_append, each_get}
 use Rattle.ec_code.proofs.Facts.{pending_top, silent_steps_reach}
 use Rattle.ec_code.proofs.SoundWorlds.{action_sound, set_get}

@@ -9,10 +9,10 @@ use Rattle.ec_code.specs.Typing.{Declared}
 use Rattle.ec_code.specs.declared.activation.CodeActivation.{CodeActivation}
 use Rattle.ec_code.specs.declared.code.Parts.{Parts}
 use Rattle.ec_code.proofs.Walks.{silent_keeps}
-use Rattle.ec_leaving.proofs.Objects.{AreKept, IsKept, KeptActed, SpelledIf, changed_kept, element_kept, given_up_kept, outcome_kept}
-use Rattle.ec_leaving.proofs.Turns.{turn_rests}
-use Rattle.ec_leaving.proofs.Waits.{begun_waits}
-use Rattle.ec_leaving.specs.Between.{AllRest, CanBeSpelled, IsBetween, MonitorsHaveSpellings, NodesAreFixed}
+use Rattle.ec_packing.proofs.ObjectsLemmas.{AreKept, IsKept, KeptActed, SpelledIf, changed_kept, element_kept, given_up_kept, outcome_kept}
+use Rattle.ec_packing.proofs.Turns.{turn_rests}
+use Rattle.ec_packing.proofs.Waits.{begun_waits}
+use Rattle.ec_packing.specs.Between.{AllRest, CanBeSpelled, IsBetween, MonitorsHaveSpellings, NodesAreFixed}
 use Rattle.ec_acts.specs.Worlds.{world_first}
 use Rattle.ec_monitors.specs.declared.record.MonitorRec.{MonitorRec}
 use Rattle.ec_code.proofs.Carried.{each_append, each_object, each_replicate}

@@ -10,7 +10,7 @@ use Rattle.ec_code.specs.declared.code.Live.{Live}
 use Rattle.ec_code.specs.declared.code.Parts.{Parts}
 use Rattle.ec_code.specs.declared.code.Variable.{Variable}
 use Rattle.ec_types.specs.declared.conform.static_type.StaticType.{StaticType}
-use Rattle.ec_leaving.specs.Between.{StillWaits}
+use Rattle.ec_packing.specs.Between.{StillWaits}
 use Rattle.ec_activations.proofs.Entries.{rests_at_an_entry}
 use Rattle.ec_activations.specs.RestingLaws.{its_entry}
 use Rattle.ec_code.specs.Sound.{RestsAt}

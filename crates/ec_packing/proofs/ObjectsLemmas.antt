@@ -4,8 +4,8 @@ use Rattle.std.proofs.Common.{◌∙◌, arith}
 use Rattle.std.proofs.lemmas.Bool.{true≢false}
 use Rattle.std.specs.List.{AllByRecursion as Each}
 use Rattle.std.specs.Prelude.{slice_get, if◌then◌else◌}
-use Rattle.ec_leaving.proofs.Acts.{dropped_spelled, entered_spelled, left_spelled, made_spelled, signalled_spelled, waited_spelled}
-use Rattle.ec_leaving.specs.Between.{CanBeSpelled}
+use Rattle.ec_packing.proofs.Acts.{dropped_spelled, entered_spelled, left_spelled, made_spelled, signalled_spelled, waited_spelled}
+use Rattle.ec_packing.specs.Between.{CanBeSpelled}
 use Rattle.ec_monitors.specs.Monitors.{Granting, dropped, entered, left, made, signalled, waited}
 use Rattle.ec_monitors.specs.declared.record.Entry.{Entry as Within}
 use Rattle.ec_monitors.specs.declared.record.Granted.{Granted}

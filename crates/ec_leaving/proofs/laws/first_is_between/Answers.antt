@@ -1,6 +1,0 @@
--- The first world is one.
-use Rattle.ec_leaving.proofs.Worlds.{first_between}
-use Rattle.ec_leaving.proofs.laws.first_is_between.Goals as goal
-
-pub returns : goal.returns
-returns start d p fine n = first_between d p fine n
