@@ -6,7 +6,7 @@ use Rattle.ec_cluster.specs.Cluster.{CodeWorld, place}
 use Rattle.ec_cluster.specs.declared.cluster.Cluster.{Cluster}
 use Rattle.ec_code.specs.declared.activation.CodeActivation.{CodeActivation}
 use Rattle.ec_code.specs.declared.code.Parts.{Parts}
-use Rattle.ec_gathering_room.specs.Gathering.{ButFixed}
+use Rattle.ec_gathering.specs.Gathering.{ButFixed}
 use Rattle.ec_parcels.specs.Activations.{activation_part_of}
 use Rattle.ec_parcels.specs.Classes.{ClassTable}
 use Rattle.ec_node_frames.specs.Frames.{RestsAt}

@@ -12,7 +12,7 @@ use Rattle.ec_acts.proofs.ObjectsLemmas.{changed_here, length_changed}
 use Rattle.ec_gathering.proofs.Along.{but_itself}
 use Rattle.ec_gathering.specs.Bringing.{IsLoose, flag_if}
 use Rattle.ec_gathering.specs.Gathers.{MayLeave, world_gathered}
-use Rattle.ec_gathering_room.specs.Gathering.{ButFixed}
+use Rattle.ec_gathering.specs.Gathering.{ButFixed}
 use Rattle.ec_world.proofs.Keys.{same_or_not}
 use Rattle.ec_world.specs.Objects.{changed_if, changed_object, object_at}
 use Rattle.ec_world.specs.declared.event.Event.TheVariants.{Moved}

@@ -33,10 +33,10 @@ use Rattle.ec_gathering.specs.Bringing.{Brings, Brought, NoneHasResult, Sends, f
 use Rattle.ec_gathering.specs.Gathers.{Gathers, LacksFor, LetsGo, MayGather, world_gathered}
 use Rattle.ec_gathering.specs.Shipping.{AreBytes, AreShipped, CanBeRead, IsShipped, IsSpelled, froms}
 use Rattle.ec_gathering.specs.declared.shipping.Shipment.{Shipment}
-use Rattle.ec_gathering_room.proofs.Gathered.{gathering_full, gone_is_such}
-use Rattle.ec_gathering_room.proofs.Lists.{has_is_in, is_in_has}
-use Rattle.ec_gathering_room.proofs.Same.{fixed_needs}
-use Rattle.ec_gathering_room.specs.Gathering.{ButFixed, CanGather, gathered}
+use Rattle.ec_gathering.proofs.Gathered.{gathering_full, gone_is_such}
+use Rattle.ec_gathering.proofs.GatheringRoomLists.{has_is_in, is_in_has}
+use Rattle.ec_gathering.proofs.Same.{fixed_needs}
+use Rattle.ec_gathering.specs.Gathering.{ButFixed, CanGather, gathered}
 use Rattle.ec_packing.specs.Between.{RestsBetween}
 use Rattle.ec_parcels.specs.Owners.{all_blocks, all_values}
 use Rattle.ec_parcels.proofs.Numbers.{class_again}

@@ -1,3 +1,17 @@
+pub mod GatheringRoomLists
+pub mod Without
+pub mod Things
+pub mod One
+pub mod All
+pub mod Blocks
+pub mod Texts
+pub mod Needs
+pub mod Same
+pub mod Gathered
+pub mod Operands
+pub mod Ended
+pub mod Acted
+pub mod Moved
 pub mod Told
 pub mod Lists
 pub mod Moves

@@ -17,10 +17,10 @@ use Rattle.ec_gathering.proofs.Lists.{as_many, two_at, two_right}
 use Rattle.ec_gathering.specs.Bringing.{Came, NoneHasResult, Sends}
 use Rattle.ec_gathering.specs.Shipping.{IsShipped, froms}
 use Rattle.ec_gathering.specs.declared.shipping.Shipment.{Shipment}
-use Rattle.ec_gathering_room.proofs.Blocks.{held_to}
-use Rattle.ec_gathering_room.proofs.Lists.{has_is_in, has_or_not}
-use Rattle.ec_gathering_room.proofs.One.{text_goes}
-use Rattle.ec_gathering_room.specs.Gathering.{CanGather, PacksAll, gathered}
+use Rattle.ec_gathering.proofs.Blocks.{held_to}
+use Rattle.ec_gathering.proofs.GatheringRoomLists.{has_is_in, has_or_not}
+use Rattle.ec_gathering.proofs.One.{text_goes}
+use Rattle.ec_gathering.specs.Gathering.{CanGather, PacksAll, gathered}
 use Rattle.ec_parcels.specs.Classes.{ClassTable, IsClassTable}
 use Rattle.ec_objects.specs.Lacks.{HasRoomForAll}
 use Rattle.ec_world.proofs.Keys.{same_or_not}

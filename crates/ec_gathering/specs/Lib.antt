@@ -1,3 +1,5 @@
+pub mod Gathering
+pub mod GatheringRoomLaws
 pub mod Gathers
 pub mod Shipping
 pub mod Bringing

@@ -5,9 +5,9 @@ use Rattle.ec_code.specs.Activations.{code_meaning}
 use Rattle.ec_code.specs.Typing.{Declared}
 use Rattle.ec_fullness.specs.Fullness.{IsFull, StaysPut, place_then}
 use Rattle.ec_gathering.specs.Gathers.{LacksFor, MayGather, world_gathered}
-use Rattle.ec_gathering_room.proofs.Acted.{acted_needs}
-use Rattle.ec_gathering_room.proofs.Same.{full_same}
-use Rattle.ec_gathering_room.specs.Gathering.{gathered}
+use Rattle.ec_gathering.proofs.Acted.{acted_needs}
+use Rattle.ec_gathering.proofs.Same.{full_same}
+use Rattle.ec_gathering.specs.Gathering.{gathered}
 use Rattle.ec_kernel.proofs.Asking.{may_gather}
 use Rattle.ec_kernel.proofs.Gathered.{members_there, target_has}
 use Rattle.ec_kernel.specs.Acts.{AsksBetween, AsksOfEach}

@@ -11,7 +11,7 @@ use Rattle.ec_fullness.proofs.Acting.{action_is}
 use Rattle.ec_fullness.specs.Fullness.{Wants}
 use Rattle.ec_gathering.proofs.Moves.{object_of}
 use Rattle.ec_gathering.specs.Gathers.{Gathers, MayGather}
-use Rattle.ec_gathering_room.proofs.Acted.{acted_needs}
+use Rattle.ec_gathering.proofs.Acted.{acted_needs}
 use Rattle.ec_kernel.proofs.Asking.{asks_of_each, may_gather}
 use Rattle.ec_kernel.proofs.Behind.{acted_behind, can_settle_behind, settles_behind}
 use Rattle.ec_kernel.proofs.Rooming.{frames_same, take_nothing}

@@ -4,11 +4,11 @@ use Rattle.std.specs.List.{sum_by}
 use Rattle.std.specs.Prelude.{if◌then◌else◌}
 use Rattle.ec_cluster.specs.Cluster.{CodeWorld, frame_of, place}
 use Rattle.ec_cluster.specs.declared.cluster.Cluster.{Cluster}
-use Rattle.ec_gathering_room.proofs.All.{all_keys, all_once, is_from, keys_travel, travel_keys}
-use Rattle.ec_gathering_room.proofs.Lists.{has_is_in, has_or_not, sum_joined, sum_same, sum_zero}
-use Rattle.ec_gathering_room.proofs.One.{size, size_sum}
-use Rattle.ec_gathering_room.proofs.Without.{held_without, key_weight, weight_if}
-use Rattle.ec_gathering_room.specs.Gathering.{CanGather, gathered}
+use Rattle.ec_gathering.proofs.All.{all_keys, all_once, is_from, keys_travel, travel_keys}
+use Rattle.ec_gathering.proofs.GatheringRoomLists.{has_is_in, has_or_not, sum_joined, sum_same, sum_zero}
+use Rattle.ec_gathering.proofs.One.{size, size_sum}
+use Rattle.ec_gathering.proofs.Without.{held_without, key_weight, weight_if}
+use Rattle.ec_gathering.specs.Gathering.{CanGather, gathered}
 use Rattle.ec_parcels.specs.Classes.{ClassTable}
 use Rattle.ec_world.specs.Held.{if_at}
 use Rattle.ec_world.specs.declared.key.Key.{Key}

@@ -6,9 +6,9 @@ use Rattle.std.specs.Prelude.{slice_get}
 use Rattle.ec_base.proofs.Lists.{get_there, get_within}
 use Rattle.ec_cluster.specs.Cluster.{CodeWorld, frame_of, place}
 use Rattle.ec_cluster.specs.declared.cluster.Cluster.{Cluster}
-use Rattle.ec_gathering_room.proofs.Lists.{in_one, joined_once, one_in}
-use Rattle.ec_gathering_room.proofs.One.{Goes, TextGoes, goes_key, goes_text, key_goes, text_goes}
-use Rattle.ec_gathering_room.specs.Gathering.{CanGather}
+use Rattle.ec_gathering.proofs.GatheringRoomLists.{in_one, joined_once, one_in}
+use Rattle.ec_gathering.proofs.One.{Goes, TextGoes, goes_key, goes_text, key_goes, text_goes}
+use Rattle.ec_gathering.specs.Gathering.{CanGather}
 use Rattle.ec_parcels.specs.Classes.{ClassTable}
 use Rattle.ec_world.specs.Held.{Distinct}
 use Rattle.ec_world.specs.declared.key.Key.{Key}

@@ -1,5 +1,5 @@
 //! What a node lacks for the parcels of a group is what the world lacks there once the group has come.
-ghost use Rattle.ec_gathering_room.specs.Laws.{GatheringFits, GatheringIsFull, GoneIsSuch, MovesAreFullSo, MovesFit, OperatorMovesAreSuch};
+ghost use Rattle.ec_gathering.specs.GatheringRoomLaws.{GatheringFits, GatheringIsFull, GoneIsSuch, MovesAreFullSo, MovesFit, OperatorMovesAreSuch};
 
 /// Where the node to which a group goes lacks room for its parcels, it lacks as much for the world after, and each other node has room.
 pub fn gathering_is_full()

@@ -5,10 +5,10 @@ use Rattle.std.proofs.lemmas.Option.{same_Some}
 use Rattle.std.specs.Prelude.{slice_get, slice_set}
 use Rattle.ec_base.proofs.Lists.{get_set_other, get_set_same, get_within, length_set}
 use Rattle.ec_cluster.specs.Cluster.{place}
-use Rattle.ec_gathering_room.proofs.Needs.{each_fits, is_full}
-use Rattle.ec_gathering_room.proofs.Same.{each_same, fixed_needs, full_same}
-use Rattle.ec_gathering_room.specs.Gathering.{ButFixed, gathered}
-use Rattle.ec_gathering_room.specs.Laws.{GatheringFits, GatheringIsFull, GoneIsSuch, OperatorMovesAreSuch}
+use Rattle.ec_gathering.proofs.Needs.{each_fits, is_full}
+use Rattle.ec_gathering.proofs.Same.{each_same, fixed_needs, full_same}
+use Rattle.ec_gathering.specs.Gathering.{ButFixed, gathered}
+use Rattle.ec_gathering.specs.GatheringRoomLaws.{GatheringFits, GatheringIsFull, GoneIsSuch, OperatorMovesAreSuch}
 use Rattle.ec_things.proofs.Put.{same_or_not}
 use Rattle.ec_world.specs.Moves.{is_idle_move, moved_unless}
 use Rattle.ec_world.specs.Objects.{changed_if, changed_object, object_at}

@@ -7,7 +7,7 @@ use Rattle.ec_code.specs.Activations.{code_meaning}
 use Rattle.ec_code.specs.Typing.{Declared}
 use Rattle.ec_code.specs.declared.activation.CodeActivation.{CodeActivation}
 use Rattle.ec_fullness.specs.Fullness.{EachFits, IsFull}
-use Rattle.ec_gathering_room.specs.Gathering.{ButFixed, CanGather, gathered}
+use Rattle.ec_gathering.specs.Gathering.{ButFixed, CanGather, gathered}
 use Rattle.ec_parcels.specs.Owners.{all_blocks, all_values}
 use Rattle.ec_parcels.specs.Classes.{ClassTable}
 use Rattle.ec_objects.specs.Lacks.{HasRoomForAll, LacksRoom}

@@ -13,9 +13,9 @@ use Rattle.ec_code.specs.declared.activation.CodeActivation.{CodeActivation}
 use Rattle.ec_code.specs.declared.code.Live.{Live}
 use Rattle.ec_code.specs.declared.code.Parts.{Parts}
 use Rattle.ec_fullness.proofs.Values.{values_of}
-use Rattle.ec_gathering_room.proofs.Lists.{in_one, one_in, sum_map, sum_ones, sum_same}
-use Rattle.ec_gathering_room.proofs.Things.{frame_is, object_is}
-use Rattle.ec_gathering_room.specs.Gathering.{AllWait}
+use Rattle.ec_gathering.proofs.GatheringRoomLists.{in_one, one_in, sum_map, sum_ones, sum_same}
+use Rattle.ec_gathering.proofs.Things.{frame_is, object_is}
+use Rattle.ec_gathering.specs.Gathering.{AllWait}
 use Rattle.ec_parcels.proofs.Numbers.{class_again}
 use Rattle.ec_parcels.specs.Classes.{ClassTable, IsClassTable, class_of}
 use Rattle.ec_node_frames.proofs.Items.{map_both}

@@ -4,9 +4,9 @@ use Rattle.std.proofs.lemmas.Option.{same_Some}
 use Rattle.ec_cluster.specs.Cluster.{CodeWorld, place, stores}
 use Rattle.ec_cluster.specs.declared.cluster.Cluster.{Cluster}
 use Rattle.ec_fullness.specs.Fullness.{EachFits, FitsAt, IsFull, NeedsAt, Wants}
-use Rattle.ec_gathering_room.proofs.Blocks.{held_off, held_to}
-use Rattle.ec_gathering_room.proofs.Texts.{Comes, comes_wanted, wants_either}
-use Rattle.ec_gathering_room.specs.Gathering.{CanGather, gathered}
+use Rattle.ec_gathering.proofs.Blocks.{held_off, held_to}
+use Rattle.ec_gathering.proofs.Texts.{Comes, comes_wanted, wants_either}
+use Rattle.ec_gathering.specs.Gathering.{CanGather, gathered}
 use Rattle.ec_parcels.specs.Owners.{all_blocks, all_values}
 use Rattle.ec_parcels.specs.Classes.{ClassTable}
 use Rattle.ec_objects.specs.Lacks.{HasRoomForAll, LacksRoom, needs_at}

@@ -17,10 +17,10 @@ use Rattle.ec_fullness.proofs.Stacks.{after}
 use Rattle.ec_fullness.proofs.Values.{none_taken, values_of}
 use Rattle.ec_fullness.proofs.Waiting.{goer_waits}
 use Rattle.ec_fullness.specs.Fullness.{Wants}
-use Rattle.ec_gathering_room.proofs.Ended.{ended, text_stays}
-use Rattle.ec_gathering_room.proofs.Operands.{no_text_moves}
-use Rattle.ec_gathering_room.proofs.Same.{SameNeeds}
-use Rattle.ec_gathering_room.proofs.Things.{frame_is}
+use Rattle.ec_gathering.proofs.Ended.{ended, text_stays}
+use Rattle.ec_gathering.proofs.Operands.{no_text_moves}
+use Rattle.ec_gathering.proofs.Same.{SameNeeds}
+use Rattle.ec_gathering.proofs.Things.{frame_is}
 use Rattle.ec_world.proofs.Procs.{activation_here, activation_is, activation_there, get_but_end, get_end}
 use Rattle.ec_world.specs.Things.{activation_at}
 use Rattle.ec_world.specs.declared.key.Key.{Key}

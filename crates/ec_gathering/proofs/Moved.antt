@@ -3,11 +3,11 @@ use Rattle.std.proofs.Common.{ℕ, Option}
 use Rattle.ec_cluster.specs.Cluster.{CodeWorld, place}
 use Rattle.ec_cluster.specs.Steps.{with_common}
 use Rattle.ec_code.specs.Activations.{code_meaning}
-use Rattle.ec_gathering_room.proofs.Acted.{acted_needs}
-use Rattle.ec_gathering_room.proofs.Gathered.{gathering_fits, gathering_full, gone_is_such}
-use Rattle.ec_gathering_room.proofs.Same.{each_same, full_same}
-use Rattle.ec_gathering_room.specs.Gathering.{gathered}
-use Rattle.ec_gathering_room.specs.Laws.{MovesAreFullSo, MovesFit}
+use Rattle.ec_gathering.proofs.Acted.{acted_needs}
+use Rattle.ec_gathering.proofs.Gathered.{gathering_fits, gathering_full, gone_is_such}
+use Rattle.ec_gathering.proofs.Same.{each_same, full_same}
+use Rattle.ec_gathering.specs.Gathering.{gathered}
+use Rattle.ec_gathering.specs.GatheringRoomLaws.{MovesAreFullSo, MovesFit}
 use Rattle.ec_world.specs.Outcomes.{gone}
 use Rattle.ec_world.specs.World.{Action}
 

@@ -9,8 +9,8 @@ use Rattle.ec_code.specs.declared.activation.CodeActivation.{CodeActivation}
 use Rattle.ec_fullness.proofs.Blocks.{objects_same}
 use Rattle.ec_fullness.proofs.Fields.{fields_of, had_fields}
 use Rattle.ec_fullness.specs.Fullness.{EachFits, FitsAt, IsFull, NeedsAt, Wants}
-use Rattle.ec_gathering_room.proofs.Things.{object_is}
-use Rattle.ec_gathering_room.specs.Gathering.{ButFixed}
+use Rattle.ec_gathering.proofs.Things.{object_is}
+use Rattle.ec_gathering.specs.Gathering.{ButFixed}
 use Rattle.ec_world.specs.Held.{total}
 use Rattle.ec_world.specs.Things.{activation_at, blocks_of}
 use Rattle.ec_world.specs.declared.key.Key.{Key}
