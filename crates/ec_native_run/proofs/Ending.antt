@@ -26,7 +26,7 @@ use Rattle.ec_native_run.specs.Runs.EndsAfter.{ByItself, AsFull}
 use Rattle.ec_native_run.specs.Runs.RunsTo.{LoadIsFull, RanUntil}
 use Rattle.ec_world.specs.declared.room.Lack.{Lack}
 use Rattle.ec_world.specs.declared.room.Part.{Part}
-use Rattle.ec_nodes_running.specs.Networks.{CanRun, Net, NetLoaded, counts_of}
+use Rattle.ec_network.specs.Networks.{CanRun, Net, NetLoaded, counts_of}
 use Rattle.ec_plain.specs.Plain.{source_run}
 use Rattle.ec_report.specs.Report.{end_line, line_feed, load_report, node_lines, object_lines, process_lines, turns_line}
 use Rattle.ec_report.specs.Status.{status_of}

@@ -14,10 +14,10 @@ use Rattle.ec_code.specs.declared.code.Parts.{Parts}
 use Rattle.ec_legs.specs.Going.{Ran, SameRoom}
 use Rattle.ec_native_run.specs.Entries.{Along, EntryOf}
 use Rattle.ec_native_run.specs.Entries.EntryOf.{Moves, Rests, Turns}
-use Rattle.ec_nodes_running.specs.Moving.{MovedTo}
-use Rattle.ec_nodes_running.specs.Running.{AfterAction, Rested, WentOn}
-use Rattle.ec_nodes_running.specs.Standing.{Stands}
-use Rattle.ec_nodes_running.specs.Turns.{NoTurn, TurnOf}
+use Rattle.ec_network.specs.Moving.{MovedTo}
+use Rattle.ec_network.specs.Running.{AfterAction, Rested, WentOn}
+use Rattle.ec_network.specs.Standing.{Stands}
+use Rattle.ec_network.specs.Turns.{NoTurn, TurnOf}
 use Rattle.ec_rooms.specs.Places.{HasPlaces}
 use Rattle.ec_rooms.proofs.Coming.{steps_had}
 use Rattle.ec_rooms.proofs.Nodes.{same_nodes}

@@ -13,7 +13,7 @@ use Rattle.ec_report.specs.Driver.{IsDone, IsRefused}
 use Rattle.ec_report.specs.Progress.{IsStep, Progress, advanced, at_start}
 use Rattle.ec_report.specs.declared.driver.Refusal.{Refusal}
 use Rattle.ec_report.specs.declared.step.Step.TheVariants.{Does}
-use Rattle.ec_kernel.specs.Acts.{FoundFull}
+use Rattle.ec_network.specs.Acts.{FoundFull}
 use Rattle.ec_acts.specs.Loaded.{Loaded}
 use Rattle.ec_acts.specs.Worlds.{world_first}
 use Rattle.ec_native_run.proofs.Entries.{GoneOn, along_none, along_push, move_leaves, rest_leaves, turn_leaves}
@@ -22,12 +22,12 @@ use Rattle.ec_native_run.specs.Following.{Follows, FullNext, HasCome, refusal_of
 use Rattle.ec_world.specs.declared.room.Lack.{Lack}
 use Rattle.ec_world.specs.declared.room.Part.{Part}
 use Rattle.ec_native_run.specs.Runs.{AreNodes}
-use Rattle.ec_nodes_running.specs.Networks.{AreCode, CanRun, Net, NetLoaded, NetMoved, NetMoveRefused, NetRefused, NetTurned}
-use Rattle.ec_nodes_running.specs.Standing.{Stands}
-use Rattle.ec_nodes_running.specs.declared.turns.Did.{Did}
-use Rattle.ec_nodes_running.specs.declared.turns.Did.TheVariants.{Acted, Idle}
-use Rattle.ec_nodes_running.specs.declared.turns.TurnError.{TurnError}
-use Rattle.ec_nodes_running.specs.declared.turns.TurnError.TheVariants.{Full, Memory}
+use Rattle.ec_network.specs.Networks.{AreCode, CanRun, Net, NetLoaded, NetMoved, NetMoveRefused, NetRefused, NetTurned}
+use Rattle.ec_network.specs.Standing.{Stands}
+use Rattle.ec_network.specs.declared.nodes_running.turns.Did.{Did}
+use Rattle.ec_network.specs.declared.nodes_running.turns.Did.TheVariants.{Acted, Idle}
+use Rattle.ec_network.specs.declared.nodes_running.turns.TurnError.{TurnError}
+use Rattle.ec_network.specs.declared.nodes_running.turns.TurnError.TheVariants.{Full, Memory}
 use Rattle.ec_rooms.proofs.Full.{found_full}
 use Rattle.ec_rooms.proofs.Loads.{loads_full}
 use Rattle.ec_rooms.specs.Rooms.{FullAt, Literals, Strings, held}

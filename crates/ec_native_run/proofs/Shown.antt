@@ -7,7 +7,7 @@ use Rattle.std.specs.Prelude.{slice_get}
 use Rattle.ec_base.proofs.Lists.{take_next}
 use Rattle.ec_cluster.specs.Cluster.{CodeWorld}
 use Rattle.ec_code.specs.declared.activation.CodeActivation.{CodeActivation}
-use Rattle.ec_nodes_running.specs.Networks.{status_at}
+use Rattle.ec_network.specs.Networks.{status_at}
 use Rattle.ec_world.specs.Run.{statuses_of}
 use Rattle.ec_world.specs.declared.process.Proc.{Proc}
 use Rattle.ec_world.specs.declared.process.ProcStatus.{ProcStatus}

@@ -7,9 +7,9 @@ use Rattle.ec_code.specs.Typing.{Declared}
 use Rattle.ec_code.specs.declared.code.Parts.{Parts}
 use Rattle.ec_acts.specs.Loaded.{Loaded}
 use Rattle.ec_acts.specs.Worlds.{world_first}
-use Rattle.ec_nodes_running.specs.Moving.{MovedTo}
-use Rattle.ec_nodes_running.specs.Networks.{AreCode, Net}
-use Rattle.ec_nodes_running.specs.Turns.{NoTurn, TurnOf}
+use Rattle.ec_network.specs.Moving.{MovedTo}
+use Rattle.ec_network.specs.Networks.{AreCode, Net}
+use Rattle.ec_network.specs.Turns.{NoTurn, TurnOf}
 use Rattle.ec_cluster.specs.declared.system.System.{System}
 use Rattle.ec_world.specs.Run.{after_entry}
 use Rattle.ec_world.specs.declared.node.NodeSpec.{NodeSpec}

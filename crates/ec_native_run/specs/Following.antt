@@ -14,10 +14,10 @@ use Rattle.ec_meaning.specs.Programs.{Source}
 use Rattle.ec_native_run.specs.Entries.{Along}
 use Rattle.ec_native_run.specs.Runs.{AreNodes, run_report}
 use Rattle.ec_world.specs.declared.room.Part.{Part}
-use Rattle.ec_nodes_running.specs.Networks.{AreCode, ForStanding, Net, counts_of}
-use Rattle.ec_nodes_running.specs.Standing.{Stands}
-use Rattle.ec_nodes_running.specs.declared.turns.TurnError.{TurnError}
-use Rattle.ec_nodes_running.specs.declared.turns.TurnError.TheVariants.{Full, Memory}
+use Rattle.ec_network.specs.Networks.{AreCode, ForStanding, Net, counts_of}
+use Rattle.ec_network.specs.Standing.{Stands}
+use Rattle.ec_network.specs.declared.nodes_running.turns.TurnError.{TurnError}
+use Rattle.ec_network.specs.declared.nodes_running.turns.TurnError.TheVariants.{Full, Memory}
 use Rattle.ec_report.specs.Status.{status_of}
 use Rattle.ec_report.specs.declared.end.ReportEnd.{ReportEnd}
 use Rattle.ec_report.specs.declared.status.Status.{Status}

@@ -9,7 +9,7 @@ use Rattle.ec_meaning.specs.Meaning.{source_silent, source_start}
 use Rattle.ec_meaning.specs.Programs.{Source}
 use Rattle.ec_native_run.specs.Entries.{Ran}
 use Rattle.ec_world.specs.declared.room.Part.{Part}
-use Rattle.ec_nodes_running.specs.Networks.{Net as NetOfNodes, counts_of}
+use Rattle.ec_network.specs.Networks.{Net as NetOfNodes, counts_of}
 use Rattle.ec_plain.specs.Plain.{source_run}
 use Rattle.ec_code.specs.Worlds.{most_nodes}
 use Rattle.ec_report.specs.Report.{load_report, node_lines, report}

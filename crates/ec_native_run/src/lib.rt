@@ -6,4 +6,4 @@ mod processes;
 mod report;
 pub mod run;
 
-pub use ec_nodes_running::network;
+pub use ec_network::nodes_running::network;

@@ -1,9 +1,9 @@
 //! What is read of a network's processes.
 ghost use Rattle.std.specs.Prelude.{◌≡◌, IfOk, IsSome};
-ghost use Rattle.ec_nodes_running.specs.Networks.{ForStanding};
+ghost use Rattle.ec_network.specs.Networks.{ForStanding};
 ghost use Rattle.ec_world.specs.Run.{statuses_of};
 
-use ec_nodes_running::network::Network;
+use ec_network::nodes_running::network::Network;
 use ec_world::process::ProcStatus;
 use std::alloc::{AllocError, Global};
 

@@ -4,14 +4,14 @@ ghost use Rattle.ec_meaning.specs.ClassNames.{class_name};
 ghost use Rattle.ec_meaning.specs.Sources.{source_of};
 ghost use Rattle.ec_native_run.specs.Following.{ForNodes};
 ghost use Rattle.ec_native_run.specs.Runs.{run_report};
-ghost use Rattle.ec_nodes_running.specs.Networks.{ForStanding, counts_of};
+ghost use Rattle.ec_network.specs.Networks.{ForStanding, counts_of};
 ghost use Rattle.ec_report.specs.ObjectLines.{PushesObject};
 ghost use Rattle.ec_report.specs.Report as spec;
 ghost use Rattle.ec_report.specs.Report.{lines_of_objects, node_lines};
 ghost use Rattle.ec_world.specs.Run.{statuses_of};
 
 use ec_meaning::source::Program;
-use ec_nodes_running::network::Network;
+use ec_network::nodes_running::network::Network;
 use ec_report::end::ReportEnd;
 use ec_report::lines::{push_end, push_node, push_object_line, push_processes, push_turns};
 use ec_world::node::NodeSpec;

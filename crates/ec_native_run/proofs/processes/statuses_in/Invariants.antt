@@ -1,6 +1,6 @@
 use Rattle.std.proofs.Common.{◌≡◌, ◌-◌, ◌^◌, take}
 use Rattle.ec_native_run.proofs.processes.statuses_in.Given as goal
-use Rattle.ec_nodes_running.specs.Networks.{ForStanding}
+use Rattle.ec_network.specs.Networks.{ForStanding}
 use Rattle.ec_world.specs.Run.{statuses_of}
 
 abbrev pub invariant-processes : goal.invariant-processes

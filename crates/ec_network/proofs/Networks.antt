@@ -1,0 +1,98 @@
+-- What a turn of its system is to a network.
+use Rattle.std.proofs.Common.{◌≡◌, ℕ, Some, refl, sym, ap, ◌∙◌, subst}
+use Rattle.std.proofs.lemmas.Option.{same_Some}
+use Rattle.std.specs.Prelude.{IsSome}
+use Rattle.ec_parcels.specs.Vectors.{table_of}
+use Rattle.ec_cluster.specs.Cluster.{CodeWorld}
+use Rattle.ec_code.specs.Typing.{Declared}
+use Rattle.ec_world.specs.declared.room.Lack.{Lack}
+use Rattle.ec_parcels.specs.Classes.{ClassTable}
+use Rattle.ec_network.proofs.Turned.{turn_parts}
+use Rattle.ec_network.specs.Moving.{MoveRefusedIn, MovedTo}
+use Rattle.ec_network.specs.Networks.{ForStanding, Net, NetMoved, NetTurned, Now}
+use Rattle.ec_network.specs.Standing.{HasNumbers, Stands, StandsInSome}
+use Rattle.ec_network.specs.Turns.{RefusedIn, TurnedIn, turned}
+use Rattle.ec_network.specs.declared.nodes_running.turns.Did.{Did}
+use Rattle.ec_network.specs.declared.nodes_running.turns.Did.TheVariants.{Idle, Acted}
+use Rattle.ec_network.specs.declared.nodes_running.turns.TurnError.TheVariants.{Full}
+use Rattle.ec_cluster.specs.declared.system.System.{System}
+use Rattle.ec_world.specs.Moves.{OperatorMove}
+
+-- what is told of each world of a system is told of a network that has it
+pub for_standing : (P : Declared → System → CodeWorld → Type 0) (net : Net) (s : System) → net ≡ Some s →
+    ((d : Declared) (w : CodeWorld) → Stands d s w → P d s w) → ForStanding net P
+for_standing P net s is told d x w e stands =
+    let same : s ≡ x = same_Some s x (sym is ∙ e) in
+    subst (λ (y : System). P d y w) same (told d w (subst (λ (y : System). Stands d y w) (sym same) stands))
+
+pub is_there : (net : Net) (s : System) → net ≡ Some s → IsSome net
+is_there net s e = subst IsSome (sym e) refl
+
+pub net_turned : (old : Net) (s t : System) (p : ℕ) (did : Did) → old ≡ Some s →
+    ((d : Declared) (w : CodeWorld) → Stands d s w → TurnedIn d s t w p did) → NetTurned old (Some t) p did
+net_turned old s t p did is told =
+    for_standing _ old s is (λ d w stands. record { system = t; is = refl; told = told d w stands })
+
+pub net_full : (old : Net) (s t : System) (p : ℕ) (lack : Lack) → old ≡ Some s →
+    ((d : Declared) (w : CodeWorld) → Stands d s w → RefusedIn s t w p (Full lack)) →
+    ForStanding old (λ d x w. Now (Some t) (λ y. RefusedIn x y w p (Full lack)))
+net_full old s t p lack is told =
+    for_standing _ old s is (λ d w stands. record { system = t; is = refl; told = told d w stands })
+
+-- ---- turns
+
+-- a turn leaves a system that stands in some world, with the same program
+pub record IsLeft (s t : System) : Type 0 where
+  pub stands : StandsInSome t
+  pub parts : t.cluster.parts ≡ s.cluster.parts
+
+told_stands : (d : Declared) (s t : System) (w : CodeWorld) (p : ℕ) (did : Did) → Stands d s w → TurnedIn d s t w p did → IsLeft s t
+told_stands d s t w p Idle stands idle = record {
+  stands = (d, (w, subst (λ (y : System). Stands d y w) (sym idle.same) stands));
+  parts = ap (λ (y : System). y.cluster.parts) idle.same;
+}
+told_stands d s t w p (Acted steps) stands turn = record { stands = (d, (turned s w p, turn.stands)); parts = turn_parts d s t w p steps turn }
+
+same_left : (s t : System) → StandsInSome s → t ≡ s → IsLeft s t
+same_left s t some same = record {
+  stands = subst StandsInSome (sym same) some;
+  parts = ap (λ (y : System). y.cluster.parts) same;
+}
+
+numbers_left : (s t : System) (table : ClassTable) → IsLeft s t → HasNumbers s table → HasNumbers t table
+numbers_left s t table left numbers = numbers ∙ ap table_of (sym left.parts)
+
+-- so the network has what it had
+pub has_left : (s t : System) (table : ClassTable) → IsLeft s t → HasNumbers s table → StandsInSome t × HasNumbers t table
+has_left s t table left numbers = (left.stands, numbers_left s t table left numbers)
+
+pub turned_left : (s t : System) (p : ℕ) (did : Did) → StandsInSome s →
+    ((d : Declared) (w : CodeWorld) → Stands d s w → TurnedIn d s t w p did) → IsLeft s t
+turned_left s t p did some told = told_stands some.0 s t some.1.0 p did some.1.1 (told some.0 some.1.0 some.1.1)
+
+pub full_left : (s t : System) (p : ℕ) (lack : Lack) → StandsInSome s →
+    ((d : Declared) (w : CodeWorld) → Stands d s w → RefusedIn s t w p (Full lack)) → IsLeft s t
+full_left s t p lack some told = same_left s t some (told some.0 some.1.0 some.1.1).same
+
+-- ---- moves by the operator
+
+pub net_moved : (old : Net) (s t : System) (o k : ℕ) → old ≡ Some s →
+    ((d : Declared) (w : CodeWorld) → Stands d s w → MovedTo d s t w o k) → NetMoved old (Some t) o k
+net_moved old s t o k is told =
+    for_standing _ old s is (λ d w stands. record { system = t; is = refl; told = told d w stands })
+
+pub move_full : (old : Net) (s t : System) (o k : ℕ) (lack : Lack) → old ≡ Some s →
+    ((d : Declared) (w : CodeWorld) → Stands d s w → MoveRefusedIn s t w o k (Full lack)) →
+    ForStanding old (λ d x w. Now (Some t) (λ y. MoveRefusedIn x y w o k (Full lack)))
+move_full old s t o k lack is told =
+    for_standing _ old s is (λ d w stands. record { system = t; is = refl; told = told d w stands })
+
+pub moved_left : (s t : System) (o k : ℕ) → StandsInSome s →
+    ((d : Declared) (w : CodeWorld) → Stands d s w → MovedTo d s t w o k) → IsLeft s t
+moved_left s t o k some told =
+    let m = told some.0 some.1.0 some.1.1 in
+    record { stands = (some.0, (OperatorMove some.1.0 o k, m.stands)); parts = m.texts.parts }
+
+pub move_full_left : (s t : System) (o k : ℕ) (lack : Lack) → StandsInSome s →
+    ((d : Declared) (w : CodeWorld) → Stands d s w → MoveRefusedIn s t w o k (Full lack)) → IsLeft s t
+move_full_left s t o k lack some told = same_left s t some (told some.0 some.1.0 some.1.1).same

@@ -1,0 +1,111 @@
+-- A turn is an action, and then the code behind a stop.
+use Rattle.std.proofs.Common.{◌≡◌, ℕ, List, [], refl, sym, ap, ◌∙◌, subst, ⊎_elim}
+use Rattle.std.specs.Prelude.{IsSome}
+use Rattle.ec_base.specs.Stack.{below_of, top_of}
+use Rattle.ec_cluster.specs.Cluster.{CodeWorld}
+use Rattle.ec_cluster.specs.Steps.{Nothing}
+use Rattle.ec_code.specs.Activations.{code_meaning, code_silent}
+use Rattle.ec_code.specs.Typing.{Declared}
+use Rattle.ec_code.specs.declared.activation.CodeActivation.{CodeActivation}
+use Rattle.ec_code.specs.declared.code.Parts.{Parts}
+use Rattle.ec_acts.proofs.Stepping.{unchanged}
+use Rattle.ec_network.specs.Acts.{Begins, Goes, HasActed, WasIdle}
+use Rattle.ec_packing.proofs.Worlds.{turn_between}
+use Rattle.ec_packing.specs.Between.{IsBetween}
+use Rattle.ec_parcels.specs.Classes.{ClassTable}
+use Rattle.ec_network.proofs.Standing.{works_acted}
+use Rattle.ec_network.proofs.Tops.{without_top}
+use Rattle.ec_network.specs.Running.{AfterAction, Rested, WentOn, gone_on}
+use Rattle.ec_network.specs.Standing.{HasNumbers, Stands, Works, WorksInSome}
+use Rattle.ec_network.specs.Turns.{NoTurn, TurnOf, turned}
+use Rattle.ec_cluster.proofs.Pools.{strings_come}
+use Rattle.ec_cluster.specs.declared.system.System.{System}
+use Rattle.ec_world.specs.World.{Action, GoOn, act_on, stack_at}
+
+-- an action begins in a world in which a system stands
+pub begins : (d : Declared) (s : System) (w : CodeWorld) (table : ClassTable) → Stands d s w → HasNumbers s table → Begins d s w table
+begins d s w table stands numbers =
+    record { goes = stands.works.goes; between = stands.between; few = stands.works.few; table_is = numbers }
+
+-- where nothing was to be done, that is the action
+pub idle_acted : (d : Declared) (old new : System) (w : CodeWorld) (p : ℕ) → Goes d old w → WasIdle old new w p → HasActed d old new w p
+idle_acted d old new w p goes idle = subst (λ (x : System). HasActed d old x w p) (sym idle.same) (record {
+  goes = subst (λ (x : CodeWorld). Goes d old x) (sym idle.nothing) goes;
+  texts =
+      strings_come Nothing old.cluster old.cluster (Action code_meaning w p) (unchanged old.cluster)
+      (subst (λ (x : CodeWorld). Goes d old x) (sym idle.nothing) goes).runs.mirrors.shows (λ k text none. absurd none);
+})
+
+-- the world after the turn is that in which the process has gone on from the middle
+turned_is : (d : Declared) (old middle : System) (w : CodeWorld) (p : ℕ) → HasActed d old middle w p →
+    gone_on middle (Action code_meaning w p) p ≡ turned old w p
+turned_is d old middle w p acted =
+    ap (λ (q : Parts). GoOn code_meaning (code_silent q) (Action code_meaning w p) p) acted.texts.parts
+
+parts_after : (d : Declared) (old middle new : System) (w : CodeWorld) (p steps : ℕ) → HasActed d old middle w p →
+    AfterAction d middle new (Action code_meaning w p) p steps → new.cluster.parts ≡ old.cluster.parts
+parts_after d old middle new w p steps acted after = ⊎_elim
+    (λ (went : WentOn d middle new (Action code_meaning w p) p steps). went.parts ∙ acted.texts.parts)
+    (λ (rested : Rested middle new (Action code_meaning w p) p × (steps ≡ 0)).
+    ap (λ (x : System). x.cluster.parts) rested.0.same ∙ acted.texts.parts)
+    after
+
+module _ (d : Declared) (old middle new : System) (w : CodeWorld) (p steps : ℕ) (s : Stands d old w) (acted : HasActed d old middle w p)
+    (after : AfterAction d middle new (Action code_meaning w p) p steps) where
+  works_then : Works d new (turned old w p)
+  works_then = subst (λ (x : CodeWorld). Works d new x) (turned_is d old middle w p acted) (⊎_elim
+      (λ (went : WentOn d middle new (Action code_meaning w p) p steps). went.works)
+      (λ (rested : Rested middle new (Action code_meaning w p) p × (steps ≡ 0)).
+      subst (λ (x : CodeWorld). Works d new x) (sym rested.0.nothing)
+      (subst (λ (x : System). Works d x (Action code_meaning w p)) (sym rested.0.same) (works_acted d old middle w p s.works acted)))
+      after)
+
+  -- what is run after an action, where the system stood in the world before it
+  turn_of : IsSome (top_of (stack_at w p)) → TurnOf d old new w p steps
+  turn_of top = record {
+    top = top;
+    stands = record {
+      works = works_then;
+      between = subst (λ (x : Parts). IsBetween x (turned old w p)) (sym (parts_after d old middle new w p steps acted after))
+          (turn_between d old.cluster.parts s.works.goes.runs.steady.fine s.works.conditions w p s.works.goes.runs.sound s.between);
+    };
+    middle = middle;
+    acted = acted;
+    after = after;
+  }
+
+-- a turn keeps the program
+pub turn_parts : (d : Declared) (old new : System) (w : CodeWorld) (p steps : ℕ) → TurnOf d old new w p steps →
+    new.cluster.parts ≡ old.cluster.parts
+turn_parts d old new w p steps turn = parts_after d old turn.middle new w p steps turn.acted turn.after
+
+-- without an activation that may go on there is nothing to do
+pub no_turn : (s : System) (w : CodeWorld) (p : ℕ) → stack_at w p ≡ [] → NoTurn s s w p
+no_turn s w p none =
+    let still : Action code_meaning w p ≡ w =
+    ap (λ (xs : List CodeActivation). act_on code_meaning w p (below_of xs) (top_of xs)) none in
+    record {
+      none = none;
+      same = refl;
+      nothing = ap (λ (x : CodeWorld). gone_on s x p) still ∙ without_top s w p none;
+    }
+
+-- what is known of a system once it has acted, or had nothing to do
+module _ (d : Declared) (old middle : System) (w : CodeWorld) (p : ℕ) (s : Stands d old w) where
+  pub some_acted : HasActed d old middle w p → WorksInSome middle
+  some_acted acted = (d, (Action code_meaning w p, works_acted d old middle w p s.works acted))
+
+  pub some_idle : WasIdle old middle w p → WorksInSome middle
+  some_idle idle = some_acted (idle_acted d old middle w p s.works.goes idle)
+
+  -- a turn whose action is done
+  pub turn_acted : (new : System) (steps : ℕ) → HasActed d old middle w p → IsSome (top_of (stack_at w p)) →
+      ((e : Declared) (x : CodeWorld) → Works e middle x → AfterAction e middle new x p steps) → TurnOf d old new w p steps
+  turn_acted new steps acted top after =
+      turn_of d old middle new w p steps s acted
+      (after d (Action code_meaning w p) (works_acted d old middle w p s.works acted)) top
+
+  -- a turn with no action to be done
+  pub turn_idle : (new : System) (steps : ℕ) → WasIdle old middle w p → IsSome (top_of (stack_at w p)) →
+      ((e : Declared) (x : CodeWorld) → Works e middle x → AfterAction e middle new x p steps) → TurnOf d old new w p steps
+  turn_idle new steps idle top after = turn_acted new steps (idle_acted d old middle w p s.works.goes idle) top after

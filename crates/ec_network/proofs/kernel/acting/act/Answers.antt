@@ -1,0 +1,22 @@
+-- What a process asks of nodes is performed.
+use Rattle.std.proofs.Common.{subst}
+use Rattle.ec_asking.proofs.Programs.{bare_shown}
+use Rattle.ec_network.proofs.KernelTold.{if_err, some_told}
+use Rattle.ec_network.proofs.kernel.acting.act.Goals as goal
+use Rattle.ec_network.specs.Acts.{RefusedIn}
+
+pub asked-requires-clause-readable : goal.asked-requires-clause-readable
+asked-requires-clause-readable c =
+    let goes = c.requires.1.1.goes in
+    record {
+      bare = bare_shown c.args.system.now.cluster c.requires.1.0 goes.runs.mirrors.shows goes.idle.objects;
+      typed = goes.typed;
+    }
+
+pub returns-in-Ok-Some-clause-refused : goal.returns-in-Ok-Some-clause-refused
+returns-in-Ok-Some-clause-refused c = if_err c.perform.result
+    (λ e refused d w begins.
+    let x = some_told _ c.in-Ok-Some.field-0 c.in-Ok-Some.asked c.in-Ok-Some.field-0-is c.in-Ok-Some.ensures.some d w begins.goes.runs in
+    subst (λ q. RefusedIn c.args.system.now c.perform.new.system w q e) x.0
+    (refused d w (record { begins = begins; below = x.1.0; top = x.1.1.0; asks = x.1.1.1 })))
+    c.perform.ensures.refused

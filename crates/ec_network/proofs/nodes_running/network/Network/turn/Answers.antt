@@ -1,0 +1,34 @@
+-- A turn of its system is one of the network.
+use Rattle.std.proofs.Common.{ap, sym, ◌∙◌, subst}
+use Rattle.ec_network.proofs.Networks.{has_left, is_there, net_full, net_turned, turned_left}
+use Rattle.ec_network.specs.Networks.{IsLoaded, system_of}
+use Rattle.ec_network.specs.Turns.{RefusedIn}
+use Rattle.ec_network.proofs.nodes_running.network.Network.turn.Goals as goal
+
+pub turn-requires-clause-stands : goal.turn-requires-clause-stands
+turn-requires-clause-stands c = (subst IsLoaded c.in-Some.is c.self.invariant).0
+
+pub turn-requires-clause-numbers : goal.turn-requires-clause-numbers
+turn-requires-clause-numbers c = (subst IsLoaded c.in-Some.is c.self.invariant).1
+
+pub invariant_of-self-in-Ok : goal.invariant_of-self-in-Ok
+invariant_of-self-in-Ok c =
+    let loaded = subst IsLoaded c.in-Some.is c.self.invariant in
+    has_left c.in-Some.loaded.system c.turn.new.system c.in-Some.loaded.numbers
+    (turned_left c.in-Some.loaded.system c.turn.new.system c.args.p c.in-Ok.did loaded.0 c.in-Ok.ensures.turned) loaded.1
+
+pub returns-in-Ok-clause-turned : goal.returns-in-Ok-clause-turned
+returns-in-Ok-clause-turned c =
+    let is = sym c.self.view_is ∙ ap system_of c.in-Some.is in (
+      is_there c.args.self.now c.in-Some.loaded.system is,
+      net_turned c.args.self.now c.in-Some.loaded.system c.turn.new.system c.args.p c.in-Ok.did is c.in-Ok.ensures.turned,
+    )
+
+pub returns-in-Err-Full-clause-refused : goal.returns-in-Err-Full-clause-refused
+returns-in-Err-Full-clause-refused c =
+    let is = sym c.self.view_is ∙ ap system_of c.in-Some.is in (
+      is_there c.args.self.now c.in-Some.loaded.system is,
+      net_full c.args.self.now c.in-Some.loaded.system c.turn.new.system c.args.p c.in-Err-Full.lack is
+          (λ d w s. subst (λ e. RefusedIn c.in-Some.loaded.system c.turn.new.system w c.args.p e) c.in-Err-Full.field-0-is
+          (c.in-Err-Full.ensures.refused d w s)),
+    )

@@ -1,0 +1,6 @@
+pub mod Acts
+pub mod Standing
+pub mod Running
+pub mod Turns
+pub mod Moving
+pub mod Networks

@@ -1,0 +1,4 @@
+#![tactic(auto)]
+
+pub mod kernel;
+pub mod nodes_running;

@@ -1,0 +1,213 @@
+//! A network of nodes: what its callers may ask of it.
+ghost use Rattle.std.specs.Prelude.{◌≡◌};
+
+use crate::nodes_running::seeing::seen;
+use crate::nodes_running::turns::{Did, TurnError};
+use crate::nodes_running::{moving, turning};
+use ec_parcels::class_numbers::numbers::class_numbers;
+use ec_cluster::cluster::Images;
+use ec_code::code::Parts;
+use ec_legs::machines::Machines;
+use ec_acts::load as loading;
+use ec_acts::load::LoadError;
+use ec_parcels::mover::classes::ClassNumbers;
+use ec_cluster::system::System;
+use ec_generate::conditions::look_at_conditions;
+use ec_world::class::ClassNo;
+use ec_world::node::NodeSpec;
+use ec_world::process::ProcStatus;
+use ec_world::sight::Sees;
+use ec_world::value::{NodeNo, Oid, Pid, Text};
+use std::alloc::{AllocError, Global};
+use std::marker::Model;
+
+/// Nodes that run a program: its actions by the kernel, and all code between stops on the nodes' own machines.
+#[derive(Drop)]
+pub struct Network {
+    loaded: Option<Numbered>,
+    machines: Machines,
+}
+
+/// A system, and the numbers of its program's classes on the wire.
+#[derive(Drop)]
+pub(crate) struct Numbered {
+    pub system: System,
+    pub numbers: ClassNumbers,
+}
+
+impl Model for Network {
+    ghost use Rattle.ec_network.specs.Networks.{IsLoaded, Net, system_of};
+
+    ghost Value = { Net };
+
+    ghost view = { λ n. system_of n.loaded };
+
+    ghost invariant = { λ n. IsLoaded n.loaded };
+}
+
+impl Network {
+    ghost use Rattle.std.specs.Prelude.{IfErr, IfOk, IsSome, None, Some, is_some, length};
+    ghost use Rattle.ec_acts.specs.Loaded.{WhenFull};
+    ghost use Rattle.ec_acts.specs.Loading.{LacksFirst, first_needs};
+    ghost use Rattle.ec_network.specs.Networks.{CanRun, ForStanding, NetLoaded, NetMoved, NetMoveRefused, NetRefused, NetTurned};
+    ghost use Rattle.ec_network.specs.Networks.{class_at, counts_of, fixed_at, status_at};
+    ghost use Rattle.ec_network.specs.Standing.{StandsInSome};
+    ghost use Rattle.ec_rooms.specs.Places.{place_of};
+
+    /// A network of no nodes, on which nothing was loaded. It meets its calls as a spent one does.
+    pub fn empty() -> Network
+        ensures { result ≡ None }
+    {
+        Network {
+            loaded: None,
+            machines: Machines::new(),
+        }
+    }
+
+    /// Loads a program with its images onto 1 to 64 nodes of these kinds and sizes (at most 65,536 blocks and 16,777,216 bytes of text), so
+    /// that process 0 is about to run operation 0. The error is what the first node that lacks room for that lacks, blocks before text; or
+    /// want of memory, which literals of 2^64 bytes or more are too, and 2^32 - 1 classes and vector types or more.
+    pub fn load(
+        alloc: Global,
+        parts: Parts,
+        images: Images,
+        specs: &[NodeSpec],
+    ) -> Result<Network, LoadError>
+        requires { CanRun parts images specs.now }
+        ensures loaded { IfOk result (λ net. NetLoaded parts images specs.now net) }
+        ensures full { WhenFull result (LacksFirst (first_needs parts images (length specs.now)) specs.now) }
+    {
+        look_at_conditions(parts.classes.as_slice());
+        let numbers = match class_numbers(alloc, &parts) {
+            Ok(numbers) => numbers,
+            Err(e) => return Err(LoadError::Memory(e)),
+        };
+        match loading::load(alloc, parts, images, specs) {
+            Ok(system) => Ok(Network {
+                loaded: Some(Numbered { system, numbers }),
+                machines: Machines::new(),
+            }),
+            Err(e) => Err(e),
+        }
+    }
+
+    /// Whether no turn has met want of memory. Then it stands in some world.
+    pub fn is_whole(&self) -> bool
+        ensures { result ≡ is_some self.now }
+    {
+        self.loaded.is_some()
+    }
+
+    /// A turn of a process: the action of the stop at which it rests, then machine code up to the next stop. Where a node lacks room, the
+    /// least one that does is told, blocks before text, and nothing has changed. Want of memory spends the network, and a spent one answers
+    /// nothing else.
+    pub fn turn(&mut self, alloc: Global, p: Pid) -> Result<Did, TurnError>
+        ensures turned { IfOk result (λ did. IsSome self.old × NetTurned self.old self.new p did) }
+        ensures refused { IfErr result (λ e. NetRefused self.old self.new p e) }
+    {
+        let Some(loaded) = &mut self.loaded else {
+            return Err(TurnError::Memory(AllocError));
+        };
+        let Numbered { system, numbers } = loaded;
+        match turning::turn(system, &mut self.machines, numbers, alloc, p) {
+            Ok(did) => Ok(did),
+            Err(TurnError::Full(lack)) => Err(TurnError::Full(lack)),
+            Err(TurnError::Memory(e)) => {
+                self.loaded = None;
+                Err(TurnError::Memory(e))
+            }
+        }
+    }
+
+    /// A move of an object's group by the operator to where the object of a node is. Nothing changes where the object or the node isn't
+    /// there, or a member of the group is fixed. It is refused as a turn is.
+    pub fn operator_move(&mut self, alloc: Global, o: Oid, k: NodeNo) -> Result<(), TurnError>
+        ensures moved { IfOk result (λ done. IsSome self.old × NetMoved self.old self.new o k) }
+        ensures refused { IfErr result (λ e. NetMoveRefused self.old self.new o k e) }
+    {
+        let Some(loaded) = &mut self.loaded else {
+            return Err(TurnError::Memory(AllocError));
+        };
+        let Numbered { system, numbers } = loaded;
+        match moving::shift(system, numbers, alloc, o, k) {
+            Ok(()) => Ok(()),
+            Err(TurnError::Full(lack)) => Err(TurnError::Full(lack)),
+            Err(TurnError::Memory(e)) => {
+                self.loaded = None;
+                Err(TurnError::Memory(e))
+            }
+        }
+    }
+
+    /// What has been printed.
+    pub fn output(&self) -> &Text
+        requires whole { IsSome self.now }
+        ensures { ForStanding self.now (λ d s w. result.now ≡ w.common.output) }
+    {
+        &self.standing().output
+    }
+
+    /// What a process may do, where it is there.
+    pub fn process(&self, p: Pid) -> Option<ProcStatus>
+        requires whole { IsSome self.now }
+        ensures { ForStanding self.now (λ d s w. result ≡ status_at w p) }
+    {
+        match self.standing().processes.get(p as usize) {
+            Some(row) => Some(row.status),
+            None => None,
+        }
+    }
+
+    /// The class of an object, where it is there.
+    pub fn class_of(&self, oid: Oid) -> Option<ClassNo>
+        requires whole { IsSome self.now }
+        ensures { ForStanding self.now (λ d s w. result ≡ class_at w oid) }
+    {
+        seen(self.standing()).class_of(oid)
+    }
+
+    /// Whether an object is fixed, where it is there.
+    pub fn is_fixed(&self, oid: Oid) -> Option<bool>
+        requires whole { IsSome self.now }
+        ensures { ForStanding self.now (λ d s w. result ≡ fixed_at w oid) }
+    {
+        let seen = seen(self.standing());
+        match seen.class_of(oid) {
+            Some(_) => Some(seen.is_fixed(oid)),
+            None => None,
+        }
+    }
+
+    /// The node at which an object is, where it is there.
+    pub fn place(&self, oid: Oid) -> Option<NodeNo>
+        requires whole { IsSome self.now }
+        ensures { ForStanding self.now (λ d s w. result ≡ place_of w oid) }
+    {
+        self.standing().cluster.directory.place(oid)
+    }
+
+    /// How many instructions a node has run, up to 2^64 - 1; 0 where it is not there, or the network is spent.
+    pub fn count_of(&self, k: NodeNo) -> u64
+        ensures { result ≡ counts_of self.now k }
+    {
+        match &self.loaded {
+            Some(loaded) => match loaded.system.cluster.nodes.get(k as usize) {
+                Some(node) => node.count(),
+                None => 0,
+            },
+            None => 0,
+        }
+    }
+
+    /// The system of a network that is not spent.
+    fn standing(&self) -> &System
+        requires whole { IsSome self.now }
+        ensures is { self.now ≡ Some result.now }
+        ensures stands { StandsInSome result.now }
+    {
+        match &self.loaded {
+            Some(loaded) => &loaded.system,
+            None => unreachable!(),
+        }
+    }
+}

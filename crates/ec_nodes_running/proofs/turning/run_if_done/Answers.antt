@@ -1,9 +1,0 @@
--- A process has gone on, or rests.
-use Rattle.std.proofs.Common.{inl, inr, refl}
-use Rattle.ec_nodes_running.proofs.turning.run_if_done.Goals as goal
-
-pub returns-in-Some : goal.returns-in-Some
-returns-in-Some c = λ d w s. inl (c.in-Some.ensures.some d w s)
-
-pub returns-in-None : goal.returns-in-None
-returns-in-None c = λ d w s. inr (c.in-None.ensures.none d w s, refl)

@@ -1,5 +1,0 @@
-pub mod Standing
-pub mod Running
-pub mod Turns
-pub mod Moving
-pub mod Networks
