@@ -36,7 +36,7 @@ use Rattle.ec_parser.specs.Terminals.{terminal_of_kind, terminal_of_name}
 use Rattle.ec_plain.specs.Plain.{IsPlainRun, source_run}
 use Rattle.ec_report.specs.declared.status.Status.TheVariants as statuses
 use Rattle.ec_rules.specs.Faults.{IsAccepted}
-use Rattle.ec_sources.specs.Sources.{IsProgram}
+use Rattle.ec_tool.specs.Sources.{IsProgram}
 use Rattle.ec_world.specs.Run.{run_after, end_of}
 use Rattle.ec_world.specs.declared.node.Kind.TheVariants.{Riscv}
 use Rattle.ec_world.specs.declared.node.NodeSpec.{NodeSpec}

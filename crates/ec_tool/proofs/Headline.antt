@@ -1,9 +1,9 @@
 -- What a run of an accepted source comes to, by the texts that it is accepted with: its end, and that just its report was written.
 use Rattle.std.proofs.Common.{◌≡◌, ◌⊎◌, ◌∙◌, ℕ, inl, inr, List, ap, refl, subst, sym}
-use Rattle.ec_answers.specs.Writing.{Answers}
-use Rattle.ec_answers.specs.Writing.Answers.{Written, Broken}
-use Rattle.ec_answers.specs.declared.file.FileOf.{FileOf}
-use Rattle.ec_answers.specs.declared.file.FileOf.TheVariants.{Source, Nodes, Schedule}
+use Rattle.ec_tool.specs.Writing.{Answers}
+use Rattle.ec_tool.specs.Writing.Answers.{Written, Broken}
+use Rattle.ec_tool.specs.declared.file.FileOf.{FileOf}
+use Rattle.ec_tool.specs.declared.file.FileOf.TheVariants.{Source, Nodes, Schedule}
 use Rattle.ec_inputs.specs.Nodes.{NodesOf}
 use Rattle.ec_inputs.specs.Schedules.{EntriesOf}
 use Rattle.ec_inputs.specs.Words.{CommandWords}
@@ -11,7 +11,7 @@ use Rattle.ec_native_run.specs.Runs.{Net}
 use Rattle.ec_outside.specs.Fault.{HasRisen}
 use Rattle.ec_report.specs.declared.status.Status.{Status}
 use Rattle.ec_report.specs.declared.status.Status.TheVariants as statuses
-use Rattle.ec_sources.specs.Sources.{IsFaulty}
+use Rattle.ec_tool.specs.Sources.{IsFaulty}
 use Rattle.ec_tool.proofs.Judging.{SameTexts, ends_of, no_refusal, nodes_accepted, same_texts, schedule_accepted}
 use Rattle.ec_tool.proofs.Promised.{verdict_read}
 use Rattle.ec_tool.specs.Asked.{Checks, ComesTo}

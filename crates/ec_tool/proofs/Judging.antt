@@ -6,8 +6,8 @@ use Rattle.ec_tool.specs.Promises.IsRunStatus.{Finishes}
 use Rattle.ec_tool.specs.Promises.BreaksRule.{ByNodes, BySchedule}
 use Rattle.ec_tool.specs.Verdict.{Judged}
 use Rattle.ec_tool.specs.Verdict.Judged.{SourceRefused, NodesRefused, ScheduleRefused, IsEnded, Accepts}
-use Rattle.ec_answers.specs.declared.file.FileOf.{FileOf}
-use Rattle.ec_answers.specs.declared.file.FileOf.TheVariants.{Source, Nodes, Schedule}
+use Rattle.ec_tool.specs.declared.file.FileOf.{FileOf}
+use Rattle.ec_tool.specs.declared.file.FileOf.TheVariants.{Source, Nodes, Schedule}
 use Rattle.ec_tool.proofs.Statuses.{ends_with, end_status, full_is_run, IsByFiles, run_apart}
 use Rattle.ec_tool.proofs.Statuses.IsByFiles.{RefusesSource, RefusesInput, Ended}
 use Rattle.ec_inputs.specs.Nodes.{NodesOf}
@@ -21,9 +21,9 @@ use Rattle.ec_native_run.specs.Runs.{Net}
 use Rattle.ec_outside.specs.Whole.{IsWhole}
 use Rattle.ec_report.specs.declared.status.Status.{Status}
 use Rattle.ec_report.specs.declared.status.Status.TheVariants as statuses
-use Rattle.ec_sources.specs.Sources.{IsFaulty, IsMeant}
-use Rattle.ec_sources.specs.declared.source.Refusal.{Refusal}
-use Rattle.ec_sources.proofs.Sources.{not_faulty}
+use Rattle.ec_tool.specs.Sources.{IsFaulty, IsMeant}
+use Rattle.ec_tool.specs.declared.source.Refusal.{Refusal}
+use Rattle.ec_tool.proofs.Sources.{not_faulty}
 
 module _ (asked : CommandWords) (held : FileOf → List ℕ) (net net' : Net) where
   pub by_files : {s : Status} {t : List ℕ} → Judged asked held net net' s t → IsByFiles s

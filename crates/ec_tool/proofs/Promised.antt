@@ -1,15 +1,15 @@
 -- What the call promises of each status, from what it comes to.
 use Rattle.std.proofs.Common.{◌≡◌, ◌⊎◌, inl, inr, ⊎_elim, ℕ, List, ◌++◌, Some, None, refl, sym, ap, subst, ◌∙◌}
 use Rattle.ec_tool.specs.Asked.{name_of, AreRead, AreMade, HasRead}
-use Rattle.ec_answers.specs.Lines.{usage_line}
-use Rattle.ec_answers.specs.declared.file.FileOf.{FileOf}
+use Rattle.ec_tool.specs.Lines.{usage_line}
+use Rattle.ec_tool.specs.declared.file.FileOf.{FileOf}
 use Rattle.ec_tool.specs.Promises.{IsRunStatus, EndsWith, HasReadFault, IsNoSource, IsNoInput, HasEnded, HasAccepted, IsRun}
 use Rattle.ec_tool.specs.Promises.{IsAccepted, NoneRisen}
 use Rattle.ec_tool.specs.Promises.IsRunStatus.{Finishes, Fills}
-use Rattle.ec_answers.specs.Writing.{Answers}
+use Rattle.ec_tool.specs.Writing.{Answers}
 use Rattle.ec_tool.specs.Verdict.{Judged, Call, Verdict, Came}
 use Rattle.ec_tool.specs.Verdict.Verdict.{NoCommand, ReadFailed, IsJudged}
-use Rattle.ec_answers.specs.Writing.Answers.{Written, Broken}
+use Rattle.ec_tool.specs.Writing.Answers.{Written, Broken}
 use Rattle.ec_tool.specs.Verdict.Came.{NoMemory, Answered}
 use Rattle.ec_tool.proofs.Judging.{source_refused, input_refused, by_files, has_finished, has_ended, full_run, ends_of}
 use Rattle.ec_tool.proofs.Statuses.IsByFiles.{RefusesSource, RefusesInput}

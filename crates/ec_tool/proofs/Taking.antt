@@ -12,7 +12,7 @@ use Rattle.ec_acts.specs.Fresh.{IsNodeSize}
 use Rattle.ec_native_run.specs.Runs.{AreNodes, Net, RunsTo}
 use Rattle.ec_plain.specs.Plain.{IsPlainRun}
 use Rattle.ec_report.specs.declared.status.Status.{Status}
-use Rattle.ec_sources.specs.Sources.{IsMeant}
+use Rattle.ec_tool.specs.Sources.{IsMeant}
 use Rattle.ec_tool.specs.Taking.{AsksFor, WorkComesTo, asked_of, source_in}
 use Rattle.ec_tool.specs.declared.take.Work.{Work}
 use Rattle.ec_tool.specs.declared.take.Work.TheVariants.{Run, Mean}

@@ -2,8 +2,8 @@
 use Rattle.std.proofs.Common.{◌≡◌, ℕ, List, Option, Some, None, refl, sym, ap, ◌∙◌, subst}
 use Rattle.std.specs.Prelude.{option_map, IsSome}
 use Rattle.ec_tool.specs.Asked.{name_in, name_of, file_limit, AreRead, AreMade, EachBefore, OthersStay, StopsAt}
-use Rattle.ec_answers.specs.declared.file.FileOf.{FileOf}
-use Rattle.ec_answers.specs.declared.file.FileOf.TheVariants.{Source, Nodes, Schedule}
+use Rattle.ec_tool.specs.declared.file.FileOf.{FileOf}
+use Rattle.ec_tool.specs.declared.file.FileOf.TheVariants.{Source, Nodes, Schedule}
 use Rattle.ec_inputs.specs.declared.words.Command.{Command}
 use Rattle.ec_inputs.specs.Words.{RunWords, CheckWords, WordsOf, command_in}
 use Rattle.ec_inputs.specs.Words.{CommandWords as command}

@@ -1,8 +1,8 @@
 -- What a command asks: the files that it names or the texts that it makes, what it wants of a source, and what a source that it takes to
 -- nodes comes to there.
 use Rattle.std.specs.Prelude.{◌≡◌, ℕ, List, Option, Some, None, IsSome}
-use Rattle.ec_answers.specs.declared.file.FileOf.{FileOf}
-use Rattle.ec_answers.specs.declared.file.FileOf.TheVariants.{Source, Nodes, Schedule}
+use Rattle.ec_tool.specs.declared.file.FileOf.{FileOf}
+use Rattle.ec_tool.specs.declared.file.FileOf.TheVariants.{Source, Nodes, Schedule}
 use Rattle.ec_inputs.specs.Words.{RunWords, CommandWords, WordsOf, default_budget}
 use Rattle.ec_inputs.specs.Words.{CommandWords as command}
 use Rattle.ec_meaning.specs.Programs.{Source as Meant}
@@ -11,7 +11,7 @@ use Rattle.ec_outside.specs.Fault.{HasRisen, ShareCount}
 use Rattle.ec_outside.specs.Whole.{IsWhole}
 use Rattle.ec_plain.specs.Plain.{IsPlainRun}
 use Rattle.ec_report.specs.declared.status.Status.{Status}
-use Rattle.ec_sources.specs.Sources.{IsChecked, IsMeant}
+use Rattle.ec_tool.specs.Sources.{IsChecked, IsMeant}
 use Rattle.ec_trial.specs.Draws.{drawn_from}
 use Rattle.ec_trial.specs.Texts.{nodes_text, schedule_text, source_text}
 use Rattle.ec_world.specs.declared.node.NodeSpec.{NodeSpec}

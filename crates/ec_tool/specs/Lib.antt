@@ -1,3 +1,8 @@
+pub mod Places
+pub mod Sources
+pub mod Refusals
+pub mod Lines
+pub mod Writing
 pub mod Asked
 pub mod Verdict
 pub mod Promises

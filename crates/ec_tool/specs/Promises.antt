@@ -1,9 +1,9 @@
 -- What the call promises of each status with which it ends: its cause, and what is written.
 use Rattle.std.specs.Prelude.{◌≡◌, ◌++◌, ℕ, List, Option, Some, Ok, Err}
 use Rattle.ec_tool.specs.Asked.{name_of, AreRead, AreMade, StopsAt, Takes, Checks, ComesTo}
-use Rattle.ec_answers.specs.Lines.{fault_line}
-use Rattle.ec_answers.specs.declared.file.FileOf.{FileOf}
-use Rattle.ec_answers.specs.declared.file.FileOf.TheVariants.{Source, Nodes, Schedule}
+use Rattle.ec_tool.specs.Lines.{fault_line}
+use Rattle.ec_tool.specs.declared.file.FileOf.{FileOf}
+use Rattle.ec_tool.specs.declared.file.FileOf.TheVariants.{Source, Nodes, Schedule}
 use Rattle.ec_inputs.specs.Nodes.{NodesOf}
 use Rattle.ec_inputs.specs.Schedules.{EntriesOf}
 use Rattle.ec_inputs.specs.Words.{RunWords, CommandWords, WordsOf}
@@ -14,9 +14,9 @@ use Rattle.ec_native_run.specs.Runs.{Net}
 use Rattle.ec_outside.specs.Fault.{HasRisen}
 use Rattle.ec_report.specs.declared.status.Status.{Status}
 use Rattle.ec_report.specs.declared.status.Status.TheVariants as statuses
-use Rattle.ec_sources.specs.Refusals.{nodes_line, schedule_line}
-use Rattle.ec_sources.specs.Sources.{IsFaulty, accepted_line, refused_line}
-use Rattle.ec_sources.specs.declared.source.Refusal.{Refusal}
+use Rattle.ec_tool.specs.Refusals.{nodes_line, schedule_line}
+use Rattle.ec_tool.specs.Sources.{IsFaulty, accepted_line, refused_line}
+use Rattle.ec_tool.specs.declared.source.Refusal.{Refusal}
 use Rattle.ec_world.specs.declared.node.NodeSpec.{NodeSpec}
 use Rattle.ec_world.specs.declared.run.Entry.{Entry}
 

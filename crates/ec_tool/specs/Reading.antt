@@ -1,8 +1,8 @@
 -- What the files of a call hold, and what is said where a read failed.
 use Rattle.std.specs.Prelude.{◌≡◌, ℕ, List, Option, Some}
 use Rattle.ec_tool.specs.Asked.{file_limit}
-use Rattle.ec_answers.specs.declared.file.FileOf.{FileOf}
-use Rattle.ec_answers.specs.declared.file.FileOf.TheVariants.{Source, Nodes, Schedule}
+use Rattle.ec_tool.specs.declared.file.FileOf.{FileOf}
+use Rattle.ec_tool.specs.declared.file.FileOf.TheVariants.{Source, Nodes, Schedule}
 use Rattle.ec_inputs.specs.Words.{RunWords, CommandWords, WordsOf}
 use Rattle.ec_outside.specs.Whole.{IsWhole}
 use Rattle.ec_tool.specs.declared.files.Files.{Files}

@@ -1,10 +1,10 @@
 -- What a call comes to, by the table of answers: a case a row, each where no earlier one came.
 use Rattle.std.specs.Prelude.{◌≡◌, ℕ, List, Option, Some, None, Ok, Err}
 use Rattle.ec_tool.specs.Asked.{HasRead, StopsAt, Takes, Checks, ComesTo}
-use Rattle.ec_answers.specs.Lines.{usage_line, fault_line}
-use Rattle.ec_answers.specs.Writing.{Answers}
-use Rattle.ec_answers.specs.declared.file.FileOf.{FileOf}
-use Rattle.ec_answers.specs.declared.file.FileOf.TheVariants.{Source, Nodes, Schedule}
+use Rattle.ec_tool.specs.Lines.{usage_line, fault_line}
+use Rattle.ec_tool.specs.Writing.{Answers}
+use Rattle.ec_tool.specs.declared.file.FileOf.{FileOf}
+use Rattle.ec_tool.specs.declared.file.FileOf.TheVariants.{Source, Nodes, Schedule}
 use Rattle.ec_inputs.specs.Nodes.{NodesOf}
 use Rattle.ec_inputs.specs.Schedules.{EntriesOf}
 use Rattle.ec_inputs.specs.Words.{CommandWords, WordsOf}
@@ -13,9 +13,9 @@ use Rattle.ec_inputs.specs.declared.schedule.ScheduleRule.{ScheduleRule}
 use Rattle.ec_native_run.specs.Runs.{Net}
 use Rattle.ec_report.specs.declared.status.Status.{Status}
 use Rattle.ec_report.specs.declared.status.Status.TheVariants as statuses
-use Rattle.ec_sources.specs.Refusals.{nodes_line, schedule_line}
-use Rattle.ec_sources.specs.Sources.{IsFaulty, accepted_line, refused_line}
-use Rattle.ec_sources.specs.declared.source.Refusal.{Refusal}
+use Rattle.ec_tool.specs.Refusals.{nodes_line, schedule_line}
+use Rattle.ec_tool.specs.Sources.{IsFaulty, accepted_line, refused_line}
+use Rattle.ec_tool.specs.declared.source.Refusal.{Refusal}
 use Rattle.ec_world.specs.declared.node.NodeSpec.{NodeSpec}
 use Rattle.ec_world.specs.declared.run.Entry.{Entry}
 

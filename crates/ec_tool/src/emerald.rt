@@ -1,7 +1,7 @@
 //! The call of the program: the files are read or made, the source is judged and run, and the text is written at the end.
 ghost use Rattle.std.specs.Prelude.{◌≡◌, ◌⊎◌, ℕ, List, ◌++◌, Some, None, map};
 ghost use Rattle.ec_tool.specs.Asked.{HasRead};
-ghost use Rattle.ec_answers.specs.Lines.{usage_line};
+ghost use Rattle.ec_tool.specs.Lines.{usage_line};
 ghost use Rattle.ec_tool.specs.Promises.{EndsWith, HasReadFault, IsNoSource, IsNoInput, HasEnded, HasAccepted, IsRun, IsAccepted};
 ghost use Rattle.ec_tool.specs.Promises.{HasRun, NoneRisen};
 ghost use Rattle.ec_tool.specs.Verdict.{Came};

@@ -6,7 +6,7 @@ ghost use Rattle.ec_outside.specs.Fault.{HasRisen};
 ghost use Rattle.ec_outside.specs.Whole.{IsWhole};
 ghost use Rattle.ec_tool.specs.Reading.{AreAllRead, WhenFailed, held_in};
 
-use ec_answers::file::FileOf;
+use crate::file::FileOf;
 use ec_inputs::words::RunCommand;
 use ec_outside::shelf::Shelf;
 use ec_outside::whole::{ReadError, read_whole};

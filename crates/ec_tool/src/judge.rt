@@ -9,12 +9,12 @@ ghost use Rattle.ec_tool.specs.Taking.{AsksFor};
 
 use crate::files::Files;
 use crate::take::{Work, come_to_end};
-use ec_answers::answers::{accepted, nodes_refused, schedule_refused, source_refused};
+use crate::answers::{accepted, nodes_refused, schedule_refused, source_refused};
 use ec_inputs::nodes::{NodesError, read_nodes};
 use ec_inputs::schedule::{ScheduleError, read_schedule};
 use ec_native_run::network::Network;
 use ec_report::answer::Answer;
-use ec_sources::source::{SourceError, check_source, meant_source};
+use crate::source::{SourceError, check_source, meant_source};
 use std::alloc::{AllocError, Global};
 
 /// Judges the files of a run or a plain meaning, or the texts of a trial, and goes on to its end within so many entries.

@@ -4,7 +4,7 @@ ghost use Rattle.ec_compile.specs.Texts.{IsOfText};
 ghost use Rattle.ec_meaning.specs.Sources.{source_of};
 ghost use Rattle.ec_native_run.specs.Runs.{AreNodes, RunsTo};
 ghost use Rattle.ec_plain.specs.Plain.{IsPlainRun};
-ghost use Rattle.ec_sources.specs.Sources.{IsMeant};
+ghost use Rattle.ec_tool.specs.Sources.{IsMeant};
 ghost use Rattle.ec_tool.specs.Taking.{WorkComesTo, source_in};
 
 use ec_check::check::Checked;

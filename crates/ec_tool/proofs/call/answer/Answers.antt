@@ -1,6 +1,6 @@
 use Rattle.std.proofs.Common.{ℕ, Bor, List, map, Some, refl, ap, ◌∙◌}
-use Rattle.ec_answers.specs.Lines.{usage_line}
-use Rattle.ec_answers.specs.declared.file.FileOf.{FileOf}
+use Rattle.ec_tool.specs.Lines.{usage_line}
+use Rattle.ec_tool.specs.declared.file.FileOf.{FileOf}
 use Rattle.ec_tool.specs.Asked.{AreMade}
 use Rattle.ec_tool.specs.Verdict.{Judged, Verdict}
 use Rattle.ec_tool.specs.Verdict.Verdict.{NoCommand, IsJudged}

@@ -1,8 +1,8 @@
 use Rattle.std.proofs.Common.{refl, ℕ, List}
-use Rattle.ec_answers.specs.Lines.{fault_line}
+use Rattle.ec_tool.specs.Lines.{fault_line}
 use Rattle.ec_tool.specs.Verdict.{Judged, Verdict}
 use Rattle.ec_tool.specs.Verdict.Verdict.{ReadFailed, IsJudged}
-use Rattle.ec_answers.specs.declared.file.FileOf.TheVariants.{Source}
+use Rattle.ec_tool.specs.declared.file.FileOf.TheVariants.{Source}
 use Rattle.ec_inputs.specs.Words.{CheckWords, check_in}
 use Rattle.ec_inputs.specs.Words.{CommandWords as command}
 use Rattle.ec_native_run.specs.Runs.{Net}

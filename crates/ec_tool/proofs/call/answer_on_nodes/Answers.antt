@@ -1,5 +1,5 @@
 use Rattle.std.proofs.Common.{refl, ℕ, List}
-use Rattle.ec_answers.specs.Lines.{fault_line}
+use Rattle.ec_tool.specs.Lines.{fault_line}
 use Rattle.ec_tool.specs.Verdict.{Judged, Verdict}
 use Rattle.ec_tool.specs.Verdict.Verdict.{ReadFailed, IsJudged}
 use Rattle.ec_inputs.specs.Words.{CommandWords, run_in}

@@ -1,6 +1,6 @@
 -- The texts that a trial makes are judged.
 use Rattle.std.proofs.Common.{ℕ, List, refl}
-use Rattle.ec_answers.specs.declared.file.FileOf.{FileOf}
+use Rattle.ec_tool.specs.declared.file.FileOf.{FileOf}
 use Rattle.ec_inputs.specs.Words.{CommandWords}
 use Rattle.ec_inputs.specs.Words.{CommandWords as command}
 use Rattle.ec_report.proofs.Lifting.{implied}

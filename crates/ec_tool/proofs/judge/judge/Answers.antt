@@ -5,8 +5,8 @@ use Rattle.ec_inputs.specs.Words.{CommandWords}
 use Rattle.ec_report.proofs.Lifting.{said, implied}
 use Rattle.ec_report.specs.declared.status.Status.{Status}
 use Rattle.ec_report.specs.declared.status.Status.TheVariants as statuses
-use Rattle.ec_sources.specs.Refusals.{nodes_line, schedule_line}
-use Rattle.ec_sources.specs.Sources.{refused_line}
+use Rattle.ec_tool.specs.Refusals.{nodes_line, schedule_line}
+use Rattle.ec_tool.specs.Sources.{refused_line}
 use Rattle.ec_tool.specs.Reading.{held_in}
 use Rattle.ec_tool.specs.Taking.{AsksFor, WorkComesTo, source_in}
 use Rattle.ec_tool.proofs.Taking.{nodes_read, takes, comes_to}

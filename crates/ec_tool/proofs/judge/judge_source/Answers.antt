@@ -7,7 +7,7 @@ use Rattle.ec_native_run.specs.Runs.{Net}
 use Rattle.ec_report.proofs.Lifting.{said}
 use Rattle.ec_report.specs.declared.status.Status.{Status}
 use Rattle.ec_report.specs.declared.status.Status.TheVariants as statuses
-use Rattle.ec_sources.specs.Sources.{accepted_line, refused_line}
+use Rattle.ec_tool.specs.Sources.{accepted_line, refused_line}
 use Rattle.ec_tool.specs.Reading.{only}
 use Rattle.ec_tool.proofs.judge.judge_source.Goals.{in-Ok, in-Err-Refused, in-Err-Memory}
 use Rattle.ec_tool.proofs.judge.judge_source.Goals as goal
