@@ -10,9 +10,9 @@ ghost use Rattle.ec_world.specs.declared.node.NodeSpec.{NodeSpec as NodeSpecData
 
 use ec_base::list::Seq;
 use ec_code::code::Parts;
-use ec_types::conform::static_type::{Plain, StaticType};
 use ec_objects::constants::set_constant;
 use ec_stores::node::NodeStore;
+use ec_types::conform::static_type::{Plain, StaticType};
 use ec_world::node::NodeSpec;
 use ec_world::value::{Text, ValueType, copy_text};
 use std::alloc::{AllocError, Global};

@@ -13,13 +13,13 @@ use crate::fresh::fresh_nodes;
 use crate::objects::{begin_first, make_at};
 use ec_base::list::Seq;
 use ec_cluster::cluster::{Cluster, Images};
-use ec_code::code::Parts;
 use ec_cluster::forward::directory::Directory;
-use ec_world::room::{Lack, Needs, lack_at};
 use ec_cluster::system::{ProcessRow, System};
+use ec_code::code::Parts;
 use ec_world::class::ClassNo;
 use ec_world::node::NodeSpec;
 use ec_world::process::ProcStatus;
+use ec_world::room::{Lack, Needs, lack_at};
 use ec_world::value::{NodeNo, Oid, Text};
 use std::alloc::{AllocError, Global};
 

@@ -10,10 +10,10 @@ ghost use Rattle.ec_world.specs.declared.doing.Doing.TheVariants.{Makes, MakesVe
 
 use crate::plain::only;
 use ec_base::list::Seq;
-use ec_cluster::making;
 use ec_cluster::forward::directory::Directory;
-use ec_monitors::monitor::Monitor;
+use ec_cluster::making;
 use ec_cluster::system::System;
+use ec_monitors::monitor::Monitor;
 use ec_world::class::{ClassNo, ClassRec, Classes, FieldRec, VectorType};
 use ec_world::doing::Outcome;
 use ec_world::stop::{Effect, Who};

@@ -9,8 +9,8 @@ ghost use Rattle.ec_world.specs.World as spec;
 ghost use Rattle.ec_world.specs.World.{changed};
 
 use ec_base::list::Seq;
-use ec_monitors::record::Granted;
 use ec_cluster::system::ProcessRow;
+use ec_monitors::record::Granted;
 use ec_world::process::ProcStatus;
 use ec_world::stop::{Effect, Queue};
 use ec_world::value::{Oid, Pid};

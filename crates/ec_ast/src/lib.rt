@@ -300,5 +300,3 @@ pub struct Constant {
 pub struct Program {
     pub constants: Items<Constant>,
 }
-
-

@@ -8,8 +8,8 @@ ghost use Rattle.ec_things.specs.Texts.{NoTexts};
 
 use ec_base::list::Seq;
 use ec_cluster::cluster::Cluster;
-use ec_parcels::mover::objects::remove_object;
 use ec_node_frames::frames::close_frame;
+use ec_parcels::mover::objects::remove_object;
 use ec_wire::parcel::{ActivationPart, ObjectPart};
 use ec_world::value::{NodeNo, Oid, Pid};
 

@@ -7,10 +7,10 @@ ghost use Rattle.ec_types.specs.Table.{IsTable};
 
 use crate::program::core_of;
 use ec_ast::Program;
-use ec_types::conform::TypeTable;
 use ec_core::Core;
 use ec_judge::program::{judged_program, scope_of};
 use ec_rules::StaticFault;
+use ec_types::conform::TypeTable;
 use std::alloc::{AllocError, Global};
 
 /// A program that breaks no static rule, with the table of its types, and with its core: in it each name, type and

@@ -8,12 +8,12 @@ use crate::holders::resolve_holder;
 use crate::resolver::{Made, Resolver, type_or};
 use crate::variables::Variables;
 use ec_ast::{self as tree, ConstantValue};
-use ec_types::conform::TypeTable;
 use ec_core::{Constant, Core};
 use ec_judge::holders::Heading;
 use ec_judge::walk::Walk;
-use ec_types::names::Names;
 use ec_rules::form::{constant_type, form_of};
+use ec_types::conform::TypeTable;
+use ec_types::names::Names;
 use sqlite_items::Items;
 use std::alloc::{AllocError, Global};
 

@@ -4,9 +4,9 @@ ghost use Rattle.ec_check.specs.Making.{env_of};
 ghost use Rattle.ec_check.specs.Places as spec;
 
 use crate::variables::Variables;
-use ec_types::conform::static_type::StaticType;
 use ec_core::{Class, Operation, Place};
 use ec_judge::walk::Walk;
+use ec_types::conform::static_type::StaticType;
 use ec_types::names::Names;
 use ec_types::scopes::{Entries, Found};
 use sqlite_items::Items;

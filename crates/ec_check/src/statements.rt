@@ -17,10 +17,10 @@ ghost use Rattle.ec_types.specs.Scopes.{in_a_loop};
 use crate::expressions::resolve;
 use crate::resolver::{Resolver, type_or};
 use ec_ast::{self as tree, Name, TypeName};
-use ec_types::conform::static_type::StaticType;
 use ec_core::{Arm, At, Block, Expression, Link, Statement};
 use ec_judge::blocks::entry;
 use ec_rules::form::{constant_type, form_of};
+use ec_types::conform::static_type::StaticType;
 use sqlite_items::{Boxed, Items};
 use std::alloc::{AllocError, Global};
 

@@ -2,9 +2,9 @@
 ghost use Rattle.std.specs.Prelude.{◌≡◌};
 ghost use Rattle.ec_cluster.specs.Images.{image_of};
 
+use crate::forward::directory::Directory;
 use ec_base::list::Seq;
 use ec_code::code::Parts;
-use crate::forward::directory::Directory;
 use ec_generate::image::Image;
 use ec_stores::node::NodeStore;
 use ec_world::node::Kind;

@@ -13,9 +13,9 @@ ghost use Rattle.ec_generate.specs.declared.table.StopEntry.{StopEntry};
 ghost use Rattle.ec_world.specs.declared.process.Proc.{Proc};
 ghost use Rattle.ec_world.specs.declared.process.ProcStatus.{ProcStatus};
 
-use crate::stops::{entry_of, table_of};
 use crate::cluster::Cluster;
 use crate::objects::node_of;
+use crate::stops::{entry_of, table_of};
 use ec_node_frames::begin::begin_frame;
 use ec_node_frames::finish::finish_frame;
 use ec_node_frames::frames::close_frame;

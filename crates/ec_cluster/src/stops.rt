@@ -12,8 +12,8 @@ ghost use Rattle.ec_stores.specs.Node.{store_of};
 ghost use Rattle.ec_world.specs.declared.node.Kind.{Kind};
 
 use crate::cluster::Images;
-use ec_node_frames::frames::headings_of;
 use ec_generate::table::{OperationTable, StopEntry};
+use ec_node_frames::frames::headings_of;
 use ec_stores::node::NodeStore;
 use ec_world::value::Pid;
 

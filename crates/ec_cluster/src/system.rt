@@ -1,6 +1,6 @@
 //! Nodes that run a program, the rows of its processes, and what these have written.
-use ec_base::list::Seq;
 use crate::cluster::Cluster;
+use ec_base::list::Seq;
 use ec_world::process::ProcStatus;
 use ec_world::value::Text;
 

@@ -3,8 +3,8 @@ ghost use Rattle.std.specs.Prelude.{◌≡◌};
 ghost use Rattle.ec_code.specs.Live as spec;
 ghost use Rattle.ec_code.specs.Listed.{with_one, with_all, with_code, IsSmall};
 
-use ec_base::list::Seq;
 use crate::code::{Op, Operand, Test, Variable};
+use ec_base::list::Seq;
 
 /// Numbers of variables from 0, so many of named ones and so many of temporaries: each at most 2^32.
 #[derive(Clone, Copy)]

@@ -4,10 +4,10 @@ ghost use Rattle.ec_code.specs.declared.code.Variable.{Variable};
 ghost use Rattle.ec_code.specs.Live.{IsLiveList};
 ghost use Rattle.ec_code.specs.Listed.{listed};
 
+use crate::code::{Op, Variable};
 use crate::extent::extent_of;
 use crate::rows::{Kind, add_marked, rows_of};
 use ec_base::list::Seq;
-use crate::code::{Op, Variable};
 use std::alloc::{AllocError, Global};
 
 /// For each place of the code, from 0, the variables that are live there: those that some way from there reads before it writes

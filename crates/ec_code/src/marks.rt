@@ -2,9 +2,9 @@
 ghost use Rattle.std.specs.Prelude.{◌≡◌, length, IfOk};
 ghost use Rattle.ec_code.specs.Marks.{Swept, AreLive};
 
+use crate::code::{Op, Variable};
 use crate::steps::is_missing;
 use ec_base::list::Seq;
-use crate::code::{Op, Variable};
 use std::alloc::{AllocError, Global};
 
 /// The places at which a variable is live are marked. The error is want of memory.

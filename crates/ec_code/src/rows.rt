@@ -2,10 +2,10 @@
 ghost use Rattle.std.specs.Prelude.{◌≡◌, ◌≤◌, ◌^◌, ◌++◌, length, IfOk, OnOk};
 ghost use Rattle.ec_code.specs.Listed.{variable_of, AreRows, marked_at};
 
+use crate::code::{Op, Variable};
 use crate::marks::live_places;
 use crate::steps::is_marked;
 use ec_base::list::Seq;
-use crate::code::{Op, Variable};
 use std::alloc::{AllocError, Global};
 
 /// The two kinds of variables.

@@ -3,8 +3,8 @@ ghost use Rattle.std.specs.Prelude.{◌≡◌, ◌<◌, ◌+◌, suc, length};
 ghost use Rattle.ec_code.specs.Live as spec;
 ghost use Rattle.ec_code.specs.Marks as table;
 
-use ec_base::list::Seq;
 use crate::code::{Op, Operand, Test, Variable};
+use ec_base::list::Seq;
 use ec_world::stop::Stop;
 
 /// Whether a place isn't marked, and the variable is live there by its step and by what is marked where the code may go on.

@@ -5,9 +5,9 @@ ghost use Rattle.ec_world.specs.Run.{statuses_of};
 use ec_code::activation::CodeActivation;
 use ec_report::driver::{Driver, Refusal};
 use ec_stepping::code::Code;
-use ec_world::running::Running;
 use ec_world::process::ProcStatus;
 use ec_world::run::RunEntry;
+use ec_world::running::Running;
 use std::alloc::{AllocError, Global};
 
 /// Code that is run step by step, and the world that it has made so far.

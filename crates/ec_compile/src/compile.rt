@@ -12,10 +12,10 @@ ghost use Rattle.ec_machine_code.specs.Speaks.{Speaks, words_end};
 ghost use Rattle.ec_generate.specs.Addresses.{address_in};
 ghost use Rattle.ec_generate.specs.Tables.{AreTablesOf, all_homes};
 
-use ec_generate::kind::Kind;
-use ec_generate::image::{Image, build};
-use ec_machine_code::laws::Target;
 use crate::program::LoweredProgram;
+use ec_generate::image::{Image, build};
+use ec_generate::kind::Kind;
+use ec_machine_code::laws::Target;
 use ec_meaning::source::Program;
 use std::alloc::{AllocError, Global};
 

@@ -4,12 +4,12 @@ ghost use Rattle.ec_expressions.specs.Emitting as emitting;
 ghost use Rattle.ec_meaning.specs.Programs as source;
 ghost use Rattle.ec_meaning.specs.Types as static_types;
 
+use crate::literals::Literals;
 use crate::tables::Tables;
 use ec_code::code::{Op, Operand, Variable};
-use ec_types::conform::static_type::StaticType;
 use ec_core::{At, Place};
-use crate::literals::Literals;
 use ec_meaning::types::{number_of, viewed_as};
+use ec_types::conform::static_type::StaticType;
 use ec_world::class::{ClassNo, NameNo, ViewedAs};
 use std::alloc::AllocError;
 

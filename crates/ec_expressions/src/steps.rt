@@ -13,9 +13,9 @@ use crate::rows::{above, own_rest, rest};
 use crate::types::{BOOLEAN, INTEGER, NODE, builtin_type, stop_of};
 use ec_ast::Comparison;
 use ec_code::code::{Arithmetic, Op, Operand, Test, Variable};
-use ec_types::conform::static_type::{Plain, StaticType};
 use ec_core::{At, Compared, Expression, Link};
 use ec_meaning::types::{number_of, vector_type};
+use ec_types::conform::static_type::{Plain, StaticType};
 use ec_world::stop::Stop;
 use std::alloc::AllocError;
 

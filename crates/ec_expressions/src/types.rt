@@ -3,8 +3,8 @@ ghost use Rattle.std.specs.Prelude.{◌≡◌};
 ghost use Rattle.ec_emission.specs.Expressions as spec;
 ghost use Rattle.ec_meaning.specs.Steps as meaning;
 
-use ec_types::conform::static_type::{Plain, StaticType};
 use ec_core::Builtin;
+use ec_types::conform::static_type::{Plain, StaticType};
 use ec_world::stop::Stop;
 
 pub(crate) const INTEGER: StaticType = StaticType::Plain(Plain::Integer);

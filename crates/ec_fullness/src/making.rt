@@ -10,9 +10,9 @@ ghost use Rattle.ec_world.specs.declared.class.ClassNo.TheVariants.{Vector};
 use crate::nodes::lack_at;
 use ec_base::list::Seq;
 use ec_cluster::cluster::Cluster;
-use ec_world::room::Lack;
 use ec_stores::rows::class_blocks;
 use ec_world::class::{ClassNo, FieldRec, VectorType};
+use ec_world::room::Lack;
 use ec_world::value::{Oid, ValueType, Values, copy_values};
 use std::alloc::{AllocError, Global};
 

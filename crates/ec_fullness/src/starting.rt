@@ -13,9 +13,9 @@ ghost use Rattle.ec_world.specs.declared.value.Value.TheVariants.{Ref};
 use ec_cluster::cluster::Cluster;
 use ec_cluster::objects::node_of;
 use ec_code::code::{Live, Variable};
+use ec_generate::table::OperationTable;
 use ec_objects::lacks::lack_of;
 use ec_world::room::Lack;
-use ec_generate::table::OperationTable;
 use ec_world::value::{Oid, OpNo, Value};
 use std::alloc::{AllocError, Global};
 

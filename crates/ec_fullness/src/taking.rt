@@ -13,12 +13,12 @@ ghost use Rattle.ec_world.specs.declared.doing.Doing.{Doing};
 ghost use Rattle.ec_world.specs.declared.process.Proc.{Proc};
 
 use ec_cluster::cluster::Cluster;
-use ec_cluster::objects::node_of;
 use ec_cluster::finding::headings_at;
+use ec_cluster::objects::node_of;
 use ec_cluster::stops::{entry_of, table_of};
+use ec_cluster::system::System;
 use ec_objects::lacks::lack_of;
 use ec_world::room::Lack;
-use ec_cluster::system::System;
 use ec_world::stop::Who;
 use ec_world::value::{Oid, Pid, Value};
 use std::alloc::{AllocError, Global};

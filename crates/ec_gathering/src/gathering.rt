@@ -8,9 +8,9 @@ use crate::bringing::{bring, flag};
 use crate::lacking::lack_of;
 use crate::shipping::ship;
 use ec_cluster::objects::node_of;
+use ec_cluster::system::System;
 use ec_parcels::mover::classes::ClassNumbers;
 use ec_world::room::Lack;
-use ec_cluster::system::System;
 use ec_world::value::Oid;
 use std::alloc::{AllocError, Global};
 

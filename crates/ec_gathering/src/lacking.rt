@@ -10,11 +10,11 @@ ghost use Rattle.ec_wire.specs.declared.parcel.Contents.{Contents};
 
 use crate::shipping::Shipment;
 use ec_cluster::cluster::Cluster;
-use ec_parcels::mover::classes::ClassNumbers;
-use ec_world::room::Lack;
 use ec_packing::room::lack_for;
+use ec_parcels::mover::classes::ClassNumbers;
 use ec_wire::error::ReadError;
 use ec_wire::parcel::Parcel;
+use ec_world::room::Lack;
 use ec_world::value::NodeNo;
 use std::alloc::{AllocError, Global};
 

@@ -6,9 +6,9 @@ ghost use Rattle.ec_gathering.specs.Gathers.{MayGather};
 ghost use Rattle.ec_gathering.specs.Shipping.{AreShipped, HasNoneAt, HasSomeAt, MayShip};
 
 use ec_cluster::cluster::Cluster;
-use ec_parcels::mover::classes::ClassNumbers;
-use ec_packing::packing::pack;
 use ec_cluster::system::System;
+use ec_packing::packing::pack;
+use ec_parcels::mover::classes::ClassNumbers;
 use ec_world::value::{NodeNo, Oid};
 use std::alloc::{AllocError, Global};
 

@@ -9,8 +9,8 @@ ghost use Rattle.ec_generate.specs.Entries as spec;
 use crate::table::StopEntry;
 use ec_base::list::Seq;
 use ec_code::code::{Line, Live, Op, StopRow, Variable};
-use ec_types::conform::static_type::StaticType;
 use ec_code::steps::is_same;
+use ec_types::conform::static_type::StaticType;
 use ec_world::stop::Stop;
 use std::alloc::{AllocError, Global};
 

@@ -15,13 +15,13 @@ ghost use Rattle.ec_machine_code.specs.Speaks.{Speaks, words_end};
 ghost use Rattle.ec_generate.specs.Addresses.{address_in};
 ghost use Rattle.ec_generate.specs.Tables.{AreTablesOf, all_homes};
 
-use ec_code::code::Parts;
-use ec_machine_code::code::Code;
+use crate::assign::assign;
 use crate::kind::Kind;
 use crate::program::generate;
-use ec_machine_code::laws::Target;
-use crate::assign::assign;
 use crate::table::StopTable;
+use ec_code::code::Parts;
+use ec_machine_code::code::Code;
+use ec_machine_code::laws::Target;
 use std::alloc::{AllocError, Global};
 
 /// How many slots a frame has.

@@ -14,11 +14,11 @@ use crate::kind::Kind;
 use crate::operation::put_operation;
 use crate::site::Site;
 use crate::sizes::span_of;
+use crate::table::StopTable;
 use ec_base::list::Seq;
 use ec_code::code::{Operation, Parts};
 use ec_machine_code::code::Code;
 use ec_machine_code::homes::Home;
-use crate::table::StopTable;
 use std::alloc::{AllocError, Global};
 
 /// An operation with the places to which its steps lead and the homes of its variables.

@@ -9,9 +9,9 @@ ghost use Rattle.ec_generate.specs.Tables.{home_at, home_in, is_live_at, stops_a
 use crate::addresses::Addresses;
 use ec_base::list::Seq;
 use ec_code::code::{Live, Variable};
+use ec_code::steps::is_same;
 use ec_machine_code::code::Code;
 use ec_machine_code::homes::Home;
-use ec_code::steps::is_same;
 use ec_world::value::OpNo;
 use std::alloc::AllocError;
 

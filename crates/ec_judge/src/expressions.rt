@@ -21,7 +21,6 @@ use crate::holders::judge_object;
 use crate::links::{look_head, look_links};
 use crate::walk::{Looked, Walk};
 use ec_ast::{Addend, Comparison, Expression, Factor, Literal, Name, Span, TypeName};
-use ec_types::conform::static_type::{StaticType, known, vector_of};
 use ec_rules::Rule;
 use ec_rules::calls::type_of_self;
 use ec_rules::captures::note_use;
@@ -34,6 +33,7 @@ use ec_rules::names::{is_found, known_type, type_place};
 use ec_rules::operands::{
     BOOLEAN, INTEGER, NODE, STRING, Wanted, comparison, fits, result_type, sum, wants, wants_all,
 };
+use ec_types::conform::static_type::{StaticType, known, vector_of};
 use ec_types::scopes::Found;
 use std::alloc::{AllocError, Global};
 

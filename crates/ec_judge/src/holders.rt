@@ -27,10 +27,6 @@ use crate::walk::{Looked, Walk};
 use ec_ast::{
     Body, Class, Member, Name, ObjectConstructor, Operation, Parameter, ProcessSection, TypeName,
 };
-use ec_types::conform::TypeTable;
-use ec_types::conform::operations::{NamedOperation, Operations};
-use ec_types::conform::static_type::{Plain, StaticType, is_value};
-use ec_types::names::Names;
 use ec_rules::Rule;
 use ec_rules::captures::{Uses, captured, use_outside};
 use ec_rules::faults::Faults;
@@ -40,6 +36,10 @@ use ec_rules::measures::{few_parameters, measured_operation, plus};
 use ec_rules::names::{
     distinct, known_operation, known_parameters, known_type, known_type_if, new_type, same_name,
 };
+use ec_types::conform::TypeTable;
+use ec_types::conform::operations::{NamedOperation, Operations};
+use ec_types::conform::static_type::{Plain, StaticType, is_value};
+use ec_types::names::Names;
 use ec_types::scopes::{Entries, Object, Scope};
 use sqlite_items::Items;
 use std::alloc::{AllocError, Global};

@@ -11,7 +11,6 @@ ghost use Rattle.ec_rules.specs.Tree.{part_of, link_of};
 use crate::expressions::{value, values};
 use crate::walk::{Looked, Walk, type_unless};
 use ec_ast::{Expression, Link, Name, Span};
-use ec_types::conform::static_type::StaticType;
 use ec_rules::calls::{
     Receiver, call, callee_of, index, result_of, type_indexed, type_of_receiver,
 };
@@ -19,6 +18,7 @@ use ec_rules::faults::Faults;
 use ec_rules::form::{Form, form_of, is_creation};
 use ec_rules::judged::Judged;
 use ec_rules::measures::{plus, stacked, total_nodes};
+use ec_types::conform::static_type::StaticType;
 use ec_types::scopes::Scope;
 use std::alloc::{AllocError, Global};
 

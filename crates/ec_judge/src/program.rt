@@ -20,7 +20,6 @@ use crate::walk::Walk;
 use ec_ast::{
     Class, Constant, ConstantValue, Expression, Name, Program, Signature, TypeName, Typeobject,
 };
-use ec_types::conform::TypeTable;
 use ec_rules::StaticFault;
 use ec_rules::captures::Uses;
 use ec_rules::faults::Faults;
@@ -28,6 +27,7 @@ use ec_rules::form::{Form, constant_type, form_of};
 use ec_rules::judged::{Done, Judged};
 use ec_rules::measures::small_operation;
 use ec_rules::names::{distinct, known_signature, known_type_if, new_type, same_name};
+use ec_types::conform::TypeTable;
 use ec_types::scopes::{ClassMeant, Global as Meant, Globals, Meaning, Scope};
 use sqlite_items::Items;
 use std::alloc::{AllocError, Global};

@@ -4,10 +4,10 @@ ghost use Rattle.ec_judge.specs.Walks as spec;
 ghost use Rattle.ec_rules.specs.Calls as calls;
 
 use ec_ast::Span;
-use ec_types::conform::static_type::StaticType;
 use ec_rules::captures::Uses;
 use ec_rules::faults::Faults;
 use ec_rules::judged::Judged;
+use ec_types::conform::static_type::StaticType;
 use ec_types::scopes::Scope;
 
 /// A walk: what is in scope, what faults were met, and which names were used, in their order.

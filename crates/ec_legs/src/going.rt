@@ -10,8 +10,8 @@ ghost use Rattle.ec_world.specs.World.{GoOn};
 
 use crate::machines::Machines;
 use crate::nodes::run_here;
-use ec_cluster::objects::node_of;
 use ec_cluster::finding::headings_at;
+use ec_cluster::objects::node_of;
 use ec_cluster::system::System;
 use ec_world::value::Pid;
 

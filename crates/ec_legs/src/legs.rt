@@ -5,8 +5,8 @@ ghost use Rattle.ec_stores.specs.Node.{store_of};
 
 use crate::kind::NativeKind;
 use crate::machine::{go_behind_stop, rest_at};
-use ec_machine_code::code::Code;
 use ec_generate::table::StopTable;
+use ec_machine_code::code::Code;
 use ec_stores::node::NodeStore;
 use ec_target::machine::Machine;
 use ec_world::value::Pid;

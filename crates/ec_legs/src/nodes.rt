@@ -2,11 +2,11 @@
 ghost use Rattle.ec_legs.specs.Nodes.{EachHasGoneOn, RunsOn, SomeSteps};
 ghost use Rattle.ec_stores.specs.Node.{store_of};
 
-use crate::machines::Machines;
-use ec_cluster::cluster::Images;
 use crate::legs;
+use crate::machines::Machines;
 use crate::mips::MipsKind;
 use crate::riscv::RiscvKind;
+use ec_cluster::cluster::Images;
 use ec_stores::node::NodeStore;
 use ec_world::node::Kind;
 use ec_world::value::Pid;

@@ -5,16 +5,16 @@ ghost use Rattle.ec_emission.specs.Lowered as spec;
 ghost use Rattle.ec_meaning.specs.Sources.{source_of};
 ghost use Rattle.ec_world.specs.Agree.{AllTwo};
 
+use crate::lines::operations::{operation_of, program_operation};
+use crate::statements::operations::{operation_ops, program_ops};
 use ec_base::list::Seq;
 use ec_code::code::{Operation as Made, Parts};
-use ec_types::conform::static_type::StaticType;
 use ec_core::{Constant, Operation};
-use ec_expressions::tables::Tables;
-use crate::lines::operations::{operation_of, program_operation};
 use ec_expressions::literals::{Literals, literals_of};
+use ec_expressions::tables::Tables;
 use ec_meaning::classes::classes_of;
 use ec_meaning::source::Program;
-use crate::statements::operations::{operation_ops, program_ops};
+use ec_types::conform::static_type::StaticType;
 use std::alloc::{AllocError, Global};
 
 /// The program that a source is lowered to. The error is want of memory, a number of more than 31 bits, or one of a

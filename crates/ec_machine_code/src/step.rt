@@ -1,6 +1,6 @@
 //! Steps on words: what machine code of either kind does for a step of three-address code.
-use ec_code::code::Arithmetic;
 use crate::homes::Home;
+use ec_code::code::Arithmetic;
 
 /// Where a step finds a word: in a home, or in the code itself.
 #[derive(Clone, Copy, PartialEq, Eq, Debug)]

@@ -4,8 +4,8 @@ ghost use Rattle.ec_meaning.specs.Programs as spec;
 ghost use Rattle.ec_meaning.specs.Kept.{AreLines};
 
 use crate::types::number_of;
-use ec_types::conform::TypeTable;
 use ec_core::{At, Class, Constant, Core, Kind, Operation};
+use ec_types::conform::TypeTable;
 use ec_types::names::Names;
 use ec_world::class::{ClassNo, NameNo};
 use ec_world::value::OpNo;

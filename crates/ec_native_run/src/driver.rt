@@ -4,9 +4,9 @@ ghost use Rattle.ec_native_run.specs.Following as spec;
 ghost use Rattle.ec_native_run.specs.Following.{Follows, FullNext};
 
 use crate::processes::statuses_in;
-use ec_report::driver::{Driver, Refusal};
 use ec_network::nodes_running::network::Network;
 use ec_network::nodes_running::turns::TurnError;
+use ec_report::driver::{Driver, Refusal};
 use ec_world::node::NodeSpec;
 use ec_world::process::ProcStatus;
 use ec_world::run::RunEntry;

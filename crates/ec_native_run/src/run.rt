@@ -15,16 +15,16 @@ ghost use Rattle.ec_world.specs.declared.process.ProcStatus.{ProcStatus as AStat
 use crate::driver::OnNodes;
 use crate::processes::statuses_in;
 use crate::report::{load_report, report};
-use ec_report::drive::{Ended, drive};
 use ec_acts::load::LoadError;
 use ec_meaning::source::Program;
-use ec_world::room::Lack;
 use ec_network::nodes_running::network::Network;
 use ec_report::answer::Answer;
+use ec_report::drive::{Ended, drive};
 use ec_report::end::ReportEnd;
 use ec_report::status::{Status, status_after};
 use ec_runnable::prepare::prepare;
 use ec_world::node::NodeSpec;
+use ec_world::room::Lack;
 use ec_world::run::Entry;
 use std::alloc::{AllocError, Global};
 

@@ -5,12 +5,12 @@ ghost use Rattle.ec_meaning.specs.Sources.{source_of};
 use crate::error::Fault;
 use ec_check::check::check;
 use ec_compile::compile::Compiled;
+use ec_compile::mips_compile::compile_for_mips;
+use ec_compile::rv_compile::compile_for_riscv;
 use ec_lexer::lex;
 use ec_meaning::source::Program;
 use ec_parser::parse;
 use ec_world::node::Kind;
-use ec_compile::mips_compile::compile_for_mips;
-use ec_compile::rv_compile::compile_for_riscv;
 use std::alloc::{AllocError, Global};
 use std::mem::ManuallyDrop;
 

@@ -1,8 +1,8 @@
 //! The stops of native code that a run of a loop comes to.
 use ec_code::code::{Op, Operation, Parts, StopRow};
 use ec_compile::compile::Compiled;
-use ec_machine_code::homes::Home;
 use ec_generate::table::StopId;
+use ec_machine_code::homes::Home;
 use ec_world::stop::Stop;
 
 /// The address of the entry of the first operation that has a loop.

@@ -12,10 +12,10 @@ ghost use Rattle.ec_world.specs.Group.{Has};
 ghost use Rattle.ec_world.specs.declared.value.Value.TheVariants.{Ref, Str};
 
 use crate::carried::{carried, home_word, live_at};
-use ec_code::code::Live;
 use crate::frames::Headings;
-use ec_objects::values::{word_for, words_for};
+use ec_code::code::Live;
 use ec_generate::table::{OperationTable, StopEntry};
+use ec_objects::values::{word_for, words_for};
 use ec_stores::node::NodeStore;
 use ec_world::value::{Oid, Pid, Value};
 use std::alloc::{AllocError, Global};

@@ -13,8 +13,8 @@ ghost use Rattle.ec_world.specs.declared.value.Value.TheVariants.{Ref, Str};
 
 use crate::frames::home_word;
 use ec_code::code::{Live, Variable};
-use ec_objects::values::words_for;
 use ec_generate::table::OperationTable;
+use ec_objects::values::words_for;
 use ec_stores::node::NodeStore;
 use ec_world::value::{Oid, OpNo, Pid, Value};
 use std::alloc::{AllocError, Global};

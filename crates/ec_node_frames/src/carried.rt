@@ -18,11 +18,11 @@ ghost use Rattle.ec_world.specs.declared.value.Value.{Value as ValueData};
 
 use ec_base::list::Seq;
 use ec_code::code::Live;
-use ec_types::conform::static_type::{Plain, StaticType};
+use ec_generate::table::{OperationTable, StopEntry};
 use ec_machine_code::homes::Home;
 use ec_objects::values::value_of;
-use ec_generate::table::{OperationTable, StopEntry};
 use ec_stores::node::NodeStore;
+use ec_types::conform::static_type::{Plain, StaticType};
 use ec_world::value::{Pid, Value, ValueType, Values};
 use std::alloc::{AllocError, Global};
 

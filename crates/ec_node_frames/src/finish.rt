@@ -13,8 +13,8 @@ ghost use Rattle.ec_things.specs.Texts.{GetsTexts};
 
 use crate::frames::{PENDING, home_word};
 use ec_code::code::Variable;
-use ec_objects::values::word_for;
 use ec_generate::table::{OperationTable, StopEntry};
+use ec_objects::values::word_for;
 use ec_stores::node::NodeStore;
 use ec_world::value::{Pid, Value};
 use std::alloc::AllocError;

@@ -15,10 +15,10 @@ ghost use Rattle.ec_world.specs.declared.value.Value.{Value as ValueData};
 use crate::frames::home_word;
 use ec_base::list::Seq;
 use ec_code::code::Live;
-use ec_types::conform::static_type::{Plain, StaticType};
-use ec_objects::values::value_of;
 use ec_generate::table::{OperationTable, StopEntry};
+use ec_objects::values::value_of;
 use ec_stores::node::NodeStore;
+use ec_types::conform::static_type::{Plain, StaticType};
 use ec_world::value::{Pid, Value, ValueType, Values};
 use std::alloc::{AllocError, Global};
 

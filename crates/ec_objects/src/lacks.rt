@@ -4,8 +4,8 @@ ghost use Rattle.ec_objects.specs.Lacks.{HasRoomForAll, LacksRoom};
 ghost use Rattle.ec_stores.specs.Node.{store_of};
 
 use crate::texts::new_bytes;
-use ec_world::room::{Lack, Needs, lack_at};
 use ec_stores::node::NodeStore;
+use ec_world::room::{Lack, Needs, lack_at};
 use ec_world::value::{NodeNo, Value};
 use std::alloc::{AllocError, Global};
 

@@ -8,9 +8,9 @@ ghost use Rattle.ec_packing.specs.Standing.{AreOnMembers, AreOnOneMore, IsOnMemb
 ghost use Rattle.ec_stores.specs.Node.{NodeData, store_of};
 
 use ec_base::list::Seq;
+use ec_cluster::system::System;
 use ec_parcels::mover::activations::activation_part;
 use ec_stores::node::NodeStore;
-use ec_cluster::system::System;
 use ec_wire::parcel::ActivationPart;
 use ec_world::value::{NodeNo, Oid, Pid};
 use std::alloc::{AllocError, Global};

@@ -9,9 +9,9 @@ ghost use Rattle.ec_packing.specs.Packing.{CanGo, CanGoBySome, CanGoInSome, moni
 
 use ec_base::list::Seq;
 use ec_cluster::cluster::Cluster;
+use ec_cluster::system::System;
 use ec_parcels::mover::classes::ClassNumbers;
 use ec_parcels::mover::objects::{monitor_part, object_part};
-use ec_cluster::system::System;
 use ec_wire::parcel::{MonitorPart, ObjectPart};
 use ec_world::value::{NodeNo, Oid};
 use std::alloc::{AllocError, Global};

@@ -8,12 +8,12 @@ ghost use Rattle.ec_parcels.specs.Owners as owners;
 ghost use Rattle.ec_parcels.specs.Owners.{values_in};
 ghost use Rattle.ec_stores.specs.Node.{store_of};
 
-use ec_parcels::mover::classes::ClassNumbers;
 use ec_objects::texts::new_bytes;
-use ec_world::room::{Lack, Needs, lack_at};
+use ec_parcels::mover::classes::ClassNumbers;
 use ec_stores::node::NodeStore;
 use ec_stores::rows::class_blocks;
 use ec_wire::parcel::{ActivationPart, ObjectPart, Parcel};
+use ec_world::room::{Lack, Needs, lack_at};
 use ec_world::value::{NodeNo, Value, Values};
 use std::alloc::{AllocError, Global};
 

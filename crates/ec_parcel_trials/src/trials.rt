@@ -10,11 +10,11 @@ ghost use Rattle.ec_world.specs.declared.value.Value.TheVariants.{Ref};
 
 use ec_base::list::Seq;
 use ec_code::code::{Live, Variable};
-use ec_types::conform::static_type::{Plain, StaticType};
+use ec_generate::table::{OperationTable, StopEntry};
 use ec_machine_code::homes::Home;
 use ec_parcels::mover::activations::put_activation;
-use ec_generate::table::{OperationTable, StopEntry};
 use ec_stores::node::NodeStore;
+use ec_types::conform::static_type::{Plain, StaticType};
 use ec_wire::parcel::ActivationPart;
 use ec_wire::read;
 use ec_world::node::Kind;

@@ -3,8 +3,8 @@ ghost use Rattle.std.specs.Prelude.{◌≡◌, IfOk};
 ghost use Rattle.ec_plain.specs.Coming.{MeaningComes, NeverFull};
 ghost use Rattle.ec_world.specs.Run.{statuses_of};
 
-use ec_report::driver::{Driver, Refusal};
 use ec_meaning::meaning::Meaning;
+use ec_report::driver::{Driver, Refusal};
 use ec_world::process::ProcStatus;
 use ec_world::run::RunEntry;
 use std::alloc::{AllocError, Global};

@@ -9,10 +9,10 @@ ghost use Rattle.ec_world.specs.Run.{statuses_of};
 
 use crate::driver::{Plainly, statuses_in};
 use crate::report::report;
-use ec_report::drive::{Ended, drive};
 use ec_meaning::meaning::Meaning;
 use ec_meaning::source::Program;
 use ec_report::answer::Answer;
+use ec_report::drive::{Ended, drive};
 use ec_report::status::status_after;
 use ec_world::node::NodeSpec;
 use ec_world::run::Entry;

@@ -4,8 +4,8 @@ ghost use Rattle.ec_world.specs.Run.{expanded, last_of, tail_of};
 ghost use Rattle.ec_report.specs.Progress.{IsStep, advanced, at_start};
 ghost use Rattle.ec_report.specs.Lines.{HasLeft, begins_empty, entry_count, entry_of, first_of, left_of};
 
-use crate::step::{Step, robin_step};
 use crate::processes::ready_ones;
+use crate::step::{Step, robin_step};
 use ec_world::process::ProcStatus;
 use ec_world::run::{Entry, RunEnd, RunEntry};
 use ec_world::value::Pid;

@@ -6,8 +6,8 @@ ghost use Rattle.ec_report.specs.Progress.{at_start};
 
 use crate::course::Course;
 use crate::driver::{Driver, Refusal};
-use crate::step::Step;
 use crate::end::ReportEnd;
+use crate::step::Step;
 use ec_world::run::Entry;
 use std::alloc::{AllocError, Global};
 

@@ -6,8 +6,8 @@ ghost use Rattle.ec_world.specs.declared.room.Part.{Part as APart};
 ghost use Rattle.ec_report.specs.Progress.{Progress};
 ghost use Rattle.ec_report.specs.declared.driver.Refusal.TheVariants.{Memory};
 
-use ec_world::room::Part;
 use ec_world::process::ProcStatus;
+use ec_world::room::Part;
 use ec_world::run::RunEntry;
 use ec_world::value::NodeNo;
 use std::alloc::{AllocError, Global};

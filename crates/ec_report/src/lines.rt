@@ -7,9 +7,9 @@ ghost use Rattle.ec_report.specs.Report.{cause_number, status_text, process_line
 ghost use Rattle.ec_report.specs.Report.{object_line, kind_text, node_line, part_text, end_line, turns_line};
 
 use crate::end::ReportEnd;
-use ec_world::room::Part;
 use ec_world::node::{Kind, NodeSpec};
 use ec_world::process::{Cause, ProcStatus};
+use ec_world::room::Part;
 use ec_world::run::RunEnd;
 use ec_world::value::{NodeNo, Oid};
 use std::alloc::{AllocError, Global};

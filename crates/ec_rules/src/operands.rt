@@ -9,7 +9,9 @@ use crate::faults::Faults;
 use crate::judged::{Added, Judged};
 use ec_ast::{Additive, Comparison, Span};
 use ec_types::conform::TypeTable;
-use ec_types::conform::static_type::{Plain, StaticType, is_reference_type, is_same_type, is_value};
+use ec_types::conform::static_type::{
+    Plain, StaticType, is_reference_type, is_same_type, is_value,
+};
 
 /// What a place takes.
 #[derive(Clone, Copy, PartialEq, Eq, Debug)]

@@ -7,9 +7,9 @@ ghost use Rattle.ec_runnable.specs.Runnable.{IsRunnable};
 
 use ec_cluster::cluster::Images;
 use ec_code::code::Parts;
-use ec_meaning::source::Program;
 use ec_compile::mips_compile::compile_for_mips;
 use ec_compile::rv_compile::compile_for_riscv;
+use ec_meaning::source::Program;
 use std::alloc::{AllocError, Global};
 
 /// A program of three-address code, with its machine code and its stop table for each kind.

@@ -8,8 +8,8 @@ use crate::machine::Machine;
 use crate::walking::{AtStop, walk};
 use ec_code::activation::CodeActivation;
 use ec_code::code::{Line, Parts};
-use ec_world::silent::Silent;
 use ec_world::common::Common;
+use ec_world::silent::Silent;
 use ec_world::value::{OpNo, Value, Values, copy_values};
 use std::alloc::AllocError;
 

@@ -6,12 +6,12 @@ ghost use Rattle.ec_tool.specs.Refusals.{nodes_line, schedule_line};
 ghost use Rattle.ec_tool.specs.Sources.{accepted_line, refused_line};
 
 use crate::file::FileOf;
+use crate::refusal::{nodes_text, schedule_text};
+use crate::source::{Refused, refused_text};
 use ec_inputs::nodes::NodeRule;
 use ec_inputs::schedule::ScheduleRule;
 use ec_report::answer::{Answer, answer_with};
 use ec_report::status::Status;
-use crate::refusal::{nodes_text, schedule_text};
-use crate::source::{Refused, refused_text};
 use std::alloc::{AllocError, Global};
 
 /// The words name no command.

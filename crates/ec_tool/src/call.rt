@@ -8,11 +8,11 @@ ghost use Rattle.ec_native_run.specs.Runs.{Net as ANet};
 ghost use Rattle.ec_tool.specs.Reading.{WhereAsked};
 ghost use Rattle.ec_tool.specs.Taking.{asked_of};
 
+use crate::answers::{read_fault, usage};
+use crate::file::FileOf;
 use crate::files::{Unread, make_files, read_file, read_files};
 use crate::judge::{judge, judge_source};
 use crate::take::Work;
-use crate::answers::{read_fault, usage};
-use crate::file::FileOf;
 use crate::writing::write_answer;
 use ec_inputs::words::{CheckCommand, Command, DEFAULT_BUDGET, RunCommand, words_of};
 use ec_native_run::network::Network;

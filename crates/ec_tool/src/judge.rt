@@ -7,14 +7,14 @@ ghost use Rattle.ec_native_run.specs.Runs.{Net as ANet};
 ghost use Rattle.ec_tool.specs.Reading.{held_in, only};
 ghost use Rattle.ec_tool.specs.Taking.{AsksFor};
 
-use crate::files::Files;
-use crate::take::{Work, come_to_end};
 use crate::answers::{accepted, nodes_refused, schedule_refused, source_refused};
+use crate::files::Files;
+use crate::source::{SourceError, check_source, meant_source};
+use crate::take::{Work, come_to_end};
 use ec_inputs::nodes::{NodesError, read_nodes};
 use ec_inputs::schedule::{ScheduleError, read_schedule};
 use ec_native_run::network::Network;
 use ec_report::answer::Answer;
-use crate::source::{SourceError, check_source, meant_source};
 use std::alloc::{AllocError, Global};
 
 /// Judges the files of a run or a plain meaning, or the texts of a trial, and goes on to its end within so many entries.

@@ -17,14 +17,14 @@ mod row;
 pub mod static_type;
 
 use crate::conform::declared::{Declarations, declarations_of};
-use ec_ast::{Program, Span, TypeName};
-use crate::names::Names;
 use crate::conform::named_type::{firsts_of, names_of, places_of, types_with};
 use crate::conform::numbered::NumberedTypes;
 use crate::conform::operations::NamedOperation;
 use crate::conform::pairs::{conforms_by, largest};
 use crate::conform::row::Row;
 use crate::conform::static_type::{Plain, StaticType};
+use crate::names::Names;
+use ec_ast::{Program, Span, TypeName};
 use std::alloc::{AllocError, Global};
 use std::marker::Model;
 

@@ -3,11 +3,11 @@ ghost use Rattle.std.specs.Prelude.{◌≡◌, IfOk, map};
 ghost use Rattle.ec_world.specs.Places.{places};
 ghost use Rattle.ec_world.specs.Run.{statuses_of};
 
-use crate::running::Running;
-use crate::silent::Silent;
 use crate::activation::Activation;
 use crate::places::placement_after;
 use crate::process::ProcStatus;
+use crate::running::Running;
+use crate::silent::Silent;
 use crate::value::{NodeNo, Text};
 use std::alloc::{AllocError, Global};
 

@@ -5,15 +5,15 @@ ghost use Rattle.ec_world.specs.Turning.{advanced_top, is_done_top};
 ghost use Rattle.ec_world.specs.Moves.{OperatorMove};
 ghost use Rattle.ec_world.specs.World.{GoOn, Turn, stack_at, stack_if_ready};
 
-use crate::silent::Silent;
-use ec_base::list::Seq;
 use crate::activation::Activation;
 use crate::common::Common;
 use crate::event::Event;
 use crate::group::group;
 use crate::process::{Proc, ProcStatus};
+use crate::silent::Silent;
 use crate::value::{NodeNo, Oid, Pid};
 use crate::world::World;
+use ec_base::list::Seq;
 use std::alloc::{AllocError, Global};
 use std::mem::replace;
 

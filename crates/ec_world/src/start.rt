@@ -3,16 +3,16 @@ ghost use Rattle.std.specs.Prelude.{◌≡◌, ◌++◌, ◌∷◌, ◌<◌, [],
 ghost use Rattle.ec_world.specs.Run as spec;
 ghost use Rattle.ec_world.specs.Values.{defaults_of};
 
-use crate::running::Running;
-use crate::silent::Silent;
-use ec_base::list::Seq;
 use crate::activation::Activation;
 use crate::class::{ClassNo, Classes};
 use crate::common::Common;
 use crate::object::ObjectRec;
 use crate::process::{Proc, ProcStatus};
+use crate::running::Running;
+use crate::silent::Silent;
 use crate::value::{ValueType, Values};
 use crate::world::World;
+use ec_base::list::Seq;
 use std::alloc::{AllocError, Global};
 
 impl<A: Activation, S: Silent<A>> Running<A, S> {

@@ -5,8 +5,8 @@ ghost use Rattle.ec_cluster.specs.Seeing.{CanBeSeen, ShowsProgram};
 ghost use Rattle.ec_world.specs.Doings.{doing_of};
 ghost use Rattle.ec_world.specs.Sights.{sight_of};
 
-use crate::seen::seen::Seen;
 use crate::cluster::Cluster;
+use crate::seen::seen::Seen;
 use ec_world::doing::Doing;
 use ec_world::doings::doing;
 use ec_world::stop::{Stop, Who};

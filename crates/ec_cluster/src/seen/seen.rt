@@ -8,9 +8,9 @@ ghost use Rattle.ec_stores.specs.Node.{store_of};
 ghost use Rattle.ec_world.specs.Objects.{object_at};
 ghost use Rattle.ec_world.specs.Sights.{sight_of};
 
+use crate::cluster::Cluster;
 use crate::seen::searching::members;
 use ec_base::list::Seq;
-use crate::cluster::Cluster;
 use ec_objects::values::value_of;
 use ec_stores::node::NodeStore;
 use ec_stores::rows::Object;

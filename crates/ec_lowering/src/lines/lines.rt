@@ -8,8 +8,8 @@ use crate::lines::site::Site;
 use crate::lines::steps::{put_written, variable_type};
 use ec_base::list::Seq;
 use ec_code::code::{Line, Live, Op, Variable};
-use ec_types::conform::static_type::StaticType;
 use ec_code::live::live_lists;
+use ec_types::conform::static_type::StaticType;
 use std::alloc::{AllocError, Global};
 
 /// The lines of these steps: each with the variables that are live before it, and their types. The error is want of memory.

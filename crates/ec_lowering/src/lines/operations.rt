@@ -10,9 +10,9 @@ use crate::lines::lines::lines_of;
 use crate::lines::site::Site;
 use ec_base::list::Seq;
 use ec_code::code::{Op, Operation as Made};
-use ec_types::conform::static_type::{Plain, StaticType};
 use ec_core::{Kind, Operation};
 use ec_meaning::source::Program;
+use ec_types::conform::static_type::{Plain, StaticType};
 use ec_world::class::ClassNo;
 use std::alloc::{AllocError, Global};
 

@@ -1,6 +1,6 @@
 //! What code is part of.
-use ec_types::conform::static_type::StaticType;
 use ec_meaning::source::Program;
+use ec_types::conform::static_type::StaticType;
 use ec_world::class::ClassNo;
 
 /// A program, the class whose objects an operation is of, and the types of the operation's named variables.

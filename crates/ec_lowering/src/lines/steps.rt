@@ -8,8 +8,8 @@ use crate::lines::temporaries::put_type;
 use crate::lines::types::{constant_type, field_type, own_type, type_at};
 use ec_base::list::Seq;
 use ec_code::code::{Op, Operand, Variable};
-use ec_types::conform::static_type::{Plain, StaticType};
 use ec_code::steps::written;
+use ec_types::conform::static_type::{Plain, StaticType};
 use std::alloc::AllocError;
 
 /// The type of a variable, by those of the temporaries.

@@ -6,8 +6,8 @@ ghost use Rattle.ec_emission.specs.Lowered.{class_declared};
 ghost use Rattle.ec_emission.specs.Types as spec;
 
 use crate::lines::site::Site;
-use ec_types::conform::static_type::{Plain, StaticType};
 use ec_core::Class;
+use ec_types::conform::static_type::{Plain, StaticType};
 use ec_world::class::{ClassNo, PlainType, VectorType};
 
 /// The type at a number; unknown where there is none.

@@ -9,14 +9,14 @@ use crate::statements::blocks::block;
 use crate::statements::statements::{leave, reset};
 use ec_base::list::Seq;
 use ec_code::code::Op;
-use ec_types::conform::static_type::StaticType;
 use ec_core::{Constant, Operation};
 use ec_expressions::backward::Backward;
 use ec_expressions::emitter::Emitter;
+use ec_expressions::literals::Literals;
 use ec_expressions::rows::{bare, rest};
 use ec_expressions::tables::Tables;
-use ec_expressions::literals::Literals;
 use ec_meaning::types::{kind_of, number_of};
+use ec_types::conform::static_type::StaticType;
 use ec_world::stop::Stop;
 use std::alloc::{AllocError, Global};
 

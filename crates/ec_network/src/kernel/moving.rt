@@ -6,10 +6,10 @@ ghost use Rattle.ec_network.specs.Acts.{ActedIn, AsksBetween, AsksBetweenSome, R
 ghost use Rattle.ec_world.specs.declared.doing.Doing.TheVariants.{Moves};
 
 use crate::kernel::acts::{ActError, Acted};
-use ec_gathering::gathering::gather;
-use ec_parcels::mover::classes::ClassNumbers;
 use ec_acts::settling::settle;
 use ec_cluster::system::System;
+use ec_gathering::gathering::gather;
+use ec_parcels::mover::classes::ClassNumbers;
 use ec_world::doing::Outcome;
 use ec_world::stop::{Effect, Who};
 use ec_world::value::Oid;

@@ -10,10 +10,10 @@ ghost use Rattle.ec_world.specs.Sights.{sight_of};
 
 use crate::nodes_running::seeing::seen;
 use crate::nodes_running::turns::TurnError;
-use ec_gathering::gathering::gather;
-use ec_parcels::mover::classes::ClassNumbers;
 use ec_cluster::seen::seen::Seen;
 use ec_cluster::system::System;
+use ec_gathering::gathering::gather;
+use ec_parcels::mover::classes::ClassNumbers;
 use ec_world::sight::Sees;
 use ec_world::value::{NodeNo, Oid, Oids};
 use std::alloc::{AllocError, Global};

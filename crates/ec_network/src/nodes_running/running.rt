@@ -7,10 +7,10 @@ ghost use Rattle.ec_network.specs.Running.{EachTop, HasNoTop, Rested, WentOn};
 ghost use Rattle.ec_network.specs.Standing.{Works, WorksInSome};
 
 use ec_cluster::finding::headings_at;
+use ec_cluster::system::{ProcessRow, System};
 use ec_legs::going::go_on;
 use ec_legs::machines::Machines;
 use ec_node_frames::frames::Headings;
-use ec_cluster::system::{ProcessRow, System};
 use ec_world::process::ProcStatus;
 use ec_world::value::Pid;
 

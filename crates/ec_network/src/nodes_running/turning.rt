@@ -6,13 +6,13 @@ ghost use Rattle.ec_network.specs.Running.{AfterAction};
 ghost use Rattle.ec_network.specs.Standing.{HasNumbers, Stands, StandsInSome, Works, WorksInSome};
 ghost use Rattle.ec_network.specs.Turns.{RefusedIn, TurnedIn};
 
-use crate::nodes_running::running::{run_on, top_of};
-use crate::nodes_running::turns::{Did, TurnError};
-use ec_legs::machines::Machines;
 use crate::kernel::acting::act;
 use crate::kernel::acts::{ActError, Acted};
-use ec_parcels::mover::classes::ClassNumbers;
+use crate::nodes_running::running::{run_on, top_of};
+use crate::nodes_running::turns::{Did, TurnError};
 use ec_cluster::system::System;
+use ec_legs::machines::Machines;
+use ec_parcels::mover::classes::ClassNumbers;
 use ec_world::value::Pid;
 use std::alloc::Global;
 

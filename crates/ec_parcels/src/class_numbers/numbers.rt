@@ -2,9 +2,9 @@
 ghost use Rattle.std.specs.Prelude.{◌≡◌, IfOk, OnOk};
 ghost use Rattle.ec_parcels.specs.Vectors as spec;
 
+use crate::mover::classes::ClassNumbers;
 use ec_base::list::Seq;
 use ec_code::code::{Line, Op, Operation, Parts};
-use crate::mover::classes::ClassNumbers;
 use ec_world::class::VectorType;
 use ec_world::stop::Stop;
 use std::alloc::{AllocError, Global};

@@ -17,10 +17,10 @@ ghost use Rattle.ec_world.specs.Group.{Has};
 ghost use Rattle.ec_world.specs.declared.node.Kind.{Kind};
 ghost use Rattle.ec_world.specs.declared.value.Value.TheVariants.{Ref, Str};
 
+use ec_generate::table::OperationTable;
 use ec_node_frames::arrive::arrive;
 use ec_node_frames::carried::carried_values;
 use ec_node_frames::frames::{Headings, headings_of};
-use ec_generate::table::OperationTable;
 use ec_stores::node::NodeStore;
 use ec_wire::parcel::ActivationPart;
 use ec_world::value::Pid;

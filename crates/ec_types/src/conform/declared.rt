@@ -4,12 +4,12 @@ ghost use Rattle.std.specs.Prelude.{◌≡◌, ◌++◌, [], ◌∷◌, IfOk, On
 ghost use Rattle.ec_types.specs.Names.{has_name};
 ghost use Rattle.ec_types.specs.Declarations as spec;
 
+use crate::names::Names;
 use ec_ast::{
     Addend, Arm, Block, Body, Class, Constant, ConstantValue, Expression, Factor, Link, Member,
     Name, ObjectConstructor, Parameter, ProcessSection, Program, Signature, Span, Statement,
     TypeName, Typeobject,
 };
-use crate::names::Names;
 use sqlite_items::{Boxed, Items};
 use std::alloc::{AllocError, Global};
 

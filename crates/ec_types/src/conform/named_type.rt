@@ -6,8 +6,8 @@ ghost use Rattle.ec_types.specs.Types as spec;
 use crate::conform::declared::DeclaredType;
 use crate::conform::operations::{NamedOperation, Operations};
 use crate::conform::static_type::{Plain, StaticType, vector_of};
-use ec_ast::{Signature, Span, TypeName};
 use crate::names::Names;
+use ec_ast::{Signature, Span, TypeName};
 use sqlite_items::Items;
 use std::alloc::{AllocError, Global};
 

@@ -5,8 +5,8 @@ ghost use Rattle.ec_types.specs.Names.{has_name};
 ghost use Rattle.ec_types.specs.Types as spec;
 
 use crate::conform::static_type::StaticType;
-use ec_ast::Text;
 use crate::names::Names;
+use ec_ast::Text;
 use sqlite_items::Items;
 use std::alloc::{AllocError, Global};
 use std::marker::Model;

@@ -4,9 +4,9 @@ ghost use Rattle.std.specs.Option.{option_copied};
 ghost use Rattle.ec_types.specs.Names.{first_named, has_name};
 ghost use Rattle.ec_types.specs.Scopes as spec;
 
-use ec_ast::Text;
 use crate::conform::static_type::StaticType;
 use crate::names::Names;
+use ec_ast::Text;
 use sqlite_items::at;
 use std::alloc::{AllocError, Global};
 use std::marker::Model;

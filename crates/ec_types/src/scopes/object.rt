@@ -3,9 +3,9 @@ ghost use Rattle.std.specs.Prelude.{◌≡◌, ◌++◌, Some, IfOk};
 ghost use Rattle.std.specs.Option.{option_copied};
 ghost use Rattle.ec_types.specs.Scopes as spec;
 
-use crate::scopes::entries::{Entries, Entry};
 use crate::conform::operations::Operations;
 use crate::names::Names;
+use crate::scopes::entries::{Entries, Entry};
 use std::alloc::AllocError;
 
 /// An object constructor or class, at a place within it.

@@ -3,14 +3,14 @@ ghost use Rattle.std.specs.Prelude.{◌≡◌, [], ◌∷◌, length, IfOk, OnOk
 ghost use Rattle.std.specs.Option.{option_copied};
 ghost use Rattle.ec_types.specs.Scopes as spec;
 
+use crate::conform::TypeTable;
+use crate::conform::operations::NamedOperation;
+use crate::conform::static_type::StaticType;
 use crate::scopes::entries::Entry;
 use crate::scopes::globals::{ClassMeant, Globals, Meaning};
 use crate::scopes::object::Object;
 use ec_ast::TypeName;
 use ec_base::list::Seq;
-use crate::conform::TypeTable;
-use crate::conform::operations::NamedOperation;
-use crate::conform::static_type::StaticType;
 use std::alloc::{AllocError, Global};
 
 /// What is in scope at a place: the types that the program declares, its constants, and the object constructors and the class
