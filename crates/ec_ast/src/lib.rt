@@ -1,7 +1,7 @@
-//! The tree of a source text. Places stand where a fault or a failure is told at.
+//! The tree of a source text, and folds over it.
 //!
-//! Folds over the tree of a source: what each part becomes, of what the parts within it become; and what holds of each part.
-//! Definitions and lemmas alone.
+//! Each part of the tree keeps the places at which a fault or a failure is told. A fold says what each part becomes, of what the parts
+//! within it become, and what holds of each part: definitions and lemmas alone.
 #![tactic(auto)]
 
 use sqlite_items::{Boxed, Items};

@@ -1,6 +1,5 @@
-//! What the typing of emitted code may rest on: the form of the core of a program that breaks no static rule, and its types.
-//!
-//! How the core of a program that breaks no static rule makes its objects.
+//! What the core of a program that breaks no static rule looks like: the form of its parts and their types, on which the typing of emitted
+//! code rests, and how it makes its objects.
 #![tactic(auto)]
 
 pub mod core_makings;

@@ -1,8 +1,5 @@
-//! What ties the core of an accepted program to its tree: names, order, and places in the text.
-//!
-//! The literal texts of a program and of its core are lists of bytes.
-//!
-//! Limits of the core of each accepted program, and of the whole of it by its text.
+//! What ties the core of an accepted program to its text: names, order and places; its literals, which are lists of bytes; and its sizes, which
+//! the length of the text bounds.
 #![tactic(auto)]
 
 pub mod core_sizes;

@@ -10,5 +10,3 @@ pub mod finish;
 pub mod frames;
 pub mod laws;
 pub mod operands;
-#[cfg(test)]
-mod trials;

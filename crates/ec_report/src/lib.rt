@@ -1,7 +1,5 @@
-//! What is told of a run: the lines of its report and its status.
-//!
-//! The driver of runs: it does the entries of a schedule in order, and then round robin, up to the end. What is driven is a
-//! plain meaning, or a network.
+//! What is told of a run, its lines and its status; and the driver that does the entries of a schedule in order, and then each process in
+//! turn, up to the end. What is driven is a plain meaning, or a network.
 #![tactic(auto)]
 
 pub mod answer;

@@ -1,4 +1,5 @@
-//! What conformity keeps, among the types of a program: it composes, and each type conforms to itself.
+//! The types of a program: its names (`names`), which types conform to which (`conform`), what is in scope where (`scopes`), and laws of
+//! conformity: it composes, and each type conforms to itself.
 #![tactic(auto)]
 
 pub mod conform;

@@ -148,6 +148,3 @@ impl Names {
         Ok(self.first(name)?.is_some())
     }
 }
-
-#[cfg(test)]
-mod tests;

@@ -1,15 +1,16 @@
-//! Worlds of objects and processes, what the actions of stops do to them, and what a run is.
+//! Worlds of objects and processes, what the actions of stops do to them, what a turn and a run are, for activations of any kind; and
+//! what a node keeps of a world.
 //!
-//! What nodes keep of a world: owners of blocks, words that stand for values, and room.
+//! | modules | what they have |
+//! |---|---|
+//! | `value`, `text`, `object`, `class`, `process`, `common`, `world` | the parts of a world |
+//! | `stop`, `doing`, `doings`, `done`, `operands`, `operations` | what the action of a stop comes to, and what is then done |
+//! | `running`, `silent`, `moving`, `entering`, `granting` | turns, moves and monitors |
+//! | `event`, `places`, `run`, `robin` | where objects are, and the order of a run |
+//! | `node`, `key`, `laws` | kinds of nodes, the owners of blocks, words that stand for values, room |
 //!
-//! Who waits for a monitor: its queues tell what the statuses of processes tell, in each world of each run.
-//!
-//! Where activations of one meaning follow those of another in a world, the worlds of both agree, and so do their runs.
-//!
-//! Operators of the language that are more than arithmetic: definitions alone, which the source's meaning and that of
-//! three-address code both cite.
-//!
-//! Turns of processes in a world, for activations of any kind.
+//! Two families of definitions and lemmas stand beside them: who waits for a monitor (`specs/Waiting`), and worlds whose activations
+//! follow those of another meaning (`specs/Follows`, `Simulation`), so that their runs agree.
 #![tactic(auto)]
 
 pub mod activation;

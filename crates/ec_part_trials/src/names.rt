@@ -1,5 +1,5 @@
 //! A name that is there twice, before and after the names are cut.
-use super::*;
+use ec_types::names::Names;
 use std::test::Fail;
 
 /// Of three names, how many are left, and then for each name asked the number that it means.

@@ -2,13 +2,13 @@
 ghost use Rattle.std.specs.Prelude.{IfOk};
 ghost use Rattle.ec_node_frames.specs.Beginning.{HasEntry};
 
-use crate::begin::begin_frame;
-use crate::finish::finish_frame;
-use crate::frames::{close_frame, headings_of};
 use ec_base::list::Seq;
 use ec_code::code::{Live, Variable};
 use ec_generate::table::{OperationTable, StopEntry};
 use ec_machine_code::homes::Home;
+use ec_node_frames::begin::begin_frame;
+use ec_node_frames::finish::finish_frame;
+use ec_node_frames::frames::{close_frame, headings_of};
 use ec_stores::node::NodeStore;
 use ec_types::conform::static_type::{Plain, StaticType};
 use ec_world::node::Kind;
