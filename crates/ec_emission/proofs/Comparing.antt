@@ -15,12 +15,11 @@ use Rattle.ec_emission.proofs.Operands.{pair, reads, reads_first, held, first_he
 use Rattle.ec_emission.proofs.Turns.{Setting, Comes, in_turn, framed, opened, stops}
 use Rattle.ec_emission.specs.Expressions.{Emitted, fits_here, comparison, compared_pair, pair_first, pair_second, test_of, wanted_of}
 use Rattle.ec_emission.specs.Expressions.{stop_order, order_of, stops_at}
-use Rattle.ec_meaning.specs.Steps as meaning
 use Rattle.ec_meaning.specs.Steps.{Goes, gives, compare, comparing, same_or_not}
 use Rattle.ec_meaning.specs.declared.item.Item.{Item}
 use Rattle.ec_meaning.specs.declared.item.Item.TheVariants as i
 use Rattle.ec_meaning.specs.declared.state.State.{State}
-use Rattle.ec_world.specs.Same as operators
+use Rattle.ec_world.specs.Same.{are_same}
 use Rattle.ec_emission.specs.Stands as at
 use Rattle.ec_emission.specs.Stands.{Kept, decided}
 use Rattle.ec_world.specs.declared.stop.Order.{Order}
@@ -28,34 +27,11 @@ use Rattle.ec_world.specs.declared.stop.Stop.TheVariants as stop
 use Rattle.ec_world.specs.declared.value.Value.{Value}
 use Rattle.ec_world.specs.declared.value.Value.TheVariants.{Int, Str, Bool as Truth}
 
--- ---- the same values
-
-same_texts : (a b : List ℕ) → meaning.is_same_text a b ≡ operators.is_same_text a b
-same_texts [] [] = refl
-same_texts [] (y ∷ b) = refl
-same_texts (x ∷ a) [] = refl
-same_texts (x ∷ a) (y ∷ b) = ap (λ r. if x == y then r else false) (same_texts a b)
-
-same_numbers : (a b : ℤ) → meaning.is_same_number a b ≡ operators.is_same_number a b
-same_numbers (pos a) (pos b) = refl
-same_numbers (negsuc a) (negsuc b) = refl
-same_numbers _ _ = refl
-
-same_truths : (a b : Bool) → meaning.is_same_truth a b ≡ operators.is_same_truth a b
-same_truths true b = refl
-same_truths false b = refl
-
-same_values : (u v : Value) → meaning.are_same u v ≡ operators.are_same u v
-same_values (Int a) (Int b) = ap Some (same_numbers a b)
-same_values (Truth a) (Truth b) = ap Some (same_truths a b)
-same_values (Str a) (Str b) = ap Some (same_texts a b)
-same_values _ _ = refl
+-- ---- tests
 
 same_decided : (under : State) (wanted : Bool) (o : Option Bool) → same_or_not under wanted o ≡ decided under (as_wanted wanted o)
 same_decided under wanted None = refl
-same_decided under wanted (Some b) = ap (λ t. gives under (Truth t)) (same_truths wanted b)
-
--- ---- tests
+same_decided under wanted (Some b) = refl
 
 on_both : {A : Type 0} → (act : Value → Value → Option A) → (m : Machine) (x y : Operand) (u v : Value) → operand_at m x ≡ Some u →
     operand_at m y ≡ Some v → act u v ≡ on_two act (operand_at m x) (operand_at m y)
@@ -63,10 +39,10 @@ on_both act m x y u v e f = sym (ap₂ (on_two act) e f)
 
 same_tests : (wanted : Bool) (x y : Operand) (m : Machine) (under : State) (u v : Value) → operand_at m x ≡ Some u →
     operand_at m y ≡ Some v →
-    same_or_not under wanted (meaning.are_same u v) ≡ decided under (as_wanted wanted (tested m (test.Same x y)))
+    same_or_not under wanted (are_same u v) ≡ decided under (as_wanted wanted (tested m (test.Same x y)))
 same_tests wanted x y m under u v e f =
-    same_decided under wanted (meaning.are_same u v)
-    ∙ ap (λ o. decided under (as_wanted wanted o)) (same_values u v ∙ on_both operators.are_same m x y u v e f)
+    same_decided under wanted (are_same u v)
+    ∙ ap (λ o. decided under (as_wanted wanted o)) (on_both are_same m x y u v e f)
 
 abbrev ordered : (ℤ → ℤ → Bool) → Value → Value → Option Bool
 ordered before = on_numbers (λ a b. Some (before a b))

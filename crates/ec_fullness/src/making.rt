@@ -1,10 +1,10 @@
 //! What the node of a maker lacks for a new object.
-ghost use Rattle.std.specs.Prelude.{◌≡◌, ◌++◌, drop, IfOk, OnOk, length, replicate};
+ghost use Rattle.std.specs.Prelude.{◌≡◌, IfOk, length, replicate};
 ghost use Rattle.ec_cluster.specs.Frames.{HasNode};
 ghost use Rattle.ec_fullness.specs.Told.{Tells, TellsOfMaking};
 ghost use Rattle.ec_world.specs.Things as things;
 ghost use Rattle.ec_world.specs.Objects.{class_at, element_kind};
-ghost use Rattle.ec_world.specs.Values.{default_of, field_defaults, new_fields};
+ghost use Rattle.ec_world.specs.Values.{default_of, new_fields};
 ghost use Rattle.ec_world.specs.declared.class.ClassNo.TheVariants.{Vector};
 
 use crate::nodes::lack_at;
@@ -12,8 +12,9 @@ use ec_base::list::Seq;
 use ec_cluster::cluster::Cluster;
 use ec_stores::rows::class_blocks;
 use ec_world::class::{ClassNo, FieldRec, VectorType};
+use ec_world::initial::{default_elements, push_defaults};
 use ec_world::room::Lack;
-use ec_world::value::{Oid, ValueType, Values, copy_values};
+use ec_world::value::{Oid, Values, copy_values};
 use std::alloc::{AllocError, Global};
 
 /// What the maker's node lacks for a new object of a class, with the values that its creation gives, and for an activation on it; nothing
@@ -56,7 +57,7 @@ pub(crate) fn lack_for_vector(
         (things.class_blocks (Vector of) (length (replicate size (default_of (element_kind of)))))
         (replicate size (default_of (element_kind of))) r) }
 {
-    let elements = defaults(alloc, of.elements(), size)?;
+    let elements = default_elements(alloc, of.elements(), size)?;
     let blocks = class_blocks(ClassNo::Vector(of), size);
     lack_at(cluster, alloc, maker, blocks, elements.as_slice())
 }
@@ -67,31 +68,5 @@ fn all_fields(alloc: Global, given: &Values, fields: &Seq<FieldRec>) -> Result<V
 {
     let mut values = copy_values(given)?;
     push_defaults(alloc, &mut values, fields, given.len())?;
-    Ok(values)
-}
-
-/// The defaults of the fields from one on, behind the values that there are.
-fn push_defaults(
-    alloc: Global,
-    values: &mut Values,
-    fields: &Seq<FieldRec>,
-    from: usize,
-) -> Result<(), AllocError>
-    ensures { OnOk result (values.new ≡ values.old ++ field_defaults (drop from fields.now)) }
-{
-    for i in from..fields.len() {
-        values.push(fields.at(i).of.default_value(alloc))?;
-    }
-    Ok(())
-}
-
-/// So many defaults of a type.
-fn defaults(alloc: Global, of: ValueType, count: u32) -> Result<Values, AllocError>
-    ensures { IfOk result (λ vs. vs ≡ replicate count (default_of of)) }
-{
-    let mut values = Seq::new(alloc);
-    for _ in 0..count {
-        values.push(of.default_value(alloc))?;
-    }
     Ok(values)
 }

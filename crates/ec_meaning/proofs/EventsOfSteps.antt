@@ -28,7 +28,8 @@ use Rattle.ec_meaning.specs.Steps.{Step, Goes, Rests, Breaks, Returns, NoCase, e
 use Rattle.ec_meaning.specs.Steps.{step, value_at, stored, gives, gives_if}
 use Rattle.ec_meaning.specs.Steps.{holding, with_last, last, last_two, by_truth, and_then, or_else, branch, exit_if, require}
 use Rattle.ec_meaning.specs.Steps.{invert, negate, store, calculate, calculated, divides, is_zero}
-use Rattle.ec_meaning.specs.Steps.{join, are_same, same_or_not, compare, returned, leave_by, leave}
+use Rattle.ec_world.specs.Same.{are_same}
+use Rattle.ec_meaning.specs.Steps.{join, same_or_not, compare, returned, leave_by, leave}
 use Rattle.ec_meaning.specs.declared.item.Item.{Item}
 use Rattle.ec_meaning.specs.declared.item.Item.TheVariants as i
 use Rattle.ec_meaning.specs.declared.state.State.{State}

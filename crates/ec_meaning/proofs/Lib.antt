@@ -7,7 +7,6 @@ pub mod Held
 pub mod Lighter
 pub mod Lines
 pub mod Resuming
-pub mod SameTexts
 pub mod Settling
 pub mod Todos
 pub mod Weighing

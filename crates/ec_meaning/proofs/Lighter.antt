@@ -26,7 +26,8 @@ use Rattle.ec_core.specs.declared.Statement.{Statement, out-Statement}
 use Rattle.ec_core.specs.declared.Statement.TheOpen.{Statement-F}
 use Rattle.ec_meaning.specs.Programs.{Source, operation_at, class_number, name_number, line}
 use Rattle.ec_meaning.specs.Steps.{Step, Goes, Rests, Breaks, Returns, NoCase, with_last, last, last_two, by_truth, gives_if}
-use Rattle.ec_meaning.specs.Steps.{same_or_not, are_same, comparing}
+use Rattle.ec_meaning.specs.Steps.{same_or_not, comparing}
+use Rattle.ec_world.specs.Same.{are_same}
 use Rattle.ec_meaning.specs.Steps.{evaluate, follow, do_statement, choose, block_if, calculate, join, compare, returned, leave_by}
 use Rattle.ec_meaning.specs.Steps.{leave, step, value_at, negate, stop_of, divides, is_zero, calculated, gives, holding, and_then}
 use Rattle.ec_meaning.specs.Steps.{or_else, invert, branch, block_items, exit_if, store, require}

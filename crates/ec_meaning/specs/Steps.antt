@@ -41,6 +41,7 @@ use Rattle.ec_meaning.specs.declared.item.Item.TheVariants as i
 use Rattle.ec_meaning.specs.declared.state.State.{State}
 use Rattle.ec_meaning.specs.declared.state.Whose.{Whose}
 use Rattle.ec_types.specs.Names.{Text}
+use Rattle.ec_world.specs.Same.{are_same, is_same_truth}
 use Rattle.ec_world.specs.declared.class.ClassNo.{ClassNo}
 use Rattle.ec_world.specs.declared.class.ClassNo.TheVariants.{Node, Program, Made, Vector}
 use Rattle.ec_world.specs.declared.common.Common.{Common}
@@ -303,32 +304,6 @@ join s Minus at st under (Int a) (Int b) = gives under (Int (int_wrapping_sub w3
 join s _ at st under _ _ = NoCase
 
 -- ---- comparisons
-
-abbrev pub is_same_text : List ℕ → List ℕ → Bool
-is_same_text [] [] = true
-is_same_text [] (b ∷ t) = false
-is_same_text (a ∷ s) [] = false
-is_same_text (a ∷ s) (b ∷ t) = if a == b then is_same_text s t else false
-
-abbrev pub is_same_number : ℤ → ℤ → Bool
-is_same_number (pos a) (pos b) = a == b
-is_same_number (negsuc a) (negsuc b) = a == b
-is_same_number _ _ = false
-
-abbrev pub is_same_truth : Bool → Bool → Bool
-is_same_truth true b = b
-is_same_truth false b = not b
-
--- Values of one value type, or two references.
-abbrev pub are_same : Value → Value → Option Bool
-are_same (Int a) (Int b) = Some (is_same_number a b)
-are_same (Truth a) (Truth b) = Some (is_same_truth a b)
-are_same (Str a) (Str b) = Some (is_same_text a b)
-are_same (Ref a) (Ref b) = Some (a == b)
-are_same (Ref a) Nil = Some false
-are_same Nil (Ref b) = Some false
-are_same Nil Nil = Some true
-are_same _ _ = None
 
 abbrev pub same_or_not : State → Bool → Option Bool → Step
 same_or_not under wanted None = NoCase

@@ -1,17 +1,15 @@
 //! The world in which a program begins.
-ghost use Rattle.std.specs.Prelude.{◌≡◌, ◌++◌, ◌∷◌, ◌<◌, [], IfOk, replicate};
+ghost use Rattle.std.specs.Prelude.{◌≡◌, ◌<◌, IfOk};
 ghost use Rattle.ec_meaning.specs.Activations.{source_meaning};
 ghost use Rattle.ec_world.specs.Run as spec;
-ghost use Rattle.ec_world.specs.Values.{defaults_of};
 
 use crate::activation::SourceActivation;
 use ec_base::list::Seq;
 use ec_world::activation::Activation;
-use ec_world::class::{ClassNo, Classes};
-use ec_world::common::Common;
-use ec_world::object::ObjectRec;
+use ec_world::class::Classes;
 use ec_world::process::{Proc, ProcStatus};
-use ec_world::value::{ValueType, Values};
+use ec_world::start::first_common;
+use ec_world::value::ValueType;
 use ec_world::world::World;
 use std::alloc::{AllocError, Global};
 
@@ -37,64 +35,4 @@ pub(crate) fn first_world(
         common: first_common(alloc, n, classes, globals)?,
         processes,
     })
-}
-
-/// The error is want of memory.
-fn first_common(
-    alloc: Global,
-    n: u32,
-    classes: Classes,
-    globals: &[ValueType],
-) -> Result<Common, AllocError>
-    ensures { IfOk result (λ c. c ≡ spec.first_common n classes globals.now) }
-{
-    Ok(Common {
-        nodes: n,
-        classes,
-        objects: first_objects(alloc, n)?,
-        globals: defaults(alloc, globals)?,
-        output: Seq::new(alloc),
-        events: Seq::new(alloc),
-    })
-}
-
-/// The objects of the nodes, and the program's own. The error is want of memory.
-fn first_objects(alloc: Global, n: u32) -> Result<Seq<ObjectRec>, AllocError>
-    ensures { IfOk result (λ os. os ≡ replicate n spec.node_object ++ spec.program_object ∷ []) }
-{
-    let mut objects = node_objects(alloc, n)?;
-    objects.push(ObjectRec {
-        class: ClassNo::Program,
-        fields: Seq::new(alloc),
-        fixed: false,
-        monitor: None,
-    })?;
-    Ok(objects)
-}
-
-/// The error is want of memory.
-fn node_objects(alloc: Global, n: u32) -> Result<Seq<ObjectRec>, AllocError>
-    ensures { IfOk result (λ os. os ≡ replicate n spec.node_object) }
-{
-    let mut objects = Seq::new(alloc);
-    for _k in 0..n {
-        objects.push(ObjectRec {
-            class: ClassNo::Node,
-            fields: Seq::new(alloc),
-            fixed: true,
-            monitor: None,
-        })?;
-    }
-    Ok(objects)
-}
-
-/// The defaults of these types. The error is want of memory.
-fn defaults(alloc: Global, types: &[ValueType]) -> Result<Values, AllocError>
-    ensures { IfOk result (λ vs. vs ≡ defaults_of types.now) }
-{
-    let mut values = Seq::new(alloc);
-    for of in types {
-        values.push(of.default_value(alloc))?;
-    }
-    Ok(values)
 }

@@ -1,5 +1,4 @@
 pub mod Opened
-pub mod SameTexts
 pub mod Silent
 pub mod Taken
 pub mod Walked

@@ -1,47 +1,14 @@
 //! Tests.
 ghost use Rattle.std.specs.Prelude.{◌≡◌, IfOk};
 ghost use Rattle.ec_code.specs.Steps as spec;
-ghost use Rattle.ec_world.specs.Same as same;
 ghost use Rattle.ec_stepping.specs.Stepping.{as_machine};
 
 use crate::machine::Machine;
 use crate::reading::{numbers, operand, truth};
 use ec_code::code::{Operand, Test};
-use ec_world::value::{Text, Value};
+use ec_world::same::{are_same, is_same_truth};
+use ec_world::value::Value;
 use std::alloc::AllocError;
-
-/// Whether two values are the same, where they are of one value type, or two references.
-fn are_same(u: Value, v: Value) -> Option<bool>
-    ensures { result ≡ same.are_same u v }
-{
-    match (u, v) {
-        (Value::Int(a), Value::Int(b)) => Some(is_same_number(a, b)),
-        (Value::Bool(a), Value::Bool(b)) => Some(is_same_truth(a, b)),
-        (Value::Str(a), Value::Str(b)) => Some(is_same_text(&a, &b)),
-        (Value::Ref(a), Value::Ref(b)) => Some(a == b),
-        (Value::Ref(_), Value::Nil) | (Value::Nil, Value::Ref(_)) => Some(false),
-        (Value::Nil, Value::Nil) => Some(true),
-        _ => None,
-    }
-}
-
-fn is_same_number(a: i32, b: i32) -> bool
-    ensures { result ≡ same.is_same_number a b }
-{
-    a == b
-}
-
-pub(crate) fn is_same_truth(a: bool, b: bool) -> bool
-    ensures { result ≡ same.is_same_truth a b }
-{
-    a == b
-}
-
-fn is_same_text(a: &Text, b: &Text) -> bool
-    ensures { result ≡ same.is_same_text a.now b.now }
-{
-    a.as_slice() == b.as_slice()
-}
 
 /// The error is want of memory.
 fn same(m: &Machine, x: Operand, y: Operand) -> Result<Option<bool>, AllocError>

@@ -15,6 +15,7 @@ pub mod FirstTrue
 pub mod Placement
 pub mod Members
 pub mod Rounds
+pub mod SameTexts
 pub mod Searching
 pub mod Keys
 pub mod Procs

@@ -1,16 +1,16 @@
 //! New objects.
-ghost use Rattle.std.specs.Prelude.{◌≡◌, ◌++◌, drop, replicate, IfOk, OnOk};
+ghost use Rattle.std.specs.Prelude.{◌≡◌, IfOk};
 ghost use Rattle.ec_world.specs.Objects.{class_at};
 ghost use Rattle.ec_world.specs.Outcomes as spec;
-ghost use Rattle.ec_world.specs.Values.{default_of, field_defaults};
 
-use crate::class::{ClassNo, ClassRec, FieldRec, VectorType};
+use crate::class::{ClassNo, ClassRec, VectorType};
 use crate::common::Common;
 use crate::doing::Outcome;
 use crate::event::Event;
+use crate::initial::{default_elements, push_defaults};
 use crate::object::ObjectRec;
 use crate::stop::{Effect, Who};
-use crate::value::{Value, ValueType, Values, number_of};
+use crate::value::{Value, Values, number_of};
 use ec_base::list::Seq;
 use ec_monitors::monitor::Monitor;
 use std::alloc::{AllocError, Global};
@@ -65,7 +65,7 @@ impl Common {
     {
         self.objects.push(ObjectRec {
             class: ClassNo::Vector(of),
-            fields: defaults(alloc, of.elements(), size)?,
+            fields: default_elements(alloc, of.elements(), size)?,
             fixed: false,
             monitor: None,
         })?;
@@ -87,30 +87,4 @@ fn monitor_for(alloc: Global, class: &ClassRec) -> Result<Option<Monitor>, Alloc
         return Ok(Some(monitor));
     }
     Ok(None)
-}
-
-/// The defaults of the fields from one on, behind the values that there are.
-fn push_defaults(
-    alloc: Global,
-    values: &mut Values,
-    fields: &Seq<FieldRec>,
-    from: usize,
-) -> Result<(), AllocError>
-    ensures { OnOk result (values.new ≡ values.old ++ field_defaults (drop from fields.now)) }
-{
-    for i in from..fields.len() {
-        values.push(fields.at(i).of.default_value(alloc))?;
-    }
-    Ok(())
-}
-
-/// So many defaults of a type.
-fn defaults(alloc: Global, of: ValueType, count: u32) -> Result<Values, AllocError>
-    ensures { IfOk result (λ vs. vs ≡ replicate count (default_of of)) }
-{
-    let mut values = Seq::new(alloc);
-    for _ in 0..count {
-        values.push(of.default_value(alloc))?;
-    }
-    Ok(values)
 }

@@ -42,8 +42,8 @@ impl<A: Activation, S: Silent<A>> Running<A, S> {
     }
 }
 
-/// The error is want of memory.
-fn first_common(
+/// What the world on `n` nodes has beside its processes at first. The error is want of memory.
+pub fn first_common(
     alloc: Global,
     n: u32,
     classes: Classes,

@@ -2,12 +2,14 @@
 ghost use Rattle.std.specs.Prelude.{◌≡◌, Bool, true, false, IfOk};
 ghost use Rattle.ec_meaning.specs.Running.{after, came, comparison_of, in_number_order};
 ghost use Rattle.ec_meaning.specs.Steps as spec;
+ghost use Rattle.ec_world.specs.Same.{are_same as same_values};
 
 use crate::state::{Outcome, State};
 use crate::todo::Todo;
 use ec_ast::Comparison;
+use ec_world::same::are_same;
 use ec_world::stop::Order;
-use ec_world::value::{Text, Value};
+use ec_world::value::Value;
 use std::alloc::AllocError;
 
 /// A comparison of the two values held last: whether they are the same, or how two numbers stand to each other. The error is
@@ -30,7 +32,7 @@ pub(crate) fn compare(op: Comparison, state: &mut State, todo: &Todo) -> Result<
 fn same_or_not(wanted: bool, state: &mut State, todo: &Todo) -> Result<Outcome, AllocError>
     ensures { IfOk result
         (λ o. came o state.new todo.now ≡ after state.old todo.now
-        (spec.last_two state.old (λ under u v. spec.same_or_not under wanted (spec.are_same u v)))) }
+        (spec.last_two state.old (λ under u v. spec.same_or_not under wanted (same_values u v)))) }
 {
     let Some((u, v)) = state.pop_two() else {
         return Ok(Outcome::NoCase);
@@ -39,39 +41,6 @@ fn same_or_not(wanted: bool, state: &mut State, todo: &Todo) -> Result<Outcome, 
         Some(same) => state.gives(Value::Bool(same == wanted)),
         None => Ok(Outcome::NoCase),
     }
-}
-
-/// Whether two values are the same, where they are of one value type, or two references.
-fn are_same(u: Value, v: Value) -> Option<bool>
-    ensures { result ≡ spec.are_same u v }
-{
-    match (u, v) {
-        (Value::Int(a), Value::Int(b)) => Some(is_same_number(a, b)),
-        (Value::Bool(a), Value::Bool(b)) => Some(is_same_truth(a, b)),
-        (Value::Str(a), Value::Str(b)) => Some(is_same_text(&a, &b)),
-        (Value::Ref(a), Value::Ref(b)) => Some(a == b),
-        (Value::Ref(_), Value::Nil) | (Value::Nil, Value::Ref(_)) => Some(false),
-        (Value::Nil, Value::Nil) => Some(true),
-        _ => None,
-    }
-}
-
-fn is_same_number(a: i32, b: i32) -> bool
-    ensures { result ≡ spec.is_same_number a b }
-{
-    a == b
-}
-
-fn is_same_truth(a: bool, b: bool) -> bool
-    ensures { result ≡ spec.is_same_truth a b }
-{
-    a == b
-}
-
-fn is_same_text(a: &Text, b: &Text) -> bool
-    ensures { result ≡ spec.is_same_text a.now b.now }
-{
-    a.as_slice() == b.as_slice()
 }
 
 /// Whether two numbers stand to each other in an order.

@@ -1,8 +1,8 @@
 use Rattle.std.proofs.Common.{◌∙◌, ap}
 use lib.Dec.{eqb}
 use lib.Pointwise.{pointwise}
-use Rattle.ec_stepping.proofs.SameTexts.{same_text}
-use Rattle.ec_stepping.proofs.testing.is_same_text.Goals as goal
+use Rattle.ec_world.proofs.SameTexts.{same_text}
+use Rattle.ec_world.proofs.same.is_same_text.Goals as goal
 
 pub returns : goal.returns
 returns c =

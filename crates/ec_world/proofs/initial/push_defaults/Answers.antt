@@ -1,7 +1,7 @@
 use Rattle.std.proofs.Common.{arith, sym, ◌∙◌, ◌≡◌, ◌++◌, ◌∷◌, []}
 use Rattle.ec_world.specs.Values.{default_of}
 use Rattle.ec_world.proofs.Defaults.{default_step, defaults_over}
-use Rattle.ec_world.proofs.making.push_defaults.Goals as goal
+use Rattle.ec_world.proofs.initial.push_defaults.Goals as goal
 
 pub loop-i-preserved : goal.loop-i-preserved
 loop-i-preserved c =

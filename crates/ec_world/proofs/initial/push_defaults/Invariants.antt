@@ -1,6 +1,6 @@
 use Rattle.std.proofs.Common.{◌≡◌, ◌++◌, drop}
 use Rattle.ec_world.specs.Values.{field_defaults}
-use Rattle.ec_world.proofs.making.push_defaults.Given as goal
+use Rattle.ec_world.proofs.initial.push_defaults.Given as goal
 
 -- what is pushed so far, and what is still to come, are all that is to come
 abbrev pub invariant-loop-i : goal.invariant-loop-i

@@ -2,7 +2,7 @@ use Rattle.std.proofs.Common.{arith}
 use Rattle.std.proofs.lemmas.Grind.{common_steps}
 use Rattle.ec_world.specs.Values.{default_of}
 use Rattle.ec_world.proofs.Defaults.{replicate_next}
-use Rattle.ec_fullness.proofs.making.defaults.Goals as goal
+use Rattle.ec_world.proofs.initial.default_elements.Goals as goal
 
 pub loop-preserved : goal.loop-preserved
 loop-preserved c =

@@ -1,6 +1,0 @@
-use Rattle.std.proofs.Common.{◌≡◌, replicate}
-use Rattle.ec_world.specs.Run.{node_object}
-use Rattle.ec_meaning.proofs.worlds.node_objects.Given as goal
-
-abbrev pub invariant-loop-k : goal.invariant-loop-k
-invariant-loop-k l = l.objects ≡ replicate l._k node_object
