@@ -1,10 +1,11 @@
-//! When the three-address code of a source is well typed.
+//! What an accepted program is lowered to is well typed, and its worlds agree with the source's; so the source's meaning never sticks: laws
+//! alone.
 //!
-//! The classes of a source, and its program's beginning, are well typed in the three-address code that it is lowered to.
-//!
-//! The program of three-address code that a source is lowered to is well typed.
-//!
-//! What each accepted program is lowered to: well typed three-address code whose worlds agree with the source's.
+//! | module | what it has |
+//! |---|---|
+//! | `laws` | the laws that the crates above cite: typing and agreement, of each accepted program |
+//! | `fineness` | code that is well typed by lists with more than what is live is well typed by what is live alone |
+//! | `fine_classes`, `fine_programs` | the classes of a lowered program, its beginning and all of it are well typed |
 #![tactic(auto)]
 
 pub mod fine_classes;

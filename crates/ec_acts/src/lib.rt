@@ -1,8 +1,10 @@
-//! What an action comes to, done to nodes: as to the world that they show.
+//! An action that is looked at is done to nodes, in two steps, as the world that they show has it; and a program is loaded onto nodes.
 //!
-//! What becomes of processes once the doing of an action is done, on nodes and rows.
-//!
-//! Nodes on which a program begins.
+//! | modules | what they have |
+//! |---|---|
+//! | `doings`, `plain`, `making`, `monitors`, `seeking` | the first step: objects, constants, monitors, output |
+//! | `settling`, `effects`, `giving`, `rows` | the second step: what becomes of activations and processes |
+//! | `load`, `fresh`, `objects` | nodes on which a program begins: literals, constants, the first objects and the first activation |
 #![tactic(auto)]
 
 pub mod doings;

@@ -1,8 +1,13 @@
-//! The nodes of a network and what they show together: one step on them is one change of the world that they show.
+//! Nodes of a network, with the program that they run and where its objects are. One step on them is one change of the world that they
+//! show together.
 //!
-//! Activations at the nodes of a cluster: one comes, goes or has its action done, and the nodes show the world with this change.
-//!
-//! Nodes that run a program together with its processes: what they show, and what an action makes of it.
+//! | modules | what they have |
+//! |---|---|
+//! | `cluster`, `forward` | the nodes, and a directory of which node each object is at |
+//! | `objects`, `making`, `monitors`, `constants` | steps on objects at their nodes |
+//! | `frames`, `finding`, `stops` | activations at the nodes of their own objects: one comes, goes or has its action done |
+//! | `seen` | what nodes let a reader see: their world, read from their words |
+//! | `system` | nodes with the rows of processes and what these have written; `specs/SystemSteps` says what an action makes of them |
 #![tactic(auto)]
 
 pub mod cluster;

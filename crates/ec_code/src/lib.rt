@@ -1,15 +1,16 @@
-//! Three-address code with static types: programs, their activations, what they mean, and when they are well typed.
+//! Three-address code with static types: what programs of it are, what they mean, when they are well typed, and which variables are live at
+//! each place.
 //!
-//! What three-address code with static types keeps: values of the types of their places.
+//! | modules | what they have |
+//! |---|---|
+//! | `code`, `steps`, `activation` | programs, what a step reads and writes and where it leads, half-run activations |
+//! | `live`, `marks`, `rows`, `extent` | the variables that are live at each place, exactly |
+//! | `live_lists` | a law: each place has its list of live variables |
+//! | `sound` | laws of well typed programs: values keep the types of their places, and neither a stop nor a step lacks a case |
+//! | `ranges` | laws of programs with small numbers: values stay within 32 bits, and texts are bytes |
+//! | `idle` | laws on activations whose action is done: code goes on behind their stops |
 //!
-//! What three-address code with small numbers keeps: values in the range of a machine word, and texts of bytes.
-//!
-//! Which variables are live at each place of three-address code.
-//!
-//! That each place of three-address code has its list of live variables, by definitions alone.
-//!
-//! What worlds of three-address code keep of activations whose action is done: nothing is to come for them, and code goes on behind
-//! their stops; over definitions alone.
+//! What code means is in `specs/Activations` and `specs/Worlds`; when it is well typed, in `specs/Typing` and `specs/Fine`.
 #![tactic(auto)]
 
 pub mod activation;

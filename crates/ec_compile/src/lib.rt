@@ -1,12 +1,12 @@
-//! How large the three-address code of an accepted program is, and that its variables have columns.
+//! Machine code of accepted texts: from a program of three-address code to an image for each kind of machine.
 //!
-//! What accepted programs are lowered to, as values that keep their typing.
-//!
-//! Machine code of accepted texts, for any kind of machine.
-//!
-//! RISC-V machine code of accepted texts.
-//!
-//! MIPS I machine code of accepted texts.
+//! | module | what it has |
+//! |---|---|
+//! | `program` | what an accepted program is lowered to, as a value that keeps its typing |
+//! | `compile` | an accepted text lowered and compiled, for any kind of machine |
+//! | `rv_compile`, `mips_compile` | the same for RISC-V and for MIPS I |
+//! | `code_sizes` | laws: the code is within the limits of machine code |
+//! | `laws` | a law: the tables of both kinds name the same live values at each stop |
 #![tactic(auto)]
 
 pub mod code_sizes;

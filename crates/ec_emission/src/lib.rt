@@ -1,13 +1,12 @@
-//! When three-address code stands for what is still to do in an activation of the source, and that both then come to the
-//! same stop.
+//! Which three-address code a source is lowered to, and that it does what the source means: definitions and laws alone. What writes the code
+//! is in ec_expressions and ec_lowering.
 //!
-//! From the core of a program to three-address code: definitions, and that the code does what the source means.
-//!
-//! Which program of three-address code a source is lowered to.
-//!
-//! That each source is lowered to a program of three-address code, by definitions alone.
-//!
-//! The worlds of the source's meaning and of its three-address code agree after every list of entries and along every schedule.
+//! | where | what is there |
+//! |---|---|
+//! | `specs/Expressions`, `Statements`, `Leaves`, `Literals`, `Rows`, `Types` | the code of each construct |
+//! | `specs/Stands` | when code stands for what is still to do in an activation of the source; both then come to the same stop |
+//! | `lowered`, `each_lowered` | the program that a source is lowered to (`specs/Lowered`): there is one, and only one |
+//! | `agreement` | laws: the worlds of a source and of its code agree after each list of entries and along each schedule |
 #![tactic(auto)]
 
 pub mod agreement;

@@ -1,10 +1,11 @@
-//! That each well-typed core is one that emission takes.
+//! What lowering rests on, of each accepted program: laws alone.
 //!
-//! Each program that an accepted source is lowered to names no number and no text out of range.
-//!
-//! That the program which a source is lowered to is its code, so that their worlds agree.
-//!
-//! That an accepted core drops values and calls alone.
+//! | module | what it has |
+//! |---|---|
+//! | `laws` | each part of a well typed core is one that has code |
+//! | `core_drops` | what a statement of such a core drops gives a value, or is a call |
+//! | `lowered_code` | the program that a source is lowered to is its code, so that their worlds agree |
+//! | `small_programs` | it names no number and no text out of range |
 #![tactic(auto)]
 
 pub mod core_drops;

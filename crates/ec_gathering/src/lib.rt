@@ -1,8 +1,13 @@
-//! When the parcels of a group that goes to a node find it full, told by the worlds before and after and by the parcels alike; over
-//! definitions alone.
+//! The first step of a move between nodes: a group goes to where another object is, in one parcel from each other node that has some of it;
+//! or the node to which it goes is full, and nothing has changed (`gathering`).
 //!
-//! The first step of a move of objects between nodes: a group goes to where another object is, in one parcel from each other node that
-//! has some of it; or the node to which it goes is full, and nothing has changed.
+//! | modules | what they have |
+//! |---|---|
+//! | `shipping` | the parcels in which a group goes, as bytes |
+//! | `lacking` | what the node lacks for all of them together |
+//! | `bringing` | the parcels come to the node |
+//! | `gathering_room` | laws: the worlds before and after the move tell the same lack |
+//! | `laws` | laws: what a move comes to, and that moves by programs and by the operator may be done so |
 #![tactic(auto)]
 
 mod bringing;

@@ -1,10 +1,13 @@
-//! Machine code of a program of three-address code, for every kind of machine that has words for steps.
+//! Machine code of a program with its stop table, for every kind of machine that has words for steps. Together they are an image.
 //!
-//! Stop tables: where the variables of a program live in the code of a kind of machine, where this stops, and what is live there.
+//! | modules | what they have |
+//! |---|---|
+//! | `image` | the image of a program: words, and the stop table that is bound to them |
+//! | `program`, `operation`, `lowering`, `conditions`, `direct`, `site`, `sizes` | the words of code |
+//! | `kind` | what a kind of machine writes: rv_code and mips_code have one each |
+//! | `assign`, `addresses`, `entries`, `table` | the stop table: homes of variables, addresses of stops, what is live at each |
 //!
-//! Images: the machine code of a program for a kind of machine, with the stop table that is bound to it.
-//!
-//! Programs whose activations and monitors have a spelling on the wire.
+//! `specs/Limits` says which programs have activations and monitors that can be spelled on the wire.
 #![tactic(auto)]
 
 pub mod addresses;

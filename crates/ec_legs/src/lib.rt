@@ -1,8 +1,13 @@
-//! Native code of activations from a stop to the next, on a node.
+//! Native code of an activation, from a stop to the next one, at its node.
 //!
-//! RISC-V and MIPS I as kinds of machines that native code of activations runs on.
+//! | modules | what they have |
+//! |---|---|
+//! | `legs`, `machine` | a machine is set up for an activation and runs to the next stop, for any kind of machine |
+//! | `kind`, `riscv`, `mips`, `machines` | RISC-V and MIPS I as kinds of machines, and a machine of each |
+//! | `going`, `nodes` | a process of a system goes on, at its node: what the system shows is the world in which it has |
+//! | `laws` | when activations can go on, and what a system keeps when one has |
 //!
-//! Native code goes on at a node of a system: what the system shows is the world in which a process has gone on.
+//! That the code is run by the machine's own table of instructions is `RanNatively` (`specs/Going`).
 #![tactic(auto)]
 
 pub mod going;

@@ -1,12 +1,14 @@
-//! Where the variables of three-address code live: registers, and slots of the frame.
+//! Machine code of programs of three-address code, for any kind of machine: when it is faithful, and that code which is laid out by these
+//! rules is.
 //!
-//! Machine code of programs of three-address code, and when it is faithful to them.
-//!
-//! The small vocabulary between three-address code and instructions: steps on words in homes, and how code is laid out in them.
-//!
-//! Code of a program of three-address code that is laid out in the words of a kind of machine is faithful to it, whatever the kind.
-//!
-//! How large a program of three-address code may be, for the machines' code and frames to have room for it.
+//! | where | what is there |
+//! |---|---|
+//! | `code`, `specs/Faithful`, `specs/Stops` | a program's words and the places of its stops; faithful code comes from each stop to the next, what is live in its home |
+//! | `homes`, `meeting`, `specs/Frames` | in which registers and slots the variables of an operation live; the words of a frame |
+//! | `step`, `specs/Micro`, `specs/Lowering` | steps on words in homes: the vocabulary between three-address code and instructions |
+//! | `specs/Speaks`, `specs/Layout` | what a kind of machine gives: words for each step; and how the words of a program lie |
+//! | `laws` | laid out code is faithful, and behind each stop there is a state that fits |
+//! | `specs/Limits` | how large a program may be, for code and frames to have room |
 #![tactic(auto)]
 
 pub mod code;

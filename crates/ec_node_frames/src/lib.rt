@@ -1,6 +1,11 @@
 //! Activations of three-address code in the frames of one node.
 //!
-//! Activations of three-address code that leave a node as values and come to another.
+//! | modules | what they have |
+//! |---|---|
+//! | `frames`, `operands` | what the headings of a frame say, and the operands of a pending action |
+//! | `begin`, `finish` | an activation begins; its action is done, and it goes on |
+//! | `carried`, `arrive` | an activation leaves the node as values; it comes to another with them |
+//! | `laws` | a law: a stop has one number and one entry on both kinds of machine, so that what goes means the same there |
 #![tactic(auto)]
 
 pub mod arrive;

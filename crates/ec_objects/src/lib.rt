@@ -1,6 +1,11 @@
-//! Objects of a world at a node: their values as words, and words as values.
+//! Objects of a world at one node: words for their values, values of these words, and what a node lacks.
 //!
-//! What is needed of a node for blocks and values that come to it, and what it lacks.
+//! | modules | what they have |
+//! |---|---|
+//! | `values` | words as values, and values as words |
+//! | `objects`, `texts` | objects come to a node, with the texts that are new there |
+//! | `monitors`, `flags`, `constants` | monitors, what is fixed, constants of the program |
+//! | `lacks` | what a node lacks for blocks and values that come to it: blocks before text |
 #![tactic(auto)]
 
 pub mod constants;

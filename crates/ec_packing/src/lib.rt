@@ -1,6 +1,11 @@
-//! What goes of a group from a node, as the bytes of a parcel; and what a node lacks for parcels to come.
+//! What goes of a group from a node, as the bytes of a parcel.
 //!
-//! What a program's worlds keep between turns, so that things of them can leave their nodes; over definitions alone.
+//! | modules | what they have |
+//! |---|---|
+//! | `packing`, `objects`, `activations`, `blocks` | the parcel, from the words of the node |
+//! | `room` | what a node lacks for parcels to come to it |
+//! | `widths` | that the numbers in a parcel have 32 bits |
+//! | `laws` | laws: between turns the things of a program's worlds can leave their nodes |
 #![tactic(auto)]
 
 mod activations;

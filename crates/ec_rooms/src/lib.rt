@@ -1,7 +1,7 @@
-//! Room at nodes, by worlds and their events alone: when a load or an entry finds none, and which texts a pool has. Nodes that show a world
-//! are full exactly then.
+//! Room and places, told by worlds and their events alone: laws on nodes that show a world.
 //!
-//! Where objects are: nodes have each object where the events of a world have it, at the start and after each step.
+//! When a load or an entry finds no room, and which texts a pool has (`laws`): nodes that show the world are full exactly then. Where objects
+//! are (`placing`): nodes have each object where the world's events have it, at the start and after each step.
 #![tactic(auto)]
 
 pub mod laws;

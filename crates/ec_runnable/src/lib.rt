@@ -1,8 +1,7 @@
-//! In the code of each program that a source is lowered to a live variable has one type on each line; over definitions alone.
+//! An accepted program with its images for both kinds of machine, so that nodes of either kind can run it (`prepare`).
 //!
-//! Accepted programs, as nodes of either kind run them.
-//!
-//! At each stop of the code of each program that a source is lowered to there are few values; over definitions alone.
+//! Two families of laws on lowered code stand beside it: on each line a live variable has one type (`typed_once`), and at each stop there are
+//! few values, each another one (`few_values`).
 #![tactic(auto)]
 
 pub mod few_values;

@@ -1,9 +1,14 @@
-//! Which texts are programs, and what is written of a source, a node file or a schedule that is refused.
+//! The call of the program, from words and files to one text and a status (`emerald`).
 //!
-//! What a call answers where nothing is run, and how an answer is written.
+//! | modules | what they have |
+//! |---|---|
+//! | `emerald`, `call` | the call, with a clause for each promise about it |
+//! | `files`, `file` | its files, each read whole, or the texts of a trial |
+//! | `judge`, `take` | they are judged in their order; then the source is run, or its meaning worked out |
+//! | `source`, `place` | which texts are programs; the line and the column of a fault |
+//! | `refusal`, `answers`, `writing` | what is written where something is refused, or nothing is run |
 //!
-//! The whole program, from files to report: a call's files are read, or the texts of a trial made, and judged, the source is run or its
-//! meaning worked out, and one text is written.
+//! The promises are `specs/Promises`, over `specs/Verdict` (what a call comes to) and `specs/Asked` (what its words ask for).
 #![tactic(auto)]
 
 pub mod answers;
