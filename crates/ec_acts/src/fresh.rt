@@ -1,6 +1,5 @@
 //! Nodes that have a program's literals and constants, and nothing else.
 ghost use Rattle.std.specs.Prelude.{◌≡◌, ◌≤◌, ◌<◌, ℕ, [], length, IfOk, OnOk, None, Some, slice_get};
-ghost use Rattle.ec_code.specs.Typing as typing;
 ghost use Rattle.ec_acts.specs.Fresh.{AreAtFirst, CanHold, Defaulted, Interned, IsAtFirst};
 ghost use Rattle.ec_world.specs.Held.{Distinct};
 ghost use Rattle.ec_world.specs.Words.{text_bytes};
@@ -10,11 +9,12 @@ ghost use Rattle.ec_world.specs.declared.node.NodeSpec.{NodeSpec as NodeSpecData
 
 use ec_base::list::Seq;
 use ec_code::code::Parts;
+use ec_node_frames::operands::kind_of;
 use ec_objects::constants::set_constant;
 use ec_stores::node::NodeStore;
-use ec_types::conform::static_type::{Plain, StaticType};
+use ec_types::conform::static_type::StaticType;
 use ec_world::node::NodeSpec;
-use ec_world::value::{Text, ValueType, copy_text};
+use ec_world::value::{Text, copy_text};
 use std::alloc::{AllocError, Global};
 
 /// Nodes of these sizes, each with the literals at their numbers and with the defaults of the constants. The error is want of memory.
@@ -78,25 +78,4 @@ fn set_constants(
         set_constant(node, i as u32, &value)?;
     }
     Ok(())
-}
-
-/// What a constant of a type holds.
-fn kind_of(of: StaticType) -> ValueType
-    ensures { result ≡ typing.kind_of of }
-{
-    match of {
-        StaticType::Plain(of) => plain_kind(of),
-        StaticType::Vector(_, _) | StaticType::Nil | StaticType::Unknown => ValueType::Reference,
-    }
-}
-
-fn plain_kind(of: Plain) -> ValueType
-    ensures { result ≡ typing.plain_kind of }
-{
-    match of {
-        Plain::Integer => ValueType::Integer,
-        Plain::Boolean => ValueType::Boolean,
-        Plain::String => ValueType::Bytes,
-        Plain::Any | Plain::Node | Plain::Named(_) => ValueType::Reference,
-    }
 }

@@ -1,5 +1,5 @@
 //! What the node of an object lacks for a new activation on it.
-ghost use Rattle.std.specs.Prelude.{◌≡◌, ◌∷◌, ℕ, map, slice_get, IfOk, Some};
+ghost use Rattle.std.specs.Prelude.{◌≡◌, ℕ, slice_get, IfOk, Some};
 ghost use Rattle.ec_cluster.specs.Cluster.{place, stores};
 ghost use Rattle.ec_cluster.specs.Frames.{HasNode, tables_on};
 ghost use Rattle.ec_fullness.specs.Told.{Tells};
@@ -8,12 +8,10 @@ ghost use Rattle.ec_node_frames.specs.Beginning.{HasEntry};
 ghost use Rattle.ec_generate.specs.declared.table.OperationTable.{OperationTable as Table};
 ghost use Rattle.ec_things.specs.Store.{Store};
 ghost use Rattle.ec_world.specs.declared.node.Kind.{Kind};
-ghost use Rattle.ec_world.specs.declared.value.Value.TheVariants.{Ref};
 
 use ec_cluster::cluster::Cluster;
 use ec_cluster::objects::node_of;
-use ec_code::code::{Live, Variable};
-use ec_generate::table::OperationTable;
+use ec_node_frames::begin::{first_held, first_values};
 use ec_objects::lacks::lack_of;
 use ec_world::room::Lack;
 use ec_world::value::{Oid, OpNo, Value};
@@ -41,47 +39,4 @@ pub(crate) fn lack_to_start(
     let live = first_held(alloc, table)?;
     let values = first_values(alloc, live.as_slice(), own, arguments)?;
     lack_of(k, node, alloc, 1, values.as_slice())
-}
-
-/// The variables that hold something at the entry.
-fn first_held(alloc: Global, table: &OperationTable) -> Result<Vec<Live>, AllocError>
-    requires { HasEntry table.now }
-    ensures { IfOk result (λ held. held.items ≡ spec.first_held table.now) }
-{
-    let entry = table.stops.at(0);
-    let mut held = Vec::from_slice(alloc, entry.operands.as_slice())?;
-    held.extend_from_slice(entry.live.as_slice())?;
-    Ok(held)
-}
-
-/// What a variable holds at the entry: a parameter its argument, all else nil.
-fn first_value(arguments: &[Value], x: Variable) -> Result<Value, AllocError>
-    ensures { IfOk result (λ v. v ≡ spec.first_value arguments.now x) }
-{
-    match x {
-        Variable::Named(n) => match arguments.get(n as usize) {
-            Some(value) => value.copy(),
-            None => Ok(Value::Nil),
-        },
-        Variable::Temporary(_) => Ok(Value::Nil),
-    }
-}
-
-/// The reference to the own object, and what each of these variables holds at the entry.
-fn first_values(
-    alloc: Global,
-    held: &[Live],
-    own: Oid,
-    arguments: &[Value],
-) -> Result<Vec<Value>, AllocError>
-    ensures { IfOk result
-        (λ values. values.items ≡ Ref own ∷ map (λ l. spec.first_value arguments.now l.variable) held.now) }
-{
-    let mut values = Vec::new(alloc);
-    values.push(Value::Ref(own))?;
-    for live in held {
-        let value = first_value(arguments, live.variable)?;
-        values.push(value)?;
-    }
-    Ok(values)
 }

@@ -52,8 +52,8 @@ pub fn begin_frame(
     node.begin(process, depth, own, frame.as_slice())
 }
 
-/// The variables that hold something at the entry.
-fn first_held(alloc: Global, table: &OperationTable) -> Result<Vec<Live>, AllocError>
+/// The variables that hold something at the entry. The error is want of memory.
+pub fn first_held(alloc: Global, table: &OperationTable) -> Result<Vec<Live>, AllocError>
     requires { HasEntry table.now }
     ensures { IfOk result (λ held. held.items ≡ spec.first_held table.now) }
 {
@@ -76,8 +76,8 @@ fn first_value(arguments: &[Value], x: Variable) -> Result<Value, AllocError>
     }
 }
 
-/// The reference to the own object, and what each of these variables holds at the entry.
-fn first_values(
+/// The reference to the own object, and what each of these variables holds at the entry. The error is want of memory.
+pub fn first_values(
     alloc: Global,
     held: &[Live],
     own: Oid,

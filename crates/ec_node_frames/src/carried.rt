@@ -3,7 +3,6 @@ ghost use Rattle.std.specs.Prelude.{◌≡◌, ◌<◌, List, [], if◌then◌el
 ghost use Rattle.ec_node_frames.specs.Carried as spec;
 ghost use Rattle.ec_node_frames.specs.Carried.{CarriedHere, HasCarried, values_carried};
 ghost use Rattle.ec_node_frames.specs.ArrivalsLoops.{AreRead, HaveValues};
-ghost use Rattle.ec_code.specs.Typing as typing;
 ghost use Rattle.ec_code.specs.Typing.{Declared};
 ghost use Rattle.ec_code.specs.declared.activation.CodeActivation.{CodeActivation};
 ghost use Rattle.ec_code.specs.declared.code.Live.{Live as LiveData};
@@ -16,14 +15,14 @@ ghost use Rattle.ec_stores.specs.Node.{store_of};
 ghost use Rattle.ec_world.specs.declared.node.Kind.{Kind as KindData};
 ghost use Rattle.ec_world.specs.declared.value.Value.{Value as ValueData};
 
+use crate::operands::kind_of;
 use ec_base::list::Seq;
 use ec_code::code::Live;
 use ec_generate::table::{OperationTable, StopEntry};
 use ec_machine_code::homes::Home;
 use ec_objects::values::value_of;
 use ec_stores::node::NodeStore;
-use ec_types::conform::static_type::{Plain, StaticType};
-use ec_world::value::{Pid, Value, ValueType, Values};
+use ec_world::value::{Pid, Value, Values};
 use std::alloc::{AllocError, Global};
 
 /// What an activation that is here holds at a stop of the table of its operation: the operands of its action, where this is pending, and
@@ -127,26 +126,5 @@ pub(crate) fn home_word(home: Home) -> usize
     match home {
         Home::Register(k) => 8 + k as usize,
         Home::Slot(n) => 28 + n as usize,
-    }
-}
-
-/// What a variable of a type holds.
-fn kind_of(of: StaticType) -> ValueType
-    ensures { result ≡ typing.kind_of of }
-{
-    match of {
-        StaticType::Plain(of) => plain_kind(of),
-        StaticType::Vector(_, _) | StaticType::Nil | StaticType::Unknown => ValueType::Reference,
-    }
-}
-
-fn plain_kind(of: Plain) -> ValueType
-    ensures { result ≡ typing.plain_kind of }
-{
-    match of {
-        Plain::Integer => ValueType::Integer,
-        Plain::Boolean => ValueType::Boolean,
-        Plain::String => ValueType::Bytes,
-        Plain::Any | Plain::Node | Plain::Named(_) => ValueType::Reference,
     }
 }

@@ -63,8 +63,8 @@ fn operand_of(
     value_of(node, kind_of(operand.of), word)
 }
 
-/// What a variable of a type holds.
-fn kind_of(of: StaticType) -> ValueType
+/// What a variable, a field or a constant of a type holds.
+pub fn kind_of(of: StaticType) -> ValueType
     ensures { result ≡ typing.kind_of of }
 {
     match of {
