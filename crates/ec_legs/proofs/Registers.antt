@@ -16,14 +16,15 @@ use Rattle.ec_legs.proofs.Keeping.{frame_kept, frame_written, keeps_fewer, keeps
 use Rattle.ec_legs.proofs.Keeping.{word_kept}
 
 module _ {S : Type 0} (M : MachineMeaning S) (kind : Kind) (goes : List ℕ → Going S) (stops : List ℕ → Standing S) (register : S → ℕ → ℕ)
-    (place : S → ℕ) (rests : S → Type 0) (beside : S → List ℕ) (means : Means M kind goes stops register place rests)
-    (registers frame own first homes : ℕ) (are : AreHomeRegisters M registers frame own first homes) where
+    (place : S → ℕ) (rests : S → Type 0) (beside : S → List ℕ) {F : Type 0} (flow : S → F)
+    (means : Means M kind goes stops register place rests) (registers frame own first homes : ℕ)
+    (are : AreHomeRegisters M registers frame own first homes) where
   -- ---- one register is set
 
-  now_holds : (old new : S) (r v : ℕ) → SetsRegister register place rests beside old new r v → 0 < r → M.register new r ≡ v
+  now_holds : (old new : S) (r v : ℕ) → SetsRegister register place rests beside flow old new r v → 0 < r → M.register new r ≡ v
   now_holds old new r v sets l = means.register_is new r ∙ sets.set l
 
-  still_holds : (old new : S) (r v q : ℕ) → SetsRegister register place rests beside old new r v → q ≢ r →
+  still_holds : (old new : S) (r v q : ℕ) → SetsRegister register place rests beside flow old new r v → q ≢ r →
       M.register new q ≡ M.register old q
   still_holds old new r v q sets ne = means.register_is new q ∙ sets.others q ne ∙ sym (means.register_is old q)
 
@@ -36,7 +37,7 @@ module _ {S : Type 0} (M : MachineMeaning S) (kind : Kind) (goes : List ℕ → 
   restores_none s process depth m = record { homes = λ k w l h. absurd (omega arith); others = λ r h. refl }
 
   pub restores_more : (s : Store) (process depth k v : ℕ) (old now next : S) → Restores M s process depth k old now → k < homes →
-      WordIs s (Frame process depth) (first_saved + k) v → SetsRegister register place rests beside now next (first + k) v →
+      WordIs s (Frame process depth) (first_saved + k) v → SetsRegister register place rests beside flow now next (first + k) v →
       Restores M s process depth (k + 1) old next
   restores_more s process depth k v old now next before l is sets = record {
     homes = λ j w h word. ⊎_elim
@@ -69,8 +70,8 @@ module _ {S : Type 0} (M : MachineMeaning S) (kind : Kind) (goes : List ℕ → 
       are.not_own k (omega arith) (sym (home_is k) ∙ sym same ∙ are.own_is)
 
   module _ (s : Store) (process depth self to fb ob at_frame at_own : ℕ) (m0 m1 m2 m3 m4 : S)
-      (sets_frame : SetsRegister register place rests beside m0 m1 frame at_frame)
-      (sets_own : SetsRegister register place rests beside m1 m2 own at_own) (restores : Restores M s process depth homes m2 m3)
+      (sets_frame : SetsRegister register place rests beside flow m0 m1 frame at_frame)
+      (sets_own : SetsRegister register place rests beside flow m1 m2 own at_own) (restores : Restores M s process depth homes m2 m3)
       (sets_place : SetsPlace register place rests beside m3 m4 to) (frame_block : FirstBlock s (Frame process depth) fb)
       (own_block : FirstBlock s (Object self) ob) (frame_at : at_frame ≡ block_at fb) (own_at : at_own ≡ block_at ob)
       (frame_positive : 0 < frame) (own_positive : 0 < own) (two : frame ≢ own) where

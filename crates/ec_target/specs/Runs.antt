@@ -69,11 +69,12 @@ WritesBytes bytes_of = (n x : ℕ) → length (bytes_of n x) ≡ n
 -- ---- what the kernel does to a machine
 
 module _ {S : Type 0} (register : S → ℕ → ℕ) (place : S → ℕ) (rests : S → Type 0) (beside : S → List ℕ) where
-  -- one register holds v, and nothing else changes
-  pub record SetsRegister (old new : S) (r v : ℕ) : Type 0 where
+  -- one register holds v, and nothing else changes, what is pending included: the flow says it
+  pub record SetsRegister {F : Type 0} (flow : S → F) (old new : S) (r v : ℕ) : Type 0 where
     pub set : 0 < r → register new r ≡ v
     pub others : (q : ℕ) → q ≢ r → register new q ≡ register old q
     pub same_place : place new ≡ place old
+    pub same_flow : flow new ≡ flow old
     pub still_rests : rests old → rests new
     pub same_beside : beside new ≡ beside old
 

@@ -30,6 +30,12 @@ pub trait Machine {
     /// Nothing is pending from the instructions before: no jump, no loaded register.
     ghost rests: { Self → Type 0 };
 
+    /// What says how a machine goes on.
+    ghost Flow: { Type 0 };
+
+    /// How the machine goes on: its place, and all that is pending from the instructions before.
+    ghost flow: { Self → Flow };
+
     /// What the machine holds beside registers, place and what is pending.
     ghost beside: { Self → List ℕ };
 
@@ -68,7 +74,7 @@ pub trait Machine {
     /// Sets a register.
     fn set_reg(&mut self, r: u32, value: u32)
         requires { r < REGISTERS }
-        ensures { SetsRegister register place rests beside self.old self.new r value };
+        ensures { SetsRegister register place rests beside flow self.old self.new r value };
 
     /// The place of the next instruction.
     fn pc(&self) -> u32

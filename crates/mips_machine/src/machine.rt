@@ -46,6 +46,7 @@ impl Machine for MipsMachine {
     ghost use Rattle.byteorder.specs.Endian.{big_bytes, big_number};
     ghost use Rattle.byteorder.specs.Numbers.{length-bytes_high_first, big_number-reads_back};
     ghost use Rattle.ec_world.specs.declared.node.Kind.TheVariants.{Mips};
+    ghost use Rattle.mips_machine.specs.declared.flow.Flow.{Flow};
     ghost use Rattle.mips_machine.specs.Machine.{mips_beside, mips_goes, mips_place, mips_register, mips_rests, mips_stops, mips_traps};
     ghost use Rattle.mips_machine.specs.MachineLaws.{mips_apart, mips_bases, mips_one_way, mips_stops_at};
 
@@ -60,6 +61,10 @@ impl Machine for MipsMachine {
     ghost place = { mips_place };
 
     ghost rests = { mips_rests };
+
+    ghost Flow = { Flow };
+
+    ghost flow = { λ m. m.flow };
 
     ghost beside = { mips_beside };
 

@@ -34,7 +34,7 @@ impl RvMachine {
 }
 
 impl Machine for RvMachine {
-    ghost use Rattle.std.specs.Prelude.{[], refl};
+    ghost use Rattle.std.specs.Prelude.{[], refl, ℕ};
     ghost use Rattle.byteorder.specs.Endian.{little_bytes, little_number};
     ghost use Rattle.byteorder.specs.Numbers.{length-bytes_low_first, little_number-reads_back};
     ghost use Rattle.ec_world.specs.declared.node.Kind.TheVariants.{Riscv};
@@ -52,6 +52,11 @@ impl Machine for RvMachine {
     ghost place = { λ m. m.pc };
 
     ghost rests = { λ _. Unit {0} };
+
+    ghost Flow = { ℕ };
+
+    // nothing is ever pending
+    ghost flow = { λ m. m.pc };
 
     ghost beside = { λ _. [] };
 

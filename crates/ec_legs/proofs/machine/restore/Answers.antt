@@ -17,20 +17,22 @@ set_reg-requires g c = let there = g.met.N.NativeKind.registers.there in omega a
 pub loop-k-init : goal.loop-k-init
 loop-k-init g c =
     restores_none g.N.NativeKind.meaning g.M.Machine.kind g.M.Machine.goes g.M.Machine.stops g.M.Machine.register g.M.Machine.place
-    g.M.Machine.rests g.M.Machine.beside g.met.N.NativeKind.means g.M.Machine.REGISTERS g.M.Machine.FRAME g.M.Machine.OWN
-    g.N.NativeKind.FIRST_HOME g.N.NativeKind.HOMES g.met.N.NativeKind.registers (store_of c.args.node.now) c.args.process c.args.depth
+    g.M.Machine.rests g.M.Machine.beside g.M.Machine.flow g.met.N.NativeKind.means g.M.Machine.REGISTERS g.M.Machine.FRAME
+    g.M.Machine.OWN g.N.NativeKind.FIRST_HOME g.N.NativeKind.HOMES g.met.N.NativeKind.registers (store_of c.args.node.now) c.args.process
+    c.args.depth
     c.args.machine.now
 
 pub loop-k-preserved : goal.loop-k-preserved
 loop-k-preserved g c =
     restores_more g.N.NativeKind.meaning g.M.Machine.kind g.M.Machine.goes g.M.Machine.stops g.M.Machine.register g.M.Machine.place
-    g.M.Machine.rests g.M.Machine.beside g.met.N.NativeKind.means g.M.Machine.REGISTERS g.M.Machine.FRAME g.M.Machine.OWN
-    g.N.NativeKind.FIRST_HOME g.N.NativeKind.HOMES g.met.N.NativeKind.registers (store_of c.args.node.now) c.args.process c.args.depth
+    g.M.Machine.rests g.M.Machine.beside g.M.Machine.flow g.met.N.NativeKind.means g.M.Machine.REGISTERS g.M.Machine.FRAME
+    g.M.Machine.OWN g.N.NativeKind.FIRST_HOME g.N.NativeKind.HOMES g.met.N.NativeKind.registers (store_of c.args.node.now) c.args.process
+    c.args.depth
     c.loop-k.k c.frame_word-word.result c.args.machine.now c.loop-k.machine c.set_reg.new.self c.loop-k.invariant (omega arith)
     c.frame_word-word.ensures
     (subst
-    (λ r. SetsRegister g.M.Machine.register g.M.Machine.place g.M.Machine.rests g.M.Machine.beside c.loop-k.machine c.set_reg.new.self
-    (r + c.loop-k.k) c.frame_word-word.result)
+    (λ r. SetsRegister g.M.Machine.register g.M.Machine.place g.M.Machine.rests g.M.Machine.beside g.M.Machine.flow c.loop-k.machine
+    c.set_reg.new.self (r + c.loop-k.k) c.frame_word-word.result)
     c.FIRST_HOME.ensures c.set_reg.ensures)
 
 pub overflow_add-FIRST_HOME : goal.overflow_add-FIRST_HOME
