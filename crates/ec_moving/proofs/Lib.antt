@@ -1,0 +1,5 @@
+pub mod Lists
+pub mod Objects
+pub mod Asked
+pub mod Doing
+pub mod Worlds
