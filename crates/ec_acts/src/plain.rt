@@ -57,7 +57,7 @@ pub(crate) fn define(system: &mut System, index: u32, value: &Value) -> Result<O
 }
 
 /// An element of a vector gets a value, for whose text its node has room. The error is want of memory, or that the node has 2^32 - 1
-/// texts or references; the elements are then as they were.
+/// texts or references.
 pub(crate) fn store(
     system: &mut System,
     vector: Oid,

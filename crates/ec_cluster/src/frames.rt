@@ -23,8 +23,7 @@ use ec_world::value::{Oid, OpNo, Pid, Value};
 use std::alloc::{AllocError, Global};
 
 /// The action of an activation on an object is done: what it gives goes to the variable that takes it, if there is one. The object's node
-/// has room for the text of that. The error is want of memory, or that the node has 2^32 - 1 texts or references; the activation is then
-/// as it was.
+/// has room for the text of that. The error is want of memory, or that the node has 2^32 - 1 texts or references.
 pub fn finish(
     cluster: &mut Cluster,
     process: Pid,

@@ -33,7 +33,7 @@ pub fn set_flag(cluster: &mut Cluster, oid: Oid, fixed: bool)
 }
 
 /// A field or an element of an object gets a value, for whose text its node has room. The error is want of memory, or that the node has
-/// 2^32 - 1 texts or references; the fields are then as they were.
+/// 2^32 - 1 texts or references.
 pub fn set_field(
     cluster: &mut Cluster,
     oid: Oid,

@@ -21,7 +21,7 @@ use std::alloc::AllocError;
 
 /// The action of an activation that is here, at a stop of the table of its operation, is done: what it gives goes to the home of the
 /// variable that takes it, if there is one. The node has room for the text of that. The error is want of memory, or that the node has
-/// 2^32 - 1 texts or references; the activation is then as it was.
+/// 2^32 - 1 texts or references.
 pub fn finish_frame(
     node: &mut NodeStore,
     table: &OperationTable,

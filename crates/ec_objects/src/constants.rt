@@ -12,7 +12,7 @@ use ec_world::value::Value;
 use std::alloc::AllocError;
 
 /// A constant gets a value, for whose text the node has room. The error is want of memory, or that the node has 2^32 - 1 texts or
-/// references; the constants are then as they were.
+/// references.
 pub fn set_constant(node: &mut NodeStore, index: u32, value: &Value) -> Result<(), AllocError>
     requires there { IsSome ((store_of node.old).global index) }
     requires text { HasRoom (store_of node.old) value.now }

@@ -51,7 +51,7 @@ pub fn create_object(
 }
 
 /// A field or an element of an object that is here gets a value, for whose text the node has room. The error is want of memory, or
-/// that the node has 2^32 - 1 texts or references; the fields are then as they were.
+/// that the node has 2^32 - 1 texts or references.
 pub fn set_field(
     node: &mut NodeStore,
     oid: Oid,
