@@ -19,8 +19,8 @@ use Rattle.ec_code.proofs.Facts.{never_lacks, pending_top, ready_top}
 use Rattle.ec_code.proofs.SoundWorlds.{action_sound, go_on_sound, move_sound, start_sound}
 use Rattle.ec_code.specs.SoundLaws.{world_after}
 use Rattle.ec_code.specs.Sound.{SoundWorld}
-use Rattle.ec_world.proofs.Related.{Maybe, all-get, all-length}
-use Rattle.ec_world.specs.Agree.{Agree, SameRest}
+use Rattle.ec_world.proofs.Related.{all-get, all-length}
+use Rattle.ec_world.specs.Agree.{Agree, SameRest, Maybe}
 use Rattle.ec_world.specs.Outcomes.{outcome_of}
 use Rattle.ec_world.specs.Run.{first_world, run_after}
 use Rattle.ec_world.specs.Simulation.{AgreeRun}

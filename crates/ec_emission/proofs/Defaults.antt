@@ -18,7 +18,8 @@ use Rattle.ec_emission.specs.Statements.{operation_fits}
 use Rattle.ec_meaning.specs.Meaning.{defaults}
 use Rattle.ec_meaning.specs.Programs.{Source}
 use Rattle.ec_meaning.specs.Types.{kind_of}
-use Rattle.ec_emission.proofs.Walking.{ops, from, from_done, one_op}
+use Rattle.ec_emission.specs.Ops.{ops}
+use Rattle.ec_emission.proofs.Walking.{from, from_done, one_op}
 use Rattle.ec_world.specs.Values.{default_of}
 use Rattle.ec_world.specs.declared.value.Value.{Value}
 use Rattle.ec_world.specs.declared.value.Value.TheVariants as value

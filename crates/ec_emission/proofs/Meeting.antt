@@ -26,7 +26,8 @@ use Rattle.ec_meaning.specs.declared.item.Item.TheVariants as i
 use Rattle.ec_meaning.specs.declared.state.State.{State}
 use Rattle.ec_meaning.specs.declared.state.Whose.{Whose}
 use Rattle.ec_emission.proofs.Holding.{Has, HoldsAll, holds_kept, holds_push, reads}
-use Rattle.ec_emission.proofs.Walking.{from, from_done, one_op, ops}
+use Rattle.ec_emission.specs.Ops.{ops}
+use Rattle.ec_emission.proofs.Walking.{from, from_done, one_op}
 use Rattle.ec_emission.specs.Rows.{into_if}
 use Rattle.ec_emission.specs.Stands.{Hold, Kept, IsLast, Stands, one_more, read}
 use Rattle.ec_world.specs.declared.common.Common.{Common}

@@ -21,7 +21,7 @@ use Rattle.ec_meaning.specs.Programs.{Source, operation_at}
 use Rattle.ec_meaning.specs.Steps.{leave, leave_by, returned, types_if}
 use Rattle.ec_meaning.specs.declared.item.Item.TheVariants as i
 use Rattle.ec_emission.proofs.Meeting.{Routine}
-use Rattle.ec_emission.proofs.Walking.{ops}
+use Rattle.ec_emission.specs.Ops.{ops}
 use Rattle.ec_emission.specs.Rows.{rest_row}
 use Rattle.ec_emission.specs.Stands as at
 use Rattle.ec_world.specs.declared.stop.Stop.TheVariants as stop

@@ -20,7 +20,7 @@ use Rattle.ec_meaning.specs.declared.activation.SourceActivation.{SourceActivati
 use Rattle.ec_code.specs.SoundValues.{class_in}
 use Rattle.ec_emission.proofs.StandsGoing.{GivenAs}
 use Rattle.ec_emission.proofs.Meeting.{AtStop, Routine, StandsIn}
-use Rattle.ec_emission.proofs.Walking.{ops}
+use Rattle.ec_emission.specs.Ops.{ops}
 use Rattle.ec_emission.specs.Rows.{into_if}
 use Rattle.ec_emission.specs.Stands.{one_more}
 use Rattle.ec_world.specs.Agree.{SameRest}

@@ -5,10 +5,8 @@ use Rattle.ec_code.specs.Activations.{Arrived, walk, walk_by}
 use Rattle.ec_code.specs.Steps.{Machine, Done, Goes, Rests, Loops, NoCase, act}
 use Rattle.ec_code.specs.declared.code.Line.{Line}
 use Rattle.ec_code.specs.declared.code.Op.{Op}
+use Rattle.ec_emission.specs.Ops.{ops}
 use Rattle.ec_world.specs.declared.common.Common.{Common}
-
-abbrev pub ops : List Line → List Op
-ops lines = map (λ l. l.op) lines
 
 -- the line at a place
 pub record At (lines : List Line) (q : ℕ) (o : Op) : Type 0 where

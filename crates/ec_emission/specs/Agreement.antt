@@ -11,7 +11,7 @@ use Rattle.ec_meaning.specs.Programs.{Source, classes_of, globals_of, operation_
 use Rattle.ec_meaning.specs.Steps.{block_items, captured_by, types_if}
 use Rattle.ec_meaning.specs.declared.item.Item.{Item}
 use Rattle.ec_meaning.specs.declared.item.Item.TheVariants as i
-use Rattle.ec_emission.proofs.Walking.{ops}
+use Rattle.ec_emission.specs.Ops.{ops}
 use Rattle.ec_emission.specs.Stands.{Hold, Stands}
 use Rattle.ec_world.specs.declared.common.Common.{Common}
 use Rattle.ec_world.specs.declared.value.Value.{Value}

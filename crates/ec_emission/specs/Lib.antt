@@ -1,3 +1,4 @@
+pub mod Ops
 pub mod Leaves
 pub mod Rows
 pub mod Stands

@@ -31,7 +31,7 @@ use Rattle.ec_meaning.specs.Steps.{block_items, captured_by, types_if}
 use Rattle.ec_meaning.specs.declared.item.Item.{Item}
 use Rattle.ec_meaning.specs.declared.item.Item.TheVariants as i
 use Rattle.ec_code.specs.SoundLaws.{world_after}
-use Rattle.ec_emission.proofs.Walking.{ops}
+use Rattle.ec_emission.specs.Ops.{ops}
 use Rattle.ec_emission.specs.Stands.{Stands}
 use Rattle.ec_world.specs.Agree.{Agree, SameRest}
 use Rattle.ec_world.specs.Run.{first_world, run_after}

@@ -17,7 +17,7 @@ use Rattle.ec_emission.specs.Lowered.{HasLines, IsOperationOf}
 use Rattle.ec_emission.specs.Types.{Around, behind, lines_of}
 use Rattle.ec_meaning.specs.Programs.{Source}
 use Rattle.ec_meaning.specs.Types as of_source
-use Rattle.ec_emission.proofs.Walking.{ops}
+use Rattle.ec_emission.specs.Ops.{ops}
 use Rattle.ec_world.specs.Agree.{AllTwo}
 
 -- ---- kinds of values

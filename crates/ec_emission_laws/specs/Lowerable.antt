@@ -13,7 +13,7 @@ use Rattle.ec_emission_laws.specs.Dropped.{DropsCalls}
 use Rattle.ec_emission_laws.specs.Laws.{ExitsStandInLoops}
 use Rattle.ec_meaning.specs.Programs.{Source, operation_at}
 use Rattle.ec_meaning.specs.Steps.{captured_by}
-use Rattle.ec_emission.proofs.Walking.{ops}
+use Rattle.ec_emission.specs.Ops.{ops}
 
 -- what is asked of a source
 pub record IsLowerable (s : Source) : Type 0 where

@@ -21,11 +21,11 @@ use Rattle.ec_world.specs.Outcomes.{Acted, all_granted}
 use Rattle.ec_world.specs.World.{stack_at, given_up, finish_top, changed, who_of, owns_of, begun_for, settled, acted, outcome_at}
 use Rattle.ec_world.specs.World.{act_if_pending, act_on, Action, advanced, go_on_unless, go_on, GoOn, Turn}
 use Rattle.ec_world.specs.Moves.{OperatorMove, moved_unless, is_idle_move}
-use Rattle.ec_world.specs.Agree.{AllTwo, SameRest, AgreeProc, Agree}
+use Rattle.ec_world.specs.Agree.{AllTwo, SameRest, AgreeProc, Agree, Maybe}
 use Rattle.ec_world.specs.Run.{RunState, statuses_of, next_entry, tail_of, last_of, after_entry, after_entries, stepped, step_run}
 use Rattle.ec_world.specs.Run.{run_after, first_common, first_world}
 use Rattle.ec_world.specs.Simulation.{AgreeRun}
-use Rattle.ec_world.proofs.Related.{Maybe, all-append, all-length, tops, belows, all-map, all-set, all-get}
+use Rattle.ec_world.proofs.Related.{all-append, all-length, tops, belows, all-map, all-set, all-get}
 use Rattle.ec_world.proofs.Simulation.{statuses_agree}
 use Rattle.ec_world.specs.Follows.{IsLater, IsKept, ActsTo, Alike, Follows, Stacked, StackedProc, FollowsWorld, FollowsRun}
 use Rattle.ec_world.proofs.Stacks.{stacked_push, stacked_none, stacked_all, ready_alike, all_readied_alike, procs_map}

@@ -2,16 +2,9 @@
 use Rattle.std.proofs.Common.{◌≡◌, ℕ, zero, suc, List, [], ◌∷◌, ◌++◌, length, Option, Some, None, refl, ap}
 use Rattle.std.specs.Prelude.{slice_get, slice_set}
 use Rattle.ec_base.specs.Stack.{top_of, below_of}
-use Rattle.ec_world.specs.Agree.{AllTwo}
+use Rattle.ec_world.specs.Agree.{AllTwo, Maybe}
 
 module _ {A B : Type 0} where
-  -- both there and related, or neither there
-  abbrev pub Maybe : (A → B → Type 0) → Option A → Option B → Type 0
-  Maybe R None None = Unit {0}
-  Maybe R (Some a) (Some b) = R a b
-  Maybe R None (Some b) = ⊥
-  Maybe R (Some a) None = ⊥
-
   pub all-append : (R : A → B → Type 0) (xs xs' : List A) (ys ys' : List B) → AllTwo R xs ys → AllTwo R xs' ys' →
       AllTwo R (xs ++ xs') (ys ++ ys')
   all-append R [] xs' [] ys' h k = k

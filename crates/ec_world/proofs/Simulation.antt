@@ -24,11 +24,11 @@ use Rattle.ec_world.specs.World.{stack_if_ready, ready_stack, stack_at, readied,
 use Rattle.ec_world.specs.World.{owns_of, begun_for, settled, acted, outcome_at, act_if_pending, act_on, Action, advanced}
 use Rattle.ec_world.specs.World.{go_on_unless, go_on, Turn}
 use Rattle.ec_world.specs.Moves.{OperatorMove, moved_unless, is_idle_move}
-use Rattle.ec_world.specs.Agree.{AllTwo, SameRest, AgreeProc, AgreeBy, Agree}
+use Rattle.ec_world.specs.Agree.{AllTwo, SameRest, AgreeProc, AgreeBy, Agree, Maybe}
 use Rattle.ec_world.specs.Run.{RunState, statuses_of, next_entry, tail_of, last_of, end_of, after_entry, after_entries, stepped}
 use Rattle.ec_world.specs.Run.{step_run, run_after, Reaches, Run}
 use Rattle.ec_world.specs.Simulation.{IsSimulation, AgreeRun}
-use Rattle.ec_world.proofs.Related.{Maybe, all-append, all-length, tops, belows, all-map, all-set, all-get}
+use Rattle.ec_world.proofs.Related.{all-append, all-length, tops, belows, all-map, all-set, all-get}
 
 module _ {A B : Type 0} (R : A → B → Type 0) where
   statuses_alike : (xs : List (Proc A)) (ys : List (Proc B)) → AllTwo (AgreeProc R) xs ys → map (λ p. p.status) xs ≡ map (λ p. p.status) ys

@@ -7,8 +7,8 @@ use Rattle.ec_world.specs.declared.process.ProcStatus.{ProcStatus}
 use Rattle.ec_world.specs.declared.process.ProcStatus.TheVariants.{Ready, Entry, Cond, Urgent, Ended, Failed}
 use Rattle.ec_world.specs.declared.process.Proc.{Proc}
 use Rattle.ec_world.specs.World.{stack_if_ready, ready_stack, readied, all_readied}
-use Rattle.ec_world.specs.Agree.{AllTwo}
-use Rattle.ec_world.proofs.Related.{Maybe, all-map, all-set, all-get}
+use Rattle.ec_world.specs.Agree.{AllTwo, Maybe}
+use Rattle.ec_world.proofs.Related.{all-map, all-set, all-get}
 use Rattle.ec_world.specs.Follows.{Stacked, StackedProc}
 
 module _ {A B : Type 0} (On Below : A → B → Type 0) where

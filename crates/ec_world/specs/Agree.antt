@@ -1,5 +1,5 @@
 -- When two worlds over different activations agree.
-use Rattle.std.specs.Prelude.{◌≡◌, List, [], ◌∷◌}
+use Rattle.std.specs.Prelude.{◌≡◌, List, [], ◌∷◌, Option, Some, None}
 use Rattle.ec_world.specs.declared.process.Proc.{Proc}
 use Rattle.ec_world.specs.declared.world.World.{World}
 use Rattle.ec_world.specs.Meaning.{ActivationMeaning}
@@ -10,6 +10,13 @@ AllTwo R [] [] = Unit {0}
 AllTwo R (a ∷ xs) (b ∷ ys) = R a b × AllTwo R xs ys
 AllTwo R [] (b ∷ ys) = ⊥
 AllTwo R (a ∷ xs) [] = ⊥
+
+-- both there and related, or neither there
+abbrev pub Maybe : {A B : Type 0} → (A → B → Type 0) → Option A → Option B → Type 0
+Maybe R None None = Unit {0}
+Maybe R (Some a) (Some b) = R a b
+Maybe R None (Some b) = ⊥
+Maybe R (Some a) None = ⊥
 
 -- activations of the same operation and object, at the same stop, both pending or both done
 pub record SameRest {A B : Type 0} (M : ActivationMeaning A) (N : ActivationMeaning B) (a : A) (b : B) : Type 0 where

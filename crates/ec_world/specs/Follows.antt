@@ -15,9 +15,8 @@ use Rattle.ec_world.specs.Meaning.{ActivationMeaning}
 use Rattle.ec_world.specs.Outcomes.{outcome_of, dropped_each}
 use Rattle.ec_world.specs.World.{stack_at, outcome_at, Action, GoOn}
 use Rattle.ec_world.specs.Moves.{OperatorMove, moved_common}
-use Rattle.ec_world.specs.Agree.{SameRest, AllTwo}
+use Rattle.ec_world.specs.Agree.{AllTwo, Maybe, SameRest}
 use Rattle.ec_world.specs.Run.{RunState}
-use Rattle.ec_world.proofs.Related.{Maybe}
 
 -- ---- what stays
 
