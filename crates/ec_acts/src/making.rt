@@ -1,11 +1,11 @@
 //! New objects, at the nodes where their makers are.
-ghost use Rattle.std.specs.Prelude.{◌≡◌, ◌+◌, ◌-◌, ◌^◌, ◌<◌, ◌≤◌, suc, ◌++◌, drop, replicate, IfOk, IsSome, OnErr, OnOk, Some, true, false};
+ghost use Rattle.std.specs.Prelude.{◌≡◌, ◌+◌, ◌-◌, ◌^◌, ◌<◌, ◌≤◌, suc, IfOk, IsSome, OnErr, OnOk, Some, true, false};
 ghost use Rattle.ec_acts.specs.Doings.{DoneTo, OneMore};
 ghost use Rattle.ec_cluster.specs.Directory.{made_count};
 ghost use Rattle.ec_cluster.specs.SystemSteps.{CanBeDone};
 ghost use Rattle.ec_world.specs.Objects.{class_at};
 ghost use Rattle.ec_world.specs.Outcomes as spec;
-ghost use Rattle.ec_world.specs.Values.{default_of, field_defaults, new_fields};
+ghost use Rattle.ec_world.specs.Values.{new_fields};
 ghost use Rattle.ec_world.specs.declared.doing.Doing.TheVariants.{Makes, MakesVector};
 
 use crate::plain::only;
@@ -16,8 +16,9 @@ use ec_cluster::system::System;
 use ec_monitors::monitor::Monitor;
 use ec_world::class::{ClassNo, ClassRec, Classes, FieldRec, VectorType};
 use ec_world::doing::Outcome;
+use ec_world::initial::{default_elements, push_defaults};
 use ec_world::stop::{Effect, Who};
-use ec_world::value::{Oid, Value, ValueType, Values};
+use ec_world::value::{Oid, Value, Values};
 use std::alloc::{AllocError, Global};
 
 /// A new object of a class at the node of the own object, with the values that are given and the defaults of its other fields, and an
@@ -69,7 +70,7 @@ pub(crate) fn make_vector(
     ensures processes { system.new.processes ≡ system.old.processes }
     ensures places { OnOk result (OneMore system.old.cluster system.new.cluster who.own) }
 {
-    let elements = defaults(alloc, of.elements(), size)?;
+    let elements = default_elements(alloc, of.elements(), size)?;
     let oid = next_number(&system.cluster.directory)?;
     making::make(
         &mut system.cluster,
@@ -101,32 +102,6 @@ fn filled(alloc: Global, given: Values, fields: &Seq<FieldRec>) -> Result<Values
     let mut values = given;
     let from = values.len();
     push_defaults(alloc, &mut values, fields, from)?;
-    Ok(values)
-}
-
-/// The defaults of the fields from one on, behind the values that there are. The error is want of memory.
-fn push_defaults(
-    alloc: Global,
-    values: &mut Values,
-    fields: &Seq<FieldRec>,
-    from: usize,
-) -> Result<(), AllocError>
-    ensures { OnOk result (values.new ≡ values.old ++ field_defaults (drop from fields.now)) }
-{
-    for i in from..fields.len() {
-        values.push(fields.at(i).of.default_value(alloc))?;
-    }
-    Ok(())
-}
-
-/// So many defaults of a type. The error is want of memory.
-fn defaults(alloc: Global, of: ValueType, count: u32) -> Result<Values, AllocError>
-    ensures { IfOk result (λ vs. vs ≡ replicate count (default_of of)) }
-{
-    let mut values = Seq::new(alloc);
-    for _ in 0..count {
-        values.push(of.default_value(alloc))?;
-    }
     Ok(values)
 }
 
