@@ -1,7 +1,7 @@
 //! The MIPS I machine code of an accepted text.
 ghost use Rattle.std.specs.Prelude.{◌≡◌, ◌≤◌, ℕ, IfOk, length};
 ghost use Rattle.ec_compile.specs.Texts.{IsOfText};
-ghost use Rattle.ec_machine_code.specs.Faithful.{Faithful};
+ghost use Rattle.ec_machine_code.specs.Once.{FaithfulOnce};
 ghost use Rattle.ec_machine_code.specs.Frames.{slots};
 ghost use Rattle.ec_machine_code.specs.Stops.{address_of};
 ghost use Rattle.ec_generate.specs.Fits.{EachFits};
@@ -34,7 +34,7 @@ pub fn compile_for_mips(alloc: Global, program: &Program<'_>) -> Result<Compiled
     requires accepted { IsOfText (source_of program.now) }
     ensures lowered { IfOk result (λ made. IsLowered (source_of program.now) made.program) }
     ensures faithful { IfOk result
-        (λ made. Faithful mips_meaning made.program made.image.code (all_homes made.image.table.operations)) }
+        (λ made. FaithfulOnce mips_meaning made.program made.image.code (all_homes made.image.table.operations)) }
     ensures met { IfOk result
         (λ made. EachFits mips_meaning made.program made.image.code (all_homes made.image.table.operations)) }
     ensures tables { IfOk result (λ made. AreTablesOf 6 slots made.program made.image.table.operations) }

@@ -5,7 +5,7 @@ ghost use Rattle.ec_code.specs.declared.code.Operation.{Operation};
 ghost use Rattle.ec_code.specs.Fine.{Fine};
 ghost use Rattle.ec_code.specs.Typing.{Declared};
 ghost use Rattle.ec_machine_code.specs.Limits.{HasLimits};
-ghost use Rattle.ec_machine_code.specs.Faithful.{Faithful};
+ghost use Rattle.ec_machine_code.specs.Once.{FaithfulOnce};
 ghost use Rattle.ec_machine_code.specs.Frames.{slots};
 ghost use Rattle.ec_machine_code.specs.Stops.{address_of};
 ghost use Rattle.ec_generate.specs.Fits.{EachFits};
@@ -35,7 +35,7 @@ pub struct Image {
 }
 
 /// The image of a well typed program for a kind, whose words do on a machine what the steps do that they are of. The code does between
-/// any two stops what the program's silent steps do. The error is want of memory.
+/// any two stops what the program's silent steps do, and passes no word twice. The error is want of memory.
 pub fn build<K: Kind, M: Target>(
     alloc: Global,
     kind: &K,
@@ -50,7 +50,7 @@ pub fn build<K: Kind, M: Target>(
     requires numbers { (n q : ℕ) (o : Operation) (line : Line) → slice_get parts.now.operations n ≡ Some o →
         slice_get o.code q ≡ Some line → NumbersFit line.op }
     ensures faithful { IfOk result
-        (λ image. Faithful M.meaning parts.now image.code (all_homes image.table.operations)) }
+        (λ image. FaithfulOnce M.meaning parts.now image.code (all_homes image.table.operations)) }
     ensures met { IfOk result (λ image. (d : Declared) → Fine d parts.now → CanRest M.meaning → HasFew d parts.now →
         EachFits M.meaning parts.now image.code (all_homes image.table.operations)) }
     ensures tables { IfOk result (λ image. AreTablesOf K.homes slots parts.now image.table.operations) }
@@ -59,7 +59,7 @@ pub fn build<K: Kind, M: Target>(
     ensures few { IfOk result (λ image. length image.code.words ≤ words_end) }
 {
     let mut table = assign(alloc, parts, kind.home_registers(), SLOTS)?;
-    let code = generate(alloc, kind, parts, &table)?;
+    let code = generate::<K, M>(alloc, kind, parts, &table)?;
     table.bind(&code)?;
     Ok(Image { code, table })
 }

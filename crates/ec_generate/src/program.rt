@@ -3,10 +3,16 @@ ghost use Rattle.std.specs.Prelude.{◌≡◌, ℕ, ◌≤◌, Some, IfOk, lengt
 ghost use Rattle.ec_code.specs.declared.code.Operation.{Operation as One};
 ghost use Rattle.ec_code.specs.Fine.{Fine};
 ghost use Rattle.ec_code.specs.Typing.{Declared};
+ghost use Rattle.ec_code.specs.declared.code.Line.{Line};
 ghost use Rattle.ec_machine_code.specs.Limits.{HasLimits};
 ghost use Rattle.ec_machine_code.specs.Frames.{slots};
-ghost use Rattle.ec_machine_code.specs.Fitting.{HomesFit};
+ghost use Rattle.ec_machine_code.specs.Fitted.{CanRest, HasFew};
+ghost use Rattle.ec_machine_code.specs.Fitting.{HomesFit, NumbersFit};
 ghost use Rattle.ec_machine_code.specs.Layout.{HasRoom, code_of};
+ghost use Rattle.ec_machine_code.specs.Once.{FaithfulOnce};
+ghost use Rattle.ec_machine_code.specs.Speaks.{Speaks, words_end};
+ghost use Rattle.ec_generate.specs.Addresses.{HasFew as HasFewStops};
+ghost use Rattle.ec_generate.specs.Fits.{EachFits};
 ghost use Rattle.ec_generate.specs.Tables.{AreTablesOf, all_homes};
 
 use crate::direct::led_to;
@@ -19,6 +25,7 @@ use ec_base::list::Seq;
 use ec_code::code::{Operation, Parts};
 use ec_machine_code::code::Code;
 use ec_machine_code::homes::Home;
+use ec_machine_code::laws::Target;
 use std::alloc::{AllocError, Global};
 
 /// An operation with the places to which its steps lead and the homes of its variables.
@@ -36,8 +43,8 @@ fn site_of<'a>(operation: &'a Operation, led: &'a [bool], row: &'a Seq<Home>) ->
     }
 }
 
-/// The machine code of a well typed program for a kind of machine, by its stop table. The error is want of memory.
-pub fn generate<K: Kind>(
+/// Lays out the words of each step behind one another, and the operations too.
+fn lay_out<K: Kind>(
     alloc: Global,
     kind: &K,
     parts: &Parts,
@@ -61,4 +68,32 @@ pub fn generate<K: Kind>(
         operations.push(put_operation(alloc, kind, span, &site, &mut words)?)?;
     }
     Ok(Code { words, operations })
+}
+
+/// The machine code of a well typed program for a kind of machine, by its stop table, where the kind's words do on the machine what the
+/// steps do that they are of. Between any two stops the code does what the program's silent steps do, and passes no word twice. The
+/// error is want of memory.
+pub fn generate<K: Kind, M: Target>(
+    alloc: Global,
+    kind: &K,
+    parts: &Parts,
+    table: &StopTable,
+) -> Result<Code, AllocError>
+    requires near { Speaks M.meaning K.vocabularies.near }
+    requires middle { Speaks M.meaning K.vocabularies.middle }
+    requires far { Speaks M.meaning K.vocabularies.far }
+    requires homes { M.meaning.homes ≡ K.homes }
+    requires fine { (d : Declared) × Fine d parts.now }
+    requires limits { HasLimits parts.now }
+    requires numbers { (n q : ℕ) (o : One) (line : Line) → slice_get parts.now.operations n ≡ Some o →
+        slice_get o.code q ≡ Some line → NumbersFit line.op }
+    requires tables { AreTablesOf K.homes slots parts.now table.now.operations }
+    ensures faithful { IfOk result (λ code. FaithfulOnce M.meaning parts.now code (all_homes table.now.operations)) }
+    ensures met { IfOk result (λ code. (d : Declared) → Fine d parts.now → CanRest M.meaning → HasFew d parts.now →
+        EachFits M.meaning parts.now code (all_homes table.now.operations)) }
+    ensures low { IfOk result (λ code. length code.words ≤ words_end) }
+    ensures few { IfOk result (λ code. HasFewStops code) }
+{
+    let code = lay_out(alloc, kind, parts, table)?;
+    Ok(code)
 }

@@ -5,6 +5,8 @@ use Rattle.std.proofs.lemmas.Option.{same_Some}
 use Rattle.ec_world.specs.declared.key.Key.{Key}
 use Rattle.ec_world.specs.declared.key.Key.TheVariants.{Frame}
 use Rattle.ec_stores.specs.Changes.{FirstBlock, OwnsWord, SameRest, WordIs, WritesWord}
+use Rattle.ec_stores.specs.Memory.{same_memory, same_memory_on}
+use Rattle.ec_stores.specs.Node.{IsInWord, KeepsBytes, NodeData, row_of}
 use Rattle.ec_things.specs.Store.{KeptRow, Owned, Store, word_in, word_of}
 use Rattle.ec_legs.specs.Words.{IsFrame, KeepsWords}
 
@@ -75,6 +77,36 @@ keeps_fewer s s' key IsKept IsLess keeps less = record {
   rows = keeps.rows;
   rest = keeps.rest;
   free = keeps.free;
+}
+
+-- ---- the bytes
+
+pub bytes_none : (n : NodeData) (key : Key) (IsKept : ℕ → Type 0) → KeepsBytes n n key IsKept
+bytes_none n key IsKept = record { bytes = λ a h. refl; lists = same_memory n.memory }
+
+pub bytes_fewer : (n n' : NodeData) (key : Key) (IsKept IsLess : ℕ → Type 0) → KeepsBytes n n' key IsKept →
+    ((j : ℕ) → IsLess j → IsKept j) → KeepsBytes n n' key IsLess
+bytes_fewer n n' key IsKept IsLess keeps less = record {
+  bytes = λ a h. keeps.bytes a (λ i within. less i (h i within));
+  lists = keeps.lists;
+}
+
+-- an owner's words lie where they lay
+same_place : (n n' : NodeData) (key : Key) (i a : ℕ) → row_of n' key ≡ row_of n key → IsInWord n' key i a → IsInWord n key i a
+same_place n n' key i a rows within = record {
+  row = within.row;
+  there = sym rows ∙ within.there;
+  block = within.block;
+  is = within.is;
+  from = within.from;
+  below = within.below;
+}
+
+pub bytes_on : (n m n' : NodeData) (key : Key) (IsKept : ℕ → Type 0) → row_of m key ≡ row_of n key → KeepsBytes n m key IsKept →
+    KeepsBytes m n' key IsKept → KeepsBytes n n' key IsKept
+bytes_on n m n' key IsKept rows p q = record {
+  bytes = λ a h. q.bytes a (λ i within. h i (same_place n m key i a rows within)) ∙ p.bytes a h;
+  lists = same_memory_on n.memory m.memory n'.memory p.lists q.lists;
 }
 
 -- ---- the words of an activation

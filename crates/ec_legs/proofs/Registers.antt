@@ -12,6 +12,8 @@ use Rattle.ec_world.specs.declared.node.Kind.{Kind}
 use Rattle.ec_legs.specs.Kinds.{AreHomeRegisters, Means}
 use Rattle.ec_legs.specs.Machines.{IsSetUp, IsUnsaved, IsUntouched, Restores, RestsWhere, Saves, pending_word, stop_word}
 use Rattle.ec_legs.specs.Words.{IsFrame, KeepsWords}
+use Rattle.ec_stores.specs.Node.{KeepsBytes, NodeData, row_of}
+use Rattle.ec_legs.proofs.Keeping.{bytes_fewer, bytes_on}
 use Rattle.ec_legs.proofs.Keeping.{frame_kept, frame_written, keeps_fewer, keeps_none, keeps_on, keeps_written, one_block, one_word}
 use Rattle.ec_legs.proofs.Keeping.{word_kept}
 
@@ -104,6 +106,29 @@ module _ {S : Type 0} (M : MachineMeaning S) (kind : Kind) (goes : List ℕ → 
       homes = λ k w l word.
           placed (M.first_home + k) ∙ restores.homes k w (let all = are.homes_are in omega arith) word;
     }
+
+-- ---- bytes when homes are saved, and when an activation rests
+
+-- one home more
+pub bytes_saved : (n m n' : NodeData) (process depth k : ℕ) → row_of m (Frame process depth) ≡ row_of n (Frame process depth) →
+    KeepsBytes n m (Frame process depth) (IsUnsaved k) → KeepsBytes m n' (Frame process depth) (λ j. j ≢ first_saved + k) →
+    KeepsBytes n n' (Frame process depth) (IsUnsaved (k + 1))
+bytes_saved n m n' process depth k rows before keeps =
+    bytes_on n m n' (Frame process depth) (IsUnsaved (k + 1)) rows
+    (bytes_fewer n m (Frame process depth) (IsUnsaved k) (IsUnsaved (k + 1)) before (λ j out i h. out i (omega arith)))
+    (bytes_fewer m n' (Frame process depth) (λ j. j ≢ first_saved + k) (IsUnsaved (k + 1)) keeps (λ j out. out k (omega arith)))
+
+-- the homes, the stop, and that it is pending
+pub bytes_resting : (n n1 n2 n3 : NodeData) (process depth homes : ℕ) →
+    row_of n1 (Frame process depth) ≡ row_of n (Frame process depth) → row_of n2 (Frame process depth) ≡ row_of n1 (Frame process depth) →
+    KeepsBytes n n1 (Frame process depth) (IsUnsaved homes) → KeepsBytes n1 n2 (Frame process depth) (λ j. j ≢ stop_word) →
+    KeepsBytes n2 n3 (Frame process depth) (λ j. j ≢ pending_word) → KeepsBytes n n3 (Frame process depth) (IsUntouched homes)
+bytes_resting n n1 n2 n3 process depth homes rows1 rows2 saves names pends =
+    bytes_on n n2 n3 (Frame process depth) (IsUntouched homes) (rows2 ∙ rows1)
+    (bytes_on n n1 n2 (Frame process depth) (IsUntouched homes) rows1
+    (bytes_fewer n n1 (Frame process depth) (IsUnsaved homes) (IsUntouched homes) saves (λ j h. h.2))
+    (bytes_fewer n1 n2 (Frame process depth) (λ j. j ≢ stop_word) (IsUntouched homes) names (λ j h. h.0)))
+    (bytes_fewer n2 n3 (Frame process depth) (λ j. j ≢ pending_word) (IsUntouched homes) pends (λ j h. h.1))
 
 -- ---- homes are saved
 

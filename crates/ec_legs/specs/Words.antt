@@ -5,7 +5,7 @@ use Rattle.ec_world.specs.declared.key.Key.TheVariants.{Frame}
 use Rattle.ec_stores.specs.Changes.{SameRest}
 use Rattle.ec_things.specs.Store.{KeptRow, Owned, Store, word_of}
 
--- all is as it was but for words of one owner that aren't kept
+-- All that a store tells is as it was but for words of one owner that aren't kept. Of what nobody owns `KeepsBytes` tells.
 pub record KeepsWords (s s' : Store) (key : Key) (IsKept : ℕ → Type 0) : Type 0 where
   pub its :
       (r : Owned) (j : ℕ) → s.row key ≡ Some r → j < 128 * length r.blocks → IsKept j → word_of s' r.blocks j ≡ word_of s r.blocks j

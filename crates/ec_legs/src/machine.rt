@@ -1,12 +1,13 @@
 //! A machine is set up for an activation, and an activation rests where a machine has come to.
 ghost use Rattle.std.specs.Prelude.{◌≡◌, ◌<◌, ℕ, Some};
 ghost use Rattle.ec_machine_code.specs.Frames.{block_at};
-ghost use Rattle.ec_legs.specs.Machines.{IsBehindStop, IsSetUp, NamesObject, NamesStop, Restores, RestsWhere, Saves};
+ghost use Rattle.ec_legs.specs.Machines.{IsBehindStop, IsSetUp, IsUnsaved, IsUntouched, NamesObject, NamesStop, Restores};
+ghost use Rattle.ec_legs.specs.Machines.{RestsWhere, Saves};
 ghost use Rattle.ec_legs.specs.Words.{IsFrame};
-ghost use Rattle.ec_world.specs.declared.key.Key.TheVariants.{Object as OfObject};
+ghost use Rattle.ec_world.specs.declared.key.Key.TheVariants.{Frame, Object as OfObject};
 ghost use Rattle.ec_generate.specs.Addresses.{address_in};
 ghost use Rattle.ec_stores.specs.Changes.{HasBlock};
-ghost use Rattle.ec_stores.specs.Node.{store_of};
+ghost use Rattle.ec_stores.specs.Node.{KeepsBytes, store_of};
 
 use crate::kind::NativeKind;
 use ec_generate::table::{StopId, StopTable};
@@ -103,7 +104,8 @@ pub(crate) fn rest_at<M: Machine, N: NativeKind<M>>(
     requires frame { IsFrame (store_of node.old) process depth }
     requires stop { (operation : ℕ) × (number : ℕ)
         × (address_in table.now.addresses operation number ≡ Some (N.meaning.place machine.now)) }
-    ensures { RestsWhere N.meaning table.now.addresses (store_of node.old) (store_of node.new) process depth machine.now }
+    ensures rests { RestsWhere N.meaning table.now.addresses (store_of node.old) (store_of node.new) process depth machine.now }
+    ensures bytes { KeepsBytes node.old node.new (Frame process depth) (IsUntouched N.HOMES) }
 {
     let Some(id) = table.at_pc(machine.pc()) else {
         unreachable!()
@@ -116,7 +118,8 @@ pub(crate) fn rest_at<M: Machine, N: NativeKind<M>>(
 /// The homes are saved in a frame.
 fn save<M: Machine, N: NativeKind<M>>(node: &mut NodeStore, machine: &M, process: Pid, depth: u32)
     requires { IsFrame (store_of node.old) process depth }
-    ensures { Saves N.meaning (store_of node.old) (store_of node.new) process depth N.HOMES machine.now }
+    ensures saves { Saves N.meaning (store_of node.old) (store_of node.new) process depth N.HOMES machine.now }
+    ensures bytes { KeepsBytes node.old node.new (Frame process depth) (IsUnsaved N.HOMES) }
 {
     for k in 0..N::HOMES {
         let word = machine.read_reg(N::FIRST_HOME + k);

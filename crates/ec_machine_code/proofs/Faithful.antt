@@ -1,11 +1,11 @@
 -- From a state that fits an activation the code does what silent steps do.
-use Rattle.std.proofs.Common.{◌≡◌, ℕ, zero, suc, ◌+◌, ◌≤◌, List, [], ◌∷◌, length, drop, Option, Some, None, refl, sym, ap, ◌∙◌}
+use Rattle.std.proofs.Common.{◌≡◌, ℕ, suc, ◌+◌, ◌<◌, ◌≤◌, List, length, drop, Option, Some, None, refl, sym, ap, ◌∙◌}
 use Rattle.std.proofs.Common.{subst, arith, inr}
 use Rattle.std.specs.Prelude.{slice_get}
 use Rattle.std.proofs.lemmas.Option.{same_Some}
 use Rattle.ec_base.specs.Bytes.{Bytes}
 use Rattle.ec_code.specs.Activations.{Arrived, machine_behind, operation_at, walk}
-use Rattle.ec_code.specs.Fine.{Has, live_at}
+use Rattle.ec_code.specs.Fine.{Has, IsIn, live_at}
 use Rattle.ec_code.specs.Steps.{Machine}
 use Rattle.ec_code.specs.Typing.{Declared}
 use Rattle.ec_code.specs.declared.activation.CodeActivation.{CodeActivation}
@@ -15,46 +15,36 @@ use Rattle.ec_code.specs.declared.code.Parts.{Parts}
 use Rattle.ec_code.specs.declared.code.StopRow.{StopRow}
 use Rattle.ec_code.specs.declared.code.Variable.{Variable}
 use Rattle.ec_types.specs.declared.conform.static_type.StaticType.{StaticType}
-use Rattle.ec_machine_code.specs.Faithful.{Arrives, homes_of, machine_at}
+use Rattle.ec_machine_code.specs.Faithful.{homes_of, machine_at}
 use Rattle.ec_machine_code.specs.Frames.{slots}
 use Rattle.ec_machine_code.specs.Machine.{MachineMeaning}
+use Rattle.ec_machine_code.specs.Once.{ArrivesOnce, IsWordOf}
 use Rattle.ec_machine_code.specs.Standing.{AreTables, Fits, HasWhatIsSet, HomeStands, Lives}
-use Rattle.ec_machine_code.specs.Stops.{IsStopAt, home_in, stop_of, stop_places}
+use Rattle.ec_machine_code.specs.Stops.{IsStopAt, home_in, stop_of, stop_places, words_of}
 use Rattle.ec_machine_code.specs.Homes.{IsWithin}
 use Rattle.ec_machine_code.specs.declared.homes.Home.{Home}
 use Rattle.ec_machine_code.specs.declared.homes.Home.TheVariants.{Register, Slot}
 use Rattle.ec_machine_code.proofs.Direct.{none_behind}
-use Rattle.ec_machine_code.specs.Direct.{direct_before, direct_of, laid_from}
+use Rattle.ec_machine_code.specs.Direct.{direct_before, direct_of}
 use Rattle.ec_machine_code.specs.Fitting.{CanBeLaidOut, LaidOutIsFaithful}
-use Rattle.ec_machine_code.specs.Layout.{Vocabularies, home_of, home_or, op_size, ops_of, size_of, vocabulary_of}
+use Rattle.ec_machine_code.specs.Layout.{Vocabularies, home_of, home_or, op_size, ops_of, vocabulary_of}
 use Rattle.ec_machine_code.specs.Micro.{Sight}
 use Rattle.ec_machine_code.specs.Speaks.{Sees, Vocabulary}
 use Rattle.ec_world.specs.Words.{StandsFor}
+use Rattle.ec_target.proofs.Climbing.{passes_lead, rises_few}
 use Rattle.ec_target.specs.Code.{pc_of, word_at}
 use Rattle.ec_world.specs.declared.common.Common.{Common}
 use Rattle.ec_world.specs.declared.value.Value.{Value}
-use Rattle.ec_machine_code.proofs.Sites.{Site}
+use Rattle.ec_machine_code.proofs.Once.{rises_different, rises_inside}
+use Rattle.ec_machine_code.proofs.Programs.{before_is}
+use Rattle.ec_machine_code.proofs.Sites.{Site, behind_all, word_of}
 use Rattle.ec_machine_code.proofs.LaidOutSizes.{before_next}
 use Rattle.ec_machine_code.proofs.Standing.{Held, Holds, Setting, Standing}
 use Rattle.ec_machine_code.proofs.Stops.{number_of, numbered, rest_is}
-use Rattle.ec_machine_code.proofs.Walks.{Gets, GetsTo, gets, size}
+use Rattle.ec_machine_code.proofs.Walks.{Gets, GetsTo, gets}
 use Rattle.ec_machine_code.proofs.Whole.{address_is, apart, at_place, code, known, laid_at, only, op_at, speaks, start, stop_line}
 use Rattle.ec_machine_code.proofs.Whole.{stop_word_at, stops}
 use Rattle.ec_machine_code.proofs.Whole.{whole, within, words_are}
-
-size_drop :
-    (V : Vocabulary) (home : Variable → Home) (code lines : List Line) (p n : ℕ) →
-    size_of V home (laid_from code (p + n) (drop n lines)) ≤ size_of V home (laid_from code p lines)
-size_drop V home code lines p zero =
-    let none : p + zero ≡ p = omega arith in
-    let same = ap (λ i. size_of V home (laid_from code i lines)) none in
-    omega (arith, same)
-size_drop V home code [] p (suc n) = omega arith
-size_drop V home code (l ∷ rest) p (suc n) =
-    let next : p + suc n ≡ suc p + n = omega arith in
-    let same = ap (λ i. size_of V home (laid_from code i (drop n rest))) next in
-    let far = size_drop V home code rest (suc p) n in
-    omega (arith, same, far)
 
 module _ {S : Type 0} (M : MachineMeaning S) (vs : Vocabularies) (homes : List (List Home)) (d : Declared) (p : Parts)
     (can : CanBeLaidOut M vs homes d p) (local : ℕ → Option ℕ) (text : ℕ → Option (List ℕ)) (o : Operation) (a : CodeActivation)
@@ -187,10 +177,10 @@ module _ {S : Type 0} (M : MachineMeaning S) (vs : Vocabularies) (homes : List (
 
     module _ (e : Common) (r : Arrived)
         (walks : walk p.literals a.own (suc a.at) (drop (suc a.at) o.code) 0 m ≡ (e, Some r)) where
-      gone : Gets M V g z s seen (size M V g z (suc a.at) (drop (suc a.at) o.code)) e r
+      gone : Gets M V g z s seen (word_of M V g z (suc a.at + 0)) e r
       gone =
           let first : suc a.at ≡ suc a.at + 0 = omega arith in
-          subst (λ to. GetsTo M V g z s seen (size M V g z (suc a.at) (drop (suc a.at) o.code)) to) walks
+          subst (λ to. GetsTo M V g z s seen (word_of M V g z (suc a.at + 0)) to) walks
           (gets M V g z (drop (suc a.at) o.code) (suc a.at) 0 m refl s seen
           (ap (direct_before o.code) (sym first) ∙ none_done) sees
           (begins ∙ ap (λ k. pc_of (at_place M vs homes d p can a.operation o k)) first)
@@ -218,7 +208,25 @@ module _ {S : Type 0} (M : MachineMeaning S) (vs : Vocabularies) (homes : List (
                 (back (home x) h.value h.holds);
           }
 
-      pub arrives : Arrives M p (code M vs homes d p can) homes local text a.operation o f own a.own m e r s bytes
+      -- its words are the operation's
+      words_of_it : (i : ℕ) → word_of M V g z (suc a.at + 0) ≤ i → i < behind_all M V g z → IsWordOf (code M vs homes d p can) a.operation i
+      words_of_it i low high =
+          let first = before_is M vs can.near can.middle can.far homes 0 0 p.operations a.operation in
+          let all = words_are M vs homes d p can a.operation o is in
+          ((omega (arith, low, first)), (omega (arith, high, first, all)))
+
+      inside : (i : ℕ) → IsIn i gone.ends.climbs.path → IsWordOf (code M vs homes d p can) a.operation i
+      inside i h =
+          let within = rises_inside (word_of M V g z (suc a.at + 0)) (behind_all M V g z) gone.ends.climbs.path i gone.ends.climbs.rises h in
+          words_of_it i within.0 within.1
+
+      few : length gone.ends.climbs.path ≤ suc (words_of (code M vs homes d p can) a.operation)
+      few =
+          let few = rises_few (word_of M V g z (suc a.at + 0)) (behind_all M V g z) gone.ends.climbs.path gone.ends.climbs.rises in
+          let all = words_are M vs homes d p can a.operation o is in
+          omega (arith, few, all)
+
+      pub arrives : ArrivesOnce M p (code M vs homes d p can) homes local text a.operation o f own a.own m e r s bytes
       arrives =
           let top = stop_line (slice_get o.code r.place) gone.arrival.row gone.arrival.is_row in
           let word = stop_word_at M vs homes d p can a.operation r.place o top.0 gone.arrival.row is top.1 top.2 in
@@ -227,45 +235,54 @@ module _ {S : Type 0} (M : MachineMeaning S) (vs : Vocabularies) (homes : List (
           let is_number = number.1 ∙ ap Some none in
           let rests = gone.ends.sees.rests in
           let speaking = speaks M vs homes d p can a.operation o in
-          record {
-            steps = gone.ends.steps;
-            last = gone.ends.last;
-            memory = gone.sight.bytes;
-            native = (
-              gone.ends.leads,
-              speaking.halt (code M vs homes d p can).words gone.ends.last gone.sight.bytes rests
-                  (ap (word_at (code M vs homes d p can).words) gone.ends.at ∙ word),
-            );
-            few = (let few = gone.ends.few in let all = words_are M vs homes d p can a.operation o is in
-                let part = size_drop V home o.code o.code 0 (suc a.at) in
-                let first : 0 + suc a.at ≡ suc a.at = omega arith in
-                let same = ap (λ i. size_of V home (laid_from o.code i (drop (suc a.at) o.code))) first in
-                omega (arith, few, all, part, same));
-            is_loaded = speaking.is_loaded gone.ends.last rests;
-            at = record {
-              operation = o;
-              is_operation = is;
-              number = number.0;
-              is_number = is_number;
-              is_address = address_is M vs homes d p can a.operation number.0 r.place o is is_number ∙ ap Some (sym gone.ends.at);
-            };
-            row = gone.arrival.row;
-            is_row = gone.arrival.is_row;
-            operands = λ x h. let l = gone.arrival.operands x h in lives x l.0 l.1;
-            live = λ x t h. lives x t (gone.arrival.live x t h);
-            fields = record { each = gone.stand.ground.field; few = gone.stand.ground.few };
-            others = gone.same;
-          }
+          let path = gone.ends.climbs.path in (
+            record {
+              steps = length path;
+              last = gone.ends.last;
+              memory = gone.sight.bytes;
+              native = (
+                passes_lead (M.goes (code M vs homes d p can).words) M.place path s bytes gone.ends.last gone.sight.bytes
+                    gone.ends.climbs.passes,
+                speaking.halt (code M vs homes d p can).words gone.ends.last gone.sight.bytes rests
+                    (ap (word_at (code M vs homes d p can).words) gone.ends.at ∙ word),
+              );
+              few = few;
+              is_loaded = speaking.is_loaded gone.ends.last rests;
+              at = record {
+                operation = o;
+                is_operation = is;
+                number = number.0;
+                is_number = is_number;
+                is_address = address_is M vs homes d p can a.operation number.0 r.place o is is_number ∙ ap Some (sym gone.ends.at);
+              };
+              row = gone.arrival.row;
+              is_row = gone.arrival.is_row;
+              operands = λ x h. let l = gone.arrival.operands x h in lives x l.0 l.1;
+              live = λ x t h. lives x t (gone.arrival.live x t h);
+              fields = record { each = gone.stand.ground.field; few = gone.stand.ground.few };
+              others = gone.same;
+            },
+            record {
+              path = path;
+              passes = gone.ends.climbs.passes;
+              different = rises_different (word_of M V g z (suc a.at + 0)) (behind_all M V g z) path gone.ends.climbs.rises;
+              inside = inside;
+            },
+          )
 
 module _ {S : Type 0} (M : MachineMeaning S) where
   pub faithful : LaidOutIsFaithful M
   faithful vs homes d p can = record {
-    stops = λ n k q o e is. stops M vs homes d p can n k q o e is;
-    only = only M vs homes d p can;
-    apart = apart M vs homes d p can;
-    known = known M vs homes d p can;
-    whole = whole M vs homes d p can;
-    within = within M vs homes d p can;
-    runs = λ local text o a c e r address f own s bytes tables is stop walks behind has fits.
+    faithful = record {
+      stops = λ n k q o e is. stops M vs homes d p can n k q o e is;
+      only = only M vs homes d p can;
+      apart = apart M vs homes d p can;
+      known = known M vs homes d p can;
+      whole = whole M vs homes d p can;
+      within = within M vs homes d p can;
+      runs = λ local text o a c e r address f own s bytes tables is stop walks behind has fits.
+          (arrives M vs homes d p can local text o a c address f own s bytes tables is stop behind has fits e r walks).0;
+    };
+    once = λ local text o a c e r address f own s bytes tables is stop walks behind has fits.
         arrives M vs homes d p can local text o a c address f own s bytes tables is stop behind has fits e r walks;
   }

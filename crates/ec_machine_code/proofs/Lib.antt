@@ -17,6 +17,7 @@ pub mod Each
 pub mod Outcomes
 pub mod Pairs
 pub mod Walks
+pub mod Once
 pub mod Stops
 pub mod Laying
 pub mod Programs

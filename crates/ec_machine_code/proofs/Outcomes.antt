@@ -80,23 +80,23 @@ module _ {S : Type 0} (M : MachineMeaning S) (V : Vocabulary) (g : Setting M) (z
     pub operands : (x : Variable) → IsIn x row.operands → (t : StaticType) × Has here x t
     pub live : (x : Variable) (t : StaticType) → Has (live_list z.of.code place row) x t → Has here x t
 
-  -- the code leads from a step to another one
-  pub record Went (o : Op) (s : S) (v : Sight) (new : Machine) (to : ℕ) : Type 0 where
+  -- the code leads from the step at a place to another one, through words of its own
+  pub record Went (q : ℕ) (s : S) (v : Sight) (new : Machine) (to : ℕ) : Type 0 where
     pub after : Sight
-    pub ends : Ends M g.f g.own z.code s v (op_size V z.home o) (word_of M V g z to) after
+    pub ends : Ends M g.f g.own z.code s v (word_of M V g z q) (word_of M V g z (suc q)) (word_of M V g z to) after
     pub stand : Standing M g z.home (named M V g z) (live_at z.of.code to) after new
     pub same : (address : ℕ) → Beside M g address → after.bytes address ≡ v.bytes address
     -- no copy was done before it
     pub lands : direct_before z.of.code to ≡ None
 
-  pub record Looped (q back : ℕ) (o : Op) (here : List Live) (s : S) (v : Sight) : Type 0 where
+  pub record Looped (q back : ℕ) (here : List Live) (s : S) (v : Sight) : Type 0 where
     pub arrival : Arrival (q - back) here
-    pub ends : Ends M g.f g.own z.code s v (op_size V z.home o) (word_of M V g z (q - back)) v
+    pub ends : Ends M g.f g.own z.code s v (word_of M V g z q) (word_of M V g z (suc q)) (word_of M V g z (q - back)) v
 
   abbrev pub Outcome : ℕ → Op → List Live → S → Sight → Done → Type 0
-  Outcome q o here s v (Goes new over) = Went o s v new (suc (q + over))
+  Outcome q o here s v (Goes new over) = Went q s v new (suc (q + over))
   Outcome q o here s v (Rests row operands) = Arrival q here × (stop_at z.of.code q ≡ Some row)
-  Outcome q o here s v (Loops back) = Looped q back o here s v
+  Outcome q o here s v (Loops back) = Looped q back here s v
   Outcome q o here s v NoCase = Unit {0}
 
   -- ---- stops
@@ -191,10 +191,10 @@ module _ {S : Type 0} (M : MachineMeaning S) (V : Vocabulary) (g : Setting M) (z
         sees d.can in
         record {
           after = after;
-          ends = ends_at M V g z s v after (op_size V z.home o) (word_of M V g z q + plain_size V z.home o) (word_of M V g z (suc (q + 0)))
-              (omega (arith, next, size, word))
-              (longer M g.f g.own z.code s v after (plain_size V z.home o) (op_size V z.home o) (word_of M V g z q + plain_size V z.home o)
-              (omega arith) e);
+          ends = ends_at M V g z s v after (word_of M V g z q) (word_of M V g z (suc q)) (word_of M V g z q + plain_size V z.home o)
+              (word_of M V g z (suc (q + 0))) (omega (arith, next, size, word))
+              (longer M g.f g.own z.code s v after (word_of M V g z q) (word_of M V g z q + plain_size V z.home o) (word_of M V g z q)
+              (word_of M V g z (suc q)) (word_of M V g z q + plain_size V z.home o) (omega arith) (omega (arith, next)) e);
           stand = subst (λ k. Standing M g z.home (named M V g z) (live_at z.of.code k) after new) first d.behind;
           same = d.same;
           lands = falls;
@@ -226,7 +226,7 @@ module _ {S : Type 0} (M : MachineMeaning S) (V : Vocabulary) (g : Setting M) (z
     -- a jump leads forward
     jumped :
         (over : ℕ) → plain_size V z.home o ≡ 0 → ending_of z.home o ≡ Some (Jump over) →
-        Ends M g.f g.own z.code s v (op_size V z.home o) (word_of M V g z (suc (q + over))) v
+        Ends M g.f g.own z.code s v (word_of M V g z q) (word_of M V g z (suc q)) (word_of M V g z (suc (q + over))) v
     jumped over plain is =
         let words = ending_there M V g z q o o here at same in
         let i = word_of M V g z q + plain_size V z.home o in
@@ -242,26 +242,28 @@ module _ {S : Type 0} (M : MachineMeaning S) (V : Vocabulary) (g : Setting M) (z
         subst (λ e. HasAt z.code i (ending_words V z.home (ops M V g z) z.start q i e)) is words in
         let e = z.speaks.jump g.f g.own z.code i to s v has (omega (arith, there, plain)) (omega (arith, next, size, plain, low_next)) low
         (omega (arith, within, near)) (omega (arith, next, rise, plain)) sees in
-        longer M g.f g.own z.code s v v V.jump_size (op_size V z.home o) to (omega (arith, size)) e
+        longer M g.f g.own z.code s v v i (i + V.jump_size) (word_of M V g z q) (word_of M V g z (suc q)) to (omega arith)
+        (omega (arith, next, size)) e
 
     -- a step without words is behind itself
     passed :
         plain_size V z.home o ≡ 0 → ending_of z.home o ≡ None →
-        Ends M g.f g.own z.code s v (op_size V z.home o) (word_of M V g z (suc (q + 0))) v
+        Ends M g.f g.own z.code s v (word_of M V g z q) (word_of M V g z (suc q)) (word_of M V g z (suc (q + 0))) v
     passed plain none =
         let next = next_word M V g z q o o here at same in
         let size : ending_size V (ending_of z.home o) ≡ 0 = ap (ending_size V) none in
         let first : suc q ≡ suc (q + 0) = omega arith in
         let word = ap (word_of M V g z) first in
-        ends_at M V g z s v v (op_size V z.home o) (word_of M V g z q) (word_of M V g z (suc (q + 0)))
+        ends_at M V g z s v v (word_of M V g z q) (word_of M V g z (suc q)) (word_of M V g z q) (word_of M V g z (suc (q + 0)))
         (omega (arith, next, size, plain, word))
-        (longer M g.f g.own z.code s v v 0 (op_size V z.home o) (word_of M V g z q) (omega arith)
-        (stands_still M g.f g.own z.code s v (word_of M V g z q) there sees))
+        (longer M g.f g.own z.code s v v (word_of M V g z q) (word_of M V g z q) (word_of M V g z q) (word_of M V g z (suc q))
+        (word_of M V g z q) (omega arith) (omega (arith, next)) (stands_still M g.f g.own z.code s v (word_of M V g z q) there sees))
 
     -- to one of two steps
     abbrev LeadsTo : ℕ → Bool → Type 0
     LeadsTo over r =
-        Ends M g.f g.own z.code s v (op_size V z.home o) (if r then word_of M V g z (suc (q + over)) else word_of M V g z (suc (q + 0))) v
+        Ends M g.f g.own z.code s v (word_of M V g z q) (word_of M V g z (suc q))
+        (if r then word_of M V g z (suc (q + over)) else word_of M V g z (suc (q + 0))) v
 
     -- the words of a question lead to one of them
     answered :
@@ -284,11 +286,12 @@ module _ {S : Type 0} (M : MachineMeaning S) (V : Vocabulary) (g : Setting M) (z
         let e = z.speaks.ask g.f g.own z.code question i to s v g.frame_small g.own_small has (omega (arith, there, plain))
         (omega (arith, next, rise, size, plain)) low (omega (arith, within, near)) sees can in
         let there_is = ap (λ b. if b then to else i + V.ask_size question) answer in
-        ends_at M V g z s v v (op_size V z.home o) (if r then to else i + V.ask_size question)
+        ends_at M V g z s v v (word_of M V g z q) (word_of M V g z (suc q)) (if r then to else i + V.ask_size question)
         (if r then to else word_of M V g z (suc (q + 0))) (one_of r to (i + V.ask_size question) (word_of M V g z (suc (q + 0)))
         (omega (arith, next, size, plain, word)))
-        (ends_at M V g z s v v (op_size V z.home o) _ (if r then to else i + V.ask_size question) there_is
-        (longer M g.f g.own z.code s v v (V.ask_size question) (op_size V z.home o) _ (omega (arith, size)) e))
+        (ends_at M V g z s v v (word_of M V g z q) (word_of M V g z (suc q)) _ (if r then to else i + V.ask_size question) there_is
+        (longer M g.f g.own z.code s v v i (i + V.ask_size question) (word_of M V g z q) (word_of M V g z (suc q)) _ (omega arith)
+        (omega (arith, next, size)) e))
       where
         one_of : (r : Bool) (a b c : ℕ) → b ≡ c → (if r then a else b) ≡ (if r then a else c)
         one_of true a b c e = refl
@@ -318,7 +321,8 @@ module _ {S : Type 0} (M : MachineMeaning S) (V : Vocabulary) (g : Setting M) (z
 
     went_to :
         (over : ℕ) → direct_at z.of.code (q + over) ≡ None → Passes z.declared g.parts (drop (suc q) z.of.code) over here →
-        Ends M g.f g.own z.code s v (op_size V z.home o) (word_of M V g z (suc (q + over))) v → Leads (Goes m over)
+        Ends M g.f g.own z.code s v (word_of M V g z q) (word_of M V g z (suc q)) (word_of M V g z (suc (q + over))) v →
+        Leads (Goes m over)
     went_to over lands flows e = record {
       after = v;
       ends = e;
@@ -374,7 +378,8 @@ module _ {S : Type 0} (M : MachineMeaning S) (V : Vocabulary) (g : Setting M) (z
         (omega (arith, rise, plain)) (omega (arith, within, near, plain)) sees in
         record {
           arrival = at_top q back here fine;
-          ends = longer M g.f g.own z.code s v v V.jump_size (op_size V z.home o) to (omega (arith, size)) e;
+          ends = longer M g.f g.own z.code s v v i (i + V.jump_size) (word_of M V g z q) (word_of M V g z (suc q)) to (omega arith)
+              (omega (arith, next, size, plain)) e;
         }
 
   -- ---- all of them

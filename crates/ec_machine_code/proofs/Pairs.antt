@@ -34,9 +34,9 @@ use Rattle.ec_machine_code.proofs.Variables.{set_other}
 
 module _ {S : Type 0} (M : MachineMeaning S) (V : Vocabulary) (g : Setting M) (z : Site M V g) where
   -- the code leads from a place past the next step
-  pub record Passed (p : ℕ) (x : Op) (s : S) (v : Sight) (new : Machine) : Type 0 where
+  pub record Passed (p : ℕ) (s : S) (v : Sight) (new : Machine) : Type 0 where
     pub after : Sight
-    pub ends : Ends M g.f g.own z.code s v (op_size V z.home x) (word_of M V g z (suc (suc p))) after
+    pub ends : Ends M g.f g.own z.code s v (word_of M V g z p) (word_of M V g z (suc p)) (word_of M V g z (suc (suc p))) after
     pub stand : Standing M g z.home (named M V g z) (live_at z.of.code (suc (suc p))) after new
     pub same : (address : ℕ) → Beside M g address → after.bytes address ≡ v.bytes address
 
@@ -115,7 +115,7 @@ module _ {S : Type 0} (M : MachineMeaning S) (V : Vocabulary) (g : Setting M) (z
     within : IsWithin M.homes slots (z.home (Named n))
     within = z.within (suc p) (line_of copy next) (Named n) at_next (inr (inl refl))
 
-    pub passed : Passed p x s v (with_variable first (Named n) u)
+    pub passed : Passed p s v (with_variable first (Named n) u)
     passed =
         let fine = fine_at z.declared g.parts z.number z.of p (line_of o here) z.fine at in
         let fits = z.numbers p (line_of o here) at in
@@ -137,10 +137,10 @@ module _ {S : Type 0} (M : MachineMeaning S) (V : Vocabulary) (g : Setting M) (z
         sees can in
         record {
           after = after;
-          ends = ends_at M V g z s v after (op_size V z.home x) (word_of M V g z p + plain_size V z.home x) (word_of M V g z (suc (suc p)))
-              (omega (arith, to_next, to_last, none))
-              (longer M g.f g.own z.code s v after (plain_size V z.home x) (op_size V z.home x) (word_of M V g z p + plain_size V z.home x)
-              (omega arith) e);
+          ends = ends_at M V g z s v after (word_of M V g z p) (word_of M V g z (suc p)) (word_of M V g z p + plain_size V z.home x)
+              (word_of M V g z (suc (suc p))) (omega (arith, to_next, to_last, none))
+              (longer M g.f g.own z.code s v after (word_of M V g z p) (word_of M V g z p + plain_size V z.home x) (word_of M V g z p)
+              (word_of M V g z (suc p)) (word_of M V g z p + plain_size V z.home x) (omega arith) (omega (arith, to_next)) e);
           stand = stands_too after
               (writes_home M g z.home (named M V g z) here behind (Named n) u word v m flows
               (λ y of l ne. z.apart (suc p) (line_of copy next) (Named n) y of at_next refl l ne) (there_next M V g z (suc p)) within small

@@ -29,7 +29,7 @@ use Rattle.ec_machine_code.specs.Lowering.{ending_of, steps_of}
 use Rattle.ec_machine_code.specs.Micro.{Sight}
 use Rattle.ec_machine_code.specs.Speaks.{Ends, HasAt, Speaks, Vocabulary, words_end}
 use Rattle.ec_world.specs.declared.value.Value.{Value}
-use Rattle.ec_machine_code.proofs.LaidOutSizes.{before_next, before_within}
+use Rattle.ec_machine_code.proofs.LaidOutSizes.{before_next, before_rises, before_within}
 use Rattle.ec_machine_code.proofs.Standing.{AreThere, Flows, Setting}
 use Rattle.ec_machine_code.proofs.Stretches.{get_behind, has_back, has_front}
 
@@ -166,5 +166,16 @@ module _ {S : Type 0} (M : MachineMeaning S) (V : Vocabulary) (g : Setting M) (z
   next_word q o x here at same = let next = before_next V z.home ops q x (op_at q o x here at same) in omega (arith, next)
 
   pub ends_at :
-      (s : S) (v u : Sight) (size n k : ℕ) → n ≡ k → Ends M g.f g.own z.code s v size n u → Ends M g.f g.own z.code s v size k u
-  ends_at s v u size n k e h = subst (λ to. Ends M g.f g.own z.code s v size to u) e h
+      (s : S) (v u : Sight) (from end n k : ℕ) → n ≡ k → Ends M g.f g.own z.code s v from end n u →
+      Ends M g.f g.own z.code s v from end k u
+  ends_at s v u from end n k e h = subst (λ to. Ends M g.f g.own z.code s v from end to u) e h
+
+  -- the word behind the last of the operation
+  abbrev pub behind_all : ℕ
+  behind_all = z.start + size_of V z.home ops
+
+  pub rises : (p q : ℕ) → p ≤ q → word_of p ≤ word_of q
+  rises p q h = let rise = before_rises V z.home ops p q h in omega (arith, rise)
+
+  pub none_past : (q : ℕ) → word_of q ≤ behind_all
+  none_past q = let within = before_within V z.home ops q in omega (arith, within)

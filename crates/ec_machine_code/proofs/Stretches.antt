@@ -8,7 +8,7 @@ use Rattle.ec_machine_code.specs.Layout.{words_of_steps}
 use Rattle.ec_machine_code.specs.Micro.{Can, Sight, does}
 use Rattle.ec_machine_code.specs.Speaks.{Ends, HasAt, Sees, Speaks, Vocabulary, words_end}
 use Rattle.ec_machine_code.specs.declared.step.Step.{Step}
-use Rattle.ec_target.proofs.Running.{leads_none, leads_append}
+use Rattle.ec_target.proofs.Climbing.{climbs_append, climbs_none, climbs_wider}
 use Rattle.ec_target.specs.Code.{pc_of, word_at}
 
 -- ---- items of lists
@@ -62,23 +62,29 @@ has_back code i xs ys h k w e =
     ap (λ j. word_at code (pc_of j)) on ∙ h (length xs + k) w (get_back xs ys k w e)
 
 module _ {S : Type 0} (M : MachineMeaning S) (f own : ℕ) (code : List ℕ) where
-  pub stays : (s : S) (v : Sight) (i : ℕ) → M.place s ≡ pc_of i → Sees M f own s v.home → Ends M f own code s v 0 i v
+  pub stays : (s : S) (v : Sight) (i : ℕ) → M.place s ≡ pc_of i → Sees M f own s v.home → Ends M f own code s v i i i v
   stays s v i at sees =
-      record { steps = 0; last = s; leads = leads_none (M.goes code) s v.bytes; few = omega arith; at = at; sees = sees }
+      record { last = s; climbs = climbs_none (M.goes code) M.place s v.bytes i i (omega arith); at = at; sees = sees }
 
-  pub longer : (s : S) (v u : Sight) (n m to : ℕ) → n ≤ m → Ends M f own code s v n to u → Ends M f own code s v m to u
-  longer s v u n m to small e =
-      record { steps = e.steps; last = e.last; leads = e.leads; few = (let p = e.few in omega (arith, p, small)); at = e.at; sees = e.sees }
+  -- among more words
+  pub longer :
+      (s : S) (v u : Sight) (from end low high to : ℕ) → low ≤ from → end ≤ high → Ends M f own code s v from end to u →
+      Ends M f own code s v low high to u
+  longer s v u from end low high to p q e = record {
+    last = e.last;
+    climbs = climbs_wider (M.goes code) M.place s v.bytes from end low high e.last u.bytes p q e.climbs;
+    at = e.at;
+    sees = e.sees;
+  }
 
-  -- one stretch behind another
+  -- one stretch behind another, through words behind those of the first
   pub joins :
-      (s : S) (v u t : Sight) (n k size i to : ℕ) (e : Ends M f own code s v n i u) → Ends M f own code e.last u k to t → n + k ≤ size →
-      Ends M f own code s v size to t
-  joins s v u t n k size i to e h small = record {
-    steps = e.steps + h.steps;
+      (s : S) (v u t : Sight) (from mid low end i to : ℕ) (e : Ends M f own code s v from mid i u) →
+      Ends M f own code e.last u low end to t → mid ≤ low → Ends M f own code s v from end to t
+  joins s v u t from mid low end i to e h rise = record {
     last = h.last;
-    leads = leads_append (M.goes code) s v.bytes e.steps e.last u.bytes h.steps h.last t.bytes e.leads h.leads;
-    few = (let p = e.few in let q = h.few in omega (arith, p, q, small));
+    climbs = climbs_append (M.goes code) M.place s v.bytes from low e.last u.bytes end h.last t.bytes
+        (climbs_wider (M.goes code) M.place s v.bytes from mid from low e.last u.bytes (omega arith) rise e.climbs) h.climbs;
     at = h.at;
     sees = h.sees;
   }
@@ -97,8 +103,9 @@ module _ {S : Type 0} (M : MachineMeaning S) (f own : ℕ) (code : List ℕ) whe
     pub runs_all :
         (ms : List Step) (i to : ℕ) (s : S) (v : Sight) → HasAt code i (words_of_steps V ms) → to ≡ i + length (words_of_steps V ms) →
         M.place s ≡ pc_of i → to ≤ words_end → Sees M f own s v.home → CanAll ms v →
-        Ends M f own code s v (length (words_of_steps V ms)) to (does_all ms v)
-    runs_all [] i to s v has sum at low sees can = stays s v to (omega (arith, at, sum)) sees
+        Ends M f own code s v i to to (does_all ms v)
+    runs_all [] i to s v has sum at low sees can = longer s v v to to i to to (omega (arith, sum)) (omega arith)
+        (stays s v to (omega (arith, at, sum)) sees)
     runs_all (m ∷ ms) i to s v has sum at low sees can =
         let ws = V.step_words m in
         let rest = words_of_steps V ms in
@@ -108,5 +115,5 @@ module _ {S : Type 0} (M : MachineMeaning S) (f own : ℕ) (code : List ℕ) whe
         let far = runs_all ms (i + length ws) to one.last (does M f own m v) (has_back code i ws rest has) (omega (arith, sum, long))
         one.at low
         one.sees can.1 in
-        joins s v (does M f own m v) (does_all (m ∷ ms) v) (length ws) (length rest) (length (ws ++ rest)) (i + length ws) to one far
-        (omega (arith, long))
+        joins s v (does M f own m v) (does_all (m ∷ ms) v) i (i + length ws) (i + length ws) to (i + length ws) to one far
+        (omega arith)

@@ -14,8 +14,7 @@ use Rattle.ec_code.specs.declared.code.Variable.TheVariants.{Named, Temporary}
 use Rattle.ec_machine_code.specs.Faithful.{machine_at}
 use Rattle.ec_machine_code.specs.Machine.{MachineMeaning}
 use Rattle.ec_machine_code.proofs.Direct.{IsDirect, is_direct, none_behind}
-use Rattle.ec_machine_code.specs.Direct.{direct_at, direct_before, direct_if, direct_of, done_already, laid_by, laid_from, laid_op}
-use Rattle.ec_machine_code.specs.Layout.{op_size, size_of}
+use Rattle.ec_machine_code.specs.Direct.{direct_at, direct_before, direct_if, direct_of, done_already, laid_by, laid_op}
 use Rattle.ec_machine_code.specs.Micro.{Sight}
 use Rattle.ec_machine_code.specs.Speaks.{Ends, Sees, Vocabulary}
 use Rattle.ec_target.specs.Code.{pc_of}
@@ -23,61 +22,44 @@ use Rattle.ec_world.specs.declared.common.Common.{Common}
 use Rattle.ec_world.specs.declared.value.Value.{Value}
 use Rattle.ec_machine_code.proofs.Outcomes.{Arrival, Outcome, leads}
 use Rattle.ec_machine_code.proofs.Pairs.{passed}
-use Rattle.ec_machine_code.proofs.Sites.{At, Site, line_of, named, word_of}
+use Rattle.ec_machine_code.proofs.Sites.{At, Site, behind_all, line_of, named, none_past, rises, word_of}
 use Rattle.ec_machine_code.proofs.Standing.{Beside, Setting, Standing}
 use Rattle.ec_machine_code.proofs.Stretches.{drop_next, get_drop, joins, longer, stays}
 use Rattle.ec_machine_code.proofs.Variables.{set_same}
 
 module _ {S : Type 0} (M : MachineMeaning S) (V : Vocabulary) (g : Setting M) (z : Site M V g) where
-  -- the code leads to the stop that is reached
-  pub record Gets (s : S) (v : Sight) (size : ℕ) (c : Common) (r : Arrived) : Type 0 where
+  -- the code leads to the stop that is reached, through words of the operation that rise from one on
+  pub record Gets (s : S) (v : Sight) (low : ℕ) (c : Common) (r : Arrived) : Type 0 where
     pub from : ℕ
     pub line : Line
     pub is_line : slice_get z.of.code from ≡ Some line
     pub arrival : Arrival M V g z r.place line.live
     pub sight : Sight
-    pub ends : Ends M g.f g.own z.code s v size (word_of M V g z r.place) sight
+    pub ends : Ends M g.f g.own z.code s v low (behind_all M V g z) (word_of M V g z r.place) sight
     pub stand : Standing M g z.home (named M V g z) line.live sight (machine_at c r)
     pub same : (address : ℕ) → Beside M g address → sight.bytes address ≡ v.bytes address
 
   -- where one is
   abbrev pub GetsTo : S → Sight → ℕ → Common × Option Arrived → Type 0
-  GetsTo s v size (c, None) = Unit {0}
-  GetsTo s v size (c, Some r) = Gets s v size c r
-
-  wider : (s : S) (v : Sight) (n k : ℕ) (to : Common × Option Arrived) → n ≤ k → GetsTo s v n to → GetsTo s v k to
-  wider s v n k (c, None) small h = tt
-  wider s v n k (c, Some r) small h = record {
-    from = h.from;
-    line = h.line;
-    is_line = h.is_line;
-    arrival = h.arrival;
-    sight = h.sight;
-    ends = longer M g.f g.own z.code s v h.sight n k (word_of M V g z r.place) small h.ends;
-    stand = h.stand;
-    same = h.same;
-  }
+  GetsTo s v low (c, None) = Unit {0}
+  GetsTo s v low (c, Some r) = Gets s v low c r
 
   -- one stretch before
   extends :
-      (s : S) (v u : Sight) (n k size i : ℕ) (to : Common × Option Arrived) (e : Ends M g.f g.own z.code s v n i u) →
-      ((address : ℕ) → Beside M g address → u.bytes address ≡ v.bytes address) → n + k ≤ size → GetsTo e.last u k to →
-      GetsTo s v size to
-  extends s v u n k size i (c, None) e same small h = tt
-  extends s v u n k size i (c, Some r) e same small h = record {
+      (s : S) (v u : Sight) (from mid low i : ℕ) (to : Common × Option Arrived) (e : Ends M g.f g.own z.code s v from mid i u) →
+      ((address : ℕ) → Beside M g address → u.bytes address ≡ v.bytes address) → mid ≤ low → GetsTo e.last u low to →
+      GetsTo s v from to
+  extends s v u from mid low i (c, None) e same rise h = tt
+  extends s v u from mid low i (c, Some r) e same rise h = record {
     from = h.from;
     line = h.line;
     is_line = h.is_line;
     arrival = h.arrival;
     sight = h.sight;
-    ends = joins M g.f g.own z.code s v u h.sight n k size i (word_of M V g z r.place) e h.ends small;
+    ends = joins M g.f g.own z.code s v u h.sight from mid low (behind_all M V g z) i (word_of M V g z r.place) e h.ends rise;
     stand = h.stand;
     same = λ address out. h.same address out ∙ same address out;
   }
-
-  -- how many words there are of these lines, the first of which is at place p
-  abbrev pub size : ℕ → List Line → ℕ
-  size p lines = size_of V z.home (laid_from z.of.code p lines)
 
   -- from where a step begins, before which no copy has been done
   abbrev pub From : (rest : List Line) → ℕ → ℕ → Machine → Type 0
@@ -85,7 +67,7 @@ module _ {S : Type 0} (M : MachineMeaning S) (V : Vocabulary) (g : Setting M) (z
       (s : S) (v : Sight) → direct_before z.of.code (p + over) ≡ None → Sees M g.f g.own s v.home →
       M.place s ≡ pc_of (word_of M V g z (p + over)) →
       Standing M g z.home (named M V g z) (live_at z.of.code (p + over)) v m →
-      GetsTo s v (size p rest) (walk g.parts.literals g.self p rest over m)
+      GetsTo s v (word_of M V g z (p + over)) (walk g.parts.literals g.self p rest over m)
 
   -- behind one step
   behind :
@@ -93,12 +75,12 @@ module _ {S : Type 0} (M : MachineMeaning S) (V : Vocabulary) (g : Setting M) (z
       laid_op z.of.code p line.op ≡ line.op → Standing M g z.home (named M V g z) line.live v m → Sees M g.f g.own s v.home →
       M.place s ≡ pc_of (word_of M V g z p) → Outcome M V g z p line.op line.live s v done →
       ((over : ℕ) (new : Machine) → From rest (suc p) over new) →
-      GetsTo s v (size p (line ∷ rest)) (walk_by p (walk g.parts.literals g.self (suc p) rest) m done)
+      GetsTo s v (word_of M V g z p) (walk_by p (walk g.parts.literals g.self (suc p) rest) m done)
   behind p line rest m (Goes new over) s v at same stand sees there went next =
       let on : suc (p + over) ≡ suc p + over = omega arith in
-      let as_many = ap (op_size V z.home) same in
-      extends s v went.after (op_size V z.home line.op) (size (suc p) rest) (size p (line ∷ rest)) (word_of M V g z (suc (p + over)))
-      (walk g.parts.literals g.self (suc p) rest over new) went.ends went.same (omega (arith, as_many))
+      extends s v went.after (word_of M V g z p) (word_of M V g z (suc p)) (word_of M V g z (suc p + over))
+      (word_of M V g z (suc (p + over))) (walk g.parts.literals g.self (suc p) rest over new) went.ends went.same
+      (rises M V g z (suc p) (suc p + over) (omega arith))
       (next over new went.ends.last went.after (ap (direct_before z.of.code) (sym on) ∙ went.lands) went.ends.sees
       (went.ends.at ∙ ap (λ k. pc_of (word_of M V g z k)) on)
       (subst (λ k. Standing M g z.home (named M V g z) (live_at z.of.code k) went.after new) on went.stand))
@@ -108,24 +90,22 @@ module _ {S : Type 0} (M : MachineMeaning S) (V : Vocabulary) (g : Setting M) (z
     is_line = at;
     arrival = arrived.0;
     sight = v;
-    ends = longer M g.f g.own z.code s v v 0 (size p (line ∷ rest)) (word_of M V g z p) (omega arith)
-        (stays M g.f g.own z.code s v (word_of M V g z p) there sees);
+    ends = longer M g.f g.own z.code s v v (word_of M V g z p) (word_of M V g z p) (word_of M V g z p) (behind_all M V g z)
+        (word_of M V g z p) (omega arith) (none_past M V g z p) (stays M g.f g.own z.code s v (word_of M V g z p) there sees);
     stand = stand;
     same = λ address out. refl;
   }
-  behind p line rest m (Loops back) s v at same stand sees there looped next =
-      let as_many = ap (op_size V z.home) same in
-      record {
-        from = p;
-        line = line;
-        is_line = at;
-        arrival = looped.arrival;
-        sight = v;
-        ends = longer M g.f g.own z.code s v v (op_size V z.home line.op) (size p (line ∷ rest)) (word_of M V g z (p - back))
-            (omega (arith, as_many)) looped.ends;
-        stand = stand;
-        same = λ address out. refl;
-      }
+  behind p line rest m (Loops back) s v at same stand sees there looped next = record {
+    from = p;
+    line = line;
+    is_line = at;
+    arrival = looped.arrival;
+    sight = v;
+    ends = longer M g.f g.own z.code s v v (word_of M V g z p) (word_of M V g z (suc p)) (word_of M V g z p) (behind_all M V g z)
+        (word_of M V g z (p - back)) (omega arith) (none_past M V g z (suc p)) looped.ends;
+    stand = stand;
+    same = λ address out. refl;
+  }
   behind p line rest m NoCase s v at same stand sees there none next = tt
 
   -- a step whose result goes at once to where the next one copies it
@@ -147,7 +127,7 @@ module _ {S : Type 0} (M : MachineMeaning S) (V : Vocabulary) (g : Setting M) (z
 
     -- the walk goes on from a place behind both
     abbrev Gotten : Common × Option Arrived → Type 0
-    Gotten to = GetsTo s v (size p (line ∷ d.next ∷ rest)) to
+    Gotten to = GetsTo s v (word_of M V g z p) to
 
     here : At M V g z p o line.live
     here = at ∙ ap (λ i. Some (line_of i line.live)) d.computes
@@ -181,10 +161,10 @@ module _ {S : Type 0} (M : MachineMeaning S) (V : Vocabulary) (g : Setting M) (z
         let a = passed M V g z p d.how d.temporary n d.left d.right line.live d.next.live here here_next laid laid_next d.dead s v m u stand
         sees there e in
         let on : suc (suc p) ≡ suc p + suc zero = omega arith in
-        let as_many = ap (op_size V z.home) laid_line in
-        extends s v a.after (op_size V z.home x) (size (suc p) (d.next ∷ rest)) (size p (line ∷ d.next ∷ rest))
+        extends s v a.after (word_of M V g z p) (word_of M V g z (suc p)) (word_of M V g z (suc p + suc zero))
         (word_of M V g z (suc (suc p)))
-        (walk g.parts.literals g.self (suc p) (d.next ∷ rest) (suc zero) new) a.ends a.same (omega (arith, as_many))
+        (walk g.parts.literals g.self (suc p) (d.next ∷ rest) (suc zero) new) a.ends a.same
+        (rises M V g z (suc p) (suc p + suc zero) (omega arith))
         (next (suc zero) new a.ends.last a.after (ap (direct_before z.of.code) (sym on) ∙ none_after) a.ends.sees
         (a.ends.at ∙ ap (λ k. pc_of (word_of M V g z k)) on)
         (subst (λ k. Standing M g z.home (named M V g z) (live_at z.of.code k) a.after new) on a.stand))
@@ -210,11 +190,11 @@ module _ {S : Type 0} (M : MachineMeaning S) (V : Vocabulary) (g : Setting M) (z
       (p : ℕ) (line : Line) (rest : List Line) (m : Machine) (s : S) (v : Sight) → slice_get z.of.code p ≡ Some line →
       drop (suc p) z.of.code ≡ rest → direct_before z.of.code p ≡ None → Standing M g z.home (named M V g z) line.live v m →
       Sees M g.f g.own s v.home → M.place s ≡ pc_of (word_of M V g z p) → ((over : ℕ) (new : Machine) → From rest (suc p) over new) →
-      GetsTo s v (size p (line ∷ rest)) (walk g.parts.literals g.self p (line ∷ rest) zero m)
+      GetsTo s v (word_of M V g z p) (walk g.parts.literals g.self p (line ∷ rest) zero m)
   one p line rest m s v at is before stand sees there next = by (direct_of z.of.code p line.op) refl
     where
       by : (k : Option ℕ) → direct_of z.of.code p line.op ≡ k →
-          GetsTo s v (size p (line ∷ rest)) (walk g.parts.literals g.self p (line ∷ rest) zero m)
+          GetsTo s v (word_of M V g z p) (walk g.parts.literals g.self p (line ∷ rest) zero m)
       by None single =
           let same : laid_op z.of.code p line.op ≡ line.op =
           ap (λ i. laid_by i (direct_of z.of.code p line.op) line.op) before ∙ ap (λ i. laid_by None i line.op) single in
@@ -224,7 +204,7 @@ module _ {S : Type 0} (M : MachineMeaning S) (V : Vocabulary) (g : Setting M) (z
           let d = is_direct z.of.code p line.op n direct in
           let last = drop (suc p + 1) z.of.code in
           let rest_is : rest ≡ d.next ∷ last = sym is ∙ drop_at z.of.code (suc p) d.next d.is_next in
-          subst (λ r. GetsTo s v (size p (line ∷ r)) (walk g.parts.literals g.self p (line ∷ r) zero m)) (sym rest_is)
+          subst (λ r. GetsTo s v (word_of M V g z p) (walk g.parts.literals g.self p (line ∷ r) zero m)) (sym rest_is)
           (behind_two p n line last m s v at before direct d stand sees there
           (subst (λ r. (over : ℕ) (new : Machine) → From r (suc p) over new) rest_is next))
 
@@ -233,7 +213,7 @@ module _ {S : Type 0} (M : MachineMeaning S) (V : Vocabulary) (g : Setting M) (z
   gets [] p over m is s v none sees there stand = tt
   gets (line ∷ rest) p (suc over) m is s v none sees there stand =
       let on : p + suc over ≡ suc p + over = omega arith in
-      wider s v (size (suc p) rest) (size p (line ∷ rest)) (walk g.parts.literals g.self (suc p) rest over m) (omega arith)
+      subst (λ k. GetsTo s v (word_of M V g z k) (walk g.parts.literals g.self (suc p) rest over m)) (sym on)
       (gets rest (suc p) over m (drop_next z.of.code p line rest is) s v (ap (direct_before z.of.code) (sym on) ∙ none) sees
       (there ∙ ap (λ k. pc_of (word_of M V g z k)) on)
       (subst (λ k. Standing M g z.home (named M V g z) (live_at z.of.code k) v m) on stand))
@@ -243,5 +223,6 @@ module _ {S : Type 0} (M : MachineMeaning S) (V : Vocabulary) (g : Setting M) (z
       let here = there ∙ ap (λ k. pc_of (word_of M V g z k)) on in
       let held = subst (λ l. Standing M g z.home (named M V g z) l v m) (ap (live_at z.of.code) on ∙ ap live_if at) stand in
       let next = drop_next z.of.code p line rest is in
-      one p line rest m s v at next (ap (direct_before z.of.code) (sym on) ∙ none) held sees here
-      (λ over new. gets rest (suc p) over new next)
+      subst (λ k. GetsTo s v (word_of M V g z k) (walk g.parts.literals g.self p (line ∷ rest) zero m)) (sym on)
+      (one p line rest m s v at next (ap (direct_before z.of.code) (sym on) ∙ none) held sees here
+      (λ over new. gets rest (suc p) over new next))

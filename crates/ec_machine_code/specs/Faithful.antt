@@ -27,6 +27,12 @@ machine_at c r = record { common = c; variables = r.variables; temporaries = r.t
 abbrev pub homes_of : List (List Home) → ℕ → Operation → Variable → Option Home
 homes_of homes op o x = home_in homes op (length o.variables) x
 
+-- what may be said of where code leads from a state, at a stop of an activation
+abbrev pub Reaching : Type 0 → Type 1
+Reaching S =
+    (local : ℕ → Option ℕ) (text : ℕ → Option (List ℕ)) (op : ℕ) (o : Operation) (f own self : ℕ) (before : Machine) (c : Common)
+    (r : Arrived) (s : S) (bytes : Bytes) → Type 0
+
 module _ {S : Type 0} (M : MachineMeaning S) (p : Parts) (code : Code) (homes : List (List Home)) where
   -- The code leads in few steps from a state to the stop at which silent steps arrive. The stop's operands and all that is live
   -- there stand at their homes, and so does each own field; nothing has changed but slots of the frame and own fields.
@@ -48,9 +54,9 @@ module _ {S : Type 0} (M : MachineMeaning S) (p : Parts) (code : Code) (homes : 
     pub fields : FieldsStand M local text own self (machine_at c r) memory
     pub others : (address : ℕ) → IsBeside M local text f own self before address → memory address ≡ bytes address
 
-  -- From every state that fits what an activation has just behind a stop whose action is done, the code does what silent steps do.
-  abbrev pub Runs : Type 0
-  Runs =
+  -- It holds from every state that fits what an activation has just behind a stop whose action is done, of what silent steps do.
+  abbrev pub FromEach : Reaching S → Type 0
+  FromEach Reaches =
       (local : ℕ → Option ℕ) (text : ℕ → Option (List ℕ)) (o : Operation) (a : CodeActivation) (c d : Common) (r : Arrived)
       (address f own : ℕ) (s : S) (bytes : Bytes) →
       AreTables p local text →
@@ -60,7 +66,7 @@ module _ {S : Type 0} (M : MachineMeaning S) (p : Parts) (code : Code) (homes : 
       M.place s ≡ address + 4 →
       HasWhatIsSet o a.own (machine_behind p c a) →
       Fits M local text (homes_of homes a.operation o) (live_at o.code (suc a.at)) f own a.own (machine_behind p c a) s bytes →
-      Arrives local text a.operation o f own a.own (machine_behind p c a) d r s bytes
+      Reaches local text a.operation o f own a.own (machine_behind p c a) d r s bytes
 
   pub record Faithful : Type 0 where
     -- each stop has one address, where a stop instruction stands
@@ -79,4 +85,5 @@ module _ {S : Type 0} (M : MachineMeaning S) (p : Parts) (code : Code) (homes : 
     pub within :
         (op n address : ℕ) → address_of code op n ≡ Some address →
         (pc_of (words_before code.operations op) ≤ address) × (address < pc_of (words_before code.operations op + words_of code op))
-    pub runs : Runs
+    -- the code does what silent steps do
+    pub runs : FromEach Arrives

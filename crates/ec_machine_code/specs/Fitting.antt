@@ -15,7 +15,7 @@ use Rattle.ec_code.specs.declared.code.Test.{Test}
 use Rattle.ec_code.specs.declared.code.Test.TheVariants as test
 use Rattle.ec_code.specs.declared.code.Variable.{Variable}
 use Rattle.ec_types.specs.declared.conform.static_type.StaticType.{StaticType}
-use Rattle.ec_machine_code.specs.Faithful.{Faithful}
+use Rattle.ec_machine_code.specs.Once.{FaithfulOnce}
 use Rattle.ec_machine_code.specs.Frames.{slots}
 use Rattle.ec_machine_code.specs.Machine.{MachineMeaning}
 use Rattle.ec_machine_code.specs.Stops.{home_in}
@@ -82,8 +82,8 @@ pub record CanBeLaidOut {S : Type 0} (M : MachineMeaning S) (vs : Vocabularies) 
   pub homes_fit : (n : ℕ) (o : Operation) → slice_get p.operations n ≡ Some o → HomesFit M.homes homes n o
   pub room : HasRoom vs homes p
 
--- Code that is laid out so is faithful.
+-- Code that is laid out so is faithful, and passes no word twice between two stops.
 abbrev pub LaidOutIsFaithful : {S : Type 0} → MachineMeaning S → Type 0
 LaidOutIsFaithful M =
     (vs : Vocabularies) (homes : List (List Home)) (d : Declared) (p : Parts) → CanBeLaidOut M vs homes d p →
-    Faithful M p (code_of vs homes p.operations) homes
+    FaithfulOnce M p (code_of vs homes p.operations) homes

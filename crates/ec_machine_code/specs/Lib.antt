@@ -6,6 +6,7 @@ pub mod Frames
 pub mod Stops
 pub mod Standing
 pub mod Faithful
+pub mod Once
 pub mod Micro
 pub mod Speaks
 pub mod Lowering

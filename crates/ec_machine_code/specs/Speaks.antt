@@ -4,7 +4,8 @@ use Rattle.ec_base.specs.Bytes.{Bytes}
 use Rattle.ec_machine_code.specs.Frames.{block_at, most_blocks}
 use Rattle.ec_machine_code.specs.Machine.{MachineMeaning}
 use Rattle.ec_target.specs.Code.{pc_of, word_at}
-use Rattle.ec_target.specs.Runs.{Leads, ReadsBack, WritesBytes}
+use Rattle.ec_target.specs.Paths.{Climbs}
+use Rattle.ec_target.specs.Runs.{ReadsBack, WritesBytes}
 use Rattle.ec_machine_code.specs.Micro.{Can, CanAsk, Sight, asked, does}
 use Rattle.ec_machine_code.specs.declared.step.Question.{Question}
 use Rattle.ec_machine_code.specs.declared.step.Step.{Step}
@@ -37,12 +38,10 @@ module _ {S : Type 0} (M : MachineMeaning S) (f own : ℕ) where
     pub owns : M.register s M.own_base ≡ block_at own
     pub home : (k : ℕ) → k < M.homes → M.register s (M.first_home + k) ≡ held k
 
-  -- from a state, in at most so many steps, to one at a word that shows another sight
-  pub record Ends (code : List ℕ) (s : S) (v : Sight) (size to : ℕ) (after : Sight) : Type 0 where
-    pub steps : ℕ
+  -- from a state, by words that rise from word `from` on and lie below word `end`, to one at word `to` that shows another sight
+  pub record Ends (code : List ℕ) (s : S) (v : Sight) (from end to : ℕ) (after : Sight) : Type 0 where
     pub last : S
-    pub leads : Leads (M.goes code) s v.bytes steps last after.bytes
-    pub few : steps ≤ size
+    pub climbs : Climbs (M.goes code) M.place s v.bytes from end last after.bytes
     pub at : M.place last ≡ pc_of to
     pub sees : Sees last after.home
 
@@ -51,14 +50,14 @@ module _ {S : Type 0} (M : MachineMeaning S) (f own : ℕ) where
       (code : List ℕ) (m : Step) (i : ℕ) (s : S) (v : Sight) → f < most_blocks → own < most_blocks →
       HasAt code i (V.step_words m) → M.place s ≡ pc_of i → i + length (V.step_words m) ≤ words_end →
       Sees s v.home → Can M f own m v →
-      Ends code s v (length (V.step_words m)) (i + length (V.step_words m)) (does M f own m v)
+      Ends code s v i (i + length (V.step_words m)) (i + length (V.step_words m)) (does M f own m v)
 
   abbrev pub AskLaw : Vocabulary → Type 0
   AskLaw V =
       (code : List ℕ) (q : Question) (i to : ℕ) (s : S) (v : Sight) → f < most_blocks → own < most_blocks →
       HasAt code i (V.ask_words q i to) → M.place s ≡ pc_of i → i + V.ask_size q ≤ to → to ≤ words_end → to ≤ i + V.reach →
       Sees s v.home → CanAsk M f own q v →
-      Ends code s v (V.ask_size q) (if asked M f own q v.home v.bytes then to else i + V.ask_size q) v
+      Ends code s v i (i + V.ask_size q) (if asked M f own q v.home v.bytes then to else i + V.ask_size q) v
 
   abbrev pub JumpLaw : Vocabulary → Type 0
   JumpLaw V =
@@ -66,7 +65,7 @@ module _ {S : Type 0} (M : MachineMeaning S) (f own : ℕ) where
       HasAt code i (V.jump_words i to) → M.place s ≡ pc_of i → i + V.jump_size ≤ words_end → to ≤ words_end →
       to ≤ i + V.reach → i ≤ to + V.reach →
       Sees s v.home →
-      Ends code s v V.jump_size to v
+      Ends code s v i (i + V.jump_size) to v
 
 -- none of these words is another one
 abbrev pub IsNone : ℕ → List ℕ → Type 0

@@ -1,25 +1,26 @@
 -- One word of an owner is written, or a constant.
-use Rattle.std.proofs.Common.{◌≡◌, ◌≢◌, ℕ, ◌+◌, ◌-◌, ◌*◌, ◌/◌, ◌%◌, ◌^◌, ◌<◌, List, [], ◌∷◌, length, Option, Some, None, refl}
+use Rattle.std.proofs.Common.{◌≡◌, ◌≢◌, ℕ, ◌+◌, ◌-◌, ◌*◌, ◌/◌, ◌%◌, ◌^◌, ◌<◌, ◌≤◌, ◌⊎◌, inl, inr, ⊎_elim, List, [], ◌∷◌, length, Option, Some, None, refl}
 use Rattle.std.proofs.Common.{sym, ap, ◌∙◌}
 use Rattle.std.proofs.Common.{subst, arith, zero, suc, true, cond}
 use Rattle.std.specs.Prelude.{slice_get, IsSome, nat_le}
 use Rattle.std.specs.Option.{option_map}
+use Rattle.std.proofs.lemmas.Bool.{cases_lt}
 use Rattle.ec_base.proofs.Lists.{get_there}
 use Rattle.ec_base.specs.Bytes.{bytes_from}
 use Rattle.ec_memory.specs.Store.{Store as Memory, blocks_base, globals_base, store_byte}
 use Rattle.ec_memory.specs.Words.{HasWord, block_word_at, global_word_at}
 use Rattle.ec_memory.proofs.Places.{block_global_apart, block_word_even, global_word_even, same_block_word, same_global_word}
 use Rattle.ec_memory.proofs.Whole.{whole_same}
-use Rattle.ec_memory.proofs.Words.{each_there}
+use Rattle.ec_memory.proofs.Words.{byte_other, each_there}
 use Rattle.ec_world.specs.declared.key.Key.{Key}
 use Rattle.ec_things.specs.Store.{Owned, word_of, word_in as word_in_store}
 use Rattle.ec_world.specs.Group.{Has}
 use Rattle.ec_stores.specs.Changes.{OwnsWord, WordIs, WritesGlobal, WritesWord}
-use Rattle.ec_stores.specs.Memory.{byte_in, held, kind_of, number_of, word_at, SameMemory, WritesAt}
-use Rattle.ec_stores.specs.Node.{Laid, NodeData, row_of, store_of}
+use Rattle.ec_stores.specs.Memory.{byte_in, bytes_of, held, kind_of, number_of, word_at, SameMemory, WritesAt}
+use Rattle.ec_stores.specs.Node.{KeepsBytes, Laid, NodeData, row_of, store_of}
 use Rattle.ec_stores.specs.declared.memory.NodeMemory.{NodeMemory}
 use Rattle.ec_stores.proofs.Owned.{owned_alike, same_alike}
-use Rattle.ec_stores.proofs.Written.{written_here, written_other}
+use Rattle.ec_stores.proofs.Written.{length_of, written_here, written_other}
 
 abbrev pub with_memory : NodeData → NodeMemory → NodeData
 with_memory node m = record node { memory = m }
@@ -118,6 +119,27 @@ module _ (node : NodeData) (m : NodeMemory) (laid : Laid node) (same : SameMemor
           count = refl;
         };
         free = same_free;
+      }
+
+      length_is : length (bytes_of node.kind 4 w) ≡ 4
+      length_is = length_of node.kind 4 w
+
+      untouched : (a : ℕ) → (a < block_word_at b (i % 128)) ⊎ (block_word_at b (i % 128) + length (bytes_of node.kind 4 w) ≤ a) →
+          byte_in m a ≡ byte_in node.memory a
+      untouched a out = ap (λ (f : ℕ → Option ℕ). f a) bytes
+          ∙ byte_other (byte_in node.memory) (block_word_at b (i % 128)) (bytes_of node.kind 4 w) a out
+
+      -- a byte that is in no word but those that aren't written
+      pub keeps_bytes : KeepsBytes node (with_memory node m) key (λ j. j ≢ i)
+      keeps_bytes = record {
+        bytes = λ a kept.
+            untouched a
+            (⊎_elim (λ below. inl below)
+            (λ from.
+            ⊎_elim (λ within. absurd (kept i (record { row = r; there = found; block = b; is = there; from = from; below = within }) refl))
+            (λ behind. inr (let long = length_is in omega arith)) (cases_lt a (block_word_at b (i % 128) + 4)))
+            (cases_lt a (block_word_at b (i % 128))));
+        lists = same;
       }
 
     pub writes_global : (i : ℕ) → WritesAt (kind_of node.memory) node.memory m (global_word_at i) w →

@@ -1,5 +1,5 @@
 -- What a node keeps, as data; the store that it is; and what it keeps by itself.
-use Rattle.std.specs.Prelude.{◌≡◌, ℕ, ◌+◌, ◌<◌, false, List, [], ◌∷◌, length, Option, Some, None, slice_get, option_map}
+use Rattle.std.specs.Prelude.{◌≡◌, ℕ, ◌+◌, ◌/◌, ◌%◌, ◌<◌, ◌≤◌, false, List, [], ◌∷◌, length, Option, Some, None, slice_get, option_map}
 use Rattle.std.specs.BTreeMap.{is_at}
 use Rattle.std.specs.Map.{lookup}
 use Rattle.std.specs.Ordering.{nat_cmp}
@@ -15,7 +15,7 @@ use Rattle.ec_world.specs.Group.{Has}
 use Rattle.ec_world.specs.declared.class.ClassNo.{ClassNo}
 use Rattle.ec_world.specs.declared.node.Kind.{Kind}
 use Rattle.ec_stores.specs.Lists.{IsOnce}
-use Rattle.ec_stores.specs.Memory.{byte_in, held, kind_of, word_at}
+use Rattle.ec_stores.specs.Memory.{SameMemory, byte_in, held, kind_of, word_at}
 use Rattle.ec_stores.specs.Tables.{TextPool, frame_in, local_in}
 use Rattle.ec_stores.specs.declared.memory.NodeMemory.{NodeMemory}
 use Rattle.ec_stores.specs.declared.rows.FrameRow.{FrameRow}
@@ -80,6 +80,21 @@ store_of node = record {
 -- `block_word_at b i` on, and constant i what it reads in those from `global_word_at i` on.
 abbrev pub bytes_in : NodeData → Bytes
 bytes_in node = byte_in node.memory
+
+-- an address is that of one of the four bytes of word i of an owner
+pub record IsInWord (node : NodeData) (key : Key) (i at : ℕ) : Type 0 where
+  pub row : Owned
+  pub there : row_of node key ≡ Some row
+  pub block : ℕ
+  pub is : slice_get row.blocks (i / 128) ≡ Some block
+  pub from : block_word_at block (i % 128) ≤ at
+  pub below : at < block_word_at block (i % 128) + 4
+
+-- Every byte of the memory is as it was but those of words of one owner that aren't kept: also the bytes of blocks that nobody owns. Where
+-- blocks lead, and which are free in which order, is as it was.
+pub record KeepsBytes (node node' : NodeData) (key : Key) (IsKept : ℕ → Type 0) : Type 0 where
+  pub bytes : (at : ℕ) → ((i : ℕ) → IsInWord node key i at → IsKept i) → bytes_in node' at ≡ bytes_in node at
+  pub lists : SameMemory node.memory node'.memory
 
 -- ---- what a node keeps by itself
 

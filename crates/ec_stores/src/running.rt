@@ -2,6 +2,7 @@
 ghost use Rattle.std.specs.Prelude.{◌≡◌, ℕ, IfErr, IfOk, OnErr};
 ghost use Rattle.ec_target.specs.Runs.{Halts, Leads, Native};
 ghost use Rattle.ec_stores.specs.Changes.{Ran};
+ghost use Rattle.ec_stores.specs.Memory.{SameMemory};
 ghost use Rattle.ec_stores.specs.Node.{bytes_in, store_of};
 ghost use Rattle.ec_stores.specs.Readable.{IsSmall, StandsIn};
 
@@ -23,7 +24,7 @@ impl NodeStore {
     }
 
     /// Runs a machine on the node's memory to the next stop. Answers how many instructions come before it, by which the count of
-    /// the node rises, up to 2^64 - 1. The error is a trap; the count stays then.
+    /// the node rises, up to 2^64 - 1. The error is a trap; the count stays then. Of the memory only bytes change, by the machine's own steps.
     pub fn run<M: Machine>(&mut self, machine: &mut M, code: &[u32]) -> Result<u64, Trap>
         requires { Halts (M.goes code.now) machine.old (bytes_in self.old) }
         ensures ok { IfOk result
@@ -32,6 +33,7 @@ impl NodeStore {
         ensures trap { IfErr result
             (λ trap. (k : ℕ) × Leads (M.goes code.now) machine.old (bytes_in self.old) k machine.new (bytes_in self.new)
             × M.traps code.now machine.new (bytes_in self.new) trap) }
+        ensures lists { SameMemory self.old.memory self.new.memory }
         ensures still { OnErr result (Ran (store_of self.old) (store_of self.new) 0) }
     {
         let steps = machine.run_to_stop(code, &mut self.memory)?;

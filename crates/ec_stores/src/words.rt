@@ -1,7 +1,7 @@
 //! The words of owners, and constants.
-ghost use Rattle.std.specs.Prelude.{◌≡◌, ◌<◌, IsSome, Some};
+ghost use Rattle.std.specs.Prelude.{◌≡◌, ◌≢◌, ◌<◌, IsSome, Some};
 ghost use Rattle.ec_world.specs.declared.key.Key.TheVariants.{Object as OfObject, Frame as OfFrame};
-ghost use Rattle.ec_stores.specs.Node.{store_of};
+ghost use Rattle.ec_stores.specs.Node.{KeepsBytes, store_of};
 ghost use Rattle.ec_stores.specs.Changes.{OwnsWord, WordIs, WritesGlobal, WritesWord};
 
 use crate::lists::{global_word, set_word_of, word_of};
@@ -45,7 +45,8 @@ impl NodeStore {
     /// Writes word i of an activation.
     pub fn set_frame_word(&mut self, process: Pid, depth: u32, i: u32, word: u32)
         requires { OwnsWord (store_of self.old) (OfFrame process depth) i }
-        ensures { WritesWord (store_of self.old) (store_of self.new) (OfFrame process depth) i word }
+        ensures writes { WritesWord (store_of self.old) (store_of self.new) (OfFrame process depth) i word }
+        ensures bytes { KeepsBytes self.old self.new (OfFrame process depth) (λ j. j ≢ i) }
     {
         match self.frames.find(process, depth) {
             Some(row) => set_word_of(&mut self.memory, &[row.block], i, word),

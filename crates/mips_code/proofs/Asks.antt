@@ -17,7 +17,7 @@ use Rattle.mips_isa.specs.declared.field.Sixteen.{Sixteen}
 use Rattle.mips_isa.specs.declared.field.Target.{Target}
 use Rattle.mips_isa.specs.declared.instr.Branch.{Branch}
 use Rattle.mips_isa.specs.declared.instr.Operation.TheVariants.{Slt}
-use Rattle.mips_machine.proofs.Effects.{branch_leads, jump_leads, moved}
+use Rattle.mips_machine.proofs.Effects.{branch_climbs, jump_climbs, moved}
 use Rattle.mips_machine.specs.Machine.{mips_register, mips_rests}
 use Rattle.mips_machine.specs.Step.{branch_target}
 use Rattle.mips_machine.specs.Values.{is_taken, plus}
@@ -32,11 +32,11 @@ use Rattle.mips_code.proofs.Works.{both_got, operates}
 -- ---- jumps
 
 jumps : (code : List ℕ) (n : MipsMachine) (b : Bytes) (k to : ℕ) → mips_rests n → n.flow.pc ≡ pc_of k → k + 2 ≤ words_end →
-    to ≤ words_end → HasAt code k (jump_words k to) → Way code n b 2 to (moved n (pc_of to)) b
+    to ≤ words_end → HasAt code k (jump_words k to) → Way code n b k (k + 2) to (moved n (pc_of to)) b
 jumps code n b k to rest pc low high has =
     let target : Target = record { words = 2 ^ 20 + to; in_range = omega (arith, high) } in
-    way_by code n (moved n (pc_of to)) b b 2 to
-    (jump_leads code n b rest target (pc_of to) (omega (arith, pc, low))
+    way_by code n (moved n (pc_of to)) b b k (k + 2) to
+    (jump_climbs code n b rest k pc target (pc_of to) (omega (arith, pc, low))
     (nth_at code k (jump_words k to) 0 _ n.flow.pc has (omega (arith, pc)) refl)
     (nth_at code k (jump_words k to) 1 0 (n.flow.pc + 4) has (omega (arith, pc)) refl) (omega (arith, pc, low))) refl
 
@@ -50,10 +50,8 @@ module _ (f own : ℕ) where
   jump_law_near code i to s v has at low high near far g =
       let way = jumps code s v.bytes i to g.rests at low high has in
       record {
-        steps = way.steps;
         last = moved s (pc_of to);
-        leads = way.leads;
-        few = way.few;
+        climbs = way.climbs;
         at = way.at;
         sees = seen_moved s s v.home (pc_of to) (λ q h. refl) g;
       }
@@ -62,10 +60,8 @@ module _ (f own : ℕ) where
   jump_law_far code i to s v has at low high near far g =
       let way = jumps code s v.bytes i to g.rests at low high has in
       record {
-        steps = way.steps;
         last = moved s (pc_of to);
-        leads = way.leads;
-        few = way.few;
+        climbs = way.climbs;
         at = way.at;
         sees = seen_moved s s v.home (pc_of to) (λ q h. refl) g;
       }
@@ -80,7 +76,7 @@ lands_by false x y i j e f = f
 turns : (code : List ℕ) (t : Bool) (row : Branch) (n : MipsMachine) (b : Bytes) (k p q offset : ℕ) → mips_rests n → n.flow.pc ≡ pc_of k →
     k + 2 ≤ words_end → k + 1 + offset ≤ words_end → p < 2 ^ 5 → q < 2 ^ 5 → offset < 2 ^ 15 →
     is_taken row (mips_register n p) (mips_register n q) ≡ t → HasAt code k (branch row p q offset ∷ no_op ∷ []) →
-    Way code n b 2 (cond t (k + 1 + offset) (k + 2)) (moved n (pc_of (cond t (k + 1 + offset) (k + 2)))) b
+    Way code n b k (k + 2) (cond t (k + 1 + offset) (k + 2)) (moved n (pc_of (cond t (k + 1 + offset) (k + 2)))) b
 turns code t row n b k p q offset rest pc low high small_p small_q small e has =
     let to = cond t (k + 1 + offset) (k + 2) in
     let off : Sixteen = sixteen offset (omega (arith, small)) in
@@ -92,8 +88,8 @@ turns code t row n b k p q offset rest pc low high small_p small_q small e has =
     ≡ pc_of to =
     ap (λ z. cond z (branch_target n.flow.pc off) (plus (plus n.flow.pc 4) 4)) e ∙ lands_by t (branch_target n.flow.pc off)
     (plus (plus n.flow.pc 4) 4) (k + 1 + offset) (k + 2) target behind in
-    way_by code n (moved n (pc_of to)) b b 2 to
-    (branch_leads code n b rest row (reg p small_p) (reg q small_q) off (pc_of to) lands
+    way_by code n (moved n (pc_of to)) b b k (k + 2) to
+    (branch_climbs code n b rest k pc row (reg p small_p) (reg q small_q) off (pc_of to) lands
     (nth_at code k (branch row p q offset ∷ no_op ∷ []) 0 _ n.flow.pc has (omega (arith, pc)) refl)
     (nth_at code k (branch row p q offset ∷ no_op ∷ []) 1 0 (n.flow.pc + 4) has (omega (arith, pc)) refl) (omega (arith, pc, low))) refl
 
@@ -127,10 +123,10 @@ front_two : (code : List ℕ) (j : ℕ) (xs : List ℕ) (u w : ℕ) (zs : List �
 front_two code j xs u w zs h k x e = h k x (get_two xs u w zs k x e)
 
 -- only scratch registers are others, and the machine rests at another place
-record Asked (code : List ℕ) (n : MipsMachine) (b : Bytes) (size at : ℕ) : Type 0 where
+record Asked (code : List ℕ) (n : MipsMachine) (b : Bytes) (from end at : ℕ) : Type 0 where
   before : MipsMachine
   to : ℕ
-  way : Way code n b size at (moved before to) b
+  way : Way code n b from end at (moved before to) b
   others : (q : ℕ) → 12 ≤ q → mips_register before q ≡ mips_register n q
 
 -- From a state with two sources in registers a and c, through the words of an order and the branch
@@ -138,7 +134,7 @@ asks : (code : List ℕ) (r : Relation) (wanted : Bool) (n : MipsMachine) (b : B
     n.flow.pc ≡ pc_of j → j + length (order_words r a c) + 2 ≤ words_end → j + length (order_words r a c) + 1 + offset ≤ words_end →
     a < 2 ^ 5 → c < 2 ^ 5 → offset < 2 ^ 15 → mips_register n a ≡ x → mips_register n c ≡ y →
     HasAt code j (order_words r a c ++ taken_where r wanted a c offset ∷ no_op ∷ []) →
-    Asked code n b (length (order_words r a c) + 2)
+    Asked code n b j (j + length (order_words r a c) + 2)
     (cond (is_same_truth wanted (related r x y)) (j + length (order_words r a c) + 1 + offset) (j + length (order_words r a c) + 2))
 asks code Same wanted n b j a c x y offset rest pc low high small_a small_c small ea ec has =
     let t = is_same_truth wanted (x == y) in
@@ -148,7 +144,13 @@ asks code Same wanted n b j a c x y offset rest pc low high small_a small_c smal
     let k = j + 0 in
     let way = turns code t (branch_of wanted) n b k a c offset rest (pc ∙ ap pc_of here) low high small_a small_c small e
     (subst (λ i. HasAt code i (branch (branch_of wanted) a c offset ∷ no_op ∷ [])) here has) in
-    record { before = n; to = pc_of (cond t (k + 1 + offset) (k + 2)); way = way; others = λ q h. refl }
+    let to = cond t (k + 1 + offset) (k + 2) in
+    record {
+      before = n;
+      to = pc_of to;
+      way = way_to code n (moved n (pc_of to)) b b k (k + 2) j (k + 2) to to way (omega arith) (omega arith) refl;
+      others = λ q h. refl;
+    }
 asks code Less wanted n b j a c x y offset rest pc low high small_a small_c small ea ec has =
     let less = int_lt (cast_signed w32 x) (cast_signed w32 y) in
     let t = is_same_truth wanted less in
@@ -161,8 +163,8 @@ asks code Less wanted n b j a c x y offset rest pc low high small_a small_c smal
     record {
       before = one.last;
       to = pc_of (cond t (j + 1 + 1 + offset) (j + 1 + 2));
-      way = way_on code n one.last (moved one.last (pc_of (cond t (j + 1 + 1 + offset) (j + 1 + 2)))) b b b 1 2 3 (j + 1)
-          (cond t (j + 1 + 1 + offset) (j + 1 + 2)) one.way way (omega arith);
+      way = way_on code n one.last (moved one.last (pc_of (cond t (j + 1 + 1 + offset) (j + 1 + 2)))) b b b j (j + 1) (j + 1)
+          (j + 1 + 2) (j + 1) (cond t (j + 1 + 1 + offset) (j + 1 + 2)) one.way way (omega arith);
       others = λ q h. one.gave.others q h (λ e. omega (arith, e, h));
     }
 
@@ -175,7 +177,7 @@ module _ (f own : ℕ) where
       HasAt code i (with_two q.left q.right (λ a c. order_words q.relation a c ++ taken_where q.relation wanted a c offset ∷ no_op ∷ ws)) →
       s.flow.pc ≡ pc_of i → i + branch_at q + 2 ≤ words_end → i + branch_at q + 1 + offset ≤ words_end → offset < 2 ^ 15 →
       Seen f own s v.home → CanAsk mips_meaning f own q v →
-      Asked code s v.bytes (branch_at q + 2)
+      Asked code s v.bytes i (i + branch_at q + 2)
       (cond (is_same_truth wanted (related q.relation (Word code f own f_small own_small q.left v.home v.bytes)
       (Word code f own f_small own_small q.right v.home v.bytes))) (i + branch_at q + 1 + offset) (i + branch_at q + 2))
   turned code q wanted offset i s v ws f_small own_small has at low high small g can =
@@ -203,13 +205,14 @@ module _ (f own : ℕ) where
       let same : lands ≡ cond t (i + branch_at q + 1 + offset) (i + branch_at q + 2) =
       conds t (j + length order + 1 + offset) (j + length order + 2) (i + branch_at q + 1 + offset) (i + branch_at q + 2)
       (omega (arith, size)) (omega (arith, size)) in
-      let way = way_on code s both.last (moved done.before done.to) v.bytes v.bytes v.bytes (length ws1 + length ws2) (length order + 2)
-      (branch_at q + 2) j lands both.way done.way (omega (arith, size)) in
+      let way = way_on code s both.last (moved done.before done.to) v.bytes v.bytes v.bytes i j j (j + length order + 2) j lands
+      both.way done.way (omega arith) in
       record {
         before = done.before;
         to = done.to;
-        way = way_to code s (moved done.before done.to) v.bytes v.bytes (branch_at q + 2) (branch_at q + 2) lands
-            (cond t (i + branch_at q + 1 + offset) (i + branch_at q + 2)) way (omega arith) same;
+        way = way_to code s (moved done.before done.to) v.bytes v.bytes i (j + length order + 2) i
+            (i + branch_at q + 2) lands (cond t (i + branch_at q + 1 + offset) (i + branch_at q + 2)) way (omega arith)
+            (omega (arith, size)) same;
         others = λ p h. done.others p h ∙ both.others p h;
       }
 
@@ -221,46 +224,43 @@ module _ (f own : ℕ) where
       let t = asked mips_meaning f own q v.home v.bytes in
       let same : cond t (i + branch_at q + 1 + offset) (i + branch_at q + 2) ≡ cond t to (i + (branch_at q + 2)) =
       conds t (i + branch_at q + 1 + offset) (i + branch_at q + 2) to (i + (branch_at q + 2)) (omega (arith, room)) (omega arith) in
-      let way = way_to code s (moved done.before done.to) v.bytes v.bytes (branch_at q + 2) (branch_at q + 2)
-      (cond t (i + branch_at q + 1 + offset) (i + branch_at q + 2)) (cond t to (i + (branch_at q + 2))) done.way (omega arith) same in
+      let way = way_to code s (moved done.before done.to) v.bytes v.bytes i (i + branch_at q + 2) i
+      (i + (branch_at q + 2)) (cond t (i + branch_at q + 1 + offset) (i + branch_at q + 2)) (cond t to (i + (branch_at q + 2))) done.way
+      (omega arith) (omega arith) same in
       record {
-        steps = way.steps;
         last = moved done.before done.to;
-        leads = way.leads;
-        few = way.few;
+        climbs = way.climbs;
         at = way.at;
         sees = seen_moved f own s done.before v.home done.to done.others g;
       }
 
   -- where the opposite branch isn't taken, a jump follows
   far_by : (opposite answer : Bool) → answer ≡ not opposite → (code : List ℕ) (size i to : ℕ) (s : MipsMachine) (v : Sight) →
-      Asked code s v.bytes (size + 2) (cond opposite (i + size + 1 + 3) (i + size + 2)) → i + (size + 4) ≤ to → to ≤ words_end →
+      Asked code s v.bytes i (i + size + 2) (cond opposite (i + size + 1 + 3) (i + size + 2)) → i + (size + 4) ≤ to → to ≤ words_end →
       Seen f own s v.home → HasAt code (i + size + 2) (jump_words (i + size + 2) to) →
-      Ends mips_meaning f own code s v (size + 4) (cond answer to (i + (size + 4))) v
+      Ends mips_meaning f own code s v i (i + (size + 4)) (cond answer to (i + (size + 4))) v
   far_by true answer e code size i to s v done room high g has =
-      let p = done.way.few in
-      let q = done.way.at in
       let at : cond answer to (i + (size + 4)) ≡ i + size + 4 = ap (λ t. cond t to (i + (size + 4))) e ∙ omega arith in
+      let way = way_to code s (moved done.before done.to) v.bytes v.bytes i (i + size + 2) i (i + (size + 4)) (i + size + 1 + 3)
+      (cond answer to (i + (size + 4))) done.way (omega arith) (omega arith) (omega (arith, at)) in
       record {
-        steps = done.way.steps;
         last = moved done.before done.to;
-        leads = done.way.leads;
-        few = omega (arith, p);
-        at = omega (arith, q, at);
+        climbs = way.climbs;
+        at = way.at;
         sees = seen_moved f own s done.before v.home done.to done.others g;
       }
   far_by false answer e code size i to s v done room high g has =
       let n = moved done.before done.to in
       let jump = jumps code n v.bytes (i + size + 2) to refl done.way.at (omega (arith, room, high)) high has in
-      let way = way_on code s n (moved n (pc_of to)) v.bytes v.bytes v.bytes (size + 2) 2 (size + 4) (i + size + 2) to done.way jump
-      (omega arith) in
+      let way = way_on code s n (moved n (pc_of to)) v.bytes v.bytes v.bytes i (i + size + 2) (i + size + 2) (i + size + 2 + 2)
+      (i + size + 2) to done.way jump (omega arith) in
       let at : to ≡ cond answer to (i + (size + 4)) = sym (ap (λ t. cond t to (i + (size + 4))) e) in
+      let all = way_to code s (moved n (pc_of to)) v.bytes v.bytes i (i + size + 2 + 2) i (i + (size + 4)) to
+      (cond answer to (i + (size + 4))) way (omega arith) (omega arith) at in
       record {
-        steps = way.steps;
         last = moved n (pc_of to);
-        leads = way.leads;
-        few = way.few;
-        at = way.at ∙ ap pc_of at;
+        climbs = all.climbs;
+        at = all.at;
         sees = seen_moved f own s done.before v.home (pc_of to) done.others g;
       }
 

@@ -24,7 +24,6 @@ use Rattle.ec_machine_code.specs.declared.step.Source.TheVariants as source
 use Rattle.ec_machine_code.specs.declared.step.Step.{Step}
 use Rattle.ec_machine_code.specs.declared.step.Step.TheVariants as step
 use Rattle.ec_target.specs.Code.{pc_of}
-use Rattle.ec_target.specs.Runs.{Leads}
 use Rattle.mips_isa.specs.Parts.{high_of, low_of}
 use Rattle.mips_isa.specs.Words.{hilo_funct, i_word, immediate_op, operation_funct, r_word}
 use Rattle.mips_isa.specs.declared.instr.Branch.{Branch}
@@ -39,7 +38,7 @@ use Rattle.mips_isa.specs.declared.instr.Operation.{Operation}
 use Rattle.mips_isa.specs.declared.instr.Operation.TheVariants.{Addu}
 use Rattle.mips_isa.specs.declared.instr.Operation.TheVariants as operations
 use Rattle.mips_machine.proofs.Effects.{high_low, lui_goes, moved, register-wrote_other, register-wrote_same, syscall_stops, wrote}
-use Rattle.mips_machine.specs.Machine.{mips_goes, mips_register}
+use Rattle.mips_machine.specs.Machine.{mips_register}
 use Rattle.mips_machine.specs.Values.{extended, plus}
 use Rattle.mips_machine.specs.declared.machine.MipsMachine.{MipsMachine}
 use Rattle.mips_code.specs.Meaning.{mips_meaning}
@@ -53,7 +52,7 @@ use Rattle.mips_code.specs.Words.{two_words, with_two, work_words, zero_word}
 use Rattle.mips_code.proofs.Asks.{far_law, jump_law_far, jump_law_near, near_law}
 use Rattle.mips_code.proofs.SourcesLemmas.{Finds, Gets, Made, Word, from_base, high_part, loads, made_keeps, made_of, number_got, reg, slot_got}
 use Rattle.mips_code.proofs.SourcesLemmas.{source_got, source_low, stores}
-use Rattle.mips_code.proofs.Ways.{Seen, has_back, has_front, nth_at, rest_at, seen_home, seen_still, way_on, way_one, way_to}
+use Rattle.mips_code.proofs.Ways.{Seen, Way, has_back, has_front, nth_at, rest_at, seen_home, seen_still, way_on, way_one, way_to}
 use Rattle.mips_code.proofs.Works.{answer_made, operates, work_made}
 
 -- ---- registers of homes
@@ -65,7 +64,7 @@ target_some (home.Register k) = omega arith
 module _ (code : List ℕ) (f own : ℕ) (f_small : f < most_blocks) (own_small : own < most_blocks) (i : ℕ) (m : MipsMachine) (v : Sight)
     (at : m.flow.pc ≡ pc_of i) (g : Seen f own m v.home) where
   abbrev Comes : List ℕ → Sight → Type 0
-  Comes ws after = Ends mips_meaning f own code m v (length ws) (i + length ws) after
+  Comes ws after = Ends mips_meaning f own code m v i (i + length ws) (i + length ws) after
 
   abbrev Held : Source → ℕ
   Held s = Word code f own f_small own_small s v.home v.bytes
@@ -81,21 +80,19 @@ module _ (code : List ℕ) (f own : ℕ) (f_small : f < most_blocks) (own_small 
   low_of_home (home.Register k) can = omega (arith, can)
 
   -- what is made of some words goes into a home
-  into_home : (into : Home) (w : ℕ) (ws : List ℕ) → Made code m v.bytes (length ws) (i + length ws) (target_register into) w →
+  into_home : (into : Home) (w : ℕ) (ws : List ℕ) → Made code m v.bytes i (i + length ws) (target_register into) w →
       i + length (ws ++ target_words into) ≤ words_end → HasAt code i (ws ++ target_words into) → HomeThere into →
       Comes (ws ++ target_words into) (Gets code f own f_small own_small into w v)
   into_home into w ws made low has can = made_keeps code f own f_small own_small into w i m v ws made g low has can
 
   -- what is made into a home's own register
-  into_register : (k w : ℕ) (ws : List ℕ) → Made code m v.bytes (length ws) (i + length ws) (16 + k) w → k < 6 →
+  into_register : (k w : ℕ) (ws : List ℕ) → Made code m v.bytes i (i + length ws) (16 + k) w → k < 6 →
       Comes ws (Gets code f own f_small own_small (home.Register k) w v)
   into_register k w ws made low =
       let seen = seen_home f own m made.last v.home k w low made.gave g in
       record {
-        steps = made.way.steps;
         last = made.last;
-        leads = made.way.leads;
-        few = made.way.few;
+        climbs = made.way.climbs;
         at = made.way.at;
         sees = record { rests = seen.rests; frame = seen.frame; owns = seen.owns; home = seen.home };
       }
@@ -103,11 +100,8 @@ module _ (code : List ℕ) (f own : ℕ) (f_small : f < most_blocks) (own_small 
   -- ---- words of blocks
 
   record Stored (ws : List ℕ) (at' w : ℕ) : Type 0 where
-    steps : ℕ
     last : MipsMachine
-    leads : Leads (mips_goes code) m v.bytes steps last (with_bytes v.bytes at' (big_bytes 4 w))
-    few : steps ≤ length ws
-    at_end : last.flow.pc ≡ pc_of (i + length ws)
+    way : Way code m v.bytes i (i + length ws) (i + length ws) last (with_bytes v.bytes at' (big_bytes 4 w))
     seen : Seen f own last v.home
 
   stored : (base offset at' : ℕ) (from : Source) → 12 ≤ base → base < 2 ^ 5 → offset < 2 ^ 16 →
@@ -128,15 +122,13 @@ module _ (code : List ℕ) (f own : ℕ) (f_small : f < most_blocks) (own_small 
       pc (omega (arith, low, long)) (source_low code f own f_small own_small from v.home v.bytes 8 can (lit< tt)) small_base small
       (is ∙ ap (λ x. plus x (extended 16 offset)) (sym base_is)) even there got.holds
       (nth_at code (i + length ws) last 0 _ n.flow.pc (has_back code i ws last has) (omega (arith, pc)) refl) in
-      let all = way_on code m n (moved n (n.flow.pc + 4)) v.bytes v.bytes (with_bytes v.bytes at' (big_bytes 4 (Held from))) (length ws) 1
-      (length (ws ++ last)) (i + length ws) (i + length ws + 1) got.way way (omega (arith, long)) in
-      let to = all.at in
+      let all = way_on code m n (moved n (n.flow.pc + 4)) v.bytes v.bytes (with_bytes v.bytes at' (big_bytes 4 (Held from))) i (i + length ws)
+      (i + length ws) (i + length ws + 1) (i + length ws) (i + length ws + 1) got.way way (omega arith) in
       record {
-        steps = all.steps;
         last = moved n (n.flow.pc + 4);
-        leads = all.leads;
-        few = all.few;
-        at_end = omega (arith, to, long);
+        way = way_to code m (moved n (n.flow.pc + 4)) v.bytes (with_bytes v.bytes at' (big_bytes 4 (Held from))) i (i + length ws + 1) i
+            (i + length (ws ++ last)) (i + length ws + 1) (i + length (ws ++ last)) all (omega arith) (omega (arith, long))
+            (omega (arith, long));
         seen = seen_still f own m (moved n (n.flow.pc + 4)) v.home refl (λ q h. got.others q (λ e. omega (arith, e, h))) g;
       }
 
@@ -148,7 +140,7 @@ module _ (code : List ℕ) (f own : ℕ) (f_small : f < most_blocks) (own_small 
   move_register k (source.Home (home.Slot n)) few can low has =
       let w = or_zero (word_in big_number v.bytes (slot_at f n)) in
       into_register k w (copied_words (16 + k) (source.Home (home.Slot n)))
-      (made_of code m v.bytes 2 (i + 2) (16 + k) w
+      (made_of code m v.bytes i (i + 2) (16 + k) w
       (slot_got code f own f_small own_small m v.home v.bytes i (16 + k) n g at low (omega arith) (omega (arith, few)) can.0.0 can.0.1 has))
       few
   move_register k (source.Home (home.Register j)) few can low has =
@@ -156,12 +148,12 @@ module _ (code : List ℕ) (f own : ℕ) (f_small : f < most_blocks) (own_small 
       let fits = can.1 in
       let sum : plus w 0 ≡ w = omega (arith, fits) in
       into_register k w (copied_words (16 + k) (source.Home (home.Register j)))
-      (subst (λ x. Made code m v.bytes 1 (i + 1) (16 + k) x) sum
+      (subst (λ x. Made code m v.bytes i (i + 1) (16 + k) x) sum
       (operates code v.bytes (16 + k) (omega arith) (omega (arith, few)) Addu m i (16 + j) 0 w 0 (λ p q. refl) g.rests at low
       (let h = can.0 in omega (arith, h)) (lit< tt) (g.home j can.0) refl has)) few
   move_register k (source.Word n) few can low has =
       into_register k n (number_words (16 + k) n)
-      (made_of code m v.bytes (length (number_words (16 + k) n)) (i + length (number_words (16 + k) n)) (16 + k) n
+      (made_of code m v.bytes i (i + length (number_words (16 + k) n)) (16 + k) n
       (number_got code m v.bytes i (16 + k) g.rests at (omega arith) (omega (arith, few)) n can low has)) few
 
   -- ---- a word of memory
@@ -177,7 +169,7 @@ module _ (code : List ℕ) (f own : ℕ) (f_small : f < most_blocks) (own_small 
       let ws = loaded_words r base offset in
       let long = length-append ws (target_words into) in
       into_home into (or_zero (word_in big_number v.bytes at')) ws
-      (made_of code m v.bytes 2 (i + 2) r (or_zero (word_in big_number v.bytes at'))
+      (made_of code m v.bytes i (i + 2) r (or_zero (word_in big_number v.bytes at'))
       (loads code m v.bytes i r base offset at' g.rests at (omega (arith, low, long)) (target_some into) (low_of_home into can) small_base
       small is even there (has_front code i ws (target_words into) has))) low has can
 
@@ -205,11 +197,12 @@ module _ (code : List ℕ) (f own : ℕ) (f_small : f < most_blocks) (own_small 
       sym (ap (λ x. plus x (extended 16 (low_of at'))) (register-wrote_same m r upper on pos small) ∙ high_low at' (omega (arith, few))) in
       let got = loads code m1 v.bytes (i + 1) r r (low_of at') at' refl (omega (arith, at)) (omega (arith, low, long)) pos small small
       (omega arith) sum (omega arith) there (rest_at code i (lui r (high_of at')) (loaded_words r r (low_of at')) front) in
-      let way = way_on code m m1 got.last v.bytes v.bytes v.bytes 1 2 3 (i + 1) (i + 1 + 2)
-      (way_one code m m1 v.bytes v.bytes (i + 1) one (omega (arith, at))) got.way (omega arith) in
-      let made : Made code m v.bytes 3 (i + 3) r w = record {
+      let way = way_on code m m1 got.last v.bytes v.bytes v.bytes i (i + 1) (i + 1) (i + 1 + 2) (i + 1)
+      (i + 1 + 2) (way_one code m m1 v.bytes v.bytes i at one (omega (arith, at))) got.way (omega arith) in
+      let made : Made code m v.bytes i (i + 3) r w = record {
         last = got.last;
-        way = way_to code m got.last v.bytes v.bytes 3 3 (i + 1 + 2) (i + 3) way (omega arith) (omega arith);
+        way = way_to code m got.last v.bytes v.bytes i (i + 1 + 2) i (i + 3) (i + 1 + 2) (i + 3) way (omega arith) (omega arith)
+            (omega arith);
         gave = record {
           rests = got.rests;
           holds = got.holds;
@@ -229,11 +222,9 @@ module _ (code : List ℕ) (f own : ℕ) (f_small : f < most_blocks) (own_small 
       (from_base (mips_register m 30) (block_at f) (slot_offset n) (slot_at f n) g.frame (omega (arith, few)) (omega (arith, few, f_small))
       (omega arith)) (omega arith) can.0.1 can.1 low has in
       record {
-        steps = e.steps;
         last = e.last;
-        leads = e.leads;
-        few = e.few;
-        at = e.at_end;
+        climbs = e.way.climbs;
+        at = e.way.at;
         sees = record { rests = e.seen.rests; frame = e.seen.frame; owns = e.seen.owns; home = e.seen.home };
       }
   does_step (step.Itself into) low has can =
@@ -251,7 +242,7 @@ module _ (code : List ℕ) (f own : ℕ) (f_small : f < most_blocks) (own_small 
       let e = stored 23 (4 * n) (field_at own n) from (omega arith) (lit< tt) (omega (arith, few))
       (from_base (mips_register m 23) (block_at own) (4 * n) (field_at own n) g.owns (omega (arith, few)) (omega (arith, few, own_small))
       (omega arith)) (omega arith) can.2 can.0 low has in
-      record { steps = e.steps; last = e.last; leads = e.leads; few = e.few; at = e.at_end; sees = e.seen }
+      record { last = e.last; climbs = e.way.climbs; at = e.way.at; sees = e.seen }
   does_step (step.Constant into n) low has can = constant into n can.1 can.2 can.0 low has
   does_step (step.Work how into left right) low has can =
       let r = target_register into in

@@ -5,10 +5,10 @@ use Rattle.std.specs.Prelude.{slice_get, ◌==◌}
 use Rattle.std.proofs.lemmas.Bool.Decides.{nat_tests}
 use Rattle.ec_base.specs.Bytes.{Bytes}
 use Rattle.ec_machine_code.specs.Speaks.{HasAt, Sees}
-use Rattle.ec_target.proofs.Running.{leads_append, leads_none, leads_one}
+use Rattle.ec_target.proofs.Climbing.{climbs_append, climbs_none, climbs_one, climbs_wider}
 use Rattle.ec_target.specs.Code.{pc_of, word_at}
-use Rattle.ec_target.specs.Runs.{Leads}
-use Rattle.mips_machine.specs.Machine.{mips_goes, mips_register, mips_rests}
+use Rattle.ec_target.specs.Paths.{Climbs}
+use Rattle.mips_machine.specs.Machine.{mips_goes, mips_place, mips_register, mips_rests}
 use Rattle.mips_machine.specs.declared.machine.MipsMachine.{MipsMachine}
 use Rattle.mips_code.specs.Meaning.{mips_meaning}
 
@@ -45,42 +45,38 @@ nth_at code i ws k w pc has e get = ap (word_at code) e ∙ has k w get
 
 -- ---- ways
 
--- in at most so many steps to a word, where the machine is n and the memory is c
-pub record Way (code : List ℕ) (m : MipsMachine) (b : Bytes) (size to : ℕ) (n : MipsMachine) (c : Bytes) : Type 0 where
-  pub steps : ℕ
-  pub leads : Leads (mips_goes code) m b steps n c
-  pub few : steps ≤ size
+-- by words that rise from word `from` on and lie below word `end`, to a word, where the machine is n and the memory is c
+pub record Way (code : List ℕ) (m : MipsMachine) (b : Bytes) (from end to : ℕ) (n : MipsMachine) (c : Bytes) : Type 0 where
+  pub climbs : Climbs (mips_goes code) mips_place m b from end n c
   pub at : n.flow.pc ≡ pc_of to
 
 module _ (code : List ℕ) where
-  pub way_none : (m : MipsMachine) (b : Bytes) (to : ℕ) → m.flow.pc ≡ pc_of to → Way code m b 0 to m b
-  way_none m b to at = record { steps = 0; leads = leads_none (mips_goes code) m b; few = omega arith; at = at }
+  pub way_none : (m : MipsMachine) (b : Bytes) (from to : ℕ) → from ≤ to → m.flow.pc ≡ pc_of to → Way code m b from to to m b
+  way_none m b from to rise at = record { climbs = climbs_none (mips_goes code) mips_place m b from to rise; at = at }
 
-  pub way_by : (m n : MipsMachine) (b c : Bytes) (k to : ℕ) → Leads (mips_goes code) m b k n c → n.flow.pc ≡ pc_of to →
-      Way code m b k to n c
-  way_by m n b c k to leads at = record { steps = k; leads = leads; few = omega arith; at = at }
+  pub way_by : (m n : MipsMachine) (b c : Bytes) (from end to : ℕ) → Climbs (mips_goes code) mips_place m b from end n c →
+      n.flow.pc ≡ pc_of to → Way code m b from end to n c
+  way_by m n b c from end to climbs at = record { climbs = climbs; at = at }
 
-  pub way_one : (m n : MipsMachine) (b c : Bytes) (to : ℕ) → mips_goes code m b n c → n.flow.pc ≡ pc_of to → Way code m b 1 to n c
-  way_one m n b c to st at = way_by m n b c 1 to (leads_one (mips_goes code) m b n c st) at
+  -- one word
+  pub way_one : (m n : MipsMachine) (b c : Bytes) (i : ℕ) → m.flow.pc ≡ pc_of i → mips_goes code m b n c →
+      n.flow.pc ≡ pc_of (i + 1) → Way code m b i (i + 1) (i + 1) n c
+  way_one m n b c i here st at = way_by m n b c i (i + 1) (i + 1) (climbs_one (mips_goes code) mips_place i m b n c here st) at
 
-  -- one way behind another
-  pub way_on : (m n u : MipsMachine) (b c d : Bytes) (j k size to on : ℕ) → Way code m b j to n c → Way code n c k on u d →
-      j + k ≤ size → Way code m b size on u d
-  way_on m n u b c d j k size to on v w small = record {
-    steps = v.steps + w.steps;
-    leads = leads_append (mips_goes code) m b v.steps n c w.steps u d v.leads w.leads;
-    few = let p = v.few in let q = w.few in omega (arith, p, q, small);
+  -- one way behind another, by words behind those of the first
+  pub way_on : (m n u : MipsMachine) (b c d : Bytes) (from mid low end to on : ℕ) → Way code m b from mid to n c →
+      Way code n c low end on u d → mid ≤ low → Way code m b from end on u d
+  way_on m n u b c d from mid low end to on v w rise = record {
+    climbs = climbs_append (mips_goes code) mips_place m b from low n c end u d
+        (climbs_wider (mips_goes code) mips_place m b from mid from low n c (omega arith) rise v.climbs) w.climbs;
     at = w.at;
   }
 
-  pub way_to : (m n : MipsMachine) (b c : Bytes) (size more to on : ℕ) → Way code m b size to n c → size ≤ more → to ≡ on →
-      Way code m b more on n c
-  way_to m n b c size more to on w small e = record {
-    steps = w.steps;
-    leads = w.leads;
-    few = let p = w.few in omega (arith, p, small);
-    at = w.at ∙ ap pc_of e;
-  }
+  -- among more words, to the same one
+  pub way_to : (m n : MipsMachine) (b c : Bytes) (from end low high to on : ℕ) → Way code m b from end to n c → low ≤ from → end ≤ high →
+      to ≡ on → Way code m b low high on n c
+  way_to m n b c from end low high to on w p q e =
+      record { climbs = climbs_wider (mips_goes code) mips_place m b from end low high n c p q w.climbs; at = w.at ∙ ap pc_of e }
 
 -- ---- what registers hold
 

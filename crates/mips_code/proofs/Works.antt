@@ -16,7 +16,7 @@ use Rattle.ec_machine_code.specs.declared.step.Relation.TheVariants.{Less, Same}
 use Rattle.ec_machine_code.specs.declared.step.Source.{Source}
 use Rattle.ec_machine_code.specs.declared.step.Source.TheVariants as source
 use Rattle.ec_world.specs.Same.{is_same_truth}
-use Rattle.ec_target.proofs.Running.{leads_first, leads_one}
+use Rattle.ec_target.proofs.Climbing.{climbs_two}
 use Rattle.ec_target.specs.Code.{pc_of, word_at}
 use Rattle.mips_isa.specs.Parts.{low_of}
 use Rattle.mips_isa.specs.declared.instr.Branch.TheVariants.{Beq}
@@ -28,9 +28,9 @@ use Rattle.mips_isa.specs.declared.instr.MoveFrom.{MoveFrom}
 use Rattle.mips_isa.specs.declared.instr.MoveFrom.TheVariants.{Mfhi, Mflo}
 use Rattle.mips_isa.specs.declared.instr.Operation.{Operation}
 use Rattle.mips_isa.specs.declared.instr.Operation.TheVariants.{Addu, Slt, Sltu, Subu}
-use Rattle.mips_machine.proofs.Effects.{branch_leads, hilo_goes, immediate_goes, moved, operation_goes, read_leads, reckoned as hilo_set}
-use Rattle.mips_machine.proofs.Effects.{register-wrote_other, register-wrote_same, wrote}
-use Rattle.mips_machine.specs.Machine.{data_of, mips_goes, mips_register, mips_rests}
+use Rattle.mips_machine.proofs.Effects.{branch_climbs, hilo_goes, immediate_goes, moved, operation_goes, read_climbs}
+use Rattle.mips_machine.proofs.Effects.{reckoned as hilo_set, register-wrote_other, register-wrote_same, wrote}
+use Rattle.mips_machine.specs.Machine.{data_of, mips_goes, mips_place, mips_register, mips_rests}
 use Rattle.mips_machine.specs.Step.{branch_target, hilo_of}
 use Rattle.mips_machine.specs.Values.{extended, hi_value, immediate_number, immediate_overflows, immediate_value, is_undefined}
 use Rattle.mips_machine.specs.Values.{lo_value, minus}
@@ -59,7 +59,7 @@ gave_wrote m r w pc pos small = record {
 module _ (code : List ℕ) (b : Bytes) (rd : ℕ) (pos : 0 < rd) (small_rd : rd < 2 ^ 5) where
   pub operates : (o : Operation) (n : MipsMachine) (j a c x y : ℕ) → ((p q : ℕ) → operation_overflows o p q ≡ false) → mips_rests n →
       n.flow.pc ≡ pc_of j → j + 1 ≤ words_end → a < 2 ^ 5 → c < 2 ^ 5 → mips_register n a ≡ x → mips_register n c ≡ y →
-      HasAt code j (on_registers o rd a c ∷ []) → Made code n b 1 (j + 1) rd (operation_value o x y)
+      HasAt code j (on_registers o rd a c ∷ []) → Made code n b j (j + 1) rd (operation_value o x y)
   operates o n j a c x y within rest pc low small_a small_c ea ec has =
       let on = n.flow.pc + 4 in
       let st = operation_goes code n b rest o (reg rd small_rd) (reg a small_a) (reg c small_c)
@@ -70,14 +70,14 @@ module _ (code : List ℕ) (b : Bytes) (rd : ℕ) (pos : 0 < rd) (small_rd : rd 
       let w = operation_value o x y in
       record {
         last = wrote n rd w on;
-        way = way_one code n (wrote n rd w on) b b (j + 1) (subst (λ p. mips_goes code n b (wrote n rd p on) b) is st) (omega (arith, pc));
+        way = way_one code n (wrote n rd w on) b b j pc (subst (λ p. mips_goes code n b (wrote n rd p on) b) is st) (omega (arith, pc));
         gave = gave_wrote n rd w on pos small_rd;
       }
 
   pub adds_number : (o : Immediate) (n : MipsMachine) (j a x k : ℕ) → (small_k : k < 2 ^ 16) →
       ((p q : ℕ) → immediate_overflows o p q ≡ false) → mips_rests n → n.flow.pc ≡ pc_of j → j + 1 ≤ words_end → a < 2 ^ 5 →
       mips_register n a ≡ x → HasAt code j (on_number o rd a k ∷ []) →
-      Made code n b 1 (j + 1) rd (immediate_value o x (immediate_number o k))
+      Made code n b j (j + 1) rd (immediate_value o x (immediate_number o k))
   adds_number o n j a x k small_k within rest pc low small_a ea has =
       let on = n.flow.pc + 4 in
       let st = immediate_goes code n b rest o (reg rd small_rd) (reg a small_a) (sixteen k small_k)
@@ -88,7 +88,7 @@ module _ (code : List ℕ) (b : Bytes) (rd : ℕ) (pos : 0 < rd) (small_rd : rd 
       let w = immediate_value o x (immediate_number o k) in
       record {
         last = wrote n rd w on;
-        way = way_one code n (wrote n rd w on) b b (j + 1) (subst (λ p. mips_goes code n b (wrote n rd p on) b) is st) (omega (arith, pc));
+        way = way_one code n (wrote n rd w on) b b j pc (subst (λ p. mips_goes code n b (wrote n rd p on) b) is st) (omega (arith, pc));
         gave = gave_wrote n rd w on pos small_rd;
       }
 
@@ -107,7 +107,7 @@ read_left o Mflo n b x y e f = f
 module _ (code : List ℕ) (b : Bytes) (rd : ℕ) (pos : 0 < rd) (small_rd : rd < 2 ^ 5) where
   pub leaves : (o : HiLoOperation) (from : MoveFrom) (n : MipsMachine) (j a c x y : ℕ) → is_undefined o x y ≡ false → mips_rests n →
       n.flow.pc ≡ pc_of j → j + 4 ≤ words_end → a < 2 ^ 5 → c < 2 ^ 5 → mips_register n a ≡ x → mips_register n c ≡ y →
-      HasAt code j (hilo_words o from rd a c) → Made code n b 4 (j + 4) rd (left_in o from x y)
+      HasAt code j (hilo_words o from rd a c) → Made code n b j (j + 4) rd (left_in o from x y)
   leaves o from n j a c x y fine rest pc low small_a small_c ea ec has =
       let ws = hilo_words o from rd a c in
       let p = mips_register n a in
@@ -117,16 +117,19 @@ module _ (code : List ℕ) (b : Bytes) (rd : ℕ) (pos : 0 < rd) (small_rd : rd 
       let same : is_undefined o p q ≡ false = ap (λ z. is_undefined o p z) ec ∙ ap (λ z. is_undefined o z y) ea ∙ fine in
       let one = hilo_goes code n b rest o (reg a small_a) (reg c small_c) same (nth_at code j ws 0 _ n.flow.pc has (omega (arith, pc)) refl)
       (omega (arith, pc, low)) in
-      let two = read_leads code n1 b refl from (reg rd small_rd) (nth_at code j ws 1 _ on has (omega (arith, pc)) refl)
+      let two = read_climbs code n1 b refl (j + 1) (omega (arith, pc)) from (reg rd small_rd) (nth_at code j ws 1 _ on has (omega (arith, pc)) refl)
       (nth_at code j ws 2 0 (on + 4) has (omega (arith, pc)) refl) (nth_at code j ws 3 0 (on + 8) has (omega (arith, pc)) refl)
       (omega (arith, pc, low)) pos in
       let w = hilo_of from (data_of n1 b) in
       let is : w ≡ left_in o from x y =
       read_left o from n1 b p q refl refl ∙ ap (λ z. left_in o from z q) ea ∙ ap (left_in o from x) ec in
       let last = wrote n1 rd w (on + 12) in
+      let all = way_on code n n1 last b b b j (j + 1) (j + 1) (j + 1 + 3) (j + 1) (j + 1 + 3)
+      (way_one code n n1 b b j pc one (omega (arith, pc))) (way_by code n1 last b b (j + 1) (j + 1 + 3) (j + 1 + 3) two (omega (arith, pc)))
+      (omega arith) in
       record {
         last = last;
-        way = way_by code n last b b 4 (j + 4) (leads_first (mips_goes code) n b n1 b 3 last b one two) (omega (arith, pc));
+        way = way_to code n last b b j (j + 1 + 3) j (j + 4) (j + 1 + 3) (j + 4) all (omega arith) (omega arith) (omega arith);
         gave = record {
           rests = refl;
           holds = register-wrote_same n1 rd w (on + 12) pos small_rd ∙ is;
@@ -163,21 +166,21 @@ module _ (code : List ℕ) (b : Bytes) (rd : ℕ) (pos : 0 < rd) (small_rd : rd 
 
   -- the last word
   brings : (n : MipsMachine) (j w : ℕ) → mips_rests n → n.flow.pc ≡ pc_of j → j + 1 ≤ words_end → w < 2 ^ 32 → mips_register n 10 ≡ w →
-      HasAt code j (on_registers Addu rd 10 0 ∷ []) → Made code n b 1 (j + 1) rd w
+      HasAt code j (on_registers Addu rd 10 0 ∷ []) → Made code n b j (j + 1) rd w
   brings n j w rest pc low fits e has =
       let sum : plus w 0 ≡ w = omega (arith, fits) in
-      subst (λ x. Made code n b 1 (j + 1) rd x) sum
+      subst (λ x. Made code n b j (j + 1) rd x) sum
       (operates code b rd pos small_rd Addu n j 10 0 w 0 (λ p q. refl) rest pc low (lit< tt) (lit< tt) e refl has)
 
   branches : (t : Bool) (from : MoveFrom) (n : MipsMachine) (j a c p x y : ℕ) → (y == 2 ^ 32 - 1) ≡ t → mips_rests n → n.flow.pc ≡ pc_of j →
       j + 7 ≤ words_end → a < 2 ^ 5 → c < 2 ^ 5 → y ≢ 0 → p < 2 ^ 32 → x < 2 ^ 32 → y < 2 ^ 32 → mips_register n a ≡ x →
       mips_register n c ≡ y → mips_register n 10 ≡ p → mips_register n 11 ≡ 2 ^ 32 - 1 → HasAt code j (rest_words from a c) →
-      Made code n b 7 (j + 7) rd (cond t p (part from x y))
+      Made code n b j (j + 7) rd (cond t p (part from x y))
   branches true from n j a c p x y e rest pc low small_a small_c some fits x_low y_low ea ec ep em has =
       let ws = rest_words from a c in
       let taken : (mips_register n c == mips_register n 11) ≡ true = ap (λ z. z == mips_register n 11) ec ∙ ap (λ z. y == z) em ∙ e in
       let to : branch_target n.flow.pc (sixteen 5 (lit< tt)) ≡ pc_of (j + 6) = omega (arith, pc, low) in
-      let one = branch_leads code n b rest Beq (reg c small_c) (reg 11 (lit< tt)) (sixteen 5 (lit< tt)) (pc_of (j + 6))
+      let one = branch_climbs code n b rest j pc Beq (reg c small_c) (reg 11 (lit< tt)) (sixteen 5 (lit< tt)) (pc_of (j + 6))
       (ap (λ z. cond z (branch_target n.flow.pc (sixteen 5 (lit< tt))) (plus (plus n.flow.pc 4) 4)) taken ∙ to)
       (nth_at code j ws 0 _ n.flow.pc has (omega (arith, pc)) refl) (nth_at code j ws 1 0 (n.flow.pc + 4) has (omega (arith, pc)) refl)
       (omega (arith, pc, low)) in
@@ -185,8 +188,9 @@ module _ (code : List ℕ) (b : Bytes) (rd : ℕ) (pos : 0 < rd) (small_rd : rd 
       let two = brings n1 (j + 6) p refl refl (omega (arith, low)) fits ep (tail_at code j ws 6 _ has refl) in
       record {
         last = two.last;
-        way = way_on code n n1 two.last b b b 2 1 7 (j + 6) (j + 7) (way_by code n n1 b b 2 (j + 6) one refl)
-            (way_to code n1 two.last b b 1 1 (j + 6 + 1) (j + 7) two.way (omega arith) (omega arith)) (omega arith);
+        way = way_on code n n1 two.last b b b j (j + 2) (j + 6) (j + 7) (j + 6) (j + 7) (way_by code n n1 b b j (j + 2) (j + 6) one refl)
+            (way_to code n1 two.last b b (j + 6) (j + 6 + 1) (j + 6) (j + 7) (j + 6 + 1) (j + 7) two.way (omega arith) (omega arith)
+            (omega arith)) (omega arith);
         gave = record { rests = two.gave.rests; holds = two.gave.holds; others = λ q h ne. two.gave.others q h ne };
       }
   branches false from n j a c p x y e rest pc low small_a small_c some fits x_low y_low ea ec ep em has =
@@ -195,7 +199,7 @@ module _ (code : List ℕ) (b : Bytes) (rd : ℕ) (pos : 0 < rd) (small_rd : rd 
       let ra = mips_register n a in
       let passed : (rc == mips_register n 11) ≡ false = ap (λ z. z == mips_register n 11) ec ∙ ap (λ z. y == z) em ∙ e in
       let behind : plus (plus n.flow.pc 4) 4 ≡ pc_of (j + 2) = omega (arith, pc, low) in
-      let one = branch_leads code n b rest Beq (reg c small_c) (reg 11 (lit< tt)) (sixteen 5 (lit< tt)) (pc_of (j + 2))
+      let one = branch_climbs code n b rest j pc Beq (reg c small_c) (reg 11 (lit< tt)) (sixteen 5 (lit< tt)) (pc_of (j + 2))
       (ap (λ z. cond z (branch_target n.flow.pc (sixteen 5 (lit< tt))) (plus (plus n.flow.pc 4) 4)) passed ∙ behind)
       (nth_at code j ws 0 _ n.flow.pc has (omega (arith, pc)) refl) (nth_at code j ws 1 0 (n.flow.pc + 4) has (omega (arith, pc)) refl)
       (omega (arith, pc, low)) in
@@ -206,7 +210,7 @@ module _ (code : List ℕ) (b : Bytes) (rd : ℕ) (pos : 0 < rd) (small_rd : rd 
       ∙ defined x y some e in
       let two = hilo_goes code n1 b refl Div (reg a small_a) (reg c small_c) fine
       (nth_at code j ws 2 _ (pc_of (j + 2)) has refl refl) (omega (arith, low)) in
-      let three = read_leads code n2 b refl from (reg 10 (lit< tt)) (nth_at code j ws 3 _ on has (omega arith) refl)
+      let three = read_climbs code n2 b refl (j + 3) (omega arith) from (reg 10 (lit< tt)) (nth_at code j ws 3 _ on has (omega arith) refl)
       (nth_at code j ws 4 0 (on + 4) has (omega arith) refl) (nth_at code j ws 5 0 (on + 8) has (omega arith) refl) (omega (arith, low))
       (omega arith) in
       let w = hilo_of from (data_of n2 b) in
@@ -216,13 +220,15 @@ module _ (code : List ℕ) (b : Bytes) (rd : ℕ) (pos : 0 < rd) (small_rd : rd 
       let at : n3.flow.pc ≡ pc_of (j + 6) = omega arith in
       let four = brings n3 (j + 6) (part from x y) refl at (omega (arith, low)) (part_low from x y x_low y_low some e) held
       (tail_at code j ws 6 _ has refl) in
-      let way1 = way_on code n n1 n2 b b b 2 1 3 (j + 2) (j + 3) (way_by code n n1 b b 2 (j + 2) one refl)
-      (way_one code n1 n2 b b (j + 3) two (omega arith)) (omega arith) in
-      let way2 = way_on code n n2 n3 b b b 3 3 6 (j + 3) (j + 6) way1 (way_by code n2 n3 b b 3 (j + 6) three at) (omega arith) in
+      let way1 = way_on code n n1 n2 b b b j (j + 2) (j + 2) (j + 2 + 1) (j + 2) (j + 2 + 1)
+      (way_by code n n1 b b j (j + 2) (j + 2) one refl) (way_one code n1 n2 b b (j + 2) refl two (omega arith)) (omega arith) in
+      let way2 = way_on code n n2 n3 b b b j (j + 2 + 1) (j + 3) (j + 3 + 3) (j + 2 + 1) (j + 6) way1
+      (way_by code n2 n3 b b (j + 3) (j + 3 + 3) (j + 6) three at) (omega arith) in
       record {
         last = four.last;
-        way = way_on code n n3 four.last b b b 6 1 7 (j + 6) (j + 7) way2
-            (way_to code n3 four.last b b 1 1 (j + 6 + 1) (j + 7) four.way (omega arith) (omega arith)) (omega arith);
+        way = way_on code n n3 four.last b b b j (j + 3 + 3) (j + 6) (j + 7) (j + 6) (j + 7) way2
+            (way_to code n3 four.last b b (j + 6) (j + 6 + 1) (j + 6) (j + 7) (j + 6 + 1) (j + 7) four.way (omega arith) (omega arith)
+            (omega arith)) (omega arith);
         gave = record {
           rests = four.gave.rests;
           holds = four.gave.holds;
@@ -234,7 +240,7 @@ module _ (code : List ℕ) (b : Bytes) (rd : ℕ) (pos : 0 < rd) (small_rd : rd 
   pub divides : (from : MoveFrom) (n : MipsMachine) (j first a c p x y : ℕ) → mips_rests n → n.flow.pc ≡ pc_of j → j + 9 ≤ words_end →
       a < 2 ^ 5 → c < 2 ^ 5 → a ≢ 10 → a ≢ 11 → c ≢ 10 → c ≢ 11 → y ≢ 0 → p < 2 ^ 32 → x < 2 ^ 32 → y < 2 ^ 32 → mips_register n a ≡ x →
       mips_register n c ≡ y → mips_goes code n b (wrote n 10 p (n.flow.pc + 4)) b → HasAt code j (divided_words first from rd a c) →
-      Made code n b 9 (j + 9) rd (divided from p x y)
+      Made code n b j (j + 9) rd (divided from p x y)
   divides from n j first a c p x y rest pc low small_a small_c a10 a11 c10 c11 some fits x_low y_low ea ec one has =
       let ws = divided_words first from rd a c in
       let on = n.flow.pc + 4 in
@@ -258,10 +264,10 @@ module _ (code : List ℕ) (b : Bytes) (rd : ℕ) (pos : 0 < rd) (small_rd : rd 
       (register-wrote_same n1 11 m1 (on + 4) (omega arith) (lit< tt)) tail in
       record {
         last = far.last;
-        way = way_on code n n2 far.last b b b 2 7 9 (j + 2) (j + 9)
-            (way_by code n n2 b b 2 (j + 2)
-            (leads_first (mips_goes code) n b n1 b 1 n2 b one (leads_one (mips_goes code) n1 b n2 b two)) at)
-            (way_to code n2 far.last b b 7 7 (j + 2 + 7) (j + 9) far.way (omega arith) (omega arith)) (omega arith);
+        way = way_on code n n2 far.last b b b j (j + 2) (j + 2) (j + 9) (j + 2) (j + 9)
+            (way_by code n n2 b b j (j + 2) (j + 2) (climbs_two (mips_goes code) mips_place j n b n1 b n2 b pc one (omega (arith, pc)) two) at)
+            (way_to code n2 far.last b b (j + 2) (j + 2 + 7) (j + 2) (j + 9) (j + 2 + 7) (j + 9) far.way (omega arith) (omega arith)
+            (omega arith)) (omega arith);
         gave = record {
           rests = far.gave.rests;
           holds = far.gave.holds;
@@ -354,20 +360,20 @@ module _ (code : List ℕ) (f own : ℕ) (f_small : f < most_blocks) (own_small 
         i + length (source_words 8 s ++ ws) ≤ words_end → HasAt code i (source_words 8 s ++ ws) →
         ((n : MipsMachine) (j : ℕ) → mips_rests n → n.flow.pc ≡ pc_of j → j + length ws ≤ words_end →
         mips_register n (source_register 8 s) ≡ Word_ s v.home v.bytes → HasAt code j ws →
-        Made code n v.bytes (length ws) (j + length ws) rd w) →
-        Made code m v.bytes (length (source_words 8 s ++ ws)) (i + length (source_words 8 s ++ ws)) rd w
+        Made code n v.bytes j (j + length ws) rd w) →
+        Made code m v.bytes i (i + length (source_words 8 s ++ ws)) rd w
     with_one s ws rd w can low has made =
         let ws1 = source_words 8 s in
         let long = length-append ws1 ws in
         let got = source_got code f own f_small own_small s m v.home v.bytes i 8 g pc (omega (arith, low, long)) (omega arith) (lit< tt) can
         (has_front code i ws1 ws has) in
         let two = made got.last (i + length ws1) got.rests got.way.at (omega (arith, low, long)) got.holds (has_back code i ws1 ws has) in
-        let way = way_on code m got.last two.last v.bytes v.bytes v.bytes (length ws1) (length ws) (length (ws1 ++ ws)) (i + length ws1)
-        (i + length ws1 + length ws) got.way two.way (omega (arith, long)) in
+        let way = way_on code m got.last two.last v.bytes v.bytes v.bytes i (i + length ws1) (i + length ws1)
+        (i + length ws1 + length ws) (i + length ws1) (i + length ws1 + length ws) got.way two.way (omega arith) in
         record {
           last = two.last;
-          way = way_to code m two.last v.bytes v.bytes (length (ws1 ++ ws)) (length (ws1 ++ ws)) (i + length ws1 + length ws)
-              (i + length (ws1 ++ ws)) way (omega arith) (omega (arith, long));
+          way = way_to code m two.last v.bytes v.bytes i (i + length ws1 + length ws) i (i + length (ws1 ++ ws))
+              (i + length ws1 + length ws) (i + length (ws1 ++ ws)) way (omega arith) (omega (arith, long)) (omega (arith, long));
           gave = record {
             rests = two.gave.rests;
             holds = two.gave.holds;
@@ -378,7 +384,7 @@ module _ (code : List ℕ) (f own : ℕ) (f_small : f < most_blocks) (own_small 
     -- two sources are in their registers
     pub record Both (left right : Source) : Type 0 where
       pub last : MipsMachine
-      pub way : Way code m v.bytes (length (source_words 8 left) + length (source_words 9 right))
+      pub way : Way code m v.bytes i (i + length (source_words 8 left) + length (source_words 9 right))
           (i + length (source_words 8 left) + length (source_words 9 right)) last v.bytes
       pub rests : mips_rests last
       pub left_holds : mips_register last (source_register 8 left) ≡ Word_ left v.home v.bytes
@@ -400,8 +406,8 @@ module _ (code : List ℕ) (f own : ℕ) (f_small : f < most_blocks) (own_small 
         (omega (arith, low)) (omega arith) (lit< tt) can_right (has_front code (i + length ws1) ws2 ws back) in
         record {
           last = second.last;
-          way = way_on code m got.last second.last v.bytes v.bytes v.bytes (length ws1) (length ws2) (length ws1 + length ws2)
-              (i + length ws1) (i + length ws1 + length ws2) got.way second.way (omega arith);
+          way = way_on code m got.last second.last v.bytes v.bytes v.bytes i (i + length ws1) (i + length ws1)
+              (i + length ws1 + length ws2) (i + length ws1) (i + length ws1 + length ws2) got.way second.way (omega arith);
           rests = second.rests;
           left_holds = second.others (source_register 8 left)
               (source_other code f own f_small own_small left v.home v.bytes 8 9 can_left (omega arith) (omega arith)
@@ -419,9 +425,9 @@ module _ (code : List ℕ) (f own : ℕ) (f_small : f < most_blocks) (own_small 
         mips_register n (source_register 8 left) ≡ Word_ left v.home v.bytes →
         mips_register n (source_register 9 right) ≡ Word_ right v.home v.bytes →
         HasAt code j (made_words (source_register 8 left) (source_register 9 right)) →
-        Made code n v.bytes (length (made_words (source_register 8 left) (source_register 9 right)))
+        Made code n v.bytes j
         (j + length (made_words (source_register 8 left) (source_register 9 right))) rd w) →
-        Made code m v.bytes (length (with_two left right made_words)) (i + length (with_two left right made_words)) rd w
+        Made code m v.bytes i (i + length (with_two left right made_words)) rd w
     with_both left right made_words rd w can_left can_right low has made =
         let ws1 = source_words 8 left in
         let ws2 = source_words 9 right in
@@ -431,13 +437,14 @@ module _ (code : List ℕ) (f own : ℕ) (f_small : f < most_blocks) (own_small 
         let both = both_got left right ws3 can_left can_right (omega (arith, low, long, more)) has in
         let three = made both.last (i + length ws1 + length ws2) both.rests both.way.at (omega (arith, low, long, more)) both.left_holds
         both.right_holds (has_back code (i + length ws1) ws2 ws3 (has_back code i ws1 (ws2 ++ ws3) has)) in
-        let way = way_on code m both.last three.last v.bytes v.bytes v.bytes (length ws1 + length ws2) (length ws3)
-        (length (ws1 ++ (ws2 ++ ws3))) (i + length ws1 + length ws2) (i + length ws1 + length ws2 + length ws3) both.way three.way
-        (omega (arith, long, more)) in
+        let way = way_on code m both.last three.last v.bytes v.bytes v.bytes i (i + length ws1 + length ws2)
+        (i + length ws1 + length ws2) (i + length ws1 + length ws2 + length ws3) (i + length ws1 + length ws2)
+        (i + length ws1 + length ws2 + length ws3) both.way three.way (omega arith) in
         record {
           last = three.last;
-          way = way_to code m three.last v.bytes v.bytes (length (ws1 ++ (ws2 ++ ws3))) (length (ws1 ++ (ws2 ++ ws3)))
-              (i + length ws1 + length ws2 + length ws3) (i + length (ws1 ++ (ws2 ++ ws3))) way (omega arith) (omega (arith, long, more));
+          way = way_to code m three.last v.bytes v.bytes i (i + length ws1 + length ws2 + length ws3) i
+              (i + length (ws1 ++ (ws2 ++ ws3))) (i + length ws1 + length ws2 + length ws3) (i + length (ws1 ++ (ws2 ++ ws3))) way
+              (omega arith) (omega (arith, long, more)) (omega (arith, long, more));
           gave = record {
             rests = three.gave.rests;
             holds = three.gave.holds;
@@ -464,7 +471,7 @@ module _ (code : List ℕ) (f own : ℕ) (f_small : f < most_blocks) (own_small 
 
       -- some words bring a word into rd
       abbrev pub Makes : List ℕ → ℕ → Type 0
-      Makes ws w = i + length ws ≤ words_end → HasAt code i ws → Made code m v.bytes (length ws) (i + length ws) rd w
+      Makes ws w = i + length ws ≤ words_end → HasAt code i ws → Made code m v.bytes i (i + length ws) rd w
 
       pub two_made : (o : Operation) → ((p q : ℕ) → operation_overflows o p q ≡ false) →
           Makes (two_words o rd left right) (operation_value o X Y)
@@ -487,7 +494,7 @@ module _ (code : List ℕ) (f own : ℕ) (f_small : f < most_blocks) (own_small 
 
       -- words that bring what is the same
       same_made : (ws : List ℕ) (w u : ℕ) → w ≡ u → Makes ws w → Makes ws u
-      same_made ws w u e made low has = subst (λ x. Made code m v.bytes (length ws) (i + length ws) rd x) e (made low has)
+      same_made ws w u e made low has = subst (λ x. Made code m v.bytes i (i + length ws) rd x) e (made low has)
 
       sum_made_by : (a c : Option ℕ) → small left ≡ a → small right ≡ c → Makes (sum_by a c rd left right) ((X + Y) % 2 ^ 32)
       sum_made_by a (Some n) ea ec =
@@ -562,7 +569,7 @@ module _ (code : List ℕ) (f own : ℕ) (f_small : f < most_blocks) (own_small 
           (omega (arith, at, room)) (omega arith) in
           let one : mips_goes code n v.bytes (wrote n 10 (minus 0 X) on) v.bytes =
           subst (λ x. mips_goes code n v.bytes (wrote n 10 (minus 0 x) on) v.bytes) ea st in
-          subst (λ x. Made code n v.bytes 9 (j + 9) rd x) (quotient_is X Y x_low y_low some)
+          subst (λ x. Made code n v.bytes j (j + 9) rd x) (quotient_is X Y x_low y_low some)
           (divides code v.bytes rd pos small_rd Mflo n j (by_minus_one Mflo A) A C (minus 0 X) X Y rest at room a_low c_low
           (a_not 10 (omega arith) (omega arith)) (a_not 11 (omega arith) (omega arith)) (c_not 10 (omega arith) (omega arith))
           (c_not 11 (omega arith) (omega arith)) some (omega arith) x_low y_low ea ec one here))
@@ -574,7 +581,7 @@ module _ (code : List ℕ) (f own : ℕ) (f_small : f < most_blocks) (own_small 
           let one = operation_goes code n v.bytes rest Addu (reg 10 (lit< tt)) r0 r0 refl
           (nth_at code j (divided_words (by_minus_one Mfhi A) Mfhi rd A C) 0 _ n.flow.pc here (omega (arith, at)) refl)
           (omega (arith, at, room)) (omega arith) in
-          subst (λ x. Made code n v.bytes 9 (j + 9) rd x) (remainder_is X Y)
+          subst (λ x. Made code n v.bytes j (j + 9) rd x) (remainder_is X Y)
           (divides code v.bytes rd pos small_rd Mfhi n j (by_minus_one Mfhi A) A C 0 X Y rest at room a_low c_low
           (a_not 10 (omega arith) (omega arith)) (a_not 11 (omega arith) (omega arith)) (c_not 10 (omega arith) (omega arith))
           (c_not 11 (omega arith) (omega arith)) some (omega arith) x_low y_low ea ec one here))
@@ -584,7 +591,7 @@ module _ (code : List ℕ) (f own : ℕ) (f_small : f < most_blocks) (own_small 
           Makes (with_two left right (division_by true from rd)) (part from X Y)
       at_once from some e low has =
           with_both left right (division_by true from rd) rd (part from X Y) can_left can_right low has
-          (λ n j rest at room ea ec here. subst (λ x. Made code n v.bytes 4 (j + 4) rd x) (left_part from X Y)
+          (λ n j rest at room ea ec here. subst (λ x. Made code n v.bytes j (j + 4) rd x) (left_part from X Y)
           (leaves code v.bytes rd pos small_rd Div from n j A C X Y (defined X Y some (other_number right v.home v.bytes can_right e))
           rest at
           room a_low c_low ea ec here))
@@ -613,21 +620,21 @@ module _ (code : List ℕ) (f own : ℕ) (f_small : f < most_blocks) (own_small 
 
     -- one more word makes of what some words bring into $8
     behind : (rd : ℕ) (ws : List ℕ) (word d w : ℕ) →
-        (i + length ws ≤ words_end → HasAt code i ws → Made code m v.bytes (length ws) (i + length ws) 8 d) →
+        (i + length ws ≤ words_end → HasAt code i ws → Made code m v.bytes i (i + length ws) 8 d) →
         ((n : MipsMachine) (j : ℕ) → mips_rests n → n.flow.pc ≡ pc_of j → j + 1 ≤ words_end → mips_register n 8 ≡ d →
-        HasAt code j (word ∷ []) → Made code n v.bytes 1 (j + 1) rd w) → i + length (ws ++ word ∷ []) ≤ words_end →
-        HasAt code i (ws ++ word ∷ []) → Made code m v.bytes (length (ws ++ word ∷ [])) (i + length (ws ++ word ∷ [])) rd w
+        HasAt code j (word ∷ []) → Made code n v.bytes j (j + 1) rd w) → i + length (ws ++ word ∷ []) ≤ words_end →
+        HasAt code i (ws ++ word ∷ []) → Made code m v.bytes i (i + length (ws ++ word ∷ [])) rd w
     behind rd ws word d w first second low has =
         let long = length-append ws (word ∷ []) in
         let one = first (omega (arith, low, long)) (has_front code i ws (word ∷ []) has) in
         let two = second one.last (i + length ws) one.gave.rests one.way.at (omega (arith, low, long)) one.gave.holds
         (has_back code i ws (word ∷ []) has) in
-        let way = way_on code m one.last two.last v.bytes v.bytes v.bytes (length ws) 1 (length (ws ++ word ∷ [])) (i + length ws)
-        (i + length ws + 1) one.way two.way (omega (arith, long)) in
+        let way = way_on code m one.last two.last v.bytes v.bytes v.bytes i (i + length ws) (i + length ws)
+        (i + length ws + 1) (i + length ws) (i + length ws + 1) one.way two.way (omega arith) in
         record {
           last = two.last;
-          way = way_to code m two.last v.bytes v.bytes (length (ws ++ word ∷ [])) (length (ws ++ word ∷ [])) (i + length ws + 1)
-              (i + length (ws ++ word ∷ [])) way (omega arith) (omega (arith, long));
+          way = way_to code m two.last v.bytes v.bytes i (i + length ws + 1) i (i + length (ws ++ word ∷ []))
+              (i + length ws + 1) (i + length (ws ++ word ∷ [])) way (omega arith) (omega (arith, long)) (omega (arith, long));
           gave = record {
             rests = two.gave.rests;
             holds = two.gave.holds;
@@ -645,7 +652,7 @@ module _ (code : List ℕ) (f own : ℕ) (f_small : f < most_blocks) (own_small 
       R = Word_ right v.home v.bytes
 
       zero_made : (wanted : Bool) (n : MipsMachine) (j d : ℕ) → mips_rests n → n.flow.pc ≡ pc_of j → j + 1 ≤ words_end →
-          mips_register n 8 ≡ d → HasAt code j (zero_word wanted rd ∷ []) → Made code n v.bytes 1 (j + 1) rd (zero_test wanted d)
+          mips_register n 8 ≡ d → HasAt code j (zero_word wanted rd ∷ []) → Made code n v.bytes j (j + 1) rd (zero_test wanted d)
       zero_made true n j d rest at room e here =
           adds_number code v.bytes rd pos small_rd Sltiu n j 8 d 1 (lit< tt) (λ p q. refl) rest at room (lit< tt) e here
       zero_made false n j d rest at room e here =
@@ -653,11 +660,11 @@ module _ (code : List ℕ) (f own : ℕ) (f_small : f < most_blocks) (own_small 
 
       pub answer_made : (r : Relation) (wanted : Bool) → i + length (answer_words r wanted rd left right) ≤ words_end →
           HasAt code i (answer_words r wanted rd left right) →
-          Made code m v.bytes (length (answer_words r wanted rd left right)) (i + length (answer_words r wanted rd left right)) rd
+          Made code m v.bytes i (i + length (answer_words r wanted rd left right)) rd
           (from_bool (is_same_truth wanted (related r L R)))
       answer_made Same wanted low has =
           let ws = answer_words Same wanted rd left right in
-          subst (λ x. Made code m v.bytes (length ws) (i + length ws) rd x)
+          subst (λ x. Made code m v.bytes i (i + length ws) rd x)
           (zero_is wanted L R (word_low left v.home v.bytes can_left) (word_low right v.home v.bytes can_right))
           (behind rd (difference_words 8 left right) (zero_word wanted rd) (minus L R) (zero_test wanted (minus L R))
           (difference_made 8 (omega arith) (lit< tt) left right can_left can_right)
@@ -667,6 +674,6 @@ module _ (code : List ℕ) (f own : ℕ) (f_small : f < most_blocks) (own_small 
           let less = int_lt (cast_signed w32 L) (cast_signed w32 R) in
           behind rd (less_words 8 left right) (on_number Xori rd 8 1) (from_bool less) (from_bool (not less))
           (less_made 8 (omega arith) (lit< tt) left right can_left can_right)
-          (λ n j rest at room e here. subst (λ x. Made code n v.bytes 1 (j + 1) rd x) (turned less)
+          (λ n j rest at room e here. subst (λ x. Made code n v.bytes j (j + 1) rd x) (turned less)
           (adds_number code v.bytes rd pos small_rd Xori n j 8 (from_bool less) 1 (lit< tt) (λ p q. refl) rest at room (lit< tt) e here))
           low has

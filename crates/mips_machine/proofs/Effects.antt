@@ -9,9 +9,9 @@ use Rattle.std.proofs.lemmas.Bool.Decides.{nat_tests}
 use Rattle.std.proofs.lemmas.List.{get_or-set_same, get_or-set_other}
 use Rattle.byteorder.specs.Endian.{big_bytes}
 use Rattle.ec_base.specs.Bytes.{Bytes, bytes_from, with_bytes}
-use Rattle.ec_target.specs.Code.{word_at}
-use Rattle.ec_target.specs.Runs.{Leads}
-use Rattle.ec_target.proofs.Running.{leads_first, leads_one}
+use Rattle.ec_target.specs.Code.{pc_of, word_at}
+use Rattle.ec_target.specs.Paths.{Climbs}
+use Rattle.ec_target.proofs.Climbing.{climbs_first, climbs_none, climbs_two}
 use Rattle.ec_target.specs.declared.outcome.Cause.TheVariants.{Unaligned, Overflow, LoadDelay, Divide}
 use Rattle.mips_isa.specs.Parts.{high_of, low_of}
 use Rattle.mips_isa.specs.Words.{word_of}
@@ -37,7 +37,7 @@ use Rattle.mips_machine.specs.declared.flow.Flow.{Flow}
 use Rattle.mips_machine.specs.declared.flow.Since.TheVariants.{JustNow, OneAgo, LongAgo}
 use Rattle.mips_machine.specs.declared.machine.MipsMachine.{MipsMachine}
 use Rattle.mips_machine.specs.Hazards.{touches}
-use Rattle.mips_machine.specs.Machine.{data_of, state_of, mips_goes, mips_stops, mips_register, mips_rests}
+use Rattle.mips_machine.specs.Machine.{data_of, state_of, mips_goes, mips_place, mips_stops, mips_register, mips_rests}
 use Rattle.mips_machine.specs.Step.{Data, State, Next, Goes, Traps, Effect, Done, Fails, aligned, branch_target, checked, comes_to, hilo_of}
 use Rattle.mips_machine.specs.Step.{later, listed, loaded, loaded_to, performs, register_of, resting, stored, written}
 use Rattle.mips_machine.specs.Values.{plus, extended, hi_value, immediate_number, immediate_overflows, immediate_value, is_taken}
@@ -218,11 +218,15 @@ module _ (code : List ℕ) (m : MipsMachine) (b : Bytes) (rest : mips_rests m) w
   two_on : m.flow.pc + 8 < 2 ^ 32 → plus (m.flow.pc + 4) 4 ≡ m.flow.pc + 8
   two_on fits = omega arith
 
-  pub load_leads : (load : Load) (rt rs : Register) (offset : Sixteen) (at v : ℕ) →
+  -- through words of code from word i on
+  abbrev Comes : (i size : ℕ) → MipsMachine → Type 0
+  Comes i size n = Climbs (mips_goes code) mips_place m b i (i + size) n b
+
+  pub load_climbs : (i : ℕ) → m.flow.pc ≡ pc_of i → (load : Load) (rt rs : Register) (offset : Sixteen) (at v : ℕ) →
       at ≡ plus (mips_register m rs.number) (extended 16 offset.bits) → at % load_size load ≡ 0 → loaded load b at ≡ Some v →
       word_at code m.flow.pc ≡ Some (word_of (LoadFrom load rt rs offset)) → word_at code (m.flow.pc + 4) ≡ Some 0 →
-      m.flow.pc + 8 < 2 ^ 32 → 0 < rt.number → Leads (mips_goes code) m b 2 (wrote m rt.number v (m.flow.pc + 8)) b
-  load_leads load rt rs offset at v is even holds here behind fits pos =
+      m.flow.pc + 8 < 2 ^ 32 → 0 < rt.number → Comes i 2 (wrote m rt.number v (m.flow.pc + 8))
+  load_climbs k start load rt rs offset at v is even holds here behind fits pos =
       let i = LoadFrom load rt rs offset in
       let d = data_of m b in
       let pc = m.flow.pc in
@@ -242,18 +246,17 @@ module _ (code : List ℕ) (m : MipsMachine) (b : Bytes) (rest : mips_rests m) w
         held = record d { registers = slice_set m.registers rt.number v };
         flow = loading p rt.number;
       })) (next_at pc (omega (arith, fits)))) in
-      leads_first (mips_goes code) m b (flowing n (loading (pc + 4) rt.number)) b 1 n b first
-      (leads_one (mips_goes code) (flowing n (loading (pc + 4) rt.number)) b n b
+      climbs_two (mips_goes code) mips_place k m b (flowing n (loading (pc + 4) rt.number)) b n b start first (omega (arith, start))
       (at_flow code (flowing n (loading (pc + 4) rt.number)) n b b (resting (plus (pc + 4) 4)) (resting (pc + 8))
-      (ap resting (two_on fits)) (no_op_goes code n b (loading (pc + 4) rt.number) behind)))
+      (ap resting (two_on fits)) (no_op_goes code n b (loading (pc + 4) rt.number) behind))
 
   -- a jump and the no-op in its slot
-  slot_leads : (to : ℕ) → mips_goes code m b (flowing m (jumping (m.flow.pc + 4) to)) b → word_at code (m.flow.pc + 4) ≡ Some 0 →
-      Leads (mips_goes code) m b 2 (moved m to) b
-  slot_leads to first behind =
+  slot_climbs : (i : ℕ) → m.flow.pc ≡ pc_of i → (to : ℕ) → mips_goes code m b (flowing m (jumping (m.flow.pc + 4) to)) b →
+      word_at code (m.flow.pc + 4) ≡ Some 0 → Comes i 2 (moved m to)
+  slot_climbs i start to first behind =
       let u = flowing m (jumping (m.flow.pc + 4) to) in
-      leads_first (mips_goes code) m b u b 1 (moved m to) b first
-      (leads_one (mips_goes code) u b (moved m to) b (no_op_goes code m b (jumping (m.flow.pc + 4) to) behind))
+      climbs_two (mips_goes code) mips_place i m b u b (moved m to) b start first (omega (arith, start))
+      (no_op_goes code m b (jumping (m.flow.pc + 4) to) behind)
 
   jumps_by : (i : Instr) (on to : ℕ) →
       performs i (at_rest (data_of m b) m.flow.pc) ≡
@@ -264,28 +267,28 @@ module _ (code : List ℕ) (m : MipsMachine) (b : Bytes) (rest : mips_rests m) w
       (e ∙ ap (λ p. Goes (record { held = data_of m b; flow = jumping p on })) (next_at m.flow.pc fits)
       ∙ ap (λ t. Goes (record { held = data_of m b; flow = jumping (m.flow.pc + 4) t })) is)
 
-  pub jump_leads : (target : Target) (to : ℕ) → plus m.flow.pc 4 / 2 ^ 28 * 2 ^ 28 + 4 * target.words ≡ to →
+  pub jump_climbs : (i : ℕ) → m.flow.pc ≡ pc_of i → (target : Target) (to : ℕ) → plus m.flow.pc 4 / 2 ^ 28 * 2 ^ 28 + 4 * target.words ≡ to →
       word_at code m.flow.pc ≡ Some (word_of (J target)) → word_at code (m.flow.pc + 4) ≡ Some 0 → m.flow.pc + 4 < 2 ^ 32 →
-      Leads (mips_goes code) m b 2 (moved m to) b
-  jump_leads target to is here behind fits =
-      slot_leads to (jumps_by (J target) (plus m.flow.pc 4 / 2 ^ 28 * 2 ^ 28 + 4 * target.words) to refl is fits here) behind
+      Comes i 2 (moved m to)
+  jump_climbs i start target to is here behind fits =
+      slot_climbs i start to (jumps_by (J target) (plus m.flow.pc 4 / 2 ^ 28 * 2 ^ 28 + 4 * target.words) to refl is fits here) behind
 
   -- a branch leads to its target where it is taken, and behind its slot where it isn't
-  pub branch_leads : (branch : Branch) (rs rt : Register) (offset : Sixteen) (to : ℕ) →
+  pub branch_climbs : (i : ℕ) → m.flow.pc ≡ pc_of i → (branch : Branch) (rs rt : Register) (offset : Sixteen) (to : ℕ) →
       cond (is_taken branch (mips_register m rs.number) (mips_register m rt.number)) (branch_target m.flow.pc offset)
       (plus (plus m.flow.pc 4) 4) ≡ to → word_at code m.flow.pc ≡ Some (word_of (BranchIf branch rs rt offset)) →
-      word_at code (m.flow.pc + 4) ≡ Some 0 → m.flow.pc + 4 < 2 ^ 32 → Leads (mips_goes code) m b 2 (moved m to) b
-  branch_leads branch rs rt offset to is here behind fits =
-      slot_leads to (jumps_by (BranchIf branch rs rt offset)
+      word_at code (m.flow.pc + 4) ≡ Some 0 → m.flow.pc + 4 < 2 ^ 32 → Comes i 2 (moved m to)
+  branch_climbs i start branch rs rt offset to is here behind fits =
+      slot_climbs i start to (jumps_by (BranchIf branch rs rt offset)
       (cond (is_taken branch (mips_register m rs.number) (mips_register m rt.number)) (branch_target m.flow.pc offset)
       (plus (plus m.flow.pc 4) 4)) to refl is fits here) behind
 
-  pub zero_branch_leads : (branch : ZeroBranch) (rs : Register) (offset : Sixteen) (to : ℕ) →
+  pub zero_branch_climbs : (i : ℕ) → m.flow.pc ≡ pc_of i → (branch : ZeroBranch) (rs : Register) (offset : Sixteen) (to : ℕ) →
       cond (is_zero_taken branch (mips_register m rs.number)) (branch_target m.flow.pc offset) (plus (plus m.flow.pc 4) 4) ≡ to →
       word_at code m.flow.pc ≡ Some (word_of (BranchOnZero branch rs offset)) → word_at code (m.flow.pc + 4) ≡ Some 0 →
-      m.flow.pc + 4 < 2 ^ 32 → Leads (mips_goes code) m b 2 (moved m to) b
-  zero_branch_leads branch rs offset to is here behind fits =
-      slot_leads to (jumps_by (BranchOnZero branch rs offset)
+      m.flow.pc + 4 < 2 ^ 32 → Comes i 2 (moved m to)
+  zero_branch_climbs i start branch rs offset to is here behind fits =
+      slot_climbs i start to (jumps_by (BranchOnZero branch rs offset)
       (cond (is_zero_taken branch (mips_register m rs.number)) (branch_target m.flow.pc offset) (plus (plus m.flow.pc 4) 4)) to refl
       is fits here) behind
 
@@ -305,10 +308,10 @@ module _ (code : List ℕ) (m : MipsMachine) (b : Bytes) (rest : mips_rests m) w
       (ap (λ t. comes_to i (at_rest d m.flow.pc) (cond t (Fails Divide) (Done held))) defined ∙ rests_at held m.flow.pc fits)
 
   -- HI or LO into a register, and two no-ops
-  pub read_leads : (from : MoveFrom) (rd : Register) → word_at code m.flow.pc ≡ Some (word_of (ReadHiLo from rd)) →
+  pub read_climbs : (i : ℕ) → m.flow.pc ≡ pc_of i → (from : MoveFrom) (rd : Register) → word_at code m.flow.pc ≡ Some (word_of (ReadHiLo from rd)) →
       word_at code (m.flow.pc + 4) ≡ Some 0 → word_at code (m.flow.pc + 8) ≡ Some 0 → m.flow.pc + 12 < 2 ^ 32 → 0 < rd.number →
-      Leads (mips_goes code) m b 3 (wrote m rd.number (hilo_of from (data_of m b)) (m.flow.pc + 12)) b
-  read_leads from rd here behind last fits pos =
+      Comes i 3 (wrote m rd.number (hilo_of from (data_of m b)) (m.flow.pc + 12))
+  read_climbs k start from rd here behind last fits pos =
       let i = ReadHiLo from rd in
       let d = data_of m b in
       let pc = m.flow.pc in
@@ -332,8 +335,10 @@ module _ (code : List ℕ) (m : MipsMachine) (b : Bytes) (rest : mips_rests m) w
       let third : mips_goes code two b n b =
       at_flow code two n b b (resting (plus (pc + 8) 4)) (resting (pc + 12)) (ap resting far)
       (no_op_goes code n b (having_read (pc + 8)) last) in
-      leads_first (mips_goes code) m b one b 2 n b first
-      (leads_first (mips_goes code) one b two b 1 n b second (leads_one (mips_goes code) two b n b third))
+      climbs_first (mips_goes code) mips_place k (k + 3) m b one b n b start (omega arith) first
+      (climbs_first (mips_goes code) mips_place (k + 1) (k + 3) one b two b n b (omega (arith, start)) (omega arith) second
+      (climbs_first (mips_goes code) mips_place (k + 1 + 1) (k + 3) two b n b n b (omega (arith, start)) (omega arith) third
+      (climbs_none (mips_goes code) mips_place n b (k + 1 + 1 + 1) (k + 3) (omega arith))))
 
 -- ---- numbers
 

@@ -1,7 +1,7 @@
 -- What the words of questions and jumps do.
 use Rattle.std.proofs.Common.{◌≡◌, ℕ, ◌+◌, ◌-◌, ◌*◌, ◌^◌, ◌<◌, ◌≤◌, List, [], ◌∷◌, ◌++◌, refl, sym, ap, ◌∙◌, arith, cond}
 use Rattle.std.proofs.Common.{true, false}
-use Rattle.std.proofs.Common.{◌≢◌, Some, ⊎_elim, lit<}
+use Rattle.std.proofs.Common.{◌≢◌, Some, ⊎_elim, lit<, subst}
 use Rattle.std.proofs.lemmas.Bool.{cases_lt}
 use Rattle.std.proofs.lemmas.Bool.Decides.{nat_tests}
 use Rattle.std.specs.Prelude.{Bool, if◌then◌else◌, nat_lt, not}
@@ -12,7 +12,7 @@ use Rattle.ec_machine_code.specs.declared.step.Question.{Question}
 use Rattle.ec_machine_code.specs.declared.step.Relation.{Relation}
 use Rattle.ec_machine_code.specs.declared.step.Relation.TheVariants.{Less, Same}
 use Rattle.ec_world.specs.Same.{is_same_truth}
-use Rattle.ec_target.proofs.Running.{leads_append, leads_first, leads_more, leads_one}
+use Rattle.ec_target.proofs.Climbing.{climbs_append, climbs_first, climbs_one, climbs_wider}
 use Rattle.ec_target.specs.Code.{pc_of, word_at}
 use Rattle.rv_isa.specs.Parts.{high_of, low_of}
 use Rattle.rv_isa.specs.declared.field.BranchOffset.{BranchOffset}
@@ -27,7 +27,7 @@ use Rattle.rv_machine.specs.Values.{extended, is_taken, plus}
 use Rattle.rv_machine.specs.declared.machine.RvMachine.{RvMachine}
 use Rattle.rv_code.proofs.Places.{back_at, first_at, front_at, rest_at}
 use Rattle.rv_code.proofs.Results.{Both, Value, both_sources, first_register, second_register, still_seen}
-use Rattle.rv_code.proofs.Runs.{Run, jump_goes, jump_there_goes, x5}
+use Rattle.rv_code.proofs.Runs.{Run, jump_goes, jump_there_goes, pc, x5}
 use Rattle.rv_code.specs.Meaning.{rv_meaning}
 use Rattle.rv_code.specs.Words.{both_words, branch_of, branch_word, distance, far_jump_words, far_words, fetch_size, jump}
 use Rattle.rv_code.specs.Words.{jump_there, jump_words, lui, middle_words, near_words, source_register}
@@ -81,47 +81,39 @@ module _ (code : List ℕ) (f own : ℕ) (v : Sight) where
   Seen m = Sees rv_meaning f own m v.home
 
   -- from a machine that shows the sight to another one, with the same memory
-  abbrev Comes : RvMachine → (size to : ℕ) → Type 0
-  Comes m size to = Ends rv_meaning f own code m v size to v
+  abbrev Comes : RvMachine → (from end to : ℕ) → Type 0
+  Comes m from end to = Ends rv_meaning f own code m v from end to v
 
   -- only the place is another
   seen_at : (m : RvMachine) (pc : ℕ) → Seen m → Seen (moved m pc)
   seen_at m pc g = record { rests = tt; frame = g.frame; owns = g.owns; home = g.home }
 
-  joined : (m : RvMachine) (size i more to all : ℕ) (first : Comes m size i) → Comes first.last more to → all ≡ size + more → Comes m all to
-  joined m size i more to all first second e =
-      let few = first.few in
-      let rest = second.few in
-      record {
-        steps = first.steps + second.steps;
-        last = second.last;
-        leads = leads_append (rv_goes code) m v.bytes first.steps first.last v.bytes second.steps second.last v.bytes
-            first.leads second.leads;
-        few = omega (arith, few, rest, e);
-        at = second.at;
-        sees = second.sees;
-      }
+  joined : (m : RvMachine) (from mid end i to : ℕ) (first : Comes m from mid i) → Comes first.last mid end to → Comes m from end to
+  joined m from mid end i to first second = record {
+    last = second.last;
+    climbs = climbs_append (rv_goes code) pc m v.bytes from mid first.last v.bytes end second.last v.bytes first.climbs second.climbs;
+    at = second.at;
+    sees = second.sees;
+  }
 
   -- ---- jumps
 
   pub jumped : (i to : ℕ) (m : RvMachine) → HasAt code i (jump_words i to) → m.pc ≡ pc_of i → i + 1 ≤ words_end → to ≤ words_end →
-      to < i + 2 ^ 18 → i < to + 2 ^ 18 → Seen m → Comes m 1 to
+      to < i + 2 ^ 18 → i < to + 2 ^ 18 → Seen m → Comes m i (i + 1) to
   jumped i to m has at low high near far g =
       let offset : JumpOffset = record { bits = distance i to; in_range = omega arith; even = omega (arith, near, far) } in
       let target = target_is i to (omega (arith, low)) high near far ∙ ap (λ p. plus p (extended 21 (distance i to))) (sym at) in
       let here = first_at code i (jump (distance i to)) m.pc [] has at in
       let goes = jump_goes code m v.bytes offset (pc_of to) target (omega arith) here in
       record {
-        steps = 1;
         last = moved m (pc_of to);
-        leads = leads_one (rv_goes code) m v.bytes (moved m (pc_of to)) v.bytes goes;
-        few = omega arith;
+        climbs = climbs_one (rv_goes code) pc i m v.bytes (moved m (pc_of to)) v.bytes at goes;
         at = refl;
         sees = seen_at m (pc_of to) g;
       }
 
   pub far_jumped : (i to : ℕ) (m : RvMachine) → HasAt code i (far_jump_words to) → m.pc ≡ pc_of i → i + 2 ≤ words_end → to ≤ words_end →
-      Seen m → Comes m 2 to
+      Seen m → Comes m i (i + 2) to
   far_jumped i to m has at low high g =
       let there = pc_of to in
       let upper : Twenty = record { bits = high_of there; in_range = omega arith } in
@@ -140,10 +132,10 @@ module _ (code : List ℕ) (f own : ℕ) (v : Sight) where
       let last = moved n there in
       let others = λ (q : ℕ) (ne : q ≢ 5). register-wrote_other m 5 high_part q ne in
       record {
-        steps = 2;
         last = last;
-        leads = leads_first (rv_goes code) m v.bytes n v.bytes 1 last v.bytes one (leads_one (rv_goes code) n v.bytes last v.bytes two);
-        few = omega arith;
+        climbs = climbs_first (rv_goes code) pc i (i + 2) m v.bytes n v.bytes last v.bytes at (omega arith) one
+            (climbs_wider (rv_goes code) pc n v.bytes (i + 1) (i + 1 + 1) (i + 1) (i + 2) last v.bytes (omega arith) (omega arith)
+            (climbs_one (rv_goes code) pc (i + 1) n v.bytes last v.bytes at1 two));
         at = refl;
         sees = record {
           rests = tt;
@@ -181,26 +173,24 @@ module _ (code : List ℕ) (f own : ℕ) (f_small : f < most_blocks) (v : Sight)
       ∙ taken_is q.relation wanted (Value code f own f_small v q.left) (Value code f own f_small v q.right)
 
   -- behind the words that bring the sources, a step that changes the place alone
-  ends : (m : RvMachine) (size i to most : ℕ) (r : Run code v.bytes m size i (Fetched m)) (pc : ℕ) →
-      rv_goes code r.last v.bytes (moved r.last pc) v.bytes → pc ≡ pc_of to → size + 1 ≤ most → Seen code f own v m →
-      Comes code f own v m most to
-  ends m size i to most r pc goes at small g =
-      let few = r.few in
-      record {
-        steps = r.steps + 1;
-        last = moved r.last pc;
-        leads = leads_more (rv_goes code) m v.bytes r.steps r.last v.bytes (moved r.last pc) v.bytes r.leads goes;
-        few = omega (arith, few, small);
-        at = at;
-        sees = seen_at code f own v r.last pc (still_seen code f own f_small v m r.last r.is.others g);
-      }
+  ends : (m : RvMachine) (from i end to : ℕ) (r : Run code v.bytes m from i (Fetched m)) (place : ℕ) →
+      rv_goes code r.last v.bytes (moved r.last place) v.bytes → place ≡ pc_of to → i + 1 ≤ end → Seen code f own v m →
+      Comes code f own v m from end to
+  ends m from i end to r place goes at small g = record {
+    last = moved r.last place;
+    climbs = climbs_wider (rv_goes code) pc m v.bytes from (i + 1) from end (moved r.last place) v.bytes (omega arith) small
+        (climbs_append (rv_goes code) pc m v.bytes from i r.last v.bytes (i + 1) (moved r.last place) v.bytes r.climbs
+        (climbs_one (rv_goes code) pc i r.last v.bytes (moved r.last place) v.bytes r.at goes));
+    at = at;
+    sees = seen_at code f own v r.last place (still_seen code f own f_small v m r.last r.is.others g);
+  }
 
   -- where the branch leads to the word itself
   near_end : (t : Bool) → answer ≡ t → (i to : ℕ) (m : RvMachine)
-      (r : Run code v.bytes m (fetch_size q) (i + fetch_size q) (Fetched m)) →
+      (r : Run code v.bytes m i (i + fetch_size q) (Fetched m)) →
       word_at code r.last.pc ≡ Some (branch_word q q.wanted (4 * (to - (i + fetch_size q)))) → i + (fetch_size q + 1) ≤ to →
       to ≤ words_end → to ≤ i + 1023 → Seen code f own v m →
-      Comes code f own v m (fetch_size q + 1) (if t then to else i + (fetch_size q + 1))
+      Comes code f own v m i (i + (fetch_size q + 1)) (if t then to else i + (fetch_size q + 1))
   near_end true e i to m r here forward high near g =
       let from = i + fetch_size q in
       let d = 4 * (to - from) in
@@ -209,7 +199,7 @@ module _ (code : List ℕ) (f own : ℕ) (f_small : f < most_blocks) (v : Sight)
       let there = forward_is r.last.pc from to d r.at (omega (arith, forward)) high refl small in
       let goes = branch_goes code r.last v.bytes (branch_of q.relation q.wanted) left right offset (pc_of to)
       (takes q.wanted m r.last r.is ∙ e) there (omega arith) here in
-      ends m (fetch_size q) from to (fetch_size q + 1) r (pc_of to) goes refl (omega arith) g
+      ends m i from (i + (fetch_size q + 1)) to r (pc_of to) goes refl (omega arith) g
   near_end false e i to m r here forward high near g =
       let from = i + fetch_size q in
       let d = 4 * (to - from) in
@@ -218,11 +208,11 @@ module _ (code : List ℕ) (f own : ℕ) (f_small : f < most_blocks) (v : Sight)
       let offset : BranchOffset = record { bits = d; in_range = omega (arith, small); even = omega arith } in
       let goes = branch_passes code r.last v.bytes (branch_of q.relation q.wanted) left right offset
       (takes q.wanted m r.last r.is ∙ e) here (omega (arith, at1, forward, high)) in
-      ends m (fetch_size q) from (i + (fetch_size q + 1)) (fetch_size q + 1) r (r.last.pc + 4) goes (omega (arith, at1)) (omega arith) g
+      ends m i from (i + (fetch_size q + 1)) (i + (fetch_size q + 1)) r (r.last.pc + 4) goes (omega (arith, at1)) (omega arith) g
 
   pub near : (i to : ℕ) (m : RvMachine) → HasAt code i (near_words q i to) → m.pc ≡ pc_of i → i + (fetch_size q + 1) ≤ to →
       to ≤ words_end → to ≤ i + 1023 → Seen code f own v m →
-      Comes code f own v m (fetch_size q + 1) (if answer then to else i + (fetch_size q + 1))
+      Comes code f own v m i (i + (fetch_size q + 1)) (if answer then to else i + (fetch_size q + 1))
   near i to m has at forward high close g =
       let ws = both_words q.left q.right in
       let u = branch_word q q.wanted (4 * (to - (i + fetch_size q))) in
@@ -234,19 +224,22 @@ module _ (code : List ℕ) (f own : ℕ) (f_small : f < most_blocks) (v : Sight)
   -- where the branch leads past a jump of so many words
   past_end : (t : Bool) → answer ≡ t → (size all : ℕ) (offset : BranchOffset) → offset.bits ≡ 4 * (size + 1) → size ≤ 2 →
       all ≡ fetch_size q + 1 + size → (i to : ℕ) (m : RvMachine)
-      (r : Run code v.bytes m (fetch_size q) (i + fetch_size q) (Fetched m)) →
+      (r : Run code v.bytes m i (i + fetch_size q) (Fetched m)) →
       word_at code r.last.pc ≡ Some (branch_word q (not q.wanted) offset.bits) →
-      ((n : RvMachine) → n.pc ≡ pc_of (i + fetch_size q + 1) → Seen code f own v n → Comes code f own v n size to) → i + all ≤ to →
-      to ≤ words_end → Seen code f own v m → Comes code f own v m all (if t then to else i + all)
+      ((n : RvMachine) → n.pc ≡ pc_of (i + fetch_size q + 1) → Seen code f own v n →
+      Comes code f own v n (i + fetch_size q + 1) (i + fetch_size q + 1 + size) to) → i + all ≤ to →
+      to ≤ words_end → Seen code f own v m → Comes code f own v m i (i + all) (if t then to else i + all)
   past_end true e size all offset long few whole i to m r here jumps forward high g =
       let at1 = r.at in
       let turned = takes (not q.wanted) m r.last r.is ∙ not_wanted q.wanted is_related ∙ ap not e in
       let goes = branch_passes code r.last v.bytes (branch_of q.relation (not q.wanted)) left right offset turned here
       (omega (arith, at1, forward, high, whole)) in
       let on : r.last.pc + 4 ≡ pc_of (i + fetch_size q + 1) = omega (arith, at1) in
-      let first = ends m (fetch_size q) (i + fetch_size q) (i + fetch_size q + 1) (fetch_size q + 1) r (r.last.pc + 4) goes
-      on (omega arith) g in
-      joined code f own v m (fetch_size q + 1) (i + fetch_size q + 1) size to all first (jumps first.last first.at first.sees) whole
+      let first = ends m i (i + fetch_size q) (i + fetch_size q + 1) (i + fetch_size q + 1) r (r.last.pc + 4) goes on (omega arith) g in
+      let sum : i + fetch_size q + 1 + size ≡ i + all = omega (arith, whole) in
+      subst (λ end. Comes code f own v m i end to) sum
+      (joined code f own v m i (i + fetch_size q + 1) (i + fetch_size q + 1 + size) (i + fetch_size q + 1) to first
+      (jumps first.last first.at first.sees))
   past_end false e size all offset long few whole i to m r here jumps forward high g =
       let turned = takes (not q.wanted) m r.last r.is ∙ not_wanted q.wanted is_related ∙ ap not e in
       let d : offset.bits ≡ 4 * ((i + all) - (i + fetch_size q)) = omega (arith, long, whole) in
@@ -254,14 +247,14 @@ module _ (code : List ℕ) (f own : ℕ) (f_small : f < most_blocks) (v : Sight)
       (omega (arith, long, few)) in
       let goes = branch_goes code r.last v.bytes (branch_of q.relation (not q.wanted)) left right offset (pc_of (i + all)) turned there
       (omega arith) here in
-      ends m (fetch_size q) (i + fetch_size q) (i + all) all r (pc_of (i + all)) goes refl (omega (arith, whole)) g
+      ends m i (i + fetch_size q) (i + all) (i + all) r (pc_of (i + all)) goes refl (omega (arith, whole)) g
 
   past : (size all : ℕ) (offset : BranchOffset) → offset.bits ≡ 4 * (size + 1) → size ≤ 2 → all ≡ fetch_size q + 1 + size →
       (i to : ℕ) (m : RvMachine) (jump : List ℕ) →
       HasAt code i (both_words q.left q.right ++ branch_word q (not q.wanted) offset.bits ∷ jump) → m.pc ≡ pc_of i →
       (HasAt code (i + fetch_size q + 1) jump → (n : RvMachine) → n.pc ≡ pc_of (i + fetch_size q + 1) → Seen code f own v n →
-      Comes code f own v n size to) → i + all ≤ to → to ≤ words_end → Seen code f own v m →
-      Comes code f own v m all (if answer then to else i + all)
+      Comes code f own v n (i + fetch_size q + 1) (i + fetch_size q + 1 + size) to) → i + all ≤ to → to ≤ words_end →
+      Seen code f own v m → Comes code f own v m i (i + all) (if answer then to else i + all)
   past size all offset long few whole i to m jump has at jumps forward high g =
       let ws = both_words q.left q.right in
       let u = branch_word q (not q.wanted) offset.bits in
@@ -273,7 +266,7 @@ module _ (code : List ℕ) (f own : ℕ) (f_small : f < most_blocks) (v : Sight)
 
   pub middle : (i to : ℕ) (m : RvMachine) → HasAt code i (middle_words q i to) → m.pc ≡ pc_of i → i + (fetch_size q + 2) ≤ to →
       to ≤ words_end → to < i + 2 ^ 18 → Seen code f own v m →
-      Comes code f own v m (fetch_size q + 2) (if answer then to else i + (fetch_size q + 2))
+      Comes code f own v m i (i + (fetch_size q + 2)) (if answer then to else i + (fetch_size q + 2))
   middle i to m has at forward high close g =
       past 1 (fetch_size q + 2) eight refl (omega arith) (omega arith) i to m (jump_words (i + fetch_size q + 1) to) has at
       (λ jump n on seen.
@@ -283,7 +276,7 @@ module _ (code : List ℕ) (f own : ℕ) (f_small : f < most_blocks) (v : Sight)
 
   pub far : (i to : ℕ) (m : RvMachine) → HasAt code i (far_words q to) → m.pc ≡ pc_of i → i + (fetch_size q + 3) ≤ to →
       to ≤ words_end → Seen code f own v m →
-      Comes code f own v m (fetch_size q + 3) (if answer then to else i + (fetch_size q + 3))
+      Comes code f own v m i (i + (fetch_size q + 3)) (if answer then to else i + (fetch_size q + 3))
   far i to m has at forward high g =
       past 2 (fetch_size q + 3) twelve refl (omega arith) (omega arith) i to m (far_jump_words to) has at
       (λ jump n on seen. far_jumped code f own v (i + fetch_size q + 1) to n jump on (omega (arith, forward, high)) high seen)

@@ -15,7 +15,7 @@ use Rattle.ec_machine_code.specs.Micro.{CanFind, HasHome, Sight, found, gets, or
 use Rattle.ec_machine_code.specs.Speaks.{Ends, HasAt, Sees, words_end}
 use Rattle.ec_machine_code.specs.declared.step.Source.{Source}
 use Rattle.ec_machine_code.specs.declared.step.Source.TheVariants.{Home, Word}
-use Rattle.ec_target.proofs.Running.{leads_more}
+use Rattle.ec_target.proofs.Climbing.{climbs_append, climbs_one, climbs_wider}
 use Rattle.ec_target.specs.Code.{pc_of, word_at}
 use Rattle.rv_isa.specs.Parts.{low_of}
 use Rattle.rv_isa.specs.declared.field.Register.{Register}
@@ -29,7 +29,7 @@ use Rattle.rv_machine.specs.Values.{extended, immediate_value, operation_value, 
 use Rattle.rv_machine.specs.declared.machine.RvMachine.{RvMachine}
 use Rattle.rv_code.proofs.NumbersLemmas.{from_base, same_or_not}
 use Rattle.rv_code.proofs.Places.{back_at, first_at, front_at}
-use Rattle.rv_code.proofs.Runs.{Run, joined, load_step, no_run, one_more, sized, store_step, weaker, x0, x5, x6, x8}
+use Rattle.rv_code.proofs.Runs.{Run, joined, load_step, no_run, one_more, pc, sized, store_step, weaker, x0, x5, x6, x8}
 use Rattle.rv_code.proofs.SourcesLemmas.{Fetched, got}
 use Rattle.rv_code.specs.Meaning.{rv_meaning}
 use Rattle.rv_code.specs.Words.{both_words, lui, lw, on_number, on_registers, slot_offset, source_register, source_words, sw}
@@ -55,13 +55,13 @@ module _ (code : List ℕ) (f own : ℕ) (f_small : f < most_blocks) (v : Sight)
   abbrev pub Brings : List ℕ → (RvMachine → RvMachine → Type 0) → Type 0
   Brings ws P =
       (i : ℕ) (m : RvMachine) → HasAt code i ws → m.pc ≡ pc_of i → i + length ws ≤ words_end → Seen m →
-      Run code v.bytes m (length ws) (i + length ws) (P m)
+      Run code v.bytes m i (i + length ws) (P m)
 
   -- behind these words it shows another sight
   abbrev pub Leaves : List ℕ → Sight → Type 0
   Leaves ws after =
       (i : ℕ) (m : RvMachine) → HasAt code i ws → m.pc ≡ pc_of i → i + length ws ≤ words_end → Seen m →
-      Ends rv_meaning f own code m v (length ws) (i + length ws) after
+      Ends rv_meaning f own code m v i (i + length ws) (i + length ws) after
 
   -- the registers that a sight shows are as they were
   pub still_seen : (m n : RvMachine) → ((q : ℕ) → q ≢ 5 → q ≢ 6 → rv_register n q ≡ rv_register m q) → Seen m → Seen n
@@ -109,7 +109,7 @@ module _ (code : List ℕ) (f own : ℕ) (f_small : f < most_blocks) (v : Sight)
 
   pub one_source : (x : Source) → Has x → Brings (source_words 5 x) (Holds (source_register 5 x) (Value x) 5)
   one_source x can i m has at room g =
-      weaker code v.bytes m (length (source_words 5 x)) (i + length (source_words 5 x))
+      weaker code v.bytes m i (i + length (source_words 5 x))
       (Fetched 5 (source_register 5 x) (Value x) m) (Holds (source_register 5 x) (Value x) 5 m)
       (λ n p. record { holds = p.holds; others = λ q five six t. p.others q five })
       (got code f own f_small v.home v.bytes x5 (omega arith) x can i m has at room g)
@@ -131,15 +131,14 @@ module _ (code : List ℕ) (f own : ℕ) (f_small : f < most_blocks) (v : Sight)
       let seen = still_seen m n (λ q five six. p.others q five six five) g in
       let second = got code f own f_small v.home v.bytes x6 (omega arith) y can_y (i + length xs) n (back_at code i xs ys has) first.at
       (omega (arith, room, long)) seen in
-      let done = weaker code v.bytes n (length ys) (i + length xs + length ys) (Fetched 6 (source_register 6 y) (Value y) n) (Both x y m)
+      let done = weaker code v.bytes n (i + length xs) (i + length xs + length ys) (Fetched 6 (source_register 6 y) (Value y) n) (Both x y m)
       (λ t e. record {
         left = e.others (source_register 5 x) (not_second x) ∙ p.holds;
         right = e.holds;
         others = λ q five six. e.others q six ∙ p.others q five six five;
       }) second in
-      sized code v.bytes m (length xs + length ys) (i + length xs + length ys) (length (xs ++ ys)) (i + length (xs ++ ys)) (Both x y m)
-      (sym long) (omega (arith, long))
-      (joined code v.bytes m (length xs) (i + length xs) (length ys) (i + length xs + length ys)
+      sized code v.bytes m i (i + length xs + length ys) (i + length (xs ++ ys)) (Both x y m) (omega (arith, long))
+      (joined code v.bytes m i (i + length xs) (i + length xs + length ys)
       (Holds (source_register 5 x) (Value x) 5 m) (Both x y m) first done)
 
   -- ---- an instruction behind what words brought
@@ -157,9 +156,8 @@ module _ (code : List ℕ) (f own : ℕ) (f_small : f < most_blocks) (v : Sight)
       let here = first_at code (i + length ws) u n.pc [] (back_at code i ws (u ∷ []) has) at1 in
       let step = goes m n g first.is here (omega (arith, at1, room, long)) in
       let low : rd.number < 32 = (let h = rd.in_range in omega (arith, h)) in
-      sized code v.bytes m (length ws + 1) (i + length ws + 1) (length (ws ++ u ∷ [])) (i + length (ws ++ u ∷ []))
-      (Holds rd.number w rd.number m) (sym long) (omega (arith, long))
-      (one_more code v.bytes m (length ws) (i + length ws) (P m) (Holds rd.number w rd.number m) first (wrote n rd.number w) step refl
+      sized code v.bytes m i (i + length ws + 1) (i + length (ws ++ u ∷ [])) (Holds rd.number w rd.number m) (omega (arith, long))
+      (one_more code v.bytes m i (i + length ws) (P m) (Holds rd.number w rd.number m) first (wrote n rd.number w) step refl
       (record {
         holds = register-wrote_same n rd.number w pos low;
         others = λ q five six t. register-wrote_other n rd.number w q t ∙ same m n first.is q five six t;
@@ -221,7 +219,7 @@ module _ (code : List ℕ) (f own : ℕ) (f_small : f < most_blocks) (v : Sight)
       Brings (lw rd.number base.number offset.bits ∷ []) (Holds rd.number (or_zero (word_in little_number v.bytes at)) rd.number)
   loaded rd base offset at pos even there is =
       register_next [] Nothing (lw rd.number base.number offset.bits) (or_zero (word_in little_number v.bytes at)) rd pos
-      (λ i m has pc room g. no_run code v.bytes m (i + 0) (Nothing m) (omega (arith, pc)) (record { same = λ q. refl }))
+      (λ i m has pc room g. no_run code v.bytes m i (i + 0) (Nothing m) (omega arith) (omega (arith, pc)) (record { same = λ q. refl }))
       (λ m n p q five six t. p.same q)
       (λ m n g p here fits.
       load_step code n v.bytes rd base offset at
@@ -232,7 +230,7 @@ module _ (code : List ℕ) (f own : ℕ) (f_small : f < most_blocks) (v : Sight)
       Brings (lui rd.number high.bits ∷ []) (Holds rd.number (high.bits * 2 ^ 12) rd.number)
   upper rd high pos =
       register_next [] Nothing (lui rd.number high.bits) (high.bits * 2 ^ 12) rd pos
-      (λ i m has pc room g. no_run code v.bytes m (i + 0) (Nothing m) (omega (arith, pc)) (record { same = λ q. refl }))
+      (λ i m has pc room g. no_run code v.bytes m i (i + 0) (Nothing m) (omega arith) (omega (arith, pc)) (record { same = λ q. refl }))
       (λ m n p q five six t. p.same q)
       (λ m n g p here fits. lui_goes code n v.bytes rd high here fits pos)
 
@@ -245,10 +243,8 @@ module _ (code : List ℕ) (f own : ℕ) (f_small : f < most_blocks) (v : Sight)
       let run = brings i m has at room g in
       let p = run.is in
       record {
-        steps = run.steps;
         last = run.last;
-        leads = run.leads;
-        few = run.few;
+        climbs = run.climbs;
         at = run.at;
         sees = record {
           rests = tt;
@@ -271,23 +267,23 @@ module _ (code : List ℕ) (f own : ℕ) (f_small : f < most_blocks) (v : Sight)
       HasWord v.bytes at → ((m : RvMachine) → Seen m → at ≡ plus (rv_register m base.number) (extended 12 offset.bits)) →
       Leaves (ws ++ sw rs.number base.number offset.bits ∷ [])
       (record { home = v.home; bytes = with_bytes v.bytes at (little_bytes 4 w) })
-  stored rs base offset at w ws brings even there is i m has pc room g =
+  stored rs base offset at w ws brings even there is i m has start room g =
       let u = sw rs.number base.number offset.bits in
       let long : length (ws ++ u ∷ []) ≡ length ws + 1 = length-append ws (u ∷ []) in
-      let run = brings i m (front_at code i ws (u ∷ []) has) pc (omega (arith, room, long)) g in
+      let run = brings i m (front_at code i ws (u ∷ []) has) start (omega (arith, room, long)) g in
       let n = run.last in
       let p = run.is in
       let at1 = run.at in
-      let few1 = run.few in
       let seen = still_seen m n (λ q five six. p.others q five six five) g in
       let here = first_at code (i + length ws) u n.pc [] (back_at code i ws (u ∷ []) has) at1 in
       let bytes = with_bytes v.bytes at (little_bytes 4 w) in
       let goes = store_step code n v.bytes rs base offset at w (is n seen) even there p.holds here (omega (arith, at1, room, long)) in
       record {
-        steps = run.steps + 1;
         last = passed n;
-        leads = leads_more (rv_goes code) m v.bytes run.steps n v.bytes (passed n) bytes run.leads goes;
-        few = omega (arith, few1, long);
+        climbs = climbs_wider (rv_goes code) pc m v.bytes i (i + length ws + 1) i (i + length (ws ++ u ∷ [])) (passed n) bytes
+            (omega arith) (omega (arith, long))
+            (climbs_append (rv_goes code) pc m v.bytes i (i + length ws) n v.bytes (i + length ws + 1) (passed n) bytes run.climbs
+            (climbs_one (rv_goes code) pc (i + length ws) n v.bytes (passed n) bytes at1 goes));
         at = omega (arith, at1, long);
         sees = record { rests = tt; frame = seen.frame; owns = seen.owns; home = seen.home };
       }

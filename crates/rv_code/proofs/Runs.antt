@@ -9,9 +9,9 @@ use Rattle.byteorder.specs.Endian.{little_bytes, little_number}
 use Rattle.ec_base.specs.Bytes.{Bytes, bytes_from, with_bytes}
 use Rattle.ec_memory.specs.Words.{HasWord, word_in}
 use Rattle.ec_machine_code.specs.Micro.{or_zero}
-use Rattle.ec_target.proofs.Running.{leads_append, leads_more, leads_none}
+use Rattle.ec_target.proofs.Climbing.{climbs_append, climbs_none, climbs_one, climbs_wider}
 use Rattle.ec_target.specs.Code.{pc_of, word_at}
-use Rattle.ec_target.specs.Runs.{Leads}
+use Rattle.ec_target.specs.Paths.{Climbs}
 use Rattle.ec_target.specs.declared.outcome.Cause.TheVariants.{Unaligned}
 use Rattle.rv_isa.specs.Words.{word_of}
 use Rattle.rv_isa.specs.declared.field.JumpOffset.{JumpOffset}
@@ -45,56 +45,52 @@ x9 = record { number = 9; in_range = lit< tt }
 
 -- ---- runs
 
+abbrev pub pc : RvMachine → ℕ
+pc m = m.pc
+
 module _ (code : List ℕ) (b : Bytes) where
-  -- From a machine, in at most so many steps that leave the memory, to one at a word, of which something holds.
-  pub record Run (m : RvMachine) (size to : ℕ) (P : RvMachine → Type 0) : Type 0 where
-    pub steps : ℕ
+  -- From a machine, by words that rise from word `from` on and lie below word `to`, to one at that word, of which something holds. The
+  -- memory is left.
+  pub record Run (m : RvMachine) (from to : ℕ) (P : RvMachine → Type 0) : Type 0 where
     pub last : RvMachine
-    pub leads : Leads (rv_goes code) m b steps last b
-    pub few : steps ≤ size
+    pub climbs : Climbs (rv_goes code) pc m b from to last b
     pub at : last.pc ≡ pc_of to
     pub is : P last
 
-  abbrev pub no_run : (m : RvMachine) (to : ℕ) (P : RvMachine → Type 0) → m.pc ≡ pc_of to → P m → Run m 0 to P
-  no_run m to P at is = record { steps = 0; last = m; leads = leads_none (rv_goes code) m b; few = omega arith; at = at; is = is }
+  abbrev pub no_run : (m : RvMachine) (from to : ℕ) (P : RvMachine → Type 0) → from ≤ to → m.pc ≡ pc_of to → P m → Run m from to P
+  no_run m from to P rise at is = record { last = m; climbs = climbs_none (rv_goes code) pc m b from to rise; at = at; is = is }
 
   -- one instruction behind a run
-  abbrev pub one_more : (m : RvMachine) (size to : ℕ) (P Q : RvMachine → Type 0) (r : Run m size to P) (n : RvMachine) →
-      rv_goes code r.last b n b → n.pc ≡ r.last.pc + 4 → Q n → Run m (size + 1) (to + 1) Q
-  one_more m size to P Q r n goes on is = record {
-    steps = r.steps + 1;
+  abbrev pub one_more : (m : RvMachine) (from to : ℕ) (P Q : RvMachine → Type 0) (r : Run m from to P) (n : RvMachine) →
+      rv_goes code r.last b n b → n.pc ≡ r.last.pc + 4 → Q n → Run m from (to + 1) Q
+  one_more m from to P Q r n goes on is = record {
     last = n;
-    leads = leads_more (rv_goes code) m b r.steps r.last b n b r.leads goes;
-    few = (let few = r.few in omega (arith, few));
+    climbs = climbs_append (rv_goes code) pc m b from to r.last b (to + 1) n b r.climbs
+        (climbs_one (rv_goes code) pc to r.last b n b r.at goes);
     at = (let at = r.at in omega (arith, at, on));
     is = is;
   }
 
   -- a run behind another
-  pub joined : (m : RvMachine) (size to more on : ℕ) (P Q : RvMachine → Type 0) (r : Run m size to P) → Run r.last more on Q →
-      Run m (size + more) on Q
-  joined m size to more on P Q r s = record {
-    steps = r.steps + s.steps;
+  pub joined : (m : RvMachine) (from to on : ℕ) (P Q : RvMachine → Type 0) (r : Run m from to P) → Run r.last to on Q → Run m from on Q
+  joined m from to on P Q r s = record {
     last = s.last;
-    leads = leads_append (rv_goes code) m b r.steps r.last b s.steps s.last b r.leads s.leads;
-    few = (let few = r.few in let rest = s.few in omega (arith, few, rest));
+    climbs = climbs_append (rv_goes code) pc m b from to r.last b on s.last b r.climbs s.climbs;
     at = s.at;
     is = s.is;
   }
 
   -- the same run, of which something else is said
-  pub sized : (m : RvMachine) (size to other on : ℕ) (P : RvMachine → Type 0) → size ≡ other → to ≡ on → Run m size to P → Run m other on P
-  sized m size to other on P e f r = record {
-    steps = r.steps;
+  pub sized : (m : RvMachine) (from to on : ℕ) (P : RvMachine → Type 0) → to ≡ on → Run m from to P → Run m from on P
+  sized m from to on P e r = record {
     last = r.last;
-    leads = r.leads;
-    few = (let few = r.few in omega (arith, few, e));
-    at = r.at ∙ ap pc_of f;
+    climbs = climbs_wider (rv_goes code) pc m b from to from on r.last b (omega arith) (omega (arith, e)) r.climbs;
+    at = r.at ∙ ap pc_of e;
     is = r.is;
   }
 
-  pub weaker : (m : RvMachine) (size to : ℕ) (P Q : RvMachine → Type 0) → ((n : RvMachine) → P n → Q n) → Run m size to P → Run m size to Q
-  weaker m size to P Q f r = record { steps = r.steps; last = r.last; leads = r.leads; few = r.few; at = r.at; is = f r.last r.is }
+  pub weaker : (m : RvMachine) (from to : ℕ) (P Q : RvMachine → Type 0) → ((n : RvMachine) → P n → Q n) → Run m from to P → Run m from to Q
+  weaker m from to P Q f r = record { last = r.last; climbs = r.climbs; at = r.at; is = f r.last r.is }
 
 -- ---- loads, stores and jumps
 

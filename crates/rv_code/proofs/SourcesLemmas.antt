@@ -38,7 +38,7 @@ module _ (code : List ℕ) (b : Bytes) (r : Register) (pos : 0 < r.number) where
   abbrev Gets : ℕ → List ℕ → Type 0
   Gets n ws =
       (i : ℕ) (m : RvMachine) → HasAt code i ws → m.pc ≡ pc_of i → i + length ws ≤ words_end →
-      Run code b m (length ws) (i + length ws) (Fetched r.number r.number n m)
+      Run code b m i (i + length ws) (Fetched r.number r.number n m)
 
   wrote_fetched : (m n : RvMachine) (w : ℕ) → ((q : ℕ) → q ≢ r.number → rv_register n q ≡ rv_register m q) →
       Fetched r.number r.number w m (wrote n r.number w)
@@ -52,7 +52,7 @@ module _ (code : List ℕ) (b : Bytes) (r : Register) (pos : 0 < r.number) where
       let lower : Twelve = record { bits = low_of n; in_range = omega arith } in
       let here = first_at code i (on_number Addi r.number 0 (low_of n)) m.pc [] has at in
       let goes = immediate_goes code m b Addi r x0 lower here (omega (arith, at, room)) pos in
-      one_more code b m 0 i (λ n. n ≡ m) (Fetched r.number r.number n m) (no_run code b m i (λ n. n ≡ m) at refl) (wrote m r.number n)
+      one_more code b m i i (λ n. n ≡ m) (Fetched r.number r.number n m) (no_run code b m i i (λ n. n ≡ m) (omega arith) at refl) (wrote m r.number n)
       (subst (λ x. rv_goes code m b (wrote m r.number x) b) (added_to_none n low small) goes) refl
       (wrote_fetched m m n (λ q ne. refl))
 
@@ -62,7 +62,7 @@ module _ (code : List ℕ) (b : Bytes) (r : Register) (pos : 0 < r.number) where
       let z = is_none (low_of n) none in
       let here = first_at code i (lui r.number (high_of n)) m.pc [] has at in
       let goes = lui_goes code m b r high here (omega (arith, at, room)) pos in
-      one_more code b m 0 i (λ n. n ≡ m) (Fetched r.number r.number n m) (no_run code b m i (λ n. n ≡ m) at refl) (wrote m r.number n)
+      one_more code b m i i (λ n. n ≡ m) (Fetched r.number r.number n m) (no_run code b m i i (λ n. n ≡ m) (omega arith) at refl) (wrote m r.number n)
       (subst (λ x. rv_goes code m b (wrote m r.number x) b) (high_alone n low z) goes) refl
       (wrote_fetched m m n (λ q ne. refl))
 
@@ -81,12 +81,12 @@ module _ (code : List ℕ) (b : Bytes) (r : Register) (pos : 0 < r.number) where
       let holds = register-wrote_same m r.number upper pos (let h = r.in_range in omega (arith, h)) in
       let sum : plus (rv_register m1 r.number) (extended 12 (low_of n)) ≡ n =
       ap (λ x. plus x (extended 12 (low_of n))) holds ∙ high_low n low in
-      let start = no_run code b m i (λ n. n ≡ m) at refl in
-      let one = one_more code b m 0 i (λ n. n ≡ m) (λ n. n ≡ m1) start m1 first refl refl in
-      let two = one_more code b m 1 (i + 1) (λ n. n ≡ m1) (Fetched r.number r.number n m) one (wrote m1 r.number n)
+      let start = no_run code b m i i (λ n. n ≡ m) (omega arith) at refl in
+      let one = one_more code b m i i (λ n. n ≡ m) (λ n. n ≡ m1) start m1 first refl refl in
+      let two = one_more code b m i (i + 1) (λ n. n ≡ m1) (Fetched r.number r.number n m) one (wrote m1 r.number n)
       (subst (λ x. rv_goes code m1 b (wrote m1 r.number x) b) sum second) refl
       (wrote_fetched m m1 n (λ q ne. register-wrote_other m r.number upper q ne)) in
-      sized code b m 2 (i + 1 + 1) 2 (i + 2) (Fetched r.number r.number n m) refl (omega arith) two
+      sized code b m i (i + 1 + 1) (i + 2) (Fetched r.number r.number n m) (omega arith) two
 
   number_by : (n : ℕ) → n < 2 ^ 32 → (s z : Bool) → is_small n ≡ s → (low_of n == 0) ≡ z →
       Gets n (if s then
@@ -110,11 +110,11 @@ module _ (code : List ℕ) (f own : ℕ) (f_small : f < most_blocks) (home : ℕ
   abbrev Brings : (x w : ℕ) → List ℕ → Type 0
   Brings x w ws =
       (i : ℕ) (m : RvMachine) → HasAt code i ws → m.pc ≡ pc_of i → i + length ws ≤ words_end → Sees rv_meaning f own m home →
-      Run code b m (length ws) (i + length ws) (Fetched r.number x w m)
+      Run code b m i (i + length ws) (Fetched r.number x w m)
 
-  none_needed : (x w i : ℕ) (m : RvMachine) → m.pc ≡ pc_of i → rv_register m x ≡ w → Run code b m 0 (i + 0) (Fetched r.number x w m)
+  none_needed : (x w i : ℕ) (m : RvMachine) → m.pc ≡ pc_of i → rv_register m x ≡ w → Run code b m i (i + 0) (Fetched r.number x w m)
   none_needed x w i m at is =
-      no_run code b m (i + 0) (Fetched r.number x w m) (omega (arith, at)) (record { holds = is; others = λ q ne. refl })
+      no_run code b m i (i + 0) (Fetched r.number x w m) (omega arith) (omega (arith, at)) (record { holds = is; others = λ q ne. refl })
 
   by_slot : (n : ℕ) → CanFind rv_meaning f own (Home (Slot n)) home b →
       Brings r.number (Value (Home (Slot n))) (source_words r.number (Home (Slot n)))
@@ -126,7 +126,8 @@ module _ (code : List ℕ) (f own : ℕ) (f_small : f < most_blocks) (home : ℕ
       let is = from_base (rv_register m 8) f (28 + n) (slot_offset n) (slot_at f n) g.frame f_small (omega (arith, few))
       (omega arith) refl in
       let goes = load_step code m b r x8 offset (slot_at f n) is (omega arith) can.0.1 here (omega (arith, at, room)) pos in
-      one_more code b m 0 i (λ n. n ≡ m) (Fetched r.number r.number w m) (no_run code b m i (λ n. n ≡ m) at refl) (wrote m r.number w)
+      one_more code b m i i (λ n. n ≡ m) (Fetched r.number r.number w m) (no_run code b m i i (λ n. n ≡ m) (omega arith) at refl)
+      (wrote m r.number w)
       goes refl
       (record {
         holds = register-wrote_same m r.number w pos (let h = r.in_range in omega (arith, h));

@@ -48,7 +48,7 @@ module _ (code : List ℕ) (f own : ℕ) (f_small : f < most_blocks) (own_small 
 
   number_gets : (rd : Register) → 0 < rd.number → (n : ℕ) → n < 2 ^ 32 → Gets (number_words rd.number n) rd.number n
   number_gets rd pos n low i m has at room g =
-      weaker code v.bytes m (length (number_words rd.number n)) (i + length (number_words rd.number n))
+      weaker code v.bytes m i (i + length (number_words rd.number n))
       (Fetched rd.number rd.number n m) (Holds rd.number n rd.number m)
       (λ t p. record { holds = p.holds; others = λ q five six ne. p.others q ne })
       (number code v.bytes rd pos n low i m has at room)

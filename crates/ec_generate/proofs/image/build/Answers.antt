@@ -1,64 +1,20 @@
-use Rattle.std.proofs.Common.{◌≡◌, ◌≤◌, ap, sym, subst, length, arith}
-use Rattle.ec_machine_code.specs.Faithful.{Faithful}
-use Rattle.ec_generate.proofs.Few.{has_few}
-use Rattle.ec_generate.proofs.LaidOut.{can_be_laid_out}
+use Rattle.std.proofs.Common.{◌≡◌, ap, sym, subst}
 use Rattle.ec_generate.proofs.image.build.Goals as goal
 use Rattle.ec_generate.specs.Fits.{EachFits}
-use Rattle.ec_machine_code.proofs.Faithful.{faithful}
-use Rattle.ec_machine_code.specs.declared.code.Code.{Code}
-use Rattle.ec_machine_code.proofs.Fitted.{each_fit}
-use Rattle.ec_machine_code.proofs.Programs.{long_is}
-use Rattle.ec_machine_code.specs.Speaks.{words_end}
-use Rattle.ec_generate.specs.Addresses.{AreApart, HasFew}
 use Rattle.ec_generate.specs.Tables.{all_homes}
+use Rattle.ec_machine_code.specs.Once.{FaithfulOnce}
 
 pub bind-requires-clause-apart : goal.bind-requires-clause-apart
-bind-requires-clause-apart g c =
-    let vs = g.K.Kind.vocabularies in
-    let p = c.args.parts.now in
-    let homes = all_homes c.in_ok-table.table.operations in
-    let can =
-    can_be_laid_out g.M.Target.meaning vs homes c.requires.fine.0 p g.K.Kind.homes c.requires.near c.requires.middle c.requires.far
-    c.requires.homes c.requires.fine.1 c.requires.numbers c.in_ok-code.ensures.fit c.in_ok-code.ensures.room in
-    let is = faithful g.M.Target.meaning vs homes c.requires.fine.0 p can in
-    subst AreApart (sym c.in_ok-code.ensures.code) is.apart
-
-pub bind-requires-clause-few : goal.bind-requires-clause-few
-bind-requires-clause-few g c =
-    subst HasFew (sym c.in_ok-code.ensures.code)
-    (has_few g.K.Kind.vocabularies (all_homes c.in_ok-table.table.operations) c.args.parts.now c.requires.limits)
+bind-requires-clause-apart g c = c.in_ok-code.ensures.faithful.faithful.apart
 
 pub returns-clause-faithful : goal.returns-clause-faithful
 returns-clause-faithful g c =
-    let vs = g.K.Kind.vocabularies in
     let p = c.args.parts.now in
-    let homes = all_homes c.in_ok-table.table.operations in
-    let can =
-    can_be_laid_out g.M.Target.meaning vs homes c.requires.fine.0 p g.K.Kind.homes c.requires.near c.requires.middle c.requires.far
-    c.requires.homes c.requires.fine.1 c.requires.numbers c.in_ok-code.ensures.fit c.in_ok-code.ensures.room in
-    let is = faithful g.M.Target.meaning vs homes c.requires.fine.0 p can in
-    let same : all_homes c.bind.new.self.operations ≡ homes = ap all_homes c.in_ok-bind.ensures.operations in
-    subst (λ h. Faithful g.M.Target.meaning p c.in_ok-code.code h) (sym same)
-    (subst (λ code. Faithful g.M.Target.meaning p code homes) (sym c.in_ok-code.ensures.code) is)
+    let same : all_homes c.bind.new.self.operations ≡ all_homes c.in_ok-table.table.operations = ap all_homes c.in_ok-bind.ensures.operations in
+    subst (λ h. FaithfulOnce g.M.Target.meaning p c.in_ok-code.code h) (sym same) c.in_ok-code.ensures.faithful
 
 pub returns-clause-met : goal.returns-clause-met
 returns-clause-met g c = λ d fine rests few.
-    let vs = g.K.Kind.vocabularies in
     let p = c.args.parts.now in
-    let homes = all_homes c.in_ok-table.table.operations in
-    let can =
-    can_be_laid_out g.M.Target.meaning vs homes d p g.K.Kind.homes c.requires.near c.requires.middle c.requires.far c.requires.homes fine
-    c.requires.numbers c.in_ok-code.ensures.fit c.in_ok-code.ensures.room in
-    let same : all_homes c.bind.new.self.operations ≡ homes = ap all_homes c.in_ok-bind.ensures.operations in
-    subst (λ h. EachFits g.M.Target.meaning p c.in_ok-code.code h) (sym same)
-    (subst (λ code. EachFits g.M.Target.meaning p code homes) (sym c.in_ok-code.ensures.code)
-    (each_fit g.M.Target.meaning vs homes d p can rests few))
-
-pub returns-clause-few : goal.returns-clause-few
-returns-clause-few g c =
-    let vs = g.K.Kind.vocabularies in
-    let p = c.args.parts.now in
-    let homes = all_homes c.in_ok-table.table.operations in
-    let long = long_is g.M.Target.meaning vs c.requires.near c.requires.middle c.requires.far homes 0 0 p.operations in
-    let low = c.in_ok-code.ensures.room.low in
-    subst (λ (code : Code). length code.words ≤ words_end) (sym c.in_ok-code.ensures.code) (omega arith)
+    let same : all_homes c.bind.new.self.operations ≡ all_homes c.in_ok-table.table.operations = ap all_homes c.in_ok-bind.ensures.operations in
+    subst (λ h. EachFits g.M.Target.meaning p c.in_ok-code.code h) (sym same) (c.in_ok-code.ensures.met d fine rests few)

@@ -1,10 +1,11 @@
 use Rattle.std.proofs.Common.{ℕ, ◌≤◌, List, sym, ◌∙◌, subst, arith}
 use Rattle.ec_machine_code.specs.Machine.{MachineMeaning}
 use Rattle.ec_legs.specs.Kinds.{AreHomeRegisters}
+use Rattle.ec_legs.specs.Machines.{IsUntouched}
 use Rattle.ec_legs.proofs.GoingLemmas.{comes_to_stop, frame_here, halts_here, leg_here, names_object, names_stop, no_trap_here}
 use Rattle.ec_legs.proofs.legs.go_on.Goals as goal
 use Rattle.ec_world.specs.declared.key.Key.TheVariants.{Frame}
-use Rattle.ec_stores.specs.Node.{bytes_in, store_of}
+use Rattle.ec_stores.specs.Node.{KeepsBytes, bytes_in, store_of}
 use Rattle.ec_target.specs.Runs.{Halts, Leads, Native}
 
 few_homes : {S : Type 0} (M : MachineMeaning S) (registers frame own first homes : ℕ) →
@@ -103,7 +104,7 @@ returns-clause-leg g c = λ d p homes common a o is step shows.
     c.kind-tidy.ensures.tidy c.runs_on-before.ensures.small c.runs_on-before.ensures.words u c.go_behind_stop.ensures
     g.M.Machine.kind g.M.Machine.goes g.M.Machine.stops g.M.Machine.traps g.M.Machine.register g.M.Machine.place g.M.Machine.rests
     g.met.N.NativeKind.means g.met.M.Machine.one_way g.met.M.Machine.apart c.in-Ok.steps to memory native
-    (store_of c.run.new.self) (store_of c.rest_at.new.node) c.in-Ok.ensures.ran c.runs_on-between.ensures.words c.rest_at.ensures
+    (store_of c.run.new.self) (store_of c.rest_at.new.node) c.in-Ok.ensures.ran c.runs_on-between.ensures.words c.rest_at.ensures.rests
     c.kind-after.ensures.tidy
 
 pub returns-clause-native : goal.returns-clause-native
@@ -122,5 +123,9 @@ returns-clause-native g c =
           memory)
           c.as_slice.ensures c.in-Ok.ensures.ok;
       counted = c.in-Ok.ensures.ran;
-      rests = c.rest_at.ensures;
+      lists = c.run.ensures.lists;
+      rests = c.rest_at.ensures.rests;
+      bytes =
+          subst (λ n. KeepsBytes c.run.new.self c.rest_at.new.node (Frame c.args.process c.args.depth) (IsUntouched n))
+          (sym g.met.N.NativeKind.registers.homes_are) c.rest_at.ensures.bytes;
     }

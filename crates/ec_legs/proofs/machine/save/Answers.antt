@@ -1,10 +1,10 @@
 use Rattle.std.proofs.Common.{◌≡◌, ◌+◌, ℕ, sym, ap, ◌∙◌, subst, arith}
-use Rattle.ec_legs.proofs.Keeping.{frame_kept, owns_word}
-use Rattle.ec_legs.proofs.Registers.{saves_more, saves_none}
+use Rattle.ec_legs.proofs.Keeping.{bytes_none, frame_kept, owns_word}
+use Rattle.ec_legs.proofs.Registers.{bytes_saved, saves_more, saves_none}
 use Rattle.ec_legs.proofs.machine.save.Goals as goal
 use Rattle.ec_legs.specs.Machines.{IsUnsaved, Saves}
 use Rattle.ec_world.specs.declared.key.Key.TheVariants.{Frame}
-use Rattle.ec_stores.specs.Node.{store_of}
+use Rattle.ec_stores.specs.Node.{KeepsBytes, store_of}
 
 pub read_reg-word-requires : goal.read_reg-word-requires
 read_reg-word-requires g c = let there = g.met.N.NativeKind.registers.there in omega arith
@@ -14,24 +14,29 @@ set_frame_word-requires g c =
     let few = g.met.N.NativeKind.registers.few in
     owns_word (store_of c.loop-k.node) c.args.process c.args.depth
     (frame_kept (store_of c.args.node.now) (store_of c.loop-k.node) c.args.process c.args.depth (Frame c.args.process c.args.depth)
-    (IsUnsaved c.loop-k.k) c.loop-k.invariant.keeps c.requires)
+    (IsUnsaved c.loop-k.k) c.loop-k.invariant.0.keeps c.requires)
     (8 + c.loop-k.k) (omega arith)
 
 pub loop-k-init : goal.loop-k-init
-loop-k-init g c =
-    saves_none g.N.NativeKind.meaning (store_of c.args.node.now) c.args.process c.args.depth c.requires c.args.machine.now
+loop-k-init g c = (
+  saves_none g.N.NativeKind.meaning (store_of c.args.node.now) c.args.process c.args.depth c.requires c.args.machine.now,
+  bytes_none c.args.node.now (Frame c.args.process c.args.depth) (IsUnsaved 0),
+)
 
 pub loop-k-preserved : goal.loop-k-preserved
 loop-k-preserved g c =
     let few = g.met.N.NativeKind.registers.few in
-    let m = c.args.machine.now in
-    saves_more g.N.NativeKind.meaning (store_of c.args.node.now) c.args.process c.args.depth c.requires m (store_of c.loop-k.node)
-    (store_of c.set_frame_word.new.self) c.loop-k.k c.read_reg-word.result c.loop-k.invariant (omega arith)
-    (c.read_reg-word.ensures
-    ∙ ap (λ (n : ℕ). g.M.Machine.register m (n + c.loop-k.k)) c.FIRST_HOME.ensures
-    ∙ sym (g.met.N.NativeKind.means.register_is m (g.N.NativeKind.FIRST_HOME + c.loop-k.k))
-    ∙ ap (λ (n : ℕ). g.N.NativeKind.meaning.register m (n + c.loop-k.k)) (sym g.met.N.NativeKind.registers.first_is))
-    c.set_frame_word.ensures
+    let m = c.args.machine.now in (
+      saves_more g.N.NativeKind.meaning (store_of c.args.node.now) c.args.process c.args.depth c.requires m (store_of c.loop-k.node)
+          (store_of c.set_frame_word.new.self) c.loop-k.k c.read_reg-word.result c.loop-k.invariant.0 (omega arith)
+          (c.read_reg-word.ensures
+          ∙ ap (λ (n : ℕ). g.M.Machine.register m (n + c.loop-k.k)) c.FIRST_HOME.ensures
+          ∙ sym (g.met.N.NativeKind.means.register_is m (g.N.NativeKind.FIRST_HOME + c.loop-k.k))
+          ∙ ap (λ (n : ℕ). g.N.NativeKind.meaning.register m (n + c.loop-k.k)) (sym g.met.N.NativeKind.registers.first_is))
+          c.set_frame_word.ensures.writes,
+      bytes_saved c.args.node.now c.loop-k.node c.set_frame_word.new.self c.args.process c.args.depth c.loop-k.k
+          (c.loop-k.invariant.0.keeps.rows (Frame c.args.process c.args.depth)) c.loop-k.invariant.1 c.set_frame_word.ensures.bytes,
+    )
 
 pub overflow_add-FIRST_HOME : goal.overflow_add-FIRST_HOME
 overflow_add-FIRST_HOME g c =
@@ -39,9 +44,14 @@ overflow_add-FIRST_HOME g c =
     let small = g.met.N.NativeKind.registers.small in
     omega arith
 
-pub returns : goal.returns
-returns g c =
+pub returns-clause-saves : goal.returns-clause-saves
+returns-clause-saves g c =
     let same : c.loop-k.k ≡ g.N.NativeKind.HOMES = omega arith in
     subst
     (λ n. Saves g.N.NativeKind.meaning (store_of c.args.node.now) (store_of c.loop-k.node) c.args.process c.args.depth n c.args.machine.now)
-    same c.loop-k.invariant
+    same c.loop-k.invariant.0
+
+pub returns-clause-bytes : goal.returns-clause-bytes
+returns-clause-bytes g c =
+    let same : c.loop-k.k ≡ g.N.NativeKind.HOMES = omega arith in
+    subst (λ n. KeepsBytes c.args.node.now c.loop-k.node (Frame c.args.process c.args.depth) (IsUnsaved n)) same c.loop-k.invariant.1

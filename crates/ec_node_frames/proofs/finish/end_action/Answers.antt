@@ -11,4 +11,4 @@ set_frame_word-requires c = owns_word (store_of c.args.node.now) c.args.process 
 pub returns-clause-here : goal.returns-clause-here
 returns-clause-here c =
     frame_kept (store_of c.args.node.now) (store_of c.set_frame_word.new.self) c.args.process c.args.depth
-    (c.set_frame_word.ensures.rows (Frame c.args.process c.args.depth)) c.requires
+    (c.set_frame_word.ensures.writes.rows (Frame c.args.process c.args.depth)) c.requires

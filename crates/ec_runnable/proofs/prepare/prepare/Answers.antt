@@ -23,13 +23,13 @@ returns-clause-runnable c =
     let lowered : IsLowered s p = subst (IsLowered s) is riscv.ensures.lowered in
     let one : mips.mips.program ≡ p = determined s mips.mips.program p mips.ensures.lowered lowered in
     let by_riscv : IsCompiled rv_meaning riscv.riscv.program riscv.riscv.image = record {
-      faithful = riscv.ensures.faithful;
+      faithful = riscv.ensures.faithful.faithful;
       tables = riscv.ensures.tables;
       bound = riscv.ensures.bound;
       few = riscv.ensures.few;
     } in
     let by_mips : IsCompiled mips_meaning mips.mips.program mips.mips.image = record {
-      faithful = mips.ensures.faithful;
+      faithful = mips.ensures.faithful.faithful;
       tables = mips.ensures.tables;
       bound = mips.ensures.bound;
       few = mips.ensures.few;

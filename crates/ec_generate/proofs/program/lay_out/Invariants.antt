@@ -2,7 +2,7 @@ use Rattle.std.proofs.Common.{◌≡◌, ◌+◌, ◌++◌, length}
 use Rattle.ec_generate.proofs.Programs.{rest_codes, rest_size, rest_words}
 use Rattle.ec_machine_code.specs.Layout.{operation_codes, program_words, size_of_all}
 use Rattle.ec_generate.specs.Tables.{all_homes}
-use Rattle.ec_generate.proofs.program.generate.Given as goal
+use Rattle.ec_generate.proofs.program.lay_out.Given as goal
 
 abbrev pub invariant-loop-n : goal.invariant-loop-n
 invariant-loop-n g l = record {
