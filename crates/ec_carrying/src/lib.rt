@@ -3,5 +3,6 @@
 
 pub mod carrying;
 mod landing;
+pub mod laws;
 mod moving;
 mod taking;
