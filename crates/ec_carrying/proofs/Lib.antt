@@ -12,3 +12,6 @@ pub mod Frames
 pub mod Batch
 pub mod Clusters
 pub mod Composing
+pub mod At
+pub mod Joining
+pub mod Putting

@@ -6,3 +6,4 @@ mod landing;
 pub mod laws;
 mod moving;
 mod taking;
+pub mod unpacking;
