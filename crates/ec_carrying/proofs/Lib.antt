@@ -8,3 +8,10 @@ pub mod ObjectsComing
 pub mod ActivationsComing
 pub mod SettingOff
 pub mod Going
+pub mod Frames
+pub mod Batch
+pub mod Clusters
+pub mod Composing
+pub mod At
+pub mod Joining
+pub mod Putting

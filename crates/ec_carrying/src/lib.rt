@@ -3,5 +3,7 @@
 
 pub mod carrying;
 mod landing;
+pub mod laws;
 mod moving;
 mod taking;
+pub mod unpacking;

@@ -14,3 +14,4 @@ pub mod Carrying
 pub mod Stops
 pub mod Wording
 pub mod Arriving
+pub mod Spelled

@@ -5,5 +5,6 @@ pub mod Loops
 pub mod Operands
 pub mod Carried
 pub mod Arriving
+pub mod Spelled
 pub mod ArrivalsLoops
 pub mod Laws

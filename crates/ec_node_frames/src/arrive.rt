@@ -4,10 +4,12 @@ ghost use Rattle.ec_node_frames.specs.Arriving.{Arrives};
 ghost use Rattle.ec_node_frames.specs.Carried as spec;
 ghost use Rattle.ec_node_frames.specs.Frames.{IsFrame};
 ghost use Rattle.ec_node_frames.specs.Loops.{IsFilled};
+ghost use Rattle.ec_node_frames.specs.Spelled.{HaveHomes, frame_by};
 ghost use Rattle.ec_world.specs.declared.key.Key.TheVariants.{Frame as OfFrame};
 ghost use Rattle.ec_objects.specs.Values.{HasWords, TextsFit};
 ghost use Rattle.ec_stores.specs.Node.{store_of};
 ghost use Rattle.ec_things.specs.Texts.{GetsTexts};
+ghost use Rattle.ec_things.specs.Things.{Puts};
 ghost use Rattle.ec_world.specs.Group.{Has};
 ghost use Rattle.ec_world.specs.declared.value.Value.TheVariants.{Ref, Str};
 
@@ -40,6 +42,9 @@ pub fn arrive(
     requires texts { TextsFit (store_of node.old) (Ref headings.own ∷ values.now) }
     ensures puts { OnOk result
         (Arrives (store_of node.old) (store_of node.new) table.now entry.now process depth headings values.now) }
+    ensures spelled { OnOk result (HaveHomes table.now (spec.carried entry.now headings.pending) values.now →
+        Puts (store_of node.old) (store_of node.new) (OfFrame process depth)
+        (Some (frame_by table.now entry.now process depth headings values.now))) }
     ensures gets { OnOk result (GetsTexts (λ text. Has (Ref headings.own ∷ values.now) (Str text))
         (store_of node.old) (store_of node.new)) }
     ensures here { OnOk result (IsFrame (store_of node.new) process depth) }

@@ -8,13 +8,14 @@ use Rattle.ec_code.specs.declared.code.Live.{Live}
 use Rattle.ec_code.specs.declared.code.Parts.{Parts}
 use Rattle.ec_machine_code.specs.declared.homes.Home.{Home}
 use Rattle.ec_node_frames.specs.Frames.{HasTables}
+use Rattle.ec_node_frames.specs.Spelled.{HaveHomes, frame_by}
 use Rattle.ec_node_frames.specs.declared.frames.Headings.{Headings}
 use Rattle.ec_world.specs.declared.key.Key.TheVariants.{Frame}
 use Rattle.ec_objects.specs.Kinds.{IsOfKind}
 use Rattle.ec_generate.specs.declared.table.OperationTable.{OperationTable}
 use Rattle.ec_generate.specs.declared.table.StopEntry.{StopEntry}
 use Rattle.ec_things.specs.Store.{Store}
-use Rattle.ec_things.specs.Things.{Shown}
+use Rattle.ec_things.specs.Things.{Shown, Thing}
 use Rattle.ec_wire.specs.declared.parcel.ActivationPart.{ActivationPart}
 use Rattle.ec_world.specs.declared.node.Kind.{Kind}
 
@@ -67,3 +68,11 @@ pub record HasStop (tables : List OperationTable) (part : ActivationPart) : Type
   pub entry : StopEntry
   pub is : IsStopOf tables part table entry
   pub many : length part.values ≡ length (carried entry part.is_pending)
+
+-- what a part at a stop is as a thing of a node, by the table of its operation alone
+abbrev pub frame_in : OperationTable → StopEntry → ActivationPart → Thing
+frame_in table e part = frame_by table e part.process part.depth (headings_in part) part.values
+
+-- each variable whose value goes from a stop has a word of the frame by a table, and the part has one value for each such word
+abbrev pub HasHomes : OperationTable → StopEntry → ActivationPart → Type 0
+HasHomes table e part = HaveHomes table (carried e part.is_pending) part.values

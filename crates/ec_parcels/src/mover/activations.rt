@@ -5,7 +5,8 @@ ghost use Rattle.ec_code.specs.Typing.{Declared};
 ghost use Rattle.ec_code.specs.declared.activation.CodeActivation.{CodeActivation};
 ghost use Rattle.ec_code.specs.declared.code.Parts.{Parts};
 ghost use Rattle.ec_machine_code.specs.declared.homes.Home.{Home};
-ghost use Rattle.ec_parcels.specs.Activations.{CanLeave, HasStop, IsStopOf, Leaves, activation_part_of, headings_in};
+ghost use Rattle.ec_parcels.specs.Activations.{CanLeave, HasHomes, HasStop, IsStopOf, Leaves};
+ghost use Rattle.ec_parcels.specs.Activations.{activation_part_of, frame_in, headings_in};
 ghost use Rattle.ec_node_frames.specs.Frames.{IsFrame};
 ghost use Rattle.ec_world.specs.declared.key.Key.TheVariants.{Frame as OfFrame};
 ghost use Rattle.ec_objects.specs.Values.{TextsFit};
@@ -13,6 +14,7 @@ ghost use Rattle.ec_generate.specs.declared.table.OperationTable.{OperationTable
 ghost use Rattle.ec_generate.specs.declared.table.StopEntry.{StopEntry as Entry};
 ghost use Rattle.ec_stores.specs.Node.{store_of};
 ghost use Rattle.ec_things.specs.Texts.{GetsTexts};
+ghost use Rattle.ec_things.specs.Things.{Puts};
 ghost use Rattle.ec_world.specs.Group.{Has};
 ghost use Rattle.ec_world.specs.declared.node.Kind.{Kind};
 ghost use Rattle.ec_world.specs.declared.value.Value.TheVariants.{Ref, Str};
@@ -72,6 +74,9 @@ pub fn put_activation(
     ensures puts { (table : Table) (e : Entry) → IsStopOf tables.now part.now table e →
         OnOk result (Arrives (store_of node.old) (store_of node.new) table e part.now.process part.now.depth (headings_in part.now)
         part.now.values) }
+    ensures spelled { (table : Table) (e : Entry) → IsStopOf tables.now part.now table e →
+        OnOk result (HasHomes table e part.now → Puts (store_of node.old) (store_of node.new)
+        (OfFrame part.now.process part.now.depth) (Some (frame_in table e part.now))) }
     ensures gets { OnOk result (GetsTexts (λ text. Has (Ref part.now.own ∷ part.now.values) (Str text))
         (store_of node.old) (store_of node.new)) }
     ensures here { OnOk result (IsFrame (store_of node.new) part.now.process part.now.depth) }
