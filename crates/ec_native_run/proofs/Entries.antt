@@ -13,8 +13,8 @@ use Rattle.ec_code.specs.declared.activation.CodeActivation.{CodeActivation}
 use Rattle.ec_code.specs.declared.code.Parts.{Parts}
 use Rattle.ec_legs.specs.Going.{Ran, SameRoom}
 use Rattle.ec_native_run.specs.Entries.{Along, EntryOf}
-use Rattle.ec_native_run.specs.Entries.EntryOf.{Moves, Rests, Turns}
-use Rattle.ec_network.specs.Moving.{MovedTo}
+use Rattle.ec_native_run.specs.Entries.EntryOf.{Moves, Rests, Stays, Turns}
+use Rattle.ec_network.specs.Moving.{MovedTo, NoMove}
 use Rattle.ec_network.specs.Running.{AfterAction, Rested, WentOn}
 use Rattle.ec_network.specs.Standing.{Stands}
 use Rattle.ec_network.specs.Turns.{NoTurn, TurnOf}
@@ -172,6 +172,13 @@ module _ (specs : List NodeSpec) (d : Declared) (old new : System) (w : CodeWorl
       (subst (λ (v : CodeWorld). Stands d old v) (sym t.nothing) stands)
       (subst (λ (v : CodeWorld). ShowsWith specs old v Pool) (sym (no_action w p old new t)) shows)
       (subst (λ (v : CodeWorld). HasPlaces old.cluster v) (sym (no_action w p old new t)) stands.works.goes.places)
+
+  -- an idle move
+  pub stay_leaves : (o k : ℕ) → NoMove old new w o k → GoneOn specs d parts old w (AMove o k) Pool new
+  stay_leaves o k t = same_leaves (AMove o k) (Stays o k t) t.same
+      (subst (λ (v : CodeWorld). Stands d old v) (sym t.nothing) stands)
+      (subst (λ (v : CodeWorld). ShowsWith specs old v Pool) (sym t.nothing) shows)
+      (subst (λ (v : CodeWorld). HasPlaces old.cluster v) (sym t.nothing) stands.works.goes.places)
 
   -- a move by the operator
   pub move_leaves : (o k : ℕ) → MovedTo d old new w o k → GoneOn specs d parts old w (AMove o k) Pool new

@@ -7,7 +7,7 @@ use Rattle.ec_code.specs.Typing.{Declared}
 use Rattle.ec_code.specs.declared.code.Parts.{Parts}
 use Rattle.ec_acts.specs.Loaded.{Loaded}
 use Rattle.ec_acts.specs.Worlds.{world_first}
-use Rattle.ec_network.specs.Moving.{MovedTo}
+use Rattle.ec_network.specs.Moving.{MovedTo, NoMove}
 use Rattle.ec_network.specs.Networks.{AreCode, Net}
 use Rattle.ec_network.specs.Turns.{NoTurn, TurnOf}
 use Rattle.ec_cluster.specs.declared.system.System.{System}
@@ -16,13 +16,14 @@ use Rattle.ec_world.specs.declared.node.NodeSpec.{NodeSpec}
 use Rattle.ec_world.specs.declared.run.RunEntry.{RunEntry}
 use Rattle.ec_world.specs.declared.run.RunEntry.TheVariants as entry
 
--- What an entry does on nodes that stand in a world. A turn is the action of the stop at which a process rests, and then so many
--- instructions of the node's own code up to the next stop; or nothing, where the process has nothing to do. A move by the operator brings
--- a group to a node, unless it is idle.
+-- What an entry does on nodes that stand in a world, in four cases. A turn is the action of the stop at which a process rests, and then so
+-- many instructions of the node's own code up to the next stop; or nothing, where the process has nothing to do. A move by the operator
+-- brings a group to a node; or nothing changes, where the move is idle.
 pub data EntryOf (d : Declared) (old new : System) (w : CodeWorld) : RunEntry → Type 0 where
   Turns : (p steps : ℕ) → TurnOf d old new w p steps → EntryOf d old new w (entry.TurnOf p)
   Rests : (p : ℕ) → NoTurn old new w p → EntryOf d old new w (entry.TurnOf p)
   Moves : (o k : ℕ) → MovedTo d old new w o k → EntryOf d old new w (entry.MoveOf o k)
+  Stays : (o k : ℕ) → NoMove old new w o k → EntryOf d old new w (entry.MoveOf o k)
 
 -- Entries lead from nodes that stand in a world of a program to others, one entry after the other.
 unfoldable pub Along : Declared → Parts → System → CodeWorld → List RunEntry → System → Type 0

@@ -88,6 +88,7 @@ module _ (d : Declared) (s : System) (w : CodeWorld) (p : ℕ) (works : Works d 
     native = native;
     few = few;
     parts = parts;
+    images = images;
     directory = directory;
     output = output;
   }

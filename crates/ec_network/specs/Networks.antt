@@ -11,7 +11,7 @@ use Rattle.ec_code.specs.Idle.{OfClasses}
 use Rattle.ec_acts.specs.Loaded.{AreImages, Loaded}
 use Rattle.ec_acts.specs.Loading.{CanLoad}
 use Rattle.ec_acts.specs.Worlds.{world_first}
-use Rattle.ec_network.specs.Moving.{MoveRefusedIn, MovedTo}
+use Rattle.ec_network.specs.Moving.{MoveRefusedIn, MovedIn}
 use Rattle.ec_network.specs.Standing.{HasNumbers, Stands, StandsInSome}
 use Rattle.ec_network.specs.Turns.{RefusedIn, TurnedIn}
 use Rattle.ec_network.specs.declared.nodes_running.network.Numbered.{Numbered}
@@ -65,8 +65,8 @@ NetRefused old new p (Memory e) = new ≡ None
 
 -- ---- moves by the operator
 
-abbrev pub NetMoved : Net → Net → ℕ → ℕ → Type 0
-NetMoved old new o k = ForStanding old (λ d s w. Now new (λ t. MovedTo d s t w o k))
+abbrev pub NetMoved : Net → Net → ℕ → ℕ → Did → Type 0
+NetMoved old new o k did = ForStanding old (λ d s w. Now new (λ t. MovedIn d s t w o k did))
 
 -- a move is refused as a turn is
 abbrev pub NetMoveRefused : Net → Net → ℕ → ℕ → TurnError → Type 0

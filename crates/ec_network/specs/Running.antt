@@ -49,6 +49,7 @@ pub record WentOn (d : Declared) (old new : System) (w : CodeWorld) (p steps : �
   pub native : RanNatively old.cluster new.cluster p (length below) top.own steps
   pub few : IsFew old.cluster top steps
   pub parts : new.cluster.parts ≡ old.cluster.parts
+  pub images : new.cluster.images ≡ old.cluster.images
   pub directory : new.cluster.directory ≡ old.cluster.directory
   pub output : new.output ≡ old.output
 

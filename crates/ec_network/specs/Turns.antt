@@ -8,7 +8,7 @@ use Rattle.ec_network.specs.Acts.{FoundFull, HasActed}
 use Rattle.ec_network.specs.Running.{AfterAction}
 use Rattle.ec_network.specs.Standing.{Stands}
 use Rattle.ec_network.specs.declared.nodes_running.turns.Did.{Did}
-use Rattle.ec_network.specs.declared.nodes_running.turns.Did.TheVariants.{Idle, Acted}
+use Rattle.ec_network.specs.declared.nodes_running.turns.Did.TheVariants.{Idle, Acted, Moved}
 use Rattle.ec_network.specs.declared.nodes_running.turns.TurnError.{TurnError}
 use Rattle.ec_network.specs.declared.nodes_running.turns.TurnError.TheVariants.{Full, Memory}
 use Rattle.ec_cluster.specs.declared.system.System.{System}
@@ -36,6 +36,7 @@ pub record NoTurn (old new : System) (w : CodeWorld) (p : ℕ) : Type 0 where
 abbrev pub TurnedIn : Declared → System → System → CodeWorld → ℕ → Did → Type 0
 TurnedIn d old new w p Idle = NoTurn old new w p
 TurnedIn d old new w p (Acted steps) = TurnOf d old new w p steps
+TurnedIn d old new w p Moved = ⊥
 
 abbrev pub RefusedIn : System → System → CodeWorld → ℕ → TurnError → Type 0
 RefusedIn old new w p (Full lack) = FoundFull old new w (Action code_meaning w p) lack

@@ -119,10 +119,10 @@ impl Network {
         }
     }
 
-    /// A move of an object's group by the operator to where the object of a node is. Nothing changes where the object or the node isn't
-    /// there, or a member of the group is fixed. It is refused as a turn is.
-    pub fn operator_move(&mut self, alloc: Global, o: Oid, k: NodeNo) -> Result<(), TurnError>
-        ensures moved { IfOk result (λ done. IsSome self.old × NetMoved self.old self.new o k) }
+    /// A move of an object's group by the operator to where the object of a node is; or nothing, where the object or the node isn't there,
+    /// or a member of the group is fixed. It is refused as a turn is.
+    pub fn operator_move(&mut self, alloc: Global, o: Oid, k: NodeNo) -> Result<Did, TurnError>
+        ensures moved { IfOk result (λ did. IsSome self.old × NetMoved self.old self.new o k did) }
         ensures refused { IfErr result (λ e. NetMoveRefused self.old self.new o k e) }
     {
         let Some(loaded) = &mut self.loaded else {
@@ -130,7 +130,7 @@ impl Network {
         };
         let Numbered { system, numbers } = loaded;
         match moving::shift(system, numbers, alloc, o, k) {
-            Ok(()) => Ok(()),
+            Ok(did) => Ok(did),
             Err(TurnError::Full(lack)) => Err(TurnError::Full(lack)),
             Err(TurnError::Memory(e)) => {
                 self.loaded = None;
