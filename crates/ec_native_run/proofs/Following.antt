@@ -22,7 +22,8 @@ use Rattle.ec_native_run.specs.Following.{Follows, FullNext, HasCome, refusal_of
 use Rattle.ec_world.specs.declared.room.Lack.{Lack}
 use Rattle.ec_world.specs.declared.room.Part.{Part}
 use Rattle.ec_native_run.specs.Runs.{AreNodes}
-use Rattle.ec_network.specs.Networks.{AreCode, CanRun, Net, NetLoaded, NetMoved, NetMoveRefused, NetRefused, NetTurned}
+use Rattle.ec_network.specs.Nets.{AreCode, Net}
+use Rattle.ec_network.specs.Networks.{CanRun, NetLoaded, NetMoved, NetMoveRefused, NetRefused, NetTurned}
 use Rattle.ec_network.specs.Standing.{Stands}
 use Rattle.ec_network.specs.declared.nodes_running.turns.Did.{Did}
 use Rattle.ec_network.specs.declared.nodes_running.turns.Did.TheVariants.{Acted, Idle, Moved}
@@ -91,9 +92,9 @@ module _ (p : Parts) (images : Images) (specs : List NodeSpec) (schedule : List 
     comes = comes_first code_meaning (code_silent own) world schedule budget world refl;
     stands = stands_first;
     along =
-        subst (λ (es : List RunEntry). Along can.loads.declared own l.start world es l.start)
+        subst (λ (es : List RunEntry). Along own l.start world es l.start)
         (sym (ap (λ (r : RunState CodeActivation). r.done) (run_start_is code_meaning (code_silent own) world schedule)))
-        (along_none can.loads.declared own l.start world);
+        (along_none own l.start world);
     fits = below_none (λ j. (node need free : ℕ) (part : Part) → NextFull own specs schedule j node part need free → ⊥);
     shows = record {
       mirrors = loaded_is.mirrors;
@@ -162,13 +163,13 @@ module _ (specs : List NodeSpec) (start : System) (schedule : List Entry) (budge
         (sym h.comes.world_is) full)
 
     module _ (new : System) (g : GoneOn specs h.declared parts now w e Pool new) where
-      along_more : Along h.declared parts start begins (code_run parts n schedule (suc progress.done)).done new
+      along_more : Along parts start begins (code_run parts n schedule (suc progress.done)).done new
       along_more =
           let world : w ≡ after_entries code_meaning (code_silent parts) begins here.done =
           h.comes.world_is ∙ run_world code_meaning (code_silent parts) begins schedule progress.done in
-          let entry = subst (λ (v : CodeWorld). EntryOf h.declared now new v e) world g.entry in
-          subst (λ (es : List RunEntry). Along h.declared parts start begins es new) (sym done_is)
-          (along_push h.declared parts start begins here.done e now new h.along entry)
+          let entry = subst (λ (v : CodeWorld). EntryOf now new v e) world g.entry in
+          subst (λ (es : List RunEntry). Along parts start begins es new) (sym done_is)
+          (along_push parts start begins here.done e now new h.along entry)
 
       pools_next : HavePools new.cluster (PoolAfter parts n schedule (suc progress.done))
       pools_next =

@@ -22,7 +22,8 @@ use Rattle.ec_packing.specs.Between.{IsBetween}
 use Rattle.ec_parcels.specs.Classes.{ClassTable}
 use Rattle.ec_world.specs.declared.room.Lack.{Lack}
 use Rattle.ec_network.proofs.Standing.{literals_after}
-use Rattle.ec_network.specs.Moving.{MovedTo, NoMove, is_idle_seen, members_moved, members_seen}
+use Rattle.ec_network.specs.Moving.{MovedTo, is_idle_seen, members_moved, members_seen}
+use Rattle.ec_network.specs.Showing.{NoMove}
 use Rattle.ec_network.specs.Standing.{HasNumbers, Stands, Works}
 use Rattle.ec_rooms.proofs.Moving.{gone_place, moves_keep_places}
 use Rattle.ec_rooms.specs.Full.{FindsFull}
@@ -189,13 +190,15 @@ module _ (d : Declared) (s : System) (w : CodeWorld) (o k : ℕ) (stands : Stand
 
       pub has_moved : MovedTo d s t w o k
       has_moved = record {
-        moves = moves;
+        moved = record {
+          moves = moves;
+          comes = record { shows = record { mirrors = mirrors_then; places = places_then }; texts = texts_then };
+        };
         stands = record {
           works = works_then;
           between = subst (λ (p : Parts). IsBetween p (OperatorMove w o k)) (sym texts_then.parts)
               (move_between s.cluster.parts w o k stands.between);
         };
-        texts = texts_then;
       }
 
     -- where the node lacks room for it, it is full for the world after the move

@@ -9,9 +9,11 @@ use Rattle.ec_world.specs.declared.room.Lack.{Lack}
 use Rattle.ec_parcels.specs.Classes.{ClassTable}
 use Rattle.ec_network.proofs.Turned.{turn_parts}
 use Rattle.ec_network.specs.Moving.{MoveRefusedIn, MovedIn}
-use Rattle.ec_network.specs.Networks.{ForStanding, Net, NetMoved, NetTurned, Now}
+use Rattle.ec_network.specs.Nets.{Net}
+use Rattle.ec_network.specs.Networks.{ForStanding, NetMoved, NetTurned, Now}
 use Rattle.ec_network.specs.Standing.{HasNumbers, Stands, StandsInSome}
-use Rattle.ec_network.specs.Turns.{RefusedIn, TurnedIn, turned}
+use Rattle.ec_network.specs.Turns.{RefusedIn, TurnedIn}
+use Rattle.ec_network.specs.Showing.{turned}
 use Rattle.ec_network.specs.declared.nodes_running.turns.Did.{Did}
 use Rattle.ec_network.specs.declared.nodes_running.turns.Did.TheVariants.{Idle, Acted, Moved}
 use Rattle.ec_network.specs.declared.nodes_running.turns.TurnError.TheVariants.{Full}
@@ -91,7 +93,7 @@ move_full old s t o k lack is told =
 shift_stands : (d : Declared) (s t : System) (w : CodeWorld) (o k : ℕ) (did : Did) → Stands d s w → MovedIn d s t w o k did → IsLeft s t
 shift_stands d s t w o k Idle stands idle = same_left s t (d, (w, stands)) idle.same
 shift_stands d s t w o k (Acted steps) stands none = absurd none
-shift_stands d s t w o k Moved stands m = record { stands = (d, (OperatorMove w o k, m.stands)); parts = m.texts.parts }
+shift_stands d s t w o k Moved stands m = record { stands = (d, (OperatorMove w o k, m.stands)); parts = m.moved.comes.texts.parts }
 
 pub moved_left : (s t : System) (o k : ℕ) (did : Did) → StandsInSome s →
     ((d : Declared) (w : CodeWorld) → Stands d s w → MovedIn d s t w o k did) → IsLeft s t

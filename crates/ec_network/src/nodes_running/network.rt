@@ -36,7 +36,8 @@ pub(crate) struct Numbered {
 }
 
 impl Model for Network {
-    ghost use Rattle.ec_network.specs.Networks.{IsLoaded, Net, system_of};
+    ghost use Rattle.ec_network.specs.Nets.{Net};
+    ghost use Rattle.ec_network.specs.Networks.{IsLoaded, system_of};
 
     ghost Value = { Net };
 
@@ -50,7 +51,8 @@ impl Network {
     ghost use Rattle.ec_acts.specs.Loaded.{WhenFull};
     ghost use Rattle.ec_acts.specs.Loading.{LacksFirst, first_needs};
     ghost use Rattle.ec_network.specs.Networks.{CanRun, ForStanding, NetLoaded, NetMoved, NetMoveRefused, NetRefused, NetTurned};
-    ghost use Rattle.ec_network.specs.Networks.{class_at, counts_of, fixed_at, status_at};
+    ghost use Rattle.ec_network.specs.Networks.{class_at, fixed_at, status_at};
+    ghost use Rattle.ec_network.specs.Nets.{counts_of};
     ghost use Rattle.ec_network.specs.Standing.{StandsInSome};
     ghost use Rattle.ec_rooms.specs.Places.{place_of};
 
