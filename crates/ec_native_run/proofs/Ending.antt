@@ -19,14 +19,15 @@ use Rattle.ec_meaning.specs.ClassNames.{class_name}
 use Rattle.ec_meaning.specs.Meaning.{source_silent, source_start}
 use Rattle.ec_meaning.specs.Programs.{Source}
 use Rattle.ec_meaning.specs.declared.activation.SourceActivation.{SourceActivation}
-use Rattle.ec_native_run.specs.Entries.{Along, Ran}
+use Rattle.ec_native_run.specs.Entries.{Along, HasDone}
 use Rattle.ec_native_run.specs.Following.{Follows, FullNext, IsReported}
 use Rattle.ec_native_run.specs.Runs.{AreNodes, EndsAfter, RunsTo, run_report}
 use Rattle.ec_native_run.specs.Runs.EndsAfter.{ByItself, AsFull}
 use Rattle.ec_native_run.specs.Runs.RunsTo.{LoadIsFull, RanUntil}
 use Rattle.ec_world.specs.declared.room.Lack.{Lack}
 use Rattle.ec_world.specs.declared.room.Part.{Part}
-use Rattle.ec_network.specs.Networks.{CanRun, Net, NetLoaded, counts_of}
+use Rattle.ec_network.specs.Nets.{Net, counts_of}
+use Rattle.ec_network.specs.Networks.{CanRun, NetLoaded}
 use Rattle.ec_plain.specs.Plain.{source_run}
 use Rattle.ec_report.specs.Report.{end_line, line_feed, load_report, node_lines, object_lines, process_lines, turns_line}
 use Rattle.ec_report.specs.Status.{status_of}
@@ -124,7 +125,7 @@ module _ (s : Source) (text : IsOfText s) (specs : List NodeSpec) (schedule : Li
   k = r.ended.progress.done
 
   -- the nodes have run the entries of the source
-  ran : IsLowered s p → Ran p specs (source_run s n schedule k).done net'
+  ran : IsLowered s p → HasDone p specs (source_run s n schedule k).done net'
   ran lowered = record {
     declared = f.come.declared;
     images = f.start.cluster.images;
@@ -133,7 +134,7 @@ module _ (s : Source) (text : IsOfText s) (specs : List NodeSpec) (schedule : Li
     loaded = f.come.loaded;
     now = f.now;
     is = f.is;
-    along = subst (λ (es : List RunEntry). Along f.come.declared p f.start (world_first n p) es f.now)
+    along = subst (λ (es : List RunEntry). Along p f.start (world_first n p) es f.now)
         (sym (same_run s text p lowered n schedule k).done) f.come.along;
   }
 

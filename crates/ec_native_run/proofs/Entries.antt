@@ -13,11 +13,11 @@ use Rattle.ec_code.specs.declared.activation.CodeActivation.{CodeActivation}
 use Rattle.ec_code.specs.declared.code.Parts.{Parts}
 use Rattle.ec_legs.specs.Going.{Ran, SameRoom}
 use Rattle.ec_native_run.specs.Entries.{Along, EntryOf}
-use Rattle.ec_native_run.specs.Entries.EntryOf.{Moves, Rests, Turns}
+use Rattle.ec_native_run.specs.Entries.EntryOf.{Moves, Rests, Stays, Turns}
 use Rattle.ec_network.specs.Moving.{MovedTo}
-use Rattle.ec_network.specs.Running.{AfterAction, Rested, WentOn}
+use Rattle.ec_network.specs.Showing.{NoMove, NoTurn, RanOrRested, RanToStop, Rested}
 use Rattle.ec_network.specs.Standing.{Stands}
-use Rattle.ec_network.specs.Turns.{NoTurn, TurnOf}
+use Rattle.ec_network.specs.Turns.{TurnOf}
 use Rattle.ec_rooms.specs.Places.{HasPlaces}
 use Rattle.ec_rooms.proofs.Coming.{steps_had}
 use Rattle.ec_rooms.proofs.Nodes.{same_nodes}
@@ -37,17 +37,16 @@ use Rattle.ec_world.specs.declared.run.RunEntry.TheVariants.{MoveOf as AMove, Tu
 
 -- ---- chains of entries
 
-pub along_none : (d : Declared) (p : Parts) (s : System) (w : CodeWorld) → Along d p s w [] s
+pub along_none : (p : Parts) (s : System) (w : CodeWorld) → Along p s w [] s
 unfolding Along
-along_none d p s w = refl
+along_none p s w = refl
 
 -- one entry more
-pub along_push : (d : Declared) (p : Parts) (s : System) (w : CodeWorld) (es : List RunEntry) (e : RunEntry) (m t : System) →
-    Along d p s w es m → EntryOf d m t (after_entries code_meaning (code_silent p) w es) e → Along d p s w (es ++ e ∷ []) t
+pub along_push : (p : Parts) (s : System) (w : CodeWorld) (es : List RunEntry) (e : RunEntry) (m t : System) → Along p s w es m →
+    EntryOf m t (after_entries code_meaning (code_silent p) w es) e → Along p s w (es ++ e ∷ []) t
 unfolding Along
-along_push d p s w [] e m t a h = (t, subst (λ (x : System). EntryOf d x t w e) a h, refl)
-along_push d p s w (x ∷ es) e m t a h =
-    (a.0, a.1, along_push d p a.0 (after_entry code_meaning (code_silent p) w x) es e m t a.2 h)
+along_push p s w [] e m t a h = (t, subst (λ (x : System). EntryOf x t w e) a h, refl)
+along_push p s w (x ∷ es) e m t a h = (a.0, a.1, along_push p a.0 (after_entry code_meaning (code_silent p) w x) es e m t a.2 h)
 
 -- ---- native code keeps sizes and texts
 
@@ -95,9 +94,9 @@ module _ (specs : List NodeSpec) (Pool : ℕ → List ℕ → Type 0) (old : Sys
         );
   }
 
-  after_kept : (d : Declared) (new : System) (w : CodeWorld) (p steps : ℕ) → AfterAction d old new w p steps → Kept specs Pool old new
-  after_kept d new w p steps after = ⊎_elim
-      (λ (went : WentOn d old new w p steps). ran_kept new went.top.own steps went.parts went.ran)
+  after_kept : (new : System) (w : CodeWorld) (p steps : ℕ) → RanOrRested old new w p steps → Kept specs Pool old new
+  after_kept new w p steps after = ⊎_elim
+      (λ (went : RanToStop old new w p steps). ran_kept new went.top.own steps went.parts went.ran)
       (λ (rested : Rested old new w p × (steps ≡ 0)).
       subst (λ (s : System). Kept specs Pool old s) (sym rested.0.same) (record { parts = refl; sizes = sizes; pools = pools }))
       after
@@ -108,7 +107,7 @@ module _ (specs : List NodeSpec) (Pool : ℕ → List ℕ → Type 0) (old : Sys
 -- the world after the action, and stand in the world after the entry.
 pub record GoneOn (specs : List NodeSpec) (d : Declared) (p : Parts) (old : System) (w : CodeWorld) (e : RunEntry)
     (Pool : ℕ → List ℕ → Type 0) (new : System) : Type 0 where
-  pub entry : EntryOf d old new w e
+  pub entry : EntryOf old new w e
   pub parts : new.cluster.parts ≡ p
   pub stands : Stands d new (after_entry code_meaning (code_silent p) w e)
   pub room : HasRoomFor p specs w (after_action w e) Pool
@@ -128,14 +127,15 @@ module _ (specs : List NodeSpec) (d : Declared) (old new : System) (w : CodeWorl
   pub turn_leaves : (p steps : ℕ) → TurnOf d old new w p steps → GoneOn specs d parts old w (ATurn p) Pool new
   turn_leaves p steps t =
       let goes = stands.works.goes in
-      let after = t.acted.goes in
-      let had = steps_had Pool d specs old t.middle w (Action code_meaning w p) goes.runs shows goes.places
-      (record { mirrors = after.runs.mirrors; places = after.places; texts = t.acted.texts }) in
-      let kept = after_kept specs (λ k text. Pool k text ⊎ Strings parts (Action code_meaning w p) k text) t.middle had.sizes had.pools
-      d new (Action code_meaning w p) p steps t.after in
+      let took = t.took in
+      let middle = took.acted.shows in
+      let had = steps_had Pool d specs old took.middle w (Action code_meaning w p) goes.runs shows goes.places
+      (record { mirrors = middle.mirrors; places = middle.places; texts = took.acted.texts }) in
+      let kept = after_kept specs (λ k text. Pool k text ⊎ Strings parts (Action code_meaning w p) k text) took.middle had.sizes had.pools
+      new (Action code_meaning w p) p steps took.after in
       record {
-        entry = Turns p steps t;
-        parts = kept.parts ∙ t.acted.texts.parts;
+        entry = Turns p steps took;
+        parts = kept.parts ∙ took.acted.texts.parts;
         stands = t.stands;
         room = had.room;
         sizes = kept.sizes;
@@ -143,7 +143,7 @@ module _ (specs : List NodeSpec) (d : Declared) (old new : System) (w : CodeWorl
       }
 
   -- nodes that show the world after the action as they are
-  same_leaves : (e : RunEntry) → EntryOf d old new w e → new ≡ old → Stands d old (after_entry code_meaning (code_silent parts) w e) →
+  same_leaves : (e : RunEntry) → EntryOf old new w e → new ≡ old → Stands d old (after_entry code_meaning (code_silent parts) w e) →
       ShowsWith specs old (after_action w e) Pool → HasPlaces old.cluster (after_action w e) → GoneOn specs d parts old w e Pool new
   same_leaves e entry same then shown placed =
       let was = same_nodes Pool specs old w (after_action w e) shows stands.works.goes.places shown placed in
@@ -173,16 +173,23 @@ module _ (specs : List NodeSpec) (d : Declared) (old new : System) (w : CodeWorl
       (subst (λ (v : CodeWorld). ShowsWith specs old v Pool) (sym (no_action w p old new t)) shows)
       (subst (λ (v : CodeWorld). HasPlaces old.cluster v) (sym (no_action w p old new t)) stands.works.goes.places)
 
+  -- an idle move
+  pub stay_leaves : (o k : ℕ) → NoMove old new w o k → GoneOn specs d parts old w (AMove o k) Pool new
+  stay_leaves o k t = same_leaves (AMove o k) (Stays o k t) t.same
+      (subst (λ (v : CodeWorld). Stands d old v) (sym t.nothing) stands)
+      (subst (λ (v : CodeWorld). ShowsWith specs old v Pool) (sym t.nothing) shows)
+      (subst (λ (v : CodeWorld). HasPlaces old.cluster v) (sym t.nothing) stands.works.goes.places)
+
   -- a move by the operator
   pub move_leaves : (o k : ℕ) → MovedTo d old new w o k → GoneOn specs d parts old w (AMove o k) Pool new
   move_leaves o k moved =
       let goes = stands.works.goes in
-      let after = moved.stands.works.goes in
+      let comes = moved.moved.comes in
       let had = steps_had Pool d specs old new w (OperatorMove w o k) goes.runs shows goes.places
-      (record { mirrors = after.runs.mirrors; places = after.places; texts = moved.texts }) in
+      (record { mirrors = comes.shows.mirrors; places = comes.shows.places; texts = comes.texts }) in
       record {
-        entry = Moves o k moved;
-        parts = moved.texts.parts;
+        entry = Moves o k moved.moved;
+        parts = comes.texts.parts;
         stands = moved.stands;
         room = had.room;
         sizes = had.sizes;

@@ -16,16 +16,17 @@ use Rattle.ec_report.specs.declared.step.Step.TheVariants.{Does}
 use Rattle.ec_network.specs.Acts.{FoundFull}
 use Rattle.ec_acts.specs.Loaded.{Loaded}
 use Rattle.ec_acts.specs.Worlds.{world_first}
-use Rattle.ec_native_run.proofs.Entries.{GoneOn, along_none, along_push, move_leaves, rest_leaves, turn_leaves}
+use Rattle.ec_native_run.proofs.Entries.{GoneOn, along_none, along_push, move_leaves, rest_leaves, stay_leaves, turn_leaves}
 use Rattle.ec_native_run.specs.Entries.{Along, EntryOf}
 use Rattle.ec_native_run.specs.Following.{Follows, FullNext, HasCome, refusal_of}
 use Rattle.ec_world.specs.declared.room.Lack.{Lack}
 use Rattle.ec_world.specs.declared.room.Part.{Part}
 use Rattle.ec_native_run.specs.Runs.{AreNodes}
-use Rattle.ec_network.specs.Networks.{AreCode, CanRun, Net, NetLoaded, NetMoved, NetMoveRefused, NetRefused, NetTurned}
+use Rattle.ec_network.specs.Nets.{AreCode, Net}
+use Rattle.ec_network.specs.Networks.{CanRun, NetLoaded, NetMoved, NetMoveRefused, NetRefused, NetTurned}
 use Rattle.ec_network.specs.Standing.{Stands}
 use Rattle.ec_network.specs.declared.nodes_running.turns.Did.{Did}
-use Rattle.ec_network.specs.declared.nodes_running.turns.Did.TheVariants.{Acted, Idle}
+use Rattle.ec_network.specs.declared.nodes_running.turns.Did.TheVariants.{Acted, Idle, Moved}
 use Rattle.ec_network.specs.declared.nodes_running.turns.TurnError.{TurnError}
 use Rattle.ec_network.specs.declared.nodes_running.turns.TurnError.TheVariants.{Full, Memory}
 use Rattle.ec_rooms.proofs.Full.{found_full}
@@ -91,9 +92,9 @@ module _ (p : Parts) (images : Images) (specs : List NodeSpec) (schedule : List 
     comes = comes_first code_meaning (code_silent own) world schedule budget world refl;
     stands = stands_first;
     along =
-        subst (λ (es : List RunEntry). Along can.loads.declared own l.start world es l.start)
+        subst (λ (es : List RunEntry). Along own l.start world es l.start)
         (sym (ap (λ (r : RunState CodeActivation). r.done) (run_start_is code_meaning (code_silent own) world schedule)))
-        (along_none can.loads.declared own l.start world);
+        (along_none own l.start world);
     fits = below_none (λ j. (node need free : ℕ) (part : Part) → NextFull own specs schedule j node part need free → ⊥);
     shows = record {
       mirrors = loaded_is.mirrors;
@@ -162,13 +163,13 @@ module _ (specs : List NodeSpec) (start : System) (schedule : List Entry) (budge
         (sym h.comes.world_is) full)
 
     module _ (new : System) (g : GoneOn specs h.declared parts now w e Pool new) where
-      along_more : Along h.declared parts start begins (code_run parts n schedule (suc progress.done)).done new
+      along_more : Along parts start begins (code_run parts n schedule (suc progress.done)).done new
       along_more =
           let world : w ≡ after_entries code_meaning (code_silent parts) begins here.done =
           h.comes.world_is ∙ run_world code_meaning (code_silent parts) begins schedule progress.done in
-          let entry = subst (λ (v : CodeWorld). EntryOf h.declared now new v e) world g.entry in
-          subst (λ (es : List RunEntry). Along h.declared parts start begins es new) (sym done_is)
-          (along_push h.declared parts start begins here.done e now new h.along entry)
+          let entry = subst (λ (v : CodeWorld). EntryOf now new v e) world g.entry in
+          subst (λ (es : List RunEntry). Along parts start begins es new) (sym done_is)
+          (along_push parts start begins here.done e now new h.along entry)
 
       pools_next : HavePools new.cluster (PoolAfter parts n schedule (suc progress.done))
       pools_next =
@@ -275,7 +276,13 @@ module _ (specs : List NodeSpec) (old : Net) (schedule : List Entry) (budget : �
 
   -- a move by the operator
   module _ (o k : ℕ) (step : IsStep statuses budget progress (Does (AMove o k))) (net' : Net) where
-    pub move_done : NetMoved net net' o k → GoesTo specs old schedule budget progress (AMove o k) net'
+    pub move_idle : NetMoved net net' o k Idle → GoesTo specs old schedule budget progress (AMove o k) net'
+    move_idle moved =
+        let t = moved f.come.declared f.now f.world f.is f.come.stands in
+        follows_next (AMove o k) step net' t.system t.is
+        (stay_leaves specs f.come.declared f.now t.system f.world PoolHere f.come.stands f.come.shows o k t.told)
+
+    pub move_done : NetMoved net net' o k Moved → GoesTo specs old schedule budget progress (AMove o k) net'
     move_done moved =
         let t = moved f.come.declared f.now f.world f.is f.come.stands in
         follows_next (AMove o k) step net' t.system t.is
@@ -305,6 +312,8 @@ module _ (specs : List NodeSpec) (net net' : Net) (entry : RunEntry) where
         turn_acted specs old schedule budget statuses progress net f p step net' steps turned
     turned_done Idle turned = λ old schedule budget statuses progress f step.
         turn_idle specs old schedule budget statuses progress net f p step net' turned
+    turned_done Moved turned = λ old schedule budget statuses progress f step.
+        absurd (turned f.come.declared f.now f.world f.is f.come.stands).told
 
     turned_refused : (e : TurnError) → NetRefused net net' p e → IsRefusedBy (ATurn p) (refusal_of e)
     turned_refused (Full lack) refused = λ old schedule budget statuses progress f step.
@@ -325,10 +334,16 @@ module _ (specs : List NodeSpec) (net net' : Net) (entry : RunEntry) where
         move_full specs old schedule budget statuses progress net f o k step net' lack refused
     moved_refused (Memory e) refused = tt
 
-    pub moved_done : NetMoved net net' o k → IsDoneBy entry
-    moved_done moved =
-        subst (λ (e : RunEntry). IsDoneBy e) (sym is)
-        (λ old schedule budget statuses progress f step. move_done specs old schedule budget statuses progress net f o k step net' moved)
+    shift_done : (did : Did) → NetMoved net net' o k did → IsDoneBy (AMove o k)
+    shift_done Moved moved = λ old schedule budget statuses progress f step.
+        move_done specs old schedule budget statuses progress net f o k step net' moved
+    shift_done Idle moved = λ old schedule budget statuses progress f step.
+        move_idle specs old schedule budget statuses progress net f o k step net' moved
+    shift_done (Acted steps) moved = λ old schedule budget statuses progress f step.
+        absurd (moved f.come.declared f.now f.world f.is f.come.stands).told
+
+    pub moved_done : (did : Did) → NetMoved net net' o k did → IsDoneBy entry
+    moved_done did moved = subst (λ (e : RunEntry). IsDoneBy e) (sym is) (shift_done did moved)
 
     pub move_refused : (e : TurnError) (r : Refusal) → r ≡ refusal_of e → NetMoveRefused net net' o k e → IsRefusedBy entry r
     move_refused e r why refused =

@@ -14,7 +14,8 @@ use Rattle.ec_meaning.specs.Programs.{Source}
 use Rattle.ec_native_run.specs.Entries.{Along}
 use Rattle.ec_native_run.specs.Runs.{AreNodes, run_report}
 use Rattle.ec_world.specs.declared.room.Part.{Part}
-use Rattle.ec_network.specs.Networks.{AreCode, ForStanding, Net, counts_of}
+use Rattle.ec_network.specs.Nets.{AreCode, Net, counts_of}
+use Rattle.ec_network.specs.Networks.{ForStanding}
 use Rattle.ec_network.specs.Standing.{Stands}
 use Rattle.ec_network.specs.declared.nodes_running.turns.TurnError.{TurnError}
 use Rattle.ec_network.specs.declared.nodes_running.turns.TurnError.TheVariants.{Full, Memory}
@@ -51,7 +52,7 @@ pub record HasCome (specs : List NodeSpec) (start : System) (schedule : List Ent
   pub comes : Comes code_meaning (code_silent start.cluster.parts) (world_first (length specs) start.cluster.parts) schedule budget
       statuses progress w
   pub stands : Stands declared now w
-  pub along : Along declared start.cluster.parts start (world_first (length specs) start.cluster.parts)
+  pub along : Along start.cluster.parts start (world_first (length specs) start.cluster.parts)
       (code_run start.cluster.parts (length specs) schedule progress.done).done now
   pub fits : NoneFullBefore start.cluster.parts specs schedule progress.done
   pub shows : ShowsWith specs now w (PoolAfter start.cluster.parts (length specs) schedule progress.done)

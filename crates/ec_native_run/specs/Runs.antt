@@ -7,9 +7,9 @@ use Rattle.ec_meaning.specs.Activations.{source_meaning}
 use Rattle.ec_meaning.specs.ClassNames.{class_name}
 use Rattle.ec_meaning.specs.Meaning.{source_silent, source_start}
 use Rattle.ec_meaning.specs.Programs.{Source}
-use Rattle.ec_native_run.specs.Entries.{Ran}
+use Rattle.ec_native_run.specs.Entries.{HasDone}
 use Rattle.ec_world.specs.declared.room.Part.{Part}
-use Rattle.ec_network.specs.Networks.{Net as NetOfNodes, counts_of}
+use Rattle.ec_network.specs.Nets.{Net as NetOfNodes, counts_of}
 use Rattle.ec_plain.specs.Plain.{source_run}
 use Rattle.ec_code.specs.Worlds.{most_nodes}
 use Rattle.ec_report.specs.Report.{load_report, node_lines, report}
@@ -62,6 +62,6 @@ pub data RunsTo (s : Source) (specs : List NodeSpec) (schedule : List Entry) (bu
   -- the load finds room, and so does each entry that is done
   RanUntil : (p : Parts) (k : ℕ) (how : ReportEnd) → IsLowered s p →
       ((node need free : ℕ) (part : Part) → LoadFull p specs node part need free → ⊥) → NoneFullBefore p specs schedule k →
-      EndsAfter s p specs schedule budget k how → Ran p specs (source_run s (length specs) schedule k).done net' →
+      EndsAfter s p specs schedule budget k how → HasDone p specs (source_run s (length specs) schedule k).done net' →
       RunsTo s specs schedule budget net net' (status_of (statuses_of (source_run s (length specs) schedule k).world) how)
       (run_report s (source_run s (length specs) schedule k).world specs (counts_of net') k how)

@@ -35,7 +35,7 @@ impl<'a> Driver<Network> for OnNodes<'a> {
                 Err(e) => Err(refusal_of(e)),
             },
             RunEntry::MoveOf { o, k } => match net.operator_move(self.alloc, o, k) {
-                Ok(()) => Ok(()),
+                Ok(_) => Ok(()),
                 Err(e) => Err(refusal_of(e)),
             },
         }

@@ -17,7 +17,8 @@ use Rattle.ec_packing.specs.Between.{IsBetween}
 use Rattle.ec_legs.specs.Legs.{IsCodeOf}
 use Rattle.ec_acts.specs.Loaded.{Loaded}
 use Rattle.ec_acts.specs.Worlds.{world_first}
-use Rattle.ec_network.specs.Networks.{AreCode, CanRun}
+use Rattle.ec_network.specs.Nets.{AreCode}
+use Rattle.ec_network.specs.Networks.{CanRun}
 use Rattle.ec_network.specs.Standing.{Stands, Works}
 use Rattle.ec_rooms.proofs.First.{first_are_placed}
 use Rattle.ec_code.specs.Code.{SmallProgram}

@@ -5,11 +5,10 @@ use Rattle.std.specs.Prelude.{IsSome, if◌then◌else◌, is_some, nat_lt}
 use Rattle.ec_asking.specs.Typed.{IsTypedOnce}
 use Rattle.ec_base.proofs.Lists.{get_there}
 use Rattle.ec_cluster.specs.Cluster.{CodeWorld, place}
-use Rattle.ec_cluster.specs.Steps.{Changes, Nothing}
+use Rattle.ec_cluster.specs.Steps.{Changes}
 use Rattle.ec_cluster.specs.declared.cluster.Cluster.{Cluster}
 use Rattle.ec_code.specs.Typing.{Declared}
 use Rattle.ec_code.specs.declared.code.Parts.{Parts}
-use Rattle.ec_acts.proofs.Stepping.{unchanged}
 use Rattle.ec_fullness.proofs.Keeping.{steady_after}
 use Rattle.ec_gathering.proofs.Moves.{operator_may}
 use Rattle.ec_gathering.specs.Gathers.{Gathers, LacksFor, LetsGo, MayGather, world_gathered}
@@ -24,6 +23,7 @@ use Rattle.ec_parcels.specs.Classes.{ClassTable}
 use Rattle.ec_world.specs.declared.room.Lack.{Lack}
 use Rattle.ec_network.proofs.Standing.{literals_after}
 use Rattle.ec_network.specs.Moving.{MovedTo, is_idle_seen, members_moved, members_seen}
+use Rattle.ec_network.specs.Showing.{NoMove}
 use Rattle.ec_network.specs.Standing.{HasNumbers, Stands, Works}
 use Rattle.ec_rooms.proofs.Moving.{gone_place, moves_keep_places}
 use Rattle.ec_rooms.specs.Full.{FindsFull}
@@ -32,7 +32,6 @@ use Rattle.ec_code.proofs.RangesWorlds.{move_ranged}
 use Rattle.ec_code.specs.Code.{SmallProgram}
 use Rattle.ec_code.proofs.SoundWorlds.{move_sound}
 use Rattle.ec_code.specs.Sound.{SoundWorld}
-use Rattle.ec_cluster.proofs.Pools.{strings_come}
 use Rattle.ec_cluster.specs.Systems.{Mirrors, Strings}
 use Rattle.ec_cluster.specs.declared.system.System.{System}
 use Rattle.ec_generate.specs.Limits.{CarriesFew, FewConditions}
@@ -102,17 +101,10 @@ gathered_is_placed c w members target to there at has oid =
 
 module _ (d : Declared) (s : System) (w : CodeWorld) (o k : ℕ) (stands : Stands d s w) where
   -- an idle move leaves the world as it is
-  pub not_moved : None ≡ members_moved w.common o k → MovedTo d s s w o k
+  pub not_moved : None ≡ members_moved w.common o k → NoMove s s w o k
   not_moved none =
       let idle = none_idle (is_idle_move w.common o k) (group_of w.common o) none in
-      let still : w ≡ OperatorMove w o k = ap (λ (b : Bool). record w { common = moved_unless w.common o k b }) (sym idle) in
-      let after = subst (λ (x : CodeWorld). Stands d s x) still stands in
-      record {
-        stands = after;
-        texts =
-            strings_come Nothing s.cluster s.cluster (OperatorMove w o k) (unchanged s.cluster) after.works.goes.runs.mirrors.shows
-            (λ j text none. absurd none);
-      }
+      record { idle = idle; same = refl; nothing = ap (λ (b : Bool). record w { common = moved_unless w.common o k b }) idle }
 
   module _ (members : List ℕ) (is : Some members ≡ members_moved w.common o k) (table : ClassTable) (numbers : HasNumbers s table) where
     moves : is_idle_move w.common o k ≡ false
@@ -198,12 +190,15 @@ module _ (d : Declared) (s : System) (w : CodeWorld) (o k : ℕ) (stands : Stand
 
       pub has_moved : MovedTo d s t w o k
       has_moved = record {
+        moved = record {
+          moves = moves;
+          comes = record { shows = record { mirrors = mirrors_then; places = places_then }; texts = texts_then };
+        };
         stands = record {
           works = works_then;
           between = subst (λ (p : Parts). IsBetween p (OperatorMove w o k)) (sym texts_then.parts)
               (move_between s.cluster.parts w o k stands.between);
         };
-        texts = texts_then;
       }
 
     -- where the node lacks room for it, it is full for the world after the move

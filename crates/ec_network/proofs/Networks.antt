@@ -8,12 +8,14 @@ use Rattle.ec_code.specs.Typing.{Declared}
 use Rattle.ec_world.specs.declared.room.Lack.{Lack}
 use Rattle.ec_parcels.specs.Classes.{ClassTable}
 use Rattle.ec_network.proofs.Turned.{turn_parts}
-use Rattle.ec_network.specs.Moving.{MoveRefusedIn, MovedTo}
-use Rattle.ec_network.specs.Networks.{ForStanding, Net, NetMoved, NetTurned, Now}
+use Rattle.ec_network.specs.Moving.{MoveRefusedIn, MovedIn}
+use Rattle.ec_network.specs.Nets.{Net}
+use Rattle.ec_network.specs.Networks.{ForStanding, NetMoved, NetTurned, Now}
 use Rattle.ec_network.specs.Standing.{HasNumbers, Stands, StandsInSome}
-use Rattle.ec_network.specs.Turns.{RefusedIn, TurnedIn, turned}
+use Rattle.ec_network.specs.Turns.{RefusedIn, TurnedIn}
+use Rattle.ec_network.specs.Showing.{turned}
 use Rattle.ec_network.specs.declared.nodes_running.turns.Did.{Did}
-use Rattle.ec_network.specs.declared.nodes_running.turns.Did.TheVariants.{Idle, Acted}
+use Rattle.ec_network.specs.declared.nodes_running.turns.Did.TheVariants.{Idle, Acted, Moved}
 use Rattle.ec_network.specs.declared.nodes_running.turns.TurnError.TheVariants.{Full}
 use Rattle.ec_cluster.specs.declared.system.System.{System}
 use Rattle.ec_world.specs.Moves.{OperatorMove}
@@ -52,6 +54,7 @@ told_stands d s t w p Idle stands idle = record {
   parts = ap (λ (y : System). y.cluster.parts) idle.same;
 }
 told_stands d s t w p (Acted steps) stands turn = record { stands = (d, (turned s w p, turn.stands)); parts = turn_parts d s t w p steps turn }
+told_stands d s t w p Moved stands none = absurd none
 
 same_left : (s t : System) → StandsInSome s → t ≡ s → IsLeft s t
 same_left s t some same = record {
@@ -76,9 +79,9 @@ full_left s t p lack some told = same_left s t some (told some.0 some.1.0 some.1
 
 -- ---- moves by the operator
 
-pub net_moved : (old : Net) (s t : System) (o k : ℕ) → old ≡ Some s →
-    ((d : Declared) (w : CodeWorld) → Stands d s w → MovedTo d s t w o k) → NetMoved old (Some t) o k
-net_moved old s t o k is told =
+pub net_moved : (old : Net) (s t : System) (o k : ℕ) (did : Did) → old ≡ Some s →
+    ((d : Declared) (w : CodeWorld) → Stands d s w → MovedIn d s t w o k did) → NetMoved old (Some t) o k did
+net_moved old s t o k did is told =
     for_standing _ old s is (λ d w stands. record { system = t; is = refl; told = told d w stands })
 
 pub move_full : (old : Net) (s t : System) (o k : ℕ) (lack : Lack) → old ≡ Some s →
@@ -87,11 +90,14 @@ pub move_full : (old : Net) (s t : System) (o k : ℕ) (lack : Lack) → old ≡
 move_full old s t o k lack is told =
     for_standing _ old s is (λ d w stands. record { system = t; is = refl; told = told d w stands })
 
-pub moved_left : (s t : System) (o k : ℕ) → StandsInSome s →
-    ((d : Declared) (w : CodeWorld) → Stands d s w → MovedTo d s t w o k) → IsLeft s t
-moved_left s t o k some told =
-    let m = told some.0 some.1.0 some.1.1 in
-    record { stands = (some.0, (OperatorMove some.1.0 o k, m.stands)); parts = m.texts.parts }
+shift_stands : (d : Declared) (s t : System) (w : CodeWorld) (o k : ℕ) (did : Did) → Stands d s w → MovedIn d s t w o k did → IsLeft s t
+shift_stands d s t w o k Idle stands idle = same_left s t (d, (w, stands)) idle.same
+shift_stands d s t w o k (Acted steps) stands none = absurd none
+shift_stands d s t w o k Moved stands m = record { stands = (d, (OperatorMove w o k, m.stands)); parts = m.moved.comes.texts.parts }
+
+pub moved_left : (s t : System) (o k : ℕ) (did : Did) → StandsInSome s →
+    ((d : Declared) (w : CodeWorld) → Stands d s w → MovedIn d s t w o k did) → IsLeft s t
+moved_left s t o k did some told = shift_stands some.0 s t some.1.0 o k did some.1.1 (told some.0 some.1.0 some.1.1)
 
 pub move_full_left : (s t : System) (o k : ℕ) (lack : Lack) → StandsInSome s →
     ((d : Declared) (w : CodeWorld) → Stands d s w → MoveRefusedIn s t w o k (Full lack)) → IsLeft s t

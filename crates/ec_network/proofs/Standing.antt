@@ -16,7 +16,8 @@ use Rattle.ec_code.specs.Idle.{OfClasses}
 use Rattle.ec_cluster.proofs.Before.{before}
 use Rattle.ec_network.specs.Acts.{HasActed}
 use Rattle.ec_node_frames.specs.declared.frames.Headings.{Headings}
-use Rattle.ec_network.specs.Running.{TopTold, WentOn, gone_on}
+use Rattle.ec_network.specs.Running.{TopTold, WentOn}
+use Rattle.ec_network.specs.Showing.{gone_on}
 use Rattle.ec_network.specs.Standing.{Works}
 use Rattle.ec_rooms.proofs.Stepping.{silent_steps_keep_places}
 use Rattle.ec_code.specs.Code.{SmallProgram}
@@ -81,13 +82,16 @@ module _ (d : Declared) (s : System) (w : CodeWorld) (p : ℕ) (works : Works d 
       new.cluster.directory ≡ s.cluster.directory → new.output ≡ s.output → WentOn d s new w p steps
   went_on new steps parts images mirrors ran native few directory output = record {
     works = works_on d s new w p t.top.own steps works parts images ran directory mirrors;
-    below = t.below;
-    top = t.top;
-    is_done = is_done;
-    ran = ran;
-    native = native;
-    few = few;
-    parts = parts;
-    directory = directory;
-    output = output;
+    ran = record {
+      below = t.below;
+      top = t.top;
+      is_done = is_done;
+      ran = ran;
+      native = native;
+      few = few;
+      parts = parts;
+      images = images;
+      directory = directory;
+      output = output;
+    };
   }

@@ -14,7 +14,8 @@ use Rattle.ec_code.specs.declared.activation.CodeActivation.{CodeActivation}
 use Rattle.ec_node_frames.specs.declared.frames.Headings.{Headings}
 use Rattle.ec_world.proofs.Procs.{activation_is}
 use Rattle.ec_world.specs.declared.key.Key.TheVariants.{Frame}
-use Rattle.ec_network.specs.Running.{EachTop, HasNoTop, TopTold, Waits, gone_on}
+use Rattle.ec_network.specs.Running.{EachTop, HasNoTop, TopTold}
+use Rattle.ec_network.specs.Showing.{Waits, gone_on}
 use Rattle.ec_cluster.specs.Systems.{Runs, row_of}
 use Rattle.ec_cluster.specs.declared.system.ProcessRow.{ProcessRow}
 use Rattle.ec_cluster.specs.declared.system.System.{System}

@@ -1,5 +1,5 @@
 -- A turn is an action, and then the code behind a stop.
-use Rattle.std.proofs.Common.{◌≡◌, ℕ, List, [], refl, sym, ap, ◌∙◌, subst, ⊎_elim}
+use Rattle.std.proofs.Common.{◌≡◌, ℕ, List, [], inl, inr, refl, sym, ap, ◌∙◌, subst, ⊎_elim}
 use Rattle.std.specs.Prelude.{IsSome}
 use Rattle.ec_base.specs.Stack.{below_of, top_of}
 use Rattle.ec_cluster.specs.Cluster.{CodeWorld}
@@ -15,9 +15,10 @@ use Rattle.ec_packing.specs.Between.{IsBetween}
 use Rattle.ec_parcels.specs.Classes.{ClassTable}
 use Rattle.ec_network.proofs.Standing.{works_acted}
 use Rattle.ec_network.proofs.Tops.{without_top}
-use Rattle.ec_network.specs.Running.{AfterAction, Rested, WentOn, gone_on}
+use Rattle.ec_network.specs.Running.{AfterAction, WentOn}
+use Rattle.ec_network.specs.Showing.{CameToShow, NoTurn, RanOrRested, RanToStop, Rested, ShowsPlaced, TookTurn, gone_on, turned}
 use Rattle.ec_network.specs.Standing.{HasNumbers, Stands, Works, WorksInSome}
-use Rattle.ec_network.specs.Turns.{NoTurn, TurnOf, turned}
+use Rattle.ec_network.specs.Turns.{TurnOf}
 use Rattle.ec_cluster.proofs.Pools.{strings_come}
 use Rattle.ec_cluster.specs.declared.system.System.{System}
 use Rattle.ec_world.specs.World.{Action, GoOn, act_on, stack_at}
@@ -36,16 +37,32 @@ idle_acted d old new w p goes idle = subst (λ (x : System). HasActed d old x w 
       (subst (λ (x : CodeWorld). Goes d old x) (sym idle.nothing) goes).runs.mirrors.shows (λ k text none. absurd none);
 })
 
+shows_placed : (d : Declared) (s : System) (w : CodeWorld) → Goes d s w → ShowsPlaced s w
+shows_placed d s w goes = record { mirrors = goes.runs.mirrors; places = goes.places }
+
+-- what a reader is told of an action, and of the code behind it
+came_to_show : (d : Declared) (old middle : System) (w : CodeWorld) (p : ℕ) → HasActed d old middle w p →
+    CameToShow old middle (Action code_meaning w p)
+came_to_show d old middle w p acted =
+    record { shows = shows_placed d middle (Action code_meaning w p) acted.goes; texts = acted.texts }
+
+ran_or_rested : (d : Declared) (middle new : System) (w : CodeWorld) (p steps : ℕ) → AfterAction d middle new w p steps →
+    RanOrRested middle new w p steps
+ran_or_rested d middle new w p steps after = ⊎_elim
+    (λ (went : WentOn d middle new w p steps). inl went.ran)
+    (λ (rested : Rested middle new w p × (steps ≡ 0)). inr rested)
+    after
+
 -- the world after the turn is that in which the process has gone on from the middle
 turned_is : (d : Declared) (old middle : System) (w : CodeWorld) (p : ℕ) → HasActed d old middle w p →
     gone_on middle (Action code_meaning w p) p ≡ turned old w p
 turned_is d old middle w p acted =
     ap (λ (q : Parts). GoOn code_meaning (code_silent q) (Action code_meaning w p) p) acted.texts.parts
 
-parts_after : (d : Declared) (old middle new : System) (w : CodeWorld) (p steps : ℕ) → HasActed d old middle w p →
-    AfterAction d middle new (Action code_meaning w p) p steps → new.cluster.parts ≡ old.cluster.parts
-parts_after d old middle new w p steps acted after = ⊎_elim
-    (λ (went : WentOn d middle new (Action code_meaning w p) p steps). went.parts ∙ acted.texts.parts)
+parts_after : (old middle new : System) (w : CodeWorld) (p steps : ℕ) → CameToShow old middle (Action code_meaning w p) →
+    RanOrRested middle new (Action code_meaning w p) p steps → new.cluster.parts ≡ old.cluster.parts
+parts_after old middle new w p steps acted after = ⊎_elim
+    (λ (ran : RanToStop middle new (Action code_meaning w p) p steps). ran.parts ∙ acted.texts.parts)
     (λ (rested : Rested middle new (Action code_meaning w p) p × (steps ≡ 0)).
     ap (λ (x : System). x.cluster.parts) rested.0.same ∙ acted.texts.parts)
     after
@@ -60,24 +77,31 @@ module _ (d : Declared) (old middle new : System) (w : CodeWorld) (p steps : ℕ
       (subst (λ (x : System). Works d x (Action code_meaning w p)) (sym rested.0.same) (works_acted d old middle w p s.works acted)))
       after)
 
+  came : CameToShow old middle (Action code_meaning w p)
+  came = came_to_show d old middle w p acted
+
+  ran : RanOrRested middle new (Action code_meaning w p) p steps
+  ran = ran_or_rested d middle new (Action code_meaning w p) p steps after
+
+  took : IsSome (top_of (stack_at w p)) → TookTurn old new w p steps
+  took top =
+      record { top = top; middle = middle; acted = came; after = ran; shows = shows_placed d new (turned old w p) works_then.goes }
+
   -- what is run after an action, where the system stood in the world before it
   turn_of : IsSome (top_of (stack_at w p)) → TurnOf d old new w p steps
   turn_of top = record {
-    top = top;
+    took = took top;
     stands = record {
       works = works_then;
-      between = subst (λ (x : Parts). IsBetween x (turned old w p)) (sym (parts_after d old middle new w p steps acted after))
+      between = subst (λ (x : Parts). IsBetween x (turned old w p)) (sym (parts_after old middle new w p steps came ran))
           (turn_between d old.cluster.parts s.works.goes.runs.steady.fine s.works.conditions w p s.works.goes.runs.sound s.between);
     };
-    middle = middle;
-    acted = acted;
-    after = after;
   }
 
 -- a turn keeps the program
 pub turn_parts : (d : Declared) (old new : System) (w : CodeWorld) (p steps : ℕ) → TurnOf d old new w p steps →
     new.cluster.parts ≡ old.cluster.parts
-turn_parts d old new w p steps turn = parts_after d old turn.middle new w p steps turn.acted turn.after
+turn_parts d old new w p steps turn = parts_after old turn.took.middle new w p steps turn.took.acted turn.took.after
 
 -- without an activation that may go on there is nothing to do
 pub no_turn : (s : System) (w : CodeWorld) (p : ℕ) → stack_at w p ≡ [] → NoTurn s s w p

@@ -1,3 +1,5 @@
+pub mod Showing
+pub mod Nets
 pub mod Acts
 pub mod Standing
 pub mod Running

@@ -1,13 +1,14 @@
 -- What a move of an object's group to a node by the operator comes to.
 use Rattle.std.specs.Prelude.{ℕ, ◌||◌, Bool, if◌then◌else◌, List, Option, Some, None, is_some, nat_lt, not}
 use Rattle.ec_cluster.specs.Cluster.{CodeWorld}
-use Rattle.ec_cluster.specs.Steps.{Changes}
 use Rattle.ec_code.specs.Typing.{Declared}
 use Rattle.ec_network.specs.Acts.{FoundFull}
+use Rattle.ec_network.specs.Showing.{MovedGroup, NoMove}
 use Rattle.ec_network.specs.Standing.{Stands}
+use Rattle.ec_network.specs.declared.nodes_running.turns.Did.{Did}
+use Rattle.ec_network.specs.declared.nodes_running.turns.Did.TheVariants.{Idle, Acted, Moved}
 use Rattle.ec_network.specs.declared.nodes_running.turns.TurnError.{TurnError}
 use Rattle.ec_network.specs.declared.nodes_running.turns.TurnError.TheVariants.{Full, Memory}
-use Rattle.ec_cluster.specs.Systems.{Strings}
 use Rattle.ec_cluster.specs.declared.system.System.{System}
 use Rattle.ec_world.specs.Doings.{any_fixed}
 use Rattle.ec_world.specs.Group.{group_of}
@@ -31,10 +32,15 @@ members_moved c o k = if is_idle_move c o k then None else Some (group_of c o)
 
 -- ---- what it comes to
 
--- The system stands in the world after the move, and each node has the texts that it had and those of this world.
+-- The group has moved, and the system stands in the world after the move.
 pub record MovedTo (d : Declared) (old new : System) (w : CodeWorld) (o k : ℕ) : Type 0 where
+  pub moved : MovedGroup old new w o k
   pub stands : Stands d new (OperatorMove w o k)
-  pub texts : Changes (Strings new.cluster (OperatorMove w o k)) old.cluster new.cluster
+
+abbrev pub MovedIn : Declared → System → System → CodeWorld → ℕ → ℕ → Did → Type 0
+MovedIn d old new w o k Idle = NoMove old new w o k
+MovedIn d old new w o k (Acted steps) = ⊥
+MovedIn d old new w o k Moved = MovedTo d old new w o k
 
 abbrev pub MoveRefusedIn : System → System → CodeWorld → ℕ → ℕ → TurnError → Type 0
 MoveRefusedIn old new w o k (Full lack) = FoundFull old new w (OperatorMove w o k) lack

@@ -1,17 +1,17 @@
 -- A network: a system that stands in some world, or none once it is spent.
 use Rattle.std.specs.Prelude.{◌≡◌, ℕ, Bool, List, length, Option, Some, None, IsSome, option_map, slice_get}
-use Rattle.ec_cluster.specs.Cluster.{CodeWorld, stores}
+use Rattle.ec_cluster.specs.Cluster.{CodeWorld}
 use Rattle.ec_cluster.specs.declared.cluster.Images.{Images}
 use Rattle.ec_code.specs.Typing.{Declared}
 use Rattle.ec_code.specs.declared.activation.CodeActivation.{CodeActivation}
 use Rattle.ec_code.specs.declared.code.Parts.{Parts}
 use Rattle.ec_asking.specs.Typed.{IsTypedOnce}
-use Rattle.ec_legs.specs.Nodes.{IsCodeFor}
 use Rattle.ec_code.specs.Idle.{OfClasses}
 use Rattle.ec_acts.specs.Loaded.{AreImages, Loaded}
 use Rattle.ec_acts.specs.Loading.{CanLoad}
 use Rattle.ec_acts.specs.Worlds.{world_first}
-use Rattle.ec_network.specs.Moving.{MoveRefusedIn, MovedTo}
+use Rattle.ec_network.specs.Moving.{MoveRefusedIn, MovedIn}
+use Rattle.ec_network.specs.Nets.{AreCode, Net}
 use Rattle.ec_network.specs.Standing.{HasNumbers, Stands, StandsInSome}
 use Rattle.ec_network.specs.Turns.{RefusedIn, TurnedIn}
 use Rattle.ec_network.specs.declared.nodes_running.network.Numbered.{Numbered}
@@ -20,20 +20,14 @@ use Rattle.ec_network.specs.declared.nodes_running.turns.TurnError.{TurnError}
 use Rattle.ec_network.specs.declared.nodes_running.turns.TurnError.TheVariants.{Full, Memory}
 use Rattle.ec_code.specs.Code.{SmallProgram}
 use Rattle.ec_cluster.specs.declared.system.System.{System}
-use Rattle.ec_things.specs.Store.{Store}
 use Rattle.ec_generate.specs.Limits.{CarriesFew}
 use Rattle.ec_world.specs.Objects.{object_at}
 use Rattle.ec_world.specs.Sights.{class_of}
 use Rattle.ec_world.specs.declared.class.ClassNo.{ClassNo}
-use Rattle.ec_world.specs.declared.node.Kind.{Kind}
 use Rattle.ec_world.specs.declared.node.NodeSpec.{NodeSpec}
 use Rattle.ec_world.specs.declared.object.ObjectRec.{ObjectRec}
 use Rattle.ec_world.specs.declared.process.Proc.{Proc}
 use Rattle.ec_world.specs.declared.process.ProcStatus.{ProcStatus}
-
--- what a network is to its callers
-abbrev pub Net : Type 0
-Net = Option System
 
 abbrev pub system_of : Option Numbered → Net
 system_of = option_map (λ l. l.system)
@@ -65,8 +59,8 @@ NetRefused old new p (Memory e) = new ≡ None
 
 -- ---- moves by the operator
 
-abbrev pub NetMoved : Net → Net → ℕ → ℕ → Type 0
-NetMoved old new o k = ForStanding old (λ d s w. Now new (λ t. MovedTo d s t w o k))
+abbrev pub NetMoved : Net → Net → ℕ → ℕ → Did → Type 0
+NetMoved old new o k did = ForStanding old (λ d s w. Now new (λ t. MovedIn d s t w o k did))
 
 -- a move is refused as a turn is
 abbrev pub NetMoveRefused : Net → Net → ℕ → ℕ → TurnError → Type 0
@@ -74,10 +68,6 @@ NetMoveRefused old new o k (Full lack) = IsSome old × ForStanding old (λ d s w
 NetMoveRefused old new o k (Memory e) = new ≡ None
 
 -- ---- the load
-
--- on each kind the images are the code of the program
-abbrev pub AreCode : Declared → Parts → Images → Type 0
-AreCode d p images = (kind : Kind) → IsCodeFor d p images kind
 
 -- A program can be loaded with its images, which are its code; what its code has is in range, each live variable has one type, and few
 -- values go with an activation.
@@ -111,12 +101,3 @@ class_at w oid = class_of (object_at w.common.objects oid)
 abbrev pub fixed_at : CodeWorld → ℕ → Option Bool
 fixed_at w oid = option_map (λ (o : ObjectRec). o.fixed)
     (object_at w.common.objects oid)
-
-abbrev pub count_if : Option Store → ℕ
-count_if None = 0
-count_if (Some s) = s.count
-
--- how many instructions a node has run; none where it is not there, or the network is spent
-abbrev pub counts_of : Net → ℕ → ℕ
-counts_of None k = 0
-counts_of (Some s) k = count_if (stores s.cluster k)

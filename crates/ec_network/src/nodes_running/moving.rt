@@ -2,14 +2,14 @@
 ghost use Rattle.std.specs.Prelude.{◌≡◌, ◌<◌, ◌^◌, suc, IfErr, IfOk, IfSome};
 ghost use Rattle.ec_cluster.specs.Cluster.{CodeWorld};
 ghost use Rattle.ec_code.specs.Typing.{Declared};
-ghost use Rattle.ec_network.specs.Moving.{MoveRefusedIn, MovedTo, members_seen};
+ghost use Rattle.ec_network.specs.Moving.{MoveRefusedIn, MovedIn, members_seen};
 ghost use Rattle.ec_network.specs.Standing.{HasNumbers, Stands, StandsInSome};
 ghost use Rattle.ec_cluster.specs.Decoded.{seen_common};
 ghost use Rattle.ec_world.specs.Doings as spec;
 ghost use Rattle.ec_world.specs.Sights.{sight_of};
 
 use crate::nodes_running::seeing::seen;
-use crate::nodes_running::turns::TurnError;
+use crate::nodes_running::turns::{Did, TurnError};
 use ec_cluster::seen::seen::Seen;
 use ec_cluster::system::System;
 use ec_gathering::gathering::gather;
@@ -26,20 +26,21 @@ pub(crate) fn shift(
     alloc: Global,
     o: Oid,
     k: NodeNo,
-) -> Result<(), TurnError>
+) -> Result<Did, TurnError>
     requires stands { StandsInSome system.old }
     requires numbers { HasNumbers system.old numbers.now }
-    ensures moved { IfOk result (λ done. (d : Declared) (w : CodeWorld) → Stands d system.old w → MovedTo d system.old system.new w o k) }
+    ensures moved { IfOk result (λ did. (d : Declared) (w : CodeWorld) → Stands d system.old w →
+        MovedIn d system.old system.new w o k did) }
     ensures refused { IfErr result (λ e. (d : Declared) (w : CodeWorld) → Stands d system.old w →
         MoveRefusedIn system.old system.new w o k e) }
 {
     let members = match members_of_move(&seen(system), alloc, o, k) {
         Ok(Some(members)) => members,
-        Ok(None) => return Ok(()),
+        Ok(None) => return Ok(Did::Idle),
         Err(e) => return Err(TurnError::Memory(e)),
     };
     match gather(system, alloc, numbers, members.as_slice(), k + 1, None) {
-        Ok(None) => Ok(()),
+        Ok(None) => Ok(Did::Moved),
         Ok(Some(lack)) => Err(TurnError::Full(lack)),
         Err(e) => Err(TurnError::Memory(e)),
     }

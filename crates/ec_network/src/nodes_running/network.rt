@@ -36,7 +36,8 @@ pub(crate) struct Numbered {
 }
 
 impl Model for Network {
-    ghost use Rattle.ec_network.specs.Networks.{IsLoaded, Net, system_of};
+    ghost use Rattle.ec_network.specs.Nets.{Net};
+    ghost use Rattle.ec_network.specs.Networks.{IsLoaded, system_of};
 
     ghost Value = { Net };
 
@@ -50,7 +51,8 @@ impl Network {
     ghost use Rattle.ec_acts.specs.Loaded.{WhenFull};
     ghost use Rattle.ec_acts.specs.Loading.{LacksFirst, first_needs};
     ghost use Rattle.ec_network.specs.Networks.{CanRun, ForStanding, NetLoaded, NetMoved, NetMoveRefused, NetRefused, NetTurned};
-    ghost use Rattle.ec_network.specs.Networks.{class_at, counts_of, fixed_at, status_at};
+    ghost use Rattle.ec_network.specs.Networks.{class_at, fixed_at, status_at};
+    ghost use Rattle.ec_network.specs.Nets.{counts_of};
     ghost use Rattle.ec_network.specs.Standing.{StandsInSome};
     ghost use Rattle.ec_rooms.specs.Places.{place_of};
 
@@ -119,10 +121,10 @@ impl Network {
         }
     }
 
-    /// A move of an object's group by the operator to where the object of a node is. Nothing changes where the object or the node isn't
-    /// there, or a member of the group is fixed. It is refused as a turn is.
-    pub fn operator_move(&mut self, alloc: Global, o: Oid, k: NodeNo) -> Result<(), TurnError>
-        ensures moved { IfOk result (λ done. IsSome self.old × NetMoved self.old self.new o k) }
+    /// A move of an object's group by the operator to where the object of a node is; or nothing, where the object or the node isn't there,
+    /// or a member of the group is fixed. It is refused as a turn is.
+    pub fn operator_move(&mut self, alloc: Global, o: Oid, k: NodeNo) -> Result<Did, TurnError>
+        ensures moved { IfOk result (λ did. IsSome self.old × NetMoved self.old self.new o k did) }
         ensures refused { IfErr result (λ e. NetMoveRefused self.old self.new o k e) }
     {
         let Some(loaded) = &mut self.loaded else {
@@ -130,7 +132,7 @@ impl Network {
         };
         let Numbered { system, numbers } = loaded;
         match moving::shift(system, numbers, alloc, o, k) {
-            Ok(()) => Ok(()),
+            Ok(did) => Ok(did),
             Err(TurnError::Full(lack)) => Err(TurnError::Full(lack)),
             Err(TurnError::Memory(e)) => {
                 self.loaded = None;

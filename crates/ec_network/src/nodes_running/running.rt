@@ -3,7 +3,8 @@ ghost use Rattle.std.specs.Prelude.{◌≡◌, IfNone, IfSome};
 ghost use Rattle.ec_asking.specs.Rows.{depth_if};
 ghost use Rattle.ec_cluster.specs.Cluster.{CodeWorld};
 ghost use Rattle.ec_code.specs.Typing.{Declared};
-ghost use Rattle.ec_network.specs.Running.{EachTop, HasNoTop, Rested, WentOn};
+ghost use Rattle.ec_network.specs.Running.{EachTop, HasNoTop, WentOn};
+ghost use Rattle.ec_network.specs.Showing.{Rested};
 ghost use Rattle.ec_network.specs.Standing.{Works, WorksInSome};
 
 use ec_cluster::finding::headings_at;

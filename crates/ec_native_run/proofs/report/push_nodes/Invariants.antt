@@ -1,6 +1,6 @@
 use Rattle.std.proofs.Common.{◌≡◌, ◌++◌, drop}
 use Rattle.ec_native_run.proofs.report.push_nodes.Given as goal
-use Rattle.ec_network.specs.Networks.{counts_of}
+use Rattle.ec_network.specs.Nets.{counts_of}
 use Rattle.ec_report.specs.Report.{node_lines}
 
 abbrev pub invariant-loop-k : goal.invariant-loop-k

@@ -3,7 +3,8 @@ use Rattle.ec_meaning.specs.Sources.{source_of}
 use Rattle.ec_native_run.proofs.run.run_loaded.Goals as goal
 use Rattle.ec_native_run.specs.Following.{ForNodes, IsReported}
 use Rattle.ec_native_run.specs.Runs.{run_report}
-use Rattle.ec_network.specs.Networks.{ForStanding, counts_of}
+use Rattle.ec_network.specs.Nets.{counts_of}
+use Rattle.ec_network.specs.Networks.{ForStanding}
 use Rattle.ec_report.proofs.Lifting.{if_ok_two}
 use Rattle.ec_report.specs.Status.{status_of}
 use Rattle.ec_report.specs.declared.answer.Answer.{Answer}

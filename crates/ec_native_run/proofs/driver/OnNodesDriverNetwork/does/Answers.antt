@@ -15,7 +15,7 @@ returns-in-Err-clause-refused c =
 pub returns-in-Ok-operator_move-clause-done : goal.returns-in-Ok-operator_move-clause-done
 returns-in-Ok-operator_move-clause-done c =
     moved_done c.args.self.now.specs.now c.args.net.now c.operator_move.new.self c.args.entry c.in-MoveOf.o c.in-MoveOf.k c.in-MoveOf.is
-    c.in-Ok-operator_move.ensures.moved.1
+    c.in-Ok-operator_move.field-0 c.in-Ok-operator_move.ensures.moved.1
 
 pub returns-in-Err-operator_move-clause-refused : goal.returns-in-Err-operator_move-clause-refused
 returns-in-Err-operator_move-clause-refused c =

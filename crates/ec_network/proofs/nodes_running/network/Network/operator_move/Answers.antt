@@ -1,0 +1,34 @@
+-- A move on its system is one on the network.
+use Rattle.std.proofs.Common.{ap, sym, ◌∙◌, subst}
+use Rattle.ec_network.proofs.Networks.{has_left, is_there, move_full, moved_left, net_moved}
+use Rattle.ec_network.specs.Moving.{MoveRefusedIn}
+use Rattle.ec_network.specs.Networks.{IsLoaded, system_of}
+use Rattle.ec_network.proofs.nodes_running.network.Network.operator_move.Goals as goal
+
+pub shift-requires-clause-stands : goal.shift-requires-clause-stands
+shift-requires-clause-stands c = (subst IsLoaded c.in-Some.is c.self.invariant).0
+
+pub shift-requires-clause-numbers : goal.shift-requires-clause-numbers
+shift-requires-clause-numbers c = (subst IsLoaded c.in-Some.is c.self.invariant).1
+
+pub invariant_of-self-in-Ok : goal.invariant_of-self-in-Ok
+invariant_of-self-in-Ok c =
+    let loaded = subst IsLoaded c.in-Some.is c.self.invariant in
+    has_left c.in-Some.loaded.system c.shift.new.system c.in-Some.loaded.numbers
+    (moved_left c.in-Some.loaded.system c.shift.new.system c.args.o c.args.k c.in-Ok.did loaded.0 c.in-Ok.ensures.moved) loaded.1
+
+pub returns-in-Ok-clause-moved : goal.returns-in-Ok-clause-moved
+returns-in-Ok-clause-moved c =
+    let is = sym c.self.view_is ∙ ap system_of c.in-Some.is in (
+      is_there c.args.self.now c.in-Some.loaded.system is,
+      net_moved c.args.self.now c.in-Some.loaded.system c.shift.new.system c.args.o c.args.k c.in-Ok.did is c.in-Ok.ensures.moved,
+    )
+
+pub returns-in-Err-Full-clause-refused : goal.returns-in-Err-Full-clause-refused
+returns-in-Err-Full-clause-refused c =
+    let is = sym c.self.view_is ∙ ap system_of c.in-Some.is in (
+      is_there c.args.self.now c.in-Some.loaded.system is,
+      move_full c.args.self.now c.in-Some.loaded.system c.shift.new.system c.args.o c.args.k c.in-Err-Full.lack is
+          (λ d w s. subst (λ e. MoveRefusedIn c.in-Some.loaded.system c.shift.new.system w c.args.o c.args.k e) c.in-Err-Full.field-0-is
+          (c.in-Err-Full.ensures.refused d w s)),
+    )
