@@ -1,31 +1,51 @@
 //! Parcels that come to a node, whoever wrote them.
-ghost use Rattle.std.specs.Prelude.{◌≡◌, List, OnOk, Some, option_copied};
+ghost use Rattle.std.specs.Prelude.{◌≡◌, IfOk, List, OnOk, Some, option_copied};
 ghost use Rattle.ec_carrying.specs.Landing.{AreClassed, monitor_in};
-ghost use Rattle.ec_carrying.specs.Unpacking.{ActivationFits, AreOfProgram, HasRoomHere, Unpacked};
+ghost use Rattle.ec_carrying.specs.Unpacking.{ActivationFits, AreOfProgram, CanUnpack, CanUnpackAt, HasRoomHere, Unpacked, UnpackedAt};
 ghost use Rattle.ec_carrying.specs.Unpacking.{activations_alone, objects_alone};
 ghost use Rattle.ec_generate.specs.declared.table.OperationTable.{OperationTable as Table};
 ghost use Rattle.ec_parcels.specs.Classes.{ClassTable, class_of};
 ghost use Rattle.ec_stores.specs.Node.{store_of};
+ghost use Rattle.ec_wire.specs.WireForm.{IsWire};
 ghost use Rattle.ec_wire.specs.declared.parcel.ActivationPart.{ActivationPart as PartData};
+ghost use Rattle.ec_wire.specs.declared.parcel.Contents.{Contents as ContentsData};
 ghost use Rattle.ec_world.specs.Group.{Has};
 ghost use Rattle.ec_world.specs.declared.class.ClassNo.{ClassNo as Class};
 
 use ec_base::list::Seq;
+use ec_cluster::cluster::Cluster;
 use ec_generate::table::OperationTable;
 use ec_monitors::record::MonitorRec;
 use ec_parcels::mover::activations::put_activation;
 use ec_parcels::mover::classes::ClassNumbers;
 use ec_parcels::mover::objects::put_object;
 use ec_stores::node::NodeStore;
-use ec_wire::parcel::{ActivationPart, Contents, MonitorPart};
+use ec_wire::error::ReadError;
+use ec_wire::parcel::{ActivationPart, Contents, MonitorPart, Parcel};
 use ec_world::class::ClassNo;
-use ec_world::value::Oid;
+use ec_world::value::{NodeNo, Oid};
 use std::alloc::{AllocError, Global};
 
-/// The things that these contents of a parcel spell come to a node, by the tables of the program's operations for its kind and the numbers
-/// of its classes: each object and each activation stands there by just the values that are spelled, whoever wrote the parcel, and all
-/// else is as it was. None of the objects is fixed. The error is want of memory, or that the node has 2^32 - 1 texts or references; what it
-/// keeps is then left open.
+/// The things that these bytes spell come to a node, by the tables of the program's operations for its kind and the numbers of its
+/// classes: each object and each activation stands there by just the values that are spelled, whoever wrote the bytes, and all else is as
+/// it was. None of the objects is fixed. The error is want of memory, or that the node has 2^32 - 1 texts or references; what it keeps is
+/// then left open.
+pub fn unpack(
+    node: &mut NodeStore,
+    alloc: Global,
+    tables: &[OperationTable],
+    numbers: &ClassNumbers,
+    bytes: &[u8],
+) -> Result<(), AllocError>
+    requires { CanUnpack numbers.now tables.now (store_of node.old) bytes.now }
+    ensures { OnOk result ((x : ContentsData) → IsWire x bytes.now →
+        Unpacked numbers.now tables.now x (store_of node.old) (store_of node.new)) }
+{
+    let parcel = parcel_of(alloc, bytes)?;
+    put_contents(node, alloc, tables, numbers, parcel.contents())
+}
+
+/// The same for a parcel that was read.
 pub fn put_contents(
     node: &mut NodeStore,
     alloc: Global,
@@ -39,6 +59,40 @@ pub fn put_contents(
 {
     put_objects(node, alloc, numbers, contents)?;
     put_activations(node, alloc, tables, &contents.activations)
+}
+
+/// The same at a node of a cluster, whose directory has the objects there already.
+pub fn unpack_at(
+    cluster: &mut Cluster,
+    alloc: Global,
+    numbers: &ClassNumbers,
+    to: NodeNo,
+    bytes: &[u8],
+) -> Result<(), AllocError>
+    requires { CanUnpackAt numbers.now cluster.old to bytes.now }
+    ensures { OnOk result ((x : ContentsData) → IsWire x bytes.now → UnpackedAt numbers.now cluster.old cluster.new to x) }
+{
+    let node = cluster.nodes.at_mut(to as usize);
+    let image = cluster.images.of(node.kind());
+    unpack(
+        node,
+        alloc,
+        image.table.operations.as_slice(),
+        numbers,
+        bytes,
+    )
+}
+
+/// The parcel that has these bytes. The error is want of memory.
+fn parcel_of(alloc: Global, bytes: &[u8]) -> Result<Parcel, AllocError>
+    requires { (x : ContentsData) × IsWire x bytes.now }
+    ensures { (x : ContentsData) → IsWire x bytes.now → IfOk result (λ parcel. parcel ≡ x) }
+{
+    match ec_wire::read(alloc, bytes) {
+        Ok(parcel) => Ok(parcel),
+        Err(ReadError::Memory) => Err(AllocError),
+        Err(ReadError::Wire(_)) => unreachable!(),
+    }
 }
 
 /// The objects in a parcel come to a node, with their monitors; the node has room for all that is in the parcel.
