@@ -1,4 +1,5 @@
-//! The things of a parcel go from one node of a cluster to another.
+//! Parcels and nodes: from bytes to a node, whoever made them (`unpacking`); and the things of a parcel go from one node of a cluster to
+//! another (`carrying`), with the directory told.
 #![tactic(auto)]
 
 pub mod carrying;
