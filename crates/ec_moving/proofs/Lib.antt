@@ -3,3 +3,6 @@ pub mod Objects
 pub mod Asked
 pub mod Doing
 pub mod Worlds
+pub mod Silent
+pub mod SourceSteps
+pub mod Source

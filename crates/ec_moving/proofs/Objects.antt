@@ -49,8 +49,33 @@ kept_then xs ys zs a b = record { count = b.count ∙ a.count; homes = λ x h. b
 
 -- ---- one object changed
 
+-- what is seen of an object that a change leaves as it is, is seen of each object as before
+module _ {T : Type 0} (seen : Option ObjectRec → T) (change : ObjectRec → ObjectRec)
+    (same : (o : ObjectRec) → seen (Some (change o)) ≡ seen (Some o)) where
+  set_seen : (objects : List ObjectRec) (i j : ℕ) (r : ObjectRec) → slice_get objects i ≡ Some r →
+      seen (slice_get (slice_set objects i (change r)) j) ≡ seen (slice_get objects j)
+  set_seen objects i j r at = ⊎_elim
+      (λ (e : i ≡ j).
+      subst (λ n. seen (slice_get (slice_set objects i (change r)) n) ≡ seen (slice_get objects n)) e
+      (ap seen (get_set_same objects i (change r) (get_within objects i r at)) ∙ same r ∙ ap seen (sym at)))
+      (λ (ne : i ≢ j). ap seen (get_set_other objects i j (change r) (λ e. ne (sym e))))
+      (same_or_not i j)
+
+  changed_if_seen : (objects : List ObjectRec) (oid x : ℕ) (t : Option ObjectRec) → object_at objects oid ≡ t →
+      seen (object_at (changed_if objects oid change t) x) ≡ seen (object_at objects x)
+  changed_if_seen objects oid x None at = refl
+  changed_if_seen objects oid zero (Some r) at = refl
+  changed_if_seen objects zero (suc j) (Some r) at = absurd cc
+  changed_if_seen objects (suc i) (suc j) (Some r) at =
+      let e : i ≡ suc i - 1 = omega arith in
+      subst (λ n. seen (slice_get (slice_set objects n (change r)) j) ≡ seen (slice_get objects j)) e (set_seen objects i j r at)
+
+  pub changed_seen : (objects : List ObjectRec) (oid x : ℕ) →
+      seen (object_at (changed_object objects oid change) x) ≡ seen (object_at objects x)
+  changed_seen objects oid x = changed_if_seen objects oid x (object_at objects oid) refl
+
 module _ (objects : List ObjectRec) (change : ObjectRec → ObjectRec) where
-  length_changed : (oid : ℕ) (t : Option ObjectRec) → length (changed_if objects oid change t) ≡ length objects
+  pub length_changed : (oid : ℕ) (t : Option ObjectRec) → length (changed_if objects oid change t) ≡ length objects
   length_changed oid None = refl
   length_changed oid (Some o) = length_set objects (oid - 1) (change o)
 

@@ -1,2 +1,4 @@
 pub mod Placed
 pub mod Moving
+pub mod Code
+pub mod Source

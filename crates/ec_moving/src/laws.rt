@@ -1,6 +1,8 @@
-//! What holds of moves, over any meaning of activations.
+//! What holds of moves, over any meaning of activations, and so in runs of code and of a source.
+ghost use Rattle.ec_moving.specs.Code.{CodeKeepsPlaces, NodesStayInRuns};
 ghost use Rattle.ec_moving.specs.Moving.{ActionBringsTheGroup, EntriesKeepNodes, FixedObjectsStay, GroupGoesTogether};
 ghost use Rattle.ec_moving.specs.Moving.{MoveBringsTheGroup, NodesStay, OthersStay};
+ghost use Rattle.ec_moving.specs.Source.{NodesStayInSourceRuns, SourceKeepsPlaces};
 
 use ec_world::activation::Activation;
 
@@ -37,4 +39,24 @@ pub fn entries_keep_nodes<A: Activation>()
 /// They are in each world of each run.
 pub fn nodes_stay<A: Activation>()
     ensures { NodesStay A.meaning }
+{}
+
+/// No silent step of three-address code moves an object.
+pub fn code_keeps_places()
+    ensures { CodeKeepsPlaces }
+{}
+
+/// So the objects of nodes are fixed there in each run of code.
+pub fn nodes_stay_in_runs()
+    ensures { NodesStayInRuns }
+{}
+
+/// No silent step of a source moves an object.
+pub fn source_keeps_places()
+    ensures { SourceKeepsPlaces }
+{}
+
+/// So the objects of nodes are fixed there in each run of a source.
+pub fn nodes_stay_in_source_runs()
+    ensures { NodesStayInSourceRuns }
 {}

@@ -27,8 +27,8 @@ use Rattle.ec_network.specs.Networks.{CanRun, NetLoaded, NetMoved, NetMoveRefuse
 use Rattle.ec_network.specs.Standing.{Stands}
 use Rattle.ec_network.specs.declared.nodes_running.turns.Did.{Did}
 use Rattle.ec_network.specs.declared.nodes_running.turns.Did.TheVariants.{Acted, Idle, Moved}
-use Rattle.ec_network.specs.declared.nodes_running.turns.TurnError.{TurnError}
-use Rattle.ec_network.specs.declared.nodes_running.turns.TurnError.TheVariants.{Full, Memory}
+use Rattle.ec_network.specs.declared.nodes_running.turns.NetError.{NetError}
+use Rattle.ec_network.specs.declared.nodes_running.turns.NetError.TheVariants.{Full, Memory}
 use Rattle.ec_rooms.proofs.Full.{found_full}
 use Rattle.ec_rooms.proofs.Loads.{loads_full}
 use Rattle.ec_rooms.specs.Rooms.{FullAt, Literals, Strings, held}
@@ -315,7 +315,7 @@ module _ (specs : List NodeSpec) (net net' : Net) (entry : RunEntry) where
     turned_done Moved turned = λ old schedule budget statuses progress f step.
         absurd (turned f.come.declared f.now f.world f.is f.come.stands).told
 
-    turned_refused : (e : TurnError) → NetRefused net net' p e → IsRefusedBy (ATurn p) (refusal_of e)
+    turned_refused : (e : NetError) → NetRefused net net' p e → IsRefusedBy (ATurn p) (refusal_of e)
     turned_refused (Full lack) refused = λ old schedule budget statuses progress f step.
         turn_full specs old schedule budget statuses progress net f p step net' lack refused
     turned_refused (Memory e) refused = tt
@@ -323,13 +323,13 @@ module _ (specs : List NodeSpec) (net net' : Net) (entry : RunEntry) where
     pub turn_done : (did : Did) → NetTurned net net' p did → IsDoneBy entry
     turn_done did turned = subst (λ (e : RunEntry). IsDoneBy e) (sym is) (turned_done did turned)
 
-    pub turn_refused : (e : TurnError) (r : Refusal) → r ≡ refusal_of e → NetRefused net net' p e → IsRefusedBy entry r
+    pub turn_refused : (e : NetError) (r : Refusal) → r ≡ refusal_of e → NetRefused net net' p e → IsRefusedBy entry r
     turn_refused e r why refused =
         subst (λ (x : Refusal). IsRefusedBy entry x) (sym why)
         (subst (λ (x : RunEntry). IsRefusedBy x (refusal_of e)) (sym is) (turned_refused e refused))
 
   module _ (o k : ℕ) (is : entry ≡ AMove o k) where
-    moved_refused : (e : TurnError) → NetMoveRefused net net' o k e → IsRefusedBy (AMove o k) (refusal_of e)
+    moved_refused : (e : NetError) → NetMoveRefused net net' o k e → IsRefusedBy (AMove o k) (refusal_of e)
     moved_refused (Full lack) refused = λ old schedule budget statuses progress f step.
         move_full specs old schedule budget statuses progress net f o k step net' lack refused
     moved_refused (Memory e) refused = tt
@@ -345,7 +345,7 @@ module _ (specs : List NodeSpec) (net net' : Net) (entry : RunEntry) where
     pub moved_done : (did : Did) → NetMoved net net' o k did → IsDoneBy entry
     moved_done did moved = subst (λ (e : RunEntry). IsDoneBy e) (sym is) (shift_done did moved)
 
-    pub move_refused : (e : TurnError) (r : Refusal) → r ≡ refusal_of e → NetMoveRefused net net' o k e → IsRefusedBy entry r
+    pub move_refused : (e : NetError) (r : Refusal) → r ≡ refusal_of e → NetMoveRefused net net' o k e → IsRefusedBy entry r
     move_refused e r why refused =
         subst (λ (x : Refusal). IsRefusedBy entry x) (sym why)
         (subst (λ (x : RunEntry). IsRefusedBy x (refusal_of e)) (sym is) (moved_refused e refused))

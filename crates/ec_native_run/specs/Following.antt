@@ -17,8 +17,8 @@ use Rattle.ec_world.specs.declared.room.Part.{Part}
 use Rattle.ec_network.specs.Nets.{AreCode, Net, counts_of}
 use Rattle.ec_network.specs.Networks.{ForStanding}
 use Rattle.ec_network.specs.Standing.{Stands}
-use Rattle.ec_network.specs.declared.nodes_running.turns.TurnError.{TurnError}
-use Rattle.ec_network.specs.declared.nodes_running.turns.TurnError.TheVariants.{Full, Memory}
+use Rattle.ec_network.specs.declared.nodes_running.turns.NetError.{NetError}
+use Rattle.ec_network.specs.declared.nodes_running.turns.NetError.TheVariants.{Full, Memory}
 use Rattle.ec_report.specs.Status.{status_of}
 use Rattle.ec_report.specs.declared.end.ReportEnd.{ReportEnd}
 use Rattle.ec_report.specs.declared.status.Status.{Status}
@@ -35,7 +35,7 @@ abbrev pub ForNodes : Net → List NodeSpec → (CodeWorld → Type 0) → Type 
 ForNodes net specs P = ForStanding net (λ d s w. w.common.nodes ≡ length specs → P w)
 
 -- why an entry wasn't done
-abbrev pub refusal_of : TurnError → Refusal
+abbrev pub refusal_of : NetError → Refusal
 refusal_of (Full lack) = refusals.Full lack.node lack.part lack.need lack.free
 refusal_of (Memory e) = refusals.Memory
 

@@ -5,7 +5,7 @@ ghost use Rattle.ec_native_run.specs.Following.{Follows, FullNext};
 
 use crate::processes::statuses_in;
 use ec_network::nodes_running::network::Network;
-use ec_network::nodes_running::turns::TurnError;
+use ec_network::nodes_running::turns::NetError;
 use ec_report::driver::{Driver, Refusal};
 use ec_world::node::NodeSpec;
 use ec_world::process::ProcStatus;
@@ -43,16 +43,16 @@ impl<'a> Driver<Network> for OnNodes<'a> {
 }
 
 /// Why an entry wasn't done.
-fn refusal_of(error: TurnError) -> Refusal
+fn refusal_of(error: NetError) -> Refusal
     ensures { result ≡ spec.refusal_of error }
 {
     match error {
-        TurnError::Full(lack) => Refusal::Full {
+        NetError::Full(lack) => Refusal::Full {
             node: lack.node,
             part: lack.part,
             need: lack.need,
             free: lack.free,
         },
-        TurnError::Memory(_) => Refusal::Memory,
+        NetError::Memory(_) => Refusal::Memory,
     }
 }

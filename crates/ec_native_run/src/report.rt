@@ -31,7 +31,7 @@ fn push_nodes(
     ensures { OnOk result (out.new.items ≡ out.old.items ++ node_lines (counts_of net.now) 0 specs.now) }
 {
     for k in 0..specs.len() {
-        push_node(alloc, &specs[k], net.count_of(k as u32), out)?;
+        push_node(alloc, &specs[k], net.counts(k as u32), out)?;
     }
     Ok(())
 }

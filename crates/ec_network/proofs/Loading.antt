@@ -17,6 +17,7 @@ use Rattle.ec_packing.specs.Between.{IsBetween}
 use Rattle.ec_legs.specs.Legs.{IsCodeOf}
 use Rattle.ec_acts.specs.Loaded.{Loaded}
 use Rattle.ec_acts.specs.Worlds.{world_first}
+use Rattle.ec_network.proofs.Homes.{first_placed}
 use Rattle.ec_network.specs.Nets.{AreCode}
 use Rattle.ec_network.specs.Networks.{CanRun}
 use Rattle.ec_network.specs.Standing.{Stands, Works}
@@ -70,4 +71,5 @@ module _ (p : Parts) (images : Images) (specs : List NodeSpec) (s : System) (loa
       works = works_first;
       between = subst (λ (q : Parts). IsBetween q (world_first (length specs) p)) (sym loaded.parts)
           (first_between d p (subst (Fine d) loaded.parts runs.steady.fine) (length specs));
+      placed = first_placed (length specs) p;
     }

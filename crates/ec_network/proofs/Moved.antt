@@ -21,6 +21,7 @@ use Rattle.ec_packing.proofs.Worlds.{move_between}
 use Rattle.ec_packing.specs.Between.{IsBetween}
 use Rattle.ec_parcels.specs.Classes.{ClassTable}
 use Rattle.ec_world.specs.declared.room.Lack.{Lack}
+use Rattle.ec_network.proofs.Homes.{move_placed}
 use Rattle.ec_network.proofs.Standing.{literals_after}
 use Rattle.ec_network.specs.Moving.{MovedTo, is_idle_seen, members_moved, members_seen}
 use Rattle.ec_network.specs.Showing.{NoMove}
@@ -198,6 +199,7 @@ module _ (d : Declared) (s : System) (w : CodeWorld) (o k : ℕ) (stands : Stand
           works = works_then;
           between = subst (λ (p : Parts). IsBetween p (OperatorMove w o k)) (sym texts_then.parts)
               (move_between s.cluster.parts w o k stands.between);
+          placed = move_placed w o k stands.placed;
         };
       }
 

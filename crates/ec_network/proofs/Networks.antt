@@ -16,7 +16,7 @@ use Rattle.ec_network.specs.Turns.{RefusedIn, TurnedIn}
 use Rattle.ec_network.specs.Showing.{turned}
 use Rattle.ec_network.specs.declared.nodes_running.turns.Did.{Did}
 use Rattle.ec_network.specs.declared.nodes_running.turns.Did.TheVariants.{Idle, Acted, Moved}
-use Rattle.ec_network.specs.declared.nodes_running.turns.TurnError.TheVariants.{Full}
+use Rattle.ec_network.specs.declared.nodes_running.turns.NetError.TheVariants.{Full}
 use Rattle.ec_cluster.specs.declared.system.System.{System}
 use Rattle.ec_world.specs.Moves.{OperatorMove}
 

@@ -13,6 +13,7 @@ use Rattle.ec_network.specs.Acts.{Begins, Goes, HasActed, WasIdle}
 use Rattle.ec_packing.proofs.Worlds.{turn_between}
 use Rattle.ec_packing.specs.Between.{IsBetween}
 use Rattle.ec_parcels.specs.Classes.{ClassTable}
+use Rattle.ec_network.proofs.Homes.{turn_placed}
 use Rattle.ec_network.proofs.Standing.{works_acted}
 use Rattle.ec_network.proofs.Tops.{without_top}
 use Rattle.ec_network.specs.Running.{AfterAction, WentOn}
@@ -95,6 +96,7 @@ module _ (d : Declared) (old middle new : System) (w : CodeWorld) (p steps : ℕ
       works = works_then;
       between = subst (λ (x : Parts). IsBetween x (turned old w p)) (sym (parts_after old middle new w p steps came ran))
           (turn_between d old.cluster.parts s.works.goes.runs.steady.fine s.works.conditions w p s.works.goes.runs.sound s.between);
+      placed = turn_placed old.cluster.parts w p s.placed;
     };
   }
 

@@ -6,3 +6,4 @@ pub mod Running
 pub mod Turns
 pub mod Moving
 pub mod Networks
+pub mod Places

@@ -7,8 +7,8 @@ use Rattle.ec_network.specs.Showing.{MovedGroup, NoMove}
 use Rattle.ec_network.specs.Standing.{Stands}
 use Rattle.ec_network.specs.declared.nodes_running.turns.Did.{Did}
 use Rattle.ec_network.specs.declared.nodes_running.turns.Did.TheVariants.{Idle, Acted, Moved}
-use Rattle.ec_network.specs.declared.nodes_running.turns.TurnError.{TurnError}
-use Rattle.ec_network.specs.declared.nodes_running.turns.TurnError.TheVariants.{Full, Memory}
+use Rattle.ec_network.specs.declared.nodes_running.turns.NetError.{NetError}
+use Rattle.ec_network.specs.declared.nodes_running.turns.NetError.TheVariants.{Full, Memory}
 use Rattle.ec_cluster.specs.declared.system.System.{System}
 use Rattle.ec_world.specs.Doings.{any_fixed}
 use Rattle.ec_world.specs.Group.{group_of}
@@ -42,6 +42,6 @@ MovedIn d old new w o k Idle = NoMove old new w o k
 MovedIn d old new w o k (Acted steps) = ⊥
 MovedIn d old new w o k Moved = MovedTo d old new w o k
 
-abbrev pub MoveRefusedIn : System → System → CodeWorld → ℕ → ℕ → TurnError → Type 0
+abbrev pub MoveRefusedIn : System → System → CodeWorld → ℕ → ℕ → NetError → Type 0
 MoveRefusedIn old new w o k (Full lack) = FoundFull old new w (OperatorMove w o k) lack
 MoveRefusedIn old new w o k (Memory e) = Unit {0}

@@ -16,8 +16,8 @@ use Rattle.ec_network.specs.Standing.{HasNumbers, Stands, StandsInSome}
 use Rattle.ec_network.specs.Turns.{RefusedIn, TurnedIn}
 use Rattle.ec_network.specs.declared.nodes_running.network.Numbered.{Numbered}
 use Rattle.ec_network.specs.declared.nodes_running.turns.Did.{Did}
-use Rattle.ec_network.specs.declared.nodes_running.turns.TurnError.{TurnError}
-use Rattle.ec_network.specs.declared.nodes_running.turns.TurnError.TheVariants.{Full, Memory}
+use Rattle.ec_network.specs.declared.nodes_running.turns.NetError.{NetError}
+use Rattle.ec_network.specs.declared.nodes_running.turns.NetError.TheVariants.{Full, Memory}
 use Rattle.ec_code.specs.Code.{SmallProgram}
 use Rattle.ec_cluster.specs.declared.system.System.{System}
 use Rattle.ec_generate.specs.Limits.{CarriesFew}
@@ -53,7 +53,7 @@ abbrev pub NetTurned : Net → Net → ℕ → Did → Type 0
 NetTurned old new p did = ForStanding old (λ d s w. Now new (λ t. TurnedIn d s t w p did))
 
 -- want of memory spends a network, and a spent one meets nothing else
-abbrev pub NetRefused : Net → Net → ℕ → TurnError → Type 0
+abbrev pub NetRefused : Net → Net → ℕ → NetError → Type 0
 NetRefused old new p (Full lack) = IsSome old × ForStanding old (λ d s w. Now new (λ t. RefusedIn s t w p (Full lack)))
 NetRefused old new p (Memory e) = new ≡ None
 
@@ -63,7 +63,7 @@ abbrev pub NetMoved : Net → Net → ℕ → ℕ → Did → Type 0
 NetMoved old new o k did = ForStanding old (λ d s w. Now new (λ t. MovedIn d s t w o k did))
 
 -- a move is refused as a turn is
-abbrev pub NetMoveRefused : Net → Net → ℕ → ℕ → TurnError → Type 0
+abbrev pub NetMoveRefused : Net → Net → ℕ → ℕ → NetError → Type 0
 NetMoveRefused old new o k (Full lack) = IsSome old × ForStanding old (λ d s w. Now new (λ t. MoveRefusedIn s t w o k (Full lack)))
 NetMoveRefused old new o k (Memory e) = new ≡ None
 

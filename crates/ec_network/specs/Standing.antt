@@ -5,6 +5,7 @@ use Rattle.ec_cluster.specs.Cluster.{CodeWorld}
 use Rattle.ec_code.specs.Typing.{Declared}
 use Rattle.ec_legs.specs.Going.{HasCode, HasLiterals}
 use Rattle.ec_code.specs.Idle.{OfClasses}
+use Rattle.ec_moving.specs.Placed.{IsPlaced}
 use Rattle.ec_network.specs.Acts.{Goes}
 use Rattle.ec_packing.specs.Between.{IsBetween}
 use Rattle.ec_parcels.specs.Classes.{ClassTable}
@@ -27,10 +28,11 @@ pub record Works (d : Declared) (s : System) (w : CodeWorld) : Type 0 where
 abbrev pub WorksInSome : System → Type 0
 WorksInSome s = (d : Declared) × ((w : CodeWorld) × Works d s w)
 
--- The world is one between turns.
+-- The world is one between turns, with the object of each node at it.
 pub record Stands (d : Declared) (s : System) (w : CodeWorld) : Type 0 where
   pub works : Works d s w
   pub between : IsBetween s.cluster.parts w
+  pub placed : IsPlaced w.common
 
 -- some world
 abbrev pub StandsInSome : System → Type 0

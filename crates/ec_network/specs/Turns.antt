@@ -8,8 +8,8 @@ use Rattle.ec_network.specs.Showing.{NoTurn, TookTurn, turned}
 use Rattle.ec_network.specs.Standing.{Stands}
 use Rattle.ec_network.specs.declared.nodes_running.turns.Did.{Did}
 use Rattle.ec_network.specs.declared.nodes_running.turns.Did.TheVariants.{Idle, Acted, Moved}
-use Rattle.ec_network.specs.declared.nodes_running.turns.TurnError.{TurnError}
-use Rattle.ec_network.specs.declared.nodes_running.turns.TurnError.TheVariants.{Full, Memory}
+use Rattle.ec_network.specs.declared.nodes_running.turns.NetError.{NetError}
+use Rattle.ec_network.specs.declared.nodes_running.turns.NetError.TheVariants.{Full, Memory}
 use Rattle.ec_cluster.specs.declared.system.System.{System}
 use Rattle.ec_world.specs.World.{Action}
 
@@ -23,6 +23,6 @@ TurnedIn d old new w p Idle = NoTurn old new w p
 TurnedIn d old new w p (Acted steps) = TurnOf d old new w p steps
 TurnedIn d old new w p Moved = ⊥
 
-abbrev pub RefusedIn : System → System → CodeWorld → ℕ → TurnError → Type 0
+abbrev pub RefusedIn : System → System → CodeWorld → ℕ → NetError → Type 0
 RefusedIn old new w p (Full lack) = FoundFull old new w (Action code_meaning w p) lack
 RefusedIn old new w p (Memory e) = Unit {0}

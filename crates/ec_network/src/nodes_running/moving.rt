@@ -9,7 +9,7 @@ ghost use Rattle.ec_world.specs.Doings as spec;
 ghost use Rattle.ec_world.specs.Sights.{sight_of};
 
 use crate::nodes_running::seeing::seen;
-use crate::nodes_running::turns::{Did, TurnError};
+use crate::nodes_running::turns::{Did, NetError};
 use ec_cluster::seen::seen::Seen;
 use ec_cluster::system::System;
 use ec_gathering::gathering::gather;
@@ -26,7 +26,7 @@ pub(crate) fn shift(
     alloc: Global,
     o: Oid,
     k: NodeNo,
-) -> Result<Did, TurnError>
+) -> Result<Did, NetError>
     requires stands { StandsInSome system.old }
     requires numbers { HasNumbers system.old numbers.now }
     ensures moved { IfOk result (λ did. (d : Declared) (w : CodeWorld) → Stands d system.old w →
@@ -37,12 +37,12 @@ pub(crate) fn shift(
     let members = match members_of_move(&seen(system), alloc, o, k) {
         Ok(Some(members)) => members,
         Ok(None) => return Ok(Did::Idle),
-        Err(e) => return Err(TurnError::Memory(e)),
+        Err(e) => return Err(NetError::Memory(e)),
     };
     match gather(system, alloc, numbers, members.as_slice(), k + 1, None) {
         Ok(None) => Ok(Did::Moved),
-        Ok(Some(lack)) => Err(TurnError::Full(lack)),
-        Err(e) => Err(TurnError::Memory(e)),
+        Ok(Some(lack)) => Err(NetError::Full(lack)),
+        Err(e) => Err(NetError::Memory(e)),
     }
 }
 

@@ -2,7 +2,7 @@
 ghost use Rattle.std.specs.Prelude.{◌≡◌};
 
 use crate::nodes_running::seeing::seen;
-use crate::nodes_running::turns::{Did, TurnError};
+use crate::nodes_running::turns::{Did, NetError};
 use crate::nodes_running::{moving, turning};
 use ec_acts::load as loading;
 use ec_acts::load::LoadError;
@@ -53,6 +53,7 @@ impl Network {
     ghost use Rattle.ec_network.specs.Networks.{CanRun, ForStanding, NetLoaded, NetMoved, NetMoveRefused, NetRefused, NetTurned};
     ghost use Rattle.ec_network.specs.Networks.{class_at, fixed_at, status_at};
     ghost use Rattle.ec_network.specs.Nets.{counts_of};
+    ghost use Rattle.ec_network.specs.Places.{FixedStay, FixedStayUnlessRefixed, GoTogether, NodesAreHome, place_on};
     ghost use Rattle.ec_network.specs.Standing.{StandsInSome};
     ghost use Rattle.ec_rooms.specs.Places.{place_of};
 
@@ -103,40 +104,45 @@ impl Network {
     /// A turn of a process: the action of the stop at which it rests, then machine code up to the next stop. Where a node lacks room, the
     /// least one that does is told, blocks before text, and nothing has changed. Want of memory spends the network, and a spent one answers
     /// nothing else.
-    pub fn turn(&mut self, alloc: Global, p: Pid) -> Result<Did, TurnError>
+    pub fn turn(&mut self, alloc: Global, p: Pid) -> Result<Did, NetError>
         ensures turned { IfOk result (λ did. IsSome self.old × NetTurned self.old self.new p did) }
+        ensures fixed { IfOk result (λ did. FixedStayUnlessRefixed self.old self.new p) }
+        ensures nodes { IfOk result (λ did. NodesAreHome self.new) }
         ensures refused { IfErr result (λ e. NetRefused self.old self.new p e) }
     {
         let Some(loaded) = &mut self.loaded else {
-            return Err(TurnError::Memory(AllocError));
+            return Err(NetError::Memory(AllocError));
         };
         let Numbered { system, numbers } = loaded;
         match turning::turn(system, &mut self.machines, numbers, alloc, p) {
             Ok(did) => Ok(did),
-            Err(TurnError::Full(lack)) => Err(TurnError::Full(lack)),
-            Err(TurnError::Memory(e)) => {
+            Err(NetError::Full(lack)) => Err(NetError::Full(lack)),
+            Err(NetError::Memory(e)) => {
                 self.loaded = None;
-                Err(TurnError::Memory(e))
+                Err(NetError::Memory(e))
             }
         }
     }
 
     /// A move of an object's group by the operator to where the object of a node is; or nothing, where the object or the node isn't there,
     /// or a member of the group is fixed. It is refused as a turn is.
-    pub fn operator_move(&mut self, alloc: Global, o: Oid, k: NodeNo) -> Result<Did, TurnError>
+    pub fn operator_move(&mut self, alloc: Global, o: Oid, k: NodeNo) -> Result<Did, NetError>
         ensures moved { IfOk result (λ did. IsSome self.old × NetMoved self.old self.new o k did) }
+        ensures together { IfOk result (λ did. GoTogether self.old self.new o k did) }
+        ensures fixed { IfOk result (λ did. FixedStay self.old self.new) }
+        ensures nodes { IfOk result (λ did. NodesAreHome self.new) }
         ensures refused { IfErr result (λ e. NetMoveRefused self.old self.new o k e) }
     {
         let Some(loaded) = &mut self.loaded else {
-            return Err(TurnError::Memory(AllocError));
+            return Err(NetError::Memory(AllocError));
         };
         let Numbered { system, numbers } = loaded;
         match moving::shift(system, numbers, alloc, o, k) {
             Ok(did) => Ok(did),
-            Err(TurnError::Full(lack)) => Err(TurnError::Full(lack)),
-            Err(TurnError::Memory(e)) => {
+            Err(NetError::Full(lack)) => Err(NetError::Full(lack)),
+            Err(NetError::Memory(e)) => {
                 self.loaded = None;
-                Err(TurnError::Memory(e))
+                Err(NetError::Memory(e))
             }
         }
     }
@@ -183,13 +189,14 @@ impl Network {
     /// The node at which an object is, where it is there.
     pub fn place(&self, oid: Oid) -> Option<NodeNo>
         requires whole { IsSome self.now }
-        ensures { ForStanding self.now (λ d s w. result ≡ place_of w oid) }
+        ensures is { result ≡ place_on self.now oid }
+        ensures placed { ForStanding self.now (λ d s w. result ≡ place_of w oid) }
     {
         self.standing().cluster.directory.place(oid)
     }
 
     /// How many instructions a node has run, up to 2^64 - 1; 0 where it is not there, or the network is spent.
-    pub fn count_of(&self, k: NodeNo) -> u64
+    pub fn counts(&self, k: NodeNo) -> u64
         ensures { result ≡ counts_of self.now k }
     {
         match &self.loaded {

@@ -9,7 +9,7 @@ ghost use Rattle.ec_network.specs.Turns.{RefusedIn, TurnedIn};
 use crate::kernel::acting::act;
 use crate::kernel::acts::{ActError, Acted};
 use crate::nodes_running::running::{run_on, top_of};
-use crate::nodes_running::turns::{Did, TurnError};
+use crate::nodes_running::turns::{Did, NetError};
 use ec_cluster::system::System;
 use ec_legs::machines::Machines;
 use ec_parcels::mover::classes::ClassNumbers;
@@ -24,7 +24,7 @@ pub(crate) fn turn(
     numbers: &ClassNumbers,
     alloc: Global,
     p: Pid,
-) -> Result<Did, TurnError>
+) -> Result<Did, NetError>
     requires stands { StandsInSome system.old }
     requires numbers { HasNumbers system.old numbers.now }
     ensures turned { IfOk result (λ did. (d : Declared) (w : CodeWorld) → Stands d system.old w →
@@ -42,8 +42,8 @@ pub(crate) fn turn(
         Ok(Acted::Done) => Ok(Did::Acted {
             steps: run_if_done(system, machines, p),
         }),
-        Err(ActError::Full(lack)) => Err(TurnError::Full(lack)),
-        Err(ActError::Memory(e)) => Err(TurnError::Memory(e)),
+        Err(ActError::Full(lack)) => Err(NetError::Full(lack)),
+        Err(ActError::Memory(e)) => Err(NetError::Memory(e)),
     }
 }
 

@@ -1,6 +1,7 @@
 //! What a call of a network comes to.
 use ec_world::room::Lack;
 use std::alloc::AllocError;
+use thiserror::Error;
 
 /// What a turn did, or a move by the operator.
 #[derive(Drop)]
@@ -15,10 +16,12 @@ pub enum Did {
 }
 
 /// Why a turn was not taken, or a move by the operator not made.
-#[derive(Drop)]
-pub enum TurnError {
+#[derive(Clone, Copy, Debug, Error)]
+pub enum NetError {
     /// A node lacks room for it. Nothing has changed.
+    #[error("a node lacks room: {0:?}")]
     Full(Lack),
     /// There was no memory, or a table of numbers of 32 bits is full; or a call before this one has met that. The network is spent.
+    #[error("there was no memory")]
     Memory(AllocError),
 }

@@ -1,6 +1,7 @@
 -- A move on its system is one on the network.
 use Rattle.std.proofs.Common.{ap, sym, ◌∙◌, subst}
 use Rattle.ec_network.proofs.Networks.{has_left, is_there, move_full, moved_left, net_moved}
+use Rattle.ec_network.proofs.Places.{net_fixed_moved, net_together, nodes_home}
 use Rattle.ec_network.specs.Moving.{MoveRefusedIn}
 use Rattle.ec_network.specs.Networks.{IsLoaded, system_of}
 use Rattle.ec_network.proofs.nodes_running.network.Network.operator_move.Goals as goal
@@ -23,6 +24,22 @@ returns-in-Ok-clause-moved c =
       is_there c.args.self.now c.in-Some.loaded.system is,
       net_moved c.args.self.now c.in-Some.loaded.system c.shift.new.system c.args.o c.args.k c.in-Ok.did is c.in-Ok.ensures.moved,
     )
+
+pub returns-in-Ok-clause-together : goal.returns-in-Ok-clause-together
+returns-in-Ok-clause-together c =
+    net_together c.args.self.now c.in-Some.loaded.system c.shift.new.system c.args.o c.args.k c.in-Ok.did
+    (sym c.self.view_is ∙ ap system_of c.in-Some.is) c.in-Ok.ensures.moved
+
+pub returns-in-Ok-clause-fixed : goal.returns-in-Ok-clause-fixed
+returns-in-Ok-clause-fixed c =
+    net_fixed_moved c.args.self.now c.in-Some.loaded.system c.shift.new.system c.args.o c.args.k c.in-Ok.did
+    (sym c.self.view_is ∙ ap system_of c.in-Some.is) c.in-Ok.ensures.moved
+
+pub returns-in-Ok-clause-nodes : goal.returns-in-Ok-clause-nodes
+returns-in-Ok-clause-nodes c =
+    let loaded = subst IsLoaded c.in-Some.is c.self.invariant in
+    nodes_home c.shift.new.system
+    (moved_left c.in-Some.loaded.system c.shift.new.system c.args.o c.args.k c.in-Ok.did loaded.0 c.in-Ok.ensures.moved).stands
 
 pub returns-in-Err-Full-clause-refused : goal.returns-in-Err-Full-clause-refused
 returns-in-Err-Full-clause-refused c =

@@ -1,6 +1,7 @@
 -- A turn of its system is one of the network.
 use Rattle.std.proofs.Common.{ap, sym, ◌∙◌, subst}
 use Rattle.ec_network.proofs.Networks.{has_left, is_there, net_full, net_turned, turned_left}
+use Rattle.ec_network.proofs.Places.{net_fixed_turned, nodes_home}
 use Rattle.ec_network.specs.Networks.{IsLoaded, system_of}
 use Rattle.ec_network.specs.Turns.{RefusedIn}
 use Rattle.ec_network.proofs.nodes_running.network.Network.turn.Goals as goal
@@ -23,6 +24,17 @@ returns-in-Ok-clause-turned c =
       is_there c.args.self.now c.in-Some.loaded.system is,
       net_turned c.args.self.now c.in-Some.loaded.system c.turn.new.system c.args.p c.in-Ok.did is c.in-Ok.ensures.turned,
     )
+
+pub returns-in-Ok-clause-fixed : goal.returns-in-Ok-clause-fixed
+returns-in-Ok-clause-fixed c =
+    net_fixed_turned c.args.self.now c.in-Some.loaded.system c.turn.new.system c.args.p c.in-Ok.did
+    (sym c.self.view_is ∙ ap system_of c.in-Some.is) c.in-Ok.ensures.turned
+
+pub returns-in-Ok-clause-nodes : goal.returns-in-Ok-clause-nodes
+returns-in-Ok-clause-nodes c =
+    let loaded = subst IsLoaded c.in-Some.is c.self.invariant in
+    nodes_home c.turn.new.system
+    (turned_left c.in-Some.loaded.system c.turn.new.system c.args.p c.in-Ok.did loaded.0 c.in-Ok.ensures.turned).stands
 
 pub returns-in-Err-Full-clause-refused : goal.returns-in-Err-Full-clause-refused
 returns-in-Err-Full-clause-refused c =
