@@ -1,0 +1,6 @@
+//! Forwarding addresses: what each node knows of where objects are, which is made newer as they are looked for.
+#![tactic(auto)]
+
+pub mod address;
+pub mod known;
+mod trail;
