@@ -1,15 +1,17 @@
 -- Addresses that are right by an object's history.
-use Rattle.std.proofs.Common.{◌≡◌, ◌≢◌, ◌⊎◌, ℕ, zero, suc, ◌<◌, ◌≤◌, List, [], ◌∷◌, ◌++◌, length, Some, None, Option}
-use Rattle.std.proofs.Common.{refl, ap, sym, ◌∙◌, arith, inl, inr}
-use Rattle.std.proofs.lemmas.Bool.Decides.{eqb_tells}
-use Rattle.std.specs.Prelude.{IsSome, slice_get}
+use Rattle.std.proofs.Common.{◌≡◌, ◌≢◌, ◌⊎◌, ℕ, zero, suc, ◌<◌, ◌≤◌, List, [], ◌∷◌, ◌++◌, length, Some, None, Option, Bool, true, false, cond}
+use Rattle.std.proofs.Common.{refl, ap, sym, ◌∙◌, arith, inl, inr, subst}
+use Rattle.std.specs.Prelude.{Err, IfOk, Ok, OnErr, Result}
+use Rattle.std.proofs.lemmas.Bool.Decides.{eqb_tells, nat_tests}
+use Rattle.std.specs.Prelude.{◌==◌, IsSome, slice_get}
 use Rattle.ec_base.proofs.Lists.{get_within}
 use Rattle.ec_forwarding.proofs.Leading.{given, since, with_other, with_same}
 use Rattle.ec_forwarding.proofs.Searching.{each}
 use Rattle.ec_forwarding.specs.Addresses.{Addresses, AreRight, IsSince, address_in, with_address}
 use Rattle.ec_forwarding.specs.Following.{AreNewer, Leads}
-use Rattle.ec_forwarding.specs.Traces.{IsTraceOf, Trace, addresses_of}
+use Rattle.ec_forwarding.specs.Traces.{IsTraceOf, Trace, addresses_of, first_trace}
 use Rattle.ec_forwarding.specs.declared.address.Address.{Address}
+use Rattle.ec_forwarding.specs.declared.address.Known.{Known}
 
 same_node : (i j : ℕ) → Some i ≡ Some j → i ≡ j
 same_node i j e = cc
@@ -173,3 +175,48 @@ module _ (h : List ℕ) (t : Trace) (trace : IsTraceOf h t) where
     moves = ap (λ (x : Address). suc x.moves) newest ∙ trace.moves;
     right = still_right (addresses_of u) (each (addresses_of t) (addresses_of u) from k hops t.newest newer);
   }
+
+-- after a search that may have failed
+pub kept : {E : Type 0} (h : List ℕ) (t : Trace) (new : List Known) (from k : ℕ) (r : Result ℕ E) →
+    IfOk r (λ hops. AreNewer (addresses_of t) (address_in new) from k hops t.newest) → OnErr r (new ≡ t.known) → IsTraceOf h t →
+    IsTraceOf h (record { made = t.made; newest = t.newest; known = new })
+kept h t new from k (Ok hops) newer same trace =
+    searched h t trace (record { made = t.made; newest = t.newest; known = new }) from k hops refl refl newer
+kept h t new from k (Err e) newer same trace =
+    let P : List Known → Type 0 = λ ns. IsTraceOf h (record { made = t.made; newest = t.newest; known = ns }) in
+    subst P (sym same) trace
+
+-- after a move
+pub on : (h : List ℕ) (t : Trace) (to : ℕ) (new : List Known) (newest : Address) → t.newest.node ≢ to → newest.node ≡ to →
+    newest.moves ≡ suc t.newest.moves →
+    ((k : ℕ) → address_in new k ≡ with_address (with_address (addresses_of t) to newest) t.newest.node newest k) → IsTraceOf h t →
+    IsTraceOf (h ++ to ∷ []) (record { made = t.made; newest = newest; known = new })
+on h t to new newest elsewhere at one known trace =
+    gone h t trace to elsewhere (record { made = t.made; newest = newest; known = new }) refl at one known
+
+-- where an object was just made
+one_is : (b : Bool) (x a : Address) → cond b (Some x) None ≡ Some a → x ≡ a
+one_is true x a e = cc
+one_is false x a e = cc
+
+first_known : (at c k : ℕ) → slice_get (at ∷ []) c ≡ Some k → IsSince c (addresses_of (first_trace at) k)
+first_known at zero k e =
+    let same = same_node at k e in
+    let is : (at == k) ≡ true = grind (arith, nat_tests) in
+    rw is (omega arith)
+first_known at (suc c) k e = cc
+
+pub made : (at : ℕ) → IsTraceOf (at ∷ []) (first_trace at)
+made at =
+    let newest : Address = record { node = at; moves = 0 } in
+    record {
+      first = refl;
+      last = refl;
+      moves = refl;
+      right = record {
+        say = λ k a e. let is = one_is (at == k) newest a e in
+            sym (ap (λ (x : Address). slice_get (at ∷ []) x.moves) is) ∙ ap (λ (x : Address). Some x.node) is;
+        known = first_known at;
+        own = λ k a e _. let is = one_is (at == k) newest a e in sym (ap (λ (x : Address). suc x.moves) is);
+      };
+    }

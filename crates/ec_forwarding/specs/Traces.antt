@@ -20,7 +20,7 @@ start_of t from = own_or_made (addresses_of t from) from t.made
 
 -- the trace of an object that was just made at a node, which alone knows it
 abbrev pub first_trace : ℕ → Trace
-first_trace at = let address = record { node = at; moves = 0 } in record {
+first_trace at = let address : Address = record { node = at; moves = 0 } in record {
   made = at;
   newest = address;
   known = record { at = at; address = address } ∷ [];

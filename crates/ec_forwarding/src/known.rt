@@ -15,7 +15,7 @@ fn index_of(known: &[Known], node: NodeNo) -> Option<usize>
 }
 
 /// Whether a node has one.
-pub(crate) fn is_known(known: &[Known], node: NodeNo) -> bool
+fn is_known(known: &[Known], node: NodeNo) -> bool
     ensures { result ≡ is_some (address_in known.now node) }
 {
     index_of(known, node).is_some()
@@ -31,7 +31,7 @@ fn address_of(known: &[Known], node: NodeNo) -> Address
 }
 
 /// A node that has an address gets another.
-pub(crate) fn renew(known: &mut [Known], node: NodeNo, address: Address)
+fn renew(known: &mut [Known], node: NodeNo, address: Address)
     requires { IsSome (address_in known.old node) }
     ensures { (k : ℕ) → address_in known.new k ≡ with_address (address_in known.old) node address k }
 {
@@ -40,7 +40,7 @@ pub(crate) fn renew(known: &mut [Known], node: NodeNo, address: Address)
 }
 
 /// A node gets an address, whether or not it had one.
-pub(crate) fn note(known: &mut Vec<Known>, node: NodeNo, address: Address) -> Result<(), AllocError>
+fn note(known: &mut Vec<Known>, node: NodeNo, address: Address) -> Result<(), AllocError>
     ensures ok { OnOk result ((k : ℕ) → address_in known.new.items k ≡ with_address (address_in known.old.items) node address k) }
     ensures err { OnErr result (known.new.items ≡ known.old.items) }
 {
@@ -52,8 +52,20 @@ pub(crate) fn note(known: &mut Vec<Known>, node: NodeNo, address: Address) -> Re
     Ok(())
 }
 
+/// Two nodes get an address, of which the first had one.
+pub(crate) fn note_both(known: &mut Vec<Known>, from: NodeNo, to: NodeNo, address: Address) -> Result<(), AllocError>
+    requires { IsSome (address_in known.old.items from) }
+    ensures ok { OnOk result ((k : ℕ) →
+        address_in known.new.items k ≡ with_address (with_address (address_in known.old.items) to address) from address k) }
+    ensures err { OnErr result (known.new.items ≡ known.old.items) }
+{
+    note(known, to, address)?;
+    renew(known, from, address);
+    Ok(())
+}
+
 /// How many addresses one follows from a node on, behind its own, until one names the place of the object.
-pub(crate) fn hops_from(known: &[Known], start: NodeNo, newest: Address) -> u64
+fn hops_from(known: &[Known], start: NodeNo, newest: Address) -> u64
     requires start { IsSome (address_in known.now start) }
     requires leads { Leads (address_in known.now) newest }
     ensures found { IsFound (address_in known.now) start newest.node result }
@@ -69,7 +81,7 @@ pub(crate) fn hops_from(known: &[Known], start: NodeNo, newest: Address) -> u64
 }
 
 /// The nodes that one passes in so many hops get the newest address.
-pub(crate) fn shorten(known: &mut [Known], start: NodeNo, hops: u64, newest: Address)
+fn shorten(known: &mut [Known], start: NodeNo, hops: u64, newest: Address)
     requires start { IsSome (address_in known.old start) }
     requires leads { Leads (address_in known.old) newest }
     requires found { IsFound (address_in known.old) start newest.node hops }

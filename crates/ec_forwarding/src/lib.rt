@@ -2,5 +2,8 @@
 #![tactic(auto)]
 
 pub mod address;
-pub mod known;
+pub mod forwarding;
+mod known;
+#[cfg(test)]
+mod tests;
 mod trail;

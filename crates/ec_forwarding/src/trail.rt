@@ -5,7 +5,7 @@ ghost use Rattle.ec_forwarding.specs.Following.{AreNewer, IsFound};
 ghost use Rattle.ec_forwarding.specs.Traces.{IsTraceOf, addresses_of, first_trace, start_of};
 
 use crate::address::{Address, Known};
-use crate::known::{find, note, renew};
+use crate::known::{find, note_both};
 use ec_world::value::NodeNo;
 use std::alloc::{AllocError, Global};
 use std::marker::Model;
@@ -50,6 +50,13 @@ impl Trail {
         self.newest.node
     }
 
+    /// How often it has moved.
+    pub fn moves(&self) -> u64
+        ensures { result ≡ self.now.newest.moves }
+    {
+        self.newest.moves
+    }
+
     /// The object goes to another node. The error is want of memory.
     pub fn go(&mut self, to: NodeNo) -> Result<(), AllocError>
         requires elsewhere { self.old.newest.node ≢ to }
@@ -65,8 +72,7 @@ impl Trail {
             node: to,
             moves: self.newest.moves + 1,
         };
-        note(&mut self.known, to, newest)?;
-        renew(&mut self.known, self.newest.node, newest);
+        note_both(&mut self.known, self.newest.node, to, newest)?;
         self.newest = newest;
         Ok(())
     }
