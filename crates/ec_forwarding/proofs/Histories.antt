@@ -1,5 +1,6 @@
 -- Addresses that are right by an object's history.
-use Rattle.std.proofs.Common.{◌≡◌, ◌≢◌, ◌⊎◌, ℕ, zero, suc, ◌<◌, ◌≤◌, List, [], ◌∷◌, ◌++◌, length, Some, None, Option, Bool, true, false, cond}
+use Rattle.std.proofs.Common.{◌≡◌, ◌≢◌, ◌⊎◌, ℕ, zero, suc, ◌<◌, ◌≤◌}
+use Rattle.std.proofs.Common.{List, [], ◌∷◌, ◌++◌, length, Some, None, Option, Bool, true, false, cond}
 use Rattle.std.proofs.Common.{refl, ap, sym, ◌∙◌, arith, inl, inr, subst}
 use Rattle.std.specs.Prelude.{Err, IfOk, Ok, OnErr, Result}
 use Rattle.std.proofs.lemmas.Bool.Decides.{eqb_tells, nat_tests}
@@ -60,9 +61,9 @@ module _ (h : List ℕ) (t : Trace) (trace : IsTraceOf h t) where
         let says = trace.right.say k a e in
         let it = since a.moves (addresses_of t a.node) (trace.right.known a.moves a.node says) in
         let newer : a.moves ≢ it.0.moves = λ same.
-            let to : it.0.node ≡ a.node =
-                same_node it.0.node a.node (sym (trace.right.say a.node it.0 it.1) ∙ ap (slice_get h) (sym same) ∙ says) in
-            away (at_place a.node it.0 it.1 to) in
+        let to : it.0.node ≡ a.node =
+        same_node it.0.node a.node (sym (trace.right.say a.node it.0 it.1) ∙ ap (slice_get h) (sym same) ∙ says) in
+        away (at_place a.node it.0 it.1 to) in
         let no_older = it.2 in
         is_since (suc a.moves) (addresses_of t a.node) it.0 it.1 (omega arith);
     old = λ k a e.
@@ -100,12 +101,15 @@ module _ (h : List ℕ) (t : Trace) (trace : IsTraceOf h t) where
       (one : u.newest.moves ≡ suc t.newest.moves)
       (known : (k : ℕ) → addresses_of u k ≡ with_address (with_address (addresses_of t) to u.newest) t.newest.node u.newest k) where
     -- the two nodes of the move have the newest address, and the others what they had
-    split : (k : ℕ) → (addresses_of u k ≡ Some u.newest) ⊎ ((k ≢ t.newest.node) × (addresses_of u k ≡ addresses_of t k))
-    split k = elim (eqb_tells k t.newest.node) as (λ _. (addresses_of u k ≡ Some u.newest) ⊎ ((k ≢ t.newest.node) × (addresses_of u k ≡ addresses_of t k))) [
+    abbrev IsEither : ℕ → Type 0
+    IsEither k = (addresses_of u k ≡ Some u.newest) ⊎ ((k ≢ t.newest.node) × (addresses_of u k ≡ addresses_of t k))
+
+    split : (k : ℕ) → IsEither k
+    split k = elim (eqb_tells k t.newest.node) as (λ _. IsEither k) [
       | inl is ↦ inl (known k ∙ with_same (with_address (addresses_of t) to u.newest) t.newest.node u.newest k is.1)
       | inr away ↦
           let rest = known k ∙ with_other (with_address (addresses_of t) to u.newest) t.newest.node u.newest k away.1 in
-          elim (eqb_tells k to) as (λ _. (addresses_of u k ≡ Some u.newest) ⊎ ((k ≢ t.newest.node) × (addresses_of u k ≡ addresses_of t k))) [
+          elim (eqb_tells k to) as (λ _. IsEither k) [
             | inl is ↦ inl (rest ∙ with_same (addresses_of t) to u.newest k is.1)
             | inr apart ↦ inr (away.1, rest ∙ with_other (addresses_of t) to u.newest k apart.1)
           ]

@@ -2,10 +2,10 @@
 use Rattle.std.proofs.Common.{◌≡◌, ◌≢◌, ◌⊎◌, ℕ, zero, suc, ◌<◌, ◌≤◌, Some, None, Option}
 use Rattle.std.proofs.Common.{refl, ap, sym, ◌∙◌, arith, inl, inr}
 use Rattle.std.proofs.lemmas.Bool.Decides.{eqb_tells}
-use Rattle.std.specs.Prelude.{IsSome, is_some, false, true}
-use Rattle.ec_forwarding.proofs.Leading.{Climbed, climbs, given, since, with_other, with_same}
+use Rattle.std.specs.Prelude.{IsSome, false, is_some, true}
+use Rattle.ec_forwarding.proofs.Leading.{climbs, given, since, with_other, with_same}
 use Rattle.ec_forwarding.specs.Addresses.{Addresses, IsSince, with_address}
-use Rattle.ec_forwarding.specs.Following.{AreNewer, AreShortened, IsAside, IsFound, IsNotPassed, Leads, named, named_at, node_after, own_or_made}
+use Rattle.ec_forwarding.specs.Following.{AreNewer, AreShortened, IsFound, IsNotPassed, Leads, named, named_at, node_after, own_or_made}
 use Rattle.ec_forwarding.specs.declared.address.Address.{Address}
 
 -- a node was passed, or it wasn't
@@ -69,7 +69,8 @@ names : (o : Option Address) (j : ℕ) → named o ≡ Some j → (a : Address) 
 names None j e = cc
 names (Some a) j e = (a, refl, cc)
 
-came : (A : Addresses) (o : Option ℕ) (j : ℕ) → named_at A o ≡ Some j → (k : ℕ) × (a : Address) × (o ≡ Some k) × (A k ≡ Some a) × (a.node ≡ j)
+came : (A : Addresses) (o : Option ℕ) (j : ℕ) → named_at A o ≡ Some j →
+    (k : ℕ) × (a : Address) × (o ≡ Some k) × (A k ≡ Some a) × (a.node ≡ j)
 came A None j e = cc
 came A (Some k) j e = let it = names (A k) j e in (k, it.0, refl, it.1, it.2)
 

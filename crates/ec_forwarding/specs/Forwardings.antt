@@ -1,4 +1,5 @@
--- What forwarding addresses give of objects. They are seen as the traces of all objects, in the order of their numbers, which are those from 1 on.
+-- What forwarding addresses give of objects. They are seen as the traces of all objects, in the order of their numbers, which are
+-- those from 1 on.
 use Rattle.std.specs.Prelude.{ℕ, zero, suc, ◌==◌, if◌then◌else◌, List, [], ◌∷◌, ◌++◌, length, Option, None, Some, MatchOption}
 use Rattle.std.specs.Prelude.{option_map, slice_get, unwrap_or}
 use Rattle.ec_forwarding.specs.Addresses.{Addresses}

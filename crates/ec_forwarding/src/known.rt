@@ -53,7 +53,12 @@ fn note(known: &mut Vec<Known>, node: NodeNo, address: Address) -> Result<(), Al
 }
 
 /// Two nodes get an address, of which the first had one.
-pub(crate) fn note_both(known: &mut Vec<Known>, from: NodeNo, to: NodeNo, address: Address) -> Result<(), AllocError>
+pub(crate) fn note_both(
+    known: &mut Vec<Known>,
+    from: NodeNo,
+    to: NodeNo,
+    address: Address,
+) -> Result<(), AllocError>
     requires { IsSome (address_in known.old.items from) }
     ensures ok { OnOk result ((k : ℕ) →
         address_in known.new.items k ≡ with_address (with_address (address_in known.old.items) to address) from address k) }
@@ -98,10 +103,16 @@ fn shorten(known: &mut [Known], start: NodeNo, hops: u64, newest: Address)
 
 /// How many hops it takes to find the object from a node. This node and those that it passes have the newest address from then on.
 /// The error is want of memory.
-pub(crate) fn find(known: &mut Vec<Known>, made: NodeNo, from: NodeNo, newest: Address) -> Result<u64, AllocError>
+pub(crate) fn find(
+    known: &mut Vec<Known>,
+    made: NodeNo,
+    from: NodeNo,
+    newest: Address,
+) -> Result<u64, AllocError>
     requires made { IsSome (address_in known.old.items made) }
     requires leads { Leads (address_in known.old.items) newest }
-    ensures found { let A = address_in known.old.items in IfOk result (λ hops. IsFound A (own_or_made (A from) from made) newest.node hops) }
+    ensures found { let A = address_in known.old.items in
+        IfOk result (λ hops. IsFound A (own_or_made (A from) from made) newest.node hops) }
     ensures few { IfOk result (λ hops. hops ≤ newest.moves) }
     ensures newer { let A = address_in known.old.items in
         IfOk result (λ hops. AreNewer A (address_in known.new.items) from (own_or_made (A from) from made) hops newest) }

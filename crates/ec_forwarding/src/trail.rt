@@ -35,7 +35,10 @@ impl Trail {
     {
         let newest = Address { node: at, moves: 0 };
         let mut known = Vec::new(alloc);
-        known.push(Known { at, address: newest })?;
+        known.push(Known {
+            at,
+            address: newest,
+        })?;
         Ok(Trail {
             made: at,
             newest,

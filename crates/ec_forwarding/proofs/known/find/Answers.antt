@@ -11,7 +11,8 @@ use Rattle.ec_forwarding.proofs.known.find.Goals as goal
 -- the node has an address
 own : (ns lent short : List Known) (made from hops n : ℕ) (m : Address) → lent ≡ ns → is_some (address_in ns from) ≡ true →
     length short ≡ n → length ns ≡ n → AreShortened (address_in lent) (address_in short) from hops m →
-    AreNewer (address_in ns) (address_in (take n (short ++ drop (length short) ns))) from (own_or_made (address_in ns from) from made) hops m
+    AreNewer (address_in ns) (address_in (take n (short ++ drop (length short) ns))) from (own_or_made (address_in ns from) from made)
+    hops m
 own ns lent short made from hops n m is there a b h =
     let P : List Known → Type 0 = λ xs. AreNewer (address_in ns) (address_in xs) from (own_or_made (address_in ns from) from made) hops m in
     let Q : List Known → Type 0 = λ xs. AreShortened (address_in xs) (address_in short) from hops m in
@@ -41,7 +42,8 @@ module _ (ns : List Known) (made from : ℕ) (m : Address) (none : is_some (addr
       AreNewer (address_in ns) (address_in (take n (short ++ drop (length short) pushed))) from (own_or_made (address_in ns from) from made)
       hops m
   newer hops n short pushed same start leads found a b h =
-      let P : List Known → Type 0 = λ xs. AreNewer (address_in ns) (address_in xs) from (own_or_made (address_in ns from) from made) hops m in
+      let P : List Known → Type 0 =
+      λ xs. AreNewer (address_in ns) (address_in xs) from (own_or_made (address_in ns from) from made) hops m in
       let R : ℕ → Type 0 = λ k. AreNewer (address_in ns) (address_in short) from k hops m in
       subst P (sym (whole n short pushed a b))
       (subst R (sym (made_is (address_in ns from) from made none))
@@ -52,8 +54,8 @@ returns-then-is_known-clause-newer c =
     let ns = c.args.known.now.items in
     let there = ap (λ xs. is_some (address_in xs c.args.from)) (sym c.deref.ensures.value) ∙ sym c.is_known.ensures ∙ c.if-is_known.true in
     own ns c.deref_mut.result.now c.shorten.new.known c.args.made c.args.from c.hops_from-hops.result _ c.args.newest
-    c.deref_mut.ensures.value there (cc (c.shorten.auto.known, c.deref_mut.ensures.len)) (cc (c.deref_mut.ensures.value, c.deref_mut.ensures.len))
-    c.shorten.ensures
+    c.deref_mut.ensures.value there (cc (c.shorten.auto.known, c.deref_mut.ensures.len))
+    (cc (c.deref_mut.ensures.value, c.deref_mut.ensures.len)) c.shorten.ensures
 
 pub shorten-requires-else-is_known-clause-start : goal.shorten-requires-else-is_known-clause-start
 shorten-requires-else-is_known-clause-start c =

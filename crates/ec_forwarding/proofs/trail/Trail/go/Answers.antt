@@ -15,11 +15,12 @@ invariant_of-self-2 c =
     let s = c.self.inside in
     let t : Trace = record { made = s.made; newest = s.newest; known = s.known.items } in
     let h = c.self.invariant in
-    let newest : Address = record { node = c.args.to; moves = s.newest.moves + 1 } in
-    (h.0 ++ c.args.to ∷ [],
-    on h.0 t c.args.to c.note_both.new.known.items newest
-    (λ e. c.requires.elsewhere (sym (ap (λ (x : Trace). x.newest.node) c.self.view_is) ∙ e)) refl (add-one s.newest.moves)
-    c.in_ok-note_both.ensures.ok h.1)
+    let newest : Address = record { node = c.args.to; moves = s.newest.moves + 1 } in (
+      h.0 ++ c.args.to ∷ [],
+      on h.0 t c.args.to c.note_both.new.known.items newest
+          (λ e. c.requires.elsewhere (sym (ap (λ (x : Trace). x.newest.node) c.self.view_is) ∙ e)) refl (add-one s.newest.moves)
+          c.in_ok-note_both.ensures.ok h.1,
+    )
 
 pub returns-clause-right : goal.returns-clause-right
 returns-clause-right c = λ h trace.
