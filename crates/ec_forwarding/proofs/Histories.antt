@@ -1,12 +1,12 @@
 -- Addresses that are right by an object's history.
-use Rattle.std.proofs.Common.{◌≡◌, ◌≢◌, ◌⊎◌, ℕ, zero, suc, ◌<◌, ◌≤◌}
+use Rattle.std.proofs.Common.{◌≡◌, ◌≢◌, ◌⊎◌, ℕ, zero, suc, ◌≤◌}
 use Rattle.std.proofs.Common.{List, [], ◌∷◌, ◌++◌, length, Some, None, Option, Bool, true, false, cond}
 use Rattle.std.proofs.Common.{refl, ap, sym, ◌∙◌, arith, inl, inr, subst}
 use Rattle.std.specs.Prelude.{Err, IfOk, Ok, OnErr, Result}
 use Rattle.std.proofs.lemmas.Bool.Decides.{eqb_tells, nat_tests}
 use Rattle.std.specs.Prelude.{◌==◌, IsSome, slice_get}
 use Rattle.ec_base.proofs.Lists.{get_within}
-use Rattle.ec_forwarding.proofs.Leading.{given, since, with_other, with_same}
+use Rattle.ec_forwarding.proofs.Leading.{since, with_other, with_same}
 use Rattle.ec_forwarding.proofs.Searching.{each}
 use Rattle.ec_forwarding.specs.Addresses.{Addresses, AreRight, IsSince, address_in, with_address}
 use Rattle.ec_forwarding.specs.Following.{AreNewer, Leads}
