@@ -1,0 +1,4 @@
+pub mod Knowing
+pub mod Leading
+pub mod Searching
+pub mod Histories

@@ -1,0 +1,4 @@
+pub mod Addresses
+pub mod Following
+pub mod Traces
+pub mod Forwardings

@@ -1,0 +1,117 @@
+//! Forwarding addresses of objects.
+ghost use Rattle.std.specs.Prelude.{◌≡◌, ◌≢◌, ◌+◌, ◌-◌, ◌^◌, ◌<◌, ◌≤◌, ◌↔◌, ℕ, suc, List, [], ◌∷◌, IsSome, IfOk, OnOk, OnErr, Some};
+ghost use Rattle.ec_forwarding.specs.Addresses.{with_address};
+ghost use Rattle.ec_forwarding.specs.Following.{AreNewer, IsFound};
+ghost use Rattle.ec_forwarding.specs.Forwardings.{HasHistory, address_on, addresses_at, count_of_move, history_on, made_count};
+ghost use Rattle.ec_forwarding.specs.Forwardings.{moves_at, moves_of, no_addresses, place_at, start_at, trace_at};
+
+use crate::trail::Trail;
+use ec_world::value::{NodeNo, Oid};
+use std::alloc::{AllocError, Global};
+use std::marker::Model;
+
+/// What each node knows of where objects are, which have the numbers from 1 on. `place` takes the same time however many objects
+/// there are; the others look through what the nodes know of their one object.
+#[derive(Drop)]
+pub struct Forwarding {
+    trails: Vec<Trail>,
+}
+
+impl Model for Forwarding {
+    ghost use Rattle.std.specs.Prelude.{List};
+    ghost use Rattle.ec_forwarding.specs.Traces.{Trace};
+
+    ghost Value = { List Trace };
+
+    ghost view = { λ f. f.trails.items };
+}
+
+impl Forwarding {
+    /// The addresses before any object is made.
+    pub fn new(alloc: Global) -> Forwarding
+        ensures { result ≡ [] }
+    {
+        Forwarding {
+            trails: Vec::new(alloc),
+        }
+    }
+
+    /// Notes that the next object was made at a node. The error is want of memory.
+    pub fn note_made(&mut self, oid: Oid, at: NodeNo) -> Result<(), AllocError>
+        requires next { oid ≡ suc (made_count self.old) }
+        ensures count { OnOk result (made_count self.new ≡ suc (made_count self.old)) }
+        ensures place { OnOk result (place_at self.new oid ≡ Some at) }
+        ensures moves { OnOk result (moves_of self.new oid ≡ 0) }
+        ensures addresses { OnOk result ((k : ℕ) →
+            addresses_at self.new oid k ≡ with_address no_addresses at (record { node = at; moves = 0 }) k) }
+        ensures history { OnOk result (HasHistory self.new oid (at ∷ [])) }
+        ensures others { (o : ℕ) → o ≢ oid → trace_at self.new o ≡ trace_at self.old o }
+        ensures err { OnErr result (self.new ≡ self.old) }
+    {
+        let trail = Trail::new(*self.trails.allocator(), at)?;
+        self.trails.push(trail)?;
+        Ok(())
+    }
+
+    /// Notes that an object went from the node where it was to another, or to the same, which changes nothing. The error is want
+    /// of memory.
+    pub fn note_move(&mut self, oid: Oid, from: NodeNo, to: NodeNo) -> Result<(), AllocError>
+        requires there { place_at self.old oid ≡ Some from }
+        requires few { moves_of self.old oid < 2 ^ 64 - 1 }
+        ensures count { made_count self.new ≡ made_count self.old }
+        ensures place { OnOk result (place_at self.new oid ≡ Some to) }
+        ensures moves { OnOk result (moves_of self.new oid ≡ moves_of self.old oid + count_of_move from to) }
+        ensures stays { OnOk result (from ≡ to → self.new ≡ self.old) }
+        ensures addresses { let newest = address_on self.old oid to in OnOk result (from ≢ to → (k : ℕ) →
+            addresses_at self.new oid k ≡ with_address (with_address (addresses_at self.old oid) to newest) from newest k) }
+        ensures history { OnOk result ((history : List ℕ) →
+            HasHistory self.old oid history → HasHistory self.new oid (history_on history from to)) }
+        ensures others { (o : ℕ) → o ≢ oid → trace_at self.new o ≡ trace_at self.old o }
+        ensures err { OnErr result (self.new ≡ self.old) }
+    {
+        if from != to {
+            self.trails[oid as usize - 1].go(to)?;
+        }
+        Ok(())
+    }
+
+    /// The node where an object is, and how many hops it takes to find it from a node: how many addresses one follows behind the
+    /// first, which is the node's own, or where it has none that of the node where the object was made. The node and those that
+    /// are passed have the newest address from then on. The error is want of memory.
+    pub fn find(&mut self, from: NodeNo, oid: Oid) -> Result<(NodeNo, u64), AllocError>
+        requires made { IsSome (place_at self.old oid) }
+        ensures found { IfOk result (λ answer. place_at self.old oid ≡ Some answer.0) }
+        ensures hops { IfOk result (λ answer. IsFound (addresses_at self.old oid) (start_at self.old oid from) answer.0 answer.1) }
+        ensures few_hops { IfOk result (λ answer. answer.1 ≤ moves_of self.old oid) }
+        ensures newer { IfOk result (λ answer. AreNewer (addresses_at self.old oid) (addresses_at self.new oid) from
+            (start_at self.old oid from) answer.1 (record { node = answer.0; moves = moves_of self.old oid })) }
+        ensures again { IfOk result (λ answer. IsFound (addresses_at self.new oid) (start_at self.new oid from) answer.0 0) }
+        ensures count { made_count self.new ≡ made_count self.old }
+        ensures places { (o : ℕ) → place_at self.new o ≡ place_at self.old o }
+        ensures moves { (o : ℕ) → moves_of self.new o ≡ moves_of self.old o }
+        ensures histories { (o : ℕ) (history : List ℕ) → HasHistory self.old o history → HasHistory self.new o history }
+        ensures others { (o : ℕ) → o ≢ oid → trace_at self.new o ≡ trace_at self.old o }
+        ensures err { OnErr result (self.new ≡ self.old) }
+    {
+        let trail = &mut self.trails[oid as usize - 1];
+        let place = trail.place();
+        let hops = trail.find(from)?;
+        Ok((place, hops))
+    }
+
+    /// The node where an object is; none exactly where no object of this number was made.
+    pub fn place(&self, oid: Oid) -> Option<NodeNo>
+        ensures at { result ≡ place_at self.now oid }
+        ensures made { IsSome result ↔ ((0 < oid) × (oid ≤ made_count self.now)) }
+    {
+        let i = (oid as usize).checked_sub(1)?;
+        Some(self.trails.get(i)?.place())
+    }
+    /// How often an object has moved; none exactly where no object of this number was made.
+    pub fn moves(&self, oid: Oid) -> Option<u64>
+        ensures { result ≡ moves_at self.now oid }
+    {
+        let i = (oid as usize).checked_sub(1)?;
+        Some(self.trails.get(i)?.moves())
+    }
+}
