@@ -36,7 +36,7 @@ use Rattle.ec_parser.specs.Terminals.{terminal_of_kind, terminal_of_name}
 use Rattle.ec_plain.specs.Plain.{IsPlainRun, source_run}
 use Rattle.ec_report.specs.declared.status.Status.TheVariants as statuses
 use Rattle.ec_rules.specs.Faults.{IsAccepted}
-use Rattle.ec_tool.specs.Sources.{IsProgram}
+use Rattle.ec_tool.specs.Sources.{IsProgramText}
 use Rattle.ec_world.specs.Run.{run_after, end_of}
 use Rattle.ec_world.specs.declared.node.Kind.TheVariants.{Riscv}
 use Rattle.ec_world.specs.declared.node.NodeSpec.{NodeSpec}
@@ -47,7 +47,7 @@ abbrev budget : ℕ
 budget = 1000000
 
 -- a node
-abbrev one_node : NodeSpec
+abbrev pub one_node : NodeSpec
 one_node = record { name = codes "a"; kind = Riscv; blocks = 100; text = 1000 }
 
 -- on the one node and without a schedule the source is finished after so many entries, with this report
@@ -56,10 +56,10 @@ Finishes meant entries text = (run : IsPlainRun meant (one_node ∷ []) [] budge
 
 -- ---- no constant
 
-abbrev empty : Program
+abbrev pub empty : Program
 empty = record { constants = [] }
 
-pub empty_is_program : IsAccepted empty → IsProgram [] [] empty
+pub empty_is_program : IsAccepted empty → IsProgramText [] [] empty
 unfolding nestings_of
 empty_is_program accepted = record {
   has_tokens = record { short = lit≤ tt; all = ended };
@@ -240,7 +240,7 @@ hello_is_shallow = (
   ),
 )
 
-pub hello_is_program : IsAccepted hello → IsProgram hello_source hello_tokens hello
+pub hello_is_program : IsAccepted hello → IsProgramText hello_source hello_tokens hello
 hello_is_program accepted = record {
   has_tokens = record { short = lit≤ tt; all = hello_has_tokens };
   has_tree = hello_has_tree;

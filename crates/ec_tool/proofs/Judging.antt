@@ -1,7 +1,7 @@
 -- What is said of files that were judged, by the status.
 use Rattle.std.proofs.Common.{◌≡◌, ◌⊎◌, inl, inr, ℕ, List, Option, Some, None, Ok, Err, refl, sym, ap, subst, ◌∙◌}
-use Rattle.ec_tool.specs.Asked.{name_in, name_of, file_limit, AreRead, AreMade, Takes, Checks}
-use Rattle.ec_tool.specs.Promises.{IsRunStatus, EndsWith, IsNoSource, IsNoInput, HasEnded, HasAccepted, IsRun, AreInputs, AreAccepted}
+use Rattle.ec_tool.specs.Asked.{name_in, file_name, file_limit, AreRead, AreMade, TakesToNodes, Checks}
+use Rattle.ec_tool.specs.Promises.{IsRunStatus, EndsWith, IsNoSource, IsNoInput, CommandEnded, HasAccepted, IsRun, AreInputs, AreAccepted}
 use Rattle.ec_tool.specs.Promises.IsRunStatus.{Finishes}
 use Rattle.ec_tool.specs.Promises.BreaksRule.{ByNodes, BySchedule}
 use Rattle.ec_tool.specs.Verdict.{Judged}
@@ -16,12 +16,11 @@ use Rattle.ec_inputs.specs.Words.{CommandWords}
 use Rattle.ec_inputs.specs.Words.{CommandWords as command}
 use Rattle.ec_inputs.specs.declared.nodes.NodeRule.{NodeRule}
 use Rattle.ec_inputs.specs.declared.schedule.ScheduleRule.{ScheduleRule}
-use Rattle.ec_meaning.specs.Programs.{Source as Meant}
 use Rattle.ec_native_run.specs.Runs.{Net}
 use Rattle.ec_outside.specs.Whole.{IsWhole}
 use Rattle.ec_report.specs.declared.status.Status.{Status}
 use Rattle.ec_report.specs.declared.status.Status.TheVariants as statuses
-use Rattle.ec_tool.specs.Sources.{IsFaulty, IsMeant}
+use Rattle.ec_tool.specs.Sources.{IsFaulty}
 use Rattle.ec_tool.specs.declared.source.Refusal.{Refusal}
 use Rattle.ec_tool.proofs.Sources.{not_faulty}
 
@@ -53,7 +52,7 @@ module _ (asked : CommandWords) (held : FileOf → List ℕ) (net net' : Net) wh
 
   -- a run, a plain meaning or a trial has ended so, or a check has accepted
   judged_ended : {s : Status} {t : List ℕ} → Judged asked held net net' s t → IsRunStatus s →
-      HasEnded asked held net net' s t ⊎ ((s ≡ statuses.Finished) × HasAccepted asked held net net' t)
+      CommandEnded asked held net net' s t ⊎ ((s ≡ statuses.Finished) × HasAccepted asked held net net' t)
   judged_ended (SourceRefused refusal at r n) e = elim e [ ]
   judged_ended (NodesRefused rule takes m n) e = elim e [ ]
   judged_ended (ScheduleRefused specs rule line takes m k n) e = elim e [ ]
@@ -61,26 +60,27 @@ module _ (asked : CommandWords) (held : FileOf → List ℕ) (net net' : Net) wh
       inl (record { specs = specs; entries = entries; nodes_are = m; entries_are = k; comes_to = c })
   judged_ended (Accepts h n) e = inr (refl, (h, n, refl))
 
-  either : (s : Status) (t : List ℕ) → HasEnded asked held net net' s t ⊎ ((s ≡ statuses.Finished) × HasAccepted asked held net net' t) →
-      HasEnded asked held net net' s t ⊎ HasAccepted asked held net net' t
+  either : (s : Status) (t : List ℕ) →
+      CommandEnded asked held net net' s t ⊎ ((s ≡ statuses.Finished) × HasAccepted asked held net net' t) →
+      CommandEnded asked held net net' s t ⊎ HasAccepted asked held net net' t
   either s t (inl h) = inl h
   either s t (inr h) = inr h.1
 
   pub has_finished : (s : Status) (t : List ℕ) → Judged asked held net net' s t → IsRunStatus s →
-      HasEnded asked held net net' s t ⊎ HasAccepted asked held net net' t
+      CommandEnded asked held net net' s t ⊎ HasAccepted asked held net net' t
   has_finished s t j r = either s t (judged_ended j r)
 
   only_ended : (s : Status) (t : List ℕ) → (s ≡ statuses.Finished → ⊥) →
-      HasEnded asked held net net' s t ⊎ ((s ≡ statuses.Finished) × HasAccepted asked held net net' t) →
-      HasEnded asked held net net' s t
+      CommandEnded asked held net net' s t ⊎ ((s ≡ statuses.Finished) × HasAccepted asked held net net' t) →
+      CommandEnded asked held net net' s t
   only_ended s t n (inl h) = h
   only_ended s t n (inr h) = absurd (n h.0)
 
   pub has_ended : (s : Status) (t : List ℕ) → Judged asked held net net' s t → IsRunStatus s → (s ≡ statuses.Finished → ⊥) →
-      HasEnded asked held net net' s t
+      CommandEnded asked held net net' s t
   has_ended s t j r n = only_ended s t n (judged_ended j r)
 
-  pub full_run : (s : Status) (t : List ℕ) → HasEnded asked held net net' s t → s ≡ statuses.Full → IsRun asked
+  pub full_run : (s : Status) (t : List ℕ) → CommandEnded asked held net net' s t → s ≡ statuses.Full → IsRun asked
   full_run s t h e = full_is_run asked (held Source) h.specs h.entries net net' s t h.comes_to e
 
 -- ---- what is accepted
@@ -99,7 +99,7 @@ SameTexts (command.Trial number) held other = (file : FileOf) → held file ≡ 
 
 -- a file that the command names has one text
 same_read : (content : List ℕ → Option (List ℕ)) (asked : CommandWords) (held other : FileOf → List ℕ) → AreRead content asked held →
-    AreRead content asked other → (file : FileOf) (name : List ℕ) → name_of asked file ≡ Some name → held file ≡ other file
+    AreRead content asked other → (file : FileOf) (name : List ℕ) → file_name asked file ≡ Some name → held file ≡ other file
 same_read content asked held other r q file name e =
     same_whole (content name) file_limit (held file) (other file) (r file name e) (q file name e)
 
@@ -120,17 +120,13 @@ same_source (command.Mean mean) held other same = same Source
 same_source (command.Check check) held other same = same
 same_source (command.Trial number) held other same = same Source
 
--- the text of a program that has its meaning is not faulty
-meant_not_faulty : {source : List ℕ} {meant : Meant} {refusal : Refusal} {at : ℕ} → IsMeant source meant → IsFaulty source refusal at → ⊥
-meant_not_faulty m f = not_faulty (record { tokens = m.tokens; program = m.program; is_program = m.is_program }) f
-
 -- what is accepted isn't refused
 pub no_refusal : (asked : CommandWords) (held : FileOf → List ℕ) (refusal : Refusal) (at : ℕ) → AreAccepted asked held →
     IsFaulty (held Source) refusal at → ⊥
-no_refusal (command.Run run) held refusal at a r = meant_not_faulty a.0.1 r
-no_refusal (command.Mean mean) held refusal at a r = meant_not_faulty a.0.1 r
+no_refusal (command.Run run) held refusal at a r = not_faulty a.0 r
+no_refusal (command.Mean mean) held refusal at a r = not_faulty a.0 r
 no_refusal (command.Check check) held refusal at a r = not_faulty a r
-no_refusal (command.Trial number) held refusal at a r = meant_not_faulty a.0.1 r
+no_refusal (command.Trial number) held refusal at a r = not_faulty a.0 r
 
 no_rule : (nodes : List ℕ) (rule : NodeRule) (held : FileOf → List ℕ) → AreInputs held → nodes ≡ held Nodes → NodesOf nodes ≡ Err rule → ⊥
 no_rule nodes rule held i e m = let y : Err rule ≡ Ok i.specs = sym m ∙ (ap NodesOf e ∙ i.nodes_are) in cc
@@ -142,14 +138,14 @@ no_line schedule rule line held i e m = let y : Err (rule, line) ≡ Ok i.entrie
 -- where the same texts are accepted
 module _ (held other : FileOf → List ℕ) (net net' : Net) where
   pub nodes_accepted : (asked : CommandWords) → SameTexts asked held other → AreAccepted asked other →
-      (rule : NodeRule) → Takes asked (held Source) → NodesOf (held Nodes) ≡ Err rule → ⊥
+      (rule : NodeRule) → TakesToNodes asked (held Source) → NodesOf (held Nodes) ≡ Err rule → ⊥
   nodes_accepted (command.Run run) same a rule takes m = no_rule (held Nodes) rule other a.1 (same Nodes) m
   nodes_accepted (command.Mean mean) same a rule takes m = no_rule (held Nodes) rule other a.1 (same Nodes) m
   nodes_accepted (command.Check check) same a rule takes m = takes
   nodes_accepted (command.Trial number) same a rule takes m = no_rule (held Nodes) rule other a.1 (same Nodes) m
 
   pub schedule_accepted : (asked : CommandWords) → SameTexts asked held other → AreAccepted asked other →
-      (rule : ScheduleRule) (line : Option ℕ) → Takes asked (held Source) → EntriesOf (held Schedule) ≡ Err (rule, line) → ⊥
+      (rule : ScheduleRule) (line : Option ℕ) → TakesToNodes asked (held Source) → EntriesOf (held Schedule) ≡ Err (rule, line) → ⊥
   schedule_accepted (command.Run run) same a rule line takes m = no_line (held Schedule) rule line other a.1 (same Schedule) m
   schedule_accepted (command.Mean mean) same a rule line takes m = no_line (held Schedule) rule line other a.1 (same Schedule) m
   schedule_accepted (command.Check check) same a rule line takes m = takes

@@ -6,3 +6,5 @@ pub mod Headline
 pub mod Examples
 pub mod Taking
 pub mod Verdicts
+pub mod Meanings
+pub mod ExampleCall

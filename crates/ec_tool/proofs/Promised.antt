@@ -1,15 +1,15 @@
 -- What the call promises of each status, from what it comes to.
 use Rattle.std.proofs.Common.{◌≡◌, ◌⊎◌, inl, inr, ⊎_elim, ℕ, List, ◌++◌, Some, None, refl, sym, ap, subst, ◌∙◌}
-use Rattle.ec_tool.specs.Asked.{name_of, AreRead, AreMade, HasRead}
+use Rattle.ec_tool.specs.Asked.{file_name, AreRead, AreMade, HasRead}
 use Rattle.ec_tool.specs.Lines.{usage_line}
 use Rattle.ec_tool.specs.declared.file.FileOf.{FileOf}
-use Rattle.ec_tool.specs.Promises.{IsRunStatus, EndsWith, HasReadFault, IsNoSource, IsNoInput, HasEnded, HasAccepted, IsRun}
+use Rattle.ec_tool.specs.Promises.{IsRunStatus, EndsWith, HasReadFault, IsNoSource, IsNoInput, CommandEnded, HasAccepted, IsRun}
 use Rattle.ec_tool.specs.Promises.{IsAccepted, NoneRisen}
 use Rattle.ec_tool.specs.Promises.IsRunStatus.{Finishes, Fills}
-use Rattle.ec_tool.specs.Writing.{Answers}
+use Rattle.ec_tool.specs.Writing.{ComesOut}
 use Rattle.ec_tool.specs.Verdict.{Judged, Call, Verdict, Came}
 use Rattle.ec_tool.specs.Verdict.Verdict.{NoCommand, ReadFailed, IsJudged}
-use Rattle.ec_tool.specs.Writing.Answers.{Written, Broken}
+use Rattle.ec_tool.specs.Writing.ComesOut.{Written, Broken}
 use Rattle.ec_tool.specs.Verdict.Came.{NoMemory, Answered}
 use Rattle.ec_tool.proofs.Judging.{source_refused, input_refused, by_files, has_finished, has_ended, full_run, ends_of}
 use Rattle.ec_tool.proofs.Statuses.IsByFiles.{RefusesSource, RefusesInput}
@@ -51,8 +51,8 @@ module _ (Told : Type 0) (call : Call) where
   verdict_trial (NoCommand w q n) number e is = cc
   verdict_trial (ReadFailed asked file w h n) number e is =
       let same : asked ≡ command.Trial number = cc in
-      let named : name_of (command.Trial number) file ≡ Some h.name =
-      subst (λ (k : CommandWords). name_of k file ≡ Some h.name) same h.name_is in
+      let named : file_name (command.Trial number) file ≡ Some h.name =
+      subst (λ (k : CommandWords). file_name k file ≡ Some h.name) same h.name_is in
       let bad : ⊥ = cc in absurd bad
   verdict_trial (IsJudged read s t q j) number e is = (files_apart (by_files read.asked read.held call.net call.net_after j)).not_read is
 
@@ -86,7 +86,7 @@ module _ (Told : Type 0) (call : Call) where
       NoneRisen a.asked call.faults call.faults_after → IsReadFor a.asked s t
   verdict_read (NoCommand w q n) told a quiet = let v = a.words_are in cc
   verdict_read (ReadFailed asked file w h n) told a quiet =
-      let named = subst (λ (k : CommandWords). name_of k file ≡ Some h.name) (same_words asked a.asked w a.words_are) h.name_is in
+      let named = subst (λ (k : CommandWords). file_name k file ≡ Some h.name) (same_words asked a.asked w a.words_are) h.name_is in
       absurd (quiet file h.name named h.risen)
   verdict_read (IsJudged read s t q j) told a quiet =
       let e : read.asked ≡ a.asked = same_words read.asked a.asked read.words_are a.words_are in
@@ -116,7 +116,7 @@ module _ (Told TakenTold : Type 0) (call : Call) (taken taken' : List ℕ) (coun
     verdict : Verdict Told call s text
     written : TakenTold → taken' ≡ taken ++ text
 
-  said_by : {st r : Status} {tx : List ℕ} → Verdict Told call st tx → Answers TakenTold taken taken' count count' st tx r →
+  said_by : {st r : Status} {tx : List ℕ} → Verdict Told call st tx → ComesOut TakenTold taken taken' count count' st tx r →
       (s : Status) → IsTold s → r ≡ s → Said s
   said_by {tx = tx} v (Written w k) s told e =
       record { text = tx; verdict = subst (λ (x : Status). Verdict Told call x tx) e v; written = w }
@@ -127,7 +127,7 @@ module _ (Told TakenTold : Type 0) (call : Call) (taken taken' : List ℕ) (coun
   said_of (Answered st tx r v a) s told e = said_by v a s told e
 
   -- what was answered is the verdict's, or the sink has met a fault
-  result_is : {st r : Status} {tx : List ℕ} → Answers TakenTold taken taken' count count' st tx r →
+  result_is : {st r : Status} {tx : List ℕ} → ComesOut TakenTold taken taken' count count' st tx r →
       (r ≡ st) ⊎ ((r ≡ statuses.WriteFault) × HasRisen count count')
   result_is (Written w k) = inl refl
   result_is (Broken w h) = inr (refl, h)
@@ -263,7 +263,7 @@ input_refused_of {Told} {TakenTold} {call} {taken} {taken'} {count} {count'} c e
 pub finished_of : {Told TakenTold : Type 0} {call : Call} {taken taken' : List ℕ} {count count' : ℕ} {r : Status} →
     Came Told TakenTold call taken taken' count count' r →
     r ≡ statuses.Finished → (text : List ℕ) × (read : HasRead Told call.words call.content) ×
-    (HasEnded read.asked read.held call.net call.net_after statuses.Finished text ⊎ HasAccepted read.asked read.held call.net
+    (CommandEnded read.asked read.held call.net call.net_after statuses.Finished text ⊎ HasAccepted read.asked read.held call.net
     call.net_after text) ×
     (TakenTold → taken' ≡ taken ++ text)
 finished_of {Told} {TakenTold} {call} {taken} {taken'} {count} {count'} c e =
@@ -275,7 +275,7 @@ finished_of {Told} {TakenTold} {call} {taken} {taken'} {count} {count'} c e =
 pub ended_of : {Told TakenTold : Type 0} {call : Call} {taken taken' : List ℕ} {count count' : ℕ} {r : Status} →
     Came Told TakenTold call taken taken' count count' r →
     (s : Status) → IsRunStatus s → (s ≡ statuses.Finished → ⊥) → r ≡ s → (text : List ℕ) × (read : HasRead Told call.words call.content) ×
-    HasEnded read.asked read.held call.net call.net_after s text × (TakenTold → taken' ≡ taken ++ text)
+    CommandEnded read.asked read.held call.net call.net_after s text × (TakenTold → taken' ≡ taken ++ text)
 ended_of {Told} {TakenTold} {call} {taken} {taken'} {count} {count'} c s is not e =
     let f = files_of Told TakenTold call taken taken' count count' c s ((run_apart is).files) e in
     let read = f.judged.read in
@@ -284,7 +284,7 @@ ended_of {Told} {TakenTold} {call} {taken} {taken'} {count} {count'} c s is not 
 pub full_of : {Told TakenTold : Type 0} {call : Call} {taken taken' : List ℕ} {count count' : ℕ} {r : Status} →
     Came Told TakenTold call taken taken' count count' r →
     r ≡ statuses.Full → (text : List ℕ) × (read : HasRead Told call.words call.content) × IsRun read.asked ×
-    HasEnded read.asked read.held call.net call.net_after statuses.Full text × (TakenTold → taken' ≡ taken ++ text)
+    CommandEnded read.asked read.held call.net call.net_after statuses.Full text × (TakenTold → taken' ≡ taken ++ text)
 full_of {Told} {TakenTold} {call} {taken} {taken'} {count} {count'} c e =
     let f = files_of Told TakenTold call taken taken' count count' c statuses.Full ((run_apart Fills).files) e in
     let read = f.judged.read in

@@ -25,7 +25,7 @@ use Rattle.ec_rules.specs.Faults.{HasFaults}
 use Rattle.ec_rules.proofs.OneList.{same_faults}
 use Rattle.ec_tool.specs.declared.source.Refusal.{Refusal}
 use Rattle.ec_tool.specs.declared.source.Refusal.TheVariants.{Lexical, Syntax, Deep, Static}
-use Rattle.ec_tool.specs.Sources.{IsProgram, IsChecked, IsFaulty, lexical, syntax, deep, static_rule, place_of}
+use Rattle.ec_tool.specs.Sources.{IsProgramText, IsChecked, IsFaulty, lexical, syntax, deep, static_rule, place_of}
 
 -- ---- a text has at most one first fault
 
@@ -170,7 +170,7 @@ same_fault (syntax {tokens} g s) d = same_on (by_syntax s) (faulty_on d tokens g
 same_fault (deep {tokens} g s) d = same_on (by_depth s) (faulty_on d tokens g)
 same_fault (static_rule {tokens} g w s h e) d = same_on (by_rule w s h e) (faulty_on d tokens g)
 
-no_fault_on : {text : List ℕ} {ts : List Token} {w : Program} {r : Refusal} {at : ℕ} → IsProgram text ts w →
+no_fault_on : {text : List ℕ} {ts : List Token} {w : Program} {r : Refusal} {at : ℕ} → IsProgramText text ts w →
     IsFaultyOn text ts r at → ⊥
 no_fault_on {w = w} p (by_syntax a) = a.no_program w p.has_tree
 no_fault_on {ts = ts} p (by_depth {k} a) = no_deep ts k p.shallow a
@@ -185,7 +185,7 @@ pub not_faulty : {text : List ℕ} {r : Refusal} {at : ℕ} → IsChecked text �
 not_faulty c f = no_fault_on c.is_program (faulty_on f c.tokens c.is_program.has_tokens)
 
 -- a text is one program's only
-pub same_program : (text : List ℕ) (ts us : List Token) (p q : Program) → IsProgram text ts p → IsProgram text us q → p ≡ q
+pub same_program : (text : List ℕ) (ts us : List Token) (p q : Program) → IsProgramText text ts p → IsProgramText text us q → p ≡ q
 same_program text ts us p q a b =
     let same : ts ≡ us = same_tokens text ts us a.has_tokens b.has_tokens in
     same_tree us p q (subst (λ x. HasTree x p) same a.has_tree) b.has_tree

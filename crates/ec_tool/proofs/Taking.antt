@@ -1,7 +1,7 @@
 -- What is taken to nodes, by the command that asked for it.
 use Rattle.std.proofs.Common.{◌≡◌, ℕ, suc, ◌<◌, List, [], ◌∷◌, Ok, arith, get_or, refl, subst, sym}
 use Rattle.std.specs.List.{AllByRecursion as Each}
-use Rattle.ec_tool.specs.Asked.{Takes, ComesTo}
+use Rattle.ec_tool.specs.Asked.{TakesToNodes, ComesTo}
 use Rattle.ec_check.specs.declared.check.Checked.{Checked}
 use Rattle.ec_compile.specs.Texts.{IsOfText}
 use Rattle.ec_inputs.proofs.Sized.{IsSized, sized_nodes}
@@ -57,7 +57,7 @@ asks_for Run words = refl
 asks_for Mean words = refl
 
 pub takes : (work : Work) (budget : ℕ) (asked : CommandWords) → AsksFor work budget asked → (source : List ℕ) (checked : Checked) →
-    IsMeant source (source_in source checked) → Takes asked source
+    IsMeant source (source_in source checked) → TakesToNodes asked source
 takes Run budget (command.Run run) asks source checked t = (source_in source checked, t)
 takes Run budget (command.Trial number) asks source checked t = (source_in source checked, t)
 takes Run budget (command.Mean mean) asks source checked t = absurd asks

@@ -1,7 +1,7 @@
 -- From what was read and judged to the verdict of the call.
 use Rattle.std.proofs.Common.{◌≡◌, ℕ, List, Option, Some, None, refl, sym, ap, ◌∙◌, subst}
 use Rattle.std.specs.Prelude.{option_map, IsSome}
-use Rattle.ec_tool.specs.Asked.{name_in, name_of, file_limit, AreRead, AreMade, EachBefore, OthersStay, StopsAt}
+use Rattle.ec_tool.specs.Asked.{name_in, file_name, file_limit, AreRead, AreMade, EachBefore, OthersStay, StopsAt}
 use Rattle.ec_tool.specs.declared.file.FileOf.{FileOf}
 use Rattle.ec_tool.specs.declared.file.FileOf.TheVariants.{Source, Nodes, Schedule}
 use Rattle.ec_inputs.specs.declared.words.Command.{Command}
@@ -26,7 +26,7 @@ module _ (words : List (List ℕ)) (found : Option Command) (read : option_map c
 -- ---- files
 
 -- each file of a run or a plain meaning has a name
-named : (work : Work) (words : RunWords) (file : FileOf) → name_of (asked_of work words) file ≡ Some (name_in words file)
+named : (work : Work) (words : RunWords) (file : FileOf) → file_name (asked_of work words) file ≡ Some (name_in words file)
 named Run words file = refl
 named Mean words file = refl
 
@@ -69,7 +69,7 @@ source_read content check source r Schedule name e = cc
 -- what is there under the name among the words is there under the name that the command has
 module _ (content : List ℕ → Option (List ℕ)) (work : Work) (words : RunWords) where
   there_by_name : (file : FileOf) → IsSome (content (name_in words file)) → (name : List ℕ) →
-      name_of (asked_of work words) file ≡ Some name →
+      file_name (asked_of work words) file ≡ Some name →
       IsSome (content name)
   there_by_name file is name e =
       let same : Some (name_in words file) ≡ Some name = sym (named work words file) ∙ e in
@@ -77,7 +77,7 @@ module _ (content : List ℕ → Option (List ℕ)) (work : Work) (words : RunWo
       subst (λ (n : List ℕ). IsSome (content n)) alike is
 
   each_there : (file : FileOf) → EachBefore file (λ other. IsSome (content (name_in words other))) →
-      EachBefore file (λ other. (name : List ℕ) → name_of (asked_of work words) other ≡ Some name → IsSome (content name))
+      EachBefore file (λ other. (name : List ℕ) → file_name (asked_of work words) other ≡ Some name → IsSome (content name))
   each_there Source e = tt
   each_there Nodes e = there_by_name Source e
   each_there Schedule e = (there_by_name Source e.0, there_by_name Nodes e.1)

@@ -26,13 +26,13 @@ name_in words Nodes = words.nodes
 name_in words Schedule = words.schedule
 
 -- the name of a file, where the command names one: a check names its source alone, and a trial none
-abbrev pub name_of : CommandWords → FileOf → Option (List ℕ)
-name_of (command.Run run) file = Some (name_in run file)
-name_of (command.Mean mean) file = Some (name_in mean file)
-name_of (command.Check check) Source = Some check.source
-name_of (command.Check check) Nodes = None
-name_of (command.Check check) Schedule = None
-name_of (command.Trial number) file = None
+abbrev pub file_name : CommandWords → FileOf → Option (List ℕ)
+file_name (command.Run run) file = Some (name_in run file)
+file_name (command.Mean mean) file = Some (name_in mean file)
+file_name (command.Check check) Source = Some check.source
+file_name (command.Check check) Nodes = None
+file_name (command.Check check) Schedule = None
+file_name (command.Trial number) file = None
 
 -- files are read up to this many bytes
 abbrev pub file_limit : ℕ
@@ -40,7 +40,7 @@ file_limit = 1048577
 
 -- each file that the command names was read whole
 abbrev pub AreRead : (List ℕ → Option (List ℕ)) → CommandWords → (FileOf → List ℕ) → Type 0
-AreRead content asked held = (file : FileOf) (name : List ℕ) → name_of asked file ≡ Some name →
+AreRead content asked held = (file : FileOf) (name : List ℕ) → file_name asked file ≡ Some name →
     IsWhole (content name) file_limit (held file)
 
 -- the text that a trial makes in the place of a file, by its number
@@ -82,19 +82,19 @@ pub record OthersStay (kept : List (List ℕ)) (faults faults' : List ℕ → �
 pub record StopsAt (Told : Type 0) (content : List ℕ → Option (List ℕ)) (kept : List (List ℕ)) (faults faults' : List ℕ → ℕ)
     (asked : CommandWords) (file : FileOf) : Type 0 where
   pub name : List ℕ
-  pub name_is : name_of asked file ≡ Some name
+  pub name_is : file_name asked file ≡ Some name
   pub risen : HasRisen (faults name) (faults' name)
   pub others_stay : OthersStay kept faults faults' name
-  pub earlier : Told → EachBefore file (λ other. (n : List ℕ) → name_of asked other ≡ Some n → IsSome (content n))
+  pub earlier : Told → EachBefore file (λ other. (n : List ℕ) → file_name asked other ≡ Some n → IsSome (content n))
 
 -- ---- its source
 
 -- the source goes to nodes, to be run there or to have its meaning worked out; a check takes none there
-abbrev pub Takes : CommandWords → List ℕ → Type 0
-Takes (command.Run run) source = (meant : Meant) × IsMeant source meant
-Takes (command.Mean mean) source = (meant : Meant) × IsMeant source meant
-Takes (command.Check check) source = ⊥
-Takes (command.Trial number) source = (meant : Meant) × IsMeant source meant
+abbrev pub TakesToNodes : CommandWords → List ℕ → Type 0
+TakesToNodes (command.Run run) source = (meant : Meant) × IsMeant source meant
+TakesToNodes (command.Mean mean) source = (meant : Meant) × IsMeant source meant
+TakesToNodes (command.Check check) source = ⊥
+TakesToNodes (command.Trial number) source = (meant : Meant) × IsMeant source meant
 
 -- the command asks no more than whether the source is a program's, and it is
 abbrev pub Checks : CommandWords → List ℕ → Type 0

@@ -8,3 +8,5 @@ pub mod Verdict
 pub mod Promises
 pub mod Reading
 pub mod Taking
+pub mod Example
+pub mod Laws

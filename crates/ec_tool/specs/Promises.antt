@@ -1,6 +1,6 @@
 -- What the call promises of each status with which it ends: its cause, and what is written.
 use Rattle.std.specs.Prelude.{◌≡◌, ◌++◌, ℕ, List, Option, Some, Ok, Err}
-use Rattle.ec_tool.specs.Asked.{name_of, AreRead, AreMade, StopsAt, Takes, Checks, ComesTo}
+use Rattle.ec_tool.specs.Asked.{file_name, AreRead, AreMade, StopsAt, TakesToNodes, Checks, ComesTo}
 use Rattle.ec_tool.specs.Lines.{fault_line}
 use Rattle.ec_tool.specs.declared.file.FileOf.{FileOf}
 use Rattle.ec_tool.specs.declared.file.FileOf.TheVariants.{Source, Nodes, Schedule}
@@ -15,7 +15,7 @@ use Rattle.ec_outside.specs.Fault.{HasRisen}
 use Rattle.ec_report.specs.declared.status.Status.{Status}
 use Rattle.ec_report.specs.declared.status.Status.TheVariants as statuses
 use Rattle.ec_tool.specs.Refusals.{nodes_line, schedule_line}
-use Rattle.ec_tool.specs.Sources.{IsFaulty, accepted_line, refused_line}
+use Rattle.ec_tool.specs.Sources.{IsChecked, IsFaulty, accepted_line, refused_line}
 use Rattle.ec_tool.specs.declared.source.Refusal.{Refusal}
 use Rattle.ec_world.specs.declared.node.NodeSpec.{NodeSpec}
 use Rattle.ec_world.specs.declared.run.Entry.{Entry}
@@ -71,10 +71,10 @@ pub data BreaksRule (nodes schedule : List ℕ) : List ℕ → Type 0 where
 
 -- the source is taken to nodes, but the node file or the schedule breaks a rule
 abbrev pub IsNoInput : CommandWords → (FileOf → List ℕ) → List ℕ → Type 0
-IsNoInput asked held text = Takes asked (held Source) × BreaksRule (held Nodes) (held Schedule) text
+IsNoInput asked held text = TakesToNodes asked (held Source) × BreaksRule (held Nodes) (held Schedule) text
 
 -- a run, a plain meaning or a trial has come to its end
-pub record HasEnded (asked : CommandWords) (held : FileOf → List ℕ) (net net' : Net) (status : Status) (text : List ℕ) : Type 0 where
+pub record CommandEnded (asked : CommandWords) (held : FileOf → List ℕ) (net net' : Net) (status : Status) (text : List ℕ) : Type 0 where
   pub specs : List NodeSpec
   pub entries : List Entry
   pub nodes_are : NodesOf (held Nodes) ≡ Ok specs
@@ -99,12 +99,13 @@ pub record AreInputs (held : FileOf → List ℕ) : Type 0 where
   pub nodes_are : NodesOf (held Nodes) ≡ Ok specs
   pub entries_are : EntriesOf (held Schedule) ≡ Ok entries
 
--- the command accepts what its files hold, or the texts that it makes
+-- The command accepts what its files hold, or the texts that it makes: the source is a program's, as a check asks, and but for a check
+-- there are nodes and entries.
 abbrev pub AreAccepted : CommandWords → (FileOf → List ℕ) → Type 0
-AreAccepted (command.Run run) held = Takes (command.Run run) (held Source) × AreInputs held
-AreAccepted (command.Mean mean) held = Takes (command.Mean mean) (held Source) × AreInputs held
-AreAccepted (command.Check check) held = Checks (command.Check check) (held Source)
-AreAccepted (command.Trial number) held = Takes (command.Trial number) (held Source) × AreInputs held
+AreAccepted (command.Run run) held = IsChecked (held Source) × AreInputs held
+AreAccepted (command.Mean mean) held = IsChecked (held Source) × AreInputs held
+AreAccepted (command.Check check) held = IsChecked (held Source)
+AreAccepted (command.Trial number) held = IsChecked (held Source) × AreInputs held
 
 -- the words ask for a command that accepts what its files hold, or the texts that it makes
 pub record IsAccepted (words : List (List ℕ)) (content : List ℕ → Option (List ℕ)) : Type 0 where
@@ -117,14 +118,26 @@ pub record IsAccepted (words : List (List ℕ)) (content : List ℕ → Option (
 
 -- no count of a file that the command names has risen
 abbrev pub NoneRisen : CommandWords → (List ℕ → ℕ) → (List ℕ → ℕ) → Type 0
-NoneRisen asked faults faults' = (file : FileOf) (name : List ℕ) → name_of asked file ≡ Some name → ¬ HasRisen (faults name) (faults' name)
+NoneRisen asked faults faults' = (file : FileOf) (name : List ℕ) → file_name asked file ≡ Some name →
+    ¬ HasRisen (faults name) (faults' name)
 
 -- ---- the headline
+
+-- A call of which the headline speaks: the shelf and the sink tell what they hold, the words ask for a run that is accepted, and no count
+-- of a fault rises, neither of a file that the command names nor of the sink.
+pub record IsAcceptedCall (Told TakenTold : Type 0) (words : List (List ℕ)) (content : List ℕ → Option (List ℕ))
+    (faults faults' : List ℕ → ℕ) (count count' : ℕ) : Type 0 where
+  pub shelf_tells : Told
+  pub sink_tells : TakenTold
+  pub accepted : IsAccepted words content
+  pub is_run : IsRun accepted.asked
+  pub no_read_fault : NoneRisen accepted.asked faults faults'
+  pub no_write_fault : ¬ HasRisen count count'
 
 -- A run has come to its end, by itself, or as the budget is spent or a node is full: its status is that of the end, and just the report of
 -- the run of the source's meaning on these nodes along these entries was written, while the nodes' own machine code has led along them.
 pub record HasRun (asked : CommandWords) (held : FileOf → List ℕ) (net net' : Net) (taken taken' : List ℕ) (status : Status) : Type 0 where
   pub text : List ℕ
   pub is_end : IsRunStatus status
-  pub ended : HasEnded asked held net net' status text
+  pub ended : CommandEnded asked held net net' status text
   pub written : taken' ≡ taken ++ text

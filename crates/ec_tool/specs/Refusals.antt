@@ -32,9 +32,9 @@ schedule_rule_name schedule_rule.Form = codes "S4"
 schedule_rule_name schedule_rule.Number = codes "S5"
 
 -- the line that breaks the rule, where it is one line's
-abbrev pub place_text : Option ℕ → List ℕ
-place_text None = []
-place_text (Some line) = codes " at line " ++ decimal line
+abbrev pub line_text : Option ℕ → List ℕ
+line_text None = []
+line_text (Some line) = codes " at line " ++ decimal line
 
 abbrev pub schedule_line : ScheduleRule → Option ℕ → List ℕ
-schedule_line rule line = codes "refused " ++ schedule_rule_name rule ++ place_text line ++ 10 ∷ []
+schedule_line rule line = codes "refused " ++ schedule_rule_name rule ++ line_text line ++ 10 ∷ []

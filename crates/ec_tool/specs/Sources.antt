@@ -24,7 +24,7 @@ use Rattle.ec_tool.specs.Places.{place_text}
 -- ---- programs
 
 -- The text is this program's: it has tokens, which have this tree with no nesting over 64, and the tree breaks no static rule.
-pub record IsProgram (text : List ℕ) (tokens : List Token) (program : Program) : Type 0 where
+pub record IsProgramText (text : List ℕ) (tokens : List Token) (program : Program) : Type 0 where
   pub has_tokens : HasTokens text tokens
   pub has_tree : HasTree tokens program
   pub shallow : IsShallow tokens
@@ -34,13 +34,13 @@ pub record IsProgram (text : List ℕ) (tokens : List Token) (program : Program)
 pub record IsChecked (text : List ℕ) : Type 0 where
   pub tokens : List Token
   pub program : Program
-  pub is_program : IsProgram text tokens program
+  pub is_program : IsProgramText text tokens program
 
 -- The text is that of a program, and its source is the text with the program's core.
 pub record IsMeant (text : List ℕ) (source : Source) : Type 0 where
   pub tokens : List Token
   pub program : Program
-  pub is_program : IsProgram text tokens program
+  pub is_program : IsProgramText text tokens program
   pub text_is : source.text ≡ text
   pub has_core : HasCore program source.table source.core
 
@@ -69,9 +69,9 @@ pub data IsFaulty (text : List ℕ) : Refusal → ℕ → Type 0 where
       IsFaulty text (Static fault.rule) fault.at.from
 
 -- the error is why the text is no program's, or want of memory
-abbrev pub IsFault : List ℕ → SourceError → Type 0
-IsFault text (Refused refused) = IsFaulty text refused.refusal refused.at
-IsFault text Memory = Unit {0}
+abbrev pub IsErrorOf : List ℕ → SourceError → Type 0
+IsErrorOf text (Refused refused) = IsFaulty text refused.refusal refused.at
+IsErrorOf text Memory = Unit {0}
 
 -- ---- the line that says it: `refused E3 at line 3 column 5`
 

@@ -1,8 +1,8 @@
 -- What a call comes to, by the table of answers: a case a row, each where no earlier one came.
 use Rattle.std.specs.Prelude.{◌≡◌, ℕ, List, Option, Some, None, Ok, Err}
-use Rattle.ec_tool.specs.Asked.{HasRead, StopsAt, Takes, Checks, ComesTo}
+use Rattle.ec_tool.specs.Asked.{HasRead, StopsAt, TakesToNodes, Checks, ComesTo}
 use Rattle.ec_tool.specs.Lines.{usage_line, fault_line}
-use Rattle.ec_tool.specs.Writing.{Answers}
+use Rattle.ec_tool.specs.Writing.{ComesOut}
 use Rattle.ec_tool.specs.declared.file.FileOf.{FileOf}
 use Rattle.ec_tool.specs.declared.file.FileOf.TheVariants.{Source, Nodes, Schedule}
 use Rattle.ec_inputs.specs.Nodes.{NodesOf}
@@ -26,9 +26,9 @@ use Rattle.ec_world.specs.declared.run.Entry.{Entry}
 pub data Judged (asked : CommandWords) (held : FileOf → List ℕ) (net net' : Net) : Status → List ℕ → Type 0 where
   SourceRefused : (refusal : Refusal) (at : ℕ) → IsFaulty (held Source) refusal at → net' ≡ net →
       Judged asked held net net' statuses.SourceRefused (refused_line (held Source) refusal at)
-  NodesRefused : (rule : NodeRule) → Takes asked (held Source) → NodesOf (held Nodes) ≡ Err rule → net' ≡ net →
+  NodesRefused : (rule : NodeRule) → TakesToNodes asked (held Source) → NodesOf (held Nodes) ≡ Err rule → net' ≡ net →
       Judged asked held net net' statuses.InputRefused (nodes_line rule)
-  ScheduleRefused : (specs : List NodeSpec) (rule : ScheduleRule) (line : Option ℕ) → Takes asked (held Source) →
+  ScheduleRefused : (specs : List NodeSpec) (rule : ScheduleRule) (line : Option ℕ) → TakesToNodes asked (held Source) →
       NodesOf (held Nodes) ≡ Ok specs →
       EntriesOf (held Schedule) ≡ Err (rule, line) → net' ≡ net →
       Judged asked held net net' statuses.InputRefused (schedule_line rule line)
@@ -70,4 +70,4 @@ pub data Verdict (Told : Type 0) (call : Call) : Status → List ℕ → Type 0 
 pub data Came (Told TakenTold : Type 0) (call : Call) (taken taken' : List ℕ) (count count' : ℕ) : Status → Type 0 where
   NoMemory : taken' ≡ taken → count' ≡ count → Came Told TakenTold call taken taken' count count' statuses.NoMemory
   Answered : (status : Status) (text : List ℕ) (result : Status) → Verdict Told call status text →
-      Answers TakenTold taken taken' count count' status text result → Came Told TakenTold call taken taken' count count' result
+      ComesOut TakenTold taken taken' count count' status text result → Came Told TakenTold call taken taken' count count' result

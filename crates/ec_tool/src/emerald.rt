@@ -2,8 +2,8 @@
 ghost use Rattle.std.specs.Prelude.{◌≡◌, ◌⊎◌, ℕ, List, ◌++◌, Some, None, map};
 ghost use Rattle.ec_tool.specs.Asked.{HasRead};
 ghost use Rattle.ec_tool.specs.Lines.{usage_line};
-ghost use Rattle.ec_tool.specs.Promises.{EndsWith, HasReadFault, IsNoSource, IsNoInput, HasEnded, HasAccepted, IsRun, IsAccepted};
-ghost use Rattle.ec_tool.specs.Promises.{HasRun, NoneRisen};
+ghost use Rattle.ec_tool.specs.Promises.{EndsWith, HasReadFault, IsNoSource, IsNoInput, CommandEnded, HasAccepted, IsRun, IsAccepted};
+ghost use Rattle.ec_tool.specs.Promises.{HasRun, IsAcceptedCall, NoneRisen};
 ghost use Rattle.ec_tool.specs.Verdict.{Came};
 ghost use Rattle.ec_inputs.specs.Words.{WordsOf, Trial as ATrial};
 ghost use Rattle.ec_outside.specs.Fault.{HasRisen};
@@ -38,14 +38,15 @@ pub fn emerald<'a, F: Shelf, K: Sink>(
         })
         (K.taken sink.old) (K.taken sink.new) (K.faults sink.old) (K.faults sink.new) result }
 
-    // The headline: for every accepted source, set of nodes and schedule the bytes written are the report of the source's meaning on them,
-    // with its output, failures and placements, while all code between stops is its node's own machine code, run without a trap; the run
-    // ends early only where the budget is spent, a node is full, or want of memory is answered. So it is where the shelf and the sink tell
-    // what they hold and meet no fault.
-    ensures headline { F.tells shelf.old → K.tells sink.old → (accepted : IsAccepted (map (λ word. word.now) words.now) (F.content shelf.old)) →
-        IsRun accepted.asked → NoneRisen accepted.asked (F.faults shelf.old) (F.faults shelf.new) →
-        ¬ HasRisen (K.faults sink.old) (K.faults sink.new) →
-        HasRun accepted.asked accepted.held net.old net.new (K.taken sink.old) (K.taken sink.new) result ⊎ (result ≡ Status.NoMemory) }
+    // The headline: for every source that a check accepts, set of nodes and schedule the bytes written are the report of the source's
+    // meaning on them, with its output, failures and placements, while all code between stops is its node's own machine code, run without a
+    // trap; the run ends early only where the budget is spent, a node is full, or want of memory is answered. So it is where the shelf and
+    // the sink tell what they hold and meet no fault.
+    ensures headline {
+        (given : IsAcceptedCall (F.tells shelf.old) (K.tells sink.old) (map (λ word. word.now) words.now) (F.content shelf.old)
+        (F.faults shelf.old) (F.faults shelf.new) (K.faults sink.old) (K.faults sink.new)) →
+        HasRun given.accepted.asked given.accepted.held net.old net.new (K.taken sink.old) (K.taken sink.new) result ⊎
+        (result ≡ Status.NoMemory) }
 
     // Each status by itself: its cause, and the text that is written.
     ensures usage { result ≡ Status.Usage → (WordsOf (map (λ word. word.now) words.now) ≡ None) ×
@@ -71,25 +72,25 @@ pub fn emerald<'a, F: Shelf, K: Sink>(
     // A run, a plain meaning or a trial without a failure ends so, and an accepted check does.
     ensures finished { result ≡ Status.Finished →
         (text : List ℕ) × (read : HasRead (F.tells shelf.old) (map (λ word. word.now) words.now) (F.content shelf.old)) ×
-        (HasEnded read.asked read.held net.old net.new Status.Finished text ⊎ HasAccepted read.asked read.held net.old net.new text) ×
+        (CommandEnded read.asked read.held net.old net.new Status.Finished text ⊎ HasAccepted read.asked read.held net.old net.new text) ×
         (K.tells sink.old → K.taken sink.new ≡ K.taken sink.old ++ text) }
 
     // Only runs, plain meanings and trials end so, and with a full node no plain meaning.
     ensures some_failed { result ≡ Status.SomeFailed →
         (text : List ℕ) × (read : HasRead (F.tells shelf.old) (map (λ word. word.now) words.now) (F.content shelf.old)) ×
-        HasEnded read.asked read.held net.old net.new Status.SomeFailed text ×
+        CommandEnded read.asked read.held net.old net.new Status.SomeFailed text ×
         (K.tells sink.old → K.taken sink.new ≡ K.taken sink.old ++ text) }
     ensures spent { result ≡ Status.Spent →
         (text : List ℕ) × (read : HasRead (F.tells shelf.old) (map (λ word. word.now) words.now) (F.content shelf.old)) ×
-        HasEnded read.asked read.held net.old net.new Status.Spent text ×
+        CommandEnded read.asked read.held net.old net.new Status.Spent text ×
         (K.tells sink.old → K.taken sink.new ≡ K.taken sink.old ++ text) }
     ensures full { result ≡ Status.Full →
         (text : List ℕ) × (read : HasRead (F.tells shelf.old) (map (λ word. word.now) words.now) (F.content shelf.old)) ×
-        IsRun read.asked × HasEnded read.asked read.held net.old net.new Status.Full text ×
+        IsRun read.asked × CommandEnded read.asked read.held net.old net.new Status.Full text ×
         (K.tells sink.old → K.taken sink.new ≡ K.taken sink.old ++ text) }
     ensures stuck { result ≡ Status.Stuck →
         (text : List ℕ) × (read : HasRead (F.tells shelf.old) (map (λ word. word.now) words.now) (F.content shelf.old)) ×
-        HasEnded read.asked read.held net.old net.new Status.Stuck text ×
+        CommandEnded read.asked read.held net.old net.new Status.Stuck text ×
         (K.tells sink.old → K.taken sink.new ≡ K.taken sink.old ++ text) }
 
     // No count of the shelf's faults has risen, but where a file wasn't read, or where no text was written whole.

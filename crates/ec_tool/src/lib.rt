@@ -7,6 +7,7 @@
 //! | `judge`, `take` | they are judged in their order; then the source is run, or its meaning worked out |
 //! | `source`, `place` | which texts are programs; the line and the column of a fault |
 //! | `refusal`, `answers`, `writing` | what is written where something is refused, or nothing is run |
+//! | `laws` | each program has a meaning, and the headline speaks of some call |
 //!
 //! The promises are `specs/Promises`, over `specs/Verdict` (what a call comes to) and `specs/Asked` (what its words ask for).
 #![tactic(auto)]
@@ -17,6 +18,7 @@ pub mod emerald;
 pub mod file;
 mod files;
 mod judge;
+pub mod laws;
 mod place;
 pub mod refusal;
 pub mod source;

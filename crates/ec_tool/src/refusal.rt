@@ -1,6 +1,6 @@
 //! What is written where a node file or a schedule breaks a rule.
 ghost use Rattle.std.specs.Prelude.{◌≡◌, ◌++◌, OnOk, IfOk};
-ghost use Rattle.ec_tool.specs.Refusals.{node_rule_name, nodes_line, schedule_rule_name, place_text, schedule_line};
+ghost use Rattle.ec_tool.specs.Refusals.{node_rule_name, nodes_line, schedule_rule_name, line_text, schedule_line};
 
 use ec_inputs::nodes::NodeRule;
 use ec_inputs::schedule::ScheduleRule;
@@ -62,7 +62,7 @@ fn schedule_rule_name(rule: ScheduleRule) -> &'static [u8]
 
 /// ` at line 2`, where the fault is one line's.
 fn push_place(alloc: Global, line: Option<u32>, out: &mut Vec<u8>) -> Result<(), AllocError>
-    ensures { OnOk result (out.new.items ≡ out.old.items ++ place_text line) }
+    ensures { OnOk result (out.new.items ≡ out.old.items ++ line_text line) }
 {
     if let Some(line) = line {
         out.extend_from_slice(b" at line ")?;

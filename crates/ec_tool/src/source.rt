@@ -4,7 +4,7 @@ ghost use Rattle.ec_check.specs.Accepted.{HasCore};
 ghost use Rattle.ec_lexer.specs.Tokens.{HasTokens};
 ghost use Rattle.ec_parser.specs.HasTree.{HasTree};
 ghost use Rattle.ec_parser.specs.Program.{IsShallow};
-ghost use Rattle.ec_tool.specs.Sources.{IsProgram, IsMeant, IsFault, place_of, fault_name, rule_name, refusal_name, refused_line};
+ghost use Rattle.ec_tool.specs.Sources.{IsProgramText, IsMeant, IsErrorOf, place_of, fault_name, rule_name, refusal_name, refused_line};
 
 use crate::place::push_place;
 use ec_ast::Program;
@@ -54,9 +54,9 @@ pub struct Accepted {
 
 /// A source that is a program's.
 pub fn check_source(alloc: Global, text: &[u8]) -> Result<Accepted, SourceError>
-    ensures program { IfOk result (λ accepted. IsProgram text.now accepted.tokens accepted.checked.program) }
+    ensures program { IfOk result (λ accepted. IsProgramText text.now accepted.tokens accepted.checked.program) }
     ensures core { IfOk result (λ accepted. HasCore accepted.checked.program accepted.checked.table accepted.checked.core) }
-    ensures refused { IfErr result (IsFault text.now) }
+    ensures refused { IfErr result (IsErrorOf text.now) }
 {
     let tokens = tokens_of(alloc, text)?;
     let program = tree_of(alloc, text, tokens.as_slice())?;
@@ -70,7 +70,7 @@ pub fn check_source(alloc: Global, text: &[u8]) -> Result<Accepted, SourceError>
 /// The program of a source, with its core.
 pub fn meant_source(alloc: Global, text: &[u8]) -> Result<Checked, SourceError>
     ensures meant { IfOk result (λ checked. IsMeant text.now (record { text = text.now; table = checked.table; core = checked.core })) }
-    ensures refused { IfErr result (IsFault text.now) }
+    ensures refused { IfErr result (IsErrorOf text.now) }
 {
     let found = check_source(alloc, text)?;
     Ok(found.checked)
@@ -85,7 +85,7 @@ fn refuse(refusal: Refusal, at: u32) -> SourceError
 /// The tokens of a text.
 fn tokens_of(alloc: Global, text: &[u8]) -> Result<Seq<Token>, SourceError>
     ensures tokens { IfOk result (HasTokens text.now) }
-    ensures refused { IfErr result (IsFault text.now) }
+    ensures refused { IfErr result (IsErrorOf text.now) }
 {
     match lex(alloc, text) {
         Ok(tokens) => Ok(tokens),
@@ -98,7 +98,7 @@ fn tokens_of(alloc: Global, text: &[u8]) -> Result<Seq<Token>, SourceError>
 fn tree_of(alloc: Global, text: &[u8], tokens: &[Token]) -> Result<Program, SourceError>
     requires { HasTokens text.now tokens.now }
     ensures tree { IfOk result (λ program. HasTree tokens.now program × IsShallow tokens.now) }
-    ensures refused { IfErr result (IsFault text.now) }
+    ensures refused { IfErr result (IsErrorOf text.now) }
 {
     match parse(alloc, tokens) {
         Ok(program) => Ok(program),

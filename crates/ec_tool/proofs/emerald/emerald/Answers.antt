@@ -9,7 +9,7 @@ pub returns-clause-answer : goal.returns-clause-answer
 returns-clause-answer g c = c.call.ensures.answer
 
 pub returns-clause-headline : goal.returns-clause-headline
-returns-clause-headline g c = λ told taken accepted run quiet calm. headline _ _ _ _ _ _ _ told taken accepted run quiet calm c.call.ensures.answer
+returns-clause-headline g c = λ given. headline _ _ _ _ _ _ _ given c.call.ensures.answer
 
 pub returns-clause-usage : goal.returns-clause-usage
 returns-clause-usage g c = usage_of c.call.ensures.answer

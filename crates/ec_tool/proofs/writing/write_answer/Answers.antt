@@ -1,4 +1,4 @@
-use Rattle.ec_tool.specs.Writing.Answers.{Written, Broken}
+use Rattle.ec_tool.specs.Writing.ComesOut.{Written, Broken}
 use Rattle.ec_tool.proofs.writing.write_answer.Goals as goal
 
 pub returns-in-Ok : goal.returns-in-Ok
