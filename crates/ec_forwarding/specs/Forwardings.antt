@@ -1,32 +1,33 @@
--- What forwarding addresses give of objects. They are seen as the traces of all objects, in the order of their numbers, which are
--- those from 1 on.
-use Rattle.std.specs.Prelude.{ℕ, zero, suc, ◌==◌, if◌then◌else◌, List, [], ◌∷◌, ◌++◌, length, Option, None, Some, MatchOption}
-use Rattle.std.specs.Prelude.{option_map, slice_get, unwrap_or}
+-- What forwarding addresses give of objects.
+use Rattle.std.specs.Prelude.{ℕ, suc, ◌==◌, if◌then◌else◌, List, [], ◌∷◌, ◌++◌, Option, None, Some, MatchOption, option_map, unwrap_or}
+use Rattle.std.specs.BTreeMap.{is_at}
+use Rattle.std.specs.Map.{lookup}
+use Rattle.std.specs.Ordering.{nat_cmp}
 use Rattle.ec_forwarding.specs.Addresses.{Addresses}
 use Rattle.ec_forwarding.specs.declared.address.Address.{Address}
 use Rattle.ec_forwarding.specs.Traces.{IsTraceOf, Trace, addresses_of, start_of}
 
--- how many objects were made
-abbrev pub made_count : List Trace → ℕ
-made_count d = length d
+-- the traces of the objects that were noted, each behind the object's number, in the order of the numbers
+abbrev pub ObjectTraces : Type 0
+ObjectTraces = List (ℕ × Trace)
 
-abbrev pub trace_at : List Trace → ℕ → Option Trace
-trace_at d zero = None
-trace_at d (suc i) = slice_get d i
+-- the trace of the object with this number, where it was noted
+abbrev pub trace_at : ObjectTraces → ℕ → Option Trace
+trace_at d oid = lookup (is_at (nat_cmp oid)) d
 
--- the node at which an object is, where it was made
-abbrev pub place_at : List Trace → ℕ → Option ℕ
+-- the node at which an object is, where it was noted
+abbrev pub place_at : ObjectTraces → ℕ → Option ℕ
 place_at d oid = option_map (λ t. t.newest.node) (trace_at d oid)
 
--- how often it has moved, where it was made
-abbrev pub moves_at : List Trace → ℕ → Option ℕ
+-- how often it has moved, where it was noted
+abbrev pub moves_at : ObjectTraces → ℕ → Option ℕ
 moves_at d oid = option_map (λ t. t.newest.moves) (trace_at d oid)
 
-abbrev pub moves_of : List Trace → ℕ → ℕ
+abbrev pub moves_of : ObjectTraces → ℕ → ℕ
 moves_of d oid = unwrap_or (moves_at d oid) 0
 
 -- the address of an object that goes to a node now
-abbrev pub address_on : List Trace → ℕ → ℕ → Address
+abbrev pub address_on : ObjectTraces → ℕ → ℕ → Address
 address_on d oid to = record { node = to; moves = suc (moves_of d oid) }
 
 -- no node has an address
@@ -38,15 +39,15 @@ addresses_in None = no_addresses
 addresses_in (Some t) = addresses_of t
 
 -- the addresses that nodes have of an object
-abbrev pub addresses_at : List Trace → ℕ → Addresses
+abbrev pub addresses_at : ObjectTraces → ℕ → Addresses
 addresses_at d oid = addresses_in (trace_at d oid)
 
 -- the node at which the search for an object from a node begins: there, or where the node has no address at the node where it was made
-abbrev pub start_at : List Trace → ℕ → ℕ → ℕ
+abbrev pub start_at : ObjectTraces → ℕ → ℕ → ℕ
 start_at d oid from = unwrap_or (option_map (λ t. start_of t from) (trace_at d oid)) from
 
 -- the object was at these nodes, in this order, and what is kept of it is right by that
-abbrev pub HasHistory : List Trace → ℕ → List ℕ → Type 0
+abbrev pub HasHistory : ObjectTraces → ℕ → List ℕ → Type 0
 HasHistory d oid history = MatchOption (trace_at d oid) ⊥ (IsTraceOf history)
 
 -- a move to the node where an object is counts for none

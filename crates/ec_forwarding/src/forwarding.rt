@@ -1,45 +1,46 @@
 //! Forwarding addresses of objects.
-ghost use Rattle.std.specs.Prelude.{◌≡◌, ◌≢◌, ◌+◌, ◌-◌, ◌^◌, ◌<◌, ◌≤◌, ◌↔◌, ℕ, suc, List, [], ◌∷◌, IsSome, IfOk, OnOk, OnErr, Some};
+ghost use Rattle.std.specs.Prelude.{◌≡◌, ◌≢◌, ◌+◌, ◌-◌, ◌^◌, ◌<◌, ◌≤◌, ℕ, List, [], ◌∷◌, IsSome, IfOk, OnOk, OnErr, None, Some};
 ghost use Rattle.ec_forwarding.specs.Addresses.{with_address};
 ghost use Rattle.ec_forwarding.specs.Following.{AreNewer, IsFound};
-ghost use Rattle.ec_forwarding.specs.Forwardings.{HasHistory, address_on, addresses_at, count_of_move, history_on, made_count};
+ghost use Rattle.ec_forwarding.specs.Forwardings.{HasHistory, address_on, addresses_at, count_of_move, history_on};
 ghost use Rattle.ec_forwarding.specs.Forwardings.{moves_at, moves_of, no_addresses, place_at, start_at, trace_at};
 
 use crate::trail::Trail;
 use ec_world::value::{NodeNo, Oid};
 use std::alloc::{AllocError, Global};
+use std::collections::BTreeMap;
 use std::marker::Model;
 
-/// What each node knows of where objects are, which have the numbers from 1 on. `place` takes the same time however many objects
-/// there are; the others look through what the nodes know of their one object.
+/// What each node knows of where objects are. They have any numbers, and are noted in any order. `place` and `moves` only find an
+/// object by its number; the others also look through what the nodes know of it.
 #[derive(Drop)]
 pub struct Forwarding {
-    trails: Vec<Trail>,
+    trails: BTreeMap<Oid, Trail>,
+    alloc: Global,
 }
 
 impl Model for Forwarding {
-    ghost use Rattle.std.specs.Prelude.{List};
-    ghost use Rattle.ec_forwarding.specs.Traces.{Trace};
+    ghost use Rattle.ec_forwarding.specs.Forwardings.{ObjectTraces};
 
-    ghost Value = { List Trace };
+    ghost Value = { ObjectTraces };
 
-    ghost view = { λ f. f.trails.items };
+    ghost view = { λ f. f.trails.entries };
 }
 
 impl Forwarding {
-    /// The addresses before any object is made.
+    /// The addresses before any object is noted.
     pub fn new(alloc: Global) -> Forwarding
         ensures { result ≡ [] }
     {
         Forwarding {
-            trails: Vec::new(alloc),
+            trails: BTreeMap::new(alloc),
+            alloc,
         }
     }
 
-    /// Notes that the next object was made at a node. The error is want of memory.
+    /// Notes that an object which wasn't noted yet was made at a node. The error is want of memory.
     pub fn note_made(&mut self, oid: Oid, at: NodeNo) -> Result<(), AllocError>
-        requires next { oid ≡ suc (made_count self.old) }
-        ensures count { OnOk result (made_count self.new ≡ suc (made_count self.old)) }
+        requires new { trace_at self.old oid ≡ None }
         ensures place { OnOk result (place_at self.new oid ≡ Some at) }
         ensures moves { OnOk result (moves_of self.new oid ≡ 0) }
         ensures addresses { OnOk result ((k : ℕ) →
@@ -48,8 +49,8 @@ impl Forwarding {
         ensures others { (o : ℕ) → o ≢ oid → trace_at self.new o ≡ trace_at self.old o }
         ensures err { OnErr result (self.new ≡ self.old) }
     {
-        let trail = Trail::new(*self.trails.allocator(), at)?;
-        self.trails.push(trail)?;
+        let trail = Trail::new(self.alloc, at)?;
+        self.trails.insert(oid, trail)?;
         Ok(())
     }
 
@@ -58,7 +59,6 @@ impl Forwarding {
     pub fn note_move(&mut self, oid: Oid, from: NodeNo, to: NodeNo) -> Result<(), AllocError>
         requires there { place_at self.old oid ≡ Some from }
         requires few { moves_of self.old oid < 2 ^ 64 - 1 }
-        ensures count { made_count self.new ≡ made_count self.old }
         ensures place { OnOk result (place_at self.new oid ≡ Some to) }
         ensures moves { OnOk result (moves_of self.new oid ≡ moves_of self.old oid + count_of_move from to) }
         ensures stays { OnOk result (from ≡ to → self.new ≡ self.old) }
@@ -70,7 +70,7 @@ impl Forwarding {
         ensures err { OnErr result (self.new ≡ self.old) }
     {
         if from != to {
-            self.trails[oid as usize - 1].go(to)?;
+            self.trails.get_mut(&oid).unwrap().go(to)?;
         }
         Ok(())
     }
@@ -86,32 +86,29 @@ impl Forwarding {
         ensures newer { IfOk result (λ answer. AreNewer (addresses_at self.old oid) (addresses_at self.new oid) from
             (start_at self.old oid from) answer.1 (record { node = answer.0; moves = moves_of self.old oid })) }
         ensures again { IfOk result (λ answer. IsFound (addresses_at self.new oid) (start_at self.new oid from) answer.0 0) }
-        ensures count { made_count self.new ≡ made_count self.old }
         ensures places { (o : ℕ) → place_at self.new o ≡ place_at self.old o }
         ensures moves { (o : ℕ) → moves_of self.new o ≡ moves_of self.old o }
         ensures histories { (o : ℕ) (history : List ℕ) → HasHistory self.old o history → HasHistory self.new o history }
         ensures others { (o : ℕ) → o ≢ oid → trace_at self.new o ≡ trace_at self.old o }
         ensures err { OnErr result (self.new ≡ self.old) }
     {
-        let trail = &mut self.trails[oid as usize - 1];
+        let trail = self.trails.get_mut(&oid).unwrap();
         let place = trail.place();
         let hops = trail.find(from)?;
         Ok((place, hops))
     }
 
-    /// The node where an object is; none exactly where no object of this number was made.
+    /// The node where an object is; none exactly where no object of this number was noted.
     pub fn place(&self, oid: Oid) -> Option<NodeNo>
         ensures at { result ≡ place_at self.now oid }
-        ensures made { IsSome result ↔ ((0 < oid) × (oid ≤ made_count self.now)) }
     {
-        let i = (oid as usize).checked_sub(1)?;
-        Some(self.trails.get(i)?.place())
+        Some(self.trails.get(&oid)?.place())
     }
-    /// How often an object has moved; none exactly where no object of this number was made.
+
+    /// How often an object has moved; none exactly where no object of this number was noted.
     pub fn moves(&self, oid: Oid) -> Option<u64>
         ensures { result ≡ moves_at self.now oid }
     {
-        let i = (oid as usize).checked_sub(1)?;
-        Some(self.trails.get(i)?.moves())
+        Some(self.trails.get(&oid)?.moves())
     }
 }

@@ -1,27 +1,39 @@
 //! Objects that go from node to node, and searches for them.
 use crate::forwarding::Forwarding;
-use ec_world::value::NodeNo;
+use ec_world::value::{NodeNo, Oid};
 use std::alloc::AllocError;
 use std::test::Fail;
 
-/// The object with number 1 goes to a node from where it is.
-fn go(forwarding: &mut Forwarding, to: NodeNo) -> Result<(), AllocError> {
-    if let Some(from) = forwarding.place(1) {
-        if let Some(moves) = forwarding.moves(1) {
+/// An object is made at a node, unless one of this number was noted.
+fn make(forwarding: &mut Forwarding, oid: Oid, at: NodeNo) -> Result<(), AllocError> {
+    if forwarding.place(oid).is_none() {
+        forwarding.note_made(oid, at)?;
+    }
+    Ok(())
+}
+
+/// An object goes to a node from where it is.
+fn go(forwarding: &mut Forwarding, oid: Oid, to: NodeNo) -> Result<(), AllocError> {
+    if let Some(from) = forwarding.place(oid) {
+        if let Some(moves) = forwarding.moves(oid) {
             if moves < 100 {
-                forwarding.note_move(1, from, to)?;
+                forwarding.note_move(oid, from, to)?;
             }
         }
     }
     Ok(())
 }
 
-/// Where it is found from a node, and in how many hops.
-fn find(forwarding: &mut Forwarding, from: NodeNo) -> Result<Option<(NodeNo, u64)>, AllocError> {
-    if forwarding.place(1).is_none() {
+/// Where an object is found from a node, and in how many hops.
+fn find(
+    forwarding: &mut Forwarding,
+    from: NodeNo,
+    oid: Oid,
+) -> Result<Option<(NodeNo, u64)>, AllocError> {
+    if forwarding.place(oid).is_none() {
         return Ok(None);
     }
-    Ok(Some(forwarding.find(from, 1)?))
+    Ok(Some(forwarding.find(from, oid)?))
 }
 
 /// Where an object that was made at node 0 goes, and searches for it, one behind another: from which node, where it is, and in how
@@ -46,13 +58,36 @@ const CASES: [(&[NodeNo], &[(NodeNo, NodeNo, u64)]); 7] = [
 fn objects_are_found_where_they_went(rt: HostRuntime) -> Result<(), Fail> {
     for (moves, searches) in &CASES {
         let mut forwarding = Forwarding::new(rt.alloc());
-        forwarding.note_made(1, 0)?;
+        make(&mut forwarding, 1, 0)?;
         for to in *moves {
-            go(&mut forwarding, *to)?;
+            go(&mut forwarding, 1, *to)?;
         }
         for (from, place, hops) in *searches {
-            assert_eq!(rt; find(&mut forwarding, *from)?, Some((*place, *hops)));
+            assert_eq!(rt; find(&mut forwarding, *from, 1)?, Some((*place, *hops)));
         }
     }
+    Ok(())
+}
+
+/// Objects in the order in which they are noted: the number, the node where it is made, and the node to which it goes.
+const OBJECTS: [(Oid, NodeNo, NodeNo); 4] = [
+    (9, 0, 5),
+    (2, 1, 1),
+    (4_294_967_295, 2, 0),
+    (0, 3, 4),
+];
+
+#[test]
+fn objects_of_any_numbers_are_found(rt: HostRuntime) -> Result<(), Fail> {
+    let mut forwarding = Forwarding::new(rt.alloc());
+    for (oid, at, to) in &OBJECTS {
+        make(&mut forwarding, *oid, *at)?;
+        go(&mut forwarding, *oid, *to)?;
+    }
+    for (oid, at, to) in &OBJECTS {
+        assert_eq!(rt; find(&mut forwarding, *at, *oid)?, Some((*to, 0)));
+        assert_eq!(rt; find(&mut forwarding, 7, *oid)?, Some((*to, 0)));
+    }
+    assert_eq!(rt; forwarding.place(3), None);
     Ok(())
 }
