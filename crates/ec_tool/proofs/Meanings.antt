@@ -27,8 +27,7 @@ core_there table program is_table none =
 pub each_is_meant : (text : List ℕ) → IsChecked text → (meant : Source) × IsMeant text meant
 each_is_meant text checked =
     let table = checked.is_program.is_accepted.0 in
-    let core = core_of table checked.program in
-    (
+    let core = core_of table checked.program in (
       record { text = text; table = table; core = core },
       record {
         tokens = checked.tokens;

@@ -42,9 +42,8 @@ pub fn emerald<'a, F: Shelf, K: Sink>(
     // meaning on them, with its output, failures and placements, while all code between stops is its node's own machine code, run without a
     // trap; the run ends early only where the budget is spent, a node is full, or want of memory is answered. So it is where the shelf and
     // the sink tell what they hold and meet no fault.
-    ensures headline {
-        (given : IsAcceptedCall (F.tells shelf.old) (K.tells sink.old) (map (λ word. word.now) words.now) (F.content shelf.old)
-        (F.faults shelf.old) (F.faults shelf.new) (K.faults sink.old) (K.faults sink.new)) →
+    ensures headline { (given : IsAcceptedCall (F.tells shelf.old) (K.tells sink.old) (map (λ word. word.now) words.now)
+        (F.content shelf.old) (F.faults shelf.old) (F.faults shelf.new) (K.faults sink.old) (K.faults sink.new)) →
         HasRun given.accepted.asked given.accepted.held net.old net.new (K.taken sink.old) (K.taken sink.new) result ⊎
         (result ≡ Status.NoMemory) }
 
