@@ -1,0 +1,4 @@
+mod Different
+mod Following
+mod Itself
+mod Passing
