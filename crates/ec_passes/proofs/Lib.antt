@@ -1,4 +1,4 @@
 mod Different
-mod Following
+pub mod Following
 mod Itself
 mod Passing

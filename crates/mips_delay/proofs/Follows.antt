@@ -20,7 +20,7 @@ use Rattle.mips_delay.proofs.Filling.{filled_step}
 use Rattle.mips_delay.proofs.Kept.{kept_step, moved_word, next_drops, next_outside, next_pc, next_place, outside_drops, place_small}
 use Rattle.mips_delay.proofs.Order.{origin, origin_of_place, origin_stays, place_less, place_of_origin, place_rises, same_of_place, which}
 use Rattle.mips_delay.proofs.Swap.{does_on, turns_too, went}
-use Rattle.mips_delay.proofs.Words.{clash, first_stays, low_of, one_there, plain_kept, single, slot_of, stays, there}
+use Rattle.mips_delay.proofs.Standing.{clash, first_stays, low_of, one_there, plain_kept, single, slot_of, stays, there}
 use Rattle.mips_delay.specs.Alike.{AreAlike, GoOnAlike, LeadsAlike}
 use Rattle.mips_delay.specs.Fill.{FillAlike, Filled, FilledFollows, HoldSame, RestsBehind}
 use Rattle.mips_delay.specs.Fillable.{Fillable, HasNoLinks, StandsAt}
@@ -41,22 +41,25 @@ use Rattle.mips_machine.specs.declared.machine.MipsMachine.{MipsMachine}
 
 -- ---- states and machines
 
+abbrev data_with : List ℕ → ℕ → ℕ → Bytes → Data
+data_with registers hi lo bytes = record { registers = registers; hi = hi; lo = lo; bytes = bytes }
+
+abbrev state_with : Data → Flow → State
+state_with held flow = record { held = held; flow = flow }
+
 -- a state that holds what a machine does is one of a machine
 twin : (u : MipsMachine) (d : Bytes) (v : State) → data_of u d ≡ v.held → (n : MipsMachine) × (state_of n d ≡ v)
 twin u d v e = (
   record { registers = u.registers; hi = u.hi; lo = u.lo; flow = v.flow; many = u.many },
-  ap (λ (h : Data). state h v.flow) e,
+  ap (λ (h : Data). state_with h v.flow) e,
 )
-  where
-    abbrev state : Data → Flow → State
-    state h f = record { held = h; flow = f }
 
 -- states that are alike are so with any memory
 pub with_memory : (old : List ℕ) (fills : ℕ → Bool) (s t : MipsMachine) (b c : Bytes) → AreAlike old fills (state_of s b) (state_of t b) →
     AreAlike old fills (state_of s c) (state_of t c)
 with_memory old fills s t b c a = record {
   here = a.here;
-  held = ap (λ (d : Data). data d c) a.held;
+  held = ap (λ (d : Data). data_with d.registers d.hi d.lo c) a.held;
   old_at = a.old_at;
   new_at = a.new_at;
   delayed = a.delayed;
@@ -66,16 +69,12 @@ with_memory old fills s t b c a = record {
   ready = a.ready;
   onward = a.onward;
 }
-  where
-    abbrev data : Data → Bytes → Data
-    data d bytes = record { registers = d.registers; hi = d.hi; lo = d.lo; bytes = bytes }
-
 performed : (code : List ℕ) (s : State) (n : Next) (x : Instr) → word_at code s.flow.pc ≡ Some (word_of x) → MipsStep code s n →
     performs x s ≡ n
 performed code s n x at step = sym (one_next code s n (performs x s) step (listed x at refl))
 
 -- a state from which a step goes on, or at which a stop is, stands at a word
-goes_somewhere : (code : List ℕ) (s u : State) → MipsStep code s (Goes u) → word_at code s.flow.pc ≡ None → ⊥
+pub goes_somewhere : (code : List ℕ) (s u : State) → MipsStep code s (Goes u) → word_at code s.flow.pc ≡ None → ⊥
 goes_somewhere code s u step none = let e = one_next code s (Goes u) (Traps Fetch) step (nowhere none refl) in cc
 
 -- whether a stop stops is what is pending
@@ -196,8 +195,9 @@ module _ (old new : Code) (fills : ℕ → Bool) (links : HasNoLinks old.words) 
   mapped (Some a) b e = (a, refl)
 
   -- a stop instruction of the new code comes from one of the old code
-  from_stop : (q : ℕ) → word_at new.words (pc_of q) ≡ Some stop_word → word_at old.words (pc_of (from q)) ≡ Some stop_word
-  from_stop q at = ⊎_elim
+  stop_was : (i : ℕ) → drops fills i ≡ false → word_at new.words (pc_of (place fills i)) ≡ Some stop_word →
+      word_at old.words (pc_of i) ≡ Some stop_word
+  stop_was i i_stays at_place = ⊎_elim
       (λ (h : fills i ≡ true).
       let z = W.swaps i h in
       absurd (clash (is_turn Syscall)
@@ -206,14 +206,8 @@ module _ (old new : Code) (fills : ℕ → Bool) (links : HasNoLinks old.words) 
       (λ (z : (j : ℕ) × (i ≡ suc j) × (fills j ≡ true)). absurd (in_slot z.0 z.1 z.2))
       (λ (z : (fills i ≡ false) × (is_within fills i ≡ false)). outside (W.kept i (slice_index old.words i) z.0 z.1 was))
       h)
-      (which fills i (origin_stays fills (single old.words new.words fills W) q))
+      (which fills i i_stays)
     where
-      abbrev i : ℕ
-      i = from q
-
-      at_place : word_at new.words (pc_of (place fills i)) ≡ Some stop_word
-      at_place = ap (λ k. word_at new.words (pc_of k)) (place_of_origin fills (single old.words new.words fills W) q) ∙ at
-
       was : word_at old.words (pc_of i) ≡ Some (slice_index old.words i)
       was = there old.words new.words fills W i stop_word at_place
 
@@ -234,6 +228,11 @@ module _ (old new : Code) (fills : ℕ → Bool) (links : HasNoLinks old.words) 
           (λ (k : (v ≡ slice_index old.words i) × ((b : Instr) → slice_index old.words i ≡ word_of b → is_turn b ≡ false)).
           was ∙ ap Some (sym k.0) ∙ sym at_new ∙ at_place)
           kept
+
+  from_stop : (q : ℕ) → word_at new.words (pc_of q) ≡ Some stop_word → word_at old.words (pc_of (from q)) ≡ Some stop_word
+  from_stop q at =
+      stop_was (from q) (origin_stays fills (single old.words new.words fills W) q)
+      (ap (λ k. word_at new.words (pc_of k)) (place_of_origin fills (single old.words new.words fills W) q) ∙ at)
 
   pub keeps_stops : KeepsStops mips_meaning old new
   keeps_stops = record {
@@ -297,8 +296,8 @@ module _ (old new : Code) (fills : ℕ → Bool) (links : HasNoLinks old.words) 
       let place_is = z.at in
       record {
         here = suc z.i;
-        held = ap (λ r. data r s.hi s.lo bytes) hold.registers ∙ ap (λ x. data t.registers x s.lo bytes) hold.hi
-            ∙ ap (λ x. data t.registers t.hi x bytes) hold.lo;
+        held = ap (λ r. data_with r s.hi s.lo bytes) hold.registers ∙ ap (λ x. data_with t.registers x s.lo bytes) hold.hi
+            ∙ ap (λ x. data_with t.registers t.hi x bytes) hold.lo;
         old_at = omega (arith, at, place_is);
         new_at = omega (arith, new_at, to, next);
         delayed = ap (λ (f : Flow). f.delayed) rests ∙ sym (ap (λ (f : Flow). f.delayed) too);
@@ -311,10 +310,6 @@ module _ (old new : Code) (fills : ℕ → Bool) (links : HasNoLinks old.words) 
           (ap (λ (f : Flow). f.next) rests, ap (λ (f : Flow). f.next) too),
         );
       }
-    where
-      abbrev data : List ℕ → ℕ → ℕ → Bytes → Data
-      data registers hi lo b = record { registers = registers; hi = hi; lo = lo; bytes = b }
-
   enters : (op n a b : ℕ) (t : MipsMachine) → StopsAt mips_meaning old op n a → address_of new op n ≡ Some b → mips_meaning.rests t →
       mips_place t ≡ b + 4 →
       (s : MipsMachine) × mips_meaning.rests s × (mips_place s ≡ a + 4) × SameHomes mips_meaning s t × Alike s t

@@ -66,7 +66,7 @@ turn_jumps (BranchIf branch rs rt offset) e = refl
 turn_jumps (BranchOnZero branch rs offset) e = refl
 turn_jumps _ e = absurd (cc)
 
-turn_slot : (b : Instr) → is_turn b ≡ true → (is_jump b && not (is_stop b)) ≡ true
+pub turn_slot : (b : Instr) → is_turn b ≡ true → (is_jump b && not (is_stop b)) ≡ true
 turn_slot (J target) e = refl
 turn_slot (BranchIf branch rs rt offset) e = refl
 turn_slot (BranchOnZero branch rs offset) e = refl
@@ -104,7 +104,7 @@ outside_drops fills (suc i) h = by (fills i) h
     by true e = absurd (cc)
     by false e = e
 
-outside_behind : (fills : ℕ → Bool) (i : ℕ) → is_within fills (suc i) ≡ false → fills i ≡ false
+pub outside_behind : (fills : ℕ → Bool) (i : ℕ) → is_within fills (suc i) ≡ false → fills i ≡ false
 outside_behind fills i h = by (fills i) h
   where
     by : (b : Bool) → cond b true (drops fills (suc i)) ≡ false → b ≡ false

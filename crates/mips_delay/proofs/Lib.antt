@@ -3,5 +3,12 @@ mod Swap
 mod Kept
 mod Filling
 mod Order
-mod Words
+mod Standing
 mod Follows
+mod Left
+mod Short
+mod Reach
+mod Assembly
+mod Marks
+mod Written
+mod Deciding

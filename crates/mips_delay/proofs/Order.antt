@@ -131,10 +131,12 @@ module _ (fills : ℕ → Bool) (single : (j : ℕ) → fills j ≡ true → fil
   origin (suc q) = staying (suc (origin q))
 
   pub origin_stays : (q : ℕ) → drops fills (origin q) ≡ false
+  unfolding origin
   origin_stays zero = refl
   origin_stays (suc q) = staying_stays (suc (origin q))
 
   pub place_of_origin : (q : ℕ) → place fills (origin q) ≡ q
+  unfolding origin
   place_of_origin zero = refl
   place_of_origin (suc q) =
       staying_place (suc (origin q)) ∙ next_place fills (origin q) (origin_stays q) ∙ ap suc (place_of_origin q)

@@ -1,9 +1,8 @@
 -- Where words go when slots are filled, and the words of a code with its slots filled.
 use Rattle.std.specs.Prelude.{◌≡◌, ◌⊎◌, ℕ, zero, suc, ◌-◌, ◌/◌, ◌%◌, ◌==◌, ◌&&◌, nat_le, Bool, true, false, List, length, Some}
-use Rattle.std.specs.Prelude.{◌≤◌, if◌then◌else◌}
-use Rattle.ec_machine_code.specs.Speaks.{words_end}
+use Rattle.std.specs.Prelude.{if◌then◌else◌}
 use Rattle.ec_target.specs.Code.{code_base, pc_of, word_at}
-use Rattle.mips_delay.specs.Fillable.{Fillable, HasNoLinks, HasNoneLeft}
+use Rattle.mips_delay.specs.Fillable.{Fillable, HasNoneLeft}
 use Rattle.mips_delay.specs.Swap.{Swaps, is_same_turn, is_turn, turned_to}
 use Rattle.mips_isa.specs.Words.{word_of}
 use Rattle.mips_isa.specs.declared.instr.Instr.{Instr}
@@ -70,4 +69,4 @@ pub record FillsWords (old new : List ℕ) (fills : ℕ → Bool) : Type 0 where
 
 -- Once is enough: what was filled makes no other place fillable.
 abbrev pub NoneIsLeft : Type 0
-NoneIsLeft = (old new : List ℕ) (fills : ℕ → Bool) → FillsWords old new fills → HasNoLinks old → length old ≤ words_end → HasNoneLeft new
+NoneIsLeft = (old new : List ℕ) (fills : ℕ → Bool) → FillsWords old new fills → HasNoneLeft new
