@@ -12,3 +12,5 @@ mod Assembly
 mod Marks
 mod Written
 mod Deciding
+mod Offsets
+mod Promised

@@ -183,18 +183,17 @@ module _ (old : List ℕ) (fills : ℕ → Bool) (few : length old ≤ words_end
           record { back = inr (omega (arith, up, one, two, three)); onward = inl (omega (arith, near, one, two, three)) }
 
   pub lead_along : LeadAlong old fills
+  unfolding Closers
   lead_along i b low is turns = (
     λ stay. can i (place fills i) b low (place_small fills i) turns (closers_kept i b),
     λ j e h. filled i j b e low is turns h,
   )
     where
       closers_kept : (i : ℕ) (b : Instr) → Closers i (place fills i) b
-      unfolding Closers
       closers_kept i b = λ k e. kept_closer i k
 
       closers_filled : (j : ℕ) (b : Instr) → suc j < length old → word_of b ≡ slice_index old (suc j) → is_turn b ≡ true → fills j ≡ true →
           Closers (suc j) (place fills j) b
-      unfolding Closers
       closers_filled j b low is turns h = λ k e.
           let led : GoesTo old k =
           record { from = suc j; by = b; stands = word_at-pc_of old (suc j) low ∙ ap Some (sym is); turns = turns; leads = e } in

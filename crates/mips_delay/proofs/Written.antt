@@ -1,10 +1,11 @@
 -- Places, words and operations as they are written, one behind the other.
 use Rattle.std.proofs.Common.{◌≡◌, ◌≢◌, ◌⊎◌, ℕ, zero, suc, ◌+◌, ◌-◌, ◌<◌, ◌≤◌, Bool, true, false, cond, List, [], ◌∷◌, ◌++◌, length, Some}
-use Rattle.std.proofs.Common.{map, refl, sym, ap, ◌∙◌, subst, inl, inr, ⊎_elim, arith}
+use Rattle.std.proofs.Common.{append_assoc, drop, map, refl, sym, ap, ◌∙◌, subst, inl, inr, ⊎_elim, arith}
 use Rattle.std.proofs.lemmas.List.{get_or_append_left}
 use Rattle.std.proofs.Math.Seq.{get_or-append_seam}
 use Rattle.std.specs.Prelude.{slice_get, slice_index}
-use Rattle.ec_machine_code.specs.Stops.{stops_if, words_before, words_if}
+use Rattle.ec_base.proofs.Lists.{drop_at}
+use Rattle.ec_machine_code.specs.Stops.{words_before}
 use Rattle.ec_machine_code.specs.declared.code.OperationCode.{OperationCode}
 use Rattle.mips_delay.proofs.Kept.{not_true, next_place}
 use Rattle.mips_delay.proofs.Marks.{get_front, get_seam}
@@ -46,7 +47,10 @@ place_kept fills i h =
 
 -- behind the last word none goes
 pub place_behind : (fills : ℕ → Bool) (n d : ℕ) → ((i : ℕ) → n ≤ i → drops fills i ≡ false) → place fills (d + n) ≡ d + place fills n
-place_behind fills n zero h = refl
+place_behind fills n zero h =
+    let e : 0 + n ≡ n = omega arith in
+    let f : place fills n ≡ 0 + place fills n = omega arith in
+    ap (place fills) e ∙ f
 place_behind fills n (suc d) h =
     let e : suc d + n ≡ suc (d + n) = omega arith in
     let rest = place_behind fills n d h in
@@ -64,6 +68,23 @@ place_past fills n i h low =
     let e : (i - n) + n ≡ i = omega (arith, low) in
     let f = place_behind fills n (i - n) (none_drops fills n h) in
     ap (place fills) (sym e) ∙ (let g : place fills ((i - n) + n) ≡ place fills n + (i - n) = omega (arith, f) in g)
+
+pub drops_small : (fills : ℕ → Bool) (i : ℕ) → i < 2 → drops fills i ≡ false
+drops_small fills zero h = refl
+drops_small fills (suc zero) h = refl
+drops_small fills (suc (suc j)) h = absurd (omega (arith, h))
+
+pub drops_from : (fills : ℕ → Bool) (i : ℕ) → 2 ≤ i → drops fills i ≡ fills (i - 2)
+drops_from fills zero h = absurd (omega (arith, h))
+drops_from fills (suc zero) h = absurd (omega (arith, h))
+drops_from fills (suc (suc j)) h = let e : j ≡ suc (suc j) - 2 = omega arith in ap fills e
+
+-- ---- what is made of a list, and of the rest
+
+pub map_next : (f : ℕ → ℕ) (new all xs : List ℕ) (i x : ℕ) → slice_get xs i ≡ Some x → new ++ map f (drop i xs) ≡ all →
+    (new ++ f x ∷ []) ++ map f (drop (i + 1) xs) ≡ all
+map_next f new all xs i x at is =
+    append_assoc new (f x ∷ []) (map f (drop (i + 1) xs)) ∙ ap (λ l. new ++ map f l) (sym (drop_at xs i x at)) ∙ is
 
 -- ---- words
 

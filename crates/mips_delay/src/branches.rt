@@ -58,6 +58,7 @@ pub(crate) fn leading(instr: Instr, at: u32, goal: u32) -> Instr
 }
 
 /// The offset of a branch that leads from one address to another.
+#[tactic(auto, using(crate::proofs::Offsets::offset_leads))]
 fn offset_to(at: u32, goal: u32) -> Sixteen
     requires near { IsNear at goal }
     ensures { branch_target at result ≡ goal }

@@ -139,6 +139,7 @@ fn land(landed: &mut Vec<bool>, word: u32, at: u32)
 }
 
 /// The word at an address is marked.
+#[tactic(auto, using(crate::proofs::Marks::set_same, crate::proofs::Marks::set_is, crate::proofs::Marks::set_stays))]
 fn mark(landed: &mut Vec<bool>, address: u32)
     ensures long { length landed.new.items ≡ length landed.old.items }
     ensures yes { (k : ℕ) → set_at landed.new.items k ≡ true → (set_at landed.old.items k ≡ true) ⊎ (address ≡ pc_of k) }

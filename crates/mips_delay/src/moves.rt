@@ -50,10 +50,15 @@ fn places_of(alloc: Global, fills: &[bool]) -> Result<Vec<u32>, AllocError>
 }
 
 /// Word i is the no-op of a filled slot.
+#[tactic(auto, using(crate::proofs::Written::drops_small, crate::proofs::Written::drops_from))]
 fn drops(fills: &[bool], i: usize) -> bool
     ensures { result ≡ drops (set_at fills.now) i }
 {
-    i >= 2 && fills_at(fills, i - 2)
+    if i < 2 {
+        false
+    } else {
+        fills_at(fills, i - 2)
+    }
 }
 
 /// Word j goes into the slot of the branch behind it; no word behind the last does.
@@ -90,6 +95,7 @@ impl Moves {
     }
 
     /// Where any place goes, behind the last word too.
+    #[tactic(auto, using(crate::proofs::Written::place_past))]
     fn any_place(&self, i: u32) -> u32
         ensures value { result ≡ place (set_at self.now.fills.items) i }
         ensures low { result ≤ i }
@@ -103,6 +109,7 @@ impl Moves {
     }
 
     /// How many words there will be where now there are so many, from a place on.
+    #[tactic(auto, using(crate::proofs::Written::place_past))]
     pub(crate) fn span(&self, from: usize, many: u32) -> u32
         requires there { from ≤ length self.now.fills.items }
         ensures { place (set_at self.now.fills.items) from + result ≡ place (set_at self.now.fills.items) (from + many) }

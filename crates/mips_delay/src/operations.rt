@@ -30,6 +30,7 @@ pub(crate) fn put_operations(alloc: Global, operations: &Seq<OperationCode>, mov
 }
 
 /// The addresses of stops, each where its word goes.
+#[tactic(auto, using(crate::proofs::Written::map_next))]
 fn put_stops(alloc: Global, stops: &Seq<u32>, moves: &Moves) -> Result<Seq<u32>, AllocError>
     ensures { IfOk result (λ new. new ≡ map (moved_to (set_at moves.now.fills.items)) stops.now) }
 {
