@@ -83,8 +83,7 @@ module _ {S : Type 0} (M : MachineMeaning S) (p : Parts) (old new : Code) (homes
       let few = different_few (words_of new op) (words_before new.operations op) z.new_path apart within in
       let so : (x : Variable) → Lives M local text (homes_of homes op o) f arr.last arr.memory (machine_at c r) x →
       Lives M local text (homes_of homes op o) f z.new_last arr.memory (machine_at c r) x =
-      lives_so M local text arr.last z.new_last ends.homes (homes_of homes op o) f arr.memory (machine_at c r) in
-      (
+      lives_so M local text arr.last z.new_last ends.homes (homes_of homes op o) f arr.memory (machine_at c r) in (
         record {
           steps = length z.new_path;
           last = z.new_last;

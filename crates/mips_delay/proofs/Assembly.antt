@@ -73,12 +73,12 @@ module _ (old : List ℕ) (fills : ℕ → Bool) (each : (j : ℕ) → fills j �
           (λ (z : (fills j ≡ true) × IsMoved fills (suc j) (place fills j) (slice_index old (suc j)) (slice_index new (place fills j))).
           is_led z.1)
           (λ (z : ((k : ℕ) × (j ≡ suc k) × (fills k ≡ true) × (slice_index new (place fills j) ≡ slice_index old k))
-              ⊎ ((fills j ≡ false) × (is_within fills j ≡ false)
-              × IsKept fills j (slice_index old j) (slice_index new (place fills j)))). ⊎_elim
+          ⊎ ((fills j ≡ false) × (is_within fills j ≡ false)
+          × IsKept fills j (slice_index old j) (slice_index new (place fills j)))). ⊎_elim
           (λ (y : (k : ℕ) × (j ≡ suc k) × (fills k ≡ true) × (slice_index new (place fills j) ≡ slice_index old k)).
           absurd (clash (fills j) h (ap fills y.1 ∙ second_unfilled y.0 y.2)))
           (λ (y : (fills j ≡ false) × (is_within fills j ≡ false)
-              × IsKept fills j (slice_index old j) (slice_index new (place fills j))).
+          × IsKept fills j (slice_index old j) (slice_index new (place fills j))).
           absurd (clash (fills j) h y.0))
           z)
           (stands j (low_of old j (word_of x.moves) x.first) (first_stays j h))
@@ -88,7 +88,7 @@ module _ (old : List ℕ) (fills : ℕ → Bool) (each : (j : ℕ) → fills j �
           is_led z = ⊎_elim
               (λ (r : Retargets fills (suc j) (place fills j) (slice_index old (suc j)) (slice_index new (place fills j))). r)
               (λ (q : (slice_index new (place fills j) ≡ slice_index old (suc j))
-                  × ((b : Instr) → slice_index old (suc j) ≡ word_of b → is_turn b ≡ false)).
+              × ((b : Instr) → slice_index old (suc j) ≡ word_of b → is_turn b ≡ false)).
               absurd (clash (is_turn x.branch) x.may.turn (q.1 x.branch (old_is (suc j) (word_of x.branch) x.second))))
               z
 
@@ -96,16 +96,16 @@ module _ (old : List ℕ) (fills : ℕ → Bool) (each : (j : ℕ) → fills j �
       slot_is : slice_index new (place fills (suc j)) ≡ slice_index old j
       slot_is = ⊎_elim
           (λ (z : (fills (suc j) ≡ true)
-              × IsMoved fills (suc (suc j)) (place fills (suc j)) (slice_index old (suc (suc j))) (slice_index new (place fills (suc j)))).
+          × IsMoved fills (suc (suc j)) (place fills (suc j)) (slice_index old (suc (suc j))) (slice_index new (place fills (suc j)))).
           absurd (clash (fills (suc j)) z.0 (second_unfilled j h)))
           (λ (z : ((k : ℕ) × (suc j ≡ suc k) × (fills k ≡ true) × (slice_index new (place fills (suc j)) ≡ slice_index old k))
-              ⊎ ((fills (suc j) ≡ false) × (is_within fills (suc j) ≡ false)
-              × IsKept fills (suc j) (slice_index old (suc j)) (slice_index new (place fills (suc j))))). ⊎_elim
+          ⊎ ((fills (suc j) ≡ false) × (is_within fills (suc j) ≡ false)
+          × IsKept fills (suc j) (slice_index old (suc j)) (slice_index new (place fills (suc j))))). ⊎_elim
           (λ (y : (k : ℕ) × (suc j ≡ suc k) × (fills k ≡ true) × (slice_index new (place fills (suc j)) ≡ slice_index old k)).
           let same : y.0 ≡ j = (let e = y.1 in omega (arith, e)) in
           y.3 ∙ ap (slice_index old) same)
           (λ (y : (fills (suc j) ≡ false) × (is_within fills (suc j) ≡ false)
-              × IsKept fills (suc j) (slice_index old (suc j)) (slice_index new (place fills (suc j)))).
+          × IsKept fills (suc j) (slice_index old (suc j)) (slice_index new (place fills (suc j)))).
           absurd (clash (is_within fills (suc j)) (second_within j h) y.1))
           z)
           (stands (suc j) (low_of old (suc j) (word_of x.branch) x.second) (second_stays j h))
@@ -139,22 +139,21 @@ module _ (old : List ℕ) (fills : ℕ → Bool) (each : (j : ℕ) → fills j �
         (v : ℕ) × (word_at new (pc_of (place fills i)) ≡ Some v) × IsKept fills i w v
     kept_at i w unfilled outside at =
         let low = low_of old i w at in
-        let stays = outside_drops fills i outside in
-        (
+        let stays = outside_drops fills i outside in (
           slice_index new (place fills i),
           new_at i low stays,
           subst (λ z. IsKept fills i z (slice_index new (place fills i))) (old_is i w at) (⊎_elim
-          (λ (z : (fills i ≡ true) × IsMoved fills (suc i) (place fills i) (slice_index old (suc i)) (slice_index new (place fills i))).
-          absurd (clash (fills i) z.0 unfilled))
-          (λ (z : ((k : ℕ) × (i ≡ suc k) × (fills k ≡ true) × (slice_index new (place fills i) ≡ slice_index old k))
+              (λ (z : (fills i ≡ true) × IsMoved fills (suc i) (place fills i) (slice_index old (suc i)) (slice_index new (place fills i))).
+              absurd (clash (fills i) z.0 unfilled))
+              (λ (z : ((k : ℕ) × (i ≡ suc k) × (fills k ≡ true) × (slice_index new (place fills i) ≡ slice_index old k))
               ⊎ ((fills i ≡ false) × (is_within fills i ≡ false)
               × IsKept fills i (slice_index old i) (slice_index new (place fills i)))). ⊎_elim
-          (λ (y : (k : ℕ) × (i ≡ suc k) × (fills k ≡ true) × (slice_index new (place fills i) ≡ slice_index old k)).
-          absurd (clash (is_within fills i) (ap (is_within fills) y.1 ∙ second_within y.0 y.2) outside))
-          (λ (y : (fills i ≡ false) × (is_within fills i ≡ false)
+              (λ (y : (k : ℕ) × (i ≡ suc k) × (fills k ≡ true) × (slice_index new (place fills i) ≡ slice_index old k)).
+              absurd (clash (is_within fills i) (ap (is_within fills) y.1 ∙ second_within y.0 y.2) outside))
+              (λ (y : (fills i ≡ false) × (is_within fills i ≡ false)
               × IsKept fills i (slice_index old i) (slice_index new (place fills i))). y.2)
-          z)
-          (stands i low stays)),
+              z)
+              (stands i low stays)),
         )
 
     pub fills_words : FillsWords old new fills

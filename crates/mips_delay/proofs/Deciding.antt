@@ -63,8 +63,7 @@ all_true false b c e f g = absurd (cc)
 pub may_of : (x b : Instr) → may_move x b ≡ true → MayFill x b × (is_load x ≡ false)
 may_of x b e =
     let z = three_true (is_movable x) (is_turn b) (is_read_of b (writes x)) e in
-    let m = movable_is x z.0 in
-    (
+    let m = movable_is x z.0 in (
       record { no_jump = m.no_jump; no_load = m.no_load; no_set = m.no_set; no_read = m.no_read; turn = z.1; other = z.2 },
       m.none,
     )

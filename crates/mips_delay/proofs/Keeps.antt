@@ -30,13 +30,13 @@ same_keeps d e w h r ne = ap (λ l. register_of l r.number) (sym h)
 in_register : (l : List ℕ) (rd r : Register) (v : ℕ) → (r.number == rd.number) ≡ false →
     register_of (with_register l rd.number v) r.number ≡ register_of l r.number
 in_register l rd r v ne = by_zero (rd.number == 0)
-    where
-      apart : r.number ≢ rd.number
-      apart e = (let f : ⊥ = grind (arith, nat_tests) in f)
+  where
+    apart : r.number ≢ rd.number
+    apart e = (let f : ⊥ = grind (arith, nat_tests) in f)
 
-      by_zero : (b : Bool) → register_of (cond b l (slice_set l rd.number v)) r.number ≡ register_of l r.number
-      by_zero true = refl
-      by_zero false = ap (λ x. cond (r.number == 0) 0 x) (get_or-set_other l rd.number r.number v 0 apart)
+    by_zero : (b : Bool) → register_of (cond b l (slice_set l rd.number v)) r.number ≡ register_of l r.number
+    by_zero true = refl
+    by_zero false = ap (λ x. cond (r.number == 0) 0 x) (get_or-set_other l rd.number r.number v 0 apart)
 
 written_keeps : (d e : Data) (rd : Register) (v : ℕ) → written d rd v ≡ Done e → Keeps d e rd.number
 written_keeps d e rd v h r ne =

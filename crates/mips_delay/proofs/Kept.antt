@@ -266,7 +266,7 @@ module _ (old new : List ℕ) (fills : ℕ → Bool) (F : FillsWords old new fil
         ready = λ h. (
           ap (λ (z : State). z.flow.delayed) gone.2 ∙ jumps_not,
           ap (λ (z : State). z.flow.loaded) gone.2
-          ∙ loads_none i (((F.each k h).free a.here i (sym (first h)) is_at).1),
+              ∙ loads_none i (((F.each k h).free a.here i (sym (first h)) is_at).1),
         );
         onward = inl (
           ap (λ (z : State). z.flow.delayed) gone.2 ∙ jumps_not,
@@ -280,7 +280,7 @@ module _ (old new : List ℕ) (fills : ℕ → Bool) (F : FillsWords old new fil
           inl (alike_at (suc a.here) (h.1.0 ∙ on_old) (h.1.1 ∙ on_new) next_is_outside (λ e. refl)))
           (λ (h : (s.flow.delayed ≡ true) × LeadsAlike old fills a.here s.flow t.flow). ⊎_elim
           (λ (z : (k : ℕ) × (s.flow.next ≡ pc_of k) × (t.flow.next ≡ pc_of (place fills k)) × (is_within fills k ≡ false)
-              × (fills k ≡ true → k ≡ suc a.here)).
+          × (fills k ≡ true → k ≡ suc a.here)).
           inl (alike_at z.0 z.1 z.2 z.3 z.4))
           (λ (z : word_at old s.flow.next ≡ None). inr (ap (word_at old) u_pc ∙ z))
           h.1)
@@ -348,7 +348,7 @@ module _ (old new : List ℕ) (fills : ℕ → Bool) (F : FillsWords old new fil
         suc (suc a.here),
         ap (λ n. plus n 4) (straight.0 ∙ on_old) ∙ next_pc (suc a.here) (omega (arith, low, few)),
         ap (λ n. plus n 4) (straight.1 ∙ on_new ∙ ap pc_of p_next) ∙ next_pc (suc p) (omega (arith, low, few, p_small))
-        ∙ ap pc_of (sym (next_place fills (suc a.here) (next_drops fills a.here a.outside) ∙ ap suc p_next)),
+            ∙ ap pc_of (sym (next_place fills (suc a.here) (next_drops fills a.here a.outside) ∙ ap suc p_next)),
         next_outside fills (suc a.here) next_is_outside no_first,
         λ e. refl,
       )

@@ -241,8 +241,7 @@ module _ (old new : List ℕ) (fills : ℕ → Bool) (F : FillsWords old new fil
         no_nothing = N.no_nothing;
         free = free;
         unled = λ k g.
-            let z = N.unled (place fills k) (goes_too old new fills F k g) in
-            (
+            let z = N.unled (place fills k) (goes_too old new fills F k g) in (
               λ e. z.0 (ap (place fills) e ∙ c_place),
               λ e. z.1 (ap (place fills) (e ∙ sym b_is) ∙ b_place),
               λ e. z.2 (ap (place fills) (e ∙ ap suc (sym b_is)) ∙ slot_place),

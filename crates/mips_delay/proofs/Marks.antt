@@ -108,8 +108,7 @@ module _ (code : List ℕ) where
       at : g.from ≡ i → LeadsTo (slice_index code i) (pc_of i) k
       at e =
           let stands = ap (λ j. word_at code (pc_of j)) (sym e) ∙ g.stands in
-          let low = low_of code i (word_of g.by) stands in
-          (
+          let low = low_of code i (word_of g.by) stands in (
             g.by,
             sym (same_Some (slice_index code i) (word_of g.by) (sym (word_at-pc_of code i low) ∙ stands)),
             g.turns,

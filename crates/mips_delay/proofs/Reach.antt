@@ -85,15 +85,14 @@ low_near i to goal small less (a, b, c, d, e, f) low =
     (omega arith, b, omega (arith, small, less), d, omega (arith, e, less), omega (arith, low))
 
 word_near : (i k to p : ℕ) → i < words_end → to ≤ i → p ≤ k → IsNear (pc_of i) (pc_of k) → Closer i k to p → IsNear (pc_of to) (pc_of p)
-word_near i k to p small less down (a, b, c, d, e, f) closer =
-    (
-      omega arith,
-      omega arith,
-      omega (arith, small, less),
-      omega (arith, d, down),
-      ⊎_elim (λ (h : to + k ≤ p + i). (omega (arith, h, e))) (λ (h : to ≤ p). (omega (arith, h))) closer.back,
-      ⊎_elim (λ (h : p + i ≤ to + k). (omega (arith, h, f))) (λ (h : p ≤ suc to). (omega (arith, h))) closer.onward,
-    )
+word_near i k to p small less down (a, b, c, d, e, f) closer = (
+  omega arith,
+  omega arith,
+  omega (arith, small, less),
+  omega (arith, d, down),
+  ⊎_elim (λ (h : to + k ≤ p + i). (omega (arith, h, e))) (λ (h : to ≤ p). (omega (arith, h))) closer.back,
+  ⊎_elim (λ (h : p + i ≤ to + k). (omega (arith, h, f))) (λ (h : p ≤ suc to). (omega (arith, h))) closer.onward,
+)
 
 moved_near : (fills : ℕ → Bool) (i to goal : ℕ) → i < words_end → to ≤ i → IsNear (pc_of i) goal →
     ((k : ℕ) → goal ≡ pc_of k → Closer i k to (place fills k)) → IsNear (pc_of to) (moved_to fills goal)

@@ -60,8 +60,7 @@ short old new fills links few F op n a b at is s t behind too hold bytes steps l
     let r = following_is_short mips_meaning (FillAlike fills) old new z.1.0 z.1.1 s t bytes path.path last memory alike path.passes stop in
     let same : AreAlike old.words fills (state_of last memory) (state_of r.1 memory) = r.4 memory in
     let long = path.long in
-    let few_steps = r.3 in
-    (
+    let few_steps = r.3 in (
       length r.0,
       r.1,
       (passes_lead (mips_goes new.words) mips_place r.0 t bytes r.1 memory r.2, r.5.stops),

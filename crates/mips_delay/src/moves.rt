@@ -54,11 +54,7 @@ fn places_of(alloc: Global, fills: &[bool]) -> Result<Vec<u32>, AllocError>
 fn drops(fills: &[bool], i: usize) -> bool
     ensures { result ≡ drops (set_at fills.now) i }
 {
-    if i < 2 {
-        false
-    } else {
-        fills_at(fills, i - 2)
-    }
+    if i < 2 { false } else { fills_at(fills, i - 2) }
 }
 
 /// Word j goes into the slot of the branch behind it; no word behind the last does.

@@ -10,7 +10,11 @@ use ec_machine_code::code::OperationCode;
 use std::alloc::{AllocError, Global};
 
 /// The operations, each from where its first word goes to where the word behind it goes.
-pub(crate) fn put_operations(alloc: Global, operations: &Seq<OperationCode>, moves: &Moves) -> Result<Seq<OperationCode>, AllocError>
+pub(crate) fn put_operations(
+    alloc: Global,
+    operations: &Seq<OperationCode>,
+    moves: &Moves,
+) -> Result<Seq<OperationCode>, AllocError>
     ensures many { IfOk result (λ new. length new ≡ length operations.now) }
     ensures begins { IfOk result (λ new. (op : ℕ) → op ≤ length operations.now →
         words_before new op ≡ place (set_at moves.now.fills.items) (words_before operations.now op)) }

@@ -11,7 +11,7 @@ invariant-loop-i l =
     (length l.new ≡ l.i)
     × ((op : ℕ) → op ≤ l.i → words_before l.new op ≡ place (set_at l.moves.fills.items) (words_before l.operations op))
     × ((op : ℕ) → op < l.i →
-        stops_if (slice_get l.new op) ≡ map (moved_to (set_at l.moves.fills.items)) (stops_if (slice_get l.operations op)))
+    stops_if (slice_get l.new op) ≡ map (moved_to (set_at l.moves.fills.items)) (stops_if (slice_get l.operations op)))
     × (l.begin ≤ length l.moves.fills.items)
     × ((l.begin ≡ words_before l.operations l.i)
-        ⊎ ((l.begin ≡ length l.moves.fills.items) × (length l.moves.fills.items ≤ words_before l.operations l.i)))
+    ⊎ ((l.begin ≡ length l.moves.fills.items) × (length l.moves.fills.items ≤ words_before l.operations l.i)))

@@ -9,4 +9,4 @@ abbrev pub invariant-loop-i : goal.invariant-loop-i
 invariant-loop-i l =
     (length l.new ≡ place (set_at l.moves.fills.items) l.i)
     × ((k : ℕ) → k < l.i → drops (set_at l.moves.fills.items) k ≡ false →
-        Stands l.words (set_at l.moves.fills.items) k (slice_index l.new (place (set_at l.moves.fills.items) k)))
+    Stands l.words (set_at l.moves.fills.items) k (slice_index l.new (place (set_at l.moves.fills.items) k)))
