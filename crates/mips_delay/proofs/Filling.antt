@@ -12,7 +12,8 @@ use Rattle.mips_machine.specs.Hazards.{is_jump}
 use Rattle.mips_machine.specs.Step.{Goes, MipsStep, State, resting}
 use Rattle.mips_machine.specs.Values.{plus}
 use Rattle.mips_machine.specs.declared.flow.Flow.{Flow}
-use Rattle.mips_delay.proofs.Kept.{leads_at, next_drops, next_outside, next_pc, next_place, not_true, outside_drops, place_small, some_or_none, turn_jumps, within_is}
+use Rattle.mips_delay.proofs.Kept.{leads_at, next_drops, next_outside, next_pc, next_place, not_true, outside_drops, place_small}
+use Rattle.mips_delay.proofs.Kept.{some_or_none, turn_jumps, within_is}
 use Rattle.mips_delay.proofs.Swap.{swap_rejoins}
 use Rattle.mips_delay.specs.Alike.{AreAlike, FilledGoes, GoOnAlike, LeadsAlike}
 use Rattle.mips_delay.specs.Fillable.{Fillable, GoesTo}

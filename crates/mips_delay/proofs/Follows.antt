@@ -1,5 +1,6 @@
 -- Code with its slots filled follows the code that it was.
-use Rattle.std.proofs.Common.{◌≡◌, ◌⊎◌, ℕ, zero, suc, ◌+◌, ◌<◌, ◌≤◌, Bool, true, false, cond, List, [], ◌∷◌, length, Option, None, Some, refl}
+use Rattle.std.proofs.Common.{◌≡◌, ◌⊎◌, ℕ, zero, suc, ◌+◌, ◌<◌, ◌≤◌, Bool, true, false, cond, List, [], ◌∷◌, length, Option, None, Some}
+use Rattle.std.proofs.Common.{refl}
 use Rattle.std.proofs.Common.{sym, ap, ◌∙◌, subst, inl, inr, ⊎_elim, arith}
 use Rattle.std.proofs.lemmas.Option.{same_Some}
 use Rattle.std.specs.Option.{option_map}
@@ -33,7 +34,8 @@ use Rattle.mips_isa.specs.declared.instr.Instr.TheVariants.{Syscall}
 use Rattle.mips_machine.specs.Hazards.{is_jump, is_stop, touches}
 use Rattle.mips_machine.specs.Machine.{data_of, mips_goes, mips_place, mips_stops, state_of}
 use Rattle.mips_machine.specs.MachineLaws.{mips_stops_at, one_next}
-use Rattle.mips_machine.specs.Step.{Data, Done, Effect, Fails, Goes, MipsStep, Next, State, Stops, Traps, after, comes_to, effect, led, linked, listed, nowhere}
+use Rattle.mips_machine.specs.Step.{Data, Done, Effect, Fails, Goes, MipsStep, Next, State, Stops, Traps, after, comes_to, effect, led}
+use Rattle.mips_machine.specs.Step.{linked, listed, nowhere}
 use Rattle.mips_machine.specs.Step.{performs, register_of, resting, unlisted}
 use Rattle.mips_machine.specs.Values.{plus}
 use Rattle.mips_machine.specs.declared.flow.Flow.{Flow}

@@ -1,5 +1,6 @@
 -- A step outside of filled places is one of both codes.
-use Rattle.std.proofs.Common.{◌≡◌, ◌≢◌, ◌⊎◌, ℕ, zero, suc, ◌+◌, ◌<◌, ◌≤◌, ◌^◌, Bool, true, false, cond, List, length, Option, None, Some, refl}
+use Rattle.std.proofs.Common.{◌≡◌, ◌≢◌, ◌⊎◌, ℕ, zero, suc, ◌+◌, ◌<◌, ◌≤◌, ◌^◌, Bool, true, false, cond, List, length, Option, None}
+use Rattle.std.proofs.Common.{Some, refl}
 use Rattle.std.proofs.Common.{sym, ap, ◌∙◌, subst, inl, inr, ⊎_elim, arith}
 use Rattle.std.proofs.lemmas.Option.{same_Some}
 use Rattle.std.proofs.Common.{◌-◌, ◌/◌, ◌%◌}
@@ -15,10 +16,12 @@ use Rattle.mips_isa.specs.declared.instr.Instr.{Instr}
 use Rattle.mips_isa.specs.declared.instr.Instr.TheVariants.{BranchIf, BranchOnZero, J, Jal, Jalr, Jr, LoadFrom, Syscall}
 use Rattle.mips_machine.specs.Hazards.{is_jump, is_stop, loads, reads_hilo, sets_hilo, touches}
 use Rattle.mips_machine.specs.MachineLaws.{one_next}
-use Rattle.mips_machine.specs.Step.{Data, Done, Goes, MipsStep, Next, State, Stops, Traps, behind, comes_to, does, effect, is_recent, later, led, listed, nowhere}
+use Rattle.mips_machine.specs.Step.{Data, Done, Goes, MipsStep, Next, State, Stops, Traps, behind, comes_to, does, effect, is_recent}
+use Rattle.mips_machine.specs.Step.{later, led, listed, nowhere}
 use Rattle.mips_machine.specs.Step.{performs, unlisted}
 use Rattle.mips_machine.specs.Values.{plus}
-use Rattle.mips_delay.proofs.Swap.{and_false, behind_is, behind_plain, behind_turn, does_plain, both_false, comes_plain, passes_on, turn_does, turn_loads, turn_reads}
+use Rattle.mips_delay.proofs.Swap.{and_false, behind_is, behind_plain, behind_turn, does_plain, both_false, comes_plain, passes_on}
+use Rattle.mips_delay.proofs.Swap.{turn_does, turn_loads, turn_reads}
 use Rattle.mips_delay.proofs.Swap.{turn_sets, turns_too, went}
 use Rattle.mips_delay.specs.Alike.{AreAlike, GoOnAlike, KeptGoes, LeadsAlike}
 use Rattle.mips_delay.specs.Fillable.{Fillable, GoesTo, HasNoLinks, is_by_value, is_load}

@@ -10,7 +10,8 @@ use Rattle.mips_isa.specs.declared.instr.Instr.TheVariants.{Jalr, Syscall, J, Ja
 use Rattle.mips_isa.specs.declared.instr.Shift.TheVariants.{Sll}
 use Rattle.mips_machine.specs.Hazards.{is_jump, is_stop, loads, reads_hilo, sets_hilo, touches, writes}
 use Rattle.mips_machine.specs.MachineLaws.{one_next}
-use Rattle.mips_machine.specs.Step.{Data, Done, Effect, Fails, Goes, MipsStep, Next, State, Stops, Traps, after, behind, comes_to, does, effect}
+use Rattle.mips_machine.specs.Step.{Data, Done, Effect, Fails, Goes, MipsStep, Next, State, Stops, Traps, after, behind, comes_to, does}
+use Rattle.mips_machine.specs.Step.{effect}
 use Rattle.mips_machine.specs.Step.{is_recent, later, led, linked, listed, performs, resting}
 use Rattle.mips_machine.specs.Values.{plus}
 use Rattle.mips_machine.specs.declared.flow.Flow.{Flow}

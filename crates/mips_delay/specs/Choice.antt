@@ -1,5 +1,6 @@
 -- How `fill` decides, in terms that a program can compute.
-use Rattle.std.specs.Prelude.{◌≡◌, ◌⊎◌, ℕ, suc, ◌+◌, ◌<◌, ◌≤◌, ◌%◌, ◌^◌, ◌&&◌, ◌||◌, not, Bool, true, false, List, length, slice_index, slice_get}
+use Rattle.std.specs.Prelude.{◌≡◌, ◌⊎◌, ℕ, suc, ◌+◌, ◌<◌, ◌≤◌, ◌%◌, ◌^◌, ◌&&◌, ◌||◌, not, Bool, true, false, List, length, slice_index}
+use Rattle.std.specs.Prelude.{slice_get}
 use Rattle.std.specs.Prelude.{Option, None, Some}
 use Rattle.ec_target.specs.Code.{pc_of}
 use Rattle.mips_delay.specs.Fillable.{StandsAt, has_slot, is_load}
