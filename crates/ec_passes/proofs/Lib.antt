@@ -1,0 +1,4 @@
+mod Different
+pub mod Following
+mod Itself
+mod Passing

@@ -1,0 +1,16 @@
+mod Keeps
+mod Swap
+mod Kept
+mod Filling
+mod Order
+mod Standing
+mod Follows
+mod Left
+mod Short
+mod Reach
+mod Assembly
+mod Marks
+mod Written
+mod Deciding
+mod Offsets
+mod Promised

@@ -1,0 +1,6 @@
+pub mod Swap
+pub mod Fillable
+pub mod Places
+pub mod Alike
+pub mod Fill
+pub mod Choice

@@ -1,0 +1,18 @@
+//! Delay slots of MIPS code filled: instructions move into the slots of the branches behind them, and the no-ops there go.
+//!
+//! | modules | what they have |
+//! |---|---|
+//! | `fill` | the call |
+//! | `fillable` | which words can go into a slot |
+//! | `moves` | where each word goes |
+//! | `words`, `branches`, `operations` | what is written there |
+//! | `laws` | that such a code follows the code that it was |
+#![tactic(auto)]
+
+mod branches;
+pub mod fill;
+mod fillable;
+pub mod laws;
+mod moves;
+mod operations;
+mod words;
