@@ -2,7 +2,7 @@
 use Rattle.std.proofs.Common.{◌≡◌, ℕ, ◌+◌, List, [], ◌∷◌, ◌++◌, length, refl, sym, ap, ◌∙◌, subst, arith, ⊎_elim}
 use Rattle.std.proofs.lemmas.List.Sums.{sum_by-cons}
 use Rattle.std.specs.List.{sum_by}
-use Rattle.ec_carrying.proofs.ActivationsComing.{is_stop}
+use Rattle.ec_carrying.proofs.Stops.{is_stop}
 use Rattle.ec_carrying.proofs.Steps.{places_along}
 use Rattle.ec_carrying.specs.Landing.{ComesAs, EachArrivesAs, monitor_in}
 use Rattle.ec_carrying.specs.Steps.{ShowsStaying}

@@ -1,6 +1,7 @@
 -- A move between nodes is composed: what is in a parcel sets off, and the parcel is unpacked.
 use Rattle.std.proofs.Common.{◌≡◌, ◌≢◌, ℕ, List, Some, refl, sym, ap, ◌∙◌, subst, inl, inr, ⊎_elim}
-use Rattle.ec_carrying.proofs.Going.{all_arrive, all_come, has_come, images_still, room_there}
+use Rattle.std.proofs.lemmas.Option.{same_Some}
+use Rattle.ec_carrying.proofs.Going.{all_arrive, all_come, has_come, images_still, node_there, room_there}
 use Rattle.ec_carrying.specs.Carrying.{Carried, IsCarriedIn}
 use Rattle.ec_carrying.specs.Landing.{TextsAt}
 use Rattle.ec_carrying.specs.Moves.{SetOff}
@@ -88,10 +89,8 @@ module _ (table : ClassTable) (c c1 : Cluster) (from to : ℕ) (bytes : List ℕ
 
   pub has_room : (s : Store) → stores c1 to ≡ Some s → HasRoomHere table s x
   has_room s there =
-      let room = room_there i keeps off in
-      let same : room.store ≡ s = (let t = room.there in cc) in
-      subst (λ (y : Store). HasRoomHere table y x) same
-      (record { tidy = room.tidy; once = room.once; new = room.new; blocks = room.blocks; texts = room.texts })
+      let same : i.store ≡ s = same_Some i.store s (sym (node_there i keeps off) ∙ there) in
+      subst (λ (y : Store). HasRoomHere table y x) same (room_there i keeps off)
 
 pub moves_composed : MovesAreComposed
 moves_composed table c c1 c2 from to bytes d w members x keeps i off at = composed table c c1 from to bytes d w members x keeps i off c2 at

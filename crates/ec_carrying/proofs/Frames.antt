@@ -1,8 +1,8 @@
 -- What the part of an activation spells is the activation.
-use Rattle.std.proofs.Common.{◌≡◌, ℕ, zero, suc, List, ◌∷◌, map, Option, Some, None, refl, sym, ap, ◌∙◌, subst}
+use Rattle.std.proofs.Common.{◌≡◌, ℕ, zero, suc, ◌<◌, List, ◌∷◌, map, Option, Some, None, refl, sym, ap, ◌∙◌, subst}
 use Rattle.std.specs.Prelude.{slice_get}
 use Rattle.std.proofs.lemmas.Option.{same_Some}
-use Rattle.ec_activations.proofs.ValueByValue.{each_value_has_a_word}
+use Rattle.ec_activations.proofs.ValueByValue.{each_value_has_a_word, one_word_one_value}
 use Rattle.ec_activations.specs.Frames.{Held, frame_thing, held_in, held_of, value_in, variable_word, word_if}
 use Rattle.ec_node_frames.proofs.Carrying.{held_carried, with_value}
 use Rattle.ec_node_frames.specs.Carried.{IsCarried, carried}
@@ -12,7 +12,7 @@ use Rattle.ec_code.specs.declared.code.Live.{Live}
 use Rattle.ec_code.specs.declared.code.Parts.{Parts}
 use Rattle.ec_machine_code.specs.declared.homes.Home.{Home}
 use Rattle.ec_parcels.proofs.Stops.{part_heads, stop_there}
-use Rattle.ec_parcels.specs.Activations.{IsStopOf, activation_part_of, frame_in, headings_in}
+use Rattle.ec_parcels.specs.Activations.{HasHomes, IsStopOf, activation_part_of, frame_in, headings_in}
 use Rattle.ec_node_frames.proofs.Homed.{homes_of, spot_is}
 use Rattle.ec_node_frames.proofs.Items.{get_map}
 use Rattle.ec_node_frames.specs.Frames.{HasTables}
@@ -54,7 +54,11 @@ module _ (d : Declared) (p : Parts) (homes : Kind → List (List Home)) (tables 
   held_there k l is = ap (λ (hs : List Held). slice_get hs k) held_is ∙ get_map (with_value p a) held k l is
 
   -- the word of a variable that is there
-  spot_there : (k : ℕ) (l : Live) → slice_get held k ≡ Some l → t.spot s.kind (suc k) ≡ Some (spot_of table l)
+  record Spot (k : ℕ) (l : Live) : Type 0 where
+    is : t.spot s.kind (suc k) ≡ Some (spot_of table l)
+    low : spot_of table l < 128
+
+  spot_there : (k : ℕ) (l : Live) → slice_get held k ≡ Some l → Spot k l
   spot_there k l is =
       let value : slice_get t.values (suc k) ≡ Some (value_in p a l.variable) =
       get_map value_held (held_of p a) k (with_value p a l) (held_there k l is) in
@@ -64,11 +68,23 @@ module _ (d : Declared) (p : Parts) (homes : Kind → List (List Home)) (tables 
       ≡ variable_word (homes s.kind) p a.operation l.variable =
       ap (word_if (homes s.kind) p a.operation) (held_there k l is) in
       let spot = spot_is d p s.kind homes tables has a.operation table its l.variable law.0 (sym word ∙ law.1) in
-      law.1 ∙ ap Some (sym spot.is)
+      record { is = law.1 ∙ ap Some (sym spot.is); low = subst (λ n. n < 128) (sym spot.is) spot.low }
+
+  value_here : (k : ℕ) (v : Value) → slice_get part.values k ≡ Some v → slice_get t.values (suc k) ≡ Some v
+  value_here k v is = ap (λ (vs : List Value). slice_get vs (suc k)) (sym values_are) ∙ is
+
+  -- each variable has a word, and variables that have one word have one value
+  pub part_has_homes : HasHomes table e part
+  part_has_homes = record {
+    low = λ k l is. (spot_there k l is).low;
+    one_each = λ i j l m v u il jm iv ju same.
+        one_word_one_value d p s.kind homes process depth a (suc i) (suc j) (spot_of table m) v u (homes_of d p s.kind homes tables has)
+        (value_here i v iv) (value_here j u ju) ((spot_there i l il).is ∙ ap Some same) (spot_there j m jm).is;
+  }
 
   spot_same : (k at : ℕ) (o : Option Live) → slice_get held k ≡ o → spot_if table o ≡ Some at → t.spot s.kind (suc k) ≡ Some at
   spot_same k at None is e = absurd cc
-  spot_same k at (Some l) is e = spot_there k l is ∙ e
+  spot_same k at (Some l) is e = (spot_there k l is).is ∙ e
 
   values_there : (r : Owned) → Spells s r (frame_in table e part) → (i : ℕ) (v : Value) → slice_get t.values i ≡ Some v →
       (at : ℕ) × (t.spot s.kind i ≡ Some at) × StandsAt s r.blocks at v

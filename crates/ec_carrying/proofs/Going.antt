@@ -2,30 +2,36 @@
 use Rattle.std.proofs.Common.{◌≡◌, ◌≢◌, ℕ, ◌+◌, ◌*◌, ◌/◌, ◌≤◌, ◌==◌, Bool, true, false, List, [], ◌∷◌, length, max, Option, Some}
 use Rattle.std.proofs.Common.{None, refl, sym, ap, ◌∙◌, subst, arith, ⊎_elim}
 use Rattle.std.proofs.lemmas.Option.{same_Some}
-use Rattle.std.specs.Prelude.{if◌then◌else◌, is_some, Err, Ok, OnOk, Result}
-use Rattle.ec_carrying.proofs.ActivationsComing.{images_along, part_along}
+use Rattle.std.specs.Prelude.{if◌then◌else◌, is_some, slice_get}
+use Rattle.ec_carrying.proofs.Frames.{part_has_homes}
+use Rattle.ec_carrying.proofs.Stops.{images_along, is_stop, part_along}
 use Rattle.ec_carrying.specs.Carrying.{Carried, IsCarriedIn}
-use Rattle.ec_carrying.specs.Landing.{AreClassed, EachArrivesAs, EachCanArrive, EachComesAs, HasRoomFor, TextsAt}
-use Rattle.ec_carrying.specs.Landing.{monitor_in}
+use Rattle.ec_carrying.specs.Landing.{AreClassed, EachArrivesAs, EachComesAs, TextsAt, monitor_in}
 use Rattle.ec_carrying.specs.Moves.{AreAll, GoWithHomes, SetOff}
 use Rattle.ec_carrying.specs.Steps.{AreKept, ShowsStaying, ThingAt, ThingsAt}
+use Rattle.ec_carrying.specs.Unpacking.{ActivationFits, CanUnpackAt, HasRoomHere}
 use Rattle.ec_cluster.specs.Cluster.{CodeWorld, Shows, frame_of, place, stores}
 use Rattle.ec_cluster.specs.Steps.{Changes, KeptAt}
 use Rattle.ec_cluster.specs.declared.cluster.Cluster.{Cluster}
-use Rattle.ec_cluster.specs.Frames.{HasImages}
+use Rattle.ec_cluster.specs.Frames.{HasImages, tables_on}
+use Rattle.ec_cluster.specs.Images.{homes_on}
 use Rattle.ec_code.specs.Typing.{Declared}
 use Rattle.ec_code.specs.declared.activation.CodeActivation.{CodeActivation}
 use Rattle.ec_cluster.specs.Directory.{made_count, place_at}
 use Rattle.ec_cluster.specs.declared.forward.directory.Whereabouts.{Whereabouts}
+use Rattle.ec_generate.specs.declared.table.OperationTable.{OperationTable}
 use Rattle.ec_monitors.specs.declared.record.MonitorRec.{MonitorRec}
+use Rattle.ec_node_frames.proofs.Carrying.{many_carried}
+use Rattle.ec_node_frames.specs.Carried.{carried}
 use Rattle.ec_parcels.proofs.Numbers.{class_again}
+use Rattle.ec_parcels.specs.Activations.{HasHomes}
 use Rattle.ec_parcels.specs.Classes.{ClassTable, IsClassTable, class_of, number_of}
 use Rattle.ec_world.specs.Things.{activation_at, class_blocks}
 use Rattle.ec_world.specs.declared.key.Key.{Key}
 use Rattle.ec_world.specs.declared.key.Key.TheVariants.{Frame, Object}
 use Rattle.ec_parcels.proofs.Keys.{has_among}
 use Rattle.ec_parcels.proofs.Rising.{few_values, get_mapped, keys_once, map_get}
-use Rattle.ec_parcels.specs.Owners.{among, blocks_in, frame_keys, keys_of, object_keys, values_in}
+use Rattle.ec_parcels.specs.Owners.{among, frame_keys, keys_of, object_keys, values_in}
 use Rattle.ec_parcels.specs.Parcels.{ActivationGoes, IsOfObject}
 use Rattle.ec_acts.proofs.Wording.{nothing_join}
 use Rattle.ec_things.specs.Things.{Thing, frame_if, object_if, object_thing}
@@ -116,11 +122,6 @@ pub in_words : {table : ClassTable} {c : Cluster} {from to : ℕ} {bytes : List 
     (x y : Contents) → y ≡ x → IsCarriedIn table c from to bytes d w members x → IsCarriedIn table c from to bytes d w members y
 in_words {table} {c} {from} {to} {bytes} {d} {w} {members} x y same i =
     subst (λ (z : Contents). IsCarriedIn table c from to bytes d w members z) (sym same) i
-
--- what is known of an answer by three clauses
-pub all_on_ok : {X E P Q R S : Type 0} (r : Result X E) → (P → Q → R → S) → OnOk r P → OnOk r Q → OnOk r R → OnOk r S
-all_on_ok (Ok x) f p q r = f p q r
-all_on_ok (Err e) f p q r = tt
 
 module _ {table : ClassTable} {c : Cluster} {from to : ℕ} {bytes : List ℕ} {d : Declared} {w : CodeWorld} {members : List ℕ} {x : Contents}
     (i : IsCarriedIn table c from to bytes d w members x) where
@@ -258,32 +259,64 @@ module _ {table : ClassTable} {c : Cluster} {from to : ℕ} {bytes : List ℕ} {
       pub images_still : HasImages d c1
       images_still = images_along c c1 off.changes.parts off.changes.images d i.images
 
-      pub all_can_arrive : EachCanArrive c1 x.activations
-      all_can_arrive part h =
-          let a = all_arrive part h in
-          record {
-            declared = d;
-            images = images_still;
-            activation = a.activation;
-            entry = a.entry;
-            part_is = a.part_is;
-          }
-
       -- ---- room
 
       under_way : ShowsStaying c1 (among (keys_of x)) w
       under_way = off.shows w things_there homes_go i.shows
 
-      pub room_there : HasRoomFor c1 to (keys_of x) (blocks_in table x) (values_in x)
+      pub node_there : stores c1 to ≡ Some i.store
+      node_there = off.others to i.apart ∙ i.there
+
+      pub room_there : HasRoomHere table i.store x
       room_there = record {
-        store = i.store;
-        there = off.others to i.apart ∙ i.there;
         tidy = i.shows.tidy to i.store i.there;
         once = keys_once x i.wire.rules;
         new = λ key h. stand_nowhere (frame_of c1) (among (keys_of x)) (stores c1) w (place c1) to i.store key under_way
-            (has_among (keys_of x) key h) (off.others to i.apart ∙ i.there);
+            (has_among (keys_of x) key h) node_there;
         blocks = i.blocks;
         texts = i.texts;
+      }
+
+      -- ---- the program
+
+      abbrev its_tables : List OperationTable
+      its_tables = tables_on c1 i.store.kind
+
+      monitor_there : (part : MonitorPart) → Has x.monitors part → Has (object_keys x.objects) (Object part.object)
+      monitor_there part h =
+          let m = i.packs.monitors part h in
+          let q = i.packs.each_object part.object m.object m.goes in
+          subst (λ n. Has (object_keys x.objects) (Object n)) q.1.1
+          (record { at = q.1.0.at; is = map_get (λ (o : ObjectPart). Object o.number) x.objects q.1.0.at q.0 q.1.0.is })
+
+      fits : (part : ActivationPart) → Has x.activations part → ActivationFits its_tables part
+      fits part h =
+          let a = all_arrive part h in
+          let same = a.part_is.is in
+          let stop = is_stop c1 i.store its_tables refl d images_still part a.activation a.entry a.part_is in
+          record {
+            table = stop.0;
+            entry = a.entry;
+            is = stop.1;
+            many = subst (λ (y : ActivationPart). length y.values ≡ length (carried a.entry y.is_pending)) (sym same)
+                (many_carried c1.parts a.activation a.entry a.activation.pending);
+            homes = subst (λ (y : ActivationPart). HasHomes stop.0 a.entry y) (sym same)
+                (part_has_homes d c1.parts (homes_on c1.images) its_tables stop.0 a.activation a.entry i.store part.process part.depth
+                (images_still i.store.kind) a.part_is.carried
+                (ap (λ (y : ActivationPart). slice_get its_tables y.operation) (sym same) ∙ stop.1.its));
+          }
+
+      -- what has set off can be unpacked
+      pub can_unpack : CanUnpackAt table c1 to bytes
+      can_unpack = record {
+        store = i.store;
+        there = node_there;
+        can = record {
+          contents = x;
+          wire = i.wire;
+          fits = record { objects = all_classed; monitors = monitor_there; activations = fits };
+          room = room_there;
+        };
       }
 
       -- ---- all of it has come

@@ -3,12 +3,10 @@ pub mod Steps
 pub mod Leaving
 pub mod Places
 pub mod Texts
-pub mod Coming
-pub mod ObjectsComing
-pub mod ActivationsComing
+pub mod Frames
+pub mod Stops
 pub mod SettingOff
 pub mod Going
-pub mod Frames
 pub mod Batch
 pub mod Clusters
 pub mod Composing

@@ -1,7 +1,7 @@
 -- Contents that hold things of a world.
 use Rattle.std.specs.Prelude.{ℕ}
 use Rattle.ec_carrying.specs.Landing.{EachArrivesAs, EachComesAs}
-use Rattle.ec_cluster.specs.Cluster.{CodeWorld, place}
+use Rattle.ec_cluster.specs.Cluster.{CodeWorld}
 use Rattle.ec_cluster.specs.declared.cluster.Cluster.{Cluster}
 use Rattle.ec_cluster.specs.Frames.{HasImages}
 use Rattle.ec_code.specs.Typing.{Declared}

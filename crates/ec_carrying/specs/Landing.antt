@@ -1,21 +1,15 @@
--- What comes to a node from a parcel, and what it asks of the node.
+-- What comes to a node from a parcel.
 use Rattle.std.specs.Prelude.{◌≡◌, ℕ, ◌*◌, ◌^◌, ◌<◌, ◌≤◌, ◌==◌, if◌then◌else◌, List, [], ◌∷◌, length, Option, Some, None}
-use Rattle.ec_cluster.specs.Cluster.{CodeWorld, place, stores}
+use Rattle.ec_cluster.specs.Cluster.{CodeWorld, place}
 use Rattle.ec_cluster.specs.declared.cluster.Cluster.{Cluster}
-use Rattle.ec_cluster.specs.Frames.{HasImages}
-use Rattle.ec_code.specs.Typing.{Declared}
 use Rattle.ec_code.specs.declared.activation.CodeActivation.{CodeActivation}
 use Rattle.ec_node_frames.specs.Carried.{IsCarried}
 use Rattle.ec_monitors.specs.declared.record.MonitorRec.{MonitorRec}
 use Rattle.ec_parcels.specs.Activations.{activation_part_of}
 use Rattle.ec_parcels.specs.Classes.{ClassTable, class_of}
 use Rattle.ec_parcels.specs.Objects.{object_of}
-use Rattle.ec_world.specs.Held.{Distinct}
 use Rattle.ec_world.specs.Things.{activation_at, class_blocks}
-use Rattle.ec_world.specs.declared.key.Key.{Key}
-use Rattle.ec_objects.specs.Values.{TextsFit}
 use Rattle.ec_generate.specs.declared.table.StopEntry.{StopEntry}
-use Rattle.ec_things.specs.Store.{Store, Tidy}
 use Rattle.ec_wire.specs.declared.parcel.ActivationPart.{ActivationPart}
 use Rattle.ec_wire.specs.declared.parcel.Contents.{Contents}
 use Rattle.ec_wire.specs.declared.parcel.MonitorPart.{MonitorPart}
@@ -25,16 +19,6 @@ use Rattle.ec_world.specs.Objects.{object_at}
 use Rattle.ec_world.specs.declared.class.ClassNo.{ClassNo}
 use Rattle.ec_world.specs.declared.value.Value.{Value}
 use Rattle.ec_world.specs.declared.value.Value.TheVariants.{Str}
-
--- A node has none of some owners, which stand each once, and has so many free blocks and room for the texts of these values.
-pub record HasRoomFor (c : Cluster) (k : ℕ) (keys : List Key) (count : ℕ) (values : List Value) : Type 0 where
-  pub store : Store
-  pub there : stores c k ≡ Some store
-  pub tidy : Tidy store
-  pub once : Distinct keys
-  pub new : (key : Key) → Has keys key → store.row key ≡ None
-  pub blocks : count ≤ store.free
-  pub texts : TextsFit store values
 
 -- the texts of some values at a node
 abbrev pub TextsAt : ℕ → List Value → ℕ → List ℕ → Type 0
@@ -75,17 +59,6 @@ EachComesAs table c w k x = (part : ObjectPart) → Has x.objects part → Comes
 pub record IsPartOf (c : Cluster) (part : ActivationPart) (a : CodeActivation) (e : StopEntry) : Type 0 where
   pub carried : IsCarried c.parts a e
   pub is : part ≡ activation_part_of part.process part.depth c.parts a e
-
--- there is such an activation, of the program whose images these are
-pub record CanArrive (c : Cluster) (part : ActivationPart) : Type 0 where
-  pub declared : Declared
-  pub images : HasImages declared c
-  pub activation : CodeActivation
-  pub entry : StopEntry
-  pub part_is : IsPartOf c part activation entry
-
-abbrev pub EachCanArrive : Cluster → List ActivationPart → Type 0
-EachCanArrive c activations = (part : ActivationPart) → Has activations part → CanArrive c part
 
 -- the activation that comes from a part is the one of a world, and its place is a node
 pub record ArrivesAs (c : Cluster) (w : CodeWorld) (k : ℕ) (part : ActivationPart) : Type 0 where

@@ -3,7 +3,6 @@
 #![tactic(auto)]
 
 pub mod carrying;
-mod landing;
 pub mod laws;
 mod moving;
 mod taking;

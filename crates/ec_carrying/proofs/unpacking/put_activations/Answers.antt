@@ -1,6 +1,6 @@
 -- The activations come one after another.
 use Rattle.std.proofs.Common.{◌+◌, [], drop, arith}
-use Rattle.ec_carrying.proofs.ActivationsComing.{gets_behind}
+use Rattle.ec_carrying.proofs.Stops.{gets_behind}
 use Rattle.ec_carrying.proofs.Putting.{all_frames_came, frame_behind, frame_has_block, frame_is_new, frame_texts_fit, nothing_came}
 use Rattle.ec_carrying.proofs.Putting.{room_for_frame}
 use Rattle.ec_carrying.proofs.Texts.{no_text_fits}

@@ -1,12 +1,11 @@
 -- The node's own tables are those of its kind.
 use Rattle.std.proofs.Common.{◌∙◌, List, subst, sym}
-use Rattle.ec_carrying.proofs.ActivationsComing.{tables_are}
-use Rattle.ec_carrying.proofs.ObjectsComing.{here_as}
+use Rattle.ec_carrying.proofs.Stops.{tables_are}
 use Rattle.ec_generate.specs.declared.table.OperationTable.{OperationTable}
 use Rattle.ec_stores.specs.Node.{store_of}
 use Rattle.ec_things.specs.Store.{Store}
 use Rattle.ec_cluster.specs.Frames.{tables_on}
-use Rattle.ec_carrying.proofs.At.{on_ok_so, unpacked_at}
+use Rattle.ec_carrying.proofs.At.{here_as, on_ok_so, unpacked_at}
 use Rattle.ec_carrying.proofs.unpacking.unpack_at.Goals as goal
 use Rattle.ec_carrying.specs.Unpacking.{CanUnpack, Unpacked}
 

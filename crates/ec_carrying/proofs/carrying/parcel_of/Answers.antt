@@ -1,8 +1,0 @@
--- Bytes have one parcel.
-use Rattle.ec_carrying.proofs.carrying.parcel_of.Goals as goal
-use Rattle.ec_formats.proofs.Wholes.{one_value}
-use Rattle.ec_wire.proofs.FormLaws.{parcel_law}
-use Rattle.ec_wire.specs.WireForm.{parcel}
-
-pub returns-in-Ok : goal.returns-in-Ok
-returns-in-Ok c = λ x wire. one_value parcel parcel_law c.in-Ok.parcel x c.args.bytes.now c.in-Ok.ensures.found wire
