@@ -47,7 +47,7 @@ module _ {S : Type 0} (M : MachineMeaning S) (local : ℕ → Option ℕ) (text 
     stands = home_so s t same f bytes l.home l.value l.stands;
   }
 
-  fits_so : (s t : S) → SameHomes M s t → M.rests t → (homes : Variable → Option Home) (alive : List Live) (f own self : ℕ) (m : Machine)
+  pub fits_so : (s t : S) → SameHomes M s t → M.rests t → (homes : Variable → Option Home) (alive : List Live) (f own self : ℕ) (m : Machine)
       (bytes : Bytes) → Fits M local text homes alive f own self m s bytes → Fits M local text homes alive f own self m t bytes
   fits_so s t same rests homes alive f own self m bytes fits = record {
     rests = rests;

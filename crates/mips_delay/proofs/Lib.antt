@@ -7,10 +7,4 @@ mod Standing
 mod Follows
 mod Left
 mod Short
-mod Reach
-mod Assembly
-mod Marks
-mod Written
-mod Deciding
-mod Offsets
-mod Promised
+mod Fits

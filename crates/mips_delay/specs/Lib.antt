@@ -3,4 +3,4 @@ pub mod Fillable
 pub mod Places
 pub mod Alike
 pub mod Fill
-pub mod Choice
+pub mod Fitting

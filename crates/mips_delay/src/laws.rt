@@ -2,6 +2,7 @@
 ghost use Rattle.mips_delay.specs.Alike.{FilledGoes, KeptGoes};
 ghost use Rattle.mips_delay.specs.Fill.{FilledFollows, FilledIsShort, FilledKeeps};
 ghost use Rattle.mips_delay.specs.Places.{NoneIsLeft};
+ghost use Rattle.mips_delay.specs.Fitting.{FilledFits};
 ghost use Rattle.mips_delay.specs.Swap.{SwapRejoins};
 
 /// An instruction that goes into the slot of the branch behind it is done there, and both codes come to rest at the same place.
@@ -37,4 +38,9 @@ pub fn filled_is_short()
 /// Where each place that can be filled is, none can be filled in what comes of it.
 pub fn none_is_left()
     ensures { NoneIsLeft }
+{}
+
+/// What fits a code behind a stop fits it too with its slots filled.
+pub fn filled_fits()
+    ensures { FilledFits }
 {}
