@@ -1,24 +1,23 @@
 -- At a filled place three steps of the old code are two of the new one, and both codes are alike again.
-use Rattle.std.proofs.Common.{◌≡◌, ◌≢◌, ◌⊎◌, ℕ, zero, suc, ◌+◌, ◌<◌, ◌≤◌, Bool, true, false, cond, List, length, Option, None, Some, refl}
-use Rattle.std.proofs.Common.{sym, ap, ◌∙◌, subst, inl, inr, ⊎_elim, arith}
+use Rattle.std.proofs.Common.{◌≡◌, ◌⊎◌, ℕ, suc, ◌+◌, ◌<◌, ◌≤◌, Bool, true, false, cond, List, length, None, Some}
+use Rattle.std.proofs.Common.{sym, ap, ◌∙◌, inl, inr, ⊎_elim, arith}
 use Rattle.std.proofs.lemmas.Option.{same_Some}
 use Rattle.ec_target.proofs.Places.{place_of_word}
 use Rattle.ec_machine_code.specs.Speaks.{words_end}
 use Rattle.ec_target.specs.Code.{pc_of, word_at}
 use Rattle.mips_isa.specs.OneWord.{one_word}
 use Rattle.mips_isa.specs.Words.{word_of}
-use Rattle.mips_isa.specs.declared.instr.Instr.{Instr}
 use Rattle.mips_machine.specs.Hazards.{is_jump}
-use Rattle.mips_machine.specs.Step.{Goes, MipsStep, State, resting}
+use Rattle.mips_machine.specs.Step.{Goes, MipsStep, State}
 use Rattle.mips_machine.specs.Values.{plus}
 use Rattle.mips_machine.specs.declared.flow.Flow.{Flow}
-use Rattle.mips_delay.proofs.Kept.{leads_at, next_drops, next_outside, next_pc, next_place, not_true, outside_drops, place_small}
+use Rattle.mips_delay.proofs.Kept.{leads_at, next_drops, next_pc, next_place, not_true, outside_drops, place_small}
 use Rattle.mips_delay.proofs.Kept.{some_or_none, turn_jumps, within_is}
 use Rattle.mips_delay.proofs.Swap.{swap_rejoins}
 use Rattle.mips_delay.specs.Alike.{AreAlike, FilledGoes, GoOnAlike, LeadsAlike}
-use Rattle.mips_delay.specs.Fillable.{Fillable, GoesTo}
+use Rattle.mips_delay.specs.Fillable.{GoesTo}
 use Rattle.mips_delay.specs.Places.{FillsWords, SwapsAt, drops, is_within, place}
-use Rattle.mips_delay.specs.Swap.{IsStraight, Rejoins, RestsAt, Swaps, is_turn, turned_to}
+use Rattle.mips_delay.specs.Swap.{IsStraight, Rejoins, RestsAt, Swaps, turned_to}
 
 clash : (b : Bool) → b ≡ true → b ≡ false → ⊥
 clash true e f = cc

@@ -1,12 +1,11 @@
 -- Code with its slots filled follows the code that it was.
-use Rattle.std.proofs.Common.{◌≡◌, ◌⊎◌, ℕ, zero, suc, ◌+◌, ◌<◌, ◌≤◌, Bool, true, false, cond, List, [], ◌∷◌, length, Option, None, Some}
+use Rattle.std.proofs.Common.{◌≡◌, ◌⊎◌, ℕ, suc, ◌+◌, ◌<◌, ◌≤◌, Bool, true, false, cond, List, [], ◌∷◌, length, Option, None, Some}
 use Rattle.std.proofs.Common.{refl}
 use Rattle.std.proofs.Common.{sym, ap, ◌∙◌, subst, inl, inr, ⊎_elim, arith}
 use Rattle.std.proofs.lemmas.Option.{same_Some}
 use Rattle.std.specs.Option.{option_map}
 use Rattle.std.specs.Prelude.{slice_index}
 use Rattle.ec_base.specs.Bytes.{Bytes}
-use Rattle.ec_code.specs.Fine.{IsIn}
 use Rattle.ec_machine_code.specs.Once.{AreDifferent, IsWordOf}
 use Rattle.ec_machine_code.specs.Speaks.{words_end}
 use Rattle.ec_machine_code.specs.Stops.{address_of, words_before, words_of}
@@ -24,7 +23,7 @@ use Rattle.mips_delay.proofs.Swap.{does_on, turns_too, went}
 use Rattle.mips_delay.proofs.Standing.{clash, first_stays, low_of, one_there, plain_kept, single, slot_of, stays, there}
 use Rattle.mips_delay.specs.Alike.{AreAlike, GoOnAlike, LeadsAlike}
 use Rattle.mips_delay.specs.Fill.{FillAlike, Filled, FilledFollows, HoldSame, RestsBehind}
-use Rattle.mips_delay.specs.Fillable.{Fillable, HasNoLinks, StandsAt}
+use Rattle.mips_delay.specs.Fillable.{Fillable, HasNoLinks}
 use Rattle.mips_delay.specs.Places.{FillsWords, IsKept, Retargets, drops, is_within, moved_to, place}
 use Rattle.mips_delay.specs.Swap.{is_turn}
 use Rattle.mips_isa.specs.OneWord.{one_word}

@@ -1,11 +1,10 @@
 -- An instruction changes no register but the one that it writes, and a branch looks at the registers that it reads.
 use Rattle.std.proofs.Common.{◌≡◌, ◌≢◌, ◌⊎◌, ℕ, Bool, true, false, cond, List, Option, Some, None, refl, sym, ap, ◌∙◌, arith, inl, inr}
 use Rattle.std.proofs.Common.{⊎_elim}
-use Rattle.std.specs.Prelude.{slice_index, slice_set, ◌==◌, ◌||◌, ◌&&◌, not, is_some}
+use Rattle.std.specs.Prelude.{slice_set, ◌==◌, ◌||◌, ◌&&◌, not}
 use Rattle.std.proofs.lemmas.Bool.Decides.{nat_tests}
 use Rattle.std.proofs.lemmas.List.{get_or-set_other}
 use Rattle.ec_target.specs.declared.outcome.Cause.{Cause}
-use Rattle.ec_target.specs.declared.outcome.Cause.TheVariants.{Unaligned, Outside}
 use Rattle.mips_isa.specs.declared.field.Register.{Register}
 use Rattle.mips_isa.specs.declared.instr.Instr.{Instr}
 use Rattle.mips_isa.specs.declared.instr.Instr.TheVariants.{OnShift, OnVariableShift, OnRegisters, OnHiLo, ReadHiLo, WriteHiLo, Jr}
@@ -13,7 +12,7 @@ use Rattle.mips_isa.specs.declared.instr.Instr.TheVariants.{Jalr, Syscall, J, Ja
 use Rattle.mips_isa.specs.declared.instr.Instr.TheVariants.{LoadFrom, StoreTo}
 use Rattle.mips_isa.specs.declared.instr.MoveTo.{MoveTo}
 use Rattle.mips_isa.specs.declared.instr.MoveTo.TheVariants.{Mthi, Mtlo}
-use Rattle.mips_machine.specs.Hazards.{reads, writes}
+use Rattle.mips_machine.specs.Hazards.{writes}
 use Rattle.mips_machine.specs.Step.{Data, Effect, Done, Fails, effect, written, loaded_to, stored, read, register_of, with_hilo}
 use Rattle.mips_machine.specs.Step.{with_register}
 use Rattle.mips_machine.specs.Values.{is_taken, is_zero_taken}

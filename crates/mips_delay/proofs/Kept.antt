@@ -1,8 +1,7 @@
 -- A step outside of filled places is one of both codes.
-use Rattle.std.proofs.Common.{◌≡◌, ◌≢◌, ◌⊎◌, ℕ, zero, suc, ◌+◌, ◌<◌, ◌≤◌, ◌^◌, Bool, true, false, cond, List, length, Option, None}
+use Rattle.std.proofs.Common.{◌≡◌, ◌⊎◌, ℕ, zero, suc, ◌+◌, ◌<◌, ◌≤◌, Bool, true, false, cond, List, length, Option, None}
 use Rattle.std.proofs.Common.{Some, refl}
 use Rattle.std.proofs.Common.{sym, ap, ◌∙◌, subst, inl, inr, ⊎_elim, arith}
-use Rattle.std.proofs.lemmas.Option.{same_Some}
 use Rattle.std.proofs.Common.{◌-◌, ◌/◌, ◌%◌}
 use Rattle.std.proofs.lemmas.Bool.Decides.{nat_tests}
 use Rattle.std.specs.Prelude.{◌&&◌, ◌||◌, ◌==◌, nat_le, not}
@@ -14,17 +13,16 @@ use Rattle.mips_isa.specs.OneWord.{one_word}
 use Rattle.mips_isa.specs.Words.{word_of}
 use Rattle.mips_isa.specs.declared.instr.Instr.{Instr}
 use Rattle.mips_isa.specs.declared.instr.Instr.TheVariants.{BranchIf, BranchOnZero, J, Jal, Jalr, Jr, LoadFrom, Syscall}
-use Rattle.mips_machine.specs.Hazards.{is_jump, is_stop, loads, reads_hilo, sets_hilo, touches}
-use Rattle.mips_machine.specs.MachineLaws.{one_next}
-use Rattle.mips_machine.specs.Step.{Data, Done, Goes, MipsStep, Next, State, Stops, Traps, behind, comes_to, does, effect, is_recent}
-use Rattle.mips_machine.specs.Step.{later, led, listed, nowhere}
+use Rattle.mips_machine.specs.Hazards.{is_jump, is_stop, loads, sets_hilo, touches}
+use Rattle.mips_machine.specs.Step.{Data, Done, Goes, MipsStep, Next, State, Traps, behind, comes_to, does, effect, is_recent}
+use Rattle.mips_machine.specs.Step.{later, listed, nowhere}
 use Rattle.mips_machine.specs.Step.{performs, unlisted}
 use Rattle.mips_machine.specs.Values.{plus}
 use Rattle.mips_delay.proofs.Swap.{and_false, behind_is, behind_plain, behind_turn, does_plain, both_false, comes_plain, passes_on}
 use Rattle.mips_delay.proofs.Swap.{turn_does, turn_loads, turn_reads}
 use Rattle.mips_delay.proofs.Swap.{turn_sets, turns_too, went}
 use Rattle.mips_delay.specs.Alike.{AreAlike, GoOnAlike, KeptGoes, LeadsAlike}
-use Rattle.mips_delay.specs.Fillable.{Fillable, GoesTo, HasNoLinks, is_by_value, is_load}
+use Rattle.mips_delay.specs.Fillable.{GoesTo, HasNoLinks, is_by_value, is_load}
 use Rattle.mips_delay.specs.Places.{FillsWords, IsKept, LeadsAlong, Retargets, drops, is_within, moved_to, place}
 use Rattle.mips_delay.specs.Swap.{is_same_turn, is_turn, is_turned, turned_to}
 

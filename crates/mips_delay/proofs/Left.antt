@@ -1,5 +1,5 @@
 -- Filling makes no other place fillable.
-use Rattle.std.proofs.Common.{◌≡◌, ◌≢◌, ◌⊎◌, ℕ, zero, suc, ◌+◌, ◌<◌, ◌≤◌, Bool, true, false, List, length, Some, refl, sym, ap, ◌∙◌}
+use Rattle.std.proofs.Common.{◌≡◌, ◌⊎◌, ℕ, zero, suc, Bool, true, false, List, Some, refl, sym, ap, ◌∙◌}
 use Rattle.std.proofs.Common.{subst, cond, inl, inr, ⊎_elim, arith}
 use Rattle.std.proofs.lemmas.Option.{same_Some}
 use Rattle.std.specs.Prelude.{◌||◌, ◌&&◌, ◌==◌, not, slice_index}
@@ -9,9 +9,9 @@ use Rattle.mips_delay.proofs.Order.{dropped_is, goes_or_stays, origin, origin_st
 use Rattle.mips_delay.proofs.Swap.{no_op, turns_too}
 use Rattle.mips_delay.proofs.Standing.{clash, dropped_is_nothing, first_stays, goes_too, one_there, single, slot_of, there, turn_not_moves}
 use Rattle.mips_delay.proofs.Standing.{turn_not_nothing}
-use Rattle.mips_delay.specs.Fillable.{Fillable, GoesTo, HasNoLinks, StandsAt, has_slot, is_load}
+use Rattle.mips_delay.specs.Fillable.{Fillable, StandsAt, has_slot, is_load}
 use Rattle.mips_delay.specs.Places.{FillsWords, IsKept, NoneIsLeft, Retargets, drops, is_within, place}
-use Rattle.mips_delay.specs.Swap.{MayFill, is_read_of, is_same_turn, is_turn}
+use Rattle.mips_delay.specs.Swap.{is_read_of, is_same_turn, is_turn}
 use Rattle.mips_isa.specs.OneWord.{one_word}
 use Rattle.mips_isa.specs.Words.{word_of}
 use Rattle.mips_isa.specs.declared.instr.Instr.{Instr}

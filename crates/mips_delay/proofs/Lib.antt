@@ -7,4 +7,15 @@ mod Standing
 mod Follows
 mod Left
 mod Short
+mod Reach
+mod Assembly
+mod Marks
+mod Written
+mod Begins
+mod Deciding
+mod Offsets
+mod Promised
+mod Linking
+mod Decoded
+mod Looking
 mod Fits

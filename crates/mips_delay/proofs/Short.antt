@@ -1,8 +1,7 @@
 -- Code with its slots filled keeps what the code kept, and is no slower.
-use Rattle.std.proofs.Common.{◌≡◌, ℕ, zero, suc, ◌≤◌, Bool, List, [], ◌∷◌, length, Option, Some, refl, sym, ap, ◌∙◌, subst, arith}
+use Rattle.std.proofs.Common.{◌≡◌, ℕ, zero, suc, ◌≤◌, Bool, List, [], ◌∷◌, length, Some, refl, ap, arith}
 use Rattle.ec_base.specs.Bytes.{Bytes}
 use Rattle.ec_machine_code.specs.Speaks.{words_end}
-use Rattle.ec_machine_code.specs.Stops.{address_of}
 use Rattle.ec_machine_code.specs.declared.code.Code.{Code}
 use Rattle.ec_passes.proofs.Following.{following_is_short, following_keeps_faithful}
 use Rattle.ec_target.proofs.Climbing.{passes_lead}
@@ -14,12 +13,12 @@ use Rattle.mips_code.specs.Meaning.{mips_meaning}
 use Rattle.mips_delay.proofs.Follows.{behind_stop, filled_follows, goes_somewhere}
 use Rattle.mips_delay.proofs.Kept.{some_or_none}
 use Rattle.mips_delay.specs.Alike.{AreAlike}
-use Rattle.mips_delay.specs.Fill.{FillAlike, Filled, FilledIsShort, FilledKeeps, HoldSame, TakesNoMoreSteps}
+use Rattle.mips_delay.specs.Fill.{FillAlike, Filled, FilledIsShort, FilledKeeps, TakesNoMoreSteps}
 use Rattle.mips_delay.specs.Fillable.{HasNoLinks}
 use Rattle.mips_machine.specs.Machine.{mips_goes, mips_place, state_of}
 use Rattle.mips_machine.specs.Step.{Data}
 use Rattle.mips_machine.specs.declared.machine.MipsMachine.{MipsMachine}
-use Rattle.std.proofs.Common.{◌⊎◌, ⊎_elim, None}
+use Rattle.std.proofs.Common.{⊎_elim, None}
 
 -- ---- the words that a run passes
 

@@ -1,14 +1,14 @@
 -- What stands in a code with its slots filled, word by word.
-use Rattle.std.proofs.Common.{◌≡◌, ◌≢◌, ◌⊎◌, ℕ, zero, suc, ◌+◌, ◌<◌, ◌≤◌, Bool, true, false, cond, List, length, Some, refl, sym, ap, ◌∙◌}
-use Rattle.std.proofs.Common.{subst, inl, inr, ⊎_elim, arith}
+use Rattle.std.proofs.Common.{◌≡◌, ◌≢◌, ◌⊎◌, ℕ, suc, ◌+◌, ◌<◌, Bool, true, false, List, length, Some, refl, sym, ap, ◌∙◌}
+use Rattle.std.proofs.Common.{subst, ⊎_elim, arith}
 use Rattle.std.proofs.lemmas.Option.{same_Some}
 use Rattle.std.specs.Prelude.{slice_index}
 use Rattle.ec_target.proofs.Places.{place_of_word, word_at-pc_of}
 use Rattle.ec_target.specs.Code.{pc_of, word_at}
-use Rattle.mips_delay.proofs.Kept.{leads_at, next_place, not_true, outside_drops, turn_jumps}
-use Rattle.mips_delay.proofs.Order.{dropped_is, goes_or_stays, less_of_place, which}
+use Rattle.mips_delay.proofs.Kept.{leads_at, next_place, not_true, turn_jumps}
+use Rattle.mips_delay.proofs.Order.{dropped_is, less_of_place, which}
 use Rattle.mips_delay.proofs.Swap.{no_op, turns_too}
-use Rattle.mips_delay.specs.Fillable.{Fillable, GoesTo, StandsAt}
+use Rattle.mips_delay.specs.Fillable.{GoesTo, StandsAt}
 use Rattle.mips_delay.specs.Places.{FillsWords, Retargets, SwapsAt, drops, is_within, place}
 use Rattle.mips_delay.specs.Swap.{is_same_turn, is_turn, turned_to}
 use Rattle.mips_isa.specs.OneWord.{one_word}

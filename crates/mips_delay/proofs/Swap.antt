@@ -1,5 +1,5 @@
 -- One swap: the old code's three instructions and the new code's two.
-use Rattle.std.proofs.Common.{◌≡◌, ◌⊎◌, ℕ, ◌+◌, Bool, true, false, cond, List, Option, Some, refl, sym, ap, ◌∙◌, subst, inl, inr, lit<}
+use Rattle.std.proofs.Common.{◌≡◌, ℕ, ◌+◌, Bool, true, false, cond, List, Some, refl, sym, ap, ◌∙◌, inl, inr, lit<}
 use Rattle.std.specs.Prelude.{◌&&◌}
 use Rattle.ec_target.specs.Code.{pc_of, word_at}
 use Rattle.ec_target.specs.declared.outcome.Cause.TheVariants.{HiLo, LoadDelay, Slot}
@@ -18,7 +18,7 @@ use Rattle.mips_machine.specs.declared.flow.Flow.{Flow}
 use Rattle.mips_machine.specs.declared.flow.Since.{Since}
 use Rattle.mips_machine.specs.declared.flow.Since.TheVariants.{JustNow, OneAgo, LongAgo}
 use Rattle.mips_delay.proofs.Keeps.{keeps, turned_same}
-use Rattle.mips_delay.specs.Swap.{IsStraight, MayFill, Rejoins, RestsAt, SwapRejoins, Swaps, is_same_turn, is_turn, is_turned, turned_to}
+use Rattle.mips_delay.specs.Swap.{IsStraight, Rejoins, SwapRejoins, Swaps, is_same_turn, is_turn, is_turned, turned_to}
 
 abbrev pub no_op : Instr
 no_op = OnShift Sll (record { number = 0; in_range = lit< tt }) (record { number = 0; in_range = lit< tt }) (record { bits = 0; in_range = lit< tt })

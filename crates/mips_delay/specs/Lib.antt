@@ -3,4 +3,5 @@ pub mod Fillable
 pub mod Places
 pub mod Alike
 pub mod Fill
+pub mod Choice
 pub mod Fitting

@@ -1,9 +1,9 @@
 -- One instruction goes into the slot of the branch or jump behind it.
-use Rattle.std.specs.Prelude.{◌≡◌, ◌⊎◌, ℕ, ◌+◌, ◌*◌, ◌/◌, ◌^◌, ◌==◌, ◌||◌, ◌&&◌, not, Bool, true, false, List, Option, Some, None}
+use Rattle.std.specs.Prelude.{◌≡◌, ◌⊎◌, ℕ, ◌+◌, ◌*◌, ◌/◌, ◌^◌, ◌==◌, ◌||◌, ◌&&◌, not, Bool, true, false, List, Some}
 use Rattle.ec_target.specs.Code.{pc_of, word_at}
 use Rattle.mips_isa.specs.Words.{word_of}
 use Rattle.mips_isa.specs.declared.instr.Instr.{Instr}
-use Rattle.mips_isa.specs.declared.instr.Instr.TheVariants.{BranchIf, BranchOnZero, J, OnHiLo, ReadHiLo, WriteHiLo}
+use Rattle.mips_isa.specs.declared.instr.Instr.TheVariants.{BranchIf, BranchOnZero, J}
 use Rattle.mips_machine.specs.Hazards.{is_jump, loads, reads, reads_hilo, sets_hilo, writes}
 use Rattle.mips_machine.specs.Step.{Data, Goes, MipsStep, State, branch_target, read, resting}
 use Rattle.mips_machine.specs.Values.{is_taken, is_zero_taken, plus}

@@ -1,8 +1,8 @@
 //! What holds of a code with its delay slots filled.
 ghost use Rattle.mips_delay.specs.Alike.{FilledGoes, KeptGoes};
 ghost use Rattle.mips_delay.specs.Fill.{FilledFollows, FilledIsShort, FilledKeeps};
-ghost use Rattle.mips_delay.specs.Places.{NoneIsLeft};
 ghost use Rattle.mips_delay.specs.Fitting.{FilledFits};
+ghost use Rattle.mips_delay.specs.Places.{NoneIsLeft};
 ghost use Rattle.mips_delay.specs.Swap.{SwapRejoins};
 
 /// An instruction that goes into the slot of the branch behind it is done there, and both codes come to rest at the same place.

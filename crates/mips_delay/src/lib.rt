@@ -1,6 +1,20 @@
-//! Delay slots of MIPS code filled: instructions move into the slots of the branches behind them, and the no-ops there go. What such a code
-//! is, is said by `specs/Fill` over `specs/Places` and `specs/Fillable`; `laws` has what holds of it. The call that fills slots isn't here
-//! yet.
+//! Delay slots of MIPS code filled: instructions move into the slots of the branches behind them, and the no-ops there go.
+//!
+//! | modules | what they have |
+//! |---|---|
+//! | `fill` | the call |
+//! | `fillable` | which words can go into a slot |
+//! | `moves` | where each word goes |
+//! | `words`, `branches`, `operations` | what is written there |
+//! | `links` | whether some target or link is a value |
+//! | `laws` | that such a code follows the code that it was |
 #![tactic(auto)]
 
+mod branches;
+pub mod fill;
+mod fillable;
 pub mod laws;
+pub mod links;
+mod moves;
+mod operations;
+mod words;
