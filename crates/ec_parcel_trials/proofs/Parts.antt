@@ -1,5 +1,6 @@
 -- One part more, one value or two, and what is told of room.
-use Rattle.std.proofs.Common.{◌≡◌, ◌≢◌, ℕ, ◌+◌, ◌<◌, ◌==◌, Bool, true, false, not, List, [], ◌∷◌, Option, Some, None, refl, sym, ap, ◌∙◌, subst, arith, ⊎_elim, ℤ, pos, negsuc}
+use Rattle.std.proofs.Common.{◌≡◌, ◌≢◌, ℕ, ◌+◌, ◌<◌, ◌==◌, Bool, true, false, not, List, [], ◌∷◌, Option, Some}
+use Rattle.std.proofs.Common.{None, refl, sym, ap, ◌∙◌, subst, arith, ⊎_elim, ℤ, pos, negsuc}
 use Rattle.std.proofs.lemmas.List.{append-nil}
 use Rattle.std.proofs.lemmas.List.Sums.{sum_by-cons}
 use Rattle.std.proofs.lemmas.Option.{same_Some}
@@ -24,7 +25,8 @@ use Rattle.ec_world.specs.declared.value.Value.TheVariants.{Int, Str, Ref, Nil, 
 
 -- what holds of the first n holds of one more
 pub next_too : {A : Type 0} (P : A → Type 0) (xs : List A) (n : ℕ) (y : A) → slice_get xs n ≡ Some y → P y →
-    ((i : ℕ) (x : A) → i < n → slice_get xs i ≡ Some x → P x) → (i : ℕ) (x : A) → i < n + 1 → slice_get xs i ≡ Some x → P x
+    ((i : ℕ) (x : A) → i < n → slice_get xs i ≡ Some x → P x) → (i : ℕ) (x : A) → i < n + 1 → slice_get xs i ≡ Some x →
+    P x
 next_too P xs n y is here before i x lt e = ⊎_elim
     (λ (same : i ≡ n). subst P (same_Some y x (sym is ∙ ap (slice_get xs) (sym same) ∙ e)) here)
     (λ (ne : i ≢ n). before i x (omega (arith, lt, ne)) e)
@@ -109,7 +111,8 @@ same_value (Str t) = ap Some (same_text t)
 same_value (Ref o) = let test : (o == o) ≡ true = grind arith in ap Some test
 same_value Nil = refl
 
-module _ (u v a b : Value) (r : Option Bool) (t : Bool) (first : u ≡ a) (second : v ≡ b) (is : r ≡ are_same u v) (told : r ≡ Some t) where
+module _ (u v a b : Value) (r : Option Bool) (t : Bool) (first : u ≡ a) (second : v ≡ b) (is : r ≡ are_same u v)
+    (told : r ≡ Some t) where
   same_told : are_same a b ≡ Some t
   same_told = ap (λ (x : Value). are_same a x) (sym second) ∙ ap (λ (x : Value). are_same x v) (sym first) ∙ sym is ∙ told
 

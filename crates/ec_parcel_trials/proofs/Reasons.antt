@@ -17,7 +17,7 @@ use Rattle.ec_parcel_trials.specs.declared.causes.Unfit.TheVariants.{NoRoom, OfA
 use Rattle.ec_parcels.proofs.Rising.{map_get}
 use Rattle.ec_parcels.specs.Activations.{HasHomes, IsStopOf}
 use Rattle.ec_parcels.specs.Classes.{ClassTable}
-use Rattle.ec_parcels.specs.Owners.{frame_keys, keys_of, object_keys}
+use Rattle.ec_parcels.specs.Owners.{frame_keys, object_keys}
 use Rattle.ec_things.specs.Store.{Owned, Store}
 use Rattle.ec_wire.specs.declared.parcel.ActivationPart.{ActivationPart}
 use Rattle.ec_wire.specs.declared.parcel.Contents.{Contents}

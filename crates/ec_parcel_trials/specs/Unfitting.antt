@@ -66,7 +66,7 @@ pub record AtStop (tables : List OperationTable) (part : ActivationPart) (Holds 
   pub holds : Holds table entry
 
 -- There is no such operation, or no such stop of it; it has more or fewer values than variables whose values go from there; one of these
--- has no word of the frame, or two of them have one word and two values; or the node has an activation at this depth of its process.
+-- has no word of the frame, or two of them have one word and two values; or the node has an activation at its depth of its process.
 abbrev pub ActivationFails : List OperationTable → Store → ActivationPart → ActivationCause → Type 0
 ActivationFails tables s part NoStop = (table : OperationTable) (e : StopEntry) → IsStopOf tables part table e → ⊥
 ActivationFails tables s part Count = AtStop tables part (λ table e. length part.values ≢ length (carried e part.is_pending))

@@ -1,7 +1,5 @@
 //! Why an activation in a parcel doesn't fit at a node.
 ghost use Rattle.std.specs.Prelude.{◌≡◌, ◌≢◌, ◌<◌, IfNone, IfOk, IfSome, IsFalse, IsTrue, Some, length, slice_get};
-ghost use Rattle.ec_carrying.specs.Unpacking.{ActivationFits};
-ghost use Rattle.ec_code.specs.declared.code.Live.{Live as LiveData};
 ghost use Rattle.ec_machine_code.specs.Frames as frames;
 ghost use Rattle.ec_node_frames.specs.Carried.{carried};
 ghost use Rattle.ec_node_frames.specs.Loops.{spot_of};
@@ -72,7 +70,11 @@ fn has_count(entry: &StopEntry, part: &ActivationPart) -> bool
     ensures other { IsFalse result → length part.now.values ≢ length (carried entry.now part.now.is_pending) }
 {
     let count = part.values.len();
-    let operands = if part.is_pending { entry.operands.len() } else { 0 };
+    let operands = if part.is_pending {
+        entry.operands.len()
+    } else {
+        0
+    };
     count >= operands && count - operands == entry.live.len()
 }
 

@@ -87,12 +87,7 @@ fn numbers(alloc: Global) -> ClassNumbers {
 
 /// The word at the variable's home on a new node of a kind, once the parcel with these bytes was unpacked there; and what is told of the
 /// same parcel before and after.
-fn word_after(
-    rt: &impl Abort,
-    alloc: Global,
-    kind: Kind,
-    bytes: &[u8],
-) -> Result<(u32, u8), Fail> {
+fn word_after(rt: &impl Abort, alloc: Global, kind: Kind, bytes: &[u8]) -> Result<(u32, u8), Fail> {
     let (home, at) = home_on(kind);
     let tables = ManuallyDrop::new(tables(alloc, home)?);
     let numbers = ManuallyDrop::new(numbers(alloc));

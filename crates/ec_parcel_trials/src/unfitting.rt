@@ -1,6 +1,5 @@
 //! Why the contents of a parcel don't fit at a node, whoever wrote them.
-ghost use Rattle.std.specs.Prelude.{◌≡◌, IfNone, IfOk, IfSome, IsFalse, IsTrue, IsSome, List};
-ghost use Rattle.ec_generate.specs.declared.table.OperationTable.{OperationTable as Table};
+ghost use Rattle.std.specs.Prelude.{IfNone, IfOk, IfSome, IsFalse, IsTrue, IsSome};
 ghost use Rattle.ec_parcel_trials.specs.Unfitting.{Fits, IsUnfit, ObjectFails, ObjectFits, RoomFails, StrayMonitor, UnfitObject};
 ghost use Rattle.ec_parcels.specs.Classes.{class_of};
 ghost use Rattle.ec_parcels.specs.Owners.{blocks_in, object_keys, values_in};
@@ -46,7 +45,11 @@ pub fn unfit(
     if let Some(oid) = stray_monitor(contents.monitors.as_slice(), contents.objects.as_slice()) {
         return Ok(Some(Unfit::OfMonitor(oid)));
     }
-    if let Some((process, depth, cause)) = unfit_activation(node, tables, contents.activations.as_slice())? {
+    if let Some((process, depth, cause)) = unfit_activation(
+        node,
+        tables,
+        contents.activations.as_slice(),
+    )? {
         return Ok(Some(Unfit::OfActivation(process, depth, cause)));
     }
     match lacks(node, alloc, numbers, parcel)? {

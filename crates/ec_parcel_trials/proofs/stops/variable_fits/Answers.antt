@@ -7,7 +7,8 @@ use Rattle.ec_node_frames.specs.Carried.{carried}
 use Rattle.ec_node_frames.specs.Loops.{spot_of}
 use Rattle.ec_parcel_trials.proofs.Parts.{was_true}
 use Rattle.ec_parcel_trials.proofs.stops.variable_fits.Goals as goal
-use Rattle.ec_parcel_trials.proofs.stops.variable_fits.Goals.{else-other-at-via-then-other-at+in_ok-is_one_value+else-not-branch, else-other-at-via-else-other-at}
+use Rattle.ec_parcel_trials.proofs.stops.variable_fits.Goals.{else-other-at-via-else-other-at}
+use Rattle.ec_parcel_trials.proofs.stops.variable_fits.Goals.{else-other-at-via-then-other-at+in_ok-is_one_value+else-not-branch}
 use Rattle.ec_world.proofs.Keys.{same_or_not}
 
 pub loop-j-preserved : goal.loop-j-preserved
@@ -21,7 +22,7 @@ loop-j-preserved c = λ k m v u lt km iv ku same.
     (sym c.variable_at-in-loop-j.ensures ∙ ap (slice_get held) (sym here) ∙ km) in
     let word = c.word_of-other.ensures ∙ ap spot its in
     elim c.else-other-at.branch [
-      else-other-at-via-then-other-at+in_ok-is_one_value+else-not-branch w ↦
+      | else-other-at-via-then-other-at+in_ok-is_one_value+else-not-branch w ↦
           let first = same_Some w.at.result.now v (sym w.at.ensures ∙ iv) in
           let second = same_Some w.at-then-other-at.result.now u
           (sym w.at-then-other-at.ensures ∙ ap (slice_get values) (sym here) ∙ ku) in
