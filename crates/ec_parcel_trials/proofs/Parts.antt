@@ -1,10 +1,10 @@
 -- One part more, one value or two, and what is told of room.
-use Rattle.std.proofs.Common.{◌≡◌, ◌≢◌, ℕ, ◌+◌, ◌<◌, ◌==◌, Bool, true, false, not, List, [], ◌∷◌, Option, Some}
+use Rattle.std.proofs.Common.{◌≡◌, ◌≢◌, ℕ, ◌+◌, ◌<◌, ◌==◌, Bool, true, false, List, [], ◌∷◌, Option, Some}
 use Rattle.std.proofs.Common.{None, refl, sym, ap, ◌∙◌, subst, arith, ⊎_elim, ℤ, pos, negsuc}
 use Rattle.std.proofs.lemmas.List.{append-nil}
 use Rattle.std.proofs.lemmas.List.Sums.{sum_by-cons}
 use Rattle.std.proofs.lemmas.Option.{same_Some}
-use Rattle.std.specs.Prelude.{IfNone, IfSome, IsTrue, if◌then◌else◌, slice_get}
+use Rattle.std.specs.Prelude.{IfNone, IfSome, if◌then◌else◌, slice_get}
 use Rattle.ec_objects.specs.Lacks.{HasRoomForAll, LacksRoom, needs_at}
 use Rattle.ec_objects.specs.Values.{TextsFit}
 use Rattle.ec_parcel_trials.specs.Unfitting.{RoomFails}
@@ -35,10 +35,6 @@ next_too P xs n y is here before i x lt e = ⊎_elim
 pub none_told : {A P : Type 0} (o : Option A) → ((x : A) → o ≡ Some x → ⊥) → IfNone o P → P
 none_told None none told = told
 none_told (Some x) none told = absurd (none x refl)
-
-pub was_true : (b : Bool) → not b ≡ false → IsTrue b
-was_true true e = refl
-was_true false e = absurd cc
 
 -- ---- values
 

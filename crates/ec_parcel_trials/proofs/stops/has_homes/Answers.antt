@@ -2,7 +2,6 @@
 use Rattle.std.proofs.Common.{◌≡◌, ◌≢◌, arith, subst, sym, ⊎_elim}
 use Rattle.ec_base.proofs.Lists.{get_within}
 use Rattle.ec_node_frames.specs.Carried.{carried}
-use Rattle.ec_parcel_trials.proofs.Parts.{was_true}
 use Rattle.ec_parcel_trials.proofs.stops.has_homes.Goals as goal
 use Rattle.ec_parcel_trials.specs.Unfitting.{VariableFits}
 use Rattle.ec_world.proofs.Keys.{same_or_not}
@@ -12,7 +11,7 @@ loop-i-preserved c = λ k lt.
     let held = carried c.args.entry.now c.args.part.now.is_pending in
     ⊎_elim
     (λ (same : k ≡ c.loop-i.i). subst (λ i. VariableFits c.args.table.now held c.args.part.now.values i) (sym same)
-    (c.in_ok-variable_fits.ensures.fits (was_true c.in_ok-variable_fits.field-0 c.if-not-branch.false)))
+    (c.in_ok-variable_fits.ensures.fits c.if-not-branch.false))
     (λ (ne : k ≢ c.loop-i.i). c.loop-i.invariant k (omega (arith, lt, ne)))
     (same_or_not k c.loop-i.i)
 

@@ -5,7 +5,6 @@ use Rattle.std.specs.Prelude.{slice_get}
 use Rattle.ec_base.proofs.Lists.{get_within}
 use Rattle.ec_node_frames.specs.Carried.{carried}
 use Rattle.ec_node_frames.specs.Loops.{spot_of}
-use Rattle.ec_parcel_trials.proofs.Parts.{was_true}
 use Rattle.ec_parcel_trials.proofs.stops.variable_fits.Goals as goal
 use Rattle.ec_parcel_trials.proofs.stops.variable_fits.Goals.{else-other-at-via-else-other-at}
 use Rattle.ec_parcel_trials.proofs.stops.variable_fits.Goals.{else-other-at-via-then-other-at+in_ok-is_one_value+else-not-branch}
@@ -26,7 +25,7 @@ loop-j-preserved c = λ k m v u lt km iv ku same.
           let first = same_Some w.at.result.now v (sym w.at.ensures ∙ iv) in
           let second = same_Some w.at-then-other-at.result.now u
           (sym w.at-then-other-at.ensures ∙ ap (slice_get values) (sym here) ∙ ku) in
-          sym first ∙ w.in_ok-is_one_value.ensures.one (was_true w.in_ok-is_one_value.field-0 w.if-not-branch.false) ∙ second
+          sym first ∙ w.in_ok-is_one_value.ensures.one w.if-not-branch.false ∙ second
       | else-other-at-via-else-other-at w ↦ (let other = w.if-other-at.false in absurd (grind (arith, other, word, same)))
     ])
     (λ (ne : k ≢ c.loop-j.j). c.loop-j.invariant k m v u (omega (arith, lt, ne)) km iv ku same)
