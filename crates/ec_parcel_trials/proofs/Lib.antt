@@ -1,3 +1,4 @@
+pub mod AtStops
 pub mod Parts
 pub mod Reasons
 pub mod Standing

@@ -1,10 +1,11 @@
 -- One part more, one value or two, and what is told of room.
 use Rattle.std.proofs.Common.{◌≡◌, ◌≢◌, ℕ, ◌+◌, ◌<◌, ◌==◌, Bool, true, false, List, [], ◌∷◌, Option, Some}
 use Rattle.std.proofs.Common.{None, refl, sym, ap, ◌∙◌, subst, arith, ⊎_elim, ℤ, pos, negsuc}
+use Rattle.std.proofs.lemmas.Bool.{eq-eqb, eqb-true}
 use Rattle.std.proofs.lemmas.List.{append-nil}
 use Rattle.std.proofs.lemmas.List.Sums.{sum_by-cons}
 use Rattle.std.proofs.lemmas.Option.{same_Some}
-use Rattle.std.specs.Prelude.{IfNone, IfSome, if◌then◌else◌, slice_get}
+use Rattle.std.specs.Prelude.{IfNone, IfSome, if◌then◌else◌, is_some, slice_get}
 use Rattle.ec_objects.specs.Lacks.{HasRoomForAll, LacksRoom, needs_at}
 use Rattle.ec_objects.specs.Values.{TextsFit}
 use Rattle.ec_parcel_trials.specs.Unfitting.{RoomFails}
@@ -36,17 +37,21 @@ pub none_told : {A P : Type 0} (o : Option A) → ((x : A) → o ≡ Some x → 
 none_told None none told = told
 none_told (Some x) none told = absurd (none x refl)
 
+pub none_there : {A P : Type 0} (o : Option A) → is_some o ≡ false → IfNone o P → P
+none_there None none told = told
+none_there (Some x) none told = absurd cc
+
 -- ---- values
 
 one_number : (a b : ℤ) → is_same_number a b ≡ true → a ≡ b
-one_number (pos a) (pos b) e = let same : a ≡ b = grind arith in ap pos same
-one_number (negsuc a) (negsuc b) e = let same : a ≡ b = grind arith in ap negsuc same
+one_number (pos a) (pos b) e = ap pos (eqb-true a b e)
+one_number (negsuc a) (negsuc b) e = ap negsuc (eqb-true a b e)
 one_number (pos a) (negsuc b) e = absurd cc
 one_number (negsuc a) (pos b) e = absurd cc
 
 same_number : (a : ℤ) → is_same_number a a ≡ true
-same_number (pos a) = grind arith
-same_number (negsuc a) = grind arith
+same_number (pos a) = eq-eqb a a refl
+same_number (negsuc a) = eq-eqb a a refl
 
 one_truth : (a b : Bool) → is_same_truth a b ≡ true → a ≡ b
 one_truth true true e = refl
@@ -58,26 +63,26 @@ same_truth : (a : Bool) → is_same_truth a a ≡ true
 same_truth true = refl
 same_truth false = refl
 
+text_step : (a b : ℕ) (s t : List ℕ) (q : Bool) → (a == b) ≡ q → (is_same_text s t ≡ true → s ≡ t) →
+    (if q then is_same_text s t else false) ≡ true → a ∷ s ≡ b ∷ t
+text_step a b s t true is same e = ap (λ n. n ∷ s) (eqb-true a b is) ∙ ap (λ r. b ∷ r) (same e)
+text_step a b s t false is same e = absurd cc
+
 one_text : (s t : List ℕ) → is_same_text s t ≡ true → s ≡ t
 one_text [] [] e = refl
 one_text [] (b ∷ t) e = absurd cc
 one_text (a ∷ s) [] e = absurd cc
-one_text (a ∷ s) (b ∷ t) e = by (a == b) refl e
-  where
-    by : (q : Bool) → (a == b) ≡ q → (if q then is_same_text s t else false) ≡ true → a ∷ s ≡ b ∷ t
-    by true is e = let head : a ≡ b = grind arith in ap (λ n. n ∷ s) head ∙ ap (λ r. b ∷ r) (one_text s t e)
-    by false is e = absurd cc
+one_text (a ∷ s) (b ∷ t) e = text_step a b s t (a == b) refl (one_text s t) e
 
 same_text : (s : List ℕ) → is_same_text s s ≡ true
 same_text [] = refl
-same_text (a ∷ s) =
-    let test : (a == a) ≡ true = grind arith in ap (λ q. if q then is_same_text s s else false) test ∙ same_text s
+same_text (a ∷ s) = ap (λ q. if q then is_same_text s s else false) (eq-eqb a a refl) ∙ same_text s
 
 one_value : (u v : Value) → are_same u v ≡ Some true → u ≡ v
 one_value (Int a) (Int b) e = ap Int (one_number a b (same_Some (is_same_number a b) true e))
 one_value (Truth a) (Truth b) e = ap Truth (one_truth a b (same_Some (is_same_truth a b) true e))
 one_value (Str a) (Str b) e = ap Str (one_text a b (same_Some (is_same_text a b) true e))
-one_value (Ref a) (Ref b) e = let test = same_Some (a == b) true e in let same : a ≡ b = grind arith in ap Ref same
+one_value (Ref a) (Ref b) e = ap Ref (eqb-true a b (same_Some (a == b) true e))
 one_value Nil Nil e = refl
 one_value (Int a) (Truth b) e = absurd cc
 one_value (Int a) (Str b) e = absurd cc
@@ -104,7 +109,7 @@ same_value : (v : Value) → are_same v v ≡ Some true
 same_value (Int z) = ap Some (same_number z)
 same_value (Truth b) = ap Some (same_truth b)
 same_value (Str t) = ap Some (same_text t)
-same_value (Ref o) = let test : (o == o) ≡ true = grind arith in ap Some test
+same_value (Ref o) = ap Some (eq-eqb o o refl)
 same_value Nil = refl
 
 module _ (u v a b : Value) (r : Option Bool) (t : Bool) (first : u ≡ a) (second : v ≡ b) (is : r ≡ are_same u v)

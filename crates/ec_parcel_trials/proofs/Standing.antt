@@ -1,15 +1,19 @@
--- Contents fit where each part of them fits and the node has room for all.
-use Rattle.std.proofs.Common.{◌≡◌, ℕ, ◌+◌, ◌-◌, ◌*◌, ◌/◌, ◌≤◌, ◌==◌, Bool, true, false, List, length, max, Option, Some, None}
-use Rattle.std.proofs.Common.{refl, subst, arith, ⊎_elim}
+-- Contents fit where each part of them fits and the node has room for all; and what stands there once they were unpacked.
+use Rattle.std.proofs.Common.{◌≡◌, ℕ, ◌+◌, ◌-◌, ◌*◌, ◌/◌, ◌<◌, ◌≤◌, ◌==◌, Bool, true, false, List, length, max, Option, Some, None}
+use Rattle.std.proofs.Common.{refl, sym, ap, ◌∙◌, subst, arith, ⊎_elim}
 use Rattle.std.proofs.lemmas.Option.{same_Some}
 use Rattle.std.specs.Prelude.{IsSome, if◌then◌else◌, nat_lt, option_map, slice_get}
 use Rattle.ec_carrying.specs.Landing.{IsClassed}
+use Rattle.ec_carrying.specs.Unpacking.{Unpacked}
 use Rattle.ec_generate.specs.declared.table.OperationTable.{OperationTable}
 use Rattle.ec_objects.specs.Lacks.{HasRoomForAll}
-use Rattle.ec_parcel_trials.specs.Unfitting.{ActivationStands, Fits, ObjectFits}
+use Rattle.ec_parcel_trials.specs.Unfitting.{ActivationStands, Fits, ObjectFits, StrayMonitor, UnfitActivation, UnfitObject}
+use Rattle.ec_parcel_trials.specs.declared.causes.ActivationCause.{ActivationCause}
+use Rattle.ec_parcel_trials.specs.declared.causes.ObjectCause.{ObjectCause}
 use Rattle.ec_parcels.proofs.Rising.{few_values, get_mapped, keys_once}
 use Rattle.ec_parcels.specs.Classes.{ClassTable, class_of, program_number, vector_of}
 use Rattle.ec_parcels.specs.Owners.{blocks_in, frame_keys, keys_of, object_keys, values_in}
+use Rattle.ec_stores.specs.Changes.{OwnsWord}
 use Rattle.ec_things.specs.Store.{Store, Tidy}
 use Rattle.ec_wire.specs.WireForm.{KeepsRules}
 use Rattle.ec_wire.specs.declared.parcel.ActivationPart.{ActivationPart}
@@ -97,3 +101,58 @@ module _ (table : ClassTable) (tables : List OperationTable) (s : Store) (x : Co
     };
     room = record { tidy = tidy; once = keys_once x rules; new = all_new; blocks = room.blocks_fit; texts = room.texts_fit };
   }
+
+-- what is told of the lists of a parcel that was asked for its contents
+module _ (table : ClassTable) (tables : List OperationTable) (s : Store) (x y : Contents) (same : y ≡ x)
+    (objects : List ObjectPart) (monitors : List MonitorPart) (activations : List ActivationPart)
+    (of_objects : objects ≡ y.objects) (of_monitors : monitors ≡ y.monitors) (of_activations : activations ≡ y.activations) where
+  are_objects : objects ≡ x.objects
+  are_objects = of_objects ∙ ap (λ (z : Contents). z.objects) same
+
+  are_monitors : monitors ≡ x.monitors
+  are_monitors = of_monitors ∙ ap (λ (z : Contents). z.monitors) same
+
+  are_activations : activations ≡ x.activations
+  are_activations = of_activations ∙ ap (λ (z : Contents). z.activations) same
+
+  pub object_told : (oid : ℕ) (cause : ObjectCause) → UnfitObject table s objects oid cause → UnfitObject table s x.objects oid cause
+  object_told oid cause u = subst (λ (os : List ObjectPart). UnfitObject table s os oid cause) are_objects u
+
+  pub monitor_told : (oid : ℕ) → StrayMonitor monitors objects oid → StrayMonitor x.monitors x.objects oid
+  monitor_told oid u =
+      subst (λ (ms : List MonitorPart). StrayMonitor ms x.objects oid) are_monitors
+      (subst (λ (os : List ObjectPart). StrayMonitor monitors os oid) are_objects u)
+
+  pub activation_told : (process depth : ℕ) (cause : ActivationCause) → UnfitActivation tables s activations process depth cause →
+      UnfitActivation tables s x.activations process depth cause
+  activation_told process depth cause u =
+      subst (λ (fs : List ActivationPart). UnfitActivation tables s fs process depth cause) are_activations u
+
+  pub classes_told : ((part : ObjectPart) → Has objects part → ObjectFits table s part) → (part : ObjectPart) → Has x.objects part →
+      IsSome (class_of table part.class)
+  classes_told fit part h = (fit part (subst (λ (os : List ObjectPart). Has os part) (sym are_objects) h)).class
+
+  pub all_told : Tidy s → KeepsRules y → ((part : ObjectPart) → Has objects part → ObjectFits table s part) →
+      ((part : MonitorPart) → Has monitors part → Has (object_keys objects) (Object part.object)) →
+      ((part : ActivationPart) → Has activations part → ActivationStands tables s part) →
+      HasRoomForAll s (blocks_in table x) (values_in x) → Fits table tables s x
+  all_told tidy rules fit has stand room = they_fit table tables s x
+      (λ part h. fit part (subst (λ (os : List ObjectPart). Has os part) (sym are_objects) h))
+      (λ part h. stand part (subst (λ (fs : List ActivationPart). Has fs part) (sym are_activations) h))
+      tidy
+      (subst KeepsRules same rules)
+      (λ part h. subst (λ (os : List ObjectPart). Has (object_keys os) (Object part.object)) are_objects
+      (has part (subst (λ (ms : List MonitorPart). Has ms part) (sym are_monitors) h)))
+      room
+
+-- ---- what was unpacked
+
+-- an activation's frame has each of its 128 words
+pub owns_word : (table : ClassTable) (tables : List OperationTable) (s s' : Store) (x : Contents) → Fits table tables s x →
+    Unpacked table tables x s s' → (part : ActivationPart) → Has x.activations part → (at : ℕ) → at < 128 →
+    OwnsWord s' (Frame part.process part.depth) at
+owns_word table tables s s' x fits unpacked part h at low =
+    let its = fits.program.activations part h in
+    let shown = unpacked.activations part its.table its.entry h its.is in
+    let counted : length shown.row.blocks ≡ 1 = shown.spells.counted in
+    record { row = shown.row; there = shown.there; within = omega (arith, low, counted) }

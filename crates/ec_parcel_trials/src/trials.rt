@@ -3,6 +3,7 @@
 //! is kept elsewhere. And what is told of parcels that don't fit. What is large is never dropped here: how it is dropped is proved in the
 //! crates that do so, and would be proved once more.
 ghost use Rattle.std.specs.Prelude.{◌<◌, ◌≤◌};
+ghost use Rattle.ec_wire.specs.WireForm.{IsWire};
 
 use crate::causes::{ActivationCause, ObjectCause, Unfit};
 use crate::unfitting::unfit;
@@ -14,6 +15,7 @@ use ec_machine_code::homes::Home;
 use ec_parcels::mover::classes::ClassNumbers;
 use ec_stores::node::NodeStore;
 use ec_types::conform::static_type::{Plain, StaticType};
+use ec_wire::parcel::Parcel;
 use ec_wire::read;
 use ec_world::node::Kind;
 use ec_world::room::Part;
@@ -85,23 +87,41 @@ fn numbers(alloc: Global) -> ClassNumbers {
     ClassNumbers::new(0, Seq::new(alloc))
 }
 
+/// The word at a place of the frame of a parcel's one activation, once its bytes were unpacked at a node where it fits.
+fn unpacked_word(
+    rt: &impl Abort,
+    alloc: Global,
+    node: &mut NodeStore,
+    tables: &[OperationTable],
+    numbers: &ClassNumbers,
+    parcel: &Parcel,
+    bytes: &[u8],
+    at: u32,
+) -> Result<u32, Fail>
+    requires wire { IsWire parcel.now bytes.now }
+    requires low { at < 128 }
+{
+    let [part] = parcel.activations() else {
+        panic!(rt; "one activation");
+    };
+    if unfit(node, alloc, tables, numbers, parcel)?.is_some() {
+        panic!(rt; "it fits");
+    }
+    unpack(node, alloc, tables, numbers, bytes)?;
+    Ok(node.frame_word(part.process, part.depth, at))
+}
+
 /// The word at the variable's home on a new node of a kind, once the parcel with these bytes was unpacked there; and what is told of the
-/// same parcel before and after.
+/// same parcel from then on.
 fn word_after(rt: &impl Abort, alloc: Global, kind: Kind, bytes: &[u8]) -> Result<(u32, u8), Fail> {
     let (home, at) = home_on(kind);
     let tables = ManuallyDrop::new(tables(alloc, home)?);
     let numbers = ManuallyDrop::new(numbers(alloc));
     let mut node = ManuallyDrop::new(NodeStore::new(alloc, kind, 1, 0, 0)?);
     let parcel = ManuallyDrop::new(read(alloc, bytes)?);
-    let [part] = parcel.activations() else {
-        panic!(rt; "one activation");
-    };
-    if unfit(&node, alloc, tables.as_slice(), &numbers, &parcel)?.is_some() {
-        panic!(rt; "it fits");
-    }
-    unpack(&mut node, alloc, tables.as_slice(), &numbers, bytes)?;
-    let word = node.frame_word(part.process, part.depth, at);
-    let again = unfit(&node, alloc, tables.as_slice(), &numbers, &parcel)?;
+    let tables = tables.as_slice();
+    let word = unpacked_word(rt, alloc, &mut node, tables, &numbers, &parcel, bytes, at)?;
+    let again = unfit(&node, alloc, tables, &numbers, &parcel)?;
     Ok((word, told(again)))
 }
 

@@ -37,19 +37,18 @@ pub fn unfit(
     ensures none { IfOk result (λ r. IfNone r (Fits numbers.now tables.now (store_of node.now) parcel.now)) }
 {
     // What a node keeps is tidy.
-    let _kind = node.kind();
+    let _tidy = node.kind();
     let contents = parcel.contents();
-    if let Some((oid, cause)) = unfit_object(node, numbers, contents.objects.as_slice()) {
+    let objects = contents.objects.as_slice();
+    let monitors = contents.monitors.as_slice();
+    let activations = contents.activations.as_slice();
+    if let Some((oid, cause)) = unfit_object(node, numbers, objects) {
         return Ok(Some(Unfit::OfObject(oid, cause)));
     }
-    if let Some(oid) = stray_monitor(contents.monitors.as_slice(), contents.objects.as_slice()) {
+    if let Some(oid) = stray_monitor(monitors, objects) {
         return Ok(Some(Unfit::OfMonitor(oid)));
     }
-    if let Some((process, depth, cause)) = unfit_activation(
-        node,
-        tables,
-        contents.activations.as_slice(),
-    )? {
+    if let Some((process, depth, cause)) = unfit_activation(node, tables, activations)? {
         return Ok(Some(Unfit::OfActivation(process, depth, cause)));
     }
     match lacks(node, alloc, numbers, parcel)? {
