@@ -2,7 +2,7 @@
 use Rattle.std.proofs.Common.{Some, arith, sym, ap, ◌∙◌}
 use Rattle.std.proofs.lemmas.Option.{slice_get-get_or}
 use Rattle.ec_base.proofs.Lists.{get_within}
-use Rattle.ec_parcel_trials.proofs.Parts.{next_too, none_told}
+use Rattle.ec_parcel_trials.proofs.Parts.{next_too}
 use Rattle.ec_parcel_trials.proofs.unfitting.unfit_object.Goals as goal
 use Rattle.ec_parcel_trials.specs.Unfitting.{ObjectFits}
 use Rattle.ec_stores.specs.Node.{store_of}
@@ -14,7 +14,7 @@ loop-part-preserved c =
     let y = c.part-item.result in
     next_too (ObjectFits c.args.numbers.now (store_of c.args.node.now)) xs i y
     (slice_get-get_or xs i y c.loop-part-test.true ∙ ap Some (sym c.part-item.is))
-    (none_told c.object_fails.result c.in_default.not-Some c.object_fails.ensures.none) c.loop-part.invariant
+    c.in_default.ensures.none c.loop-part.invariant
 
 pub returns-clause-none : goal.returns-clause-none
 returns-clause-none c = λ part h.
