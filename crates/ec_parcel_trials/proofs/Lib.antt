@@ -1,4 +1,3 @@
-pub mod AtStops
 pub mod Parts
 pub mod Reasons
 pub mod Standing

@@ -14,7 +14,7 @@ loop-part-preserved c =
     let y = c.part-item.result in
     next_too (ActivationStands c.args.tables.now (store_of c.args.node.now)) xs i y
     (slice_get-get_or xs i y c.loop-part-test.true ∙ ap Some (sym c.part-item.is))
-    (none_told c.in_ok-activation_fails.field-0 c.in_default.not-Some c.in_ok-activation_fails.ensures.none) c.loop-part.invariant
+    (none_told c.in_ok-cause.field-0 c.in_default.not-Some c.in_ok-cause.ensures.none) c.loop-part.invariant
 
 pub returns-clause-none : goal.returns-clause-none
 returns-clause-none c = λ part h.
