@@ -7,9 +7,7 @@ use Rattle.ec_carrying.specs.Landing.{IsClassed}
 use Rattle.ec_carrying.specs.Unpacking.{Unpacked}
 use Rattle.ec_generate.specs.declared.table.OperationTable.{OperationTable}
 use Rattle.ec_objects.specs.Lacks.{HasRoomForAll}
-use Rattle.ec_parcel_trials.specs.Unfitting.{ActivationStands, Fits, ObjectFits, StrayMonitor, UnfitActivation, UnfitObject}
-use Rattle.ec_parcel_trials.specs.declared.causes.ActivationCause.{ActivationCause}
-use Rattle.ec_parcel_trials.specs.declared.causes.ObjectCause.{ObjectCause}
+use Rattle.ec_parcel_trials.specs.Unfitting.{ActivationStands, Fits, ObjectFits}
 use Rattle.ec_parcels.proofs.Rising.{few_values, get_mapped, keys_once}
 use Rattle.ec_parcels.specs.Classes.{ClassTable, class_of, program_number, vector_of}
 use Rattle.ec_parcels.specs.Owners.{blocks_in, frame_keys, keys_of, object_keys, values_in}
@@ -114,19 +112,6 @@ module _ (table : ClassTable) (tables : List OperationTable) (s : Store) (x y : 
 
   are_activations : activations ≡ x.activations
   are_activations = of_activations ∙ ap (λ (z : Contents). z.activations) same
-
-  pub object_told : (oid : ℕ) (cause : ObjectCause) → UnfitObject table s objects oid cause → UnfitObject table s x.objects oid cause
-  object_told oid cause u = subst (λ (os : List ObjectPart). UnfitObject table s os oid cause) are_objects u
-
-  pub monitor_told : (oid : ℕ) → StrayMonitor monitors objects oid → StrayMonitor x.monitors x.objects oid
-  monitor_told oid u =
-      subst (λ (ms : List MonitorPart). StrayMonitor ms x.objects oid) are_monitors
-      (subst (λ (os : List ObjectPart). StrayMonitor monitors os oid) are_objects u)
-
-  pub activation_told : (process depth : ℕ) (cause : ActivationCause) → UnfitActivation tables s activations process depth cause →
-      UnfitActivation tables s x.activations process depth cause
-  activation_told process depth cause u =
-      subst (λ (fs : List ActivationPart). UnfitActivation tables s fs process depth cause) are_activations u
 
   pub classes_told : ((part : ObjectPart) → Has objects part → ObjectFits table s part) → (part : ObjectPart) → Has x.objects part →
       IsSome (class_of table part.class)
