@@ -26,7 +26,7 @@ bytes_both [] ys = omega arith
 bytes_both (x ∷ xs) ys = let rest = bytes_both xs ys in omega (arith, rest)
 
 -- texts that are among others have no more bytes
-bytes_among : (xs ys : List (List ℕ)) → Distinct xs → ((x : List ℕ) → Has xs x → Has ys x) → text_bytes xs ≤ text_bytes ys
+pub bytes_among : (xs ys : List (List ℕ)) → Distinct xs → ((x : List ℕ) → Has xs x → Has ys x) → text_bytes xs ≤ text_bytes ys
 bytes_among xs ys once among =
     let le : summed length xs ≤ summed length ys = summed_le length length xs ys once (λ x h. inr (among x h, omega arith)) in
     omega (arith, le, text_sum xs, text_sum ys)
