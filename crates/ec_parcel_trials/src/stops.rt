@@ -19,7 +19,7 @@ use ec_world::same::are_same;
 use ec_world::value::{Pid, Value};
 use std::alloc::AllocError;
 
-/// The first of these activations that doesn't fit, by its process and its depth, and why. The error is want of memory.
+/// One of these activations that doesn't fit, by its process and its depth, and why. The error is want of memory.
 pub(crate) fn unfit_activation(
     node: &NodeStore,
     tables: &[OperationTable],

@@ -23,9 +23,8 @@ use std::alloc::{AllocError, Global};
 use std::slice;
 
 /// Why the contents of a parcel don't fit at a node, by the tables of the program's operations for its kind and the numbers of its
-/// classes; nothing where they are of the program and the node has room for them, so that they can be unpacked there. Objects are looked
-/// at first, then monitors, then activations, then room. The error is want of memory, texts of 2^32 bytes or more together, or 2^64
-/// blocks or more.
+/// classes; nothing where they are of the program and the node has room for them, so that they can be unpacked there. Where there are
+/// several reasons, one of them is told. The error is want of memory, texts of 2^32 bytes or more together, or 2^64 blocks or more.
 pub fn unfit(
     node: &NodeStore,
     alloc: Global,
@@ -57,7 +56,7 @@ pub fn unfit(
     }
 }
 
-/// The first of these objects that doesn't fit, by its number, and why.
+/// One of these objects that doesn't fit, by its number, and why.
 fn unfit_object(
     node: &NodeStore,
     numbers: &ClassNumbers,
@@ -88,7 +87,7 @@ fn object_fails(node: &NodeStore, numbers: &ClassNumbers, part: &ObjectPart) -> 
     None
 }
 
-/// The first object of these monitors that isn't one of these objects, by its number.
+/// An object that one of these monitors is of, and that isn't one of these objects, by its number.
 fn stray_monitor(monitors: &[MonitorPart], objects: &[ObjectPart]) -> Option<Oid>
     ensures some { IfSome result (λ oid. StrayMonitor monitors.now objects.now oid) }
     ensures none { IfNone result ((part : MonitorData) → Has monitors.now part → Has (object_keys objects.now) (Object part.object)) }
@@ -114,7 +113,7 @@ fn has_object(objects: &[ObjectPart], oid: Oid) -> bool
     false
 }
 
-/// What a node lacks for a parcel, blocks before text, where the class number of each object is that of a class.
+/// What a node lacks for a parcel, where the class number of each object is that of a class.
 fn lacks(
     node: &NodeStore,
     alloc: Global,
