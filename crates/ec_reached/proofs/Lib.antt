@@ -5,3 +5,7 @@ pub mod Later
 pub mod Doing
 pub mod Steps
 pub mod Calling
+pub mod Effects
+pub mod Stacking
+pub mod Monitors
+pub mod Depths
