@@ -9,3 +9,7 @@ pub mod Effects
 pub mod Stacking
 pub mod Monitors
 pub mod Depths
+pub mod Deepening
+pub mod Asking
+pub mod Shapes
+pub mod DeepWorlds

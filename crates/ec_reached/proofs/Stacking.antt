@@ -212,7 +212,7 @@ module _ {A : Type 0} (M : ActivationMeaning A) where
       started = started_fits c who it vs doing e;
     }
 
-    abbrev HasStacks : World A → Type 0
+    abbrev pub HasStacks : World A → Type 0
     HasStacks w = EachAt (Fits w.common) w.processes
 
     settled_fits : (w : World A) (p : ℕ) → HasStacks w → (a : Acting M w p) (d : Common) (o : Outcome) →
@@ -309,7 +309,7 @@ module _ {A : Type 0} (M : ActivationMeaning A) where
           subst (λ m. class_of (object_at (replicate n node_object ++ program_object ∷ []) (suc m)) ≡ Some Program)
           (length-replicate n node_object) (ap class_of (added_here (replicate n node_object) program_object))
 
-      first_fits : (n : ℕ) (classes : List ClassRec) (globals : List ValueType) → HasStacks (first_world M n classes globals)
+      pub first_fits : (n : ℕ) (classes : List ClassRec) (globals : List ValueType) → HasStacks (first_world M n classes globals)
       first_fits n classes globals zero proc e =
           let b = stays.begun 0 (suc n) [] in
           let first : Proc A = record { activations = M.begun 0 (suc n) [] ∷ []; status = Ready } in
