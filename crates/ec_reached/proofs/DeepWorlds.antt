@@ -67,7 +67,7 @@ first_none zero (suc i) = refl
 first_none (suc n) zero = refl
 first_none (suc n) (suc i) = first_none n i
 
-first_monitors : (n o : ℕ) → monitor_if (object_at (replicate n node_object ++ program_object ∷ []) o) ≡ None
+pub first_monitors : (n o : ℕ) → monitor_if (object_at (replicate n node_object ++ program_object ∷ []) o) ≡ None
 first_monitors n zero = refl
 first_monitors n (suc i) = first_none n i
 
@@ -158,7 +158,7 @@ module _ {A : Type 0} (M : ActivationMeaning A) (stays : StaysItself M) where
     asked o =
         ap (times_asked M c o) (sym here.all) ∙ sym (ap (times_asked_if M c o) here.there) ∙ depths o p
 
-    no_queue : (o : ℕ) (m : MonitorRec) → monitor_of c o ≡ Some m → WaitsNowhere m p
+    pub no_queue : (o : ℕ) (m : MonitorRec) → monitor_of c o ≡ Some m → WaitsNowhere m p
     no_queue o m at = nowhere HasDepths each_deep M w p a.top good.blocked a.is_top o m at
 
     inside_monitor : is_inside (sight_of c) who ≡ true → (m : MonitorRec) × (monitor_of c who.own ≡ Some m)
@@ -169,13 +169,14 @@ module _ {A : Type 0} (M : ActivationMeaning A) (stays : StaysItself M) where
     leave_coming : (b : Bool) → M.stop a.top ≡ stop.Return b → is_coming M a.top ≡ false
     leave_coming b e = ap (λ t. is_entry t && M.is_pending a.top) e
 
-    may_leave : (b : Bool) → M.stop a.top ≡ stop.Return b → is_inside (sight_of c) who ≡ true → MayLeave c who
-    may_leave b at e =
+    -- whoever acts inside, behind its entry, holds the own monitor
+    pub may_leave : is_coming M a.top ≡ false → is_inside (sight_of c) who ≡ true → MayLeave c who
+    may_leave at e =
         let m = inside_monitor e in
         let one : may_ask M c who.own a.top ≡ 1 =
         ap (λ x. one_if ((M.own a.top == who.own) && x)) e ∙ ap (λ x. one_if (x && true)) ((Decides-eqb who.own who.own).1 refl) in
         let k = asked_push M c who.own below a.top in
-        let t = come_asks M c who.own a.top (leave_coming b at) in
+        let t = come_asks M c who.own a.top at in
         let s = asked who.own in
         let d : asked_of (monitor_of c who.own) p ≡ deep m.0 p = ap (λ x. asked_of x p) m.1 in
         let l : 1 ≤ deep m.0 p = omega arith in
@@ -190,7 +191,7 @@ module _ {A : Type 0} (M : ActivationMeaning A) (stays : StaysItself M) where
     may_do (Returns given true section) e =
         let at = returns (sight_of c) who (M.stop a.top) (M.operands a.top) given true section e in
         let inside = returns_inside (sight_of c) who (M.stop a.top) (M.operands a.top) given true section e in
-        may_leave at.0 at.1 (sym inside)
+        may_leave (leave_coming at.0 at.1) (sym inside)
     may_do (Returns given false section) e = tt
     may_do (Passes given) e = tt
     may_do (Prints s) e = tt
@@ -520,7 +521,7 @@ module _ {A : Type 0} (M : ActivationMeaning A) (stays : StaysItself M) where
         (settled M w p (below_of (stack_at w p)) top d o g).common.classes ≡ classes
     settled_same w p top d o (objects, freed) e = e
 
-    top_ends : (w : World A) (p : ℕ) (a : Acting M w p) → Whole classes w → is_ending M a.top ≡ true →
+    pub top_ends : (w : World A) (p : ℕ) (a : Acting M w p) → Whole classes w → is_ending M a.top ≡ true →
         IsNotCalled w.common.classes (M.operation a.top)
     top_ends w p a h i =
         let here = is_there w p a.top a.is_top in
@@ -675,7 +676,7 @@ module _ {A : Type 0} (M : ActivationMeaning A) (stays : StaysItself M) where
           by zero = begun_none M (first_world M n classes globals).common o stays 0 (suc n) ∙ sym (none zero)
           by (suc q) = sym (none (suc q))
 
-      first_whole : (n : ℕ) (globals : List ValueType) → Whole classes (first_world M n classes globals)
+      pub first_whole : (n : ℕ) (globals : List ValueType) → Whole classes (first_world M n classes globals)
       first_whole n globals = record {
         stacks = first_fits M stays advance steps n classes globals;
         good = first_holds HasDepths each_deep M n classes globals;

@@ -160,7 +160,7 @@ signalled_deep m c q l = signal_deep m c m.holder refl l q
 
 -- ---- who waits nowhere
 
-among_none : (q : ℕ) (hs : List Hold) → times_waiting q hs ≡ 0 → depth_among q hs ≡ 0
+pub among_none : (q : ℕ) (hs : List Hold) → times_waiting q hs ≡ 0 → depth_among q hs ≡ 0
 among_none q [] e = refl
 among_none q (h ∷ hs) e =
     let k = among_none q hs (omega arith) in
@@ -168,7 +168,7 @@ among_none q (h ∷ hs) e =
     let d : depth_by q (Some h) ≡ 0 = equal_case (λ b. one_if b ≡ 0 → (if b then h.depth else 0) ≡ 0) h.process q (λ s z. absurd (omega arith)) (λ s z. refl) n in
     omega arith
 
-in_queues_none : (q : ℕ) (qs : List (List Hold)) → times_in_queues q qs ≡ 0 → depth_in_queues q qs ≡ 0
+pub in_queues_none : (q : ℕ) (qs : List (List Hold)) → times_in_queues q qs ≡ 0 → depth_in_queues q qs ≡ 0
 in_queues_none q [] e = refl
 in_queues_none q (hs ∷ more) e =
     let k = in_queues_none q more (omega arith) in
@@ -205,7 +205,7 @@ dropped_other m p q n =
     (λ e. let r = released_deep m q in let z = drop_other p q m.holder e n in omega arith)
     (λ e. refl)
 
-hold_none : (p : ℕ) (o : Option Hold) → is_hold_of p o ≡ false → depth_by p o ≡ 0
+pub hold_none : (p : ℕ) (o : Option Hold) → is_hold_of p o ≡ false → depth_by p o ≡ 0
 hold_none p None e = refl
 hold_none p (Some h) e = ap (λ b. if b then h.depth else 0) e
 

@@ -13,3 +13,5 @@ pub mod Deepening
 pub mod Asking
 pub mod Shapes
 pub mod DeepWorlds
+pub mod Holders
+pub mod Standing
