@@ -15,3 +15,4 @@ pub mod Shapes
 pub mod DeepWorlds
 pub mod Holders
 pub mod Standing
+pub mod Order

@@ -1,3 +1,5 @@
 pub mod Meant
 pub mod Stacks
 pub mod Depths
+pub mod Orderly
+pub mod Laws
