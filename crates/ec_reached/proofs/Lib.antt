@@ -16,3 +16,4 @@ pub mod DeepWorlds
 pub mod Holders
 pub mod Standing
 pub mod Order
+pub mod CodeSteps

@@ -15,6 +15,13 @@ use Rattle.ec_reached.specs.Meant.{StaysItself, StepsStay, StepsStop}
 use Rattle.ec_reached.specs.Orderly.{HoldsCount, Orderly}
 use Rattle.ec_reached.specs.Stacks.{BlockedRest, StacksFit}
 
+-- what holds of each monitor
+pub record MonitorsKeep {A : Type 0} (w : World A) : Type 0 where
+  pub of_classes : MonitorsFit w.common
+  pub free : OfEachMonitor FreeIsEmpty w.common
+  pub once : OfEachMonitor StandsOnce w.common
+  pub deep : OfEachMonitor HasDepths w.common
+
 module _ {A : Type 0} (M : ActivationMeaning A) where
   -- this holds of each world that turns and moves reach from the first one of a program, where silent steps keep what is asked of them
   abbrev pub OfEachReached : (World A → Type 0) → Type 0
@@ -32,13 +39,6 @@ module _ {A : Type 0} (M : ActivationMeaning A) where
   -- enter, at a wait where it waits for a condition, at a signal where it has signalled.
   abbrev pub EachBlockedRests : Type 0
   EachBlockedRests = OfEachReached (BlockedRest M)
-
-  -- what holds of each monitor
-  pub record MonitorsKeep (w : World A) : Type 0 where
-    pub of_classes : MonitorsFit w.common
-    pub free : OfEachMonitor FreeIsEmpty w.common
-    pub once : OfEachMonitor StandsOnce w.common
-    pub deep : OfEachMonitor HasDepths w.common
 
   -- An object has a monitor where its class is monitored, with the conditions of the class. Nobody waits to go on in one that nobody
   -- holds. Each process stands in it at most once, and has entered at least once where it holds it, or waits in it.

@@ -3,3 +3,4 @@ pub mod Stacks
 pub mod Depths
 pub mod Orderly
 pub mod Laws
+pub mod Code

@@ -1,4 +1,5 @@
-//! What holds of reached worlds, over any meaning of activations.
+//! What holds of reached worlds, over any meaning of activations, and so of three-address code.
+ghost use Rattle.ec_reached.specs.Code.{EachCodeStays, EachCodeStops, EachRunOfCodeIsOrderly, EachRunOfCodeKeeps, EntriesOfCodeKeepOrder};
 ghost use Rattle.ec_reached.specs.Laws.{EachBlockedRests, EachHoldCounts, EachMonitorFits, EachReachedIsOrderly, EachStackIsCalls};
 ghost use Rattle.ec_reached.specs.Laws.{OrderIsKept};
 
@@ -32,4 +33,29 @@ pub fn each_reached_is_orderly<A: Activation>()
 /// The depth of each hold is how many activations of its process have entered.
 pub fn each_hold_counts<A: Activation>()
     ensures { EachHoldCounts A.meaning }
+{}
+
+/// Activations of three-address code stay what they are, and so does what its silent steps are to leave alone.
+pub fn each_code_stays()
+    ensures { EachCodeStays }
+{}
+
+/// In each world of each run of code stacks are calls, blocked processes rest where their statuses tell, and monitors fit.
+pub fn each_run_of_code_keeps()
+    ensures { EachRunOfCodeKeeps }
+{}
+
+/// Where each operation enters at its first line alone and ends only where it isn't called, silent steps stop as is asked.
+pub fn each_code_stops()
+    ensures { EachCodeStops }
+{}
+
+/// So entries keep worlds of such code orderly.
+pub fn entries_of_code_keep_order()
+    ensures { EntriesOfCodeKeepOrder }
+{}
+
+/// So each world of each run of such code is orderly.
+pub fn each_run_of_code_is_orderly()
+    ensures { EachRunOfCodeIsOrderly }
 {}
