@@ -17,3 +17,4 @@ pub mod Holders
 pub mod Standing
 pub mod Order
 pub mod CodeSteps
+pub mod Examples

@@ -4,3 +4,4 @@ pub mod Depths
 pub mod Orderly
 pub mod Laws
 pub mod Code
+pub mod Example

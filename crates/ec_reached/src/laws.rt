@@ -1,5 +1,6 @@
 //! What holds of reached worlds, over any meaning of activations, and so of three-address code.
 ghost use Rattle.ec_reached.specs.Code.{EachCodeStays, EachCodeStops, EachRunOfCodeIsOrderly, EachRunOfCodeKeeps, EntriesOfCodeKeepOrder};
+ghost use Rattle.ec_reached.specs.Example.{ExampleIsMet};
 ghost use Rattle.ec_reached.specs.Laws.{EachBlockedRests, EachHoldCounts, EachMonitorFits, EachReachedIsOrderly, EachStackIsCalls};
 ghost use Rattle.ec_reached.specs.Laws.{OrderIsKept};
 
@@ -58,4 +59,9 @@ pub fn entries_of_code_keep_order()
 /// So each world of each run of such code is orderly.
 pub fn each_run_of_code_is_orderly()
     ensures { EachRunOfCodeIsOrderly }
+{}
+
+/// A program meets what is asked: in its runs an activation waits below another one, holds a monitor, and waits for a condition of it.
+pub fn example_is_met()
+    ensures { ExampleIsMet }
 {}
