@@ -1,13 +1,13 @@
 -- How many activations of a process have asked to enter a monitor, once one of them has acted.
-use Rattle.std.proofs.Common.{◌≡◌, ◌≢◌, ◌∙◌, ◌⊎◌, ◌∷◌, ◌++◌, ◌≤◌, ◌+◌, ◌==◌, ℕ, zero, suc, Bool, true, false, [], List, length, map, reverse}
-use Rattle.std.proofs.Common.{Option, Some, None, ⊎_elim, inl, inr, refl, sym, ap, subst, arith}
+use Rattle.std.proofs.Common.{◌≡◌, ◌∙◌, ◌∷◌, ◌++◌, ◌≤◌, ◌+◌, ◌==◌, ℕ, zero, suc, Bool, true, false, [], List, map, reverse}
+use Rattle.std.proofs.Common.{Option, Some, None, ⊎_elim, refl, sym, ap, subst, arith}
 use Rattle.std.proofs.lemmas.Bool.Decides.{Decides-eqb}
 use Rattle.std.proofs.lemmas.List.{reverse-append}
 use Rattle.std.specs.Prelude.{◌&&◌, not}
 use Rattle.ec_base.proofs.Stacks.{stack_parts, top_of_none}
 use Rattle.ec_base.specs.Stack.{below_of, top_of}
 use Rattle.ec_monitors.specs.Standing.{one_if}
-use Rattle.ec_world.proofs.Counting.{count_if, equal_case}
+use Rattle.ec_world.proofs.Counting.{count_if}
 use Rattle.ec_world.proofs.Members.{has_back, has_first, has_front, has_later, has_none, has_parts}
 use Rattle.ec_world.specs.declared.class.ClassNo.{ClassNo}
 use Rattle.ec_world.specs.declared.class.ClassNo.TheVariants.{Node, Program, Made, Vector}
@@ -21,14 +21,14 @@ use Rattle.ec_world.specs.declared.value.Value.{Value}
 use Rattle.ec_world.specs.Doings.{is_section, runs_inside}
 use Rattle.ec_world.specs.Group.{Has}
 use Rattle.ec_world.specs.Meaning.{ActivationMeaning}
-use Rattle.ec_world.specs.Objects.{class_at, object_at, operation_in}
+use Rattle.ec_world.specs.Objects.{object_at, operation_in}
 use Rattle.ec_world.specs.Sights.{class_if, class_of}
 use Rattle.ec_world.specs.World.{changed, finish_top, owns_of}
 use Rattle.ec_reached.proofs.Later.{Later, class_same}
 use Rattle.ec_reached.proofs.Shapes.{is_staying}
 use Rattle.ec_reached.specs.Depths.{has_asked, times_asked}
-use Rattle.ec_reached.specs.Meant.{IsDone, IsNew, IsNotCalled, StaysItself, is_coming, is_ending, is_entry}
-use Rattle.ec_reached.specs.Stacks.{Begins, Calls, EachCalls, IsCalled, IsOfProgram, IsOfSection, LowestBegins, class_on, runs_within}
+use Rattle.ec_reached.specs.Meant.{IsNotCalled, StaysItself, is_coming, is_entry}
+use Rattle.ec_reached.specs.Stacks.{Begins, Calls, EachCalls, IsCalled, LowestBegins, class_on, runs_within}
 
 -- ---- the objects of activations are there
 

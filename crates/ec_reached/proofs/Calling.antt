@@ -1,9 +1,7 @@
 -- Stacks of calls, once an activation is done, called another one, or left.
-use Rattle.std.proofs.Common.{◌≡◌, ◌∙◌, ◌∷◌, ◌++◌, ℕ, zero, suc, Bool, true, false, [], List, Option, Some, None, refl, sym, ap, subst}
-use Rattle.std.specs.Prelude.{IsSome}
-use Rattle.ec_base.proofs.Stacks.{stack_parts, top_of_none}
+use Rattle.std.proofs.Common.{◌≡◌, ◌∙◌, ◌∷◌, ◌++◌, ℕ, zero, suc, Bool, [], List, Option, Some, None, refl, sym, ap, subst}
+use Rattle.ec_base.proofs.Stacks.{stack_parts}
 use Rattle.ec_base.specs.Stack.{below_of, top_of}
-use Rattle.ec_world.specs.declared.class.ClassNo.{ClassNo}
 use Rattle.ec_world.specs.declared.class.ClassNo.TheVariants.{Program}
 use Rattle.ec_world.specs.declared.common.Common.{Common}
 use Rattle.ec_world.specs.declared.process.ProcStatus.{ProcStatus}
@@ -17,7 +15,7 @@ use Rattle.ec_world.specs.Sights.{class_of}
 use Rattle.ec_world.specs.World.{finish_top}
 use Rattle.ec_reached.proofs.Later.{Later, class_stays, inside_later, named_later}
 use Rattle.ec_reached.specs.Meant.{IsDone, StaysItself}
-use Rattle.ec_reached.specs.Stacks.{Begins, Calls, EachCalls, IsCalled, IsInitial, IsInvoked, IsOfProgram, IsOfSection, LowestBegins, RestsAs}
+use Rattle.ec_reached.specs.Stacks.{Begins, Calls, EachCalls, IsCalled, LowestBegins, RestsAs}
 use Rattle.ec_reached.specs.Stacks.{WaitsAt, class_on, is_signal, is_wait}
 use Rattle.ec_reached.specs.Meant.{is_entry}
 

@@ -1,9 +1,9 @@
 -- Reached worlds of three-address code.
-use Rattle.std.proofs.Common.{◌≡◌, ◌∙◌, ◌-◌, ◌+◌, ℕ, zero, suc, Bool, true, false, List, [], ◌∷◌, drop, map, Option, Some, None, refl, sym, ap, subst}
+use Rattle.std.proofs.Common.{◌≡◌, ◌∙◌, ◌+◌, ℕ, zero, suc, Bool, true, false, List, [], ◌∷◌, drop, map, Option, Some, None, refl, sym, ap, subst}
 use Rattle.std.proofs.Common.{arith}
 use Rattle.std.specs.Prelude.{◌&&◌, option_map, slice_get}
 use Rattle.ec_code.proofs.Walks.{silent_keeps}
-use Rattle.ec_code.specs.Activations.{Arrived, begun, code_if, code_meaning, code_silent, finished, into_variable, machine_behind, operation_at, rested}
+use Rattle.ec_code.specs.Activations.{Arrived, code_if, code_meaning, code_silent, finished, into_variable, machine_behind, operation_at, rested}
 use Rattle.ec_code.specs.Activations.{resting, walk, walk_by, with_result}
 use Rattle.ec_code.specs.Steps.{Done, Goes, Loops, Machine, NoCase, Rests, act, as_wanted, computed, decides, gives, on_numbers, on_two, operand_at}
 use Rattle.ec_code.specs.Steps.{own_field, passes, rests, stores, tested, variables_at, with_field}
@@ -29,7 +29,7 @@ use Rattle.ec_reached.proofs.Objects.{changed_kept}
 use Rattle.ec_reached.proofs.Order.{blocked_rests, monitor_fits, order_kept, reached_orderly, stack_is_calls}
 use Rattle.ec_reached.specs.Code.{CodeFits, EachCodeStays, EachCodeStops, EachRunOfCodeIsOrderly, EachRunOfCodeKeeps, EntriesOfCodeKeepOrder, LinesFit}
 use Rattle.ec_reached.specs.Code.{OpFits, OperationsFit, StopFits}
-use Rattle.ec_reached.specs.Meant.{IsDone, IsNotCalled, StaysItself, StepsStay, StepsStop, is_coming, is_end, is_ending, is_entry}
+use Rattle.ec_reached.specs.Meant.{IsDone, IsNotCalled, StaysItself, StepsStay, is_coming, is_end, is_ending, is_entry}
 
 -- ---- activations
 

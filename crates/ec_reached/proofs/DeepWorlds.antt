@@ -1,18 +1,16 @@
 -- Depths of monitors stay what has entered, entry by entry.
-use Rattle.std.proofs.Common.{◌≡◌, ◌≢◌, ◌∙◌, ◌⊎◌, ◌∷◌, ◌++◌, ◌≤◌, ◌+◌, ◌==◌, ℕ, zero, suc, Bool, true, false, [], List, length, replicate}
-use Rattle.std.proofs.Common.{Option, Some, None, ⊎_elim, inl, inr, refl, sym, ap, subst, arith}
+use Rattle.std.proofs.Common.{◌≡◌, ◌≢◌, ◌∙◌, ◌∷◌, ◌++◌, ◌≤◌, ◌+◌, ◌==◌, ℕ, zero, suc, Bool, true, false, [], List, length, replicate}
+use Rattle.std.proofs.Common.{Option, Some, None, refl, sym, ap, subst, arith}
 use Rattle.std.proofs.lemmas.Bool.Decides.{Decides-eqb}
 use Rattle.std.proofs.lemmas.List.{append-nil}
 use Rattle.std.specs.Prelude.{◌&&◌, not, slice_get, slice_set}
 use Rattle.ec_base.proofs.Stacks.{top_of-push}
 use Rattle.ec_base.specs.Stack.{below_of, top_of}
 use Rattle.ec_monitors.proofs.Depths.{each_deep}
-use Rattle.ec_monitors.specs.Laws.{DeepIf, HasDepths}
-use Rattle.ec_monitors.specs.Monitors.{Granting, depth_by, is_held_by, left}
+use Rattle.ec_monitors.specs.Laws.{HasDepths}
 use Rattle.ec_monitors.specs.Standing.{WaitsNowhere, one_if}
 use Rattle.ec_monitors.specs.declared.record.MonitorRec.{MonitorRec}
 use Rattle.ec_world.proofs.Counting.{count_if, count_none, equal_case, one_itself}
-use Rattle.ec_world.proofs.Keys.{same_or_not}
 use Rattle.ec_world.specs.declared.class.ClassRec.{ClassRec}
 use Rattle.ec_world.specs.declared.common.Common.{Common}
 use Rattle.ec_world.specs.declared.doing.Doing.{Doing}
@@ -27,7 +25,6 @@ use Rattle.ec_world.specs.declared.process.ProcStatus.TheVariants.{Ready}
 use Rattle.ec_world.specs.declared.run.RunEntry.{RunEntry}
 use Rattle.ec_world.specs.declared.stop.Effect.{Effect}
 use Rattle.ec_world.specs.declared.stop.Effect.TheVariants.{GoesOn, Calls as CallsFor, Leaves, Blocks, Ends, Fails}
-use Rattle.ec_world.specs.declared.stop.Stop.{Stop}
 use Rattle.ec_world.specs.declared.stop.Stop.TheVariants as stop
 use Rattle.ec_world.specs.declared.stop.Who.{Who}
 use Rattle.ec_world.specs.declared.value.Value.{Value}
@@ -35,7 +32,6 @@ use Rattle.ec_world.specs.declared.value.ValueType.{ValueType}
 use Rattle.ec_world.specs.declared.world.World.{World}
 use Rattle.ec_world.specs.Doings.{doing_of, is_inside, is_section, runs_inside}
 use Rattle.ec_world.specs.Follows.{IsKept}
-use Rattle.ec_world.specs.Group.{Has}
 use Rattle.ec_world.specs.declared.event.Event.{Event}
 use Rattle.ec_world.specs.Meaning.{ActivationMeaning}
 use Rattle.ec_world.specs.Moves.{OperatorMove}
@@ -46,19 +42,19 @@ use Rattle.ec_world.specs.Sights.{class_of, sight_of}
 use Rattle.ec_world.specs.World.{Action, GoOn, advanced, all_readied, begun_for, changed, finish_top, given_up, owns_of, settled, stack_at, who_of}
 use Rattle.ec_reached.proofs.Asking.{AllThere, IsObject, all_there, asked_later, asked_owns, asked_push, asks, begun_none, below_calls, come_asks}
 use Rattle.ec_reached.proofs.Asking.{coming_asks, left_asked, lowest_alone, lowest_outside, may_ask, may_same, not_pending, stay_asked, within_later}
-use Rattle.ec_reached.proofs.Deepening.{MayDo, MayEnter, MayLeave, NowhereIn, balance, each_none, each_none_before, given_other, is_enters, is_leaving}
+use Rattle.ec_reached.proofs.Deepening.{MayDo, MayLeave, NowhereIn, balance, each_none, each_none_before, given_other, is_enters, is_leaving}
 use Rattle.ec_reached.proofs.Depths.{deep, deep_holds, nowhere_deep}
-use Rattle.ec_reached.proofs.Doing.{Does, does, given_classes}
-use Rattle.ec_reached.proofs.Later.{Later, Stays, later_then, same_later, stays_by}
-use Rattle.ec_reached.proofs.Monitors.{EachGood, Holds, first_holds, kept_good, monitor_in, nowhere}
-use Rattle.ec_reached.proofs.Procs.{EachAt, all_length, all_none, both_none, each_push, each_readied, each_set, none_behind, set_none}
+use Rattle.ec_reached.proofs.Doing.{does, given_classes}
+use Rattle.ec_reached.proofs.Later.{Later, later_then, stays_by}
+use Rattle.ec_reached.proofs.Monitors.{Holds, first_holds, kept_good, monitor_in, nowhere}
+use Rattle.ec_reached.proofs.Procs.{EachAt, all_none, both_none, each_push, each_readied, each_set, none_behind, set_none}
 use Rattle.ec_reached.proofs.Shapes.{enters_inside, enters_there, is_staying, keeps_top, leaves_on, none_given, stays_on}
 use Rattle.ec_reached.proofs.Stacking.{Fits, first_fits, kept}
 use Rattle.ec_reached.proofs.Steps.{Acting, IsThere, by_action, by_entries, by_move, by_silent, is_there}
 use Rattle.ec_reached.proofs.Table.{enters, finishes, returns, returns_inside}
 use Rattle.ec_reached.specs.Depths.{DepthsFit, MonitorFits, asked_of, times_asked, times_asked_if}
 use Rattle.ec_reached.specs.Meant.{IsNotCalled, StaysItself, StepsStay, StepsStop, is_coming, is_end, is_ending, is_entry}
-use Rattle.ec_reached.specs.Stacks.{Begins, Calls, EachCalls, LowestBegins, class_on, runs_within}
+use Rattle.ec_reached.specs.Stacks.{Begins, EachCalls, LowestBegins, class_on, runs_within}
 
 -- no monitors are there at first
 first_none : (n i : ℕ) → monitor_if (slice_get (replicate n node_object ++ program_object ∷ []) i) ≡ None

@@ -1,15 +1,13 @@
 -- What an action makes of how deep processes are in monitors, by its doing; and what a failed process gives up.
-use Rattle.std.proofs.Common.{◌≡◌, ◌≢◌, ◌∙◌, ◌⊎◌, ◌∷◌, ◌++◌, ◌≤◌, ◌+◌, ◌==◌, ℕ, suc, Bool, true, false, [], List, length, Option, Some, None}
+use Rattle.std.proofs.Common.{◌≡◌, ◌≢◌, ◌∙◌, ◌⊎◌, ◌∷◌, ◌≤◌, ◌+◌, ◌==◌, ℕ, Bool, true, false, [], List, length, Option, Some, None}
 use Rattle.std.proofs.Common.{⊎_elim, inl, inr, refl, sym, ap, subst, arith}
 use Rattle.std.proofs.lemmas.Bool.Decides.{nat_tests, Decides-eqb}
 use Rattle.std.specs.Prelude.{if◌then◌else◌, nat_lt}
 use Rattle.ec_monitors.proofs.Counting.{nobody_lost}
-use Rattle.ec_monitors.specs.Laws.{DeepIf, HasDepths}
-use Rattle.ec_monitors.specs.Monitors.{Granting, depth_by, dropped, entered, is_held_by, is_hold_of, left, made, signalled, waited}
+use Rattle.ec_monitors.specs.Monitors.{Granting, depth_by, dropped, is_held_by, left, signalled, waited}
 use Rattle.ec_monitors.specs.Standing.{WaitsNowhere, one_if}
-use Rattle.ec_monitors.specs.declared.record.Hold.{Hold}
 use Rattle.ec_monitors.specs.declared.record.MonitorRec.{MonitorRec}
-use Rattle.ec_world.proofs.Counting.{count_if, count_none, equal_case, if_case, one_itself}
+use Rattle.ec_world.proofs.Counting.{count_if, equal_case, if_case}
 use Rattle.ec_world.proofs.Members.{has_none, has_parts}
 use Rattle.ec_world.specs.declared.class.ClassRec.{ClassRec}
 use Rattle.ec_world.specs.declared.common.Common.{Common}

@@ -8,12 +8,12 @@ use Rattle.ec_monitors.proofs.Standing.{entering-push}
 use Rattle.ec_monitors.specs.Monitors.{Granting, depth_by, dropped, enter_by, enter_held, entered, first_of_entry, is_held_by, is_hold_of, leave_by}
 use Rattle.ec_monitors.specs.Monitors.{leave_held, left, made, queue_at, released, resumed, signal_by, signalled, top_of_urgent, wait_by, waited}
 use Rattle.ec_monitors.specs.Monitors.{waiting_for}
-use Rattle.ec_monitors.specs.Standing.{WaitsNowhere, one_if, times_behind, times_entering, times_in_queues, times_waiting}
+use Rattle.ec_monitors.specs.Standing.{WaitsNowhere, one_if, times_entering, times_in_queues, times_waiting}
 use Rattle.ec_monitors.specs.declared.record.Hold.{Hold}
 use Rattle.ec_monitors.specs.declared.record.MonitorRec.{MonitorRec}
 use Rattle.ec_world.proofs.Counting.{equal_case, if_case}
-use Rattle.ec_world.specs.Outcomes.{at_condition, by_holder}
-use Rattle.ec_reached.specs.Depths.{asked_of, depth_among, depth_in, depth_in_queues}
+use Rattle.ec_world.specs.Outcomes.{by_holder}
+use Rattle.ec_reached.specs.Depths.{asked_of, depth_among, depth_in_queues}
 
 abbrev pub deep : MonitorRec → ℕ → ℕ
 deep m q = asked_of (Some m) q

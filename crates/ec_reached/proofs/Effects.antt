@@ -1,6 +1,5 @@
 -- What the effect of an action is, by its stop: what is called, where a process blocks, and which section begins.
-use Rattle.std.proofs.Common.{◌≡◌, ◌∙◌, ◌∷◌, ◌++◌, ℕ, suc, Bool, true, false, [], List, length, Option, Some, None, refl, sym, ap, subst}
-use Rattle.std.specs.Prelude.{IsSome, nat_lt}
+use Rattle.std.proofs.Common.{◌≡◌, ℕ, suc, Bool, true, false, List, length, Option, Some, None, refl, sym, ap, subst}
 use Rattle.ec_monitors.specs.Monitors.{Granting, entered, left, signalled, waited}
 use Rattle.ec_monitors.specs.declared.record.Entry.{Entry as Within}
 use Rattle.ec_monitors.specs.declared.record.Entry.TheVariants.{Entered, Queued}
@@ -22,18 +21,18 @@ use Rattle.ec_world.specs.declared.stop.Stop.{Stop}
 use Rattle.ec_world.specs.declared.stop.Stop.TheVariants as stop
 use Rattle.ec_world.specs.declared.stop.Who.{Who}
 use Rattle.ec_world.specs.declared.value.Value.{Value}
-use Rattle.ec_world.specs.Doings.{conditions_of, doing_of, is_inside, runs_inside, section_in}
-use Rattle.ec_world.specs.Objects.{class_at, object_at}
+use Rattle.ec_world.specs.Doings.{doing_of, is_inside, runs_inside, section_in}
+use Rattle.ec_world.specs.Objects.{class_at}
 use Rattle.ec_world.specs.Outcomes.{acting, at_condition, by_holder, done, entering, entry_done, entry_effect, left_behind, made_object}
 use Rattle.ec_world.specs.Outcomes.{monitor_for, monitor_of, return_done, section_on, signal_done, signal_effect, wait_done}
 use Rattle.ec_world.specs.Sights.{class_of, sight_of}
 use Rattle.ec_world.specs.Values.{new_fields}
-use Rattle.ec_reached.proofs.Doing.{Does, does}
+use Rattle.ec_reached.proofs.Doing.{does}
 use Rattle.ec_reached.proofs.Later.{Later, class_stays, inside_later}
 use Rattle.ec_reached.proofs.Objects.{added_here}
 use Rattle.ec_reached.proofs.Table.{enters, invokes, makes, names, receives, returns_section, signals, waits}
 use Rattle.ec_reached.specs.Meant.{is_entry}
-use Rattle.ec_reached.specs.Stacks.{IsCalled, IsInitial, IsInvoked, class_on, is_signal, is_wait}
+use Rattle.ec_reached.specs.Stacks.{IsCalled, class_on, is_signal, is_wait}
 
 abbrev pub stands_for : Queue → Stop → Bool
 stands_for ForEntry it = is_entry it

@@ -1,6 +1,5 @@
 -- The example meets what is asked of code.
-use Rattle.std.proofs.Common.{◌≡◌, ◌≢◌, ◌==◌, ℕ, true, false, List, [], ◌∷◌, Option, Some, None, refl, subst, sym}
-use Rattle.std.specs.Prelude.{if◌then◌else◌}
+use Rattle.std.proofs.Common.{◌≡◌, ◌==◌, ℕ, false, [], ◌∷◌, Option, Some, None, refl, subst}
 use Rattle.ec_world.proofs.Counting.{if_case}
 use Rattle.ec_world.proofs.Members.{has_one}
 use Rattle.ec_world.specs.declared.class.ClassRec.{ClassRec}

@@ -1,9 +1,9 @@
 -- Who holds a monitor after an act: who held it before, who was granted it, or who entered.
-use Rattle.std.proofs.Common.{◌≡◌, ◌≢◌, ◌∙◌, ◌⊎◌, ◌∷◌, ◌++◌, ◌≤◌, ◌+◌, ◌==◌, ℕ, zero, suc, Bool, true, false, [], List, length, Option, Some, None}
+use Rattle.std.proofs.Common.{◌≡◌, ◌∙◌, ◌⊎◌, ◌∷◌, ◌++◌, ◌==◌, ℕ, Bool, true, false, [], List, length, Option, Some, None}
 use Rattle.std.proofs.Common.{⊎_elim, inl, inr, refl, sym, ap, subst, arith}
 use Rattle.std.proofs.lemmas.Bool.Decides.{Decides-eqb}
-use Rattle.std.specs.Prelude.{◌&&◌, if◌then◌else◌, nat_lt, replicate, slice_get, slice_set}
-use Rattle.ec_base.specs.Stack.{below_of, top_of}
+use Rattle.std.specs.Prelude.{if◌then◌else◌, nat_lt, replicate, slice_set}
+use Rattle.ec_base.specs.Stack.{top_of}
 use Rattle.ec_monitors.proofs.Standing.{waiting-top}
 use Rattle.ec_monitors.specs.Monitors.{Granting, dropped, enter_by, enter_held, entered, first_of_entry, is_held_by, is_hold_of, leave_by, leave_held}
 use Rattle.ec_monitors.specs.Monitors.{left, made, released, resumed, signal_by, signalled, top_of_urgent, wait_by, waited, waiting_for}
@@ -12,8 +12,8 @@ use Rattle.ec_monitors.specs.declared.record.Entry.{Entry as Within}
 use Rattle.ec_monitors.specs.declared.record.Granted.{Granted}
 use Rattle.ec_monitors.specs.declared.record.Hold.{Hold}
 use Rattle.ec_monitors.specs.declared.record.MonitorRec.{MonitorRec}
-use Rattle.ec_world.proofs.Counting.{equal_case, if_case}
-use Rattle.ec_world.proofs.Members.{has_first, has_later, has_none, has_parts}
+use Rattle.ec_world.proofs.Counting.{if_case}
+use Rattle.ec_world.proofs.Members.{has_first, has_later}
 use Rattle.ec_world.specs.declared.class.ClassRec.{ClassRec}
 use Rattle.ec_world.specs.declared.class.ClassNo.{ClassNo}
 use Rattle.ec_world.specs.declared.common.Common.{Common}
@@ -30,9 +30,9 @@ use Rattle.ec_world.specs.declared.value.Value.{Value}
 use Rattle.ec_world.specs.Group.{Has}
 use Rattle.ec_world.specs.Objects.{class_at}
 use Rattle.ec_world.specs.Outcomes.{acting, all_granted, at_condition, by_holder, done, dropped_at, dropped_each, dropped_if, entering, entry_done}
-use Rattle.ec_world.specs.Outcomes.{left_behind, made_object, monitor_for, monitor_of, return_done, section_on, signal_done, signal_effect, wait_done}
+use Rattle.ec_world.specs.Outcomes.{left_behind, made_object, monitor_for, monitor_of, section_on, signal_done, signal_effect, wait_done}
 use Rattle.ec_world.specs.World.{given_up}
-use Rattle.ec_reached.proofs.Doing.{Does, does, drops, monitor_after}
+use Rattle.ec_reached.proofs.Doing.{does, drops, monitor_after}
 use Rattle.ec_reached.proofs.Monitors.{monitor_in, relate, relate_drop}
 
 -- ---- one act

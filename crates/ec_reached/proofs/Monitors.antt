@@ -1,5 +1,5 @@
 -- Monitors stay those of their classes, and keep what each act keeps.
-use Rattle.std.proofs.Common.{◌≡◌, ◌≢◌, ◌∙◌, ◌⊎◌, ◌∷◌, ◌++◌, ◌<◌, ℕ, zero, suc, Bool, true, false, [], List, length, replicate, Option, Some, None}
+use Rattle.std.proofs.Common.{◌≡◌, ◌≢◌, ◌∙◌, ◌∷◌, ◌++◌, ◌<◌, ℕ, zero, suc, Bool, true, false, [], List, length, replicate, Option, Some, None}
 use Rattle.std.proofs.Common.{⊎_elim, inl, inr, refl, sym, ap, subst, arith}
 use Rattle.std.proofs.lemmas.Bool.Decides.{nat_tests}
 use Rattle.std.proofs.lemmas.List.{length-replicate}
@@ -7,7 +7,7 @@ use Rattle.std.specs.Prelude.{if◌then◌else◌, nat_lt, slice_get, slice_set}
 use Rattle.ec_base.proofs.Lists.{length_set}
 use Rattle.ec_base.specs.Stack.{below_of, top_of}
 use Rattle.ec_monitors.specs.Laws.{KeptByEachAct}
-use Rattle.ec_monitors.specs.Monitors.{Granting, dropped, enter_by, enter_held, entered, first_of_entry, is_held_by, leave_by, leave_held, left, made}
+use Rattle.ec_monitors.specs.Monitors.{Granting, dropped, enter_by, enter_held, first_of_entry, is_held_by, leave_by, leave_held, left, made}
 use Rattle.ec_monitors.specs.Monitors.{released, resumed, signal_by, signalled, top_of_urgent, wait_by, waited, waiting_for}
 use Rattle.ec_monitors.specs.Standing.{WaitsNowhere}
 use Rattle.ec_monitors.specs.declared.record.Hold.{Hold}
@@ -16,7 +16,6 @@ use Rattle.ec_world.proofs.Counting.{if_case}
 use Rattle.ec_world.proofs.Keys.{same_or_not}
 use Rattle.ec_world.proofs.Queues.{unblocked_nowhere}
 use Rattle.ec_world.proofs.Worlds.{action_blocked, first_blocked, go_on_blocked, move_blocked}
-use Rattle.ec_world.specs.declared.class.ClassNo.{ClassNo}
 use Rattle.ec_world.specs.declared.class.ClassRec.{ClassRec}
 use Rattle.ec_world.specs.declared.common.Common.{Common}
 use Rattle.ec_world.specs.declared.doing.Doing.{Doing}
@@ -37,12 +36,11 @@ use Rattle.ec_world.specs.Outcomes.{Done, at_condition, by_holder, done, dropped
 use Rattle.ec_world.specs.Run.{after_entries, first_world, node_object, program_object}
 use Rattle.ec_world.specs.Sights.{class_if, class_of}
 use Rattle.ec_world.specs.Waiting.{AreBlocked, is_blocked}
-use Rattle.ec_world.specs.World.{Action, GoOn, advanced, given_up, owns_of, settled, stack_at, who_of}
-use Rattle.ec_reached.proofs.Doing.{Does, Drops, IsAdded, IsAsBefore, does, drops, dropped_classes, given_classes, monitor_after}
-use Rattle.ec_reached.proofs.Later.{Later, class_same}
-use Rattle.ec_reached.proofs.Objects.{added_other}
-use Rattle.ec_reached.proofs.Steps.{Acting, by_action, by_entries, by_move, by_silent, is_there}
-use Rattle.ec_reached.specs.Depths.{MonitorFits, MonitorsFit, OfEachMonitor}
+use Rattle.ec_world.specs.World.{Action, advanced, given_up, owns_of, settled, stack_at, who_of}
+use Rattle.ec_reached.proofs.Doing.{Does, Drops, IsAdded, IsAsBefore, does, drops, monitor_after}
+use Rattle.ec_reached.proofs.Later.{class_same}
+use Rattle.ec_reached.proofs.Steps.{by_action, by_entries, by_move, by_silent, is_there}
+use Rattle.ec_reached.specs.Depths.{MonitorFits}
 use Rattle.ec_reached.specs.Meant.{StepsStay}
 use Rattle.ec_reached.specs.Stacks.{class_on}
 
@@ -348,7 +346,6 @@ module _ (P : MonitorRec → Type 0) (kept : KeptByEachAct P) where
           good = by_move M w (λ v. EachGood P v.common) h.good (λ events x. h.good x) o k;
         };
       }
-
 
     first_at : (classes : List ClassRec) (n i : ℕ) →
         Good P (class_if classes (class_of (slice_get (replicate n node_object ++ program_object ∷ []) i)))

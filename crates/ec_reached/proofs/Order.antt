@@ -1,14 +1,14 @@
 -- Orderly worlds, from what was proved of stacks, of monitors, of depths and of queues.
-use Rattle.std.proofs.Common.{◌≡◌, ◌≢◌, ◌∙◌, ◌⊎◌, ◌∷◌, ◌≤◌, ◌+◌, ◌==◌, ℕ, zero, suc, Bool, true, false, [], List, Option, Some, None}
-use Rattle.std.proofs.Common.{⊎_elim, inl, inr, refl, sym, ap, subst, arith}
+use Rattle.std.proofs.Common.{◌≡◌, ◌∙◌, ◌∷◌, ◌≤◌, ◌==◌, ℕ, true, [], List, Option, Some, None}
+use Rattle.std.proofs.Common.{⊎_elim, refl, sym, ap, subst, arith}
 use Rattle.std.proofs.lemmas.Bool.Decides.{Decides-eqb}
 use Rattle.std.specs.Prelude.{IsSome, if◌then◌else◌, slice_get}
 use Rattle.ec_base.specs.Stack.{top_of}
 use Rattle.ec_monitors.proofs.Depths.{each_deep}
 use Rattle.ec_monitors.proofs.Keeping.{each_once, free_empty}
 use Rattle.ec_monitors.specs.Laws.{FreeIsEmpty, HasDepths, KeptByEachAct}
-use Rattle.ec_monitors.specs.Monitors.{depth_by, is_held_by, is_hold_of}
-use Rattle.ec_monitors.specs.Standing.{StandsOnce, one_if, times_entering, times_held, times_in, times_in_queues, times_waiting}
+use Rattle.ec_monitors.specs.Monitors.{depth_by, is_hold_of}
+use Rattle.ec_monitors.specs.Standing.{StandsOnce, one_if, times_held, times_in_queues, times_waiting}
 use Rattle.ec_monitors.specs.declared.record.Hold.{Hold}
 use Rattle.ec_monitors.specs.declared.record.MonitorRec.{MonitorRec}
 use Rattle.ec_world.proofs.Counting.{equal_case, one_itself}
@@ -18,11 +18,9 @@ use Rattle.ec_world.specs.declared.common.Common.{Common}
 use Rattle.ec_world.specs.declared.process.Proc.{Proc}
 use Rattle.ec_world.specs.declared.process.ProcStatus.{ProcStatus}
 use Rattle.ec_world.specs.declared.process.ProcStatus.TheVariants.{Ready, Entry, Cond, Urgent, Ended, Failed}
-use Rattle.ec_world.specs.declared.run.RunEntry.{RunEntry}
 use Rattle.ec_world.specs.declared.stop.Queue.TheVariants.{ForEntry, ForCondition, Urgently}
 use Rattle.ec_world.specs.declared.value.ValueType.{ValueType}
 use Rattle.ec_world.specs.declared.world.World.{World}
-use Rattle.ec_world.specs.Follows.{IsKept}
 use Rattle.ec_world.specs.Group.{Has}
 use Rattle.ec_world.specs.Meaning.{ActivationMeaning}
 use Rattle.ec_world.specs.Outcomes.{monitor_of}
@@ -30,21 +28,19 @@ use Rattle.ec_world.specs.Run.{after_entries, first_world}
 use Rattle.ec_world.specs.Waiting.{AreBlocked, is_blocked, times_blocked, times_blocked_if, times_queued_if}
 use Rattle.ec_world.specs.World.{Action, GoOn}
 use Rattle.ec_world.specs.Moves.{OperatorMove}
-use Rattle.ec_reached.proofs.DeepWorlds.{Whole}
-use Rattle.ec_reached.proofs.Depths.{among_none, deep, hold_none, in_queues_none}
+use Rattle.ec_reached.proofs.Depths.{among_none, deep, in_queues_none}
 use Rattle.ec_reached.proofs.Holders.{holds_if}
-use Rattle.ec_reached.proofs.Monitors.{EachGood, Good, GoodIf, Holds, first_holds, kept_good, runs_good}
-use Rattle.ec_reached.proofs.Procs.{EachAt}
-use Rattle.ec_reached.proofs.Stacking.{Fits, runs_fit}
+use Rattle.ec_reached.proofs.Monitors.{GoodIf, Holds, first_holds, kept_good, runs_good}
+use Rattle.ec_reached.proofs.Stacking.{runs_fit}
 use Rattle.ec_reached.proofs.Standing.{HoldersGoOn, Ordered, each_stands, first_ordered, kept_ordered}
 use Rattle.ec_reached.proofs.Steps.{by_entries}
-use Rattle.ec_reached.specs.Depths.{asked_of, depth_among, depth_in_queues, times_asked_if}
+use Rattle.ec_reached.specs.Depths.{asked_of, depth_among, depth_in_queues}
 use Rattle.ec_reached.specs.Laws.{EachBlockedRests, EachHoldCounts, EachMonitorFits, EachReachedIsOrderly, EachStackIsCalls, EntriesKeepOrder}
-use Rattle.ec_reached.specs.Laws.{MonitorsKeep, OrderIsKept}
-use Rattle.ec_reached.specs.Meant.{StaysItself, StepsStay, StepsStop, is_entry}
-use Rattle.ec_reached.specs.Orderly.{HoldsCount, IsWithin, Orderly}
+use Rattle.ec_reached.specs.Laws.{OrderIsKept}
+use Rattle.ec_reached.specs.Meant.{StaysItself, StepsStay, StepsStop}
+use Rattle.ec_reached.specs.Orderly.{IsWithin, Orderly}
 use Rattle.ec_reached.specs.Orderly.IsWithin.{Holding, Signalling, Waiting}
-use Rattle.ec_reached.specs.Stacks.{RestsAs, WaitsAt, is_signal, is_wait}
+use Rattle.ec_reached.specs.Stacks.{RestsAs}
 
 -- ---- both ways
 

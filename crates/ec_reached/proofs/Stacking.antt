@@ -1,8 +1,8 @@
 -- Stacks stay calls, and who is blocked rests where its status tells, entry by entry.
-use Rattle.std.proofs.Common.{◌≡◌, ◌≢◌, ◌∙◌, ◌∷◌, ◌++◌, ◌<◌, ℕ, zero, suc, Bool, true, false, [], List, length, replicate, Option, Some, None}
+use Rattle.std.proofs.Common.{◌≡◌, ◌∙◌, ◌∷◌, ◌++◌, ◌<◌, ℕ, zero, suc, Bool, true, [], List, length, replicate, Option, Some, None}
 use Rattle.std.proofs.Common.{refl, sym, ap, subst, arith}
 use Rattle.std.proofs.lemmas.List.{append-nil, length-replicate}
-use Rattle.std.specs.Prelude.{slice_get, slice_set}
+use Rattle.std.specs.Prelude.{slice_set}
 use Rattle.ec_base.proofs.Lists.{get_within, length_set}
 use Rattle.ec_base.proofs.Stacks.{top_of-push}
 use Rattle.ec_base.specs.Stack.{below_of, top_of}
@@ -14,7 +14,7 @@ use Rattle.ec_world.specs.declared.doing.Section.{Section}
 use Rattle.ec_world.specs.declared.object.ObjectRec.{ObjectRec}
 use Rattle.ec_world.specs.declared.process.Proc.{Proc}
 use Rattle.ec_world.specs.declared.process.ProcStatus.{ProcStatus}
-use Rattle.ec_world.specs.declared.process.ProcStatus.TheVariants.{Ready, Entry, Cond, Urgent, Ended, Failed}
+use Rattle.ec_world.specs.declared.process.ProcStatus.TheVariants.{Ready}
 use Rattle.ec_world.specs.declared.stop.Effect.{Effect}
 use Rattle.ec_world.specs.declared.stop.Effect.TheVariants.{GoesOn, Calls as CallsFor, Leaves, Blocks, Ends, Fails}
 use Rattle.ec_world.specs.declared.run.RunEntry.{RunEntry}
@@ -29,20 +29,19 @@ use Rattle.ec_world.specs.declared.world.World.{World}
 use Rattle.ec_world.specs.Doings.{doing_of, runs_inside}
 use Rattle.ec_world.specs.Follows.{IsKept}
 use Rattle.ec_world.specs.Meaning.{ActivationMeaning}
-use Rattle.ec_world.specs.Moves.{OperatorMove}
 use Rattle.ec_world.specs.Objects.{object_at}
 use Rattle.ec_world.specs.Outcomes.{Done, all_granted, done}
 use Rattle.ec_world.specs.Run.{after_entries, first_world, node_object, program_object}
 use Rattle.ec_world.specs.Sights.{class_of, sight_of}
-use Rattle.ec_world.specs.World.{Action, GoOn, advanced, all_readied, begun_for, changed, given_up, owns_of, settled, stack_at, waiting, who_of}
-use Rattle.ec_reached.proofs.Calling.{IsTheSame, begins_same, called_later, calls_below, calls_later, calls_left, calls_push, calls_top, done_same}
+use Rattle.ec_world.specs.World.{Action, advanced, all_readied, begun_for, changed, owns_of, settled, stack_at, waiting, who_of}
+use Rattle.ec_reached.proofs.Calling.{IsTheSame, calls_below, calls_later, calls_left, calls_push, calls_top, done_same}
 use Rattle.ec_reached.proofs.Calling.{lowest_below, lowest_later, lowest_left, lowest_push, lowest_top, rests_later}
 use Rattle.ec_reached.proofs.Doing.{does, given_classes}
 use Rattle.ec_reached.proofs.Effects.{BlocksAt, EffectFits, IsSection, SectionFits, effect_fits, started_fits}
 use Rattle.ec_reached.proofs.Later.{Later, Stays, class_stays, later_then, same_later, stays_by}
 use Rattle.ec_reached.proofs.Objects.{added_here}
 use Rattle.ec_reached.proofs.Procs.{EachAt, all_length, each_push, each_readied, each_set}
-use Rattle.ec_reached.proofs.Steps.{Acting, IsThere, by_action, by_entries, by_move, by_silent, is_there}
+use Rattle.ec_reached.proofs.Steps.{Acting, by_action, by_entries, by_move, by_silent, is_there}
 use Rattle.ec_reached.specs.Meant.{IsDone, StaysItself, StepsStay, is_entry}
 use Rattle.ec_reached.specs.Stacks.{Begins, Calls, EachCalls, IsCalled, IsLeft, IsOfSection, LowestBegins, RestsAs, StackFits, WaitsAt, class_on}
 use Rattle.ec_reached.specs.Stacks.{is_signal, is_wait}

@@ -1,21 +1,18 @@
 -- Who is blocked stands in the one queue that its status tells, entry by entry.
-use Rattle.std.proofs.Common.{◌≡◌, ◌≢◌, ◌∙◌, ◌⊎◌, ◌∷◌, ◌++◌, ◌≤◌, ◌+◌, ◌==◌, ℕ, zero, suc, Bool, true, false, [], List, length, replicate, Option}
+use Rattle.std.proofs.Common.{◌≡◌, ◌∙◌, ◌⊎◌, ◌∷◌, ◌++◌, ◌≤◌, ◌==◌, ℕ, zero, suc, Bool, true, false, [], List, length, Option}
 use Rattle.std.proofs.Common.{Some, None, ⊎_elim, inl, inr, refl, sym, ap, subst, arith}
 use Rattle.std.proofs.lemmas.Bool.Decides.{Decides-eqb}
 use Rattle.std.proofs.lemmas.List.{append-nil}
-use Rattle.std.specs.Prelude.{◌&&◌, not, nat_lt, slice_get, slice_set}
+use Rattle.std.specs.Prelude.{◌&&◌, nat_lt, slice_get, slice_set}
 use Rattle.ec_base.proofs.Stacks.{stack_parts}
 use Rattle.ec_base.specs.Stack.{below_of, top_of}
-use Rattle.ec_monitors.proofs.Depths.{each_deep}
-use Rattle.ec_monitors.specs.Laws.{HasDepths}
-use Rattle.ec_monitors.specs.Monitors.{Granting, depth_by, entered, is_held_by, is_hold_of, left, signalled, waited}
+use Rattle.ec_monitors.specs.Monitors.{Granting, entered, is_held_by, left, signalled, waited}
 use Rattle.ec_monitors.specs.Standing.{one_if, times_entering, times_in_queues, times_waiting}
 use Rattle.ec_monitors.specs.declared.record.Entry.{Entry as Within}
 use Rattle.ec_monitors.specs.declared.record.Entry.TheVariants.{Entered, Queued}
 use Rattle.ec_monitors.specs.declared.record.Granted.{Granted}
 use Rattle.ec_monitors.specs.declared.record.MonitorRec.{MonitorRec}
 use Rattle.ec_world.proofs.Counting.{equal_case, one_itself}
-use Rattle.ec_world.proofs.Keys.{same_or_not}
 use Rattle.ec_world.proofs.Members.{has_none, has_parts}
 use Rattle.ec_world.proofs.Processes.{stands}
 use Rattle.ec_world.specs.declared.class.ClassNo.{ClassNo}
@@ -26,7 +23,6 @@ use Rattle.ec_world.specs.declared.doing.Doing.TheVariants.{Passes, Prints, Defi
 use Rattle.ec_world.specs.declared.doing.Doing.TheVariants.{Moves, Unfixes, Enters, Waits, Signals, Finishes, Breaks}
 use Rattle.ec_world.specs.declared.doing.Outcome.{Outcome}
 use Rattle.ec_world.specs.declared.doing.Section.{Section}
-use Rattle.ec_world.specs.declared.event.Event.{Event}
 use Rattle.ec_world.specs.declared.object.ObjectRec.{ObjectRec}
 use Rattle.ec_world.specs.declared.process.Proc.{Proc}
 use Rattle.ec_world.specs.declared.process.ProcStatus.{ProcStatus}
@@ -36,34 +32,32 @@ use Rattle.ec_world.specs.declared.stop.Effect.{Effect}
 use Rattle.ec_world.specs.declared.stop.Effect.TheVariants.{GoesOn, Calls, Leaves, Blocks, Ends, Fails}
 use Rattle.ec_world.specs.declared.stop.Queue.{Queue}
 use Rattle.ec_world.specs.declared.stop.Queue.TheVariants.{ForEntry, ForCondition, Urgently}
-use Rattle.ec_world.specs.declared.stop.Stop.{Stop}
 use Rattle.ec_world.specs.declared.stop.Stop.TheVariants as stop
 use Rattle.ec_world.specs.declared.stop.Who.{Who}
 use Rattle.ec_world.specs.declared.value.Value.{Value}
 use Rattle.ec_world.specs.declared.value.ValueType.{ValueType}
 use Rattle.ec_world.specs.declared.world.World.{World}
-use Rattle.ec_world.specs.Doings.{conditions_of, doing_of, is_inside}
+use Rattle.ec_world.specs.Doings.{conditions_of, doing_of}
 use Rattle.ec_world.specs.Follows.{IsKept}
 use Rattle.ec_world.specs.Group.{Has}
 use Rattle.ec_world.specs.Meaning.{ActivationMeaning}
-use Rattle.ec_world.specs.Moves.{OperatorMove}
 use Rattle.ec_world.specs.Objects.{class_at}
 use Rattle.ec_world.specs.Outcomes.{Done, acting, all_granted, at_condition, by_holder, done, entering, entry_done, entry_effect, left_behind}
 use Rattle.ec_world.specs.Outcomes.{made_object, monitor_of, return_done, section_on, signal_done, signal_effect, wait_done}
 use Rattle.ec_world.specs.Run.{after_entries, first_world}
-use Rattle.ec_world.specs.Sights.{class_record, sight_of}
-use Rattle.ec_world.specs.Waiting.{AreBlocked, HasStatus, times_blocked, times_blocked_if, times_queued_if}
-use Rattle.ec_world.specs.World.{Action, GoOn, advanced, all_readied, begun_for, changed, given_up, owns_of, readied, settled, stack_at, who_of}
-use Rattle.ec_reached.proofs.Asking.{asked_push, asks, come_asks, may_ask}
-use Rattle.ec_reached.proofs.DeepWorlds.{Whole, first_monitors, kept_whole, may_leave, no_queue, runs_whole, top_ends, first_whole}
+use Rattle.ec_world.specs.Sights.{sight_of}
+use Rattle.ec_world.specs.Waiting.{times_blocked, times_blocked_if, times_queued_if}
+use Rattle.ec_world.specs.World.{advanced, all_readied, begun_for, changed, given_up, owns_of, readied, settled, stack_at, who_of}
+use Rattle.ec_reached.proofs.Asking.{asked_push, come_asks, may_ask}
+use Rattle.ec_reached.proofs.DeepWorlds.{Whole, first_monitors, kept_whole, may_leave, no_queue, top_ends, first_whole}
 use Rattle.ec_reached.proofs.Depths.{among_none, deep, hold_none, in_queues_none}
-use Rattle.ec_reached.proofs.Doing.{Does, does, monitor_after}
+use Rattle.ec_reached.proofs.Doing.{does, monitor_after}
 use Rattle.ec_reached.proofs.Holders.{HeldBy, IsGranted, given_after, granted_has, held_after, holds_if, later_has, waits_not}
 use Rattle.ec_reached.proofs.Monitors.{monitor_in}
-use Rattle.ec_reached.proofs.Procs.{EachAt, each_push, each_readied, each_set, set_parts}
-use Rattle.ec_reached.proofs.Steps.{Acting, by_action, by_entries, by_move, by_silent, is_there}
+use Rattle.ec_reached.proofs.Procs.{EachAt, each_push, each_readied, each_set}
+use Rattle.ec_reached.proofs.Steps.{Acting, by_action, by_entries, by_move, by_silent}
 use Rattle.ec_reached.proofs.Table.{waits}
-use Rattle.ec_reached.specs.Depths.{DepthsFit, EachStands, MonitorFits, asked_of, has_asked, times_asked, times_asked_if}
+use Rattle.ec_reached.specs.Depths.{EachStands, MonitorFits, asked_of, times_asked, times_asked_if}
 use Rattle.ec_reached.specs.Meant.{StaysItself, StepsStay, StepsStop, is_coming, is_entry}
 use Rattle.ec_reached.specs.Stacks.{RestsAs, WaitsAt, class_on, is_wait}
 

@@ -1,5 +1,5 @@
 -- What holds after an action, silent steps, a move by the operator, and so after entries, where it does in each of their cases.
-use Rattle.std.proofs.Common.{◌≡◌, ◌∙◌, ◌∷◌, ◌++◌, ℕ, true, false, Bool, [], List, Option, Some, None, refl, sym, ap, subst}
+use Rattle.std.proofs.Common.{◌≡◌, ◌∙◌, ◌∷◌, ◌++◌, ℕ, true, false, Bool, [], List, Option, Some, None, refl, sym, ap}
 use Rattle.std.specs.Prelude.{slice_get}
 use Rattle.ec_base.proofs.Stacks.{stack_parts}
 use Rattle.ec_base.specs.Stack.{below_of, top_of}
@@ -21,7 +21,7 @@ use Rattle.ec_world.specs.Moves.{OperatorMove, is_idle_move, moved_unless}
 use Rattle.ec_world.specs.Outcomes.{Done, acted_if, done}
 use Rattle.ec_world.specs.Run.{after_entries, after_entry}
 use Rattle.ec_world.specs.Sights.{sight_of}
-use Rattle.ec_world.specs.World.{Action, GoOn, Turn, act_if_pending, act_on, acted, advanced, given_up, go_on, go_on_unless, owns_of, ready_stack}
+use Rattle.ec_world.specs.World.{Action, GoOn, act_if_pending, act_on, acted, advanced, given_up, go_on, go_on_unless, owns_of, ready_stack}
 use Rattle.ec_world.specs.World.{settled, stack_at, stack_if_ready, who_of}
 
 module _ {A : Type 0} (M : ActivationMeaning A) where

@@ -1,5 +1,5 @@
 -- Which stop asks for what.
-use Rattle.std.proofs.Common.{◌≡◌, ◌∙◌, ℕ, Bool, true, false, List, [], ◌∷◌, Option, Some, None, refl, sym, ap, arith}
+use Rattle.std.proofs.Common.{◌≡◌, ◌∙◌, ℕ, Bool, true, false, List, ◌∷◌, Option, Some, None, refl, sym, ap, arith}
 use Rattle.std.specs.Prelude.{◌&&◌, nat_lt, IsSome, if◌then◌else◌}
 use Rattle.ec_world.specs.declared.class.ClassNo.{ClassNo}
 use Rattle.ec_world.specs.declared.class.ClassRec.{ClassRec}
@@ -10,7 +10,7 @@ use Rattle.ec_world.specs.declared.stop.Stop.TheVariants as stop
 use Rattle.ec_world.specs.declared.stop.Who.{Who}
 use Rattle.ec_world.specs.declared.value.Value.{Value}
 use Rattle.ec_world.specs.declared.value.Value.TheVariants.{Ref}
-use Rattle.ec_world.specs.Doings.{Asked, doing_of, is_inside, conditions_of, section_in, new_asks, condition_asks}
+use Rattle.ec_world.specs.Doings.{doing_of, is_inside, conditions_of, section_in, new_asks, condition_asks}
 use Rattle.ec_world.specs.Objects.{operation_in}
 use Rattle.ec_world.specs.Sights.{Sight, class_if, class_record}
 

@@ -1,6 +1,6 @@
 -- A program in whose runs an activation waits below another one, and a process waits for a condition: it makes an object of a monitored
 -- class, and invokes the operation of it, which waits.
-use Rattle.std.specs.Prelude.{◌≡◌, ℕ, true, false, List, [], ◌∷◌, Option, Some, None, replicate}
+use Rattle.std.specs.Prelude.{◌≡◌, ℕ, true, false, [], ◌∷◌, Some, None, replicate}
 use Rattle.ec_code.specs.SoundLaws.{world_after}
 use Rattle.ec_code.specs.Typing.{any}
 use Rattle.ec_code.specs.declared.activation.CodeActivation.{CodeActivation}
@@ -9,17 +9,13 @@ use Rattle.ec_code.specs.declared.code.Op.TheVariants as op
 use Rattle.ec_code.specs.declared.code.Operation.{Operation}
 use Rattle.ec_code.specs.declared.code.Parts.{Parts}
 use Rattle.ec_code.specs.declared.code.StopRow.{StopRow}
-use Rattle.ec_code.specs.declared.code.Variable.{Variable}
-use Rattle.ec_code.specs.declared.code.Variable.TheVariants.{Named, Temporary}
+use Rattle.ec_code.specs.declared.code.Variable.TheVariants.{Temporary}
 use Rattle.ec_code.specs.Example.{row}
 use Rattle.ec_monitors.specs.declared.record.Hold.{Hold}
-use Rattle.ec_monitors.specs.declared.record.MonitorRec.{MonitorRec}
 use Rattle.ec_world.specs.declared.class.ClassNo.TheVariants.{Made, Program}
 use Rattle.ec_world.specs.declared.class.ClassRec.{ClassRec}
-use Rattle.ec_world.specs.declared.process.ProcStatus.{ProcStatus}
-use Rattle.ec_world.specs.declared.process.ProcStatus.TheVariants.{Ready, Cond}
+use Rattle.ec_world.specs.declared.process.ProcStatus.TheVariants.{Cond}
 use Rattle.ec_world.specs.declared.run.RunEntry.TheVariants.{TurnOf}
-use Rattle.ec_world.specs.declared.stop.Stop.{Stop}
 use Rattle.ec_world.specs.declared.stop.Stop.TheVariants as stop
 use Rattle.ec_world.specs.declared.world.World.{World}
 use Rattle.ec_world.specs.Outcomes.{monitor_of}

@@ -1,5 +1,5 @@
 -- What holds of reached worlds, over any meaning of activations.
-use Rattle.std.specs.Prelude.{◌≡◌, ℕ, List}
+use Rattle.std.specs.Prelude.{ℕ, List}
 use Rattle.ec_monitors.specs.Laws.{FreeIsEmpty, HasDepths}
 use Rattle.ec_monitors.specs.Standing.{StandsOnce}
 use Rattle.ec_world.specs.declared.class.ClassRec.{ClassRec}
