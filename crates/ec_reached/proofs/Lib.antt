@@ -18,3 +18,6 @@ pub mod Standing
 pub mod Order
 pub mod CodeSteps
 pub mod Examples
+pub mod EmittedFits
+pub mod StatementFits
+pub mod LoweredFits

@@ -5,3 +5,4 @@ pub mod Orderly
 pub mod Laws
 pub mod Code
 pub mod Example
+pub mod Lowered

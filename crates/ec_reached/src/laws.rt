@@ -3,6 +3,7 @@ ghost use Rattle.ec_reached.specs.Code.{EachCodeStays, EachCodeStops, EachRunOfC
 ghost use Rattle.ec_reached.specs.Example.{ExampleIsMet};
 ghost use Rattle.ec_reached.specs.Laws.{EachBlockedRests, EachHoldCounts, EachMonitorFits, EachReachedIsOrderly, EachStackIsCalls};
 ghost use Rattle.ec_reached.specs.Laws.{OrderIsKept};
+ghost use Rattle.ec_reached.specs.Lowered.{EachLoweredRunIsOrderly, LoweredStops};
 
 use ec_world::activation::Activation;
 
@@ -64,4 +65,14 @@ pub fn each_run_of_code_is_orderly()
 /// A program meets what is asked: in its runs an activation waits below another one, holds a monitor, and waits for a condition of it.
 pub fn example_is_met()
     ensures { ExampleIsMet }
+{}
+
+/// What a source is lowered to enters at first lines alone, and ends a process only in operations that no class has for a call.
+pub fn lowered_stops()
+    ensures { LoweredStops }
+{}
+
+/// So each world of each run of what a source is lowered to is orderly.
+pub fn each_lowered_run_is_orderly()
+    ensures { EachLoweredRunIsOrderly }
 {}
