@@ -21,3 +21,5 @@ pub mod Examples
 pub mod EmittedFits
 pub mod StatementFits
 pub mod LoweredFits
+pub mod Conditions
+pub mod Queuing

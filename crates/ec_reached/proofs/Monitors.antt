@@ -132,7 +132,7 @@ held_conditions : (m : MonitorRec) (p : ℕ) (h : Hold) (b : Bool) → (enter_he
 held_conditions m p h true = refl
 held_conditions m p h false = refl
 
-enter_conditions : (m : MonitorRec) (p : ℕ) (o : Option Hold) → (enter_by m p o).0.conditions ≡ m.conditions
+pub enter_conditions : (m : MonitorRec) (p : ℕ) (o : Option Hold) → (enter_by m p o).0.conditions ≡ m.conditions
 enter_conditions m p None = refl
 enter_conditions m p (Some h) = held_conditions m p h _
 
@@ -140,7 +140,7 @@ less_conditions : (m : MonitorRec) (h : Hold) (b : Bool) → (leave_held m h b).
 less_conditions m h true = refl
 less_conditions m h false = released_conditions m
 
-leave_conditions : (m : MonitorRec) (o : Option Hold) → (leave_by m o).0.conditions ≡ m.conditions
+pub leave_conditions : (m : MonitorRec) (o : Option Hold) → (leave_by m o).0.conditions ≡ m.conditions
 leave_conditions m None = refl
 leave_conditions m (Some h) = less_conditions m h (nat_lt 1 h.depth)
 

@@ -31,10 +31,11 @@ use Rattle.ec_world.specs.Moves.{OperatorMove}
 use Rattle.ec_reached.proofs.Depths.{among_none, deep, in_queues_none}
 use Rattle.ec_reached.proofs.Holders.{holds_if}
 use Rattle.ec_reached.proofs.Monitors.{GoodIf, Holds, first_holds, kept_good, runs_good}
+use Rattle.ec_reached.proofs.Queuing.{action_queued, first_queued, go_queued, move_queued}
 use Rattle.ec_reached.proofs.Stacking.{runs_fit}
 use Rattle.ec_reached.proofs.Standing.{HoldersGoOn, Ordered, each_stands, first_ordered, kept_ordered}
 use Rattle.ec_reached.proofs.Steps.{by_entries}
-use Rattle.ec_reached.specs.Depths.{asked_of, depth_among, depth_in_queues}
+use Rattle.ec_reached.specs.Depths.{QueuesFit, asked_of, depth_among, depth_in_queues}
 use Rattle.ec_reached.specs.Laws.{EachBlockedRests, EachHoldCounts, EachMonitorFits, EachReachedIsOrderly, EachStackIsCalls, EntriesKeepOrder}
 use Rattle.ec_reached.specs.Laws.{OrderIsKept}
 use Rattle.ec_reached.specs.Meant.{StaysItself, StepsStay, StepsStop}
@@ -112,8 +113,9 @@ module _ {A : Type 0} (M : ActivationMeaning A) where
         holders = holders h;
       }
 
-      orderly : Ordered M classes stays w → Holds FreeIsEmpty free_empty M w → Holds StandsOnce each_once M w → Orderly M classes w
-      orderly h free once = record {
+      orderly : Ordered M classes stays w → Holds FreeIsEmpty free_empty M w → Holds StandsOnce each_once M w → QueuesFit M w →
+          Orderly M classes w
+      orderly h free once queues = record {
         of_program = h.whole.same;
         stacks = λ p proc e. (h.whole.stacks p proc e).stack;
         rest = λ p proc e. (h.whole.stacks p proc e).rests;
@@ -124,6 +126,7 @@ module _ {A : Type 0} (M : ActivationMeaning A) where
         deep = λ o m e. good_if HasDepths (monitor_of w.common o) (h.whole.good.good o).holds m e;
         depths = h.whole.depths;
         stand = each_stands M stays classes w h;
+        queues = queues;
       }
 
   -- ---- laws
@@ -158,6 +161,7 @@ module _ {A : Type 0} (M : ActivationMeaning A) where
         ((kept_ordered M stays classes advance steps stop_at).acts w p (ordered classes w stays h))
         ((kept_good FreeIsEmpty free_empty M advance steps).acts w p (holds classes w FreeIsEmpty free_empty h h.free))
         ((kept_good StandsOnce each_once M advance steps).acts w p (holds classes w StandsOnce each_once h h.once))
+        (action_queued M stays classes w p (ordered classes w stays h) h.queues)
 
     order_goes : (w : World A) (p : ℕ) → Orderly M classes w → Orderly M classes (GoOn M advance w p)
     order_goes w p h =
@@ -165,6 +169,7 @@ module _ {A : Type 0} (M : ActivationMeaning A) where
         ((kept_ordered M stays classes advance steps stop_at).goes w p (ordered classes w stays h))
         ((kept_good FreeIsEmpty free_empty M advance steps).goes w p (holds classes w FreeIsEmpty free_empty h h.free))
         ((kept_good StandsOnce each_once M advance steps).goes w p (holds classes w StandsOnce each_once h h.once))
+        (go_queued M stays classes advance steps w p (ordered classes w stays h) h.queues)
 
     order_moves : (w : World A) (o k : ℕ) → Orderly M classes w → Orderly M classes (OperatorMove w o k)
     order_moves w o k h =
@@ -172,11 +177,13 @@ module _ {A : Type 0} (M : ActivationMeaning A) where
         ((kept_ordered M stays classes advance steps stop_at).moves w o k (ordered classes w stays h))
         ((kept_good FreeIsEmpty free_empty M advance steps).moves w o k (holds classes w FreeIsEmpty free_empty h h.free))
         ((kept_good StandsOnce each_once M advance steps).moves w o k (holds classes w StandsOnce each_once h h.once))
+        (move_queued M stays classes w o k h.queues)
 
     first_order : (n : ℕ) (globals : List ValueType) → Orderly M classes (first_world M n classes globals)
     first_order n globals =
         orderly classes (first_world M n classes globals) stays (first_ordered M stays classes advance steps stop_at n globals)
         (first_holds FreeIsEmpty free_empty M n classes globals) (first_holds StandsOnce each_once M n classes globals)
+        (first_queued M stays classes n globals)
 
     keep_order : EntriesKeepOrder M advance classes
     keep_order = record { at_first = first_order; kept = record { acts = order_acts; goes = order_goes; moves = order_moves } }

@@ -106,7 +106,7 @@ module _ (c : Common) (who : Who) where
   returns given true started = leaves given started (monitor_of c who.own)
   returns given false started = refl
 
-  waits_by : (condition : ℕ) (t : Option MonitorRec) (m : MonitorRec) → t ≡ Some m →
+  pub waits_by : (condition : ℕ) (t : Option MonitorRec) (m : MonitorRec) → t ≡ Some m →
       (wait_done c who condition t).1.effect ≡ Blocks ForCondition who.own
   waits_by condition None m e = absurd cc
   waits_by condition (Some n) m e = by (by_holder who.process n (at_condition n condition (waited n condition)))

@@ -1,5 +1,6 @@
 -- Monitors of a world: when they are those of its classes, and that their depths are what has entered. (Hoare 1974.)
 use Rattle.std.specs.Prelude.{◌≡◌, ℕ, ◌+◌, ◌==◌, ◌&&◌, not, Bool, true, false, List, [], ◌∷◌, Option, Some, None, length, slice_get}
+use Rattle.ec_base.specs.Stack.{top_of}
 use Rattle.ec_monitors.specs.Monitors.{depth_by}
 use Rattle.ec_monitors.specs.Standing.{one_if, times_entering}
 use Rattle.ec_monitors.specs.declared.record.Hold.{Hold}
@@ -8,7 +9,9 @@ use Rattle.ec_world.specs.declared.class.ClassRec.{ClassRec}
 use Rattle.ec_world.specs.declared.common.Common.{Common}
 use Rattle.ec_world.specs.declared.process.Proc.{Proc}
 use Rattle.ec_world.specs.declared.stop.Queue.{Queue}
+use Rattle.ec_world.specs.declared.stop.Stop.TheVariants as stop
 use Rattle.ec_world.specs.declared.world.World.{World}
+use Rattle.ec_world.specs.Group.{Has}
 use Rattle.ec_world.specs.Meaning.{ActivationMeaning}
 use Rattle.ec_world.specs.Outcomes.{monitor_of}
 use Rattle.ec_world.specs.Waiting.{times_queued_if, times_blocked_if}
@@ -75,3 +78,18 @@ DepthsFit M w = (o q : ℕ) → times_asked_if M w.common o (slice_get w.process
 abbrev pub EachStands : {A : Type 0} → World A → Type 0
 EachStands w =
     (queue : Queue) (o q : ℕ) → times_queued_if queue (monitor_of w.common o) q ≡ times_blocked_if queue o (slice_get w.processes q)
+
+module _ {A : Type 0} (M : ActivationMeaning A) where
+  -- a process is there whose activation on top rests at a wait for the condition of this number
+  pub record WaitsFor (processes : List (Proc A)) (condition q : ℕ) : Type 0 where
+    pub proc : Proc A
+    pub there : slice_get processes q ≡ Some proc
+    pub of : A
+    pub is_top : top_of proc.activations ≡ Some of
+    pub rests : M.stop of ≡ stop.Wait condition
+
+  -- Whoever stands in the queue of a condition waits for this one.
+  abbrev pub QueuesFit : World A → Type 0
+  QueuesFit w =
+      (o condition : ℕ) (m : MonitorRec) (queue : List Hold) (h : Hold) → monitor_of w.common o ≡ Some m →
+      slice_get m.conditions condition ≡ Some queue → Has queue h → WaitsFor w.processes condition h.process

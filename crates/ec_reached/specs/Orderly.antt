@@ -11,7 +11,7 @@ use Rattle.ec_world.specs.declared.world.World.{World}
 use Rattle.ec_world.specs.Group.{Has}
 use Rattle.ec_world.specs.Meaning.{ActivationMeaning}
 use Rattle.ec_world.specs.Outcomes.{monitor_of}
-use Rattle.ec_reached.specs.Depths.{DepthsFit, EachStands, MonitorsFit, OfEachMonitor, times_asked_if}
+use Rattle.ec_reached.specs.Depths.{DepthsFit, EachStands, MonitorsFit, OfEachMonitor, QueuesFit, times_asked_if}
 use Rattle.ec_reached.specs.Meant.{IsNotCalled, is_ending}
 use Rattle.ec_reached.specs.Stacks.{BlockedRest, StacksFit}
 
@@ -29,7 +29,7 @@ module _ {A : Type 0} (M : ActivationMeaning A) where
       IsNotCalled classes (M.operation a)
 
   -- A world of a program with these classes whose stacks are calls, whose monitors are those of their classes, as deep as they were
-  -- entered, and whose blocked processes stand where their statuses tell.
+  -- entered, and whose blocked processes stand where their statuses and stops tell.
   pub record Orderly (classes : List ClassRec) (w : World A) : Type 0 where
     pub of_program : w.common.classes ≡ classes
     pub stacks : StacksFit M w
@@ -41,6 +41,7 @@ module _ {A : Type 0} (M : ActivationMeaning A) where
     pub deep : OfEachMonitor HasDepths w.common
     pub depths : DepthsFit M w
     pub stand : EachStands w
+    pub queues : QueuesFit M w
 
   -- The depth of a hold is how many activations of its process have entered.
   abbrev pub HoldsCount : World A → Type 0
