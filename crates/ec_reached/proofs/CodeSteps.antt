@@ -53,13 +53,17 @@ itself = record {
 
 -- ---- what silent steps leave alone
 
-record Left (c d : Common) : Type 0 where
+pub record Left (c d : Common) : Type 0 where
   pub nodes : d.nodes ≡ c.nodes
   pub classes : d.classes ≡ c.classes
   pub objects : (o : ℕ) → class_of (object_at d.objects o) ≡ class_of (object_at c.objects o)
   pub monitors : (o : ℕ) → monitor_of d o ≡ monitor_of c o
 
-stored_left : (c d : Common) (own n : ℕ) (v : Value) → Left c d → Left c (with_field d own n v)
+-- so it is of what was there, and of a value stored in a field
+pub itself_left : (c : Common) → Left c c
+itself_left c = record { nodes = refl; classes = refl; objects = λ o. refl; monitors = λ o. refl }
+
+pub stored_left : (c d : Common) (own n : ℕ) (v : Value) → Left c d → Left c (with_field d own n v)
 stored_left c d own n v h = record {
   nodes = h.nodes;
   classes = h.classes;
@@ -70,7 +74,7 @@ stored_left c d own n v h = record {
 left : (p : Parts) (c : Common) (a : CodeActivation) → Left c (code_silent p c a).0
 left p c a =
     silent_keeps (Left c) p c a (λ m n v h. stored_left c m.common a.own n v h)
-    (record { nodes = refl; classes = refl; objects = λ o. refl; monitors = λ o. refl })
+    (itself_left c)
 
 rested_operation : (a : CodeActivation) (r : Option Arrived) → (rested a r).operation ≡ a.operation
 rested_operation a None = refl

@@ -1,18 +1,14 @@
 -- Whoever stands in the queue of a condition waits for this one, entry by entry.
-use Rattle.std.proofs.Common.{◌≡◌, ◌≢◌, ◌∙◌, ◌⊎◌, ◌∷◌, ◌++◌, ◌≤◌, ◌+◌, ◌<◌, ◌==◌, ℕ, zero, suc, Bool, true, false, [], List, length, Option, Some, None}
+use Rattle.std.proofs.Common.{◌≡◌, ◌≢◌, ◌∙◌, ◌⊎◌, ◌∷◌, ◌++◌, ◌≤◌, ◌==◌, ℕ, zero, suc, true, false, [], List, length, Option, Some, None}
 use Rattle.std.proofs.Common.{⊎_elim, inl, inr, refl, sym, ap, subst, arith}
 use Rattle.std.proofs.lemmas.Bool.Decides.{Decides-eqb}
-use Rattle.std.specs.Prelude.{if◌then◌else◌, nat_lt, replicate, slice_get, slice_set}
-use Rattle.ec_base.proofs.Lists.{get_set_other, get_set_same, get_within}
-use Rattle.ec_base.proofs.Stacks.{top_of-push}
-use Rattle.ec_base.specs.Stack.{below_of, top_of}
-use Rattle.ec_monitors.specs.Monitors.{Granting, dropped, enter_by, enter_held, entered, is_held_by, is_hold_of, leave_by, leave_held, left, made}
+use Rattle.std.specs.Prelude.{nat_lt, replicate, slice_get, slice_set}
+use Rattle.ec_monitors.specs.Monitors.{Granting, dropped, entered, is_held_by, is_hold_of, left, made}
 use Rattle.ec_monitors.specs.Monitors.{queue_at, released, resumed, signal_by, signalled, wait_by, waited, waiting_for}
 use Rattle.ec_monitors.specs.Standing.{WaitsNowhere, one_if, times_in_queues, times_waiting}
 use Rattle.ec_monitors.specs.declared.record.Hold.{Hold}
 use Rattle.ec_monitors.specs.declared.record.MonitorRec.{MonitorRec}
 use Rattle.ec_world.proofs.Counting.{if_case, one_itself}
-use Rattle.ec_world.proofs.Keys.{same_or_not}
 use Rattle.ec_world.proofs.Members.{has_either, has_later, has_none, has_one, has_parts}
 use Rattle.ec_world.specs.declared.class.ClassRec.{ClassRec}
 use Rattle.ec_world.specs.declared.common.Common.{Common}
@@ -26,7 +22,7 @@ use Rattle.ec_world.specs.declared.stop.Who.{Who}
 use Rattle.ec_world.specs.Group.{Has}
 use Rattle.ec_world.specs.Outcomes.{at_condition, by_holder, done, dropped_at, dropped_each, monitor_for, monitor_of}
 use Rattle.ec_world.specs.World.{given_up}
-use Rattle.ec_reached.proofs.Doing.{Does, does, drops, monitor_after}
+use Rattle.ec_reached.proofs.Doing.{does, drops, monitor_after}
 use Rattle.ec_reached.proofs.Monitors.{enter_conditions, leave_conditions, monitor_in, relate, relate_drop, released_conditions}
 use Rattle.ec_reached.proofs.Procs.{set_parts}
 
@@ -178,7 +174,7 @@ given_in p owns Ends objects x i h j = j
 
 -- ---- who stands in a queue waits
 
-waiting_has : (hs : List Hold) (h : Hold) → Has hs h → 1 ≤ times_waiting h.process hs
+pub waiting_has : (hs : List Hold) (h : Hold) → Has hs h → 1 ≤ times_waiting h.process hs
 waiting_has [] h k = absurd (has_none h k)
 waiting_has (x ∷ xs) h k = ⊎_elim
     (λ (e : h ≡ x). let s : one_if (x.process == h.process) ≡ 1 = one_itself x.process h.process (ap (λ (z : Hold). z.process) (sym e)) in omega arith)

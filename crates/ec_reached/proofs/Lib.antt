@@ -23,3 +23,4 @@ pub mod StatementFits
 pub mod LoweredFits
 pub mod Conditions
 pub mod Queuing
+pub mod SourceSteps

@@ -28,6 +28,7 @@ use Rattle.ec_world.specs.Run.{after_entries, first_world}
 use Rattle.ec_world.specs.Waiting.{AreBlocked, is_blocked, times_blocked, times_blocked_if, times_queued_if}
 use Rattle.ec_world.specs.World.{Action, GoOn}
 use Rattle.ec_world.specs.Moves.{OperatorMove}
+use Rattle.ec_reached.proofs.Conditions.{waiting_has}
 use Rattle.ec_reached.proofs.Depths.{among_none, deep, in_queues_none}
 use Rattle.ec_reached.proofs.Holders.{holds_if}
 use Rattle.ec_reached.proofs.Monitors.{GoodIf, Holds, first_holds, kept_good, runs_good}
@@ -201,13 +202,6 @@ module _ {A : Type 0} (M : ActivationMeaning A) where
 depth_here : (h : Hold) → depth_by h.process (Some h) ≡ h.depth
 depth_here h = ap (λ b. if b then h.depth else 0) ((Decides-eqb h.process h.process).1 refl)
 
-has_times : (hs : List Hold) (h : Hold) → Has hs h → 1 ≤ times_waiting h.process hs
-has_times [] h k = absurd (has_none h k)
-has_times (x ∷ xs) h k = ⊎_elim
-    (λ (e : h ≡ x). let s : one_if (x.process == h.process) ≡ 1 = one_itself x.process h.process (ap (λ (z : Hold). z.process) (sym e)) in omega arith)
-    (λ (i : Has xs h). let l = has_times xs h i in omega arith)
-    (has_parts x h xs k)
-
 apart : (x h : Hold) → one_if (x.process == h.process) ≡ 0 → depth_by h.process (Some x) ≡ 0
 apart x h e =
     equal_case (λ b. one_if b ≡ 0 → (if b then x.depth else 0) ≡ 0) x.process h.process (λ s z. absurd (omega arith)) (λ s z. refl) e
@@ -221,7 +215,7 @@ among_has (x ∷ xs) h k l = ⊎_elim
     let d : depth_by h.process (Some x) ≡ h.depth = subst (λ (y : Hold). depth_by h.process (Some y) ≡ h.depth) e (depth_here h) in
     omega arith)
     (λ (i : Has xs h).
-    let t = has_times xs h i in
+    let t = waiting_has xs h i in
     let z = apart x h (omega arith) in
     let r = among_has xs h i (omega arith) in
     omega arith)
@@ -230,7 +224,7 @@ among_has (x ∷ xs) h k l = ⊎_elim
 queues_times : (qs : List (List Hold)) (queue : List Hold) (h : Hold) → Has qs queue → Has queue h → 1 ≤ times_in_queues h.process qs
 queues_times [] queue h k i = absurd (has_none queue k)
 queues_times (x ∷ xs) queue h k i = ⊎_elim
-    (λ (e : queue ≡ x). let l : 1 ≤ times_waiting h.process x = subst (λ y. 1 ≤ times_waiting h.process y) e (has_times queue h i) in omega arith)
+    (λ (e : queue ≡ x). let l : 1 ≤ times_waiting h.process x = subst (λ y. 1 ≤ times_waiting h.process y) e (waiting_has queue h i) in omega arith)
     (λ (j : Has xs queue). let l = queues_times xs queue h j i in omega arith)
     (has_parts x queue xs k)
 
@@ -239,7 +233,7 @@ queues_has : (qs : List (List Hold)) (queue : List Hold) (h : Hold) → Has qs q
 queues_has [] queue h k i l = absurd (has_none queue k)
 queues_has (x ∷ xs) queue h k i l = ⊎_elim
     (λ (e : queue ≡ x).
-    let t : 1 ≤ times_waiting h.process x = subst (λ y. 1 ≤ times_waiting h.process y) e (has_times queue h i) in
+    let t : 1 ≤ times_waiting h.process x = subst (λ y. 1 ≤ times_waiting h.process y) e (waiting_has queue h i) in
     let z = in_queues_none h.process xs (omega arith) in
     let d = among_has x h (subst (λ y. Has y h) e i) (omega arith) in
     omega arith)
@@ -274,7 +268,7 @@ within_deep m h once (Holding e) =
     omega arith
 within_deep m h once (Signalling e) =
     let o = once h.process in
-    let t = has_times m.urgent h e in
+    let t = waiting_has m.urgent h e in
     let a = among_has m.urgent h e (omega arith) in
     let c = in_queues_none h.process m.conditions (omega arith) in
     let d = not_held h.process m.holder (omega arith) in

@@ -1,5 +1,5 @@
 -- Whoever stands in the queue of a condition waits for this one, in worlds entry by entry.
-use Rattle.std.proofs.Common.{◌≡◌, ◌≢◌, ◌∙◌, ◌⊎◌, ◌∷◌, ◌++◌, ℕ, zero, suc, Bool, true, false, [], List, Option, Some, None}
+use Rattle.std.proofs.Common.{◌≡◌, ◌≢◌, ◌∙◌, ◌⊎◌, ◌∷◌, ◌++◌, ℕ, zero, suc, false, [], List, Option, Some, None}
 use Rattle.std.proofs.Common.{⊎_elim, inl, inr, refl, sym, ap, subst}
 use Rattle.std.specs.Prelude.{◌&&◌, slice_get, slice_set}
 use Rattle.ec_base.proofs.Lists.{get_set_other, get_set_same, get_within}
@@ -21,8 +21,6 @@ use Rattle.ec_world.specs.declared.object.ObjectRec.{ObjectRec}
 use Rattle.ec_world.specs.declared.process.Proc.{Proc}
 use Rattle.ec_world.specs.declared.process.ProcStatus.TheVariants.{Ready}
 use Rattle.ec_world.specs.declared.stop.Effect.{Effect}
-use Rattle.ec_world.specs.declared.stop.Effect.TheVariants.{Blocks}
-use Rattle.ec_world.specs.declared.stop.Queue.TheVariants.{ForCondition}
 use Rattle.ec_world.specs.declared.stop.Stop.TheVariants as stop
 use Rattle.ec_world.specs.declared.stop.Who.{Who}
 use Rattle.ec_world.specs.declared.value.ValueType.{ValueType}
@@ -34,7 +32,7 @@ use Rattle.ec_world.specs.Outcomes.{Done, all_granted, done, monitor_of}
 use Rattle.ec_world.specs.Run.{first_world}
 use Rattle.ec_world.specs.Sights.{sight_of}
 use Rattle.ec_world.specs.World.{Action, GoOn, advanced, all_readied, begun_for, changed, given_up, owns_of, readied, settled, stack_at, who_of}
-use Rattle.ec_reached.proofs.Conditions.{IsIn, IsInIf, does_in, given_in, nowhere_in, waits_for}
+use Rattle.ec_reached.proofs.Conditions.{IsInIf, does_in, given_in, nowhere_in, waits_for}
 use Rattle.ec_reached.proofs.DeepWorlds.{first_monitors, may_leave, top_ends}
 use Rattle.ec_reached.proofs.Monitors.{monitor_in, nowhere}
 use Rattle.ec_reached.proofs.Standing.{Ordered, waits_by}

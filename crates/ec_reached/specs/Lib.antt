@@ -6,3 +6,4 @@ pub mod Laws
 pub mod Code
 pub mod Example
 pub mod Lowered
+pub mod Source

@@ -1,9 +1,10 @@
-//! What holds of reached worlds, over any meaning of activations, and so of three-address code.
+//! What holds of reached worlds, over any meaning of activations, and so of three-address code and of a source.
 ghost use Rattle.ec_reached.specs.Code.{EachCodeStays, EachCodeStops, EachRunOfCodeIsOrderly, EachRunOfCodeKeeps, EntriesOfCodeKeepOrder};
 ghost use Rattle.ec_reached.specs.Example.{ExampleIsMet};
 ghost use Rattle.ec_reached.specs.Laws.{EachBlockedRests, EachHoldCounts, EachMonitorFits, EachReachedIsOrderly, EachStackIsCalls};
 ghost use Rattle.ec_reached.specs.Laws.{OrderIsKept};
 ghost use Rattle.ec_reached.specs.Lowered.{EachLoweredRunIsOrderly, LoweredStops};
+ghost use Rattle.ec_reached.specs.Source.{EachRunOfASourceKeeps, EachSourceStays};
 
 use ec_world::activation::Activation;
 
@@ -75,4 +76,14 @@ pub fn lowered_stops()
 /// So each world of each run of what a source is lowered to is orderly.
 pub fn each_lowered_run_is_orderly()
     ensures { EachLoweredRunIsOrderly }
+{}
+
+/// Activations of a source stay what they are, and so does what its silent steps are to leave alone.
+pub fn each_source_stays()
+    ensures { EachSourceStays }
+{}
+
+/// In each world of each run of a source stacks are calls, blocked processes rest where their statuses tell, and monitors fit.
+pub fn each_run_of_a_source_keeps()
+    ensures { EachRunOfASourceKeeps }
 {}
