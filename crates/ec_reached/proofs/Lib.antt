@@ -24,3 +24,4 @@ pub mod LoweredFits
 pub mod Conditions
 pub mod Queuing
 pub mod SourceSteps
+pub mod Agreements

@@ -7,3 +7,4 @@ pub mod Code
 pub mod Example
 pub mod Lowered
 pub mod Source
+pub mod Agreeing

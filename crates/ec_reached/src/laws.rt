@@ -1,4 +1,5 @@
 //! What holds of reached worlds, over any meaning of activations, and so of three-address code and of a source.
+ghost use Rattle.ec_reached.specs.Agreeing.{AgreeingAreOrderly, AgreeingSourcesAreOrderly};
 ghost use Rattle.ec_reached.specs.Code.{EachCodeStays, EachCodeStops, EachRunOfCodeIsOrderly, EachRunOfCodeKeeps, EntriesOfCodeKeepOrder};
 ghost use Rattle.ec_reached.specs.Example.{ExampleIsMet};
 ghost use Rattle.ec_reached.specs.Laws.{EachBlockedRests, EachHoldCounts, EachMonitorFits, EachReachedIsOrderly, EachStackIsCalls};
@@ -86,4 +87,14 @@ pub fn each_source_stays()
 /// In each world of each run of a source stacks are calls, blocked processes rest where their statuses tell, and monitors fit.
 pub fn each_run_of_a_source_keeps()
     ensures { EachRunOfASourceKeeps }
+{}
+
+/// A world that agrees with an orderly one is orderly.
+pub fn agreeing_are_orderly<A: Activation, B: Activation>()
+    ensures { AgreeingAreOrderly A.meaning B.meaning }
+{}
+
+/// So each world of a source is that agrees with the one of the program to which it is lowered.
+pub fn agreeing_sources_are_orderly()
+    ensures { AgreeingSourcesAreOrderly }
 {}
