@@ -18,13 +18,13 @@ as_few (x ∷ xs) (y ∷ ys) f h = let rest = as_few xs ys f (λ n. h (suc n)) i
 
 pub filled_has_few : (old new : Code) (fills : ℕ → Bool) → Filled old new fills → HasFew old → HasFew new
 filled_has_few old new fills F few = record {
-  operations = let many = F.many in let most = few.operations in omega (arith, many, most);
+  operations = let many = F.moved.many in let most = few.operations in omega (arith, many, most);
   stops = λ op o at.
       let low = get_within new.operations op o at in
-      let many = F.many in
+      let many = F.moved.many in
       let was = get_there old.operations op (omega (arith, low, many)) in
       let fewer = as_few was.0.stops o.stops (moved_to fills) (λ n.
-      ap (λ (p : Option OperationCode). slice_get (stops_if p) n) (sym at) ∙ F.stops op n
+      ap (λ (p : Option OperationCode). slice_get (stops_if p) n) (sym at) ∙ F.moved.stops op n
       ∙ ap (λ (p : Option OperationCode). option_map (moved_to fills) (slice_get (stops_if p) n)) was.1) in
       let most = few.stops op was.0 was.1 in
       omega (arith, fewer, most);
