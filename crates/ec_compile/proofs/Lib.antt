@@ -15,4 +15,4 @@ pub mod Literals
 pub mod Texts
 pub mod RvCompileResting
 pub mod MipsCompileResting
-pub mod MipsFilled
+pub mod MipsTightened

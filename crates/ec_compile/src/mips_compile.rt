@@ -28,6 +28,7 @@ use ec_meaning::source::Program;
 use mips_code::mips::Mips;
 use mips_delay::fill::fill;
 use mips_delay::links::has_links;
+use mips_hilo::waits::drop_waits;
 use std::alloc::{AllocError, Global};
 
 /// How many slots a frame has.
@@ -42,8 +43,9 @@ impl Target for MipsMeaning {
     ghost meaning = { mips_meaning };
 }
 
-/// Code with its delay slots filled, unless the target or the link of some jump is a value. The error is want of memory.
-fn filled(alloc: Global, code: Code) -> Result<Code, AllocError>
+/// Code without needless no-ops behind reads of HI and LO, and with its delay slots filled, unless the target or the link of some jump is a
+/// value. The error is want of memory.
+fn tightened(alloc: Global, code: Code) -> Result<Code, AllocError>
     requires low { length code.words ≤ words_end }
     requires few { HasFew code }
     ensures keeps { IfOk result (λ new. KeepsFaithful code new) }
@@ -55,12 +57,14 @@ fn filled(alloc: Global, code: Code) -> Result<Code, AllocError>
     if has_links(code.words.as_slice()) {
         return Ok(code);
     }
-    fill(alloc, &code)
+    let dropped = drop_waits(alloc, &code)?;
+    let filled = fill(alloc, &dropped)?;
+    Ok(filled)
 }
 
 /// Compiles the program of an accepted text for MIPS I. Between any two stops the machine code does what the silent steps of the
-/// three-address code do, without a trap, and behind each stop there are states from which it does. Its delay slots are filled. The error
-/// is want of memory.
+/// three-address code do, without a trap, and behind each stop there are states from which it does. No-ops behind reads of HI and LO
+/// that nothing needs are dropped, and delay slots filled. The error is want of memory.
 pub fn compile_for_mips(alloc: Global, program: &Program<'_>) -> Result<Compiled, AllocError>
     requires accepted { IsOfText (source_of program.now) }
     ensures lowered { IfOk result (λ made. IsLowered (source_of program.now) made.program) }
@@ -78,7 +82,7 @@ pub fn compile_for_mips(alloc: Global, program: &Program<'_>) -> Result<Compiled
     let parts = program.parts();
     let mut table = assign(alloc, parts, Mips.home_registers(), SLOTS)?;
     let generated = generate::<Mips, MipsMeaning>(alloc, &Mips, parts, &table)?;
-    let code = filled(alloc, generated)?;
+    let code = tightened(alloc, generated)?;
     table.bind(&code)?;
     let image = Image { code, table };
     Ok(Compiled { program, image })

@@ -65,7 +65,10 @@ fn leaves_hilo(words: &[u32], i: usize) -> bool
     ensures yes { result ≡ true → LeavesHiLo words.now i }
     ensures no { LeavesHiLo words.now i → result ≡ true }
 {
-    writes_neither(words, i) && (stops(words, i) || writes_neither(words, i + 1))
+    if !writes_neither(words, i) {
+        return false;
+    }
+    stops(words, i) || writes_neither(words, i + 1)
 }
 
 // ---- places
@@ -86,10 +89,10 @@ fn is_needless(words: &[u32], landed: &[bool], j: usize) -> bool
     if landed[j + 2] || landed[j + 3] {
         return false;
     }
-    if words[j + 2] != 0 || words[j + 3] != 0 {
+    if words[j + 2] != 0 || words[j + 3] != 0 || !reads(words[j + 1]) {
         return false;
     }
-    reads(words[j + 1]) && leaves_hilo(words, j + 4)
+    leaves_hilo(words, j + 4)
 }
 
 /// Word j + 2 is a no-op that nothing needs, the first or the second behind a read.
@@ -102,7 +105,10 @@ fn is_behind(words: &[u32], landed: &[bool], j: usize) -> bool
     ensures yes { result ≡ true → IsNeedless words.now j }
     ensures no { IsNeedless words.now j → result ≡ true }
 {
-    is_needless(words, landed, j) || (j > 0 && is_needless(words, landed, j - 1))
+    if is_needless(words, landed, j) {
+        return true;
+    }
+    j > 0 && is_needless(words, landed, j - 1)
 }
 
 /// For each word of a code, whether the second word behind it is a no-op that nothing needs.
