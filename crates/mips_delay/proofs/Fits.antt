@@ -11,7 +11,7 @@ use Rattle.ec_machine_code.specs.declared.code.Code.{Code}
 use Rattle.ec_machine_code.specs.declared.homes.Home.{Home}
 use Rattle.ec_passes.proofs.Following.{fits_so}
 use Rattle.mips_code.specs.Meaning.{mips_meaning}
-use Rattle.mips_delay.specs.Fill.{Filled, Moved}
+use Rattle.mips_delay.specs.Fill.{Moved}
 use Rattle.mips_delay.specs.Fitting.{FilledFits, KeepsFits}
 use Rattle.mips_delay.specs.Places.{moved_to}
 use Rattle.mips_machine.specs.Step.{resting}

@@ -1,24 +1,20 @@
 -- Code with its slots filled follows the code that it was.
-use Rattle.std.proofs.Common.{◌≡◌, ◌⊎◌, ℕ, suc, ◌+◌, ◌<◌, ◌≤◌, Bool, true, false, cond, List, [], ◌∷◌, length, Option, None, Some}
+use Rattle.std.proofs.Common.{◌≡◌, ◌⊎◌, ℕ, suc, ◌+◌, ◌<◌, ◌≤◌, Bool, true, false, List, [], ◌∷◌, length, None, Some}
 use Rattle.std.proofs.Common.{refl}
 use Rattle.std.proofs.Common.{sym, ap, ◌∙◌, subst, inl, inr, ⊎_elim, arith}
 use Rattle.std.proofs.lemmas.Option.{same_Some}
-use Rattle.std.specs.Option.{option_map}
 use Rattle.std.specs.Prelude.{slice_index}
 use Rattle.ec_base.specs.Bytes.{Bytes}
 use Rattle.ec_machine_code.specs.Once.{AreDifferent, IsWordOf}
 use Rattle.ec_machine_code.specs.Speaks.{words_end}
-use Rattle.ec_machine_code.specs.Stops.{address_of, words_before, words_of}
+use Rattle.ec_machine_code.specs.Stops.{address_of}
 use Rattle.ec_machine_code.specs.declared.code.Code.{Code}
-use Rattle.ec_passes.specs.Following.{EndsAlike, Follows, KeepsStops, LiesIn, SameHomes, StopsAt, Stretch}
-use Rattle.ec_target.proofs.Places.{place_of_word}
+use Rattle.ec_passes.specs.Following.{EndsAlike, Follows, KeepsStops, SameHomes, StopsAt, Stretch}
 use Rattle.ec_target.specs.Code.{pc_of, word_at}
-use Rattle.ec_target.specs.Paths.{Passes}
-use Rattle.ec_target.specs.declared.outcome.Cause.TheVariants.{Fetch, LoadDelay, Slot}
 use Rattle.mips_code.specs.Meaning.{mips_meaning}
 use Rattle.mips_delay.proofs.Filling.{filled_step}
-use Rattle.mips_delay.proofs.Kept.{kept_step, moved_word, next_drops, next_outside, next_pc, next_place, outside_drops, place_small}
-use Rattle.mips_delay.proofs.Order.{origin, origin_of_place, origin_stays, place_less, place_of_origin, place_rises, same_of_place, which}
+use Rattle.mips_delay.proofs.Kept.{kept_step, next_drops, next_outside, next_pc, next_place, outside_drops, place_small}
+use Rattle.mips_delay.proofs.Order.{origin, origin_of_place, which}
 use Rattle.mips_delay.proofs.Runs.{Run, data_with, ended, first, one, performed, somewhere, steps_on, stop_so, stop_word, twin, two}
 use Rattle.mips_delay.proofs.Stopping.{stop_moved, stop_word_of, stops_kept, word_own}
 use Rattle.mips_delay.proofs.Swap.{turns_too, went}
@@ -26,18 +22,18 @@ use Rattle.mips_delay.proofs.Standing.{apart, clash, first_stays, low_of, one_th
 use Rattle.mips_delay.specs.Alike.{AreAlike, GoOnAlike, LeadsAlike}
 use Rattle.mips_delay.specs.Fill.{FillAlike, Filled, FilledFollows, HoldSame, RestsBehind}
 use Rattle.mips_delay.specs.Fillable.{Fillable, HasNoLinks}
-use Rattle.mips_delay.specs.Places.{FillsWords, IsKept, Retargets, drops, is_within, moved_to, place}
+use Rattle.mips_delay.specs.Places.{FillsWords, IsKept, Retargets, drops, is_within, place}
 use Rattle.mips_delay.specs.Swap.{is_turn}
 use Rattle.mips_isa.specs.OneWord.{one_word}
 use Rattle.mips_isa.specs.Words.{word_of}
 use Rattle.mips_isa.specs.declared.instr.Instr.{Instr}
 use Rattle.mips_isa.specs.declared.instr.Instr.TheVariants.{Syscall}
-use Rattle.mips_machine.specs.Hazards.{is_jump, is_stop, touches}
-use Rattle.mips_machine.specs.Machine.{data_of, mips_goes, mips_place, mips_stops, state_of}
-use Rattle.mips_machine.specs.MachineLaws.{mips_stops_at, one_next}
-use Rattle.mips_machine.specs.Step.{Data, Done, Effect, Fails, Goes, MipsStep, Next, State, Stops, Traps, after, comes_to, effect, led}
-use Rattle.mips_machine.specs.Step.{linked, listed, nowhere}
-use Rattle.mips_machine.specs.Step.{performs, register_of, resting, unlisted}
+use Rattle.mips_machine.specs.Hazards.{is_jump}
+use Rattle.mips_machine.specs.Machine.{mips_goes, mips_place, mips_stops, state_of}
+use Rattle.mips_machine.specs.MachineLaws.{mips_stops_at}
+use Rattle.mips_machine.specs.Step.{Data, Goes, MipsStep, State, Stops}
+use Rattle.mips_machine.specs.Step.{listed}
+use Rattle.mips_machine.specs.Step.{register_of, resting}
 use Rattle.mips_machine.specs.Values.{plus}
 use Rattle.mips_machine.specs.declared.flow.Flow.{Flow}
 use Rattle.mips_machine.specs.declared.machine.MipsMachine.{MipsMachine}

@@ -1,7 +1,6 @@
 -- Code with its slots filled keeps what the code kept, and is no slower.
-use Rattle.std.proofs.Common.{◌≡◌, ℕ, zero, suc, ◌≤◌, Bool, List, [], ◌∷◌, length, Some, refl, ap, arith}
+use Rattle.std.proofs.Common.{◌≡◌, ℕ, zero, suc, List, [], ◌∷◌, length, Some, refl, ap, arith}
 use Rattle.ec_base.specs.Bytes.{Bytes}
-use Rattle.ec_machine_code.specs.Speaks.{words_end}
 use Rattle.ec_machine_code.specs.declared.code.Code.{Code}
 use Rattle.ec_machine_code.specs.Stops.{address_of}
 use Rattle.ec_passes.specs.Following.{Follows, StopsAt}
@@ -16,8 +15,7 @@ use Rattle.mips_delay.proofs.Follows.{behind_stop, filled_follows}
 use Rattle.mips_delay.proofs.Kept.{some_or_none}
 use Rattle.mips_delay.proofs.Runs.{goes_somewhere}
 use Rattle.mips_delay.specs.Alike.{AreAlike}
-use Rattle.mips_delay.specs.Fill.{FillAlike, Filled, FilledIsShort, FilledKeeps, HoldSame, RestsBehind, TakesNoMoreSteps}
-use Rattle.mips_delay.specs.Fillable.{HasNoLinks}
+use Rattle.mips_delay.specs.Fill.{FillAlike, FilledIsShort, FilledKeeps, HoldSame, RestsBehind, TakesNoMoreSteps}
 use Rattle.mips_machine.specs.Machine.{mips_goes, mips_place, state_of}
 use Rattle.mips_machine.specs.Step.{Data}
 use Rattle.mips_machine.specs.declared.machine.MipsMachine.{MipsMachine}

@@ -11,8 +11,11 @@ use std::alloc::{AllocError, Global};
 type Row = (&'static [u32], u32, &'static [u32], u32);
 
 const STOP: u32 = 0x0000_000C;
+
 const MFLO: u32 = 0x0000_4012;
+
 const MULT: u32 = 0x0109_0018;
+
 const SUM: u32 = 0x0108_4821;
 
 /// Sums alone come next; so they do behind the stop, where MULT stands.

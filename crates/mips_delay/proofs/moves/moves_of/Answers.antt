@@ -1,7 +1,5 @@
-use Rattle.std.proofs.Common.{◌≡◌, ℕ, suc, true, List, Bool, length, sym, subst, arith}
+use Rattle.std.proofs.Common.{suc, arith}
 use Rattle.mips_delay.proofs.Standing.{low_of}
-use Rattle.mips_delay.specs.Choice.{set_at}
-use Rattle.mips_delay.specs.Fillable.{Fillable}
 use Rattle.mips_delay.proofs.moves.moves_of.Goals as goal
 
 pub of-requires-clause-few : goal.of-requires-clause-few
