@@ -1,17 +1,16 @@
 -- What the program looks at is what makes a no-op needless.
-use Rattle.std.proofs.Common.{◌≡◌, ◌≢◌, ◌⊎◌, ℕ, suc, ◌+◌, ◌-◌, ◌<◌, ◌≤◌, Bool, true, false, List, length, Some, None, refl, sym, ap, ◌∙◌}
+use Rattle.std.proofs.Common.{◌≡◌, ◌≢◌, ℕ, suc, ◌+◌, ◌-◌, ◌<◌, ◌≤◌, Bool, true, false, List, length, Some, refl, sym, ap, ◌∙◌}
 use Rattle.std.proofs.Common.{subst, inl, inr, arith}
 use Rattle.std.specs.Prelude.{slice_index}
 use Rattle.ec_target.proofs.Places.{word_at-pc_of}
 use Rattle.ec_target.specs.Code.{pc_of, word_at}
 use Rattle.mips_delay.proofs.Deciding.{is_at}
-use Rattle.mips_delay.proofs.Standing.{clash, low_of}
+use Rattle.mips_delay.proofs.Standing.{low_of}
 use Rattle.mips_delay.specs.Fillable.{GoesTo, StandsAt}
 use Rattle.mips_hilo.specs.Waits.{IsNeedless, LeavesHiLo, Needless, WritesNeither}
-use Rattle.mips_isa.specs.OneWord.{one_word}
 use Rattle.mips_isa.specs.Words.{word_of}
 use Rattle.mips_isa.specs.declared.instr.Instr.{Instr}
-use Rattle.mips_machine.specs.Hazards.{reads_hilo, sets_hilo}
+use Rattle.mips_machine.specs.Hazards.{reads_hilo}
 
 -- ---- what stands at a word
 

@@ -1,7 +1,6 @@
 -- What stands in a code around needless no-ops, and where these are.
 use Rattle.std.proofs.Common.{◌≡◌, ◌⊎◌, ℕ, zero, suc, Bool, true, false, List, Some, refl, sym, ap, ◌∙◌, subst, inl, inr, ⊎_elim}
 use Rattle.std.proofs.lemmas.Option.{same_Some}
-use Rattle.std.specs.Prelude.{slice_index}
 use Rattle.ec_target.specs.Code.{pc_of, word_at}
 use Rattle.mips_delay.proofs.Kept.{not_true}
 use Rattle.mips_delay.proofs.Order.{GoApart}
@@ -9,15 +8,15 @@ use Rattle.mips_delay.proofs.Runs.{stop_word}
 use Rattle.mips_delay.proofs.Standing.{clash, one_there}
 use Rattle.mips_delay.proofs.Swap.{no_op, turns_too}
 use Rattle.mips_delay.specs.Fillable.{GoesTo, StandsAt}
-use Rattle.mips_delay.specs.Places.{IsKept, Retargets, drops, place}
+use Rattle.mips_delay.specs.Places.{Retargets, drops, place}
 use Rattle.mips_delay.specs.Swap.{is_turn}
-use Rattle.mips_hilo.specs.Waits.{IsNeedless, LeavesHiLo, Needless, WritesNeither}
+use Rattle.mips_hilo.specs.Waits.{LeavesHiLo, Needless}
 use Rattle.mips_hilo.specs.Words.{SkipsWords}
 use Rattle.mips_isa.specs.OneWord.{one_word}
 use Rattle.mips_isa.specs.Words.{word_of}
 use Rattle.mips_isa.specs.declared.instr.Instr.{Instr}
-use Rattle.mips_isa.specs.declared.instr.Instr.TheVariants.{ReadHiLo, Syscall}
-use Rattle.mips_machine.specs.Hazards.{is_jump, loads, reads_hilo}
+use Rattle.mips_isa.specs.declared.instr.Instr.TheVariants.{ReadHiLo}
+use Rattle.mips_machine.specs.Hazards.{loads, reads_hilo}
 
 pub read_loads : (x : Instr) → reads_hilo x ≡ true → loads x ≡ 0
 read_loads (ReadHiLo from rd) e = refl

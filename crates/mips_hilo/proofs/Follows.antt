@@ -1,6 +1,6 @@
 -- Code without its needless no-ops follows the code that it was.
-use Rattle.std.proofs.Common.{◌≡◌, ◌⊎◌, ℕ, suc, ◌+◌, ◌≤◌, Bool, true, false, List, [], ◌∷◌, length, None, Some, refl}
-use Rattle.std.proofs.Common.{sym, ap, ◌∙◌, subst, inl, inr, ⊎_elim, arith}
+use Rattle.std.proofs.Common.{◌≡◌, ℕ, suc, ◌+◌, ◌≤◌, Bool, true, false, List, [], ◌∷◌, length, None, Some, refl}
+use Rattle.std.proofs.Common.{sym, ap, ◌∙◌, subst, inl, ⊎_elim, arith}
 use Rattle.std.proofs.lemmas.Option.{same_Some}
 use Rattle.std.specs.Prelude.{slice_index}
 use Rattle.ec_base.specs.Bytes.{Bytes}
@@ -24,13 +24,13 @@ use Rattle.mips_delay.specs.Places.{drops, place}
 use Rattle.mips_delay.specs.Swap.{is_turn}
 use Rattle.mips_hilo.proofs.Facts.{Was, go_apart, plain_kept, stop_stays, was_at}
 use Rattle.mips_hilo.proofs.Going.{gone_step, kept_step}
-use Rattle.mips_hilo.specs.Alike.{AgesAlike, AreAlike, LongSince, Same}
+use Rattle.mips_hilo.specs.Alike.{AreAlike, LongSince}
 use Rattle.mips_hilo.specs.Dropped.{DropAlike, Dropped, DroppedFollows, DroppedHasNoLinks, DroppedIsShort, DroppedKeeps}
 use Rattle.mips_hilo.specs.Words.{SkipsWords}
 use Rattle.mips_isa.specs.Words.{word_of}
 use Rattle.mips_isa.specs.declared.instr.Instr.{Instr}
 use Rattle.mips_isa.specs.declared.instr.Instr.TheVariants.{BranchIf, BranchOnZero, J, Syscall}
-use Rattle.mips_machine.specs.Machine.{mips_goes, mips_place, mips_stops, state_of}
+use Rattle.mips_machine.specs.Machine.{mips_place, mips_stops, state_of}
 use Rattle.mips_machine.specs.MachineLaws.{mips_stops_at}
 use Rattle.mips_machine.specs.Step.{Data, Goes, MipsStep, State, Stops, listed, register_of, resting}
 use Rattle.mips_machine.specs.declared.flow.Flow.{Flow}

@@ -1,5 +1,5 @@
 -- A step at a word that stays is one of both codes; one at a word that goes is one of the old code alone.
-use Rattle.std.proofs.Common.{◌≡◌, ◌⊎◌, ℕ, zero, suc, ◌+◌, ◌<◌, ◌≤◌, Bool, true, false, cond, List, length, Option, None}
+use Rattle.std.proofs.Common.{◌≡◌, ◌⊎◌, ℕ, suc, ◌<◌, ◌≤◌, Bool, true, false, cond, List, length, None}
 use Rattle.std.proofs.Common.{Some, refl}
 use Rattle.std.proofs.Common.{sym, ap, ◌∙◌, subst, inl, inr, ⊎_elim, arith}
 use Rattle.std.specs.Prelude.{◌&&◌}
@@ -14,7 +14,7 @@ use Rattle.mips_delay.proofs.Swap.{and_false, behind_is, behind_plain, behind_tu
 use Rattle.mips_delay.proofs.Swap.{plain_goes, turn_does, turn_loads, turn_reads, turn_sets, turns_too, two_later, went}
 use Rattle.mips_delay.specs.Alike.{GoOnAlike}
 use Rattle.mips_delay.specs.Fillable.{GoesTo, HasNoLinks, StandsAt}
-use Rattle.mips_delay.specs.Places.{IsKept, LeadsAlong, Retargets, drops, moved_to, place}
+use Rattle.mips_delay.specs.Places.{IsKept, LeadsAlong, Retargets, drops, place}
 use Rattle.mips_delay.specs.Swap.{is_same_turn, is_turn, is_turned, turned_to}
 use Rattle.mips_hilo.proofs.Facts.{behind_gone, gone_is_nothing, read_before, read_loads, target_stays, turn_goes_on}
 use Rattle.mips_hilo.specs.Alike.{AgesAlike, AreAlike, GoneGoes, KeptGoes, LeadsAlike, LongSince, OneFree, Same, TwoFree, Waits}
@@ -29,7 +29,7 @@ use Rattle.mips_machine.specs.Step.{Data, Done, Goes, MipsStep, State, behind, c
 use Rattle.mips_machine.specs.Values.{plus}
 use Rattle.mips_machine.specs.declared.flow.Flow.{Flow}
 use Rattle.mips_machine.specs.declared.flow.Since.{Since}
-use Rattle.mips_machine.specs.declared.flow.Since.TheVariants.{JustNow, LongAgo}
+use Rattle.mips_machine.specs.declared.flow.Since.TheVariants.{JustNow}
 
 read_now : (i : Instr) (since : Since) → reads_hilo i ≡ true → behind i since ≡ JustNow
 read_now i since e = ap (λ b. cond b JustNow (later since)) e

@@ -1,8 +1,8 @@
 -- The words of a code without the no-ops that nothing needs behind reads of HI and LO.
-use Rattle.std.specs.Prelude.{◌≡◌, ◌<◌, ℕ, suc, Bool, true, false, List, length, Option, None, Some, slice_index}
+use Rattle.std.specs.Prelude.{◌≡◌, ℕ, Bool, true, false, List, length, Option, None, Some, slice_index}
 use Rattle.ec_target.specs.Code.{pc_of, word_at}
 use Rattle.mips_delay.specs.Places.{IsKept, drops, place}
-use Rattle.mips_hilo.specs.Waits.{IsNeedless, Needless}
+use Rattle.mips_hilo.specs.Waits.{IsNeedless}
 
 -- `skips` says for each word whether the second word behind it goes. Just the needless no-ops go; all else stays in its order, and jumps
 -- and branches lead along.

@@ -1,4 +1,4 @@
-use Rattle.std.proofs.Common.{◌≡◌, ℕ, suc, true, ⊎_elim}
+use Rattle.std.proofs.Common.{◌≡◌, ℕ, suc, ⊎_elim}
 use Rattle.mips_delay.proofs.Standing.{clash}
 use Rattle.mips_hilo.proofs.Deciding.{first_behind}
 use Rattle.mips_hilo.specs.Waits.{Needless}

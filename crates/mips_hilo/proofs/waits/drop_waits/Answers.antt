@@ -1,6 +1,5 @@
-use Rattle.std.proofs.Common.{◌≡◌, ◌≤◌, ℕ, suc, ◌<◌, true, false, List, Bool, length, sym, ap, ◌∙◌, subst, arith}
+use Rattle.std.proofs.Common.{◌≡◌, ℕ, ◌<◌, false, List, Bool, length, sym, ap, ◌∙◌, subst, arith}
 use Rattle.std.specs.Prelude.{slice_index}
-use Rattle.ec_machine_code.specs.Speaks.{words_end}
 use Rattle.ec_machine_code.specs.declared.code.Code.{Code}
 use Rattle.mips_delay.specs.Choice.{set_at}
 use Rattle.mips_delay.specs.Places.{IsKept, drops, place}
