@@ -1,5 +1,5 @@
 -- Either the code is as it was, or each pass keeps what it promises.
-use Rattle.std.proofs.Common.{length, sym, subst, arith}
+use Rattle.std.proofs.Common.{sym, subst, arith}
 use Rattle.ec_compile.proofs.MipsTightened.{moved_has_few}
 use Rattle.ec_compile.proofs.mips_compile.tightened.Goals as goal
 use Rattle.mips_delay.proofs.Fits.{filled_fits}
