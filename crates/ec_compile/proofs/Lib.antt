@@ -15,3 +15,4 @@ pub mod Literals
 pub mod Texts
 pub mod RvCompileResting
 pub mod MipsCompileResting
+pub mod MipsTightened

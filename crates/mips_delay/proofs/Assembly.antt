@@ -14,7 +14,7 @@ use Rattle.mips_delay.proofs.Kept.{next_place, not_true, outside_drops}
 use Rattle.mips_delay.proofs.Order.{place_less, same_or_not}
 use Rattle.mips_delay.proofs.Standing.{clash, low_of, one_there, turn_not_moves, turn_not_nothing}
 use Rattle.mips_delay.specs.Choice.{IsMoved, Stands}
-use Rattle.mips_delay.specs.Fill.{Filled}
+use Rattle.mips_delay.specs.Fill.{Filled, Moved}
 use Rattle.mips_delay.specs.Fillable.{Fillable}
 use Rattle.mips_delay.specs.Places.{FillsWords, IsKept, Retargets, SwapsAt, drops, is_within, moved_to, place}
 use Rattle.mips_delay.specs.Swap.{MayFill, is_turn}
@@ -218,6 +218,19 @@ module _ (fills : ℕ → Bool) (old new : List OperationCode) (many : length ne
 
 -- ---- codes
 
+pub moved_so : (old new : Code) (fills : ℕ → Bool) → length new.operations ≡ length old.operations →
+    ((op : ℕ) → op ≤ length old.operations → words_before new.operations op ≡ place fills (words_before old.operations op)) →
+    ((op : ℕ) → op < length old.operations →
+    stops_if (slice_get new.operations op) ≡ map (moved_to fills) (stops_if (slice_get old.operations op))) →
+    Moved old new fills
+moved_so old new fills many begins stops = record {
+  stops = address_so fills old.operations new.operations many begins stops;
+  begins = begins_so fills old.operations new.operations many begins stops;
+  ends = ends_so fills old.operations new.operations many begins stops;
+  whole = whole_so fills old.operations new.operations many begins stops;
+  many = many;
+}
+
 pub filled_so : (old new : Code) (fills : ℕ → Bool) → ((j : ℕ) → fills j ≡ true → Fillable old.words j) →
     ((j : ℕ) → Fillable old.words j → fills j ≡ true) → length new.words ≡ place fills (length old.words) →
     ((i : ℕ) → i < length old.words → drops fills i ≡ false → Stands old.words fills i (slice_index new.words (place fills i))) →
@@ -228,9 +241,5 @@ pub filled_so : (old new : Code) (fills : ℕ → Bool) → ((j : ℕ) → fills
     Filled old new fills
 filled_so old new fills each all long stands many begins stops = record {
   words = fills_words old.words fills each new.words all long stands;
-  stops = address_so fills old.operations new.operations many begins stops;
-  begins = begins_so fills old.operations new.operations many begins stops;
-  ends = ends_so fills old.operations new.operations many begins stops;
-  whole = whole_so fills old.operations new.operations many begins stops;
-  many = many;
+  moved = moved_so old new fills many begins stops;
 }

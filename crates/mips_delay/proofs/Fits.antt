@@ -11,8 +11,8 @@ use Rattle.ec_machine_code.specs.declared.code.Code.{Code}
 use Rattle.ec_machine_code.specs.declared.homes.Home.{Home}
 use Rattle.ec_passes.proofs.Following.{fits_so}
 use Rattle.mips_code.specs.Meaning.{mips_meaning}
-use Rattle.mips_delay.specs.Fill.{Filled}
-use Rattle.mips_delay.specs.Fitting.{FilledFits}
+use Rattle.mips_delay.specs.Fill.{Moved}
+use Rattle.mips_delay.specs.Fitting.{FilledFits, KeepsFits}
 use Rattle.mips_delay.specs.Places.{moved_to}
 use Rattle.mips_machine.specs.Step.{resting}
 use Rattle.mips_machine.specs.declared.machine.MipsMachine.{MipsMachine}
@@ -22,7 +22,7 @@ use Rattle.std.specs.Prelude.{suc}
 abbrev at_rest : MipsMachine → ℕ → MipsMachine
 at_rest m place = record { registers = m.registers; hi = m.hi; lo = m.lo; flow = resting place; many = m.many }
 
-module _ (old new : Code) (fills : ℕ → Bool) (filled : Filled old new fills) (p : Parts) (homes : List (List Home)) (n q : ℕ)
+module _ (old new : Code) (fills : ℕ → Bool) (moved : Moved old new fills) (p : Parts) (homes : List (List Home)) (n q : ℕ)
     (o : Operation) (fit : FitAt mips_meaning p old homes n q o) where
   abbrev to : ℕ
   to = moved_to fills fit.address
@@ -46,7 +46,7 @@ module _ (old new : Code) (fills : ℕ → Bool) (filled : Filled old new fills)
       is_operation = fit.stop.is_operation;
       number = fit.stop.number;
       is_number = fit.stop.is_number;
-      is_address = filled.stops n fit.stop.number ∙ ap (option_map (moved_to fills)) fit.stop.is_address;
+      is_address = moved.stops n fit.stop.number ∙ ap (option_map (moved_to fills)) fit.stop.is_address;
     };
     behind = refl;
     has = fit.has;
@@ -57,5 +57,9 @@ module _ (old new : Code) (fills : ℕ → Bool) (filled : Filled old new fills)
     typed = fit.typed;
   }
 
+-- so it is wherever words have moved with their stops
+pub moved_fits : (old new : Code) (fills : ℕ → Bool) → Moved old new fills → KeepsFits old new
+moved_fits old new fills moved p homes n place o fit = fits_there old new fills moved p homes n place o fit
+
 pub filled_fits : FilledFits
-filled_fits old new fills filled p homes n place o fit = fits_there old new fills filled p homes n place o fit
+filled_fits old new fills filled = moved_fits old new fills filled.moved

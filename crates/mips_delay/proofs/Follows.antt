@@ -1,59 +1,44 @@
 -- Code with its slots filled follows the code that it was.
-use Rattle.std.proofs.Common.{◌≡◌, ◌⊎◌, ℕ, suc, ◌+◌, ◌<◌, ◌≤◌, Bool, true, false, cond, List, [], ◌∷◌, length, Option, None, Some}
+use Rattle.std.proofs.Common.{◌≡◌, ◌⊎◌, ℕ, suc, ◌+◌, ◌<◌, ◌≤◌, Bool, true, false, List, [], ◌∷◌, length, None, Some}
 use Rattle.std.proofs.Common.{refl}
 use Rattle.std.proofs.Common.{sym, ap, ◌∙◌, subst, inl, inr, ⊎_elim, arith}
 use Rattle.std.proofs.lemmas.Option.{same_Some}
-use Rattle.std.specs.Option.{option_map}
 use Rattle.std.specs.Prelude.{slice_index}
 use Rattle.ec_base.specs.Bytes.{Bytes}
 use Rattle.ec_machine_code.specs.Once.{AreDifferent, IsWordOf}
 use Rattle.ec_machine_code.specs.Speaks.{words_end}
-use Rattle.ec_machine_code.specs.Stops.{address_of, words_before, words_of}
+use Rattle.ec_machine_code.specs.Stops.{address_of}
 use Rattle.ec_machine_code.specs.declared.code.Code.{Code}
-use Rattle.ec_passes.specs.Following.{EndsAlike, Follows, KeepsStops, LiesIn, SameHomes, StopsAt, Stretch}
-use Rattle.ec_target.proofs.Places.{place_of_word}
+use Rattle.ec_passes.specs.Following.{EndsAlike, Follows, KeepsStops, SameHomes, StopsAt, Stretch}
 use Rattle.ec_target.specs.Code.{pc_of, word_at}
-use Rattle.ec_target.specs.Paths.{Passes}
-use Rattle.ec_target.specs.declared.outcome.Cause.TheVariants.{Fetch, LoadDelay, Slot}
 use Rattle.mips_code.specs.Meaning.{mips_meaning}
 use Rattle.mips_delay.proofs.Filling.{filled_step}
-use Rattle.mips_delay.proofs.Kept.{kept_step, moved_word, next_drops, next_outside, next_pc, next_place, outside_drops, place_small}
-use Rattle.mips_delay.proofs.Order.{origin, origin_of_place, origin_stays, place_less, place_of_origin, place_rises, same_of_place, which}
-use Rattle.mips_delay.proofs.Swap.{does_on, turns_too, went}
-use Rattle.mips_delay.proofs.Standing.{clash, first_stays, low_of, one_there, plain_kept, single, slot_of, stays, there}
+use Rattle.mips_delay.proofs.Kept.{kept_step, next_drops, next_outside, next_pc, next_place, outside_drops, place_small}
+use Rattle.mips_delay.proofs.Order.{origin, origin_of_place, which}
+use Rattle.mips_delay.proofs.Runs.{Run, data_with, ended, first, one, performed, somewhere, steps_on, stop_so, stop_word, twin, two}
+use Rattle.mips_delay.proofs.Stopping.{stop_moved, stop_word_of, stops_kept, word_own}
+use Rattle.mips_delay.proofs.Swap.{turns_too, went}
+use Rattle.mips_delay.proofs.Standing.{apart, clash, first_stays, low_of, one_there, plain_kept, slot_of, stays, there}
 use Rattle.mips_delay.specs.Alike.{AreAlike, GoOnAlike, LeadsAlike}
 use Rattle.mips_delay.specs.Fill.{FillAlike, Filled, FilledFollows, HoldSame, RestsBehind}
 use Rattle.mips_delay.specs.Fillable.{Fillable, HasNoLinks}
-use Rattle.mips_delay.specs.Places.{FillsWords, IsKept, Retargets, drops, is_within, moved_to, place}
+use Rattle.mips_delay.specs.Places.{FillsWords, IsKept, Retargets, drops, is_within, place}
 use Rattle.mips_delay.specs.Swap.{is_turn}
 use Rattle.mips_isa.specs.OneWord.{one_word}
 use Rattle.mips_isa.specs.Words.{word_of}
 use Rattle.mips_isa.specs.declared.instr.Instr.{Instr}
 use Rattle.mips_isa.specs.declared.instr.Instr.TheVariants.{Syscall}
-use Rattle.mips_machine.specs.Hazards.{is_jump, is_stop, touches}
-use Rattle.mips_machine.specs.Machine.{data_of, mips_goes, mips_place, mips_stops, state_of}
-use Rattle.mips_machine.specs.MachineLaws.{mips_stops_at, one_next}
-use Rattle.mips_machine.specs.Step.{Data, Done, Effect, Fails, Goes, MipsStep, Next, State, Stops, Traps, after, comes_to, effect, led}
-use Rattle.mips_machine.specs.Step.{linked, listed, nowhere}
-use Rattle.mips_machine.specs.Step.{performs, register_of, resting, unlisted}
+use Rattle.mips_machine.specs.Hazards.{is_jump}
+use Rattle.mips_machine.specs.Machine.{mips_goes, mips_place, mips_stops, state_of}
+use Rattle.mips_machine.specs.MachineLaws.{mips_stops_at}
+use Rattle.mips_machine.specs.Step.{Data, Goes, MipsStep, State, Stops}
+use Rattle.mips_machine.specs.Step.{listed}
+use Rattle.mips_machine.specs.Step.{register_of, resting}
 use Rattle.mips_machine.specs.Values.{plus}
 use Rattle.mips_machine.specs.declared.flow.Flow.{Flow}
 use Rattle.mips_machine.specs.declared.machine.MipsMachine.{MipsMachine}
 
 -- ---- states and machines
-
-abbrev data_with : List ℕ → ℕ → ℕ → Bytes → Data
-data_with registers hi lo bytes = record { registers = registers; hi = hi; lo = lo; bytes = bytes }
-
-abbrev state_with : Data → Flow → State
-state_with held flow = record { held = held; flow = flow }
-
--- a state that holds what a machine does is one of a machine
-twin : (u : MipsMachine) (d : Bytes) (v : State) → data_of u d ≡ v.held → (n : MipsMachine) × (state_of n d ≡ v)
-twin u d v e = (
-  record { registers = u.registers; hi = u.hi; lo = u.lo; flow = v.flow; many = u.many },
-  ap (λ (h : Data). state_with h v.flow) e,
-)
 
 -- states that are alike are so with any memory
 pub with_memory : (old : List ℕ) (fills : ℕ → Bool) (s t : MipsMachine) (b c : Bytes) → AreAlike old fills (state_of s b) (state_of t b) →
@@ -71,75 +56,13 @@ with_memory old fills s t b c a = record {
   onward = a.onward;
 }
 
-performed : (code : List ℕ) (s : State) (n : Next) (x : Instr) → word_at code s.flow.pc ≡ Some (word_of x) → MipsStep code s n →
-    performs x s ≡ n
-performed code s n x at step = sym (one_next code s n (performs x s) step (listed x at refl))
-
--- a state from which a step goes on, or at which a stop is, stands at a word
-pub goes_somewhere : (code : List ℕ) (s u : State) → MipsStep code s (Goes u) → word_at code s.flow.pc ≡ None → ⊥
-goes_somewhere code s u step none = let e = one_next code s (Goes u) (Traps Fetch) step (nowhere none refl) in cc
-
--- whether a stop stops is what is pending
-stop_so : (s t : State) → s.flow.delayed ≡ t.flow.delayed → s.flow.loaded ≡ t.flow.loaded → performs Syscall s ≡ performs Syscall t
-stop_so s t d l =
-    ap (λ b. cond b (Traps Slot) (cond (touches Syscall s.flow.loaded) (Traps LoadDelay) Stops)) d
-    ∙ ap (λ r. cond t.flow.delayed (Traps Slot) (cond (touches Syscall r) (Traps LoadDelay) Stops)) l
-
--- ---- a step goes on to the next place
-
-same_goes : (s t : State) → Goes s ≡ Goes t → s ≡ t
-same_goes s t e = cc
-
-comes_on : (i : Instr) (s u : State) (e : Effect) → comes_to i s e ≡ Goes u → u.flow.pc ≡ s.flow.next
-comes_on i s u (Fails c) h = absurd (cc)
-comes_on i s u (Done d) h =
-    let next : State = record { held = linked i s.flow.pc d; flow = led i s.flow (after i s.flow s.held) } in
-    ap (λ (x : State). x.flow.pc) (sym (same_goes next u h))
-
-does_next : (b : Bool) (i : Instr) (s u : State) → cond b Stops (comes_to i s (effect i s.held)) ≡ Goes u → u.flow.pc ≡ s.flow.next
-does_next true i s u h = absurd (cc)
-does_next false i s u h = comes_on i s u (effect i s.held) h
-
-steps_on : (code : List ℕ) (s u : State) → MipsStep code s (Goes u) → u.flow.pc ≡ s.flow.next
-steps_on code s u (nowhere h e) = absurd (cc)
-steps_on code s u (unlisted w h none e) = absurd (cc)
-steps_on code s u (listed i h e) = does_next (is_stop i) i s u (does_on i s u (sym e))
-
--- ---- runs
-
-abbrev Run : Code → List ℕ → MipsMachine → Bytes → MipsMachine → Bytes → Type 0
-Run code path s b n c = Passes (mips_goes code.words) mips_place path s b n c
-
-first : (code : Code) (i : ℕ) (path : List ℕ) (s : MipsMachine) (b : Bytes) (n : MipsMachine) (c : Bytes) → Run code (i ∷ path) s b n c →
-    (mips_place s ≡ pc_of i) × (u : MipsMachine) × (d : Bytes) × mips_goes code.words s b u d × Run code path u d n c
-unfolding Passes
-first code i path s b n c run = run
-
-ended : (code : Code) (s : MipsMachine) (b : Bytes) (n : MipsMachine) (c : Bytes) → Run code [] s b n c → (n ≡ s) × (c ≡ b)
-unfolding Passes
-ended code s b n c run = run
-
-one : (code : Code) (i : ℕ) (s : MipsMachine) (b : Bytes) (u : MipsMachine) (d : Bytes) → mips_place s ≡ pc_of i →
-    mips_goes code.words s b u d → Run code (i ∷ []) s b u d
-unfolding Passes
-one code i s b u d at step = (at, u, d, step, (refl, refl))
-
-two : (code : Code) (i k : ℕ) (s : MipsMachine) (b : Bytes) (u : MipsMachine) (d : Bytes) (v : MipsMachine) (e : Bytes) →
-    mips_place s ≡ pc_of i → mips_goes code.words s b u d → mips_place u ≡ pc_of k → mips_goes code.words u d v e →
-    Run code (i ∷ k ∷ []) s b v e
-unfolding Passes
-two code i k s b u d v e at step next more = (at, u, d, step, (next, v, e, more, (refl, refl)))
-
-abbrev stop_word : ℕ
-stop_word = 0x0000000C
-
 module _ (old new : Code) (fills : ℕ → Bool) (links : HasNoLinks old.words) (few : length old.words ≤ words_end) (F : Filled old new fills)
   where
     abbrev W : FillsWords old.words new.words fills
     W = F.words
 
     abbrev from : ℕ → ℕ
-    from q = origin fills (single old.words new.words fills W) q
+    from q = origin fills (apart old.words new.words fills W) q
 
     -- ---- stops
 
@@ -171,30 +94,6 @@ module _ (old new : Code) (fills : ℕ → Bool) (links : HasNoLinks old.words) 
 
     stop_stays : (i : ℕ) → word_at old.words (pc_of i) ≡ Some stop_word → drops fills i ≡ false
     stop_stays i at = outside_drops fills i (at_stop i at).outside
-
-    -- where a stop at word i goes
-    moved : (op n i : ℕ) → address_of old op n ≡ Some (pc_of i) → address_of new op n ≡ Some (pc_of (place fills i))
-    moved op n i e = F.stops op n ∙ ap (option_map (moved_to fills)) e ∙ ap Some (moved_word fills i)
-
-    record StopWord (op n a : ℕ) : Type 0 where
-      i : ℕ
-      at : a ≡ pc_of i
-      is : word_at old.words (pc_of i) ≡ Some stop_word
-      new_at : address_of new op n ≡ Some (pc_of (place fills i))
-
-    stop_word_of : (op n a : ℕ) → StopsAt mips_meaning old op n a → StopWord op n a
-    stop_word_of op n a h =
-        let z = place_of_word old.words a stop_word h.1 in
-        record {
-          i = z.0;
-          at = z.2;
-          is = ap (word_at old.words) (sym z.2) ∙ h.1;
-          new_at = moved op n z.0 (h.0 ∙ ap Some z.2);
-        }
-
-    mapped : (o : Option ℕ) (b : ℕ) → option_map (moved_to fills) o ≡ Some b → (a : ℕ) × (o ≡ Some a)
-    mapped None b e = absurd (cc)
-    mapped (Some a) b e = (a, refl)
 
     -- a stop instruction of the new code comes from one of the old code
     stop_was : (i : ℕ) → drops fills i ≡ false → word_at new.words (pc_of (place fills i)) ≡ Some stop_word →
@@ -231,66 +130,30 @@ module _ (old new : Code) (fills : ℕ → Bool) (links : HasNoLinks old.words) 
             was ∙ ap Some (sym k.0) ∙ sym at_new ∙ at_place)
             kept
 
-    from_stop : (q : ℕ) → word_at new.words (pc_of q) ≡ Some stop_word → word_at old.words (pc_of (from q)) ≡ Some stop_word
-    from_stop q at =
-        stop_was (from q) (origin_stays fills (single old.words new.words fills W) q)
-        (ap (λ k. word_at new.words (pc_of k)) (place_of_origin fills (single old.words new.words fills W) q) ∙ at)
+    -- what is left of a stop, and what was
+    stands_too : (i : ℕ) → word_at old.words (pc_of i) ≡ Some stop_word →
+        (drops fills i ≡ false) × (word_at new.words (pc_of (place fills i)) ≡ Some stop_word)
+    stands_too i at = (stop_stays i at, (at_stop i at).same)
 
     pub keeps_stops : KeepsStops mips_meaning old new
-    keeps_stops = record {
-      there = λ op n a h.
-          let z = stop_word_of op n a h in
-          (pc_of (place fills z.i), (z.new_at, (at_stop z.i z.is).same));
-      back = λ op n b e. mapped (address_of old op n) b (sym (F.stops op n) ∙ e);
-      only = λ b at.
-          let z = place_of_word new.words b stop_word at in
-          let there = from_stop z.0 (ap (word_at new.words) (sym z.2) ∙ at) in (
-            pc_of (from z.0),
-            there,
-            λ op n e. moved op n (from z.0) e
-                ∙ ap Some (ap pc_of (place_of_origin fills (single old.words new.words fills W) z.0) ∙ sym z.2),
-          );
-      apart = λ op n k m a c b h g e f.
-          let x = stop_word_of op n a h in
-          let y = stop_word_of k m c g in
-          let p : pc_of (place fills x.i) ≡ pc_of (place fills y.i) =
-          same_Some (pc_of (place fills x.i)) b (sym x.new_at ∙ e) ∙ sym (same_Some (pc_of (place fills y.i)) b (sym y.new_at ∙ f)) in
-          let same : x.i ≡ y.i = same_of_place fills x.i y.i (stop_stays x.i x.is) (stop_stays y.i y.is) (omega (arith, p)) in
-          x.at ∙ ap pc_of same ∙ sym y.at;
-      whole = λ e. F.whole ∙ ap (place fills) e ∙ sym W.long;
-      within = λ op n a b h e lies.
-          let x = stop_word_of op n a h in
-          inside op a b x.i x.at (same_Some b (pc_of (place fills x.i)) (sym e ∙ x.new_at)) (stop_stays x.i x.is) lies;
-    }
-      where
-        inside : (op a b i : ℕ) → a ≡ pc_of i → b ≡ pc_of (place fills i) → drops fills i ≡ false → LiesIn old op a → LiesIn new op b
-        inside op a b i at to kept (low, high) =
-            let begins = F.begins op in
-            let ends = F.ends op in
-            let up = place_rises fills (words_before old.operations op) i (omega (arith, low, at)) in
-            let down = place_less fills i (words_before old.operations op + words_of old op) kept (omega (arith, high, at)) in
-            (omega (arith, begins, up, to), omega (arith, ends, down, to))
+    keeps_stops = stops_kept old new fills F.moved (apart old.words new.words fills W) W.long stands_too stop_was
+
+    moved : (op n i : ℕ) → address_of old op n ≡ Some (pc_of i) → address_of new op n ≡ Some (pc_of (place fills i))
+    moved = stop_moved old new fills F.moved
+
+    own : (op q : ℕ) → IsWordOf old op (from q) → IsWordOf new op q
+    own = word_own old new fills F.moved (apart old.words new.words fills W)
 
     -- ---- runs
 
     abbrev Alike : MipsMachine → MipsMachine → Type 0
     Alike = FillAlike fills old new
 
-    own : (op q : ℕ) → IsWordOf old op (from q) → IsWordOf new op q
-    own op q (low, high) =
-        let begins = F.begins op in
-        let ends = F.ends op in
-        let is = place_of_origin fills (single old.words new.words fills W) q in
-        let up = place_rises fills (words_before old.operations op) (from q) low in
-        let down = place_less fills (from q) (words_before old.operations op + words_of old op)
-        (origin_stays fills (single old.words new.words fills W) q) high in
-        (omega (arith, begins, up, is), omega (arith, ends, down, is))
-
     -- machines behind a stop that hold the same are alike
     pub behind_stop : (op n a b : ℕ) (s t : MipsMachine) → StopsAt mips_meaning old op n a → address_of new op n ≡ Some b → RestsBehind s a →
         RestsBehind t b → HoldSame s t → Alike s t
     behind_stop op n a b s t h e (rests, at) (too, new_at) hold bytes =
-        let z = stop_word_of op n a h in
+        let z = stop_word_of old new fills F.moved op n a h in
         let is = at_stop z.i z.is in
         let to : b ≡ pc_of (place fills z.i) = same_Some b (pc_of (place fills z.i)) (sym e ∙ z.new_at) in
         let next = next_place fills z.i (outside_drops fills z.i is.outside) in
@@ -344,18 +207,6 @@ module _ (old new : Code) (fills : ℕ → Bool) (links : HasNoLinks old.words) 
 
     -- ---- one step, outside of filled places
 
-    -- a run of the old code to a stop begins at a word
-    somewhere : (path : List ℕ) (s : MipsMachine) (b : Bytes) (n : MipsMachine) (c : Bytes) → Run old path s b n c → mips_stops old.words n c →
-        word_at old.words s.flow.pc ≡ None → ⊥
-    somewhere [] s b n c run stop none =
-        let same : n.flow.pc ≡ s.flow.pc = ap (λ (m : MipsMachine). m.flow.pc) (ended old s b n c run).0 in
-        stands_not (word_at old.words s.flow.pc) (ap (word_at old.words) (sym same) ∙ mips_stops_at old.words n c stop) none
-      where
-        stands_not : (o : Option ℕ) → o ≡ Some stop_word → o ≡ None → ⊥
-        stands_not o e f = cc
-    somewhere (i ∷ path) s b n c run stop none =
-        let z = first old i path s b n c run in goes_somewhere old.words (state_of s b) (state_of z.1 z.2) z.3 none
-
     module _ (s t : MipsMachine) (bytes : Bytes) (last : MipsMachine) (memory : Bytes) (stop : mips_stops old.words last memory)
         (a : AreAlike old.words fills (state_of s bytes) (state_of t bytes)) where
       abbrev j : ℕ
@@ -372,7 +223,7 @@ module _ (old new : Code) (fills : ℕ → Bool) (links : HasNoLinks old.words) 
       j_is i at = let here = a.old_at in omega (arith, here, at)
 
       from_j : from (place fills j) ≡ j
-      from_j = origin_of_place fills (single old.words new.words fills W) j j_stays
+      from_j = origin_of_place fills (apart old.words new.words fills W) j j_stays
 
       kept_stretch : (i : ℕ) (path : List ℕ) → fills j ≡ false → Run old (i ∷ path) s bytes last memory → To (i ∷ path)
       kept_stretch i path unfilled run =
@@ -380,7 +231,7 @@ module _ (old new : Code) (fills : ℕ → Bool) (links : HasNoLinks old.words) 
           let k = kept_step old.words new.words fills W links few (state_of s bytes) (state_of t bytes) (state_of z.1 z.2) a unfilled z.3 in
           let b : AreAlike old.words fills (state_of z.1 z.2) k.0 = ⊎_elim
           (λ (b : AreAlike old.words fills (state_of z.1 z.2) k.0). b)
-          (λ (none : word_at old.words z.1.flow.pc ≡ None). absurd (somewhere path z.1 z.2 last memory z.4 stop none))
+          (λ (none : word_at old.words z.1.flow.pc ≡ None). absurd (somewhere old path z.1 z.2 last memory z.4 stop none))
           k.2 in
           let n = twin z.1 z.2 k.0 b.held in
           record {
@@ -472,7 +323,7 @@ module _ (old new : Code) (fills : ℕ → Bool) (links : HasNoLinks old.words) 
               a filled to_u to_v to_w in
               let b : AreAlike old.words fills (state_of w f) z.1 = ⊎_elim
               (λ (b : AreAlike old.words fills (state_of w f) z.1). b)
-              (λ (none : word_at old.words w.flow.pc ≡ None). absurd (somewhere path w f last memory run stop none))
+              (λ (none : word_at old.words w.flow.pc ≡ None). absurd (somewhere old path w f last memory run stop none))
               z.5 in
               let m = twin t bytes z.0 (sym z.4) in
               let n = twin w f z.1 b.held in
@@ -500,7 +351,7 @@ module _ (old new : Code) (fills : ℕ → Bool) (links : HasNoLinks old.words) 
                     (λ (g : (q ≡ suc (place fills j)) ⊎ ⊥). ⊎_elim
                     (λ (same : q ≡ suc (place fills j)).
                     inr (inl (ap from (same ∙ sym second_place)
-                    ∙ origin_of_place fills (single old.words new.words fills W) (suc j) next_stays ∙ k_is)))
+                    ∙ origin_of_place fills (apart old.words new.words fills W) (suc j) next_stays ∙ k_is)))
                     (λ (none : ⊥). absurd none)
                     g)
                     h;

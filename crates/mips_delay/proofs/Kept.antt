@@ -28,11 +28,11 @@ use Rattle.mips_delay.specs.Swap.{is_same_turn, is_turn, is_turned, turned_to}
 
 -- ---- tests that were passed
 
-record Passed (i : Instr) (s t : State) : Type 0 where
-  slot : (is_jump i && s.flow.delayed) ≡ false
-  load : touches i s.flow.loaded ≡ false
-  hilo : (sets_hilo i && is_recent s.flow.since) ≡ false
-  does_it : does i s ≡ Goes t
+pub record Passed (i : Instr) (s t : State) : Type 0 where
+  pub slot : (is_jump i && s.flow.delayed) ≡ false
+  pub load : touches i s.flow.loaded ≡ false
+  pub hilo : (sets_hilo i && is_recent s.flow.since) ≡ false
+  pub does_it : does i s ≡ Goes t
 
 three : (a b c : Bool) (n : Next) (t : State) → cond a (Traps Slot) (cond b (Traps LoadDelay) (cond c (Traps HiLo) n)) ≡ Goes t →
     (a ≡ false) × (b ≡ false) × (c ≡ false) × (n ≡ Goes t)
@@ -41,17 +41,17 @@ three false true c n t e = absurd (cc)
 three false false true n t e = absurd (cc)
 three false false false n t e = (refl, refl, refl, e)
 
-passed : (i : Instr) (s t : State) → performs i s ≡ Goes t → Passed i s t
+pub passed : (i : Instr) (s t : State) → performs i s ≡ Goes t → Passed i s t
 passed i s t e =
     let p = three (is_jump i && s.flow.delayed) (touches i s.flow.loaded) (sets_hilo i && is_recent s.flow.since) (does i s) t e in
     record { slot = p.0; load = p.1; hilo = p.2; does_it = p.3 }
 
-no_stop_goes : (i : Instr) (s t : State) → does i s ≡ Goes t → is_stop i ≡ false
+pub no_stop_goes : (i : Instr) (s t : State) → does i s ≡ Goes t → is_stop i ≡ false
 no_stop_goes Syscall s t e = absurd (cc)
 no_stop_goes _ s t e = refl
 
 -- what isn't a branch, nor led by a value, nor a stop, doesn't jump
-no_jump : (i : Instr) → is_turn i ≡ false → is_by_value i ≡ false → is_stop i ≡ false → is_jump i ≡ false
+pub no_jump : (i : Instr) → is_turn i ≡ false → is_by_value i ≡ false → is_stop i ≡ false → is_jump i ≡ false
 no_jump (Jr rs) a b c = absurd (cc)
 no_jump (Jalr link) a b c = absurd (cc)
 no_jump (Jal target) a b c = absurd (cc)
@@ -77,7 +77,7 @@ loads_none : (i : Instr) → is_load i ≡ false → loads i ≡ 0
 loads_none (LoadFrom load rt rs offset) e = absurd (cc)
 loads_none _ e = refl
 
-same_touches : (b c : Instr) (r : ℕ) → is_same_turn b c → touches b r ≡ touches c r
+pub same_touches : (b c : Instr) (r : ℕ) → is_same_turn b c → touches b r ≡ touches c r
 same_touches (J target) (J other) r h = refl
 same_touches (BranchIf branch rs rt offset) (BranchIf row x y other) r (f, g, i) =
     ap (λ q. not (r == 0) && ((0 == r) || ((q.number == r) || (rt.number == r)))) g
@@ -86,7 +86,7 @@ same_touches (BranchOnZero branch rs offset) (BranchOnZero row x other) r (f, g)
     ap (λ q. not (r == 0) && ((0 == r) || ((q.number == r) || (0 == r)))) g
 same_touches _ _ r h = absurd h
 
-same_turned : (b c : Instr) (d : Data) → is_same_turn b c → is_turned b d ≡ is_turned c d
+pub same_turned : (b c : Instr) (d : Data) → is_same_turn b c → is_turned b d ≡ is_turned c d
 same_turned (J target) (J other) d h = refl
 same_turned (BranchIf branch rs rt offset) (BranchIf row x y other) d (f, g, i) =
     ap (λ q. is_turned (BranchIf q rs rt offset) d) f ∙ ap (λ q. is_turned (BranchIf row q rt offset) d) g
@@ -170,7 +170,7 @@ some_or_none (Some w) = inl (w, refl)
 
 -- ---- the step
 
-listed_so : (code : List ℕ) (s t : State) → MipsStep code s (Goes t) →
+pub listed_so : (code : List ℕ) (s t : State) → MipsStep code s (Goes t) →
     (i : Instr) × (word_at code s.flow.pc ≡ Some (word_of i)) × (performs i s ≡ Goes t)
 listed_so code s t (nowhere h e) = absurd (cc)
 listed_so code s t (unlisted w h none e) = absurd (cc)

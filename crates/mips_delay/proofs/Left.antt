@@ -7,7 +7,7 @@ use Rattle.ec_target.specs.Code.{pc_of, word_at}
 use Rattle.mips_delay.proofs.Kept.{next_outside, next_place, not_true, outside_behind, turn_jumps, turn_slot}
 use Rattle.mips_delay.proofs.Order.{dropped_is, goes_or_stays, origin, origin_stays, place_of_origin, which}
 use Rattle.mips_delay.proofs.Swap.{no_op, turns_too}
-use Rattle.mips_delay.proofs.Standing.{clash, dropped_is_nothing, first_stays, goes_too, one_there, single, slot_of, there, turn_not_moves}
+use Rattle.mips_delay.proofs.Standing.{apart, clash, dropped_is_nothing, first_stays, goes_too, one_there, slot_of, there, turn_not_moves}
 use Rattle.mips_delay.proofs.Standing.{turn_not_nothing}
 use Rattle.mips_delay.specs.Fillable.{Fillable, StandsAt, has_slot, is_load}
 use Rattle.mips_delay.specs.Places.{FillsWords, IsKept, NoneIsLeft, Retargets, drops, is_within, place}
@@ -76,10 +76,10 @@ module _ (old new : List ℕ) (fills : ℕ → Bool) (F : FillsWords old new fil
   -- a branch of the new code with a no-op in its slot was outside of filled places
   module _ (j : ℕ) (N : Fillable new j) where
     abbrev b : ℕ
-    b = origin fills (single old new fills F) (suc j)
+    b = origin fills (apart old new fills F) (suc j)
 
     b_place : place fills b ≡ suc j
-    b_place = place_of_origin fills (single old new fills F) (suc j)
+    b_place = place_of_origin fills (apart old new fills F) (suc j)
 
     b_at : StandsAt new (place fills b) N.branch
     b_at = ap (λ k. word_at new (pc_of k)) b_place ∙ N.second
@@ -97,7 +97,7 @@ module _ (old new : List ℕ) (fills : ℕ → Bool) (F : FillsWords old new fil
         (λ (z : (k : ℕ) × (b ≡ suc k) × (fills k ≡ true)). absurd (in_slot z.0 z.1 z.2))
         (λ (z : (fills b ≡ false) × (is_within fills b ≡ false)). z)
         h)
-        (which fills b (origin_stays fills (single old new fills F) (suc j)))
+        (which fills b (origin_stays fills (apart old new fills F) (suc j)))
       where
         in_slot : (k : ℕ) → b ≡ suc k → fills k ≡ true → ⊥
         in_slot k e h =
@@ -119,7 +119,7 @@ module _ (old new : List ℕ) (fills : ℕ → Bool) (F : FillsWords old new fil
 
     -- its no-op
     slot_place : place fills (suc b) ≡ suc (suc j)
-    slot_place = next_place fills b (origin_stays fills (single old new fills F) (suc j)) ∙ ap suc b_place
+    slot_place = next_place fills b (origin_stays fills (apart old new fills F) (suc j)) ∙ ap suc b_place
 
     slot_unfilled : fills (suc b) ≡ false
     slot_unfilled = not_true (fills (suc b)) (λ h.
@@ -173,7 +173,7 @@ module _ (old new : List ℕ) (fills : ℕ → Bool) (F : FillsWords old new fil
           (λ (h : fills c ≡ true). absurd (clash (fills c) h c_unfilled))
           (λ (h : ((k : ℕ) × (c ≡ suc k) × (fills k ≡ true)) ⊎ ((fills c ≡ false) × (is_within fills c ≡ false))). ⊎_elim
           (λ (z : (k : ℕ) × (c ≡ suc k) × (fills k ≡ true)).
-          absurd (clash (drops fills b) (ap (drops fills) (b_is ∙ ap suc z.1) ∙ z.2) (origin_stays fills (single old new fills F) (suc j))))
+          absurd (clash (drops fills b) (ap (drops fills) (b_is ∙ ap suc z.1) ∙ z.2) (origin_stays fills (apart old new fills F) (suc j))))
           (λ (z : (fills c ≡ false) × (is_within fills c ≡ false)). z.1)
           h)
           (which fills c c_stays)
@@ -256,4 +256,4 @@ module _ (old new : List ℕ) (fills : ℕ → Bool) (F : FillsWords old new fil
     none_here (suc c) e = none c e
 
 pub none_is_left : NoneIsLeft
-none_is_left old new fills F j N = none_here old new fills F j N (origin fills (single old new fills F) (suc j)) refl
+none_is_left old new fills F j N = none_here old new fills F j N (origin fills (apart old new fills F) (suc j)) refl

@@ -1,21 +1,23 @@
 mod Keeps
-mod Swap
-mod Kept
+pub mod Swap
+pub mod Kept
 mod Filling
-mod Order
-mod Standing
+pub mod Order
+pub mod Standing
+pub mod Runs
+pub mod Stopping
 mod Follows
 mod Left
-mod Short
-mod Reach
-mod Assembly
-mod Marks
-mod Written
+pub mod Short
+pub mod Reach
+pub mod Assembly
+pub mod Marks
+pub mod Written
 mod Begins
-mod Deciding
+pub mod Deciding
 mod Offsets
 mod Promised
 mod Linking
-mod Decoded
-mod Looking
-mod Fits
+pub mod Decoded
+pub mod Looking
+pub mod Fits

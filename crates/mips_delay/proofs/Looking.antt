@@ -8,7 +8,7 @@ use Rattle.mips_delay.proofs.Marks.{goes_at, goes_before, goes_more, set_front, 
 use Rattle.mips_delay.proofs.Standing.{clash}
 use Rattle.mips_delay.proofs.Written.{below}
 use Rattle.mips_delay.specs.Choice.{GoesBefore, LeadsTo, set_at}
-use Rattle.mips_delay.specs.Fillable.{Fillable, GoesTo}
+use Rattle.mips_delay.specs.Fillable.{GoesTo}
 use Rattle.mips_delay.specs.Swap.{is_turn, turned_to}
 use Rattle.mips_isa.specs.declared.instr.Instr.{Instr}
 
@@ -59,16 +59,16 @@ unmarked code landed long marks i low is k g = λ e. clash
 
 -- ---- the places before, and one more
 
-module _ (code : List ℕ) (j : ℕ) (xs : List Bool) (b : Bool) (long : length xs ≡ j) where
-  pub found_yes : ((k : ℕ) → set_at xs k ≡ true → Fillable code k) → (b ≡ true → Fillable code j) →
-      (k : ℕ) → set_at (xs ++ b ∷ []) k ≡ true → Fillable code k
+module _ (P : ℕ → Type 0) (j : ℕ) (xs : List Bool) (b : Bool) (long : length xs ≡ j) where
+  pub found_yes : ((k : ℕ) → set_at xs k ≡ true → P k) → (b ≡ true → P j) →
+      (k : ℕ) → set_at (xs ++ b ∷ []) k ≡ true → P k
   found_yes before here k h = ⊎_elim
       (λ (e : set_at xs k ≡ true). before k e)
-      (λ (e : (k ≡ length xs) × (b ≡ true)). subst (Fillable code) (sym (e.0 ∙ long)) (here e.1))
+      (λ (e : (k ≡ length xs) × (b ≡ true)). subst P (sym (e.0 ∙ long)) (here e.1))
       (set_more xs b k h)
 
-  pub found_no : ((k : ℕ) → k < j → Fillable code k → set_at xs k ≡ true) → (Fillable code j → b ≡ true) →
-      (k : ℕ) → k < j + 1 → Fillable code k → set_at (xs ++ b ∷ []) k ≡ true
-  found_no before here = below (λ k. Fillable code k → set_at (xs ++ b ∷ []) k ≡ true) j
+  pub found_no : ((k : ℕ) → k < j → P k → set_at xs k ≡ true) → (P j → b ≡ true) →
+      (k : ℕ) → k < j + 1 → P k → set_at (xs ++ b ∷ []) k ≡ true
+  found_no before here = below (λ k. P k → set_at (xs ++ b ∷ []) k ≡ true) j
       (λ k l f. set_front xs b k (omega (arith, l, long)) ∙ before k l f)
       (λ f. ap (set_at (xs ++ b ∷ [])) (sym long) ∙ set_seam xs b ∙ here f)

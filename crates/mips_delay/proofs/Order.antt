@@ -103,29 +103,35 @@ goes_or_stays fills i = by (drops fills i)
 
 -- ---- where a word of the new code comes from
 
-module _ (fills : ℕ → Bool) (single : (j : ℕ) → fills j ≡ true → fills (suc j) ≡ false) where
-  next_stays : (i : ℕ) → drops fills i ≡ true → drops fills (suc i) ≡ false
-  next_stays zero h = absurd (cc)
-  next_stays (suc zero) h = absurd (cc)
-  next_stays (suc (suc j)) h = single j h
+-- no three words in a row go
+abbrev pub GoApart : (ℕ → Bool) → Type 0
+GoApart fills = (i : ℕ) → drops fills i ≡ true → drops fills (suc i) ≡ true → drops fills (suc (suc i)) ≡ false
 
+module _ (fills : ℕ → Bool) (apart : GoApart fills) where
   -- from a word on, the first that stays
   abbrev staying : ℕ → ℕ
-  staying i = cond (drops fills i) (suc i) i
+  staying i = cond (drops fills i) (cond (drops fills (suc i)) (suc (suc i)) (suc i)) i
 
   staying_stays : (i : ℕ) → drops fills (staying i) ≡ false
-  staying_stays i = by (drops fills i) refl
+  staying_stays i = by (drops fills i) refl (drops fills (suc i)) refl
     where
-      by : (b : Bool) → drops fills i ≡ b → drops fills (cond b (suc i) i) ≡ false
-      by true e = next_stays i e
-      by false e = e
+      by : (b : Bool) → drops fills i ≡ b → (d : Bool) → drops fills (suc i) ≡ d →
+          drops fills (cond b (cond d (suc (suc i)) (suc i)) i) ≡ false
+      by true e true f = apart i e f
+      by true e false f = f
+      by false e d f = e
+
+  gone_place : (i : ℕ) → drops fills i ≡ true → place fills (suc i) ≡ place fills i
+  gone_place i e = ap (λ b. cond b (place fills i) (suc (place fills i))) e
 
   staying_place : (i : ℕ) → place fills (staying i) ≡ place fills i
-  staying_place i = by (drops fills i) refl
+  staying_place i = by (drops fills i) refl (drops fills (suc i)) refl
     where
-      by : (b : Bool) → drops fills i ≡ b → place fills (cond b (suc i) i) ≡ place fills i
-      by true e = ap (λ b. cond b (place fills i) (suc (place fills i))) e
-      by false e = refl
+      by : (b : Bool) → drops fills i ≡ b → (d : Bool) → drops fills (suc i) ≡ d →
+          place fills (cond b (cond d (suc (suc i)) (suc i)) i) ≡ place fills i
+      by true e true f = gone_place (suc i) f ∙ gone_place i e
+      by true e false f = gone_place i e
+      by false e d f = refl
 
   pub origin : ℕ → ℕ
   origin zero = zero

@@ -127,8 +127,7 @@ moved_jump fills goal even small = ⊎_elim
 
 -- ---- so each can lead along
 
-module _ (old : List ℕ) (fills : ℕ → Bool) (few : length old ≤ words_end) (each : (j : ℕ) → fills j ≡ true → Fillable old j)
-    (stays : (j : ℕ) → fills j ≡ true → (drops fills j ≡ false) × (drops fills (suc j) ≡ false)) where
+module _ (old : List ℕ) (fills : ℕ → Bool) (few : length old ≤ words_end) where
   Closers : (i to : ℕ) (b : Instr) → Type 0
   Closers i to b = (k : ℕ) → turned_to b (pc_of i) ≡ pc_of k → Closer i k to (place fills k)
 
@@ -165,6 +164,14 @@ module _ (old : List ℕ) (fills : ℕ → Bool) (few : length old ≤ words_end
       ne)
       (same_or_not i k)
 
+  -- a branch that keeps its place among those that stay
+  pub kept_leads : (i : ℕ) (b : Instr) → i < length old → is_turn b ≡ true →
+      CanLead b (pc_of (place fills i)) (moved_to fills (turned_to b (pc_of i)))
+  unfolding Closers
+  kept_leads i b low turns = can i (place fills i) b low (place_small fills i) turns (λ k e. kept_closer i k)
+
+module _ (old : List ℕ) (fills : ℕ → Bool) (few : length old ≤ words_end) (each : (j : ℕ) → fills j ≡ true → Fillable old j)
+    (stays : (j : ℕ) → fills j ≡ true → (drops fills j ≡ false) × (drops fills (suc j) ≡ false)) where
   filled_closer : (j k : ℕ) → fills j ≡ true → k ≢ j → k ≢ suc j → k ≢ suc (suc j) → Closer (suc j) k (place fills j) (place fills k)
   filled_closer j k h a b c = ⊎_elim
       (λ (e : k ≡ j). absurd (a e))
@@ -193,15 +200,12 @@ module _ (old : List ℕ) (fills : ℕ → Bool) (few : length old ≤ words_end
   pub lead_along : LeadAlong old fills
   unfolding Closers
   lead_along i b low is turns = (
-    λ stay. can i (place fills i) b low (place_small fills i) turns (closers_kept i b),
+    λ stay. kept_leads old fills few i b low turns,
     λ j e h. filled i j b e low is turns h,
   )
     where
-      closers_kept : (i : ℕ) (b : Instr) → Closers i (place fills i) b
-      closers_kept i b = λ k e. kept_closer i k
-
       closers_filled : (j : ℕ) (b : Instr) → suc j < length old → word_of b ≡ slice_index old (suc j) → is_turn b ≡ true → fills j ≡ true →
-          Closers (suc j) (place fills j) b
+          Closers old fills few (suc j) (place fills j) b
       closers_filled j b low is turns h = λ k e.
           let led : GoesTo old k =
           record { from = suc j; by = b; stands = word_at-pc_of old (suc j) low ∙ ap Some (sym is); turns = turns; leads = e } in
@@ -213,5 +217,5 @@ module _ (old : List ℕ) (fills : ℕ → Bool) (few : length old ≤ words_end
       filled i j b e low is turns h =
           let down = place_small fills j in
           subst (λ x. CanLead b (pc_of (place fills j)) (moved_to fills (turned_to b (pc_of x)))) (sym e)
-          (can (suc j) (place fills j) b (subst (λ x. x < length old) e low) (omega (arith, down)) turns
+          (can old fills few (suc j) (place fills j) b (subst (λ x. x < length old) e low) (omega (arith, down)) turns
           (closers_filled j b (subst (λ x. x < length old) e low) (is ∙ ap (slice_index old) e) turns h))

@@ -6,7 +6,7 @@ use Rattle.std.specs.Prelude.{slice_index}
 use Rattle.ec_target.proofs.Places.{place_of_word, word_at-pc_of}
 use Rattle.ec_target.specs.Code.{pc_of, word_at}
 use Rattle.mips_delay.proofs.Kept.{leads_at, next_place, not_true, turn_jumps}
-use Rattle.mips_delay.proofs.Order.{dropped_is, less_of_place, which}
+use Rattle.mips_delay.proofs.Order.{GoApart, dropped_is, less_of_place, which}
 use Rattle.mips_delay.proofs.Swap.{no_op, turns_too}
 use Rattle.mips_delay.specs.Fillable.{GoesTo, StandsAt}
 use Rattle.mips_delay.specs.Places.{FillsWords, Retargets, SwapsAt, drops, is_within, place}
@@ -45,6 +45,11 @@ module _ (old new : List ℕ) (fills : ℕ → Bool) (F : FillsWords old new fil
       let x = F.each j h in
       let y = F.each (suc j) k in
       turn_not_moves y.moves x.branch y.may.no_jump x.may.turn (one_there old (suc j) y.moves x.branch y.first x.second))
+
+  -- so no two words in a row go
+  pub apart : GoApart fills
+  apart i h k = let z = dropped_is fills i h in
+      absurd (clash (drops fills (suc i)) k (ap (λ j. drops fills (suc j)) z.1 ∙ single z.0 z.2))
 
   -- a word that goes is a no-op
   pub dropped_is_nothing : (i : ℕ) → drops fills i ≡ true → word_at old (pc_of i) ≡ Some 0

@@ -88,7 +88,7 @@ went_by x s t (Fails c) ne h = absurd (cc)
 pub went : (x : Instr) (s t : State) → is_jump x ≡ false → performs x s ≡ Goes t → (d : Data) × (effect x s.held ≡ Done d) × (t ≡ behind_plain x s d)
 went x s t ne h = went_by x s t (effect x s.held) ne (sym (does_plain x s ne) ∙ does_on x s t h)
 
-plain_goes : (x : Instr) (s : State) (d : Data) → is_jump x ≡ false → touches x s.flow.loaded ≡ false → sets_hilo x ≡ false →
+pub plain_goes : (x : Instr) (s : State) (d : Data) → is_jump x ≡ false → touches x s.flow.loaded ≡ false → sets_hilo x ≡ false →
     effect x s.held ≡ Done d → performs x s ≡ Goes (behind_plain x s d)
 plain_goes x s d ne clear sets e =
     passes_on x s (and_false (is_jump x) s.flow.delayed ne) clear (and_false (sets_hilo x) (is_recent s.flow.since) sets)
@@ -137,7 +137,7 @@ turns_too _ _ h = absurd h
 
 -- ---- where HI and LO were read
 
-two_later : (since : Since) → later (later since) ≡ LongAgo
+pub two_later : (since : Since) → later (later since) ≡ LongAgo
 two_later JustNow = refl
 two_later OneAgo = refl
 two_later LongAgo = refl

@@ -10,7 +10,6 @@ use Rattle.ec_machine_code.specs.declared.code.OperationCode.{OperationCode}
 use Rattle.mips_delay.proofs.Kept.{not_true, next_place}
 use Rattle.mips_delay.proofs.Marks.{get_front, get_seam}
 use Rattle.mips_delay.proofs.Order.{place_less, same_or_not}
-use Rattle.mips_delay.specs.Choice.{Stands}
 use Rattle.mips_delay.specs.Places.{drops, place}
 
 -- up to here, and here: at each place up to the next
@@ -132,38 +131,39 @@ map_next f new all xs i x at is =
 
 -- ---- words
 
-module _ (old : List ℕ) (fills : ℕ → Bool) (i : ℕ) (new : List ℕ) (long : length new ≡ place fills i)
-    (each : (k : ℕ) → k < i → drops fills k ≡ false → Stands old fills k (slice_index new (place fills k))) where
+-- `P` says of each word which word is to stand where it went
+module _ (P : ℕ → ℕ → Type 0) (fills : ℕ → Bool) (i : ℕ) (new : List ℕ) (long : length new ≡ place fills i)
+    (each : (k : ℕ) → k < i → drops fills k ≡ false → P k (slice_index new (place fills k))) where
   words_same : drops fills i ≡ true → (k : ℕ) → k < i + 1 → drops fills k ≡ false →
-      Stands old fills k (slice_index new (place fills k))
-  words_same h = below (λ k. drops fills k ≡ false → Stands old fills k (slice_index new (place fills k))) i each
+      P k (slice_index new (place fills k))
+  words_same h = below (λ k. drops fills k ≡ false → P k (slice_index new (place fills k))) i each
       (λ stays. absurd (let e = sym h ∙ stays in cc))
 
-  words_more : (w : ℕ) → drops fills i ≡ false → Stands old fills i w → (k : ℕ) → k < i + 1 → drops fills k ≡ false →
-      Stands old fills k (slice_index (new ++ w ∷ []) (place fills k))
-  words_more w h is = below (λ k. drops fills k ≡ false → Stands old fills k (slice_index (new ++ w ∷ []) (place fills k))) i
+  words_more : (w : ℕ) → drops fills i ≡ false → P i w → (k : ℕ) → k < i + 1 → drops fills k ≡ false →
+      P k (slice_index (new ++ w ∷ []) (place fills k))
+  words_more w h is = below (λ k. drops fills k ≡ false → P k (slice_index (new ++ w ∷ []) (place fills k))) i
       (λ k low stays.
       let less = place_less fills k i stays low in
-      subst (λ v. Stands old fills k v) (sym (get_or_append_left new (w ∷ []) 0 (place fills k) (omega (arith, less, long))))
+      subst (λ v. P k v) (sym (get_or_append_left new (w ∷ []) 0 (place fills k) (omega (arith, less, long))))
       (each k low stays))
-      (λ stays. subst (λ v. Stands old fills i v)
+      (λ stays. subst (λ v. P i v)
       (sym (ap (slice_index (new ++ w ∷ [])) (sym long) ∙ get_or-append_seam new w [] 0)) is)
 
   pub words_none : drops fills i ≡ true → (now : List ℕ) → now ≡ new →
       (length now ≡ place fills (i + 1))
-      × ((k : ℕ) → k < i + 1 → drops fills k ≡ false → Stands old fills k (slice_index now (place fills k)))
+      × ((k : ℕ) → k < i + 1 → drops fills k ≡ false → P k (slice_index now (place fills k)))
   words_none h now is = (
     ap length is ∙ long ∙ sym (place_dropped fills i h),
-    subst (λ (xs : List ℕ). (k : ℕ) → k < i + 1 → drops fills k ≡ false → Stands old fills k (slice_index xs (place fills k))) (sym is)
+    subst (λ (xs : List ℕ). (k : ℕ) → k < i + 1 → drops fills k ≡ false → P k (slice_index xs (place fills k))) (sym is)
         (words_same h),
   )
 
-  pub words_one : (w : ℕ) → (drops fills i ≡ false) × Stands old fills i w → (now : List ℕ) → now ≡ new ++ w ∷ [] →
+  pub words_one : (w : ℕ) → (drops fills i ≡ false) × P i w → (now : List ℕ) → now ≡ new ++ w ∷ [] →
       (length now ≡ place fills (i + 1))
-      × ((k : ℕ) → k < i + 1 → drops fills k ≡ false → Stands old fills k (slice_index now (place fills k)))
+      × ((k : ℕ) → k < i + 1 → drops fills k ≡ false → P k (slice_index now (place fills k)))
   words_one w (h, stands) now is = (
     (let l = ap length is in let m = length-append new (w ∷ []) in let p = place_kept fills i h in omega (arith, l, m, p, long)),
-    subst (λ (xs : List ℕ). (k : ℕ) → k < i + 1 → drops fills k ≡ false → Stands old fills k (slice_index xs (place fills k))) (sym is)
+    subst (λ (xs : List ℕ). (k : ℕ) → k < i + 1 → drops fills k ≡ false → P k (slice_index xs (place fills k))) (sym is)
         (words_more w h stands),
   )
 

@@ -19,16 +19,19 @@ use Rattle.mips_machine.specs.declared.machine.MipsMachine.{MipsMachine}
 
 -- ---- what becomes of a code
 
--- The new code is the old one with its slots filled: each stop is where its word went, and each operation begins and ends where its
--- first word and the word behind it went.
-pub record Filled (old new : Code) (fills : ℕ → Bool) : Type 0 where
-  pub words : FillsWords old.words new.words fills
+-- Each stop is where its word went, and each operation begins and ends where its first word and the word behind it went.
+pub record Moved (old new : Code) (fills : ℕ → Bool) : Type 0 where
   pub stops : (op n : ℕ) → address_of new op n ≡ option_map (moved_to fills) (address_of old op n)
   pub begins : (op : ℕ) → words_before new.operations op ≡ place fills (words_before old.operations op)
   pub ends :
       (op : ℕ) → words_before new.operations op + words_of new op ≡ place fills (words_before old.operations op + words_of old op)
   pub whole : words_in_all new.operations ≡ place fills (words_in_all old.operations)
   pub many : length new.operations ≡ length old.operations
+
+-- The new code is the old one with its slots filled.
+pub record Filled (old new : Code) (fills : ℕ → Bool) : Type 0 where
+  pub words : FillsWords old.words new.words fills
+  pub moved : Moved old new fills
 
 -- ---- what it keeps
 

@@ -7,9 +7,10 @@ use Rattle.mips_delay.specs.Swap.{Swaps, is_same_turn, is_turn, turned_to}
 use Rattle.mips_isa.specs.Words.{word_of}
 use Rattle.mips_isa.specs.declared.instr.Instr.{Instr}
 
--- ---- the map of places: `fills` says for each word whether it goes into the slot behind it
+-- ---- the map of places: `fills` says for each word whether the second word behind it goes; so it is with the no-op of a slot into
+-- ---- which the word itself goes
 
--- word i is the no-op of a filled slot, and goes
+-- word i goes
 abbrev pub drops : (ℕ → Bool) → ℕ → Bool
 drops fills zero = false
 drops fills (suc zero) = false

@@ -1,21 +1,17 @@
 //! Which words can go into the slot of the branch behind them.
-ghost use Rattle.std.specs.Prelude.{◌≡◌, ◌+◌, ◌<◌, ◌≤◌, ◌⊎◌, ℕ, length, slice_index, IfOk, true, false};
+ghost use Rattle.std.specs.Prelude.{◌≡◌, ◌+◌, ◌<◌, ◌≤◌, ℕ, length, slice_index, IfOk, true, false};
 ghost use Rattle.ec_machine_code.specs.Speaks.{words_end};
-ghost use Rattle.ec_target.specs.Code.{pc_of};
-ghost use Rattle.mips_delay.specs.Choice.{LeadsTo, has_hold, is_movable, may_move, set_at};
+ghost use Rattle.mips_delay.specs.Choice.{has_hold, is_movable, may_move, set_at};
 ghost use Rattle.mips_delay.specs.Fillable.{Fillable, GoesTo};
 ghost use Rattle.mips_delay.specs.Swap.{is_read_of, is_turn};
 ghost use Rattle.mips_isa.specs.Words.{word_of};
 ghost use Rattle.mips_isa.specs.declared.instr.Instr.{Instr};
 
-use crate::branches::turned_to;
+use crate::landings::landings;
 use mips_isa::instr::Instr;
 use mips_isa::word::decode;
 use mips_machine::flow::{reads, writes};
 use std::alloc::{AllocError, Global};
-
-/// Where the code starts.
-pub(crate) const CODE_BASE: u32 = 0x0040_0000;
 
 // ---- one instruction
 
@@ -106,52 +102,6 @@ fn is_free(words: &[u32], j: usize) -> bool
     ensures no { ((i : ℕ) (x : Instr) → i + 1 ≡ j → word_of x ≡ slice_index words.now i → has_hold x ≡ false) → result ≡ true }
 {
     j == 0 || !holds_next(words[j - 1])
-}
-
-// ---- where jumps go
-
-/// For each word of a code, whether a jump or a branch goes there.
-pub(crate) fn landings(alloc: Global, words: &[u32]) -> Result<Vec<bool>, AllocError>
-    requires few { length words.now ≤ words_end }
-    ensures long { IfOk result (λ landed. length landed.items ≡ length words.now) }
-    ensures yes { IfOk result (λ landed. (k : ℕ) → set_at landed.items k ≡ true → GoesTo words.now k) }
-    ensures no { IfOk result (λ landed. (k : ℕ) → k < length words.now → GoesTo words.now k → set_at landed.items k ≡ true) }
-{
-    let mut landed = vec![in alloc; false; words.len()]?;
-    for i in 0..words.len() {
-        land(&mut landed, words[i], CODE_BASE + 4 * (i as u32));
-    }
-    Ok(landed)
-}
-
-/// The word to which a word at an address leads is marked.
-fn land(landed: &mut Vec<bool>, word: u32, at: u32)
-    ensures long { length landed.new.items ≡ length landed.old.items }
-    ensures yes { (k : ℕ) → set_at landed.new.items k ≡ true → (set_at landed.old.items k ≡ true) ⊎ LeadsTo word at k }
-    ensures old { (k : ℕ) → set_at landed.old.items k ≡ true → set_at landed.new.items k ≡ true }
-    ensures no { (k : ℕ) → k < length landed.old.items → LeadsTo word at k → set_at landed.new.items k ≡ true }
-{
-    if let Some(instr) = decode(word) {
-        if let Some(goal) = turned_to(instr, at) {
-            mark(landed, goal);
-        }
-    }
-}
-
-/// The word at an address is marked.
-#[tactic(auto, using(crate::proofs::Marks::set_same, crate::proofs::Marks::set_is, crate::proofs::Marks::set_stays))]
-fn mark(landed: &mut Vec<bool>, address: u32)
-    ensures long { length landed.new.items ≡ length landed.old.items }
-    ensures yes { (k : ℕ) → set_at landed.new.items k ≡ true → (set_at landed.old.items k ≡ true) ⊎ (address ≡ pc_of k) }
-    ensures old { (k : ℕ) → set_at landed.old.items k ≡ true → set_at landed.new.items k ≡ true }
-    ensures no { (k : ℕ) → k < length landed.old.items → address ≡ pc_of k → set_at landed.new.items k ≡ true }
-{
-    if address >= CODE_BASE && address % 4 == 0 {
-        let k = ((address - CODE_BASE) / 4) as usize;
-        if k < landed.len() {
-            landed[k] = true;
-        }
-    }
 }
 
 // ---- places

@@ -4,8 +4,9 @@
 //! |---|---|
 //! | `fill` | the call |
 //! | `fillable` | which words can go into a slot |
-//! | `moves` | where each word goes |
-//! | `words`, `branches`, `operations` | what is written there |
+//! | `landings`, `branches` | where jumps and branches go |
+//! | `moves` | where each word goes when some go away |
+//! | `words`, `operations` | what is written there |
 //! | `links` | whether some target or link is a value |
 //! | `laws` | that such a code follows the code that it was |
 #![tactic(auto)]
@@ -13,8 +14,9 @@
 mod branches;
 pub mod fill;
 mod fillable;
+pub mod landings;
 pub mod laws;
 pub mod links;
-mod moves;
-mod operations;
-mod words;
+pub mod moves;
+pub mod operations;
+pub mod words;

@@ -1,18 +1,20 @@
-//! Where the words of a code go when its slots are filled.
+//! Where the words of a code go when some go away.
 ghost use Rattle.std.specs.Prelude.{◌≡◌, ◌+◌, ◌<◌, ◌≤◌, ℕ, suc, length, slice_get, IfOk, Some, true, false};
 ghost use Rattle.ec_machine_code.specs.Speaks.{words_end};
 ghost use Rattle.mips_delay.specs.Choice.{set_at};
 ghost use Rattle.mips_delay.specs.Fillable.{Fillable};
 ghost use Rattle.mips_delay.specs.Places.{drops, moved_to, place};
 
-use crate::fillable::{CODE_BASE, fillable};
+use crate::fillable::fillable;
+use crate::landings::CODE_BASE;
 use std::alloc::{AllocError, Global};
 
-/// For each word whether it goes into the slot of the branch behind it, and where each word goes, and what is behind the last.
+/// For each word whether the second word behind it goes away, as the no-op does behind a word that goes into a slot; and where each word
+/// goes, and what is behind the last.
 #[derive(Drop)]
-pub(crate) struct Moves {
-    pub(crate) fills: Vec<bool>,
-    pub(crate) places: Vec<u32>,
+pub struct Moves {
+    pub fills: Vec<bool>,
+    pub places: Vec<u32>,
     ghost few: { length fills.items ≤ words_end },
     ghost long: { length places.items ≡ suc (length fills.items) },
     ghost each: { (i : ℕ) → i ≤ length fills.items → slice_get places.items i ≡ Some (place (set_at fills.items) i) },
@@ -27,8 +29,7 @@ pub(crate) fn moves_of(alloc: Global, words: &[u32]) -> Result<Moves, AllocError
     ensures no { IfOk result (λ moves. (j : ℕ) → Fillable words.now j → set_at moves.fills.items j ≡ true) }
 {
     let fills = fillable(alloc, words)?;
-    let places = places_of(alloc, fills.as_slice())?;
-    Ok(Moves { fills, places })
+    Moves::of(alloc, fills)
 }
 
 /// Where each word goes, and what is behind the last.
@@ -49,7 +50,7 @@ fn places_of(alloc: Global, fills: &[bool]) -> Result<Vec<u32>, AllocError>
     Ok(places)
 }
 
-/// Word i is the no-op of a filled slot.
+/// Word i goes away.
 #[tactic(auto, using(crate::proofs::Written::drops_small, crate::proofs::Written::drops_from))]
 fn drops(fills: &[bool], i: usize) -> bool
     ensures { result ≡ drops (set_at fills.now) i }
@@ -57,7 +58,7 @@ fn drops(fills: &[bool], i: usize) -> bool
     if i < 2 { false } else { fills_at(fills, i - 2) }
 }
 
-/// Word j goes into the slot of the branch behind it; no word behind the last does.
+/// The second word behind word j goes away; none does behind the last.
 fn fills_at(fills: &[bool], j: usize) -> bool
     ensures { result ≡ set_at fills.now j }
 {
@@ -68,6 +69,16 @@ fn fills_at(fills: &[bool], j: usize) -> bool
 }
 
 impl Moves {
+    /// Where words go, by whether the second word behind each goes away. The error is want of memory.
+    pub fn of(alloc: Global, fills: Vec<bool>) -> Result<Moves, AllocError>
+        requires few { length fills.items ≤ words_end }
+        requires within { (j : ℕ) → set_at fills.items j ≡ true → suc (suc j) < length fills.items }
+        ensures fills { IfOk result (λ moves. moves.fills.items ≡ fills.items) }
+    {
+        let places = places_of(alloc, fills.as_slice())?;
+        Ok(Moves { fills, places })
+    }
+
     /// Word j goes into the slot of the branch behind it.
     pub(crate) fn fills(&self, j: usize) -> bool
         ensures { result ≡ set_at self.now.fills.items j }
@@ -75,15 +86,15 @@ impl Moves {
         fills_at(self.fills.as_slice(), j)
     }
 
-    /// Word i is the no-op of a filled slot.
-    pub(crate) fn drops(&self, i: usize) -> bool
+    /// Word i goes away.
+    pub fn drops(&self, i: usize) -> bool
         ensures { result ≡ drops (set_at self.now.fills.items) i }
     {
         drops(self.fills.as_slice(), i)
     }
 
     /// Where a word goes, or what is behind the last.
-    pub(crate) fn place(&self, i: usize) -> u32
+    pub fn place(&self, i: usize) -> u32
         requires there { i ≤ length self.now.fills.items }
         ensures { result ≡ place (set_at self.now.fills.items) i }
     {

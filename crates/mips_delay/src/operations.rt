@@ -1,4 +1,4 @@
-//! The operations of a code with its slots filled, and their stops.
+//! The operations of a code whose words have moved, and their stops.
 ghost use Rattle.std.specs.Prelude.{◌≡◌, ◌<◌, ◌≤◌, ℕ, length, IfOk, map, slice_get};
 ghost use Rattle.ec_machine_code.specs.Stops.{stops_if, words_before};
 ghost use Rattle.mips_delay.specs.Choice.{set_at};
@@ -10,7 +10,7 @@ use ec_machine_code::code::OperationCode;
 use std::alloc::{AllocError, Global};
 
 /// The operations, each from where its first word goes to where the word behind it goes.
-pub(crate) fn put_operations(
+pub fn put_operations(
     alloc: Global,
     operations: &Seq<OperationCode>,
     moves: &Moves,

@@ -9,7 +9,7 @@ ghost use Rattle.mips_isa.specs.Words.{word_of};
 ghost use Rattle.mips_isa.specs.declared.instr.Instr.{Instr};
 
 use crate::branches::{leading, turned_to};
-use crate::fillable::CODE_BASE;
+use crate::landings::CODE_BASE;
 use crate::moves::Moves;
 use ec_base::list::Seq;
 use mips_isa::word::{decode, encode};
@@ -52,7 +52,7 @@ fn word_for(words: &[u32], moves: &Moves, i: usize) -> Option<u32>
 }
 
 /// A word that goes from one place to another: a jump or a branch leads along.
-fn moved(word: u32, moves: &Moves, from: usize, to: u32) -> u32
+pub fn moved(word: u32, moves: &Moves, from: usize, to: u32) -> u32
     requires low { from < length moves.now.fills.items }
     requires small { to ≤ words_end }
     requires can { (b : Instr) → word_of b ≡ word → is_turn b ≡ true →

@@ -13,6 +13,6 @@ loop-j-preserved c =
     subst (λ (xs : List Bool). (length xs ≡ j + 1) × ((k : ℕ) → set_at xs k ≡ true → Fillable code k)
     × ((k : ℕ) → k < j + 1 → Fillable code k → set_at xs k ≡ true)) (sym {A = List Bool} c.in_ok-push.ensures.items) (
       grind (arith, inv.0),
-      found_yes code j c.loop-j.fills.items found inv.0 inv.1 c.is_fillable.ensures.yes,
-      found_no code j c.loop-j.fills.items found inv.0 inv.2 c.is_fillable.ensures.no,
+      found_yes (Fillable code) j c.loop-j.fills.items found inv.0 inv.1 c.is_fillable.ensures.yes,
+      found_no (Fillable code) j c.loop-j.fills.items found inv.0 inv.2 c.is_fillable.ensures.no,
     )

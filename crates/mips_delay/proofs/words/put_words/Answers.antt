@@ -1,6 +1,6 @@
 use Rattle.std.proofs.Common.{◌∙◌}
 use Rattle.mips_delay.proofs.Written.{words_none, words_one}
-use Rattle.mips_delay.specs.Choice.{set_at}
+use Rattle.mips_delay.specs.Choice.{Stands, set_at}
 use Rattle.mips_delay.proofs.words.put_words.Goals as goal
 use Rattle.mips_delay.proofs.words.put_words.Goals.{in-Some+in_ok-push, in_default}
 
@@ -12,7 +12,7 @@ loop-i-preserved c =
     let inv = c.loop-i.invariant in
     elim c.match-word_for.branch [
       | in-Some+in_ok-push w ↦
-          words_one old fills c.loop-i.i new inv.0 inv.1 w.in-Some.word w.in-Some.ensures c.match-word_for.new
+          words_one (Stands old fills) fills c.loop-i.i new inv.0 inv.1 w.in-Some.word w.in-Some.ensures c.match-word_for.new
           (w.new-is ∙ w.in_ok-push.ensures.ok)
-      | in_default w ↦ words_none old fills c.loop-i.i new inv.0 inv.1 w.in_default.ensures c.match-word_for.new w.new-is
+      | in_default w ↦ words_none (Stands old fills) fills c.loop-i.i new inv.0 inv.1 w.in_default.ensures c.match-word_for.new w.new-is
     ]

@@ -1,6 +1,6 @@
 use Rattle.std.proofs.Common.{◌≡◌, ℕ, ◌<◌, length, true}
 use Rattle.mips_delay.specs.Choice.{GoesBefore, set_at}
-use Rattle.mips_delay.proofs.fillable.landings.Given as goal
+use Rattle.mips_delay.proofs.landings.landings.Given as goal
 
 -- marked is just where one of the words before leads
 abbrev pub invariant-loop-i : goal.invariant-loop-i

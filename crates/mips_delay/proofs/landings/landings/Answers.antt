@@ -1,6 +1,6 @@
 use Rattle.std.proofs.Common.{◌∙◌, arith}
 use Rattle.mips_delay.proofs.Looking.{lands_no, lands_yes}
-use Rattle.mips_delay.proofs.fillable.landings.Goals as goal
+use Rattle.mips_delay.proofs.landings.landings.Goals as goal
 
 pub loop-i-preserved : goal.loop-i-preserved
 loop-i-preserved c =

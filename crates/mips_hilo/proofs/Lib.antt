@@ -1,0 +1,5 @@
+mod Facts
+mod Going
+mod Follows
+mod Assembly
+mod Deciding

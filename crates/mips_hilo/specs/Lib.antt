@@ -1,0 +1,4 @@
+pub mod Waits
+pub mod Words
+pub mod Alike
+pub mod Dropped
