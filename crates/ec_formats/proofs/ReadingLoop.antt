@@ -1,5 +1,5 @@
 -- Items read one after the other, as a loop reads them: what is still to be read from here on gives the whole answer.
-use Rattle.std.proofs.Common.{◌≡◌, ℕ, suc, ◌-◌, ◌+◌, ◌≤◌, ◌<◌, List, [], ◌∷◌, ◌++◌, Ok, Err, refl, sym, ◌∙◌, arith}
+use Rattle.std.proofs.Common.{◌≡◌, ℕ, suc, ◌-◌, ◌+◌, ◌*◌, ◌≤◌, ◌<◌, List, [], ◌∷◌, ◌++◌, Ok, Err, refl, sym, ap, ◌∙◌, arith, add-mul, one-mul}
 use Rattle.ec_formats.specs.declared.error.FieldError.{FieldError}
 use Rattle.ec_formats.specs.declared.error.FieldError.TheVariants.{Memory, Fault}
 use Rattle.ec_formats.specs.Format.{Format, Read}
@@ -35,3 +35,9 @@ module _ {A : Type 0} (item : List A → Format A) where
       let k : count - i ≡ 0 = omega arith in
       let one : items_read item before (count - i) bytes ≡ Ok (before, bytes) = rw k refl in
       sym so_far ∙ one
+
+-- an item more that takes k bytes at least
+pub one_more : (n k behind rest all : ℕ) → behind + k ≤ rest → n * k + rest ≤ all → (n + 1) * k + behind ≤ all
+one_more n k behind rest all least held =
+    let e : (n + 1) * k ≡ n * k + k = add-mul n 1 k ∙ ap (λ m. n * k + m) (one-mul k) in
+    omega (arith, e, least, held)

@@ -1,4 +1,5 @@
 //! Lists of numbers and numbers that may be missing, as bytes, and laws at a concrete type.
+ghost use Rattle.std.proofs.Common.{rules};
 ghost use Rattle.ec_formats.specs.Fields.{number};
 
 use crate::error::FieldError;
@@ -15,6 +16,12 @@ struct Plain;
 
 impl Field<Plain> for u32 {
     ghost format = { λ _. number };
+
+    const LEAST: usize = 4;
+
+    ghost LEAST = { 4 };
+
+    ghost takes_some = { Prim.search rules };
 
     fn read<'a>(
         _alloc: Global,

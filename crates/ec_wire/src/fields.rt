@@ -1,5 +1,6 @@
 //! The fields of a parcel: values, objects, monitors and activations.
-ghost use Rattle.std.specs.Prelude.{◌≡◌, IfSome, IfNone, List, Some, None};
+ghost use Rattle.std.proofs.Common.{rules};
+ghost use Rattle.std.specs.Prelude.{◌≡◌, ◌+◌, ◌≤◌, length, IfOk, IfSome, IfNone, List, Some, None};
 ghost use Rattle.ec_base.specs.Stack.{top_of};
 ghost use Rattle.ec_formats.specs.Answers.{Gives};
 ghost use Rattle.ec_formats.specs.Combinators.{such_that};
@@ -23,6 +24,12 @@ pub struct Emv1;
 
 impl Field<Emv1> for Value {
     ghost format = { λ _. form.value };
+
+    const LEAST: usize = 1;
+
+    ghost LEAST = { 1 };
+
+    ghost takes_some = { Prim.search rules };
 
     #[tactic(auto, unfolding(crate::specs::WireForm::value_read))]
     fn read<'a>(
@@ -81,6 +88,12 @@ impl Field<Emv1> for Value {
 impl Field<Emv1> for ObjectPart {
     ghost format = { form.object };
 
+    const LEAST: usize = 12;
+
+    ghost LEAST = { 12 };
+
+    ghost takes_some = { Prim.search rules };
+
     fn read<'a>(
         alloc: Global,
         before: &[ObjectPart],
@@ -108,6 +121,12 @@ impl Field<Emv1> for ObjectPart {
 
 impl Field<Emv1> for MonitorPart {
     ghost format = { form.monitor };
+
+    const LEAST: usize = 17;
+
+    ghost LEAST = { 17 };
+
+    ghost takes_some = { Prim.search rules };
 
     fn read<'a>(
         alloc: Global,
@@ -141,6 +160,12 @@ impl Field<Emv1> for MonitorPart {
 impl Field<Emv1> for u32 {
     ghost format = { λ _. number };
 
+    const LEAST: usize = 4;
+
+    ghost LEAST = { 4 };
+
+    ghost takes_some = { Prim.search rules };
+
     fn read<'a>(
         _alloc: Global,
         _before: &[u32],
@@ -157,6 +182,12 @@ impl Field<Emv1> for u32 {
 /// A process and its depth in a monitor.
 impl Field<Emv1> for Hold {
     ghost format = { λ _. form.hold };
+
+    const LEAST: usize = 8;
+
+    ghost LEAST = { 8 };
+
+    ghost takes_some = { Prim.search rules };
 
     fn read<'a>(
         _alloc: Global,
@@ -178,6 +209,12 @@ impl Field<Emv1> for Hold {
 impl Field<Emv1> for Seq<Hold> {
     ghost format = { λ _. list_of form.most form.hold };
 
+    const LEAST: usize = 4;
+
+    ghost LEAST = { 4 };
+
+    ghost takes_some = { Prim.search rules };
+
     fn read<'a>(
         alloc: Global,
         _before: &[Seq<Hold>],
@@ -193,6 +230,12 @@ impl Field<Emv1> for Seq<Hold> {
 
 impl Field<Emv1> for ActivationPart {
     ghost format = { form.activation };
+
+    const LEAST: usize = 25;
+
+    ghost LEAST = { 25 };
+
+    ghost takes_some = { Prim.search rules };
 
     fn read<'a>(
         alloc: Global,
@@ -256,7 +299,8 @@ fn read_process<'a>(
     before: &[ActivationPart],
     bytes: &'a [u8],
 ) -> Result<(u32, &'a [u8]), FieldError>
-    ensures { Gives (λ x. (x.0, x.1.now)) result ((such_that number (form.process_follows (top_of before.now))).read bytes.now) }
+    ensures value { Gives (λ x. (x.0, x.1.now)) result ((such_that number (form.process_follows (top_of before.now))).read bytes.now) }
+    ensures least { IfOk result (λ x. length x.1.now + 4 ≤ length bytes.now) }
 {
     let (process, rest) = read_number(bytes)?;
     if !process_follows(before, process) {
@@ -271,7 +315,8 @@ fn read_depth<'a>(
     process: u32,
     bytes: &'a [u8],
 ) -> Result<(u32, &'a [u8]), FieldError>
-    ensures { Gives (λ x. (x.0, x.1.now)) result ((such_that number (form.depth_follows (top_of before.now) process)).read bytes.now) }
+    ensures value { Gives (λ x. (x.0, x.1.now)) result ((such_that number (form.depth_follows (top_of before.now) process)).read bytes.now) }
+    ensures least { IfOk result (λ x. length x.1.now + 4 ≤ length bytes.now) }
 {
     let (depth, rest) = read_number(bytes)?;
     if !depth_follows(before, process, depth) {

@@ -31,8 +31,8 @@ pub fn write(alloc: Global, parcel: &Parcel) -> Result<Vec<u8>, AllocError>
 
 /// The parcel whose bytes these are.
 ///
-/// `Wire` comes exactly where no parcel has these bytes. A count alone takes no room: room grows with
-/// the items that are read.
+/// `Wire` comes exactly where no parcel has these bytes. No count takes more room than the bytes behind it could fill
+/// (`ec_formats::field::room_for`).
 pub fn read(alloc: Global, bytes: &[u8]) -> Result<Parcel, ReadError>
     // The parcel that is read has these bytes.
     ensures found { IfOk result (λ p. IsWire p bytes.now) }
