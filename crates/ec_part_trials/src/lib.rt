@@ -1,9 +1,9 @@
-//! Small trials of parts, each against values from outside: names, the directory of objects, an object's words, a frame. They stand here so that
+//! Small trials of parts, each against values from outside: names, the whereabouts of objects, an object's words, a frame. They stand here so that
 //! the crates of these parts are proved once.
 #![tactic(auto)]
 
 #[cfg(test)]
-mod directory;
+mod whereabouts;
 #[cfg(test)]
 mod frames;
 #[cfg(test)]
