@@ -3,10 +3,10 @@
 #![tactic(auto)]
 
 #[cfg(test)]
-mod whereabouts;
-#[cfg(test)]
 mod frames;
 #[cfg(test)]
 mod names;
 #[cfg(test)]
 mod objects;
+#[cfg(test)]
+mod whereabouts;
