@@ -7,7 +7,7 @@ use Rattle.ec_cluster.specs.declared.cluster.Cluster.{Cluster}
 use Rattle.ec_acts.proofs.DoingsHolding.{guard_open, guard_shut, holder_acts, monitor_again, other_acts}
 use Rattle.ec_acts.proofs.ObjectsLemmas.{length_changed}
 use Rattle.ec_acts.proofs.Stepping.{done_nothing, done_there, with_cluster}
-use Rattle.ec_cluster.specs.Directory.{made_count}
+use Rattle.ec_cluster.specs.Whereabouts.{made_count}
 use Rattle.ec_monitors.specs.Monitors.{Granting, entered, is_held_by, left, signalled, waited}
 use Rattle.ec_monitors.specs.declared.record.Entry.{Entry}
 use Rattle.ec_monitors.specs.declared.record.Granted.{Granted}
@@ -96,14 +96,14 @@ module _ (s : System) (w : CodeWorld) (who : Who) (mirrors : Mirrors s w) where
 
   -- ---- where the monitor is acted on
 
-  module _ (c' : Cluster) (changes : Changes Nothing s.cluster c') (directory : c'.directory ≡ s.cluster.directory) where
+  module _ (c' : Cluster) (changes : Changes Nothing s.cluster c') (whereabouts : c'.whereabouts ≡ s.cluster.whereabouts) where
     acted : (m : MonitorRec) (doing : Doing) (o : Outcome) → Shows c' (with_common w (with_monitor w.common who.own m)) →
         done w.common who doing ≡ (with_monitor w.common who.own m, o) → Does s (with_cluster s c') w who doing o
     acted m doing o shown is =
         done_there s w who mirrors c' (with_monitor w.common who.own m) Nothing doing o changes shown
         (record { nodes = refl; classes = refl; constants = refl }) refl
         (length_changed w.common.objects (λ (o : ObjectRec). record o { monitor = Some m }) who.own ∙ mirrors.objects
-        ∙ ap made_count (sym directory))
+        ∙ ap made_count (sym whereabouts))
         (λ k text none. absurd none) is
 
     pub entered_there : (e : Entry) → MonitorActs c' w who.own (λ m. entered m who.process) e →

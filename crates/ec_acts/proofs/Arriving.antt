@@ -62,7 +62,7 @@ module _ (p : Parts) (images : Images) (specs : List NodeSpec) (c : Cluster) (ro
       output = nothing;
       nodes = sym set.nodes;
       classes = ap (λ (q : Parts). q.classes) (sym set.parts);
-      objects = set.many ∙ sym set.directory.made;
+      objects = set.many ∙ sym set.whereabouts.made;
       constants = mapped_length default_of (map kind_of p.constants) ∙ mapped_length kind_of p.constants
           ∙ ap (λ (q : Parts). length q.constants) (sym set.parts);
     };
@@ -74,6 +74,6 @@ module _ (p : Parts) (images : Images) (specs : List NodeSpec) (c : Cluster) (ro
           (λ (string : Strings c w k text). string_there k s text e string)
           h,
     );
-    directory = set.directory;
+    whereabouts = set.whereabouts;
     fits = room;
   }

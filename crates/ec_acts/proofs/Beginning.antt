@@ -51,4 +51,4 @@ module _ (c : Cluster) (n n' : NodeData) (is : slice_get c.nodes 0 ≡ Some n) (
   pub first_set : IsSet p images specs (with_first w own) at (with_node c 0 n')
   first_set = set_with p images specs w at c set 0 n n' is (Frame 0 0) (Some (frame_of c 0 0 first)) puts
       (gets_none (λ text. Has (first_values table own []) (Str text)) (store_of n) (store_of n') (no_first_text table own) gets)
-      c.directory (with_first w own) at set.directory set.many shown
+      c.whereabouts (with_first w own) at set.whereabouts set.many shown

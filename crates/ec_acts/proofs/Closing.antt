@@ -23,7 +23,7 @@ pub record Closes (c c' : Cluster) (who : Who) (count : ℕ) : Type 0 where
   pub shows : (w : CodeWorld) (below : List CodeActivation) (top : CodeActivation) (status : ProcStatus) → ShowsTop c w below top who →
       Shows c' (with_stack w who.process (take count below) status)
   pub changes : Changes Nothing c c'
-  pub directory : c'.directory ≡ c.directory
+  pub whereabouts : c'.whereabouts ≡ c.whereabouts
 
 -- ---- the top goes
 
@@ -36,15 +36,15 @@ top_stands c who some =
     frame_at c some.world t.shows who.process t.is_top.proc t.is_top.is who.depth some.top there who.own t.owns
 
 pub top_closed : (c c' : Cluster) (who : Who) → ShowsClosed c c' who.process who.depth who.own → Changes Nothing c c' →
-    c'.directory ≡ c.directory → Closes c c' who (who.depth - 0)
-top_closed c c' who closes changes directory = record {
+    c'.whereabouts ≡ c.whereabouts → Closes c c' who (who.depth - 0)
+top_closed c c' who closes changes whereabouts = record {
   shows = λ w below top status t.
       let d = t.depth in
       let all : take (who.depth - 0) below ≡ below = take_all (who.depth - 0) below (omega (arith, d)) in
       subst (λ (xs : List CodeActivation). Shows c' (with_stack w who.process xs status)) (sym all)
       (closes w t.is_top.proc below top status t.shows t.is_top.is t.is_top.stack t.depth (sym t.owns));
   changes = changes;
-  directory = directory;
+  whereabouts = whereabouts;
 }
 
 -- ---- the next one
@@ -118,12 +118,12 @@ module _ (c now : Cluster) (who : Who) (i : ℕ) (low : i < who.depth) (so : Clo
   next_stands own some answers = stands some.world some.below some.top some.shows_top own answers
 
   pub next_closed : (next : Cluster) (own : ℕ) → AnswersOwn now who.process (who.depth - 1 - i) own →
-      ShowsClosed now next who.process (who.depth - 1 - i) own → Changes Nothing now next → next.directory ≡ now.directory →
+      ShowsClosed now next who.process (who.depth - 1 - i) own → Changes Nothing now next → next.whereabouts ≡ now.whereabouts →
       Closes c next who (who.depth - (i + 1))
-  next_closed next own answers closes changes directory = record {
+  next_closed next own answers closes changes whereabouts = record {
     shows = λ w below top status t. closed w below top t next own status answers closes;
     changes = nothing_join Nothing c now next so.changes changes;
-    directory = directory ∙ so.directory;
+    whereabouts = whereabouts ∙ so.whereabouts;
   }
 
 -- ---- all have gone
@@ -139,5 +139,5 @@ all_closed c now who i all so w below top status t =
     record {
       shows = shown;
       texts = nothing_said c now (with_stack w who.process [] status) so.changes shown;
-      directory = so.directory;
+      whereabouts = so.whereabouts;
     }

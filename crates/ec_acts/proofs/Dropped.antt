@@ -21,7 +21,7 @@ pub record DroppedSo (c : Cluster) (w : CodeWorld) (p : ℕ) (owns : List ℕ) (
 pub record Drops (c c' : Cluster) (p : ℕ) (owns : List ℕ) (count : ℕ) (freed : List ℕ) : Type 0 where
   pub each : (w : CodeWorld) → Shows c w → DroppedSo c' w p owns count freed
   pub changes : Changes Nothing c c'
-  pub directory : c'.directory ≡ c.directory
+  pub whereabouts : c'.whereabouts ≡ c.whereabouts
 
 abbrev beside : List ObjectRec → List ℕ → List ObjectRec × List ℕ
 beside objects freed = (objects, freed)
@@ -31,16 +31,16 @@ module _ (c : Cluster) (p : ℕ) (owns : List ℕ) where
   none_dropped = record {
     each = λ w shows. record { objects = w.common.objects; shows = shows; rest = refl };
     changes = nothing_changes c;
-    directory = refl;
+    whereabouts = refl;
   }
 
   module _ (now next : Cluster) (count : ℕ) (freed freed' : List ℕ) (granted : Option Granted) (so : Drops c now p owns count freed) where
     pub one_dropped : count < length owns →
         ((w : CodeWorld) → Shows now w → Shows next (with_objects w (dropped_at w.common.objects p (get_or owns count 0)).0)
         × (granted ≡ (dropped_at w.common.objects p (get_or owns count 0)).1)) →
-        Changes Nothing now next → next.directory ≡ now.directory → freed' ≡ freed ++ all_granted granted [] →
+        Changes Nothing now next → next.whereabouts ≡ now.whereabouts → freed' ≡ freed ++ all_granted granted [] →
         Drops c next p owns (count + 1) freed'
-    one_dropped within drops changes directory freed_are = record {
+    one_dropped within drops changes whereabouts freed_are = record {
       each = λ w shows.
           let before = so.each w shows in
           let x = drops (with_objects w before.objects) before.shows in
@@ -53,7 +53,7 @@ module _ (c : Cluster) (p : ℕ) (owns : List ℕ) where
             rest = dropped_next p count owns freed freed' before.objects at.0 granted within pair freed_are ∙ before.rest;
           };
       changes = nothing_join Nothing c now next so.changes changes;
-      directory = directory ∙ so.directory;
+      whereabouts = whereabouts ∙ so.whereabouts;
     }
 
   pub all_dropped : (now : Cluster) (count : ℕ) (freed : List ℕ) → Drops c now p owns count freed → length owns ≤ count → (w : CodeWorld) →

@@ -74,7 +74,7 @@ module _ (d : Declared) (c : Cluster) (w : CodeWorld) (below : List CodeActivati
       given can_go_on
 
   module _ (c' : Cluster) (status : ProcStatus) (shows : ShowsFinished c c' who.process who.depth who.own given)
-      (changes : ChangesFinished c c' who.process who.depth who.own given) (directory : c'.directory ≡ c.directory) where
+      (changes : ChangesFinished c c' who.process who.depth who.own given) (whereabouts : c'.whereabouts ≡ c.whereabouts) where
     abbrev gone_on : CodeWorld
     gone_on = with_stack w who.process (below ++ finished top given ∷ []) status
 
@@ -92,10 +92,10 @@ module _ (d : Declared) (c : Cluster) (w : CodeWorld) (below : List CodeActivati
         record {
           shows = shown;
           texts = strings_come (WhereIs c who.own (IsTaken can_go_on.entry.result given)) c c' gone_on come shown
-              (λ k text h. strings_moved c c' gone_on k text come.parts come.images directory
+              (λ k text h. strings_moved c c' gone_on k text come.parts come.images whereabouts
               (finished_string d c w t.images s.shows who.process who.depth who.own proc s.is_top.is below [] top s.is_top.stack s.depth
               s.owns given can_go_on gone_on k text at h));
-          directory = directory;
+          whereabouts = whereabouts;
         }
 
 -- ---- a new activation lies on top
@@ -115,7 +115,7 @@ module _ (d : Declared) (c : Cluster) (w : CodeWorld) (below : List CodeActivati
   new = begun op own args
 
   module _ (c1 : Cluster) (depth : ℕ) (is : depth ≡ who.depth + 1) (changes : Changes (BeginsWith c op own args) c c1)
-      (directory : c1.directory ≡ c.directory) (shown : ShowsBegun c c1 who.process depth (begun op own args)) where
+      (whereabouts : c1.whereabouts ≡ c.whereabouts) (shown : ShowsBegun c c1 who.process depth (begun op own args)) where
     abbrev above : List CodeActivation
     above = t.shows_top.is_top.proc.activations ++ new ∷ []
 
@@ -148,7 +148,7 @@ module _ (d : Declared) (c : Cluster) (w : CodeWorld) (below : List CodeActivati
         (stacked w who.process s.is_top.proc s.is_top.is above Ready) below (new ∷ []) top above_is s.depth s.owns None still
 
     module _ (c2 : Cluster) (status : ProcStatus) (finishes : ShowsFinished c1 c2 who.process who.depth who.own None)
-        (then_changes : ChangesFinished c1 c2 who.process who.depth who.own None) (then_directory : c2.directory ≡ c1.directory) where
+        (then_changes : ChangesFinished c1 c2 who.process who.depth who.own None) (then_whereabouts : c2.whereabouts ≡ c1.whereabouts) where
       abbrev called_stack : List CodeActivation
       called_stack = (below ++ finished top None ∷ []) ++ new ∷ []
 
@@ -185,10 +185,10 @@ module _ (d : Declared) (c : Cluster) (w : CodeWorld) (below : List CodeActivati
             texts = strings_join (BeginsWith c op own args) (WhereIs c1 who.own (IsTaken still.entry.result None)) c c1 c2 called_world
                 changes come2 regrouped
                 (λ k text h. strings_moved c c2 called_world k text (come2.parts ∙ changes.parts) (come2.images ∙ changes.images)
-                (then_directory ∙ directory)
+                (then_whereabouts ∙ whereabouts)
                 (begun_string d c t.images called_world k who.process (suc (length below)) op own args text can_call.1.entry new_there h))
                 (λ k text h. absurd (none_taken still.entry.result text h.1));
-            directory = then_directory ∙ directory;
+            whereabouts = then_whereabouts ∙ whereabouts;
           }
 
 -- ---- the activation on top goes
@@ -292,9 +292,9 @@ module _ (d : Declared) (c : Cluster) (w : CodeWorld) (below : List CodeActivati
           frame_at c1 (with_stack w who.process high Ready) (shows_high Ready) who.process (stack_with high Ready) (high_there Ready)
           who.depth top there who.own t.shows_top.owns
 
-      module _ (changes : ChangesFinished c c1 who.process (who.depth - 1) own given) (directory : c1.directory ≡ c.directory)
+      module _ (changes : ChangesFinished c c1 who.process (who.depth - 1) own given) (whereabouts : c1.whereabouts ≡ c.whereabouts)
           (c2 : Cluster) (status : ProcStatus) (closes : ShowsClosed c1 c2 who.process who.depth who.own)
-          (then_changes : Changes Nothing c1 c2) (then_directory : c2.directory ≡ c1.directory) where
+          (then_changes : Changes Nothing c1 c2) (then_whereabouts : c2.whereabouts ≡ c1.whereabouts) where
         abbrev left_world : CodeWorld
         left_world = with_stack w who.process (low ++ next ∷ []) status
 
@@ -318,11 +318,11 @@ module _ (d : Declared) (c : Cluster) (w : CodeWorld) (below : List CodeActivati
               texts = strings_join (WhereIs c own (IsTaken has_lower.can.entry.result given)) Nothing c c1 c2 left_world come then_changes
                   once
                   (λ k text h. strings_moved c c2 left_world k text (then_changes.parts ∙ come.parts) (then_changes.images ∙ come.images)
-                  (then_directory ∙ directory)
+                  (then_whereabouts ∙ whereabouts)
                   (finished_string d c w t.images s.shows who.process (who.depth - 1) own s.is_top.proc s.is_top.is low (top ∷ [])
                   has_lower.lower stack_is lower_depth owns_lower given has_lower.can left_world k text next_there h))
                   (λ k text n. absurd n);
-              directory = then_directory ∙ directory;
+              whereabouts = then_whereabouts ∙ whereabouts;
             }
 
         pub left : Becomes c c2 (with_stack w who.process (finish_top code_meaning (below_of below) (top_of below) given) status)

@@ -15,8 +15,7 @@ use Rattle.ec_cluster.specs.Frames.{BeginsWith, CanBegin, HasImages, HasNode, wi
 use Rattle.ec_code.specs.Activations.{begun, code_meaning, finished}
 use Rattle.ec_code.specs.Typing.{Declared}
 use Rattle.ec_code.specs.declared.activation.CodeActivation.{CodeActivation}
-use Rattle.ec_cluster.specs.Directory.{place_at}
-use Rattle.ec_cluster.specs.declared.forward.directory.Whereabouts.{Whereabouts}
+use Rattle.ec_cluster.specs.Whereabouts.{Traces, place_at}
 use Rattle.ec_node_frames.proofs.Texts.{no_texts_begun}
 use Rattle.ec_world.proofs.Procs.{get_end, get_past}
 use Rattle.ec_world.specs.Things.{activation_at, in_process}
@@ -63,13 +62,13 @@ new_process section = record { activations = begun section.operation section.own
 module _ (s s' : System) (section : Section) (d : Declared) (w : CodeWorld) (images : HasImages d s.cluster) (m : Mirrors s w)
     (can : CanBegin s.cluster (length s.processes) 0 section.operation section.own [])
     (changes : Changes (BeginsWith s.cluster section.operation section.own []) s.cluster s'.cluster)
-    (directory : s'.cluster.directory ≡ s.cluster.directory)
+    (whereabouts : s'.cluster.whereabouts ≡ s.cluster.whereabouts)
     (shown : Shows s'.cluster (with_section w (Some section))) where
   pub one_mirrors : s'.output ≡ s.output → s'.processes ≡ s.processes ++ record { activations = 1; status = Ready } ∷ [] →
       Mirrors s' (with_section w (Some section))
   one_mirrors output rows =
       mirrors_still (BeginsWith s.cluster section.operation section.own []) s s' w w.common.objects
-      (w.processes ++ new_process section ∷ []) m changes directory output refl shown
+      (w.processes ++ new_process section ∷ []) m changes whereabouts output refl shown
       (rows ∙ ap (λ (rs : List ProcessRow). rs ++ new_row ∷ []) m.rows ∙ sym (map-append row_of w.processes (new_process section ∷ [])))
 
   pub one_changes : Changes (Strings s'.cluster (with_section w (Some section))) s.cluster s'.cluster
@@ -79,7 +78,7 @@ module _ (s s' : System) (section : Section) (d : Declared) (w : CodeWorld) (ima
       ap (λ (x : Option (Proc CodeActivation)). in_process x 0) (get_end w.processes (new_process section)) in
       strings_come (BeginsWith s.cluster section.operation section.own []) s.cluster s'.cluster (with_section w (Some section)) changes
       shown
-      (λ k text h. strings_moved s.cluster s'.cluster (with_section w (Some section)) k text changes.parts changes.images directory
+      (λ k text h. strings_moved s.cluster s'.cluster (with_section w (Some section)) k text changes.parts changes.images whereabouts
       (begun_string d s.cluster images (with_section w (Some section)) k (length w.processes) 0 section.operation section.own [] text
       can.entry at h))
 
@@ -87,7 +86,7 @@ module _ (s s' : System) (section : Section) (d : Declared) (w : CodeWorld) (ima
 module _ (s : System) (c' : Cluster) (section : Section) (process : ℕ) (arguments : List Value) (none : arguments ≡ [])
     (number : process ≡ length s.processes) (started : Option Section) (is : started ≡ Some section) (can : CanFollow s started)
     (changes : Changes (BeginsWith s.cluster section.operation section.own arguments) s.cluster c')
-    (directory : c'.directory ≡ s.cluster.directory)
+    (whereabouts : c'.whereabouts ≡ s.cluster.whereabouts)
     (begun_so : (d : Declared) (w : CodeWorld) (status : ProcStatus) → HasImages d s.cluster → Shows s.cluster w →
     process ≡ length w.processes → ◌≡◌ {A = ℕ} 0 0 → Shows c'
     (with_one_more w (record { activations = begun section.operation section.own arguments ∷ []; status = status })))
@@ -112,12 +111,12 @@ module _ (s : System) (c' : Cluster) (section : Section) (process : ℕ) (argume
     pub follows_mirrors : Mirrors (record { cluster = c'; processes = rows; output = s.output }) (with_section w started)
     follows_mirrors =
         subst (λ (x : Option Section). Mirrors now (with_section w x)) (sym is)
-        (one_mirrors s now section d w images m can_one changes_one directory shown_one refl rows_are)
+        (one_mirrors s now section d w images m can_one changes_one whereabouts shown_one refl rows_are)
 
     pub follows_changes : Changes (Strings c' (with_section w started)) s.cluster c'
     follows_changes =
         subst (λ (x : Option Section). Changes (Strings c' (with_section w x)) s.cluster c') (sym is)
-        (one_changes s now section d w images m can_one changes_one directory shown_one)
+        (one_changes s now section d w images m can_one changes_one whereabouts shown_one)
 
 -- ---- it can begin where an activation on its object has gone
 
@@ -136,7 +135,7 @@ module _ (d : Declared) (c c' : Cluster) (w : CodeWorld) (below : List CodeActiv
       ap (λ (y : Option CodeActivation). finish_top code_meaning (below_of below) y given) e in
       let after : Shows c' (with_stack w who.process (below_of below ++ finished a given ∷ []) Ready) =
       subst (λ (xs : List CodeActivation). Shows c' (with_stack w who.process xs Ready)) stack becomes.shows in
-      block_free (Strings c' later) c c' becomes.texts becomes.directory w shows_top.shows who.process shows_top.is_top.proc
+      block_free (Strings c' later) c c' becomes.texts becomes.whereabouts w shows_top.shows who.process shows_top.is_top.proc
       shows_top.is_top.is below (below_of below) top a (finished a given) shows_top.is_top.stack (stack_parts below a e)
       (finished_own a given) Ready after k s at there
 
@@ -149,7 +148,7 @@ module _ (d : Declared) (c c' : Cluster) (w : CodeWorld) (below : List CodeActiv
       let x = becomes.texts.each node.node node.store node.there in
       record {
         node = node.node;
-        at = ap (λ (y : List Whereabouts). place_at y top.own) becomes.directory ∙ node.home;
+        at = ap (λ (y : Traces). place_at y top.own) becomes.whereabouts ∙ node.home;
         store = x.0;
         there = x.1;
       }

@@ -11,8 +11,7 @@ use Rattle.ec_cluster.specs.declared.cluster.Images.{Images}
 use Rattle.ec_cluster.specs.Frames.{with_stack}
 use Rattle.ec_code.specs.declared.activation.CodeActivation.{CodeActivation}
 use Rattle.ec_code.specs.declared.code.Parts.{Parts}
-use Rattle.ec_cluster.specs.Directory.{place_at}
-use Rattle.ec_cluster.specs.declared.forward.directory.Whereabouts.{Whereabouts}
+use Rattle.ec_cluster.specs.Whereabouts.{Traces, place_at}
 use Rattle.ec_world.proofs.Procs.{total_push, total_set}
 use Rattle.ec_world.specs.Held.{if_at, total}
 use Rattle.ec_acts.proofs.Stacking.{at_node, get_at, stack_with}
@@ -28,17 +27,17 @@ one_more_free : (now was room kept after before stack rest below low here there 
     there ≡ here → 0 < now
 one_more_free now was room kept after before stack rest below low here there top a b c d e f g h = omega arith
 
-abbrev held_by : Parts → Images → List Whereabouts → ℕ → CodeWorld → ℕ
-held_by parts images directory k w = Held (frame_thing parts (homes_on images)) (place_at directory) k w
+abbrev held_by : Parts → Images → Traces → ℕ → CodeWorld → ℕ
+held_by parts images whereabouts k w = Held (frame_thing parts (homes_on images)) (place_at whereabouts) k w
 
-held_moved : (c c' : Cluster) (w : CodeWorld) (k : ℕ) → c'.parts ≡ c.parts → c'.images ≡ c.images → c'.directory ≡ c.directory →
+held_moved : (c c' : Cluster) (w : CodeWorld) (k : ℕ) → c'.parts ≡ c.parts → c'.images ≡ c.images → c'.whereabouts ≡ c.whereabouts →
     Held (frame_of c') (place c') k w ≡ Held (frame_of c) (place c) k w
-held_moved c c' w k parts images directory =
-    ap (λ (x : Parts). held_by x c'.images c'.directory k w) parts
-    ∙ ap (λ (x : Images). held_by c.parts x c'.directory k w) images
-    ∙ ap (λ (x : List Whereabouts). held_by c.parts c.images x k w) directory
+held_moved c c' w k parts images whereabouts =
+    ap (λ (x : Parts). held_by x c'.images c'.whereabouts k w) parts
+    ∙ ap (λ (x : Images). held_by c.parts x c'.whereabouts k w) images
+    ∙ ap (λ (x : Traces). held_by c.parts c.images x k w) whereabouts
 
-module _ (Added : ℕ → List ℕ → Type 0) (c c' : Cluster) (changes : Changes Added c c') (directory : c'.directory ≡ c.directory)
+module _ (Added : ℕ → List ℕ → Type 0) (c c' : Cluster) (changes : Changes Added c c') (whereabouts : c'.whereabouts ≡ c.whereabouts)
     (w : CodeWorld) (shows : Shows c w) (p : ℕ) (proc : Proc CodeActivation) (is : slice_get w.processes p ≡ Some proc)
     (below low : List CodeActivation) (top a next : CodeActivation) (stack : proc.activations ≡ below ++ top ∷ [])
     (parts : below ≡ low ++ a ∷ []) (own : next.own ≡ a.own) (status : ProcStatus)
@@ -49,7 +48,7 @@ module _ (Added : ℕ → List ℕ → Type 0) (c c' : Cluster) (changes : Chang
   pub block_free : (k : ℕ) (s : Store) → place c' top.own ≡ Some k → stores c' k ≡ Some s → 0 < s.free
   block_free k s at stands =
       let node = at_node c w shows p proc is (length below) top there in
-      let here : place c top.own ≡ Some k = ap (λ (x : List Whereabouts). place_at x top.own) (sym directory) ∙ at in
+      let here : place c top.own ≡ Some k = ap (λ (x : Traces). place_at x top.own) (sym whereabouts) ∙ at in
       let same : node.node ≡ k = same_Some node.node k (sym node.home ∙ here) in
       let was : stores c k ≡ Some node.store = ap (stores c) (sym same) ∙ node.there in
       let x = changes.each k node.store was in
@@ -58,7 +57,7 @@ module _ (Added : ℕ → List ℕ → Type 0) (c c' : Cluster) (changes : Chang
       let room : node.store.room ≡ s.room = sym gets.room ∙ ap (λ (y : Store). y.room) now in
       let later : CodeWorld = with_stack w p (low ++ next ∷ []) status in
       let held : s.free + Held (frame_of c) (place c) k later ≡ s.room =
-      ap (λ n. s.free + n) (sym (held_moved c c' later k changes.parts changes.images directory)) ∙ after.room k s stands in
+      ap (λ n. s.free + n) (sym (held_moved c c' later k changes.parts changes.images whereabouts)) ∙ after.room k s stands in
       let before : node.store.free + Held (frame_of c) (place c) k w ≡ s.room = shows.room k node.store was ∙ room in
       let weight = frame_weight (frame_of c) (place c) k p in
       let all = process_weight (frame_of c) (place c) k in

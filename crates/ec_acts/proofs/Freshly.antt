@@ -11,9 +11,8 @@ use Rattle.ec_cluster.specs.declared.cluster.Cluster.{Cluster}
 use Rattle.ec_cluster.specs.declared.cluster.Images.{Images}
 use Rattle.ec_code.specs.Typing.{kind_of}
 use Rattle.ec_code.specs.declared.code.Parts.{Parts}
-use Rattle.ec_cluster.specs.Directory.{Gives}
+use Rattle.ec_cluster.specs.Whereabouts.{Gives, Traces}
 use Rattle.ec_cluster.specs.Located.{nothing_made}
-use Rattle.ec_cluster.specs.declared.forward.directory.Whereabouts.{Whereabouts}
 use Rattle.ec_acts.proofs.LoadingHolding.{held_nodes}
 use Rattle.ec_acts.specs.Fresh.{AreAtFirst, IsAtFirst}
 use Rattle.ec_acts.specs.Loading.{IsSet}
@@ -37,10 +36,10 @@ mapped f (x ∷ xs) (suc i) y e = mapped f xs i y e
 
 -- ---- fresh nodes
 
-module _ (p : Parts) (images : Images) (specs : List NodeSpec) (nodes : List NodeData) (d : List Whereabouts)
+module _ (p : Parts) (images : Images) (specs : List NodeSpec) (nodes : List NodeData) (d : Traces)
     (fresh : AreAtFirst p specs (length specs) nodes) (gives : Gives d nothing_made) where
   abbrev c : Cluster
-  c = record { parts = p; images = images; nodes = nodes; directory = d }
+  c = record { parts = p; images = images; nodes = nodes; whereabouts = d }
 
   abbrev w : CodeWorld
   w = with_objects (length specs) p []
@@ -96,7 +95,7 @@ module _ (p : Parts) (images : Images) (specs : List NodeSpec) (nodes : List Nod
     sizes = λ k spec s e f.
         let x = store_there k (slice_get nodes k) s f in
         (subst (λ (y : Store). IsAtFirst p spec y) x.2 (fresh.each k spec x.0 e x.1)).size;
-    directory = gives;
+    whereabouts = gives;
     many = refl;
     shows = fresh_shown;
   }

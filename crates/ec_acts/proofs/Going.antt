@@ -38,7 +38,7 @@ module _ (p : Parts) (images : Images) (specs : List NodeSpec) (w : CodeWorld) (
       ((s : Store) → stores c k ≡ Some s → class_blocks class 0 ≤ s.free) → CanMakeAt c k oid class
   can_make k oid class within next blocks = record {
     there = (let n = set.nodes in omega (arith, n, within));
-    next = next ∙ ap suc (set.many ∙ sym set.directory.made);
+    next = next ∙ ap suc (set.many ∙ sym set.whereabouts.made);
     new = λ s e. no_object c w k oid s set.shows e next;
     blocks = blocks;
   }
@@ -100,7 +100,7 @@ module _ (p : Parts) (images : Images) (specs : List NodeSpec) where
 
     module _ (set : IsSet p images specs objects_world (first_made count) c) where
       program_at : place c (suc count) ≡ Some 0
-      program_at = set.directory.places (suc count) ∙ program_place count
+      program_at = set.whereabouts.places (suc count) ∙ program_place count
 
       pub own_at : place c (count + 1) ≡ Some 0
       own_at = let next : count + 1 ≡ suc count = omega arith in ap (place c) next ∙ program_at

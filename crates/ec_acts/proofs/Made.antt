@@ -7,7 +7,7 @@ use Rattle.ec_cluster.specs.Steps.{HasObject, WhereIs, with_common}
 use Rattle.ec_cluster.specs.declared.cluster.Cluster.{Cluster}
 use Rattle.ec_acts.proofs.Counting.{new_place, one_more}
 use Rattle.ec_acts.proofs.Stepping.{done_there, with_cluster}
-use Rattle.ec_cluster.specs.Directory.{made_count}
+use Rattle.ec_cluster.specs.Whereabouts.{made_count}
 use Rattle.ec_monitors.specs.declared.record.MonitorRec.{MonitorRec}
 use Rattle.ec_world.proofs.Procs.{get_end}
 use Rattle.ec_world.specs.declared.key.Key.TheVariants.{Object}
@@ -42,25 +42,25 @@ class_there (Some k) Can can = refl
 pub class_is : (x : Option ClassRec) (k : ClassRec) (Can : ClassRec → Type 0) → x ≡ Some k → ByClass x Can → Can k
 class_is x k Can is can = subst (λ y. ByClass y Can) is can
 
-pub can_make : (c : Cluster) (maker oid : ℕ) (class : ClassNo) (fields wanted : List Value) → oid ≡ suc (made_count c.directory) →
-    fields ≡ wanted → CanMake c maker (suc (made_count c.directory)) class wanted → CanMake c maker oid class fields
+pub can_make : (c : Cluster) (maker oid : ℕ) (class : ClassNo) (fields wanted : List Value) → oid ≡ suc (made_count c.whereabouts) →
+    fields ≡ wanted → CanMake c maker (suc (made_count c.whereabouts)) class wanted → CanMake c maker oid class fields
 can_make c maker oid class fields wanted number are can =
     subst (λ x. CanMake c maker x class fields) (sym number)
-    (subst (λ (x : List Value). CanMake c maker (suc (made_count c.directory)) class x) (sym are) can)
+    (subst (λ (x : List Value). CanMake c maker (suc (made_count c.whereabouts)) class x) (sym are) can)
 
 pub can_make_object : (c : Cluster) (maker oid : ℕ) (class : ClassNo) (fields given : List Value) (k : ClassRec) →
-    oid ≡ suc (made_count c.directory) → class_at c.parts.classes class ≡ Some k → fields ≡ new_fields given k.fields →
+    oid ≡ suc (made_count c.whereabouts) → class_at c.parts.classes class ≡ Some k → fields ≡ new_fields given k.fields →
     ByClass (class_at c.parts.classes class)
-    (λ k. CanMake c maker (suc (made_count c.directory)) class (new_fields given k.fields)) → CanMake c maker oid class fields
+    (λ k. CanMake c maker (suc (made_count c.whereabouts)) class (new_fields given k.fields)) → CanMake c maker oid class fields
 can_make_object c maker oid class fields given k number is are can =
     can_make c maker oid class fields (new_fields given k.fields) number are
     (class_is (class_at c.parts.classes class) k
-    (λ k. CanMake c maker (suc (made_count c.directory)) class (new_fields given k.fields)) is can)
+    (λ k. CanMake c maker (suc (made_count c.whereabouts)) class (new_fields given k.fields)) is can)
 
 -- ---- what has been made
 
 module _ (s : System) (w : CodeWorld) (who : Who) (mirrors : Mirrors s w) (c' : Cluster) (oid : ℕ)
-    (number : oid ≡ suc (made_count s.cluster.directory)) (has : HasObject s.cluster who.own) where
+    (number : oid ≡ suc (made_count s.cluster.whereabouts)) (has : HasObject s.cluster who.own) where
   numbered : oid ≡ suc (length w.common.objects)
   numbered = number ∙ ap suc (sym mirrors.objects)
 

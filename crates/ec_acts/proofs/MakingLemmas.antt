@@ -8,9 +8,8 @@ use Rattle.ec_cluster.specs.Makings.{with_one}
 use Rattle.ec_cluster.specs.declared.cluster.Cluster.{Cluster}
 use Rattle.ec_cluster.specs.declared.cluster.Images.{Images}
 use Rattle.ec_code.specs.declared.code.Parts.{Parts}
-use Rattle.ec_cluster.specs.Directory.{Gives, made_count, place_at}
+use Rattle.ec_cluster.specs.Whereabouts.{Gives, Traces, made_count, place_at}
 use Rattle.ec_cluster.specs.Located.{Located, made_at}
-use Rattle.ec_cluster.specs.declared.forward.directory.Whereabouts.{Whereabouts}
 use Rattle.ec_acts.proofs.Setting.{gets_none, set_with}
 use Rattle.ec_acts.specs.Loading.{IsSet}
 use Rattle.ec_world.proofs.Procs.{get_past}
@@ -90,25 +89,25 @@ fit_no_values s = fit_none s [] no_texts_of
 
 -- ---- an object comes
 
-module _ (c : Cluster) (d' : List Whereabouts) (k oid : ℕ) (n n' : NodeData) (o : ObjectRec) (is : slice_get c.nodes k ≡ Some n)
-    (next : oid ≡ suc (made_count c.directory))
-    (noted : (w : Located) → Gives c.directory w → Gives d' (made_at w oid k))
+module _ (c : Cluster) (d' : Traces) (k oid : ℕ) (n n' : NodeData) (o : ObjectRec) (is : slice_get c.nodes k ≡ Some n)
+    (next : oid ≡ suc (made_count c.whereabouts))
+    (noted : (w : Located) → Gives c.whereabouts w → Gives d' (made_at w oid k))
     (puts : Puts (store_of n) (store_of n') (Object oid) (Some (object_thing oid o))) where
   abbrev after : Cluster
-  after = record c { nodes = slice_set c.nodes k n'; directory = d' }
+  after = record c { nodes = slice_set c.nodes k n'; whereabouts = d' }
 
-  made_shown : (w : CodeWorld) → Shows c w → length w.common.objects ≡ made_count c.directory → Shows after (with_one w o)
+  made_shown : (w : CodeWorld) → Shows c w → length w.common.objects ≡ made_count c.whereabouts → Shows after (with_one w o)
   made_shown w shows many =
       let moved : ShowsWorld (frame_of c) (stores_of c.nodes) w (place_at d') =
       replaced (frame_of c) (stores_of c.nodes) w (place c) (place_at d')
       (λ key t e. let z = shows.things_stand.each key t e in
-      as_before c.directory d' oid k next noted t.home z.node z.home) shows in
+      as_before c.whereabouts d' oid k next noted t.home z.node z.home) shows in
       let number : oid ≡ suc (length w.common.objects) = next ∙ ap suc (sym many) in
       let put : Puts (store_of n) (store_of n') (Object (suc (length w.common.objects)))
       (Some (object_thing (suc (length w.common.objects)) o)) =
       subst (λ x. Puts (store_of n) (store_of n') (Object x) (Some (object_thing x o))) number puts in
       let at : place_at d' (suc (length w.common.objects)) ≡ Some k =
-      subst (λ x. place_at d' x ≡ Some k) number (here c.directory d' oid k next noted) in
+      subst (λ x. place_at d' x ≡ Some k) number (here c.whereabouts d' oid k next noted) in
       one_changed (frame_of c) (place_at d') (stores_of c.nodes) (stores_of (slice_set c.nodes k n')) k (store_of n) (store_of n') w
       (with_one w o) (Object (suc (length w.common.objects))) (Some (object_thing (suc (length w.common.objects)) o)) moved
       (node_put c.nodes k n n' is) put (made (frame_of c) (place_at d') w o k at)
@@ -120,5 +119,5 @@ module _ (c : Cluster) (d' : List Whereabouts) (k oid : ℕ) (n n' : NodeData) (
       set_with p images specs w at c set k n n' is (Object oid) (Some (object_thing oid o)) puts
       (gets_none (λ text. Has o.fields (Str text)) (store_of n) (store_of n')
       (λ text h. no_texts_of text (subst (λ (vs : List Value). Has vs (Str text)) none h)) gets)
-      d' (with_one w o) (made_at at oid k) (noted at set.directory) (length_more w.common.objects o ∙ ap suc set.many)
-      (made_shown w set.shows (set.many ∙ sym set.directory.made))
+      d' (with_one w o) (made_at at oid k) (noted at set.whereabouts) (length_more w.common.objects o ∙ ap suc set.many)
+      (made_shown w set.shows (set.many ∙ sym set.whereabouts.made))

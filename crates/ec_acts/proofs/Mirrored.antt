@@ -6,7 +6,7 @@ use Rattle.ec_cluster.specs.Cluster.{CodeWorld, Shows}
 use Rattle.ec_cluster.specs.Steps.{Changes}
 use Rattle.ec_code.specs.declared.activation.CodeActivation.{CodeActivation}
 use Rattle.ec_code.specs.declared.code.Parts.{Parts}
-use Rattle.ec_cluster.specs.Directory.{made_count}
+use Rattle.ec_cluster.specs.Whereabouts.{made_count}
 use Rattle.ec_monitors.specs.Monitors.{dropped}
 use Rattle.ec_monitors.specs.declared.record.MonitorRec.{MonitorRec}
 use Rattle.ec_cluster.specs.Systems.{Mirrors, row_of}
@@ -52,14 +52,14 @@ world_with w objects processes = record { common = record w.common { objects = o
 
 pub mirrors_still : (Added : ℕ → List ℕ → Type 0) (s s' : System) (w : CodeWorld) (objects : List ObjectRec)
     (processes : List (Proc CodeActivation)) → Mirrors s w → Changes Added s.cluster s'.cluster →
-    s'.cluster.directory ≡ s.cluster.directory → s'.output ≡ s.output → length objects ≡ length w.common.objects →
+    s'.cluster.whereabouts ≡ s.cluster.whereabouts → s'.output ≡ s.output → length objects ≡ length w.common.objects →
     Shows s'.cluster (world_with w objects processes) → s'.processes ≡ map row_of processes → Mirrors s' (world_with w objects processes)
-mirrors_still Added s s' w objects processes m changes directory output many shows rows = record {
+mirrors_still Added s s' w objects processes m changes whereabouts output many shows rows = record {
   shows = shows;
   rows = rows;
   output = output ∙ m.output;
   nodes = m.nodes ∙ sym changes.nodes;
   classes = m.classes ∙ ap (λ (p : Parts). p.classes) (sym changes.parts);
-  objects = many ∙ m.objects ∙ ap made_count (sym directory);
+  objects = many ∙ m.objects ∙ ap made_count (sym whereabouts);
   constants = m.constants ∙ ap (λ (p : Parts). length p.constants) (sym changes.parts);
 }

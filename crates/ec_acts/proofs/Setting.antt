@@ -7,9 +7,8 @@ use Rattle.ec_cluster.specs.Cluster.{CodeWorld, Shows, stores, stores_of}
 use Rattle.ec_cluster.specs.declared.cluster.Cluster.{Cluster}
 use Rattle.ec_cluster.specs.declared.cluster.Images.{Images}
 use Rattle.ec_code.specs.declared.code.Parts.{Parts}
-use Rattle.ec_cluster.specs.Directory.{Gives}
+use Rattle.ec_cluster.specs.Whereabouts.{Gives, Traces}
 use Rattle.ec_cluster.specs.Located.{Located}
-use Rattle.ec_cluster.specs.declared.forward.directory.Whereabouts.{Whereabouts}
 use Rattle.ec_acts.proofs.Keeping.{texts_same}
 use Rattle.ec_acts.specs.Fresh.{HasSize}
 use Rattle.ec_acts.specs.Loading.{IsSet}
@@ -58,15 +57,15 @@ module _ (p : Parts) (images : Images) (specs : List NodeSpec) (w : CodeWorld) (
       (λ (ne : j ≢ k). set.sizes j spec s e (sym ((node_put c.nodes k n n' is).others j ne) ∙ f))
       (same_or_not j k)
 
-  pub set_with : (d' : List Whereabouts) (w' : CodeWorld) (at' : Located) → Gives d' at' → length w'.common.objects ≡ at'.made →
-      Shows (record c { nodes = slice_set c.nodes k n'; directory = d' }) w' →
-      IsSet p images specs w' at' (record c { nodes = slice_set c.nodes k n'; directory = d' })
+  pub set_with : (d' : Traces) (w' : CodeWorld) (at' : Located) → Gives d' at' → length w'.common.objects ≡ at'.made →
+      Shows (record c { nodes = slice_set c.nodes k n'; whereabouts = d' }) w' →
+      IsSet p images specs w' at' (record c { nodes = slice_set c.nodes k n'; whereabouts = d' })
   set_with d' w' at' gives many shows = record {
     parts = set.parts;
     images_are = set.images_are;
     nodes = length_set c.nodes k n' ∙ set.nodes;
     sizes = sizes_after;
-    directory = gives;
+    whereabouts = gives;
     many = many;
     shows = shows;
   }

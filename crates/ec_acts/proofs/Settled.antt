@@ -126,7 +126,7 @@ module _ (s : System) (d : Declared) (w : CodeWorld) (below : List CodeActivatio
   w1 = with_objects w given.0
 
   module _ (c1 : Cluster) (freed : List ℕ) (gives : GivesUp c1 w who.process (owns_of code_meaning below top) o.effect freed)
-      (quiet : Changes Nothing s.cluster c1) (directory1 : c1.directory ≡ s.cluster.directory)
+      (quiet : Changes Nothing s.cluster c1) (whereabouts1 : c1.whereabouts ≡ s.cluster.whereabouts)
       (takes : CanTake s.cluster who.process below top o.effect → CanTake c1 who.process below top o.effect) where
     takes_there : TakesIn d c1 w1 below top who o.effect
     takes_there = record {
@@ -190,7 +190,7 @@ module _ (s : System) (d : Declared) (w : CodeWorld) (below : List CodeActivatio
               (world_with w (given_up who.process (owns_of code_meaning below top) o.effect w.common.objects).0
               (all_readied (with_changed w who.process below top o.effect).processes (all_granted o.granted freed)))
           mirrors_readied =
-              mirrors_still (Strings c2 w2) s s3 w given.0 procs x.mirrors changes2 (becomes.directory ∙ directory1) refl
+              mirrors_still (Strings c2 w2) s s3 w given.0 procs x.mirrors changes2 (becomes.whereabouts ∙ whereabouts1) refl
               (given_length who.process (owns_of code_meaning below top) o.effect w.common.objects)
               (restated (frame_of c2) (stores c2) w2 w3 (place c2) refl refl stacks_same becomes.shows) rows_now
 
@@ -231,7 +231,7 @@ module _ (s : System) (d : Declared) (w : CodeWorld) (below : List CodeActivatio
               (mirrors_so : (d' : Declared) (w' : CodeWorld) → HasImages d' c2 → Mirrors s3 w' → Mirrors s4 (with_section w' o.started))
               (changes_so : (d' : Declared) (w' : CodeWorld) → HasImages d' c2 → Mirrors s3 w' →
               Changes (Strings s4.cluster (with_section w' o.started)) c2 s4.cluster)
-              (directory4 : s4.cluster.directory ≡ c2.directory) where
+              (whereabouts4 : s4.cluster.whereabouts ≡ c2.whereabouts) where
             abbrev w4 : CodeWorld
             w4 = with_section w3 o.started
 
@@ -244,7 +244,7 @@ module _ (s : System) (d : Declared) (w : CodeWorld) (below : List CodeActivatio
             changes_all : Changes (Strings s4.cluster w4) s.cluster s4.cluster
             changes_all =
                 strings_join (Strings c2 w2) (Strings s4.cluster w4) s.cluster c2 s4.cluster w4 changes2 changes_then mirrors_then.shows
-                (λ k text h. strings_moved c2 s4.cluster w4 k text changes_then.parts changes_then.images directory4
+                (λ k text h. strings_moved c2 s4.cluster w4 k text changes_then.parts changes_then.images whereabouts4
                 (strings_kept c2 w2 w4 k text (still_things c2 w2 procs (begun_for code_meaning o.started) stacks_same) refl h))
                 (λ k text h. h)
 

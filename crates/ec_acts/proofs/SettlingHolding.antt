@@ -67,7 +67,7 @@ module _ (objects : List ObjectRec) (p oid : ℕ) where
 -- ---- of nodes
 
 module _ (c : Cluster) (w : CodeWorld) (shows : Shows c w) (oid : ℕ) where
-  -- an object that the directory doesn't know
+  -- an object that wasn't noted
   pub nowhere : place c oid ≡ None → monitor_of w.common oid ≡ None
   nowhere none = by (object_at w.common.objects oid) refl
     where

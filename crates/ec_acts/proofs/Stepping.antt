@@ -5,7 +5,7 @@ use Rattle.ec_cluster.proofs.Putting.{nothing_got}
 use Rattle.ec_cluster.specs.Cluster.{CodeWorld, Shows}
 use Rattle.ec_cluster.specs.Steps.{Changes, Nothing, with_common}
 use Rattle.ec_cluster.specs.declared.cluster.Cluster.{Cluster}
-use Rattle.ec_cluster.specs.Directory.{made_count}
+use Rattle.ec_cluster.specs.Whereabouts.{made_count}
 use Rattle.ec_cluster.proofs.Pools.{strings_come}
 use Rattle.ec_cluster.specs.SystemSteps.{Does}
 use Rattle.ec_cluster.specs.Systems.{Mirrors, Strings}
@@ -44,7 +44,7 @@ pub record Beside (c c' : Common) : Type 0 where
 pub mirrors_with_common : (old new : System) (w : CodeWorld) (c : Common) (Added : ℕ → List ℕ → Type 0) → Mirrors old w →
     Changes Added old.cluster new.cluster →
     Shows new.cluster (with_common w c) → Beside w.common c → new.processes ≡ old.processes → new.output ≡ c.output →
-    length c.objects ≡ made_count new.cluster.directory → Mirrors new (with_common w c)
+    length c.objects ≡ made_count new.cluster.whereabouts → Mirrors new (with_common w c)
 mirrors_with_common old new w c Added mirrors changes shows beside rows output objects = record {
   shows = shows;
   rows = rows ∙ mirrors.rows;
@@ -105,7 +105,7 @@ module _ (s : System) (w : CodeWorld) (who : Who) (mirrors : Mirrors s w) where
   -- Only the nodes are others, and the texts that came to them are those of the world that is shown.
   pub done_there : (c' : Cluster) (c : Common) (Added : ℕ → List ℕ → Type 0) (doing : Doing) (o : Outcome) → Changes Added s.cluster c' →
       Shows c' (with_common w c) → Beside w.common c → c.output ≡ w.common.output →
-      length c.objects ≡ made_count c'.directory →
+      length c.objects ≡ made_count c'.whereabouts →
       ((k : ℕ) (text : List ℕ) → Added k text → Strings c' (with_common w c) k text) → done w.common who doing ≡ (c, o) →
       Does s (with_cluster s c') w who doing o
   done_there c' c Added doing o changes shows beside output objects come is =

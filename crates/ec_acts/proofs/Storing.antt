@@ -10,8 +10,7 @@ use Rattle.ec_cluster.specs.Steps.{Changes, Everywhere, HasField, Nothing, Where
 use Rattle.ec_cluster.specs.declared.cluster.Cluster.{Cluster}
 use Rattle.ec_acts.proofs.ObjectsLemmas.{changed_here, length_changed}
 use Rattle.ec_acts.proofs.Stepping.{done_nothing, done_there, with_cluster}
-use Rattle.ec_cluster.specs.Directory.{made_count, place_at}
-use Rattle.ec_cluster.specs.declared.forward.directory.Whereabouts.{Whereabouts}
+use Rattle.ec_cluster.specs.Whereabouts.{Traces, made_count, place_at}
 use Rattle.ec_world.specs.declared.key.Key.TheVariants.{Object}
 use Rattle.ec_cluster.specs.SystemSteps.{Does}
 use Rattle.ec_cluster.specs.Systems.{Mirrors}
@@ -58,9 +57,9 @@ module _ (s : System) (w : CodeWorld) (who : Who) (mirrors : Mirrors s w) where
       done_nothing s w who mirrors (Defines index v) passed
       (ap (λ x. (record w.common { globals = x }, passed)) (set_past w.common.globals index v over))
 
-  module _ (c' : Cluster) (directory : c'.directory ≡ s.cluster.directory) where
-    counted : length w.common.objects ≡ made_count c'.directory
-    counted = mirrors.objects ∙ ap made_count (sym directory)
+  module _ (c' : Cluster) (whereabouts : c'.whereabouts ≡ s.cluster.whereabouts) where
+    counted : length w.common.objects ≡ made_count c'.whereabouts
+    counted = mirrors.objects ∙ ap made_count (sym whereabouts)
 
     pub defined_there : (index : ℕ) (v : Value) → index < length s.cluster.parts.constants → Changes (Everywhere v) s.cluster c' →
         ((w : CodeWorld) → Shows s.cluster w → index < length w.common.globals →
@@ -87,7 +86,7 @@ module _ (s : System) (w : CodeWorld) (who : Who) (mirrors : Mirrors s w) where
           key = Object oid;
           thing = object_thing oid (with_element i v o.0);
           is = ap (object_if oid) (changed_here w.common.objects (with_element i v) oid o.0 o.1);
-          at = ap (λ (d : List Whereabouts). place_at d oid) directory ∙ come.0;
+          at = ap (λ (d : Traces). place_at d oid) whereabouts ∙ come.0;
           has = record { at = i; is = get_set_same o.0.fields i v inside ∙ ap Some come.1 };
         }))
         refl

@@ -9,8 +9,7 @@ use Rattle.ec_cluster.specs.declared.cluster.Cluster.{Cluster}
 use Rattle.ec_cluster.specs.declared.cluster.Images.{Images}
 use Rattle.ec_code.specs.declared.activation.CodeActivation.{CodeActivation}
 use Rattle.ec_code.specs.declared.code.Parts.{Parts}
-use Rattle.ec_cluster.specs.Directory.{place_at}
-use Rattle.ec_cluster.specs.declared.forward.directory.Whereabouts.{Whereabouts}
+use Rattle.ec_cluster.specs.Whereabouts.{Traces, place_at}
 use Rattle.ec_world.specs.Things.{activation_at}
 use Rattle.ec_world.specs.declared.key.Key.{Key}
 use Rattle.ec_world.specs.declared.key.Key.TheVariants.{Frame}
@@ -24,17 +23,17 @@ use Rattle.ec_world.specs.declared.value.Value.TheVariants.{Str}
 
 -- ---- the texts of a world
 
-abbrev strings_by : Parts → Images → List Whereabouts → CodeWorld → ℕ → List ℕ → Type 0
-strings_by parts images directory w k text =
-    IsHeld (things_of (frame_thing parts (homes_on images)) w) (place_at directory) k text ⊎ Has w.common.globals (Str text)
+abbrev strings_by : Parts → Images → Traces → CodeWorld → ℕ → List ℕ → Type 0
+strings_by parts images whereabouts w k text =
+    IsHeld (things_of (frame_thing parts (homes_on images)) w) (place_at whereabouts) k text ⊎ Has w.common.globals (Str text)
 
 -- they are the same on other nodes of the program, where no object has gone anywhere
 pub strings_moved : (c c' : Cluster) (w : CodeWorld) (k : ℕ) (text : List ℕ) → c'.parts ≡ c.parts → c'.images ≡ c.images →
-    c'.directory ≡ c.directory → Strings c w k text → Strings c' w k text
-strings_moved c c' w k text parts images directory h =
-    subst (λ (x : Parts). strings_by x c'.images c'.directory w k text) (sym parts)
-    (subst (λ (x : Images). strings_by c.parts x c'.directory w k text) (sym images)
-    (subst (λ (x : List Whereabouts). strings_by c.parts c.images x w k text) (sym directory) h))
+    c'.whereabouts ≡ c.whereabouts → Strings c w k text → Strings c' w k text
+strings_moved c c' w k text parts images whereabouts h =
+    subst (λ (x : Parts). strings_by x c'.images c'.whereabouts w k text) (sym parts)
+    (subst (λ (x : Images). strings_by c.parts x c'.whereabouts w k text) (sym images)
+    (subst (λ (x : Traces). strings_by c.parts c.images x w k text) (sym whereabouts) h))
 
 -- a world that keeps the things and the constants of another one has its texts
 pub strings_kept : (c : Cluster) (w w' : CodeWorld) (k : ℕ) (text : List ℕ) →

@@ -5,7 +5,7 @@ use Rattle.ec_cluster.specs.Images.{homes_on, image_of}
 use Rattle.ec_cluster.specs.declared.cluster.Images.{Images}
 use Rattle.ec_code.specs.Typing.{Declared}
 use Rattle.ec_code.specs.declared.code.Parts.{Parts}
-use Rattle.ec_cluster.specs.Directory.{Gives}
+use Rattle.ec_cluster.specs.Whereabouts.{Gives}
 use Rattle.ec_cluster.specs.Located.{first_made}
 use Rattle.ec_acts.specs.Fresh.{HasSize}
 use Rattle.ec_acts.specs.Loading.{HaveRoom, first_needs}
@@ -38,7 +38,7 @@ pub record Loaded (p : Parts) (images : Images) (specs : List NodeSpec) (s : Sys
       HasSize p spec store
   pub texts : (k : ℕ) (store : Store) (text : List ℕ) → stores s.cluster k ≡ Some store →
       InPool store text ↔ (Has p.literals text ⊎ Strings s.cluster (world_first (length specs) p) k text)
-  pub directory : Gives s.cluster.directory (first_made (length specs))
+  pub whereabouts : Gives s.cluster.whereabouts (first_made (length specs))
   pub fits : HaveRoom (first_needs p images (length specs)) specs (length specs)
 
 -- what is said where a node lacks room

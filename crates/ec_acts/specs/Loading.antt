@@ -7,7 +7,7 @@ use Rattle.ec_cluster.specs.declared.cluster.Cluster.{Cluster}
 use Rattle.ec_cluster.specs.declared.cluster.Images.{Images}
 use Rattle.ec_code.specs.Typing.{Declared}
 use Rattle.ec_code.specs.declared.code.Parts.{Parts}
-use Rattle.ec_cluster.specs.Directory.{Gives, made_count}
+use Rattle.ec_cluster.specs.Whereabouts.{Gives, made_count}
 use Rattle.ec_cluster.specs.Located.{Located}
 use Rattle.ec_acts.specs.Fresh.{HasSize, IsNodeSize}
 use Rattle.ec_acts.specs.Worlds.{first_blocks, first_place, world_first}
@@ -73,20 +73,20 @@ pub record LacksFirst (needs : ℕ → NodeSpec → Needs) (specs : List NodeSpe
 
 -- ---- nodes that show a world on the way to the first
 
--- Nodes of these sizes have the program and its images, show a world, and have its objects in their directory.
+-- Nodes of these sizes have the program and its images, show a world, and have noted its objects.
 pub record IsSet (p : Parts) (images : Images) (specs : List NodeSpec) (w : CodeWorld) (at : Located) (c : Cluster) : Type 0 where
   pub parts : c.parts ≡ p
   pub images_are : c.images ≡ images
   pub nodes : length c.nodes ≡ length specs
   pub sizes : (k : ℕ) (spec : NodeSpec) (s : Store) → slice_get specs k ≡ Some spec → stores c k ≡ Some s → HasSize p spec s
-  pub directory : Gives c.directory at
+  pub whereabouts : Gives c.whereabouts at
   pub many : length w.common.objects ≡ at.made
   pub shows : Shows c w
 
 -- A node is there, and has blocks for an object of a class that has no fields; the object has the next number.
 pub record CanMakeAt (c : Cluster) (k oid : ℕ) (class : ClassNo) : Type 0 where
   pub there : k < length c.nodes
-  pub next : oid ≡ suc (made_count c.directory)
+  pub next : oid ≡ suc (made_count c.whereabouts)
   pub new : (s : Store) → stores c k ≡ Some s → s.row (Object oid) ≡ None
   pub blocks : (s : Store) → stores c k ≡ Some s → class_blocks class 0 ≤ s.free
 

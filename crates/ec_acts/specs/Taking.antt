@@ -82,7 +82,7 @@ with_section w started = record w { processes = w.processes ++ begun_for code_me
 pub record Becomes (c c' : Cluster) (w : CodeWorld) : Type 0 where
   pub shows : Shows c' w
   pub texts : Changes (Strings c' w) c c'
-  pub directory : c'.directory ≡ c.directory
+  pub whereabouts : c'.whereabouts ≡ c.whereabouts
 
 -- A process that fails has given up its monitors, and these were granted one.
 pub record GivesUp (c' : Cluster) (w : CodeWorld) (p : ℕ) (owns : List ℕ) (e : Effect) (freed : List ℕ) : Type 0 where

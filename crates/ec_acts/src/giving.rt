@@ -32,7 +32,7 @@ pub(crate) fn give_up(
         ShowsTop cluster.old w below top who →
         GivesUp cluster.new w who.process (spec.owns_of code_meaning below top) effect.now freed) }
     ensures changes { OnOk result (Changes Nothing cluster.old cluster.new) }
-    ensures directory { cluster.new.directory ≡ cluster.old.directory }
+    ensures whereabouts { cluster.new.whereabouts ≡ cluster.old.whereabouts }
     ensures takes { (p : ℕ) (below : List CodeActivation) (top : CodeActivation) →
         CanTake cluster.old p below top effect.now → CanTake cluster.new p below top effect.now }
 {
@@ -75,7 +75,7 @@ fn drop_each(
         Shows cluster.new (with_objects w (dropped_each process owns.now w.common.objects).0)
         × (freed ≡ (dropped_each process owns.now w.common.objects).1)) }
     ensures changes { OnOk result (Changes Nothing cluster.old cluster.new) }
-    ensures directory { cluster.new.directory ≡ cluster.old.directory }
+    ensures whereabouts { cluster.new.whereabouts ≡ cluster.old.whereabouts }
 {
     let mut freed = Seq::new(alloc);
     for own in owns {
@@ -101,7 +101,7 @@ fn drop_at(cluster: &mut Cluster, process: Pid, oid: Oid) -> Option<Granted>
         Shows cluster.new (with_objects w (dropped_at w.common.objects process oid).0)
         × (result ≡ (dropped_at w.common.objects process oid).1) }
     ensures changes { Changes Nothing cluster.old cluster.new }
-    ensures directory { cluster.new.directory ≡ cluster.old.directory }
+    ensures whereabouts { cluster.new.whereabouts ≡ cluster.old.whereabouts }
 {
     if holds(cluster, process, oid) {
         drop_all(cluster, oid, process)
@@ -116,7 +116,7 @@ fn holds(cluster: &Cluster, process: Pid, oid: Oid) -> bool
         (HasObject cluster.now oid × MonitorThere cluster.now oid (λ s. HoldsMonitor s oid process))
         ((w : CodeWorld) → Shows cluster.now w → LeavesAlone w.common.objects process oid) }
 {
-    let Some(k) = cluster.directory.place(oid) else {
+    let Some(k) = cluster.whereabouts.place(oid) else {
         return false;
     };
     let Some(node) = cluster.nodes.get(k as usize) else {

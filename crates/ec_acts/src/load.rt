@@ -13,7 +13,7 @@ use crate::fresh::fresh_nodes;
 use crate::objects::{begin_first, make_at};
 use ec_base::list::Seq;
 use ec_cluster::cluster::{Cluster, Images};
-use ec_cluster::forward::directory::Directory;
+use ec_cluster::forward::whereabouts::Whereabouts;
 use ec_cluster::system::{ProcessRow, System};
 use ec_code::code::Parts;
 use ec_world::class::ClassNo;
@@ -161,7 +161,7 @@ fn with_nodes(
         parts,
         images,
         nodes,
-        directory: Directory::new(alloc),
+        whereabouts: Whereabouts::new(alloc),
     };
     for k in 0..specs.len() {
         let node = k as NodeNo;

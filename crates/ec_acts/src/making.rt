@@ -1,7 +1,7 @@
 //! New objects, at the nodes where their makers are.
-ghost use Rattle.std.specs.Prelude.{◌≡◌, ◌+◌, ◌-◌, ◌^◌, ◌<◌, ◌≤◌, suc, IfOk, IsSome, OnErr, OnOk, Some, true, false};
+ghost use Rattle.std.specs.Prelude.{◌≡◌, ◌-◌, ◌^◌, ◌≤◌, suc, IfOk, IsSome, OnErr, OnOk, Some};
 ghost use Rattle.ec_acts.specs.Doings.{DoneTo, OneMore};
-ghost use Rattle.ec_cluster.specs.Directory.{made_count};
+ghost use Rattle.ec_cluster.specs.Whereabouts.{made_count};
 ghost use Rattle.ec_cluster.specs.SystemSteps.{CanBeDone};
 ghost use Rattle.ec_world.specs.Objects.{class_at};
 ghost use Rattle.ec_world.specs.Outcomes as spec;
@@ -10,7 +10,7 @@ ghost use Rattle.ec_world.specs.declared.doing.Doing.TheVariants.{Makes, MakesVe
 
 use crate::plain::only;
 use ec_base::list::Seq;
-use ec_cluster::forward::directory::Directory;
+use ec_cluster::forward::whereabouts::Whereabouts;
 use ec_cluster::making;
 use ec_cluster::system::System;
 use ec_monitors::monitor::Monitor;
@@ -39,7 +39,7 @@ pub(crate) fn make(
     let initial = made.initial;
     let fields = filled(alloc, given, &made.fields)?;
     let monitor = monitor_for(alloc, made)?;
-    let oid = next_number(&system.cluster.directory)?;
+    let oid = next_number(&system.cluster.whereabouts)?;
     making::make(
         &mut system.cluster,
         alloc,
@@ -71,7 +71,7 @@ pub(crate) fn make_vector(
     ensures places { OnOk result (OneMore system.old.cluster system.new.cluster who.own) }
 {
     let elements = default_elements(alloc, of.elements(), size)?;
-    let oid = next_number(&system.cluster.directory)?;
+    let oid = next_number(&system.cluster.whereabouts)?;
     making::make(
         &mut system.cluster,
         alloc,
@@ -116,49 +116,10 @@ fn monitor_for(alloc: Global, class: &ClassRec) -> Result<Option<Monitor>, Alloc
     Ok(None)
 }
 
-/// The number of the next object, found in 32 steps. The error is that there are 2^32 - 1 objects.
-fn next_number(directory: &Directory) -> Result<Oid, AllocError>
-    ensures ok { IfOk result (λ oid. oid ≡ suc (made_count directory.now)) }
-    ensures err { OnErr result (2 ^ 32 - 1 ≤ made_count directory.now) }
+/// The number of the next object. The error is that there are 2^32 - 1 objects.
+fn next_number(whereabouts: &Whereabouts) -> Result<Oid, AllocError>
+    ensures ok { IfOk result (λ oid. oid ≡ suc (made_count whereabouts.now)) }
+    ensures err { OnErr result (2 ^ 32 - 1 ≤ made_count whereabouts.now) }
 {
-    let mut made = 0;
-    let mut free = u32::MAX;
-    if has_made(directory, free) {
-        return Err(AllocError);
-    }
-    while made + 1 < free {
-        let (low, high) = halved(directory, made, free);
-        made = low;
-        free = high;
-    }
-    Ok(free)
-}
-
-/// Of two numbers, of which there are the first and not the second, and others between them, two that are closer.
-fn halved(directory: &Directory, made: Oid, free: Oid) -> (Oid, Oid)
-    requires made { made ≤ made_count directory.now }
-    requires free { made_count directory.now < free }
-    requires apart { made + 1 < free }
-    ensures made { result.0 ≤ made_count directory.now }
-    ensures free { made_count directory.now < result.1 }
-    ensures closer { result.1 - result.0 < free - made }
-{
-    let between = made + (free - made) / 2;
-    if has_made(directory, between) {
-        (between, free)
-    } else {
-        (made, between)
-    }
-}
-
-/// Whether so many objects are made.
-fn has_made(directory: &Directory, oid: Oid) -> bool
-    requires { 0 < oid }
-    ensures yes { result ≡ true → oid ≤ made_count directory.now }
-    ensures no { result ≡ false → made_count directory.now < oid }
-{
-    match directory.place(oid) {
-        Some(_) => true,
-        None => false,
-    }
+    whereabouts.next_number().ok_or(AllocError)
 }

@@ -26,7 +26,7 @@ pub(crate) fn enter(system: &mut System, who: Who) -> Result<Outcome, AllocError
     ensures does { IfOk result (λ o. DoneTo system.old system.new who Enters o) }
     ensures processes { system.new.processes ≡ system.old.processes }
     ensures texts { OnOk result (Changes Nothing system.old.cluster system.new.cluster) }
-    ensures directory { system.new.cluster.directory ≡ system.old.cluster.directory }
+    ensures whereabouts { system.new.cluster.whereabouts ≡ system.old.cluster.whereabouts }
 {
     let Some(_) = monitor_of(&system.cluster, who.own) else {
         return Ok(goes_on());
@@ -42,7 +42,7 @@ pub(crate) fn wait(system: &mut System, who: Who, condition: u32) -> Outcome
     ensures does { DoneTo system.old system.new who (Waits condition) result }
     ensures processes { system.new.processes ≡ system.old.processes }
     ensures texts { Changes Nothing system.old.cluster system.new.cluster }
-    ensures directory { system.new.cluster.directory ≡ system.old.cluster.directory }
+    ensures whereabouts { system.new.cluster.whereabouts ≡ system.old.cluster.whereabouts }
 {
     let Some(monitor) = monitor_of(&system.cluster, who.own) else {
         return goes_on();
@@ -66,7 +66,7 @@ pub(crate) fn signal(system: &mut System, who: Who, condition: u32) -> Outcome
     ensures does { DoneTo system.old system.new who (Signals condition) result }
     ensures processes { system.new.processes ≡ system.old.processes }
     ensures texts { Changes Nothing system.old.cluster system.new.cluster }
-    ensures directory { system.new.cluster.directory ≡ system.old.cluster.directory }
+    ensures whereabouts { system.new.cluster.whereabouts ≡ system.old.cluster.whereabouts }
 {
     let Some(monitor) = monitor_of(&system.cluster, who.own) else {
         return goes_on();
@@ -95,7 +95,7 @@ pub(crate) fn leave(
     ensures does { DoneTo system.old system.new who (Returns given leaves section) result }
     ensures processes { system.new.processes ≡ system.old.processes }
     ensures texts { Changes Nothing system.old.cluster system.new.cluster }
-    ensures directory { system.new.cluster.directory ≡ system.old.cluster.directory }
+    ensures whereabouts { system.new.cluster.whereabouts ≡ system.old.cluster.whereabouts }
 {
     let started = section_on(who.own, section);
     if !leaves {

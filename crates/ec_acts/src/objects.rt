@@ -33,7 +33,7 @@ pub(crate) fn make_at(
         IsSet p images specs (with_one w (record { class = class; fields = []; fixed = fixed; monitor = None })) (made_at at oid node)
         cluster.new) }
 {
-    cluster.directory.note_made(oid, node)?;
+    cluster.whereabouts.note_made(oid, node)?;
     create_object(
         cluster.nodes.at_mut(node as usize),
         alloc,

@@ -47,7 +47,7 @@ pub(crate) fn define(system: &mut System, index: u32, value: &Value) -> Result<O
     requires { CanDefine system.old.cluster index value.now }
     ensures does { IfOk result (λ o. (who : AnyWho) → DoneTo system.old system.new who (Defines index value.now) o) }
     ensures processes { system.new.processes ≡ system.old.processes }
-    ensures directory { system.new.cluster.directory ≡ system.old.cluster.directory }
+    ensures whereabouts { system.new.cluster.whereabouts ≡ system.old.cluster.whereabouts }
 {
     if index as usize >= system.cluster.parts.constants.len() {
         return Ok(goes_on());
@@ -68,7 +68,7 @@ pub(crate) fn store(
     requires room { HasRoomAt system.old.cluster vector value.now }
     ensures does { IfOk result (λ o. (who : AnyWho) → DoneTo system.old system.new who (Stores vector index value.now) o) }
     ensures processes { system.new.processes ≡ system.old.processes }
-    ensures directory { system.new.cluster.directory ≡ system.old.cluster.directory }
+    ensures whereabouts { system.new.cluster.whereabouts ≡ system.old.cluster.whereabouts }
 {
     set_field(&mut system.cluster, vector, index, value)?;
     Ok(goes_on())
@@ -80,7 +80,7 @@ pub(crate) fn unfix(system: &mut System, oid: Oid) -> Outcome
     ensures does { (who : AnyWho) → DoneTo system.old system.new who (Unfixes oid) result }
     ensures processes { system.new.processes ≡ system.old.processes }
     ensures texts { Changes Nothing system.old.cluster system.new.cluster }
-    ensures directory { system.new.cluster.directory ≡ system.old.cluster.directory }
+    ensures whereabouts { system.new.cluster.whereabouts ≡ system.old.cluster.whereabouts }
 {
     set_flag(&mut system.cluster, oid, false);
     goes_on()

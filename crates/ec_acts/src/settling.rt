@@ -35,7 +35,7 @@ pub fn settle(
     requires { CanBeSettled system.old who outcome }
     ensures settles { OnOk result ((d : Declared) (w : CodeWorld) (below : List CodeActivation) (top : CodeActivation) →
         SettlesIn d system.old w below top who outcome → Settles system.old system.new w who.process below top outcome) }
-    ensures directory { OnOk result (system.new.cluster.directory ≡ system.old.cluster.directory) }
+    ensures whereabouts { OnOk result (system.new.cluster.whereabouts ≡ system.old.cluster.whereabouts) }
 {
     let Outcome {
         effect,
@@ -59,7 +59,7 @@ fn follow(system: &mut System, alloc: Global, started: Option<Section>) -> Resul
         Mirrors system.new (with_section w started)) }
     ensures changes { OnOk result ((d : Declared) (w : CodeWorld) → HasImages d system.old.cluster → Mirrors system.old w →
         Changes (Strings system.new.cluster (with_section w started)) system.old.cluster system.new.cluster) }
-    ensures directory { system.new.cluster.directory ≡ system.old.cluster.directory }
+    ensures whereabouts { system.new.cluster.whereabouts ≡ system.old.cluster.whereabouts }
 {
     let Some(section) = started else {
         return Ok(());

@@ -26,7 +26,7 @@ pub unpacked_at : (table : ClassTable) (c : Cluster) (k : ℕ) (n n' : NodeData)
 unpacked_at table c k n n' x is unpacked = record {
   parts = refl;
   images = refl;
-  directory = refl;
+  whereabouts = refl;
   nodes = length_set c.nodes k n';
   old = store_of n;
   new = store_of n';

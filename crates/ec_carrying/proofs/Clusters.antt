@@ -111,7 +111,7 @@ module _ (d : Declared) (table : ClassTable) (c c' : Cluster) (w : CodeWorld) (k
 
   pub shown_again : ShowsStaying c (among (keys_of x)) w → Shows c' w
   shown_again shows =
-      places_along c c' at.parts at.images (λ frame pl. ShowsBut frame nothing (stores c') w pl) at.directory
+      places_along c c' at.parts at.images (λ frame pl. ShowsBut frame nothing (stores c') w pl) at.whereabouts
       (many_land (frame_of c) w (place c) (stores c) (stores c') k at.old at.new (keys_of x) holds.once shows at.at lands
       at.unpacked.others at.unpacked.grown at.unpacked.tidy blocks)
 

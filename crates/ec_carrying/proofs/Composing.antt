@@ -85,7 +85,7 @@ module _ (table : ClassTable) (c c1 : Cluster) (from to : ℕ) (bytes : List ℕ
   }
 
   pub composed : (c2 : Cluster) → UnpackedAt table c1 c2 to x → Carried c c2 w x to
-  composed c2 at = has_come i keeps off c2 (texts_changed table c1 c2 to x at) at.directory (shown_again d table c1 c2 w to x holds at)
+  composed c2 at = has_come i keeps off c2 (texts_changed table c1 c2 to x at) at.whereabouts (shown_again d table c1 c2 w to x holds at)
 
   pub has_room : (s : Store) → stores c1 to ≡ Some s → HasRoomHere table s x
   has_room s there =

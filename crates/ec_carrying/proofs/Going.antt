@@ -17,8 +17,7 @@ use Rattle.ec_cluster.specs.Frames.{HasImages, tables_on}
 use Rattle.ec_cluster.specs.Images.{homes_on}
 use Rattle.ec_code.specs.Typing.{Declared}
 use Rattle.ec_code.specs.declared.activation.CodeActivation.{CodeActivation}
-use Rattle.ec_cluster.specs.Directory.{made_count, place_at}
-use Rattle.ec_cluster.specs.declared.forward.directory.Whereabouts.{Whereabouts}
+use Rattle.ec_cluster.specs.Whereabouts.{Traces, made_count, place_at}
 use Rattle.ec_generate.specs.declared.table.OperationTable.{OperationTable}
 use Rattle.ec_monitors.specs.declared.record.MonitorRec.{MonitorRec}
 use Rattle.ec_node_frames.proofs.Carrying.{many_carried}
@@ -168,7 +167,7 @@ module _ {table : ClassTable} {c : Cluster} {from to : ℕ} {bytes : List ℕ} {
   pub all_kept : AreKept c from (keys_of x)
   all_kept = record { once = keys_once x i.wire.rules; each = λ key h. kept_there key (things_there key h) }
 
-  pub all_at : AreAll c.directory x.objects from
+  pub all_at : AreAll c.whereabouts x.objects from
   all_at part h = (i.packs.objects part h).goes.at
 
   home_of_frame : (p depth : ℕ) (t : Thing) (part : ObjectPart) (f : FrameIs c p depth (activation_at w.processes p depth) t) →
@@ -321,12 +320,12 @@ module _ {table : ClassTable} {c : Cluster} {from to : ℕ} {bytes : List ℕ} {
 
       -- ---- all of it has come
 
-      pub has_come : (c2 : Cluster) → Changes (TextsAt to (values_in x)) c1 c2 → c2.directory ≡ c1.directory →
+      pub has_come : (c2 : Cluster) → Changes (TextsAt to (values_in x)) c1 c2 → c2.whereabouts ≡ c1.whereabouts →
           (ShowsStaying c1 (among (keys_of x)) w → Shows c2 w) → Carried c c2 w x to
-      has_come c2 changes directory shown = record {
+      has_come c2 changes whereabouts shown = record {
         shows = shown under_way;
         changes = nothing_join (TextsAt to (values_in x)) c c1 c2 off.changes changes;
-        there = λ part h. ap (λ (l : List Whereabouts). place_at l part.number) directory ∙ off.there part h;
-        others = λ oid none. ap (λ (l : List Whereabouts). place_at l oid) directory ∙ off.stay oid none;
-        count = ap made_count directory ∙ off.count;
+        there = λ part h. ap (λ (l : Traces). place_at l part.number) whereabouts ∙ off.there part h;
+        others = λ oid none. ap (λ (l : Traces). place_at l oid) whereabouts ∙ off.stay oid none;
+        count = ap made_count whereabouts ∙ off.count;
       }

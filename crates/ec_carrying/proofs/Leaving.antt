@@ -33,14 +33,14 @@ pub record Taking (c now : Cluster) (k : ℕ) (keys : List Key) (i : ℕ) : Type
 one_off : (c c' : Cluster) (k : ℕ) (key : Key) (w : CodeWorld) (before : List Key) → OnePut NoTexts c c' k key None → ThingAt c w k key →
     among before key ≡ false → ShowsStaying c (among before) w → ShowsStaying c' (among (before ++ key ∷ [])) w
 one_off c c' k key w before one t stays shows =
-    places_along c c' one.parts one.images (λ frame at. ShowsBut frame (among (before ++ key ∷ [])) (stores c') w at) one.directory
+    places_along c c' one.parts one.images (λ frame at. ShowsBut frame (among (before ++ key ∷ [])) (stores c') w at) one.whereabouts
     (takes_off (frame_of c) (among before) (among (before ++ key ∷ [])) (stores c) (stores c') w (place c) k one.old one.new key t.thing
     shows stays t.is t.at one.at one.puts (one_behind before key))
 
 none_off : (c : Cluster) (k : ℕ) → TakenOff c c k []
 none_off c k = record {
   changes = nothing_changes c;
-  directory = refl;
+  whereabouts = refl;
   others = λ j ne. refl;
   kept = λ key absent kept. kept;
   shows = λ w before things once shows. subst (λ keys. ShowsStaying c (among keys) w) (sym (append-nil before)) shows;
@@ -50,7 +50,7 @@ one_more_off : (c now c' : Cluster) (k : ℕ) (keys : List Key) (key : Key) → 
     TakenOff c c' k (keys ++ key ∷ [])
 one_more_off c now c' k keys key off one = record {
   changes = nothing_join Nothing c now c' off.changes (nothing_more now c' k key None one);
-  directory = one.directory ∙ off.directory;
+  whereabouts = one.whereabouts ∙ off.whereabouts;
   others = λ j ne. one.at.others j ne ∙ off.others j ne;
   kept = λ other absent kept.
       still_kept NoTexts now c' k key None one other
@@ -61,7 +61,7 @@ one_more_off c now c' k keys key off one = record {
       let apart : Distinct ((before ++ keys) ++ key ∷ []) = subst (λ (ks : List Key). Distinct ks) (sym regrouped) once in
       let so_far : ShowsStaying now (among (before ++ keys)) w =
       off.shows w before (λ x h. things x (has_front x keys (key ∷ []) h)) (once_front (before ++ keys) (key ∷ []) apart) shows in
-      let there : ThingAt now w k key = thing_along c now off.changes.parts off.changes.images w k key off.directory
+      let there : ThingAt now w k key = thing_along c now off.changes.parts off.changes.images w k key off.whereabouts
       (things key (has_back key keys (key ∷ []) (has_first key []))) in
       let stays : among (before ++ keys) key ≡ false =
       not_among (before ++ keys) key (λ h. once_apart (before ++ keys) (key ∷ []) key apart h (has_first key [])) in

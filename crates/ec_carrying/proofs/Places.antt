@@ -3,9 +3,9 @@ use Rattle.std.proofs.Common.{◌≡◌, ◌≢◌, ℕ, ◌+◌, ◌≤◌, Lis
 use Rattle.std.specs.Prelude.{slice_get}
 use Rattle.ec_base.proofs.Lists.{take_next}
 use Rattle.ec_carrying.specs.Moves.{AreAll, NotAny}
-use Rattle.ec_cluster.specs.Directory.{Gives, made_count, place_at}
+use Rattle.ec_cluster.proofs.Places.{gives_located, located}
+use Rattle.ec_cluster.specs.Whereabouts.{Gives, Traces, made_count, place_at}
 use Rattle.ec_cluster.specs.Located.{Located, moved_to, with_at}
-use Rattle.ec_cluster.specs.declared.forward.directory.Whereabouts.{Whereabouts}
 use Rattle.ec_world.proofs.Keys.{same_or_not}
 use Rattle.ec_world.specs.Held.{Distinct}
 use Rattle.ec_world.specs.declared.key.Key.TheVariants.{Object}
@@ -17,18 +17,11 @@ use Rattle.ec_world.proofs.Members.{has_back, has_either, has_first, has_front, 
 use Rattle.ec_world.specs.Group.{Has}
 
 -- the first i of some objects have gone to a node, and the others are where all were
-pub record Moving (old now : List Whereabouts) (objects : List ObjectPart) (from to i : ℕ) : Type 0 where
+pub record Moving (old now : Traces) (objects : List ObjectPart) (from to i : ℕ) : Type 0 where
   pub gone : AreAll now (take i objects) to
   pub left : (j : ℕ) (part : ObjectPart) → i ≤ j → slice_get objects j ≡ Some part → place_at now part.number ≡ Some from
   pub others : (oid : ℕ) → NotAny (take i objects) oid → place_at now oid ≡ place_at old oid
   pub count : made_count now ≡ made_count old
-
--- where objects are by a directory, each of which may have moved
-abbrev located : List Whereabouts → Located
-located d = record { made = made_count d; place = place_at d; moves = λ oid. 1 }
-
-gives_located : (d : List Whereabouts) → Gives d (located d)
-gives_located d = record { made = refl; places = λ oid. refl; moves = λ oid h. omega arith }
 
 with_here : {A : Type 0} (f : ℕ → A) (oid : ℕ) (a : A) → with_at f oid a oid ≡ a
 with_here f oid a = grind arith
@@ -36,7 +29,7 @@ with_here f oid a = grind arith
 with_other : {A : Type 0} (f : ℕ → A) (oid : ℕ) (a : A) (o : ℕ) → o ≢ oid → with_at f oid a o ≡ f o
 with_other f oid a o ne = grind arith
 
-module _ (d d' : List Whereabouts) (oid from to : ℕ) (noted : (w : Located) → Gives d w → Gives d' (moved_to w oid from to)) where
+module _ (d d' : Traces) (oid from to : ℕ) (noted : (w : Located) → Gives d w → Gives d' (moved_to w oid from to)) where
   moved : Gives d' (moved_to (located d) oid from to)
   moved = noted (located d) (gives_located d)
 
@@ -46,7 +39,7 @@ module _ (d d' : List Whereabouts) (oid from to : ℕ) (noted : (w : Located) �
   others_stay : (o : ℕ) → o ≢ oid → place_at d' o ≡ place_at d o
   others_stay o ne = moved.places o ∙ with_other (place_at d) oid (Some to) o ne
 
-pub none_moved : (d : List Whereabouts) (objects : List ObjectPart) (from to : ℕ) → AreAll d objects from → Moving d d objects from to 0
+pub none_moved : (d : Traces) (objects : List ObjectPart) (from to : ℕ) → AreAll d objects from → Moving d d objects from to 0
 none_moved d objects from to there = record {
   gone = λ part h. absurd (has_none part h);
   left = λ j part l e. there part (record { at = j; is = e });
@@ -54,11 +47,11 @@ none_moved d objects from to there = record {
   count = refl;
 }
 
-pub next_from : (old now : List Whereabouts) (objects : List ObjectPart) (from to i : ℕ) (part : ObjectPart) →
+pub next_from : (old now : Traces) (objects : List ObjectPart) (from to i : ℕ) (part : ObjectPart) →
     Moving old now objects from to i → slice_get objects i ≡ Some part → place_at now part.number ≡ Some from
 next_from old now objects from to i part so e = so.left i part (omega arith) e
 
-module _ (old now new : List Whereabouts) (objects : List ObjectPart) (from to i : ℕ) (part : ObjectPart)
+module _ (old now new : Traces) (objects : List ObjectPart) (from to i : ℕ) (part : ObjectPart)
     (once : Distinct (object_keys objects)) (so : Moving old now objects from to i) (is : slice_get objects i ≡ Some part)
     (noted : (w : Located) → Gives now w → Gives new (moved_to w part.number from to)) where
   key_at : (j : ℕ) (other : ObjectPart) → slice_get objects j ≡ Some other → slice_get (object_keys objects) j ≡ Some (Object other.number)
@@ -95,7 +88,7 @@ module _ (old now new : List Whereabouts) (objects : List ObjectPart) (from to i
     count = (moved now new part.number from to noted).made ∙ so.count;
   }
 
-pub all_moved : (old now : List Whereabouts) (objects : List ObjectPart) (from to i : ℕ) → length objects ≤ i →
+pub all_moved : (old now : Traces) (objects : List ObjectPart) (from to i : ℕ) → length objects ≤ i →
     Moving old now objects from to i → AreAll now objects to × ((oid : ℕ) → NotAny objects oid → place_at now oid ≡ place_at old oid)
 all_moved old now objects from to i all so =
     let whole = take_all objects i all in (

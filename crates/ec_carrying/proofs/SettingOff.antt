@@ -8,8 +8,7 @@ use Rattle.ec_carrying.specs.Steps.{AreKept, ShowsStaying, TakenOff, ThingsAt}
 use Rattle.ec_cluster.specs.Cluster.{CodeWorld, Shows, frame_of, place, stores}
 use Rattle.ec_cluster.specs.Steps.{Changes, Nothing}
 use Rattle.ec_cluster.specs.declared.cluster.Cluster.{Cluster}
-use Rattle.ec_cluster.specs.Directory.{made_count, place_at}
-use Rattle.ec_cluster.specs.declared.forward.directory.Whereabouts.{Whereabouts}
+use Rattle.ec_cluster.specs.Whereabouts.{Traces, made_count, place_at}
 use Rattle.ec_world.specs.declared.key.Key.{Key}
 use Rattle.ec_parcels.proofs.Keys.{not_has}
 use Rattle.ec_parcels.specs.Owners.{among, frame_keys, keys_of, object_keys}
@@ -30,18 +29,18 @@ module _ (c c1 : Cluster) (from : ℕ) (x : Contents) (kept : AreKept c from (ke
         (kept.each key (has_back key (object_keys x.objects) (frame_keys x.activations) h));
   }
 
-  module _ (c2 : Cluster) (d : List Whereabouts) (to : ℕ) (second : TakenOff c1 c2 from (frame_keys x.activations))
+  module _ (c2 : Cluster) (d : Traces) (to : ℕ) (second : TakenOff c1 c2 from (frame_keys x.activations))
       (there : AreAll d x.objects to)
-      (others : (oid : ℕ) → NotAny x.objects oid → place_at d oid ≡ place_at c2.directory oid)
-      (count : made_count d ≡ made_count c2.directory) where
+      (others : (oid : ℕ) → NotAny x.objects oid → place_at d oid ≡ place_at c2.whereabouts oid)
+      (count : made_count d ≡ made_count c2.whereabouts) where
     abbrev after : Cluster
-    after = record { parts = c2.parts; images = c2.images; nodes = c2.nodes; directory = d }
+    after = record { parts = c2.parts; images = c2.images; nodes = c2.nodes; whereabouts = d }
 
     both : Changes Nothing c c2
     both = nothing_join Nothing c c1 c2 first.changes second.changes
 
-    directory : c2.directory ≡ c.directory
-    directory = second.directory ∙ first.directory
+    whereabouts : c2.whereabouts ≡ c.whereabouts
+    whereabouts = second.whereabouts ∙ first.whereabouts
 
     all_off : (w : CodeWorld) → ThingsAt c w from (keys_of x) → Shows c w → ShowsStaying c2 (among (keys_of x)) w
     all_off w things shows =
@@ -49,7 +48,7 @@ module _ (c c1 : Cluster) (from : ℕ) (x : Contents) (kept : AreKept c from (ke
         first.shows w [] (λ key h. things key (has_front key (object_keys x.objects) (frame_keys x.activations) h))
         (once_front (object_keys x.objects) (frame_keys x.activations) kept.once) shows in
         second.shows w (object_keys x.objects)
-        (λ key h. thing_along c c1 first.changes.parts first.changes.images w from key first.directory
+        (λ key h. thing_along c c1 first.changes.parts first.changes.images w from key first.whereabouts
         (things key (has_back key (object_keys x.objects) (frame_keys x.activations) h)))
         kept.once objects
 
@@ -65,8 +64,8 @@ module _ (c c1 : Cluster) (from : ℕ) (x : Contents) (kept : AreKept c from (ke
       changes = record { parts = both.parts; images = both.images; nodes = both.nodes; each = both.each };
       others = λ j ne. second.others j ne ∙ first.others j ne;
       there = there;
-      stay = λ oid none. others oid none ∙ ap (λ (l : List Whereabouts). place_at l oid) directory;
-      count = count ∙ ap made_count directory;
+      stay = λ oid none. others oid none ∙ ap (λ (l : Traces). place_at l oid) whereabouts;
+      count = count ∙ ap made_count whereabouts;
       shows = λ w things homes shows.
           go_elsewhere (frame_of c2) (among (keys_of x)) (stores c2) w (place c2) (place_at d) (all_off w things shows)
           (at_home w homes);

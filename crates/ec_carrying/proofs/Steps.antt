@@ -12,8 +12,7 @@ use Rattle.ec_cluster.specs.declared.cluster.Cluster.{Cluster}
 use Rattle.ec_cluster.specs.declared.cluster.Images.{Images}
 use Rattle.ec_code.specs.declared.activation.CodeActivation.{CodeActivation}
 use Rattle.ec_code.specs.declared.code.Parts.{Parts}
-use Rattle.ec_cluster.specs.Directory.{place_at}
-use Rattle.ec_cluster.specs.declared.forward.directory.Whereabouts.{Whereabouts}
+use Rattle.ec_cluster.specs.Whereabouts.{Traces, place_at}
 use Rattle.ec_world.proofs.Keys.{same_or_not}
 use Rattle.ec_world.specs.declared.key.Key.{Key}
 use Rattle.ec_stores.specs.Node.{NodeData, store_of}
@@ -28,7 +27,7 @@ pub one_put : (Added : List ℕ → Type 0) (c : Cluster) (k : ℕ) (n n' : Node
 one_put Added c k n n' key now is puts gets = record {
   parts = refl;
   images = refl;
-  directory = refl;
+  whereabouts = refl;
   nodes = length_set c.nodes k n';
   old = store_of n;
   new = store_of n';
@@ -100,17 +99,17 @@ module _ (c c' : Cluster) (parts : c'.parts ≡ c.parts) (images : c'.images ≡
       (subst (λ (x : Images). P (frame_thing c.parts (homes_on x))) (sym images) h)
 
   -- and of the places of objects too
-  pub places_along : (P : (ℕ → ℕ → CodeActivation → Thing) → (ℕ → Option ℕ) → Type 0) → c'.directory ≡ c.directory →
+  pub places_along : (P : (ℕ → ℕ → CodeActivation → Thing) → (ℕ → Option ℕ) → Type 0) → c'.whereabouts ≡ c.whereabouts →
       P (frame_of c) (place c) → P (frame_of c') (place c')
-  places_along P directory h =
-      subst (λ (x : List Whereabouts). P (frame_of c') (place_at x)) (sym directory)
+  places_along P whereabouts h =
+      subst (λ (x : Traces). P (frame_of c') (place_at x)) (sym whereabouts)
       (frames_along (λ frame. P frame (place c)) h)
 
-  pub thing_along : (w : CodeWorld) (k : ℕ) (key : Key) → c'.directory ≡ c.directory → ThingAt c w k key → ThingAt c' w k key
-  thing_along w k key directory t = record {
+  pub thing_along : (w : CodeWorld) (k : ℕ) (key : Key) → c'.whereabouts ≡ c.whereabouts → ThingAt c w k key → ThingAt c' w k key
+  thing_along w k key whereabouts t = record {
     thing = t.thing;
     is = frames_along (λ frame. things_of frame w key ≡ Some t.thing) t.is;
-    at = ap (λ (x : List Whereabouts). place_at x t.thing.home) directory ∙ t.at;
+    at = ap (λ (x : Traces). place_at x t.thing.home) whereabouts ∙ t.at;
   }
 
 -- what is kept of another owner is kept still

@@ -9,7 +9,7 @@ use Rattle.ec_cluster.specs.declared.cluster.Cluster.{Cluster}
 use Rattle.ec_cluster.specs.Frames.{HasImages}
 use Rattle.ec_code.specs.Typing.{Declared}
 use Rattle.ec_code.specs.declared.activation.CodeActivation.{CodeActivation}
-use Rattle.ec_cluster.specs.Directory.{made_count}
+use Rattle.ec_cluster.specs.Whereabouts.{made_count}
 use Rattle.ec_parcels.specs.Classes.{ClassTable}
 use Rattle.ec_node_frames.specs.Frames.{RestsAt}
 use Rattle.ec_objects.specs.Values.{TextsFit}
@@ -58,4 +58,4 @@ pub record Carried (old new : Cluster) (w : CodeWorld) (x : Contents) (to : ℕ)
   pub changes : Changes (TextsAt to (values_in x)) old new
   pub there : (part : ObjectPart) → Has x.objects part → place new part.number ≡ Some to
   pub others : (oid : ℕ) → NotAny x.objects oid → place new oid ≡ place old oid
-  pub count : made_count new.directory ≡ made_count old.directory
+  pub count : made_count new.whereabouts ≡ made_count old.whereabouts

@@ -4,8 +4,7 @@ use Rattle.ec_carrying.specs.Steps.{ShowsStaying, ThingsAt}
 use Rattle.ec_cluster.specs.Cluster.{CodeWorld, Shows, frame_of, place, stores}
 use Rattle.ec_cluster.specs.Steps.{Changes, Nothing}
 use Rattle.ec_cluster.specs.declared.cluster.Cluster.{Cluster}
-use Rattle.ec_cluster.specs.Directory.{made_count, place_at}
-use Rattle.ec_cluster.specs.declared.forward.directory.Whereabouts.{Whereabouts}
+use Rattle.ec_cluster.specs.Whereabouts.{Traces, made_count, place_at}
 use Rattle.ec_world.specs.declared.key.Key.{Key}
 use Rattle.ec_parcels.specs.Owners.{among, keys_of}
 use Rattle.ec_things.specs.Things.{Thing, things_of}
@@ -13,8 +12,8 @@ use Rattle.ec_wire.specs.declared.parcel.Contents.{Contents}
 use Rattle.ec_wire.specs.declared.parcel.ObjectPart.{ObjectPart}
 use Rattle.ec_world.specs.Group.{Has}
 
--- a directory has all these objects at a node
-abbrev pub AreAll : List Whereabouts → List ObjectPart → ℕ → Type 0
+-- a node is the place of all these objects
+abbrev pub AreAll : Traces → List ObjectPart → ℕ → Type 0
 AreAll d objects k = (part : ObjectPart) → Has objects part → place_at d part.number ≡ Some k
 
 -- none of these objects has this number
@@ -31,7 +30,7 @@ GoWithHomes c w x =
 pub record SetOff (c c' : Cluster) (from to : ℕ) (x : Contents) : Type 0 where
   pub changes : Changes Nothing c c'
   pub others : (j : ℕ) → j ≢ from → stores c' j ≡ stores c j
-  pub there : AreAll c'.directory x.objects to
+  pub there : AreAll c'.whereabouts x.objects to
   pub stay : (oid : ℕ) → NotAny x.objects oid → place c' oid ≡ place c oid
-  pub count : made_count c'.directory ≡ made_count c.directory
+  pub count : made_count c'.whereabouts ≡ made_count c.whereabouts
   pub shows : (w : CodeWorld) → ThingsAt c w from (keys_of x) → GoWithHomes c w x → Shows c w → ShowsStaying c' (among (keys_of x)) w

@@ -30,7 +30,7 @@ ThingsAt c w k keys = (key : Key) → Has keys key → ThingAt c w k key
 pub record OnePut (Added : List ℕ → Type 0) (c c' : Cluster) (k : ℕ) (key : Key) (now : Option Thing) : Type 0 where
   pub parts : c'.parts ≡ c.parts
   pub images : c'.images ≡ c.images
-  pub directory : c'.directory ≡ c.directory
+  pub whereabouts : c'.whereabouts ≡ c.whereabouts
   pub nodes : length c'.nodes ≡ length c.nodes
   pub old : Store
   pub new : Store
@@ -46,7 +46,7 @@ pub record AreKept (c : Cluster) (k : ℕ) (keys : List Key) : Type 0 where
 -- Some owners have gone from a node: they travel too, in each world that was shown but for others that travel.
 pub record TakenOff (c c' : Cluster) (k : ℕ) (keys : List Key) : Type 0 where
   pub changes : Changes Nothing c c'
-  pub directory : c'.directory ≡ c.directory
+  pub whereabouts : c'.whereabouts ≡ c.whereabouts
   pub others : (j : ℕ) → j ≢ k → stores c' j ≡ stores c j
   pub kept : (key : Key) → (Has keys key → ⊥) → KeptAt c key k → KeptAt c' key k
   pub shows : (w : CodeWorld) (before : List Key) → ThingsAt c w k keys → Distinct (before ++ keys) →

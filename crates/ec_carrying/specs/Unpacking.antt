@@ -89,11 +89,11 @@ activations_alone parts = record { objects = []; monitors = []; activations = pa
 
 -- ---- on the nodes of a cluster
 
--- Contents have come to the node of a number, by the tables of its kind; the directory and all other nodes are as they were.
+-- Contents have come to the node of a number, by the tables of its kind; the whereabouts of objects and all other nodes are as they were.
 pub record UnpackedAt (table : ClassTable) (c c' : Cluster) (k : ℕ) (x : Contents) : Type 0 where
   pub parts : c'.parts ≡ c.parts
   pub images : c'.images ≡ c.images
-  pub directory : c'.directory ≡ c.directory
+  pub whereabouts : c'.whereabouts ≡ c.whereabouts
   pub nodes : length c'.nodes ≡ length c.nodes
   pub old : Store
   pub new : Store

@@ -17,10 +17,10 @@ use ec_wire::parcel::Contents;
 use ec_world::value::NodeNo;
 use std::alloc::{AllocError, Global};
 
-/// The things of a parcel go from one node to another, by the nodes' numbers from 0: they are taken away at the first, the directory
-/// notes where the objects are now, and they are put at the second from the parcel's bytes. None of the objects is fixed, and the second
-/// node has blocks for all of them and for the activations on them, and room for their texts. The error is want of memory, or that this
-/// node has 2^32 - 1 texts or references; what the nodes keep is then left open.
+/// The things of a parcel go from one node to another, by the nodes' numbers from 0: they are taken away at the first, it is
+/// noted where the objects are now, and they are put at the second from the parcel's bytes. None of the objects is fixed, and the second
+/// node has blocks for all of them and for the activations on them, and room for their texts. The error is want of memory, that an object
+/// has moved 2^64 - 1 times, or that this node has 2^32 - 1 texts or references; what the nodes keep is then left open.
 pub fn carry(
     cluster: &mut Cluster,
     alloc: Global,
@@ -36,17 +36,24 @@ pub fn carry(
     // With the numbers looked at, each is known to be that of one class alone.
     let _made = numbers.made();
     let parcel = parcel_of(alloc, bytes)?;
-    set_off(cluster, from, to, parcel.contents());
+    set_off(cluster, from, to, parcel.contents())?;
     unpack_at(cluster, alloc, numbers, to, bytes)
 }
 
-/// All that is in a parcel goes from the node where it is, and the directory has its objects at another. Takes no memory.
-fn set_off(cluster: &mut Cluster, from: NodeNo, to: NodeNo, contents: &Contents)
+/// All that is in a parcel goes from the node where it is, and it is noted that its objects are at another. The error is want of memory,
+/// or that an object has moved 2^64 - 1 times; what is noted is then left open.
+fn set_off(
+    cluster: &mut Cluster,
+    from: NodeNo,
+    to: NodeNo,
+    contents: &Contents,
+) -> Result<(), AllocError>
     requires kept { AreKept cluster.old from (keys_of contents.now) }
-    requires there { AreAll cluster.old.directory contents.now.objects from }
-    ensures { SetOff cluster.old cluster.new from to contents.now }
+    requires there { AreAll cluster.old.whereabouts contents.now.objects from }
+    ensures { OnOk result (SetOff cluster.old cluster.new from to contents.now) }
 {
     take_objects(cluster, from, &contents.objects);
     take_activations(cluster, from, &contents.activations);
-    note_moves(&mut cluster.directory, from, to, &contents.objects);
+    note_moves(&mut cluster.whereabouts, from, to, &contents.objects)?;
+    Ok(())
 }

@@ -1,30 +1,34 @@
-//! The directory notes that objects go from one node to another.
-ghost use Rattle.std.specs.Prelude.{◌≡◌, ◌≢◌, ℕ, Some};
+//! Objects go from one node to another, and this is noted.
+ghost use Rattle.std.specs.Prelude.{◌≡◌, ◌≢◌, ℕ, OnOk, Some};
 ghost use Rattle.ec_carrying.specs.Moves.{AreAll, NotAny};
-ghost use Rattle.ec_cluster.specs.Directory.{made_count, place_at};
+ghost use Rattle.ec_cluster.specs.Whereabouts.{made_count, place_at};
 ghost use Rattle.ec_world.specs.Held.{Distinct};
 ghost use Rattle.ec_parcels.specs.Owners.{object_keys};
 
 use ec_base::list::Seq;
-use ec_cluster::forward::directory::Directory;
+use ec_cluster::forward::whereabouts::Whereabouts;
 use ec_wire::parcel::ObjectPart;
 use ec_world::value::NodeNo;
+use std::alloc::AllocError;
 
-/// Notes that objects, none of which stands twice, went from the node where they all were to another, or to the same. Takes no memory.
+/// Notes that objects, none of which stands twice, went from the node where they all were to another, or to the same. The error is want
+/// of memory, or that an object has moved 2^64 - 1 times; some may then be noted at the other node.
 pub(crate) fn note_moves(
-    directory: &mut Directory,
+    whereabouts: &mut Whereabouts,
     from: NodeNo,
     to: NodeNo,
     objects: &Seq<ObjectPart>,
-)
+) -> Result<(), AllocError>
     requires once { Distinct (object_keys objects.now) }
-    requires there { AreAll directory.old objects.now from }
-    ensures there { AreAll directory.new objects.now to }
-    ensures others { (oid : ℕ) → NotAny objects.now oid → place_at directory.new oid ≡ place_at directory.old oid }
-    ensures count { made_count directory.new ≡ made_count directory.old }
+    requires there { AreAll whereabouts.old objects.now from }
+    ensures there { OnOk result (AreAll whereabouts.new objects.now to) }
+    ensures others { OnOk result ((oid : ℕ) →
+        NotAny objects.now oid → place_at whereabouts.new oid ≡ place_at whereabouts.old oid) }
+    ensures count { OnOk result (made_count whereabouts.new ≡ made_count whereabouts.old) }
 {
     for i in 0..objects.len() {
         let object = objects.at(i);
-        directory.note_move(object.number, from, to);
+        whereabouts.note_move(object.number, from, to)?;
     }
+    Ok(())
 }

@@ -61,7 +61,7 @@ pub fn put_contents(
     put_activations(node, alloc, tables, &contents.activations)
 }
 
-/// The same at a node of a cluster, whose directory has the objects there already.
+/// The same at a node of a cluster that is the place of the objects already.
 pub fn unpack_at(
     cluster: &mut Cluster,
     alloc: Global,

@@ -9,7 +9,7 @@ use Rattle.ec_cluster.specs.Steps.{Changes, Everywhere, with_common}
 use Rattle.ec_cluster.specs.declared.cluster.Cluster.{Cluster}
 use Rattle.ec_cluster.specs.declared.cluster.Images.{Images}
 use Rattle.ec_code.specs.declared.code.Parts.{Parts}
-use Rattle.ec_cluster.specs.declared.forward.directory.Whereabouts.{Whereabouts}
+use Rattle.ec_cluster.specs.Whereabouts.{Traces}
 use Rattle.ec_world.specs.Held.{if_at}
 use Rattle.ec_stores.specs.Node.{NodeData, store_of}
 use Rattle.ec_things.proofs.Globals.{global_put}
@@ -81,8 +81,8 @@ module _ (old : List NodeData) (i : ℕ) (v : Value) where
 
 -- ---- of a cluster
 
-abbrev of_these : Parts → Images → List NodeData → List Whereabouts → Cluster
-of_these parts images nodes directory = record { parts = parts; images = images; nodes = nodes; directory = directory }
+abbrev of_these : Parts → Images → List NodeData → Traces → Cluster
+of_these parts images nodes whereabouts = record { parts = parts; images = images; nodes = nodes; whereabouts = whereabouts }
 
 module _ (c now : Cluster) (i : ℕ) (v : Value) where
   pub still_there : (k : ℕ) (n : NodeData) → Defining c now i v k → slice_get now.nodes k ≡ Some n → stores c k ≡ Some (store_of n)
@@ -95,7 +95,7 @@ module _ (c now : Cluster) (i : ℕ) (v : Value) where
     nodes = next_too c.nodes i v now.nodes k n n' so.nodes is puts gets;
     parts = so.parts;
     images = so.images;
-    directory = so.directory;
+    whereabouts = so.whereabouts;
   }
 
   module _ (count : ℕ) (all : count ≡ length c.nodes) (so : Defining c now i v count) where
@@ -115,6 +115,6 @@ module _ (c now : Cluster) (i : ℕ) (v : Value) where
         subst (λ (x : Cluster). Shows x (with_common w (record w.common { globals = slice_set w.common.globals i v }))) (sym same) after
       where
         same : now ≡ record c { nodes = now.nodes }
-        same = ap (λ x. of_these x now.images now.nodes now.directory) so.parts
-            ∙ ap (λ x. of_these c.parts x now.nodes now.directory) so.images
-            ∙ ap (λ x. of_these c.parts c.images now.nodes x) so.directory
+        same = ap (λ x. of_these x now.images now.nodes now.whereabouts) so.parts
+            ∙ ap (λ x. of_these c.parts x now.nodes now.whereabouts) so.images
+            ∙ ap (λ x. of_these c.parts c.images now.nodes x) so.whereabouts

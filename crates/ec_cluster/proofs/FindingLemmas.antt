@@ -1,4 +1,4 @@
--- An object is found by the directory.
+-- An object is found at its place.
 use Rattle.std.proofs.Common.{◌≡◌, ℕ, zero, suc, ◌+◌, ◌<◌, ◌≤◌, Bool, List, Option, Some, None, refl, sym, ap, ◌∙◌, subst, arith}
 use Rattle.std.proofs.lemmas.Option.{same_Some}
 use Rattle.std.specs.Prelude.{IsSome, length, option_map, slice_get}
@@ -7,7 +7,7 @@ use Rattle.ec_monitors.specs.declared.record.MonitorRec.{MonitorRec}
 use Rattle.ec_cluster.specs.Cluster.{place, stores}
 use Rattle.ec_cluster.specs.Steps.{HasObject}
 use Rattle.ec_cluster.specs.declared.cluster.Cluster.{Cluster}
-use Rattle.ec_cluster.specs.Directory.{made_count}
+use Rattle.ec_cluster.specs.Whereabouts.{made_count}
 use Rattle.ec_world.specs.declared.key.Key.TheVariants.{Object}
 use Rattle.ec_cluster.proofs.Listing.{each-get, each-length, each-past}
 use Rattle.ec_cluster.specs.Decoded.{decoded, decoded_at, fields_of, spelled, spelled_as, spelled_at, store_at}
@@ -22,18 +22,18 @@ use Rattle.ec_world.specs.declared.object.ObjectRec.{ObjectRec}
 
 -- ---- the objects that are seen
 
-pub object_decoded : (c : Cluster) (oid : ℕ) → 0 < oid → oid ≤ made_count c.directory →
+pub object_decoded : (c : Cluster) (oid : ℕ) → 0 < oid → oid ≤ made_count c.whereabouts →
     object_at (decoded c) oid ≡ Some (decoded_at c oid)
 object_decoded c zero p l = absurd (omega arith)
 object_decoded c (suc i) p l =
     let at : 1 + i ≡ suc i = omega arith in
-    each-get (decoded_at c) 1 (made_count c.directory) i (omega arith) ∙ ap (λ k. Some (decoded_at c k)) at
+    each-get (decoded_at c) 1 (made_count c.whereabouts) i (omega arith) ∙ ap (λ k. Some (decoded_at c k)) at
 
-pub none_decoded : (c : Cluster) (oid : ℕ) → (0 < oid → oid ≤ made_count c.directory → ⊥) → object_at (decoded c) oid ≡ None
+pub none_decoded : (c : Cluster) (oid : ℕ) → (0 < oid → oid ≤ made_count c.whereabouts → ⊥) → object_at (decoded c) oid ≡ None
 none_decoded c zero h = refl
 none_decoded c (suc i) h =
-    let past : suc i ≤ made_count c.directory → ⊥ = h (omega arith) in
-    each-past (decoded_at c) 1 (made_count c.directory) i (omega arith)
+    let past : suc i ≤ made_count c.whereabouts → ⊥ = h (omega arith) in
+    each-past (decoded_at c) 1 (made_count c.whereabouts) i (omega arith)
 
 -- a store spells an object that it keeps
 pub spelled_is : (c : Cluster) (oid : ℕ) (s : Store) (r : Owned) (class : ClassNo) → store_at (stores c) (place c oid) ≡ Some s →
@@ -56,7 +56,7 @@ within_if : (c : Cluster) (k : ℕ) (s : Store) (n : Option NodeData) → slice_
 within_if c k s None e f = absurd cc
 within_if c k s (Some n) e f = get_within c.nodes k n e
 
-module _ (c : Cluster) (can : CanBeSeen c) (oid : ℕ) (positive : 0 < oid) (made : oid ≤ made_count c.directory) where
+module _ (c : Cluster) (can : CanBeSeen c) (oid : ℕ) (positive : 0 < oid) (made : oid ≤ made_count c.whereabouts) where
   it : ObjectCanBeSeen c oid
   it = can.objects oid positive made
 
@@ -101,11 +101,11 @@ module _ (c : Cluster) (can : CanBeSeen c) (oid : ℕ) (positive : 0 < oid) (mad
 
 -- ---- what is seen is there
 
-seen_made : (c : Cluster) (oid : ℕ) (o : ObjectRec) → object_at (decoded c) oid ≡ Some o → (0 < oid) × (oid ≤ made_count c.directory)
+seen_made : (c : Cluster) (oid : ℕ) (o : ObjectRec) → object_at (decoded c) oid ≡ Some o → (0 < oid) × (oid ≤ made_count c.whereabouts)
 seen_made c zero o e = absurd cc
 seen_made c (suc i) o e =
     let within = get_within (decoded c) i o e in
-    let many = each-length (decoded_at c) 1 (made_count c.directory) in
+    let many = each-length (decoded_at c) 1 (made_count c.whereabouts) in
     (omega arith, omega arith)
 
 pub seen_there : (c : Cluster) (oid : ℕ) (o : ObjectRec) → CanBeSeen c → object_at (decoded c) oid ≡ Some o → HasObject c oid

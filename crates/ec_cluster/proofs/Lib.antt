@@ -1,4 +1,6 @@
+pub mod Places
 pub mod Noting
+pub mod Numbering
 pub mod Putting
 pub mod Changing
 pub mod Acting

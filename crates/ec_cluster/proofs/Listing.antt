@@ -1,7 +1,7 @@
 -- Lists of what a function has at numbers from one on.
 use Rattle.std.proofs.Common.{◌≡◌, ◌≢◌, ℕ, zero, suc, ◌+◌, ◌<◌, ◌≤◌, List, [], ◌∷◌, length, Some, None, refl, ap, ◌∙◌, arith, replicate}
 use Rattle.std.specs.Prelude.{slice_get, slice_set}
-use Rattle.ec_cluster.specs.Decoded.{each_from}
+use Rattle.ec_cluster.specs.Each.{each_from}
 
 module _ {A : Type 0} (f : ℕ → A) where
   pub each-length : (from n : ℕ) → length (each_from f from n) ≡ n

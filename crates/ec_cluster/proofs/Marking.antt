@@ -15,9 +15,10 @@ use Rattle.std.specs.declared.cmp.Ordering.{Ordering}
 use Rattle.std.specs.declared.cmp.Ordering.TheVariants.{Less, Equal, Greater}
 use Rattle.ec_base.proofs.Lists.{drop_at}
 use Rattle.ec_cluster.specs.declared.cluster.Cluster.{Cluster}
-use Rattle.ec_cluster.specs.Directory.{made_count}
+use Rattle.ec_cluster.specs.Whereabouts.{made_count}
 use Rattle.ec_cluster.proofs.Listing.{each-get, each-length, each-one, each-past, each-set}
-use Rattle.ec_cluster.specs.Decoded.{decoded_at, each_from, seen_common}
+use Rattle.ec_cluster.specs.Decoded.{decoded_at, seen_common}
+use Rattle.ec_cluster.specs.Each.{each_from}
 use Rattle.ec_cluster.specs.Searches.{Finds, HasGroup, IsWithin, marks_of}
 use Rattle.ec_cluster.specs.declared.seen.searching.Search.{Search}
 use Rattle.ec_things.proofs.Put.{same_or_not}
@@ -174,13 +175,13 @@ finds_all n s now oids i l h = record {
 
 -- the search finds members of a group among the objects of nodes
 pub record Searches (c : Cluster) (x : ℕ) (s : Search) : Type 0 where
-  pub is : IsSearch (seen_common c) x (record { marks = marks_of (made_count c.directory) s.members; todo = s.todo })
-  pub within : IsWithin (made_count c.directory) s.members
+  pub is : IsSearch (seen_common c) x (record { marks = marks_of (made_count c.whereabouts) s.members; todo = s.todo })
+  pub within : IsWithin (made_count c.whereabouts) s.members
 
 pub search_begun : (c : Cluster) (x : ℕ) (s t : Search) → s.members.keys ≡ [] → s.todo ≡ [] →
-    Finds (made_count c.directory) s t (x ∷ []) → Searches c x t
+    Finds (made_count c.whereabouts) s t (x ∷ []) → Searches c x t
 search_begun c x s t none nothing finds =
-    let n = made_count c.directory in
+    let n = made_count c.whereabouts in
     let lacks : (y : ℕ) → contains nat_cmp s.members y ≡ false = λ y. ap (λ (ks : List ℕ). list_any (is_at (nat_cmp y)) ks) none in
     record {
       is =
@@ -193,9 +194,9 @@ search_begun c x s t none nothing finds =
 -- what lay on top is done
 pub search_more : (c : Cluster) (x y : ℕ) (s t u : Search) (links : List ℕ) → Searches c x s → Some y ≡ top_of s.todo →
     t.members ≡ s.members → t.todo ≡ below_of s.todo → links ≡ links_of (seen_common c) y →
-    Finds (made_count c.directory) t u links → Searches c x u
+    Finds (made_count c.whereabouts) t u links → Searches c x u
 search_more c x y s t u links h top same below are finds =
-    let n = made_count c.directory in
+    let n = made_count c.whereabouts in
     let follows =
     ap (λ (zs : List ℕ). all_found (record { marks = marks_of n s.members; todo = t.todo }) zs) (sym are)
     ∙ ap (λ (m : BTreeSet ℕ). all_found (record { marks = marks_of n m; todo = t.todo }) links) (sym same)
@@ -221,7 +222,7 @@ work_less n y s t u links top same below finds =
 
 pub search_ended : (c : Cluster) (x : ℕ) (s : Search) → Searches c x s → None ≡ top_of s.todo → HasGroup c x s.members
 search_ended c x s h e =
-    let n = made_count c.directory in
+    let n = made_count c.whereabouts in
     let g = search_done (seen_common c) x (record { marks = marks_of n s.members; todo = s.todo }) h.is e in
     record {
       each = λ y. (

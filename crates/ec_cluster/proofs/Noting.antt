@@ -28,10 +28,10 @@ get-push_other (p ∷ ps) k zero h = refl
 get-push_other (p ∷ ps) k (suc i) h = get-push_other ps k i (λ e. h (ap suc e))
 
 -- a place that is changed at one number
-with-same : {A : Type 0} (f : ℕ → A) (oid o : ℕ) (a : A) → o ≡ oid → with_at f oid a o ≡ a
+pub with-same : {A : Type 0} (f : ℕ → A) (oid o : ℕ) (a : A) → o ≡ oid → with_at f oid a o ≡ a
 with-same f oid o a e = grind (arith, nat_tests)
 
-with-other : {A : Type 0} (f : ℕ → A) (oid o : ℕ) (a : A) → o ≢ oid → with_at f oid a o ≡ f o
+pub with-other : {A : Type 0} (f : ℕ → A) (oid o : ℕ) (a : A) → o ≢ oid → with_at f oid a o ≡ f o
 with-other f oid o a h = grind (arith, nat_tests)
 
 place-push : (w : Located) (ps : List ℕ) (k o : ℕ) → AreAt w ps → with_at w.place (suc (length ps)) (Some k) o ≡ place_in (ps ++ k ∷ []) o

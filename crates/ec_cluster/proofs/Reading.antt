@@ -11,7 +11,8 @@ use Rattle.ec_world.specs.declared.key.Key.TheVariants.{Object}
 use Rattle.ec_objects.proofs.Reading.{read_back}
 use Rattle.ec_cluster.proofs.FindingLemmas.{spelled_is}
 use Rattle.ec_cluster.proofs.Listing.{each-is}
-use Rattle.ec_cluster.specs.Decoded.{decoded, decoded_at, each_from, field_of, fields_of, read_as, store_at}
+use Rattle.ec_cluster.specs.Decoded.{decoded, decoded_at, field_of, fields_of, read_as, store_at}
+use Rattle.ec_cluster.specs.Each.{each_from}
 use Rattle.ec_cluster.specs.Seeing.{CanBeSeen, ObjectCanBeSeen, ShowsProgram}
 use Rattle.ec_things.specs.Store.{StandsAt, word_of}
 use Rattle.ec_things.specs.Things.{ShownAt, object_if, object_thing}

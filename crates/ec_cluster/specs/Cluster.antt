@@ -4,7 +4,7 @@ use Rattle.ec_activations.specs.Frames.{frame_thing}
 use Rattle.ec_cluster.specs.Images.{homes_on}
 use Rattle.ec_cluster.specs.declared.cluster.Cluster.{Cluster}
 use Rattle.ec_code.specs.declared.activation.CodeActivation.{CodeActivation}
-use Rattle.ec_cluster.specs.Directory.{place_at}
+use Rattle.ec_cluster.specs.Whereabouts.{place_at}
 use Rattle.ec_stores.specs.Node.{NodeData, store_of}
 use Rattle.ec_things.specs.Shows.{ShowsWorld}
 use Rattle.ec_things.specs.Store.{Store}
@@ -23,7 +23,7 @@ stores c = stores_of c.nodes
 
 -- the node at which an object is
 abbrev pub place : Cluster → ℕ → Option ℕ
-place c = place_at c.directory
+place c = place_at c.whereabouts
 
 -- an activation as a node keeps it, by its process and its depth
 abbrev pub frame_of : Cluster → ℕ → ℕ → CodeActivation → Thing

@@ -1,9 +1,10 @@
 -- The objects that the words of nodes spell.
-use Rattle.std.specs.Prelude.{ℕ, zero, suc, false, List, [], ◌∷◌, length, map, Option, Some, None}
+use Rattle.std.specs.Prelude.{ℕ, false, List, [], length, map, Option, Some, None}
 use Rattle.ec_activations.specs.Frames.{or_nil}
 use Rattle.ec_cluster.specs.Cluster.{place, stores}
 use Rattle.ec_cluster.specs.declared.cluster.Cluster.{Cluster}
-use Rattle.ec_cluster.specs.Directory.{made_count}
+use Rattle.ec_cluster.specs.Each.{each_from}
+use Rattle.ec_cluster.specs.Whereabouts.{made_count}
 use Rattle.ec_world.specs.declared.key.Key.TheVariants.{Object}
 use Rattle.ec_objects.specs.Values.{value_of}
 use Rattle.ec_cluster.specs.Kinds.{kind_at}
@@ -16,11 +17,6 @@ use Rattle.ec_world.specs.declared.object.ObjectRec.{ObjectRec}
 use Rattle.ec_world.specs.declared.value.Value.{Value}
 use Rattle.ec_world.specs.declared.value.Value.TheVariants.{Nil}
 use Rattle.ec_world.specs.declared.value.ValueType.{ValueType}
-
--- f at so many numbers, from one on
-unfoldable pub each_from : {A : Type 0} → (ℕ → A) → ℕ → ℕ → List A
-each_from f from zero = []
-each_from f from (suc n) = f from ∷ each_from f (suc from) n
 
 -- ---- fields
 
@@ -40,7 +36,7 @@ fields_of classes s class blocks size = each_from (λ i. or_nil (field_of classe
 
 -- ---- objects
 
--- what is seen of an object that isn't where the directory has it
+-- what is seen of an object that isn't at its place
 abbrev pub absent : ObjectRec
 absent = record { class = Node; fields = []; fixed = false; monitor = None }
 
@@ -61,13 +57,13 @@ abbrev pub store_at : (ℕ → Option Store) → Option ℕ → Option Store
 store_at nodes None = None
 store_at nodes (Some k) = nodes k
 
--- the object of a number, as the node where the directory has it spells it
+-- the object of a number, as the node that is its place spells it
 abbrev pub decoded_at : Cluster → ℕ → ObjectRec
 decoded_at c oid = spelled_at c.parts.classes oid (store_at (stores c) (place c oid))
 
--- all objects that the directory has, in the order of their numbers
+-- all objects that were noted, in the order of their numbers
 abbrev pub decoded : Cluster → List ObjectRec
-decoded c = each_from (decoded_at c) 1 (made_count c.directory)
+decoded c = each_from (decoded_at c) 1 (made_count c.whereabouts)
 
 -- ---- what is seen
 

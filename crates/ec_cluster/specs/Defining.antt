@@ -19,4 +19,4 @@ pub record Defining (c now : Cluster) (i : ℕ) (v : Value) (count : ℕ) : Type
   pub nodes : DefinedUpTo c.nodes now.nodes i v count
   pub parts : now.parts ≡ c.parts
   pub images : now.images ≡ c.images
-  pub directory : now.directory ≡ c.directory
+  pub whereabouts : now.whereabouts ≡ c.whereabouts

@@ -18,6 +18,6 @@ WhatIsShownIsSeen = (c : Cluster) (w : CodeWorld) → ShowsProgram c w →
 abbrev pub WhatIsShownCanBeSeen : Type 0
 WhatIsShownCanBeSeen = (c : Cluster) (w : CodeWorld) → ShowsProgram c w → length c.nodes < 2 ^ 32 → CanBeSeen c
 
--- Each object that is seen is at the node where the directory has it.
+-- Each object that is seen is at its place.
 abbrev pub WhatIsSeenIsThere : Type 0
 WhatIsSeenIsThere = (c : Cluster) (oid : ℕ) (o : ObjectRec) → CanBeSeen c → object_at (seen_common c).objects oid ≡ Some o → HasObject c oid

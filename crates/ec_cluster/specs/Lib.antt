@@ -1,6 +1,7 @@
-pub mod Directory
-pub mod Events
+pub mod Each
 pub mod Located
+pub mod Whereabouts
+pub mod Events
 pub mod Images
 pub mod Cluster
 pub mod Steps

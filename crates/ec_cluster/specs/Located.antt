@@ -1,5 +1,6 @@
--- What became of the objects of a world, for a directory of them.
+-- What became of the objects of a world.
 use Rattle.std.specs.Prelude.{ℕ, zero, suc, ◌+◌, ◌==◌, if◌then◌else◌, Option, Some, None}
+use Rattle.ec_forwarding.specs.Forwardings.{count_of_move}
 
 -- How many objects were made, which have the numbers from 1 on; the node at which each is; and how often each has moved.
 pub record Located : Type 0 where
@@ -17,10 +18,6 @@ with_at f oid a o = if o == oid then a else f o
 -- the next object is made at node k
 abbrev pub made_at : Located → ℕ → ℕ → Located
 made_at w oid k = record { made = suc w.made; place = with_at w.place oid (Some k); moves = with_at w.moves oid 0 }
-
--- a move to the node where an object is counts for none
-abbrev pub count_of_move : ℕ → ℕ → ℕ
-count_of_move from to = if from == to then 0 else 1
 
 -- an object goes from one node to another, or to the same
 abbrev pub moved_to : Located → ℕ → ℕ → ℕ → Located

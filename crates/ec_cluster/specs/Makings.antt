@@ -3,7 +3,7 @@ use Rattle.std.specs.Prelude.{◌≡◌, ℕ, suc, ◌*◌, ◌^◌, ◌<◌, �
 use Rattle.ec_cluster.specs.Cluster.{CodeWorld, Shows, place, stores}
 use Rattle.ec_cluster.specs.Steps.{Changes, HasObject, WhereIs, with_common}
 use Rattle.ec_cluster.specs.declared.cluster.Cluster.{Cluster}
-use Rattle.ec_cluster.specs.Directory.{Gives, made_count}
+use Rattle.ec_cluster.specs.Whereabouts.{Gives, made_count}
 use Rattle.ec_cluster.specs.Located.{Located, made_at}
 use Rattle.ec_world.specs.Things.{class_blocks}
 use Rattle.ec_world.specs.declared.key.Key.TheVariants.{Object}
@@ -19,7 +19,7 @@ use Rattle.ec_world.specs.declared.value.Value.TheVariants.{Str}
 -- have no block has no fields.
 pub record CanMake (c : Cluster) (maker oid : ℕ) (class : ClassNo) (fields : List Value) : Type 0 where
   pub maker_is : HasObject c maker
-  pub next : oid ≡ suc (made_count c.directory)
+  pub next : oid ≡ suc (made_count c.whereabouts)
   pub small : length fields < 2 ^ 32
   pub few : length fields ≤ 128 * class_blocks class (length fields)
   pub blocks : (k : ℕ) (s : Store) → place c maker ≡ Some k → stores c k ≡ Some s → class_blocks class (length fields) ≤ s.free
@@ -33,5 +33,5 @@ with_one w o = with_common w (record w.common { objects = w.common.objects ++ o 
 -- An object has been made where its maker is.
 pub record Made (c c' : Cluster) (maker oid : ℕ) (o : ObjectRec) : Type 0 where
   pub changes : Changes (WhereIs c maker (λ text. Has o.fields (Str text))) c c'
-  pub noted : (w : Located) (k : ℕ) → Gives c.directory w → place c maker ≡ Some k → Gives c'.directory (made_at w oid k)
-  pub shown : (w : CodeWorld) → Shows c w → length w.common.objects ≡ made_count c.directory → Shows c' (with_one w o)
+  pub noted : (w : Located) (k : ℕ) → Gives c.whereabouts w → place c maker ≡ Some k → Gives c'.whereabouts (made_at w oid k)
+  pub shown : (w : CodeWorld) → Shows c w → length w.common.objects ≡ made_count c.whereabouts → Shows c' (with_one w o)

@@ -3,7 +3,8 @@ use Rattle.std.specs.Prelude.{◌≡◌, ◌<◌, ◌≤◌, ◌↔◌, ℕ, Boo
 use Rattle.std.specs.BTreeSet.{BTreeSet, contains}
 use Rattle.std.specs.Ordering.{nat_cmp}
 use Rattle.ec_cluster.specs.declared.cluster.Cluster.{Cluster}
-use Rattle.ec_cluster.specs.Decoded.{each_from, seen_common}
+use Rattle.ec_cluster.specs.Decoded.{seen_common}
+use Rattle.ec_cluster.specs.Each.{each_from}
 use Rattle.ec_cluster.specs.declared.seen.searching.Search.{Search}
 use Rattle.ec_world.specs.Group.{InGroup}
 use Rattle.ec_world.specs.Search.{all_found}

@@ -2,7 +2,7 @@
 use Rattle.std.specs.Prelude.{◌≡◌, ◌<◌, ◌≤◌, ◌^◌, ℕ, List, length, Some, IsSome}
 use Rattle.ec_cluster.specs.Cluster.{CodeWorld, Shows, place, stores}
 use Rattle.ec_cluster.specs.declared.cluster.Cluster.{Cluster}
-use Rattle.ec_cluster.specs.Directory.{made_count}
+use Rattle.ec_cluster.specs.Whereabouts.{made_count}
 use Rattle.ec_world.specs.Things.{class_blocks}
 use Rattle.ec_world.specs.declared.key.Key.TheVariants.{Object}
 use Rattle.ec_cluster.specs.Decoded.{decoded, field_of, fields_of}
@@ -16,7 +16,7 @@ use Rattle.ec_world.specs.declared.class.ClassNo.{ClassNo}
 abbrev pub CanBeRead : Cluster → Store → ClassNo → List ℕ → ℕ → Type 0
 CanBeRead c s class blocks n = (i : ℕ) → i < n → IsSome (field_of c.parts.classes s class blocks i)
 
--- an object is at the node where the directory has it, and each of its words can be read by the kind of its field
+-- an object is at its place, and each of its words can be read by the kind of its field
 pub record ObjectCanBeSeen (c : Cluster) (oid : ℕ) : Type 0 where
   pub node : ℕ
   pub at : place c oid ≡ Some node
@@ -28,9 +28,9 @@ pub record ObjectCanBeSeen (c : Cluster) (oid : ℕ) : Type 0 where
   pub is : row.class ≡ Some class
   pub each : CanBeRead c store class row.blocks row.size
 
--- each object of the directory can be seen, and the number of nodes has 32 bits
+-- each object that was noted can be seen, and the number of nodes has 32 bits
 pub record CanBeSeen (c : Cluster) : Type 0 where
-  pub objects : (oid : ℕ) → 0 < oid → oid ≤ made_count c.directory → ObjectCanBeSeen c oid
+  pub objects : (oid : ℕ) → 0 < oid → oid ≤ made_count c.whereabouts → ObjectCanBeSeen c oid
   pub few : length c.nodes < 2 ^ 32
 
 -- an object is at the node that has this store, is seen as it is kept there, and can be read
@@ -46,12 +46,12 @@ pub record IsSeenAt (c : Cluster) (oid : ℕ) (s : Store) (o : ObjectData) : Typ
     monitor = row.monitor;
   })
 
--- The nodes show a world of the program that they run: with its classes, as many nodes as there are, as many objects as the directory has,
+-- The nodes show a world of the program that they run: with its classes, as many nodes as there are, as many objects as were noted,
 -- as many constants as the program, and each field of its kind.
 pub record ShowsProgram (c : Cluster) (w : CodeWorld) : Type 0 where
   pub shows : Shows c w
   pub classes : w.common.classes ≡ c.parts.classes
   pub nodes : w.common.nodes ≡ length c.nodes
-  pub objects : length w.common.objects ≡ made_count c.directory
+  pub objects : length w.common.objects ≡ made_count c.whereabouts
   pub constants : length w.common.globals ≡ length c.parts.constants
   pub kinds : EachFieldIsOfKind c.parts.classes w.common

@@ -29,7 +29,7 @@ Nothing k text = ⊥
 abbrev pub WhereIs : Cluster → ℕ → (List ℕ → Type 0) → ℕ → List ℕ → Type 0
 WhereIs c oid Added k text = (place c oid ≡ Some k) × Added text
 
--- the directory has an object at some node
+-- an object has a place
 abbrev pub HasPlace : Cluster → ℕ → Type 0
 HasPlace c oid = (k : ℕ) × (place c oid ≡ Some k)
 
@@ -39,7 +39,7 @@ pub record KeptAt (c : Cluster) (key : Key) (k : ℕ) : Type 0 where
   pub there : stores c k ≡ Some store
   pub row : IsSome (store.row key)
 
--- an object is at the node where the directory has it
+-- an object is at its place
 pub record HasObject (c : Cluster) (oid : ℕ) : Type 0 where
   pub node : ℕ
   pub at : place c oid ≡ Some node

@@ -9,7 +9,7 @@ use Rattle.ec_cluster.specs.declared.cluster.Cluster.{Cluster}
 use Rattle.ec_cluster.specs.Frames.{CanBegin, HasRoomFor, tables_on}
 use Rattle.ec_code.specs.Activations.{code_meaning}
 use Rattle.ec_code.specs.declared.activation.CodeActivation.{CodeActivation}
-use Rattle.ec_cluster.specs.Directory.{made_count}
+use Rattle.ec_cluster.specs.Whereabouts.{made_count}
 use Rattle.ec_node_frames.specs.Beginning.{HasEntry}
 use Rattle.ec_node_frames.specs.Frames.{RestsAt}
 use Rattle.ec_generate.specs.declared.table.OperationTable.{OperationTable}
@@ -48,9 +48,9 @@ CanBeDone c who (Defines index v) = CanDefine c index v
 CanBeDone c who (Stores oid i v) = HasField c oid i × HasRoomAt c oid v
 CanBeDone c who (Makes class given) =
     ByClass (class_at c.parts.classes class)
-    (λ k. CanMake c who.own (suc (made_count c.directory)) class (new_fields given k.fields))
+    (λ k. CanMake c who.own (suc (made_count c.whereabouts)) class (new_fields given k.fields))
 CanBeDone c who (MakesVector of n) =
-    CanMake c who.own (suc (made_count c.directory)) (Vector of) (replicate n (default_of (element_kind of)))
+    CanMake c who.own (suc (made_count c.whereabouts)) (Vector of) (replicate n (default_of (element_kind of)))
 CanBeDone c who (Invokes op own args) = Unit {0}
 CanBeDone c who (Returns given leaves section) = HasObject c who.own
 CanBeDone c who (Moves members to fixes) = ⊥

@@ -6,7 +6,7 @@ use Rattle.ec_cluster.specs.Frames.{HasImages}
 use Rattle.ec_code.specs.Fine.{Fine}
 use Rattle.ec_code.specs.Typing.{Declared}
 use Rattle.ec_code.specs.declared.activation.CodeActivation.{CodeActivation}
-use Rattle.ec_cluster.specs.Directory.{made_count}
+use Rattle.ec_cluster.specs.Whereabouts.{made_count}
 use Rattle.ec_code.specs.Worlds.{RangedWorld, most_nodes}
 use Rattle.ec_code.specs.Sound.{SoundWorld}
 use Rattle.ec_cluster.specs.declared.system.ProcessRow.{ProcessRow}
@@ -22,14 +22,14 @@ abbrev pub row_of : Proc CodeActivation → ProcessRow
 row_of q = record { activations = length q.activations; status = q.status }
 
 -- A system shows a world: its nodes show the objects, the constants and the activations, its rows the processes, and it has written the
--- world's output. Its program has the world's classes and as many constants, and its directory has as many objects.
+-- world's output. Its program has the world's classes and as many constants, and as many objects were noted.
 pub record Mirrors (s : System) (w : CodeWorld) : Type 0 where
   pub shows : Shows s.cluster w
   pub rows : s.processes ≡ map row_of w.processes
   pub output : s.output ≡ w.common.output
   pub nodes : w.common.nodes ≡ length s.cluster.nodes
   pub classes : w.common.classes ≡ s.cluster.parts.classes
-  pub objects : length w.common.objects ≡ made_count s.cluster.directory
+  pub objects : length w.common.objects ≡ made_count s.cluster.whereabouts
   pub constants : length w.common.globals ≡ length s.cluster.parts.constants
 
 -- What never changes: the program is well typed, the images are its own on each kind, and there are at most 64 nodes.

@@ -2,7 +2,7 @@
 ghost use Rattle.std.specs.Prelude.{◌≡◌};
 ghost use Rattle.ec_cluster.specs.Images.{image_of};
 
-use crate::forward::directory::Directory;
+use crate::forward::whereabouts::Whereabouts;
 use ec_base::list::Seq;
 use ec_code::code::Parts;
 use ec_generate::image::Image;
@@ -16,13 +16,13 @@ pub struct Images {
     pub mips: Image,
 }
 
-/// Nodes by their numbers (from 0), the program that they run with its images, and the directory of all objects.
+/// Nodes by their numbers (from 0), the program that they run with its images, and what they know of the whereabouts of all objects.
 #[derive(Drop)]
 pub struct Cluster {
     pub parts: Parts,
     pub images: Images,
     pub nodes: Seq<NodeStore>,
-    pub directory: Directory,
+    pub whereabouts: Whereabouts,
 }
 
 impl Images {

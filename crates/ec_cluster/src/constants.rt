@@ -13,7 +13,7 @@ use std::alloc::AllocError;
 pub fn define(cluster: &mut Cluster, index: u32, value: &Value) -> Result<(), AllocError>
     requires { CanDefine cluster.old index value.now }
     ensures changes { OnOk result (Changes (Everywhere value.now) cluster.old cluster.new) }
-    ensures directory { cluster.new.directory ≡ cluster.old.directory }
+    ensures whereabouts { cluster.new.whereabouts ≡ cluster.old.whereabouts }
     ensures shows { OnOk result ((w : CodeWorld) → Shows cluster.old w → index < length w.common.globals →
         Shows cluster.new (with_common w (record w.common { globals = slice_set w.common.globals index value.now }))) }
 {

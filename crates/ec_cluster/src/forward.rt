@@ -1,4 +1,4 @@
 //! Which node each object is at.
 
-pub mod directory;
 pub mod laws;
+pub mod whereabouts;

@@ -35,7 +35,7 @@ pub fn finish(
     ensures changes { OnOk result ((d : Declared) (w : CodeWorld) (proc : Proc CodeActivation) (a : CodeActivation) (e : StopEntry) →
         RestsIn d cluster.old w process depth proc a e → a.own ≡ own →
         Changes (WhereIs cluster.old own (IsTaken e.result (option_copied given.entry))) cluster.old cluster.new) }
-    ensures directory { cluster.new.directory ≡ cluster.old.directory }
+    ensures whereabouts { cluster.new.whereabouts ≡ cluster.old.whereabouts }
     ensures shows { OnOk result ((d : Declared) (w : CodeWorld) (proc : Proc CodeActivation) (a : CodeActivation) (e : StopEntry)
         (status : ProcStatus) → RestsIn d cluster.old w process depth proc a e → a.own ≡ own → a.into ≡ taker_of e.result →
         Shows cluster.new (with_stack w process (slice_set proc.activations depth (finished a (option_copied given.entry))) status)) }
@@ -61,7 +61,7 @@ pub fn begin(
 ) -> Result<(), AllocError>
     requires { CanBegin cluster.old process depth operation own arguments.now }
     ensures changes { OnOk result (Changes (BeginsWith cluster.old operation own arguments.now) cluster.old cluster.new) }
-    ensures directory { cluster.new.directory ≡ cluster.old.directory }
+    ensures whereabouts { cluster.new.whereabouts ≡ cluster.old.whereabouts }
     ensures stack { OnOk result ((d : Declared) (w : CodeWorld) (proc : Proc CodeActivation) (status : ProcStatus) →
         HasImages d cluster.old → Shows cluster.old w → slice_get w.processes process ≡ Some proc → depth ≡ length proc.activations →
         Shows cluster.new (with_stack w process (proc.activations ++ begun operation own arguments.now ∷ []) status)) }
@@ -82,7 +82,7 @@ pub fn begin(
 pub fn close(cluster: &mut Cluster, process: Pid, depth: u32, own: Oid)
     requires { FrameAt cluster.old process depth own }
     ensures changes { Changes Nothing cluster.old cluster.new }
-    ensures directory { cluster.new.directory ≡ cluster.old.directory }
+    ensures whereabouts { cluster.new.whereabouts ≡ cluster.old.whereabouts }
     ensures shows { (w : CodeWorld) (proc : Proc CodeActivation) (below : List CodeActivation) (a : CodeActivation) (status : ProcStatus) →
         Shows cluster.old w → slice_get w.processes process ≡ Some proc → proc.activations ≡ below ++ a ∷ [] → depth ≡ length below →
         a.own ≡ own → Shows cluster.new (with_stack w process below status) }

@@ -3,7 +3,7 @@
 //!
 //! | modules | what they have |
 //! |---|---|
-//! | `cluster`, `forward` | the nodes, and a directory of which node each object is at |
+//! | `cluster`, `forward` | the nodes, and what they know of where objects are |
 //! | `objects`, `making`, `monitors`, `constants` | steps on objects at their nodes |
 //! | `frames`, `finding`, `stops` | activations at the nodes of their own objects: one comes, goes or has its action done |
 //! | `seen` | what nodes let a reader see: their world, read from their words |

@@ -30,7 +30,7 @@ pub fn make(
     })) }
 {
     let k = node_of(cluster, maker);
-    cluster.directory.note_made(oid, k)?;
+    cluster.whereabouts.note_made(oid, k)?;
     create_object(
         cluster.nodes.at_mut(k as usize),
         alloc,

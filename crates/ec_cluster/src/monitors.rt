@@ -18,7 +18,7 @@ pub fn enter(cluster: &mut Cluster, oid: Oid, process: Pid) -> Result<Entry, All
     requires there { HasObject cluster.old oid }
     requires monitor { MonitorThere cluster.old oid (λ s. HasMonitor s oid) }
     ensures changes { OnOk result (Changes Nothing cluster.old cluster.new) }
-    ensures directory { cluster.new.directory ≡ cluster.old.directory }
+    ensures whereabouts { cluster.new.whereabouts ≡ cluster.old.whereabouts }
     ensures acts { IfOk result (λ e. (w : CodeWorld) → Shows cluster.old w → MonitorActs cluster.new w oid (λ m. entered m process) e) }
 {
     let k = node_of(cluster, oid);
@@ -30,7 +30,7 @@ pub fn leave(cluster: &mut Cluster, oid: Oid, process: Pid) -> Option<Granted>
     requires there { HasObject cluster.old oid }
     requires holds { MonitorThere cluster.old oid (λ s. HoldsMonitor s oid process) }
     ensures changes { Changes Nothing cluster.old cluster.new }
-    ensures directory { cluster.new.directory ≡ cluster.old.directory }
+    ensures whereabouts { cluster.new.whereabouts ≡ cluster.old.whereabouts }
     ensures acts { (w : CodeWorld) → Shows cluster.old w → MonitorActs cluster.new w oid left result }
 {
     let k = node_of(cluster, oid);
@@ -42,7 +42,7 @@ pub fn wait(cluster: &mut Cluster, oid: Oid, process: Pid, condition: usize) -> 
     requires there { HasObject cluster.old oid }
     requires waits { MonitorThere cluster.old oid (λ s. WaitsAtMonitor s oid process condition) }
     ensures changes { Changes Nothing cluster.old cluster.new }
-    ensures directory { cluster.new.directory ≡ cluster.old.directory }
+    ensures whereabouts { cluster.new.whereabouts ≡ cluster.old.whereabouts }
     ensures acts { (w : CodeWorld) → Shows cluster.old w → MonitorActs cluster.new w oid (λ m. waited m condition) result }
 {
     let k = node_of(cluster, oid);
@@ -54,7 +54,7 @@ pub fn signal(cluster: &mut Cluster, oid: Oid, process: Pid, condition: usize) -
     requires there { HasObject cluster.old oid }
     requires waits { MonitorThere cluster.old oid (λ s. WaitsAtMonitor s oid process condition) }
     ensures changes { Changes Nothing cluster.old cluster.new }
-    ensures directory { cluster.new.directory ≡ cluster.old.directory }
+    ensures whereabouts { cluster.new.whereabouts ≡ cluster.old.whereabouts }
     ensures acts { (w : CodeWorld) → Shows cluster.old w → MonitorActs cluster.new w oid (λ m. signalled m condition) result }
 {
     let k = node_of(cluster, oid);
@@ -66,7 +66,7 @@ pub fn drop_all(cluster: &mut Cluster, oid: Oid, process: Pid) -> Option<Granted
     requires there { HasObject cluster.old oid }
     requires holds { MonitorThere cluster.old oid (λ s. HoldsMonitor s oid process) }
     ensures changes { Changes Nothing cluster.old cluster.new }
-    ensures directory { cluster.new.directory ≡ cluster.old.directory }
+    ensures whereabouts { cluster.new.whereabouts ≡ cluster.old.whereabouts }
     ensures acts { (w : CodeWorld) → Shows cluster.old w → MonitorActs cluster.new w oid dropped result }
 {
     let k = node_of(cluster, oid);

@@ -15,7 +15,7 @@ pub fn node_of(cluster: &Cluster, oid: Oid) -> NodeNo
     requires { HasPlace cluster.now oid }
     ensures { place cluster.now oid ≡ Some result }
 {
-    match cluster.directory.place(oid) {
+    match cluster.whereabouts.place(oid) {
         Some(node) => node,
         None => unreachable!(),
     }
@@ -25,7 +25,7 @@ pub fn node_of(cluster: &Cluster, oid: Oid) -> NodeNo
 pub fn set_flag(cluster: &mut Cluster, oid: Oid, fixed: bool)
     requires { HasObject cluster.old oid }
     ensures changes { Changes Nothing cluster.old cluster.new }
-    ensures directory { cluster.new.directory ≡ cluster.old.directory }
+    ensures whereabouts { cluster.new.whereabouts ≡ cluster.old.whereabouts }
     ensures shows { (w : CodeWorld) → Shows cluster.old w → Shows cluster.new (with_common w (flagged w.common oid fixed)) }
 {
     let k = node_of(cluster, oid);
@@ -43,7 +43,7 @@ pub fn set_field(
     requires field { HasField cluster.old oid field }
     requires room { HasRoomAt cluster.old oid value.now }
     ensures changes { OnOk result (Changes (WhereIs cluster.old oid (λ text. value.now ≡ Str text)) cluster.old cluster.new) }
-    ensures directory { cluster.new.directory ≡ cluster.old.directory }
+    ensures whereabouts { cluster.new.whereabouts ≡ cluster.old.whereabouts }
     ensures shows { OnOk result ((w : CodeWorld) → Shows cluster.old w →
         Shows cluster.new (with_common w (stored_in w.common oid field value.now))) }
 {

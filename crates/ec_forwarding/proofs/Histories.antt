@@ -6,11 +6,11 @@ use Rattle.std.specs.Prelude.{Err, IfOk, Ok, OnErr, Result}
 use Rattle.std.proofs.lemmas.Bool.Decides.{eqb_tells, nat_tests}
 use Rattle.std.specs.Prelude.{◌==◌, IsSome, slice_get}
 use Rattle.ec_base.proofs.Lists.{get_within}
-use Rattle.ec_forwarding.proofs.Leading.{since, with_other, with_same}
+use Rattle.ec_forwarding.proofs.Leading.{given, since, with_other, with_same}
 use Rattle.ec_forwarding.proofs.Searching.{each}
 use Rattle.ec_forwarding.specs.Addresses.{Addresses, AreRight, IsSince, address_in, with_address}
-use Rattle.ec_forwarding.specs.Following.{AreNewer, Leads}
-use Rattle.ec_forwarding.specs.Traces.{IsTraceOf, Trace, addresses_of, first_trace}
+use Rattle.ec_forwarding.specs.Following.{AreNewer, IsFound, Leads, named, node_after, own_or_made}
+use Rattle.ec_forwarding.specs.Traces.{IsTraceOf, Trace, addresses_of, first_trace, start_of}
 use Rattle.ec_forwarding.specs.declared.address.Address.{Address}
 use Rattle.ec_forwarding.specs.declared.address.Known.{Known}
 
@@ -71,6 +71,33 @@ module _ (h : List ℕ) (t : Trace) (trace : IsTraceOf h t) where
         let moves = trace.moves in
         omega arith;
   }
+
+  -- the node where the object is has an address that names itself
+  own_place : (a : Address) → addresses_of t t.newest.node ≡ Some a → a.node ≡ t.newest.node
+  own_place a e =
+      let it = since t.newest.moves (addresses_of t t.newest.node) (trace.right.known t.newest.moves t.newest.node trace.last) in
+      let is : it.0 ≡ a = let both = sym it.1 ∙ e in cc in
+      let no_older = it.2 in
+      let no_newer = leads.old t.newest.node it.0 it.1 in
+      let same : it.0.moves ≡ t.newest.moves = omega (arith, no_older, no_newer) in
+      let says = trace.right.say t.newest.node it.0 it.1 in
+      sym (ap (λ (x : Address). x.node) is) ∙ same_node it.0.node t.newest.node (sym says ∙ ap (slice_get h) same ∙ trace.last)
+
+  -- so that it is found from there in no hop
+  one_after : (a : Address) → addresses_of t t.newest.node ≡ Some a →
+      node_after (addresses_of t) (start_of t t.newest.node) 1 ≡ Some t.newest.node
+  one_after a e =
+      ap (λ (o : Option Address). named (addresses_of t (own_or_made o t.newest.node t.made))) e ∙ ap named e ∙ ap Some (own_place a e)
+
+  no_hop : (hops : ℕ) → IsFound (addresses_of t) (start_of t t.newest.node) t.newest.node hops → hops ≡ 0
+  no_hop zero found = refl
+  no_hop (suc n) found =
+      let a = given (addresses_of t t.newest.node) place_known in absurd (found.first 0 (omega arith) (one_after a.0 a.1))
+
+  pub no_hops : {E : Type 0} (from : ℕ) (r : Result ℕ E) →
+      IfOk r (λ hops. IsFound (addresses_of t) (start_of t from) t.newest.node hops) → IfOk r (λ hops. from ≡ t.newest.node → hops ≡ 0)
+  no_hops from (Ok hops) found = λ e. no_hop hops (subst (λ k. IsFound (addresses_of t) (start_of t k) t.newest.node hops) e found)
+  no_hops from (Err x) found = tt
 
   -- addresses that are the newest in place of what they were are right
   pub still_right : (B : Addresses) → ((k : ℕ) → (B k ≡ addresses_of t k) ⊎ (B k ≡ Some t.newest)) → AreRight h B

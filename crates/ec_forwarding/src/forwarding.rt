@@ -82,6 +82,7 @@ impl Forwarding {
         requires made { IsSome (place_at self.old oid) }
         ensures found { IfOk result (λ answer. place_at self.old oid ≡ Some answer.0) }
         ensures hops { IfOk result (λ answer. IsFound (addresses_at self.old oid) (start_at self.old oid from) answer.0 answer.1) }
+        ensures here { IfOk result (λ answer. from ≡ answer.0 → answer.1 ≡ 0) }
         ensures few_hops { IfOk result (λ answer. answer.1 ≤ moves_of self.old oid) }
         ensures newer { IfOk result (λ answer. AreNewer (addresses_at self.old oid) (addresses_at self.new oid) from
             (start_at self.old oid from) answer.1 (record { node = answer.0; moves = moves_of self.old oid })) }

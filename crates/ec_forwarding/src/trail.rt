@@ -86,6 +86,7 @@ impl Trail {
         ensures made { self.new.made ≡ self.old.made }
         ensures newest { self.new.newest ≡ self.old.newest }
         ensures found { IfOk result (λ hops. IsFound (addresses_of self.old) (start_of self.old from) self.old.newest.node hops) }
+        ensures here { IfOk result (λ hops. from ≡ self.old.newest.node → hops ≡ 0) }
         ensures few { IfOk result (λ hops. hops ≤ self.old.newest.moves) }
         ensures newer { IfOk result (λ hops.
             AreNewer (addresses_of self.old) (addresses_of self.new) from (start_of self.old from) hops self.old.newest) }

@@ -21,7 +21,7 @@ use Rattle.ec_fullness.proofs.Asking.{its_own, its_stop}
 use Rattle.ec_fullness.proofs.FittingBlocks.{made_fits, new_length, vector_fits}
 use Rattle.ec_fullness.proofs.Shown.{has_constant, has_field, has_object, no_object}
 use Rattle.ec_fullness.specs.Fitting.{HasNamed, IsMakable}
-use Rattle.ec_cluster.specs.Directory.{made_count}
+use Rattle.ec_cluster.specs.Whereabouts.{made_count}
 use Rattle.ec_world.specs.Things.{class_blocks}
 use Rattle.ec_code.proofs.Carried.{all_two_length, each_get, there}
 use Rattle.ec_code.specs.Sound.{SoundPending}
@@ -91,7 +91,7 @@ module _ (d : Declared) (c : Cluster) (w : CodeWorld) (shows : Shows c w) where
 
 -- ---- the table, case by case
 
-module _ (c : Cluster) (w : CodeWorld) (who : Who) (shows : Shows c w) (many : length w.common.objects ≡ made_count c.directory)
+module _ (c : Cluster) (w : CodeWorld) (who : Who) (shows : Shows c w) (many : length w.common.objects ≡ made_count c.whereabouts)
     (own : HasObject c who.own) where
   abbrev sight : Sight
   sight = sight_of w.common
@@ -356,7 +356,7 @@ module _ (c : Cluster) (w : CodeWorld) (who : Who) (shows : Shows c w) (many : l
 -- ---- a new object of a class
 
 module _ (d : Declared) (c : Cluster) (w : CodeWorld) (who : Who) (fine : Fine d c.parts) (limits : HasLimits c.parts) (shows : Shows c w)
-    (many : length w.common.objects ≡ made_count c.directory) (own : HasObject c who.own) where
+    (many : length w.common.objects ≡ made_count c.whereabouts) (own : HasObject c who.own) where
   few_fields : (k : ℕ) (r : ClassRec) → slice_get c.parts.classes k ≡ Some r → length r.fields ≤ 100
   few_fields k r e =
       each_get HasFewFields c.parts.classes k r (recursion_from_All HasFewFields c.parts.classes limits.fields) e

@@ -2,16 +2,15 @@
 use Rattle.std.proofs.Common.{◌≡◌, ◌≢◌, ◌⊎◌, ◌-◌, ◌<◌, ℕ, suc, inl, inr, ⊎_elim, List, [], Option, Some, None, refl, sym, ap, ◌∙◌}
 use Rattle.std.proofs.Common.{arith}
 use Rattle.std.specs.Prelude.{◌↔◌}
+use Rattle.ec_cluster.proofs.Places.{none_next}
 use Rattle.ec_cluster.specs.Cluster.{CodeWorld, Shows, frame_of, place, stores}
 use Rattle.ec_cluster.specs.declared.cluster.Cluster.{Cluster}
-use Rattle.ec_cluster.specs.Directory.{made_count, place_at}
-use Rattle.ec_cluster.specs.declared.forward.directory.Whereabouts.{Whereabouts}
+use Rattle.ec_cluster.specs.Whereabouts.{made_count}
 use Rattle.ec_fullness.proofs.Blocks.{held_moved}
 use Rattle.ec_fullness.specs.Fullness.{EachFits, FitsAt, IsFull, NeedsAt, Wants, place_then}
 use Rattle.ec_fullness.specs.Room.{HasRoomWith}
 use Rattle.ec_fullness.specs.Told.{LacksAt, LacksFirst}
 use Rattle.ec_objects.specs.Lacks.{HasRoomForAll, LacksRoom, needs_at}
-use Rattle.ec_world.proofs.Procs.{get_past}
 use Rattle.ec_world.specs.Held.{if_at}
 use Rattle.ec_world.specs.declared.key.Key.{Key}
 use Rattle.ec_world.specs.declared.room.Lack.{Lack}
@@ -57,19 +56,16 @@ fits_without s vs none = record {
 
 -- ---- places
 
-nowhere : (d : List Whereabouts) → place_at d (suc (made_count d)) ≡ None
-nowhere d = ap (option_map (λ (x : Whereabouts). x.node)) (get_past d (made_count d) (omega arith))
-
-then_before : (c : Cluster) (maker oid : ℕ) → oid ≢ suc (made_count c.directory) → place_then c maker oid ≡ place c oid
+then_before : (c : Cluster) (maker oid : ℕ) → oid ≢ suc (made_count c.whereabouts) → place_then c maker oid ≡ place c oid
 then_before c maker oid ne = grind arith
 
-pub then_new : (c : Cluster) (maker oid : ℕ) → oid ≡ suc (made_count c.directory) → place_then c maker oid ≡ place c maker
+pub then_new : (c : Cluster) (maker oid : ℕ) → oid ≡ suc (made_count c.whereabouts) → place_then c maker oid ≡ place c maker
 then_new c maker oid same = grind arith
 
 -- what has a place is there still
 pub same_then : (c : Cluster) (maker oid k : ℕ) → place c oid ≡ Some k → place_then c maker oid ≡ place c oid
 same_then c maker oid k e =
-    then_before c maker oid (λ same. let none : place c oid ≡ None = ap (place c) same ∙ nowhere c.directory in cc)
+    then_before c maker oid (λ same. let none : place c oid ≡ None = ap (place c) same ∙ none_next c.whereabouts in cc)
 
 -- ---- needs
 

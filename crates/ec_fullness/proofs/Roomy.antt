@@ -16,7 +16,7 @@ use Rattle.ec_fullness.proofs.Sections.{IsOn, can_start, done_starts}
 use Rattle.ec_fullness.specs.Fitting.{BelowTakes, CallIsNew, CalledHasNode, HasNamed, IsMakable, TopTakes}
 use Rattle.ec_fullness.specs.FittingRoom.{RoomToDo, RoomToMake, RoomToSettle}
 use Rattle.ec_fullness.specs.Waiters.{WaitersStay}
-use Rattle.ec_cluster.specs.Directory.{made_count}
+use Rattle.ec_cluster.specs.Whereabouts.{made_count}
 use Rattle.ec_node_frames.specs.Finishing.{HasRoomIn}
 use Rattle.ec_code.specs.Sound.{FineSection}
 use Rattle.ec_generate.specs.declared.table.StopEntry.{StopEntry}
@@ -42,7 +42,7 @@ use Rattle.ec_world.specs.declared.value.Value.{Value}
 -- ---- the first step
 
 can_make_there : (c : Cluster) (maker : ℕ) (class : ClassNo) (fields : List Value) → IsMakable c maker class fields →
-    RoomToMake c maker class fields → CanMake c maker (suc (made_count c.directory)) class fields
+    RoomToMake c maker class fields → CanMake c maker (suc (made_count c.whereabouts)) class fields
 can_make_there c maker class fields h room = record {
   maker_is = h.maker_is;
   next = refl;
@@ -65,7 +65,7 @@ can_be_done_there c who (Stores oid i v) h room = (h, room)
 can_be_done_there c who (Makes class given) h room =
     by_class (class_at c.parts.classes class) (λ r. IsMakable c who.own class (new_fields given r.fields))
     (λ r. RoomToMake c who.own class (new_fields given r.fields))
-    (λ r. CanMake c who.own (suc (made_count c.directory)) class (new_fields given r.fields))
+    (λ r. CanMake c who.own (suc (made_count c.whereabouts)) class (new_fields given r.fields))
     (λ r m q. can_make_there c who.own class (new_fields given r.fields) m q) h room
 can_be_done_there c who (MakesVector of n) h room = can_make_there c who.own _ _ h room
 can_be_done_there c who (Invokes op own args) h room = tt

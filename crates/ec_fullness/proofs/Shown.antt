@@ -10,7 +10,7 @@ use Rattle.ec_cluster.specs.Finding.{NoFrame}
 use Rattle.ec_cluster.specs.Frames.{HasNode}
 use Rattle.ec_code.specs.declared.activation.CodeActivation.{CodeActivation}
 use Rattle.ec_fullness.specs.Fitting.{HasConstant}
-use Rattle.ec_cluster.specs.Directory.{made_count}
+use Rattle.ec_cluster.specs.Whereabouts.{made_count}
 use Rattle.ec_world.proofs.Procs.{activation_is, get_past}
 use Rattle.ec_world.specs.Things.{blocks_of}
 use Rattle.ec_world.specs.declared.key.Key.{Key}
@@ -75,12 +75,12 @@ module _ (c : Cluster) (w : CodeWorld) (shows : Shows c w) where
       by (Some r) e = let t = shows.things_stand.only k s key r there e in absurd (let is = t.1 in cc)
 
   -- no object has the next number
-  pub no_object : length w.common.objects ≡ made_count c.directory → (k : ℕ) (s : Store) → stores c k ≡ Some s →
-      s.row (Object (suc (made_count c.directory))) ≡ None
+  pub no_object : length w.common.objects ≡ made_count c.whereabouts → (k : ℕ) (s : Store) → stores c k ≡ Some s →
+      s.row (Object (suc (made_count c.whereabouts))) ≡ None
   no_object many =
-      no_row (Object (suc (made_count c.directory)))
-      (ap (object_if (suc (made_count c.directory)))
-      (get_past w.common.objects (made_count c.directory) (omega (arith, many))))
+      no_row (Object (suc (made_count c.whereabouts)))
+      (ap (object_if (suc (made_count c.whereabouts)))
+      (get_past w.common.objects (made_count c.whereabouts) (omega (arith, many))))
 
   -- no activation is above the top
   pub no_frame : (p : ℕ) (below : List CodeActivation) (top : CodeActivation) → IsTop w p below top → NoFrame c p (suc (length below))

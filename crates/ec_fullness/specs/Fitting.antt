@@ -9,7 +9,7 @@ use Rattle.ec_cluster.specs.Finding.{NoFrame}
 use Rattle.ec_cluster.specs.Frames.{HasNode, tables_on}
 use Rattle.ec_code.specs.declared.activation.CodeActivation.{CodeActivation}
 use Rattle.ec_code.specs.declared.code.Parts.{Parts}
-use Rattle.ec_cluster.specs.Directory.{made_count}
+use Rattle.ec_cluster.specs.Whereabouts.{made_count}
 use Rattle.ec_node_frames.specs.Beginning.{HasEntry}
 use Rattle.ec_node_frames.specs.Frames.{RestsAt}
 use Rattle.ec_world.specs.Things.{class_blocks}
@@ -102,7 +102,7 @@ pub record IsMakable (c : Cluster) (maker : ℕ) (class : ClassNo) (fields : Lis
   pub maker_is : HasObject c maker
   pub small : length fields < 2 ^ 32
   pub few : length fields ≤ 128 * class_blocks class (length fields)
-  pub new : (k : ℕ) (s : Store) → stores c k ≡ Some s → s.row (Object (suc (made_count c.directory))) ≡ None
+  pub new : (k : ℕ) (s : Store) → stores c k ≡ Some s → s.row (Object (suc (made_count c.whereabouts))) ≡ None
 
 -- What a doing names is there: objects with their fields, constants and classes; and the own object of who acts, where it is asked of.
 abbrev pub HasNamed : Cluster → Who → Doing → Type 0

@@ -4,7 +4,7 @@ use Rattle.ec_cluster.specs.Cluster.{CodeWorld, frame_of, place, stores}
 use Rattle.ec_cluster.specs.declared.cluster.Cluster.{Cluster}
 use Rattle.ec_code.specs.Typing.{Declared}
 use Rattle.ec_code.specs.declared.activation.CodeActivation.{CodeActivation}
-use Rattle.ec_cluster.specs.Directory.{made_count}
+use Rattle.ec_cluster.specs.Whereabouts.{made_count}
 use Rattle.ec_world.specs.Held.{Fits, Lacks}
 use Rattle.ec_world.specs.declared.room.Needs.{Needs}
 use Rattle.ec_world.specs.declared.room.Part.{Part}
@@ -56,7 +56,7 @@ pub record ActsInSome (s : System) (who : Who) (doing : Doing) : Type 0 where
 
 -- Where objects are once an action has made one: the new one is where its maker is.
 abbrev pub place_then : Cluster → ℕ → ℕ → Option ℕ
-place_then c maker oid = if oid == suc (made_count c.directory) then place c maker else place c oid
+place_then c maker oid = if oid == suc (made_count c.whereabouts) then place c maker else place c oid
 
 -- the texts that a world has at a node, with objects at these places: in objects and activations there, and in constants
 abbrev pub Wants : Cluster → (ℕ → Option ℕ) → CodeWorld → ℕ → List ℕ → Type 0

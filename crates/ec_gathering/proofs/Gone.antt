@@ -18,8 +18,7 @@ use Rattle.ec_acts.proofs.ObjectsLemmas.{length_changed}
 use Rattle.ec_acts.proofs.Stepping.{Beside, mirrors_with_common, with_cluster}
 use Rattle.ec_fullness.proofs.Keeping.{steady_after}
 use Rattle.ec_fullness.proofs.Shown.{has_object}
-use Rattle.ec_cluster.specs.Directory.{made_count, place_at}
-use Rattle.ec_cluster.specs.declared.forward.directory.Whereabouts.{Whereabouts}
+use Rattle.ec_cluster.specs.Whereabouts.{Traces, made_count, place_at}
 use Rattle.ec_fullness.specs.Fullness.{IsFull}
 use Rattle.ec_gathering.proofs.Along.{but_back, but_then, packs_along}
 use Rattle.ec_gathering.proofs.Changing.{changes_before, changes_behind}
@@ -186,10 +185,10 @@ module _ (d : Declared) (s : System) (w : CodeWorld) (table : ClassTable) (membe
 
     -- ---- the node has room
 
-    module _ (loose : Cluster) (changes : Changes Nothing old loose) (directory : loose.directory ≡ old.directory)
+    module _ (loose : Cluster) (changes : Changes Nothing old loose) (whereabouts : loose.whereabouts ≡ old.whereabouts)
         (shows_loose : Shows loose loosened) where
       place_same : (oid : ℕ) → place loose oid ≡ place old oid
-      place_same oid = ap (λ (x : List Whereabouts). place_at x oid) directory
+      place_same oid = ap (λ (x : Traces). place_at x oid) whereabouts
 
       ships_loose : (b : Shipment) (x : Contents) → Has bs b → IsShipped table old w members b x →
           IsShipped table loose loosened members b x
@@ -238,7 +237,7 @@ module _ (d : Declared) (s : System) (w : CodeWorld) (table : ClassTable) (membe
         held_same : Held (frame_of loose) (place loose) to loosened ≡ Held (frame_of old) (place old) to w
         held_same =
             places_along old loose changes.parts changes.images
-            (λ frame places. Held frame places to loosened ≡ Held (frame_of old) (place old) to loosened) directory refl
+            (λ frame places. Held frame places to loosened ≡ Held (frame_of old) (place old) to loosened) whereabouts refl
             ∙ (fixed_needs old (place old) w loosened (but_flag w fixes false)).blocks to
 
         still_room : HasRoomForAll store' (all_blocks table ships.parcels) (all_values ships.parcels)
@@ -278,7 +277,7 @@ module _ (d : Declared) (s : System) (w : CodeWorld) (table : ClassTable) (membe
             let l = sends.loose x (may.its x is) in
             has_object mid loosened brought.came.shows x l.object l.is)
 
-        module _ (new : Cluster) (fixing : Changes Nothing mid new) (kept : new.directory ≡ mid.directory)
+        module _ (new : Cluster) (fixing : Changes Nothing mid new) (kept : new.whereabouts ≡ mid.whereabouts)
             (shows_new : Shows new (with_common loosened (flag_if loosened.common fixes true))) where
           abbrev afterwards : CodeWorld
           afterwards = world_gathered w members target fixes
@@ -303,7 +302,7 @@ module _ (d : Declared) (s : System) (w : CodeWorld) (table : ClassTable) (membe
               (fixed_needs new (place new) loosened afterwards fixed_then).now k text now
 
           place_new : (oid : ℕ) → place new oid ≡ place mid oid
-          place_new oid = ap (λ (x : List Whereabouts). place_at x oid) kept
+          place_new oid = ap (λ (x : Traces). place_at x oid) kept
 
           placed : (oid : ℕ) → place mid oid ≡ gathered (place old) members to oid
           placed oid = ⊎_elim
@@ -322,11 +321,11 @@ module _ (d : Declared) (s : System) (w : CodeWorld) (table : ClassTable) (membe
               out x none true f = absurd (none (is_in_has x members f))
               out x none false f = ap (λ t. if t then Some to else place old x) f
 
-          count_same : made_count new.directory ≡ made_count old.directory
+          count_same : made_count new.whereabouts ≡ made_count old.whereabouts
           count_same =
-              ap (λ (x : List Whereabouts). made_count x) kept
+              ap (λ (x : Traces). made_count x) kept
               ∙ brought.came.count
-              ∙ ap (λ (x : List Whereabouts). made_count x) directory
+              ∙ ap (λ (x : Traces). made_count x) whereabouts
 
           pub has_gone : Gathers s (with_cluster s new) w members target fixes
           has_gone = record {

@@ -7,7 +7,7 @@ use Rattle.ec_cluster.specs.declared.cluster.Cluster.{Cluster}
 use Rattle.ec_code.specs.Typing.{Declared}
 use Rattle.ec_code.specs.declared.activation.CodeActivation.{CodeActivation}
 use Rattle.ec_code.specs.declared.code.Parts.{Parts}
-use Rattle.ec_cluster.specs.Directory.{made_count}
+use Rattle.ec_cluster.specs.Whereabouts.{made_count}
 use Rattle.ec_gathering.specs.Shipping.{IsShipped, froms}
 use Rattle.ec_gathering.specs.declared.shipping.Shipment.{Shipment}
 use Rattle.ec_parcels.specs.Owners.{all_blocks, all_values}
@@ -77,7 +77,7 @@ pub record Came (old new : Cluster) (w : CodeWorld) (members : List ℕ) (to : �
   pub shows : Shows new w
   pub texts : Changes (Strings new w) old new
   pub places : (oid : ℕ) → (place new oid ≡ place old oid) ⊎ (Has members oid × (place new oid ≡ Some to))
-  pub count : made_count new.directory ≡ made_count old.directory
+  pub count : made_count new.whereabouts ≡ made_count old.whereabouts
 
 -- all of it has
 pub record Brought (old new : Cluster) (w : CodeWorld) (members : List ℕ) (to : ℕ) : Type 0 where

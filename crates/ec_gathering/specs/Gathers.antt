@@ -7,7 +7,7 @@ use Rattle.ec_cluster.specs.Cluster.{CodeWorld, place}
 use Rattle.ec_cluster.specs.Steps.{Changes, with_common}
 use Rattle.ec_cluster.specs.declared.cluster.Cluster.{Cluster}
 use Rattle.ec_code.specs.Typing.{Declared}
-use Rattle.ec_cluster.specs.Directory.{made_count}
+use Rattle.ec_cluster.specs.Whereabouts.{made_count}
 use Rattle.ec_fullness.specs.Fullness.{IsFull}
 use Rattle.ec_gathering.specs.Gathering.{gathered}
 use Rattle.ec_packing.specs.Between.{IsBetween}
@@ -74,7 +74,7 @@ pub record Gathers (old new : System) (w : CodeWorld) (members : List ℕ) (targ
   pub mirrors : Mirrors new (world_gathered w members target fixes)
   pub texts : Changes (Strings new.cluster (world_gathered w members target fixes)) old.cluster new.cluster
   pub places : ArePlaced old.cluster new.cluster members target
-  pub count : made_count new.cluster.directory ≡ made_count old.cluster.directory
+  pub count : made_count new.cluster.whereabouts ≡ made_count old.cluster.whereabouts
   pub processes : new.processes ≡ old.processes
 
 -- The node where the target is lacks room for all of the group together, as the world tells that is to come.

@@ -15,7 +15,8 @@ use ec_world::value::{NodeNo, Oid};
 use std::alloc::{AllocError, Global};
 
 /// The things of these parcels come to a node, those of one parcel after another. No object of the group is fixed. The error is want of
-/// memory, or that the node has 2^32 - 1 texts or references; what the nodes keep is then left open.
+/// memory, that an object has moved 2^64 - 1 times, or that the node has 2^32 - 1 texts or references; what the nodes keep is then left
+/// open.
 pub(crate) fn bring(
     cluster: &mut Cluster,
     alloc: Global,
@@ -44,7 +45,7 @@ pub(crate) fn bring(
 pub(crate) fn flag(cluster: &mut Cluster, object: Option<Oid>, fixed: bool)
     requires { IfSome object (λ x. HasObject cluster.old x) }
     ensures changes { Changes Nothing cluster.old cluster.new }
-    ensures directory { cluster.new.directory ≡ cluster.old.directory }
+    ensures whereabouts { cluster.new.whereabouts ≡ cluster.old.whereabouts }
     ensures shows { (w : CodeWorld) → Shows cluster.old w → Shows cluster.new (with_common w (flag_if w.common object fixed)) }
 {
     if let Some(oid) = object {

@@ -18,8 +18,8 @@ use std::alloc::{AllocError, Global};
 /// from each other node that has a member, and one of them is fixed then, if any. Where the target's node lacks room for all of them
 /// together, that is told, blocks before text, and nothing has changed.
 ///
-/// The error is want of memory, 2^32 processes or more, parcels that want 2^64 blocks or more or texts of 2^32 bytes or more together, or
-/// that the node has 2^32 - 1 texts or references. What the nodes keep is then left open.
+/// The error is want of memory, 2^32 processes or more, parcels that want 2^64 blocks or more or texts of 2^32 bytes or more together, a
+/// member that has moved 2^64 - 1 times, or that the node has 2^32 - 1 texts or references. What the nodes keep is then left open.
 pub fn gather(
     system: &mut System,
     alloc: Global,

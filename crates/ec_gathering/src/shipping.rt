@@ -50,7 +50,7 @@ fn has_some_at(cluster: &Cluster, members: &[Oid], node: NodeNo) -> bool
     ensures none { IsFalse result → HasNoneAt cluster.now members.now node }
 {
     for member in members {
-        if cluster.directory.place(*member) == Some(node) {
+        if cluster.whereabouts.place(*member) == Some(node) {
             return true;
         }
     }

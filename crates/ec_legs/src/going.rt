@@ -31,7 +31,7 @@ pub fn go_on(system: &mut System, machines: &mut Machines, process: Pid) -> u64
         RanNatively system.old.cluster system.new.cluster process (length below) top.own result }
     ensures parts { system.new.cluster.parts ≡ system.old.cluster.parts }
     ensures images { system.new.cluster.images ≡ system.old.cluster.images }
-    ensures directory { system.new.cluster.directory ≡ system.old.cluster.directory }
+    ensures whereabouts { system.new.cluster.whereabouts ≡ system.old.cluster.whereabouts }
     ensures processes { system.new.processes ≡ system.old.processes }
     ensures output { system.new.output ≡ system.old.output }
 {

@@ -72,7 +72,7 @@ module _ (d : Declared) (old : System) (w : CodeWorld) (who : Who) (doing : Doin
 
   -- Objects are where the world between the steps has them, and each text of it was there before, or is one of the world behind both.
   module _ (new : System) (settled : Settles mid new (world_done w who doing) who.process a.below a.top o)
-      (same : new.cluster.directory ≡ mid.cluster.directory) (placed : HasPlaces mid.cluster (world_done w who doing))
+      (same : new.cluster.whereabouts ≡ mid.cluster.whereabouts) (placed : HasPlaces mid.cluster (world_done w who doing))
       (between : (k : ℕ) (text : List ℕ) → Strings mid.cluster (world_done w who doing) k text →
       Strings old.cluster w k text ⊎ Strings new.cluster behind k text) where
     behind_is : behind ≡ Action code_meaning w who.process

@@ -10,7 +10,7 @@ use Rattle.ec_fullness.proofs.FittingDoings.{doing_is_there}
 use Rattle.ec_fullness.proofs.Roomy.{can_be_done_there}
 use Rattle.ec_fullness.specs.Fitting.{HasNamed, IsMakable}
 use Rattle.ec_fullness.specs.FittingRoom.{RoomToDo, RoomToMake, RoomToSettle}
-use Rattle.ec_cluster.specs.Directory.{place_at}
+use Rattle.ec_cluster.specs.Whereabouts.{place_at}
 use Rattle.ec_fullness.specs.Room.{HasRoomToMake, RoomFor}
 use Rattle.ec_network.proofs.Behind.{acted_behind, can_settle_behind, settles_behind}
 use Rattle.ec_network.proofs.Rooming.{frames_same, room_behind}
@@ -87,7 +87,7 @@ module _ (d : Declared) (old : System) (w : CodeWorld) (who : Who) (doing : Doin
     can_be_settled = can_settle_behind d old w who doing a mid o does room_to_settle
 
     pub has_acted : (new : System) → Settles mid new (world_done w who doing) who.process a.below a.top o →
-        new.cluster.directory ≡ mid.cluster.directory → HasActed d old new w who.process
+        new.cluster.whereabouts ≡ mid.cluster.whereabouts → HasActed d old new w who.process
     has_acted new settled same = acted_behind d old w who doing a mid o does new settled same
         (doings_keep_places d old mid w a.below a.top who doing a.goes.runs a.asks places a.goes.places)
         (texts_between old.cluster mid.cluster new.cluster w a.below a.top who doing o a.goes.runs.mirrors.shows

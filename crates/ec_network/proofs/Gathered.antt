@@ -6,7 +6,7 @@ use Rattle.ec_cluster.specs.Steps.{HasObject}
 use Rattle.ec_code.specs.Typing.{Declared}
 use Rattle.ec_code.specs.declared.activation.CodeActivation.{CodeActivation}
 use Rattle.ec_fullness.proofs.Shown.{has_object}
-use Rattle.ec_cluster.specs.Directory.{place_at}
+use Rattle.ec_cluster.specs.Whereabouts.{place_at}
 use Rattle.ec_fullness.proofs.Acting.{action_is}
 use Rattle.ec_fullness.specs.Fullness.{Wants}
 use Rattle.ec_gathering.proofs.Moves.{object_of}
@@ -93,7 +93,7 @@ module _ (d : Declared) (old : System) (w : CodeWorld) (table : ClassTable) (who
   -- ---- texts
 
   module _ (new : System) (settled : Settles mid new (world_done w who doing) who.process b.below b.top went)
-      (same : new.cluster.directory ≡ mid.cluster.directory) where
+      (same : new.cluster.whereabouts ≡ mid.cluster.whereabouts) where
     abbrev between : CodeWorld
     between = world_done w who doing
 

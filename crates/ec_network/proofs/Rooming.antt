@@ -14,7 +14,7 @@ use Rattle.ec_code.specs.declared.activation.CodeActivation.{CodeActivation}
 use Rattle.ec_code.specs.declared.code.Live.{Live}
 use Rattle.ec_acts.specs.Doings.{BringsNothing, OneMore, Places, SamePlaces}
 use Rattle.ec_fullness.specs.FittingRoom.{RoomToBegin, RoomToSettle, RoomToTake}
-use Rattle.ec_cluster.specs.Directory.{place_at}
+use Rattle.ec_cluster.specs.Whereabouts.{place_at}
 use Rattle.ec_fullness.specs.Room.{HasRoomBelow, HasRoomToMake, RoomFor}
 use Rattle.ec_cluster.proofs.Before.{before}
 use Rattle.ec_network.proofs.Nodes.{free_there, room_in_there, same_texts}
@@ -46,7 +46,7 @@ use Rattle.ec_world.specs.declared.value.Value.{Value}
 use Rattle.ec_world.specs.declared.value.Value.TheVariants.{Ref}
 use Rattle.ec_code.specs.declared.code.Variable.{Variable}
 use Rattle.ec_code.specs.declared.code.Variable.TheVariants.{Named, Temporary}
-use Rattle.ec_cluster.specs.Directory.{made_count}
+use Rattle.ec_cluster.specs.Whereabouts.{made_count}
 use Rattle.ec_fullness.proofs.Blocks.{held_is, held_moved, object_sum}
 use Rattle.ec_fullness.proofs.Needs.{fits_without}
 use Rattle.ec_network.proofs.Strings.{more_stay}
@@ -185,7 +185,7 @@ module _ (old mid : System) (w : CodeWorld) (own : ℕ) (o : ObjectRec) (mirrors
   abbrev pub number : ℕ
   number = suc (length w.common.objects)
 
-  number_is : number ≡ suc (made_count old.cluster.directory)
+  number_is : number ≡ suc (made_count old.cluster.whereabouts)
   number_is = ap suc mirrors.objects
 
   new_place : place mid.cluster number ≡ place old.cluster own

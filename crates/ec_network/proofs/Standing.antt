@@ -48,13 +48,13 @@ works_acted d old new w p s acted = record {
 -- once a process has gone on
 pub works_on : (d : Declared) (old new : System) (w : CodeWorld) (p own count : ℕ) → Works d old w →
     new.cluster.parts ≡ old.cluster.parts → new.cluster.images ≡ old.cluster.images → Ran old.cluster new.cluster own count →
-    new.cluster.directory ≡ old.cluster.directory → Mirrors new (gone_on old w p) → Works d new (gone_on old w p)
-works_on d old new w p own count s parts images ran directory mirrors = record {
+    new.cluster.whereabouts ≡ old.cluster.whereabouts → Mirrors new (gone_on old w p) → Works d new (gone_on old w p)
+works_on d old new w p own count s parts images ran whereabouts mirrors = record {
   goes = record {
     runs = runs_kept d old new w p own count s.goes.runs s.small parts images ran mirrors;
     idle = go_on_idle old.cluster.parts w p s.goes.idle;
     typed = subst IsTypedOnce (sym parts) s.goes.typed;
-    places = silent_steps_keep_places old.cluster.parts old.cluster new.cluster w p directory s.goes.places;
+    places = silent_steps_keep_places old.cluster.parts old.cluster new.cluster w p whereabouts s.goes.places;
   };
   code = code_kept d old.cluster new.cluster parts images s.code;
   literals = literals_kept old.cluster new.cluster own count parts ran s.literals;
@@ -79,9 +79,9 @@ module _ (d : Declared) (s : System) (w : CodeWorld) (p : ℕ) (works : Works d 
   pub went_on : (new : System) (steps : ℕ) → new.cluster.parts ≡ s.cluster.parts → new.cluster.images ≡ s.cluster.images →
       Mirrors new (gone_on s w p) → Ran s.cluster new.cluster t.top.own steps →
       RanNatively s.cluster new.cluster p (length t.below) t.top.own steps → IsFew s.cluster t.top steps →
-      new.cluster.directory ≡ s.cluster.directory → new.output ≡ s.output → WentOn d s new w p steps
-  went_on new steps parts images mirrors ran native few directory output = record {
-    works = works_on d s new w p t.top.own steps works parts images ran directory mirrors;
+      new.cluster.whereabouts ≡ s.cluster.whereabouts → new.output ≡ s.output → WentOn d s new w p steps
+  went_on new steps parts images mirrors ran native few whereabouts output = record {
+    works = works_on d s new w p t.top.own steps works parts images ran whereabouts mirrors;
     ran = record {
       below = t.below;
       top = t.top;
@@ -91,7 +91,7 @@ module _ (d : Declared) (s : System) (w : CodeWorld) (p : ℕ) (works : Works d 
       few = few;
       parts = parts;
       images = images;
-      directory = directory;
+      whereabouts = whereabouts;
       output = output;
     };
   }

@@ -5,13 +5,13 @@ use Rattle.std.specs.Prelude.{option_map, slice_get, slice_set}
 use Rattle.std.proofs.lemmas.Option.{same_Some}
 use Rattle.ec_base.proofs.Lists.{get_set_other, get_set_same, get_within}
 use Rattle.ec_cluster.proofs.Changing.{before_suc}
+use Rattle.ec_cluster.proofs.Places.{place_made}
 use Rattle.ec_cluster.specs.Cluster.{CodeWorld, Shows, frame_of, place}
 use Rattle.ec_cluster.specs.declared.cluster.Cluster.{Cluster}
 use Rattle.ec_code.specs.Activations.{code_meaning}
 use Rattle.ec_code.specs.declared.activation.CodeActivation.{CodeActivation}
 use Rattle.ec_acts.specs.Doings.{OneMore, Places}
-use Rattle.ec_cluster.specs.Directory.{made_count, place_at}
-use Rattle.ec_cluster.specs.declared.forward.directory.Whereabouts.{Whereabouts}
+use Rattle.ec_cluster.specs.Whereabouts.{place_at}
 use Rattle.ec_monitors.specs.Monitors.{dropped}
 use Rattle.ec_monitors.specs.declared.record.MonitorRec.{MonitorRec}
 use Rattle.ec_world.specs.declared.key.Key.{Key}
@@ -100,18 +100,9 @@ given_up_keeps p owns Ends objects = same_fields objects
 
 -- ---- where activations and objects are between the steps
 
--- an object that is at a node has been made
-place_made : (d : List Whereabouts) (x k : ℕ) → place_at d x ≡ Some k → x ≤ made_count d
-place_made d zero k at = absurd cc
-place_made d (suc i) k at = of (slice_get d i) refl at
-  where
-    of : (o : Option Whereabouts) → slice_get d i ≡ o → option_map (λ y. y.node) o ≡ Some k → suc i ≤ made_count d
-    of None e f = absurd cc
-    of (Some y) e f = let l = get_within d i y e in omega (arith, l)
-
 pub more_stay : (c c' : Cluster) (maker : ℕ) → OneMore c c' maker → (x k : ℕ) → place c x ≡ Some k → place c' x ≡ Some k
 more_stay c c' maker more x k at =
-    let l = place_made c.directory x k at in more.others x (λ same. omega (arith, l, same)) ∙ at
+    let l = (place_made c.whereabouts x k at).1 in more.others x (λ same. omega (arith, l, same)) ∙ at
 
 -- What was at a node is still there.
 pub still_there : (c c' : Cluster) (own : ℕ) (doing : Doing) → Places c c' own doing → (x k : ℕ) → place c x ≡ Some k →

@@ -41,7 +41,7 @@ pub record RanToStop (old new : System) (w : CodeWorld) (p steps : ℕ) : Type 0
   pub few : IsFew old.cluster top steps
   pub parts : new.cluster.parts ≡ old.cluster.parts
   pub images : new.cluster.images ≡ old.cluster.images
-  pub directory : new.cluster.directory ≡ old.cluster.directory
+  pub whereabouts : new.cluster.whereabouts ≡ old.cluster.whereabouts
   pub output : new.output ≡ old.output
 
 -- the activation on top, if any, may not go on: what it asks for is still to be done

@@ -3,13 +3,13 @@ use Rattle.std.proofs.Common.{◌≡◌, ◌==◌, ℕ, zero, suc, true, false, 
 use Rattle.std.proofs.Common.{arith, eqb-true}
 use Rattle.std.specs.Prelude.{IsSome, if◌then◌else◌, option_map, option_to_list, slice_get}
 use Rattle.ec_asking.proofs.Programs.{bare_shown, runs_program}
-use Rattle.ec_base.proofs.Lists.{get_there, get_within}
+use Rattle.ec_base.proofs.Lists.{get_there}
+use Rattle.ec_cluster.proofs.Places.{place_made}
 use Rattle.ec_cluster.proofs.Putting.{shown_there}
 use Rattle.ec_cluster.specs.Cluster.{CodeWorld, place}
 use Rattle.ec_cluster.specs.declared.cluster.Cluster.{Cluster}
 use Rattle.ec_code.specs.Typing.{Declared}
-use Rattle.ec_cluster.specs.Directory.{place_at}
-use Rattle.ec_cluster.specs.declared.forward.directory.Whereabouts.{Whereabouts}
+use Rattle.ec_cluster.specs.Whereabouts.{Traces, place_at}
 use Rattle.ec_parcels.specs.Classes.{ClassTable, number_of}
 use Rattle.ec_parcels.specs.Objects.{GoesAs, monitor_part_of, part_of}
 use Rattle.ec_world.specs.declared.key.Key.TheVariants.{Object}
@@ -40,17 +40,12 @@ here_is c k oid = at_is k (place c oid)
 pub is_here_it : (c : Cluster) (k oid : ℕ) → place c oid ≡ Some k → is_here c k oid ≡ true
 is_here_it c k oid = is_at_it k (place c oid)
 
--- the directory has places for so many objects
-within_map : {A B : Type 0} (f : A → B) (x : Option A) (y : B) → option_map f x ≡ Some y → (z : A) × (x ≡ Some z)
-within_map f None y e = absurd cc
-within_map f (Some z) y e = (z, refl)
-
-placed : (ws : List Whereabouts) (objects : List ObjectRec) (oid k : ℕ) → length objects ≡ length ws → place_at ws oid ≡ Some k →
+-- so many objects have places
+placed : (ws : Traces) (objects : List ObjectRec) (oid k : ℕ) → length objects ≡ length ws → place_at ws oid ≡ Some k →
     (o : ObjectRec) × (object_at objects oid ≡ Some o)
 placed ws objects zero k many e = absurd cc
 placed ws objects (suc i) k many e =
-    let x = within_map (λ (o : Whereabouts). o.node) (slice_get ws i) k e in
-    let l = get_within ws i x.0 x.1 in
+    let l = (place_made ws (suc i) k e).1 in
     get_there objects i (omega arith)
 
 -- ---- a member
@@ -76,7 +71,7 @@ module _ (d : Declared) (s : System) (w : CodeWorld) (table : ClassTable) (membe
     at = here_is c from oid here
 
     pub object_there : (o : ObjectRec) × (object_at w.common.objects oid ≡ Some o)
-    object_there = placed c.directory w.common.objects oid from can.runs.mirrors.objects at
+    object_there = placed c.whereabouts w.common.objects oid from can.runs.mirrors.objects at
 
     abbrev pub object : ObjectRec
     object = object_there.0

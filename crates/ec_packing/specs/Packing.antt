@@ -69,7 +69,7 @@ abbrev pub is_at : ℕ → Option ℕ → Bool
 is_at k None = false
 is_at k (Some j) = j == k
 
--- whether the directory has an object at a node
+-- whether a node is the place of an object
 abbrev pub is_here : Cluster → ℕ → ℕ → Bool
 is_here c k oid = is_at k (place c oid)
 

@@ -69,11 +69,11 @@ pub(crate) fn monitors_at(
     Ok(parts)
 }
 
-/// Whether the directory has an object at a node.
+/// Whether a node is the place of an object.
 fn is_here(cluster: &Cluster, node: NodeNo, oid: Oid) -> bool
     ensures { result ≡ spec.is_here cluster.now node oid }
 {
-    match cluster.directory.place(oid) {
+    match cluster.whereabouts.place(oid) {
         Some(k) => k == node,
         None => false,
     }

@@ -6,7 +6,7 @@ use Rattle.ec_cluster.specs.declared.cluster.Cluster.{Cluster}
 use Rattle.ec_acts.specs.Doings.{OneMore, Places}
 use Rattle.ec_fullness.proofs.FittingDoings.{doing_is_there}
 use Rattle.ec_fullness.specs.Fitting.{HasNamed, IsMakable}
-use Rattle.ec_cluster.specs.Directory.{made_count}
+use Rattle.ec_cluster.specs.Whereabouts.{made_count}
 use Rattle.ec_rooms.proofs.Counting.{done_stays}
 use Rattle.ec_rooms.proofs.Making.{more_agrees, more_each}
 use Rattle.ec_rooms.proofs.Staying.{stays_places}
@@ -26,7 +26,7 @@ use Rattle.ec_world.specs.declared.stop.Who.{Who}
 use Rattle.ec_world.specs.declared.value.Value.{Value}
 
 module _ (old new : Cluster) (w : CodeWorld) (who : Who) (has : HasPlaces old w)
-    (many : length w.common.objects ≡ made_count old.directory) where
+    (many : length w.common.objects ≡ made_count old.whereabouts) where
   -- There is one object more, where its maker is.
   one_more : (o : ObjectRec) (k : ℕ) → place old who.own ≡ Some k → OneMore old new who.own →
       HasPlaces new (with_common w (with_object w.common who o))

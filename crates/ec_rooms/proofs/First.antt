@@ -7,5 +7,5 @@ use Rattle.ec_rooms.specs.PlacingLaws.{FirstArePlaced}
 pub first_are_placed : FirstArePlaced
 first_are_placed p images specs s loaded = record {
   each = first_placed (length specs) p;
-  placed = λ oid. loaded.directory.places oid ∙ (first_are_at (length specs)).each oid;
+  placed = λ oid. loaded.whereabouts.places oid ∙ (first_are_at (length specs)).each oid;
 }

@@ -10,7 +10,7 @@ use Rattle.ec_code.specs.Typing.{Declared}
 use Rattle.ec_code.specs.declared.activation.CodeActivation.{CodeActivation}
 use Rattle.ec_fullness.proofs.FittingDoings.{doing_is_there}
 use Rattle.ec_fullness.specs.Fitting.{HasNamed, IsMakable}
-use Rattle.ec_cluster.specs.Directory.{made_count}
+use Rattle.ec_cluster.specs.Whereabouts.{made_count}
 use Rattle.ec_fullness.proofs.Acting.{action_is}
 use Rattle.ec_fullness.proofs.Needs.{then_new}
 use Rattle.ec_fullness.specs.Fullness.{StaysPut, place_then}
@@ -56,8 +56,8 @@ agree_acted at w below top who doing asks agree =
 
 -- ---- an action that is no move
 
-module _ (c : Cluster) (w : CodeWorld) (who : Who) (has : HasPlaces c w) (many : length w.common.objects ≡ made_count c.directory) where
-  then_before : (oid : ℕ) → oid ≢ suc (made_count c.directory) → place_then c who.own oid ≡ place c oid
+module _ (c : Cluster) (w : CodeWorld) (who : Who) (has : HasPlaces c w) (many : length w.common.objects ≡ made_count c.whereabouts) where
+  then_before : (oid : ℕ) → oid ≢ suc (made_count c.whereabouts) → place_then c who.own oid ≡ place c oid
   then_before oid ne = grind arith
 
   -- objects that were there

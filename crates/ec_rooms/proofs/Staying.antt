@@ -2,7 +2,7 @@
 use Rattle.std.proofs.Common.{◌≡◌, ℕ, List, [], ◌∷◌, ◌++◌, refl, sym, ap, ◌∙◌}
 use Rattle.ec_cluster.specs.Cluster.{CodeWorld}
 use Rattle.ec_cluster.specs.declared.cluster.Cluster.{Cluster}
-use Rattle.ec_cluster.specs.Directory.{place_at}
+use Rattle.ec_cluster.specs.Whereabouts.{place_at}
 use Rattle.ec_rooms.proofs.Counting.{Stays, placed_after, stays_grows}
 use Rattle.ec_rooms.specs.Places.{HasPlaces, place_of}
 use Rattle.ec_world.specs.Places.{place_in, placed, places, places_after}
@@ -15,7 +15,7 @@ stays_place w w' oid s =
     ap (λ n. place_in (places n w'.common.events) oid) s.nodes
     ∙ ap (λ (es : List Event). place_in (places w.common.nodes es) oid) s.events
 
-pub stays_places : (old new : Cluster) (w w' : CodeWorld) → Stays w.common w'.common → new.directory ≡ old.directory → HasPlaces old w →
+pub stays_places : (old new : Cluster) (w w' : CodeWorld) → Stays w.common w'.common → new.whereabouts ≡ old.whereabouts → HasPlaces old w →
     HasPlaces new w'
 stays_places old new w w' s same has = record {
   each = placed_after w.common w'.common (stays_grows w.common w'.common s) has.each;

@@ -56,7 +56,7 @@ DoingsKeepPlaces =
 abbrev pub SettlingKeepsPlaces : Type 0
 SettlingKeepsPlaces =
     (old new : Cluster) (w : CodeWorld) (p : ℕ) (below : List CodeActivation) (top : CodeActivation) (o : Outcome) →
-    new.directory ≡ old.directory →
+    new.whereabouts ≡ old.whereabouts →
     HasPlaces old w →
     HasPlaces new (world_settled w p below top o)
 
@@ -79,6 +79,6 @@ MovesKeepPlaces =
 abbrev pub SilentStepsKeepPlaces : Type 0
 SilentStepsKeepPlaces =
     (p : Parts) (old new : Cluster) (w : CodeWorld) (i : ℕ) →
-    new.directory ≡ old.directory →
+    new.whereabouts ≡ old.whereabouts →
     HasPlaces old w →
     HasPlaces new (GoOn code_meaning (code_silent p) w i)

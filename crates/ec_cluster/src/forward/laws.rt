@@ -1,4 +1,4 @@
-//! What a directory has to do with the events of a world.
+//! What the whereabouts of objects have to do with the events of a world.
 ghost use Rattle.ec_cluster.specs.Events.{EventsGivePlacement, EventsGivePlaces, FirstObjectsAreAt};
 
 /// Noting the objects that are there first leads to the first places.

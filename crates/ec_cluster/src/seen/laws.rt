@@ -11,7 +11,7 @@ pub fn what_is_shown_can_be_seen()
     ensures { WhatIsShownCanBeSeen }
 {}
 
-/// Each object that is seen is at the node where the directory has it.
+/// Each object that is seen is at its place.
 pub fn what_is_seen_is_there()
     ensures { WhatIsSeenIsThere }
 {}

@@ -2,7 +2,7 @@
 ghost use Rattle.std.specs.BTreeSet.{IsOrdered};
 ghost use Rattle.std.specs.Ordering.{nat_cmp};
 ghost use Rattle.std.specs.Prelude.{◌≡◌, [], ◌∷◌, IfOk, OnOk};
-ghost use Rattle.ec_cluster.specs.Directory.{made_count};
+ghost use Rattle.ec_cluster.specs.Whereabouts.{made_count};
 ghost use Rattle.ec_cluster.specs.Decoded.{seen_common};
 ghost use Rattle.ec_cluster.specs.Searches.{HasGroup};
 ghost use Rattle.ec_world.specs.Group.{group_of};
@@ -58,7 +58,7 @@ impl Search {
 
     /// Objects are found, where they are there.
     fn find_all(&mut self, seen: &Seen<'_>, oids: &[Oid]) -> Result<(), AllocError>
-        ensures { OnOk result (Finds (made_count seen.now.directory) self.old self.new oids.now) }
+        ensures { OnOk result (Finds (made_count seen.now.whereabouts) self.old self.new oids.now) }
     {
         for oid in oids {
             self.find(seen, *oid)?;
@@ -68,7 +68,7 @@ impl Search {
 
     /// An object is found, where it is there.
     fn find(&mut self, seen: &Seen<'_>, oid: Oid) -> Result<(), AllocError>
-        ensures { OnOk result (Finds (made_count seen.now.directory) self.old self.new (oid ∷ [])) }
+        ensures { OnOk result (Finds (made_count seen.now.whereabouts) self.old self.new (oid ∷ [])) }
     {
         if !seen.has(oid) {
             return Ok(());

@@ -1,7 +1,7 @@
 //! Nodes as a reader sees them.
 ghost use Rattle.std.specs.Prelude.{◌≡◌, ◌<◌, ◌≤◌, ◌↔◌, IfNone, IfSome, IsTrue, None};
 ghost use Rattle.ec_cluster.specs.Cluster.{CodeWorld};
-ghost use Rattle.ec_cluster.specs.Directory.{made_count};
+ghost use Rattle.ec_cluster.specs.Whereabouts.{made_count};
 ghost use Rattle.ec_cluster.specs.Decoded.{decoded, seen_common};
 ghost use Rattle.ec_cluster.specs.Seeing.{CanBeSeen, IsSeenAt, ShowsProgram};
 ghost use Rattle.ec_stores.specs.Node.{store_of};
@@ -20,7 +20,7 @@ use ec_world::value::{Oid, Oids, Value};
 use std::alloc::{AllocError, Global};
 use std::marker::Model;
 
-/// Nodes each of whose objects is where the directory has it, and can be read.
+/// Nodes each of whose objects is at its place, and can be read.
 #[derive(Drop)]
 pub struct Seen<'a> {
     cluster: &'a Cluster,
@@ -50,9 +50,9 @@ impl<'a> Seen<'a> {
 
     /// Whether there is an object of a number.
     pub(crate) fn has(&self, oid: Oid) -> bool
-        ensures { IsTrue result ↔ ((0 < oid) × (oid ≤ made_count self.now.directory)) }
+        ensures { IsTrue result ↔ ((0 < oid) × (oid ≤ made_count self.now.whereabouts)) }
     {
-        self.cluster.directory.place(oid).is_some()
+        self.cluster.whereabouts.place(oid).is_some()
     }
 
     /// An object, and the node where it is.
@@ -60,7 +60,7 @@ impl<'a> Seen<'a> {
         ensures some { IfSome result (λ found. IsSeenAt self.now oid (store_of found.0.now) found.1) }
         ensures none { IfNone result (object_at (decoded self.now) oid ≡ None) }
     {
-        let place = self.cluster.directory.place(oid)?;
+        let place = self.cluster.whereabouts.place(oid)?;
         let node = self.cluster.nodes.at(place as usize);
         match node.object(oid) {
             Some(object) => Some((node, object)),

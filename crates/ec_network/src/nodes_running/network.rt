@@ -192,7 +192,7 @@ impl Network {
         ensures is { result ≡ place_on self.now oid }
         ensures placed { ForStanding self.now (λ d s w. result ≡ place_of w oid) }
     {
-        self.standing().cluster.directory.place(oid)
+        self.standing().cluster.whereabouts.place(oid)
     }
 
     /// How many instructions a node has run, up to 2^64 - 1; 0 where it is not there, or the network is spent.

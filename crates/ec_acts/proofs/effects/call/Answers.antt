@@ -8,7 +8,7 @@ finish-requires c =
     let r = c.requires in
     record {
       rests = then_can r.declared c.args.cluster.now r.world r.below r.top c.args.who c.args.operation c.args.own c.args.arguments.now
-          r.takes c.begin.new.cluster c.in_ok-depth.depth c.in_ok-depth.ensures c.in_ok-begin.ensures.changes c.begin.ensures.directory
+          r.takes c.begin.new.cluster c.in_ok-depth.depth c.in_ok-depth.ensures c.in_ok-begin.ensures.changes c.begin.ensures.whereabouts
           c.in_ok-begin.ensures.stack;
     }
 
@@ -16,6 +16,6 @@ pub returns : goal.returns
 returns c = on_ok_two c.finish.result
     (λ shows changes d w below top status t.
     called d c.args.cluster.now w below top c.args.who c.args.operation c.args.own c.args.arguments.now t c.begin.new.cluster
-    c.in_ok-depth.depth c.in_ok-depth.ensures c.in_ok-begin.ensures.changes c.begin.ensures.directory c.in_ok-begin.ensures.stack
-    c.finish.new.cluster status shows changes c.finish.ensures.directory)
+    c.in_ok-depth.depth c.in_ok-depth.ensures c.in_ok-begin.ensures.changes c.begin.ensures.whereabouts c.in_ok-begin.ensures.stack
+    c.finish.new.cluster status shows changes c.finish.ensures.whereabouts)
     c.finish.ensures.shows c.finish.ensures.changes

@@ -7,7 +7,7 @@ close-requires c = top_stands c.args.cluster.now c.args.who c.requires
 
 pub loop-i-init : goal.loop-i-init
 loop-i-init c =
-    top_closed c.args.cluster.now c.close.new.cluster c.args.who c.close.ensures.shows c.close.ensures.changes c.close.ensures.directory
+    top_closed c.args.cluster.now c.close.new.cluster c.args.who c.close.ensures.shows c.close.ensures.changes c.close.ensures.whereabouts
 
 pub own_at-own-requires : goal.own_at-own-requires
 own_at-own-requires c =
@@ -22,7 +22,7 @@ pub loop-i-preserved : goal.loop-i-preserved
 loop-i-preserved c =
     next_closed c.args.cluster.now c.loop-i.cluster c.args.who c.loop-i.i c.loop-i-test.true c.loop-i.invariant
     c.close-in-loop-i.new.cluster c.own_at-own.result c.own_at-own.ensures c.close-in-loop-i.ensures.shows
-    c.close-in-loop-i.ensures.changes c.close-in-loop-i.ensures.directory
+    c.close-in-loop-i.ensures.changes c.close-in-loop-i.ensures.whereabouts
 
 pub returns : goal.returns
 returns c = all_closed c.args.cluster.now c.loop-i.cluster c.args.who c.loop-i.i c.loop-i-test.false c.loop-i.invariant

@@ -15,5 +15,5 @@ pub returns : goal.returns
 returns c = on_ok_two c.finish.result
     (λ shows changes d w below top status t.
     top_done d c.args.cluster.now w below top c.args.who (option_copied c.args.given) t c.finish.new.cluster status shows changes
-    c.finish.ensures.directory)
+    c.finish.ensures.whereabouts)
     c.finish.ensures.shows c.finish.ensures.changes

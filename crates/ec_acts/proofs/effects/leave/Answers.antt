@@ -25,5 +25,5 @@ close-requires c =
 pub returns : goal.returns
 returns c = λ d w below top status t.
     left d c.args.cluster.now w below top c.args.who (option_copied c.args.given) t c.own_at-own.result c.own_at-own.ensures
-    c.finish.new.cluster c.in_ok-finish.ensures.shows c.in_ok-finish.ensures.changes c.finish.ensures.directory c.close.new.cluster status
-    c.close.ensures.shows c.close.ensures.changes c.close.ensures.directory
+    c.finish.new.cluster c.in_ok-finish.ensures.shows c.in_ok-finish.ensures.changes c.finish.ensures.whereabouts c.close.new.cluster status
+    c.close.ensures.shows c.close.ensures.changes c.close.ensures.whereabouts

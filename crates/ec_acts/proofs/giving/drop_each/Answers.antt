@@ -12,7 +12,7 @@ pub loop-own-preserved : goal.loop-own-preserved
 loop-own-preserved c =
     one_dropped c.args.cluster.now c.args.process c.args.owns.now c.loop-own.cluster c.drop_at-granted.new.cluster c.loop-own.own-index
     c.loop-own.freed c.push_granted.new.freed c.drop_at-granted.result c.loop-own.invariant c.loop-own-test.true
-    c.drop_at-granted.ensures.shows c.drop_at-granted.ensures.changes c.drop_at-granted.ensures.directory c.in_ok-push_granted.ensures
+    c.drop_at-granted.ensures.shows c.drop_at-granted.ensures.changes c.drop_at-granted.ensures.whereabouts c.in_ok-push_granted.ensures
 
 pub returns-clause-shows : goal.returns-clause-shows
 returns-clause-shows c = λ w shows.

@@ -4,7 +4,7 @@ use Rattle.ec_cluster.specs.Makings.{CanMake}
 use Rattle.ec_acts.proofs.Made.{class_is, object_made}
 use Rattle.ec_acts.proofs.Stepping.{answered}
 use Rattle.ec_acts.proofs.making.make.Goals as goal
-use Rattle.ec_cluster.specs.Directory.{made_count}
+use Rattle.ec_cluster.specs.Whereabouts.{made_count}
 use Rattle.ec_world.specs.Objects.{class_at}
 use Rattle.ec_world.specs.Outcomes.{only}
 use Rattle.ec_world.specs.Values.{new_fields}
@@ -17,7 +17,7 @@ pub returns-clause-does : goal.returns-clause-does
 returns-clause-does c = λ w mirrors.
     let nodes = c.args.system.now.cluster in
     let k : ClassRec = c.class_of-made.result.now in
-    let Can = λ (k : ClassRec). CanMake nodes c.args.who.own (suc (made_count nodes.directory)) c.args.class
+    let Can = λ (k : ClassRec). CanMake nodes c.args.who.own (suc (made_count nodes.whereabouts)) c.args.class
     (new_fields c.args.given k.fields) in
     let can = class_is (class_at nodes.parts.classes c.args.class) k Can c.class_of-made.ensures c.requires in
     let are : c.as_slice.result.now ≡ new_fields c.args.given k.fields = cc (c.as_slice.ensures, c.in_ok-fields.ensures) in
@@ -28,7 +28,7 @@ returns-clause-does c = λ w mirrors.
 pub returns-clause-places : goal.returns-clause-places
 returns-clause-places c =
     let nodes = c.args.system.now.cluster in
-    let Can = λ (k : ClassRec). CanMake nodes c.args.who.own (suc (made_count nodes.directory)) c.args.class
+    let Can = λ (k : ClassRec). CanMake nodes c.args.who.own (suc (made_count nodes.whereabouts)) c.args.class
     (new_fields c.args.given k.fields) in
     let can = class_is (class_at nodes.parts.classes c.args.class) c.class_of-made.result.now Can c.class_of-made.ensures c.requires in
     is_one_more nodes c.make.new.cluster c.args.who.own c.in_ok-oid.oid _ c.in_ok-make.ensures can.maker_is c.in_ok-oid.ensures.ok

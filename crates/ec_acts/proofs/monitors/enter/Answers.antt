@@ -17,5 +17,5 @@ enter-requires-clause-monitor c =
 
 pub returns-clause-does : goal.returns-clause-does
 returns-clause-does c = λ w mirrors. answered (c.only.ensures ∙ ap only c.entry_effect.ensures)
-    (entered_there c.args.system.now w c.args.who mirrors c.enter.new.cluster c.in_ok-entry.ensures.changes c.in_ok-entry.ensures.directory
+    (entered_there c.args.system.now w c.args.who mirrors c.enter.new.cluster c.in_ok-entry.ensures.changes c.in_ok-entry.ensures.whereabouts
     c.in_ok-entry.entry (c.in_ok-entry.ensures.acts w mirrors.shows))

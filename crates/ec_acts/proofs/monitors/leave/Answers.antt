@@ -51,7 +51,7 @@ returns-clause-does c = λ w mirrors. answered
     (started_is c.returns-2.result c.args.given c.leave-granted.result c.args.who.own c.args.section c.section_on-started.result
     c.section_on-started.ensures c.returns-2.ensures)
     (left_there c.args.system.now w c.args.who mirrors c.leave-granted.new.cluster c.leave-granted.ensures.changes
-    c.leave-granted.ensures.directory c.in-Some.monitor.now
+    c.leave-granted.ensures.whereabouts c.in-Some.monitor.now
     (monitor_shown c.args.system.now.cluster w c.args.who.own c.requires mirrors.shows c.in-Some.monitor.now c.in-Some.ensures.some)
     c.args.given c.args.section c.args.leaves c.leave-granted.result c.if-not-leaves.false
     (sym c.is_held_by.ensures ∙ c.if-not-is_held_by.false) (c.leave-granted.ensures.acts w mirrors.shows))

@@ -24,7 +24,7 @@ signal-granted-requires-clause-waits c =
 pub returns-clause-does : goal.returns-clause-does
 returns-clause-does c = λ w mirrors. answered c.signals-2.ensures
     (signalled_there c.args.system.now w c.args.who mirrors c.signal-granted.new.cluster c.signal-granted.ensures.changes
-    c.signal-granted.ensures.directory
+    c.signal-granted.ensures.whereabouts
     c.in-Some.monitor.now
     (monitor_shown c.args.system.now.cluster w c.args.who.own c.requires mirrors.shows c.in-Some.monitor.now c.in-Some.ensures.some)
     c.args.condition c.signal-granted.result (sym c.acts_on.ensures ∙ c.if-not-acts_on.false) (c.signal-granted.ensures.acts w

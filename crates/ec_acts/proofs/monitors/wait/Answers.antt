@@ -24,7 +24,7 @@ wait-granted-requires-clause-waits c =
 pub returns-clause-does : goal.returns-clause-does
 returns-clause-does c = λ w mirrors. answered c.waits-2.ensures
     (waited_there c.args.system.now w c.args.who mirrors c.wait-granted.new.cluster c.wait-granted.ensures.changes
-    c.wait-granted.ensures.directory
+    c.wait-granted.ensures.whereabouts
     c.in-Some.monitor.now
     (monitor_shown c.args.system.now.cluster w c.args.who.own c.requires mirrors.shows c.in-Some.monitor.now c.in-Some.ensures.some)
     c.args.condition c.wait-granted.result (sym c.acts_on.ensures ∙ c.if-not-acts_on.false) (c.wait-granted.ensures.acts w mirrors.shows))

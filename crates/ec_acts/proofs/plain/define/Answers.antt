@@ -10,5 +10,5 @@ returns-then-index-len-clause-does c = λ who w mirrors. answered c.goes_on.ensu
 
 pub returns-clause-does : goal.returns-clause-does
 returns-clause-does c = λ who w mirrors. answered c.goes_on-2.ensures
-    (defined_there c.args.system.now w who mirrors c.define.new.cluster c.in_ok-define.ensures.directory c.args.index c.args.value.now
+    (defined_there c.args.system.now w who mirrors c.define.new.cluster c.in_ok-define.ensures.whereabouts c.args.index c.args.value.now
     (omega arith) c.in_ok-define.ensures.changes c.in_ok-define.ensures.shows)

@@ -19,7 +19,7 @@ returns-clause-mirrors c = on_ok c.push.result
     (λ pushed.
     follows_mirrors c.args.system.now c.begin.new.cluster c.in-Some.section c.in_ok-process.process c.as_slice.result.now
     (c.as_slice.ensures ∙ c.new-none.ensures) (c.in_ok-process.ensures ∙ c.len.ensures) c.args.started c.in-Some.is c.requires
-    c.in_ok-begin.ensures.changes c.begin.ensures.directory c.in_ok-begin.ensures.process c.push.new.self pushed)
+    c.in_ok-begin.ensures.changes c.begin.ensures.whereabouts c.in_ok-begin.ensures.process c.push.new.self pushed)
     c.push.ensures.ok
 
 pub returns-clause-changes : goal.returns-clause-changes
@@ -27,5 +27,5 @@ returns-clause-changes c = on_ok c.push.result
     (λ pushed.
     follows_changes c.args.system.now c.begin.new.cluster c.in-Some.section c.in_ok-process.process c.as_slice.result.now
     (c.as_slice.ensures ∙ c.new-none.ensures) (c.in_ok-process.ensures ∙ c.len.ensures) c.args.started c.in-Some.is c.requires
-    c.in_ok-begin.ensures.changes c.begin.ensures.directory c.in_ok-begin.ensures.process c.push.new.self pushed)
+    c.in_ok-begin.ensures.changes c.begin.ensures.whereabouts c.in_ok-begin.ensures.process c.push.new.self pushed)
     c.push.ensures.ok

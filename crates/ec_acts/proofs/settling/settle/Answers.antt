@@ -17,7 +17,7 @@ take_effect-requires c =
     c.in_ok-freed.freed
     (c.in_ok-freed.ensures.gives r.world r.below r.top
     (top_shown c.args.system.now r.declared r.world r.below r.top c.args.who c.args.outcome r.settles))
-    c.in_ok-freed.ensures.changes c.give_up.ensures.directory (c.give_up.ensures.takes c.args.who.process r.below r.top)
+    c.in_ok-freed.ensures.changes c.give_up.ensures.whereabouts (c.give_up.ensures.takes c.args.who.process r.below r.top)
 
 pub set-requires : goal.set-requires
 set-requires c = row_there c.args.system.now c.args.who c.args.outcome c.requires
@@ -30,7 +30,7 @@ follow-requires c =
     c.in_ok-freed.freed
     (c.in_ok-freed.ensures.gives r.world r.below r.top
     (top_shown c.args.system.now r.declared r.world r.below r.top c.args.who c.args.outcome r.settles))
-    c.in_ok-freed.ensures.changes c.give_up.ensures.directory (c.give_up.ensures.takes c.args.who.process r.below r.top)
+    c.in_ok-freed.ensures.changes c.give_up.ensures.whereabouts (c.give_up.ensures.takes c.args.who.process r.below r.top)
     c.take_effect.new.cluster c.in_ok-take_effect.ensures c.in_ok-row.row c.in_ok-row.ensures c.ready_each.new.rows
     (c.ready_each.ensures ∙ ap (rows_readied c.ready_granted.new.rows) c.as_slice.ensures
     ∙ sym (c.ready_granted.ensures c.in_ok-freed.freed) ∙ ap (λ (rs : List ProcessRow). rows_readied rs these) c.set.ensures)
@@ -41,22 +41,22 @@ returns-clause-settles c = on_ok_two c.follow.result
     let these = all_granted c.args.outcome.granted c.in_ok-freed.freed in
     settled_so c.args.system.now d w below top c.args.who c.args.outcome x c.give_up.new.cluster c.in_ok-freed.freed
     (c.in_ok-freed.ensures.gives w below top (top_shown c.args.system.now d w below top c.args.who c.args.outcome x))
-    c.in_ok-freed.ensures.changes c.give_up.ensures.directory (c.give_up.ensures.takes c.args.who.process below top)
+    c.in_ok-freed.ensures.changes c.give_up.ensures.whereabouts (c.give_up.ensures.takes c.args.who.process below top)
     c.take_effect.new.cluster c.in_ok-take_effect.ensures c.in_ok-row.row c.in_ok-row.ensures c.ready_each.new.rows
     (c.ready_each.ensures ∙ ap (rows_readied c.ready_granted.new.rows) c.as_slice.ensures
     ∙ sym (c.ready_granted.ensures c.in_ok-freed.freed) ∙ ap (λ (rs : List ProcessRow). rows_readied rs these) c.set.ensures)
-    c.follow.new.system mirrors changes c.follow.ensures.directory)
+    c.follow.new.system mirrors changes c.follow.ensures.whereabouts)
     c.follow.ensures.mirrors c.follow.ensures.changes
 
-pub returns-clause-directory : goal.returns-clause-directory
-returns-clause-directory c = on_ok c.follow.result
+pub returns-clause-whereabouts : goal.returns-clause-whereabouts
+returns-clause-whereabouts c = on_ok c.follow.result
     (λ mirrors.
     let r = c.requires in
     let there = becomes c.args.system.now r.declared r.world r.below r.top c.args.who c.args.outcome r.settles c.give_up.new.cluster
     c.in_ok-freed.freed
     (c.in_ok-freed.ensures.gives r.world r.below r.top
     (top_shown c.args.system.now r.declared r.world r.below r.top c.args.who c.args.outcome r.settles))
-    c.in_ok-freed.ensures.changes c.give_up.ensures.directory (c.give_up.ensures.takes c.args.who.process r.below r.top)
+    c.in_ok-freed.ensures.changes c.give_up.ensures.whereabouts (c.give_up.ensures.takes c.args.who.process r.below r.top)
     c.take_effect.new.cluster c.in_ok-take_effect.ensures in
-    c.follow.ensures.directory ∙ there.directory ∙ c.give_up.ensures.directory)
+    c.follow.ensures.whereabouts ∙ there.whereabouts ∙ c.give_up.ensures.whereabouts)
     c.follow.ensures.mirrors

@@ -23,7 +23,7 @@ pub unpack_at-requires : goal.unpack_at-requires
 unpack_at-requires c =
     let r = c.requires in
     let same = c.contents.ensures.same ∙ c.in_ok-parcel.ensures r.contents r.carried.wire in
-    can_unpack (in_words r.contents c.contents.result.now same r.carried) c.made-made.ensures.table c.set_off.ensures
+    can_unpack (in_words r.contents c.contents.result.now same r.carried) c.made-made.ensures.table c.in_ok-set_off.ensures
 
 pub returns : goal.returns
 returns c = on_ok_so c.unpack_at.result
@@ -33,5 +33,5 @@ returns c = on_ok_so c.unpack_at.result
     let i = in_words x y same carried in
     subst (λ (z : Contents). Carried c.args.cluster.now c.unpack_at.new.cluster w z c.args.to) same
     (moves_composed c.args.numbers.now c.args.cluster.now c.set_off.new.cluster c.unpack_at.new.cluster c.args.from c.args.to
-    c.args.bytes.now d w members y c.made-made.ensures.table i c.set_off.ensures (unpacked y i.wire)))
+    c.args.bytes.now d w members y c.made-made.ensures.table i c.in_ok-set_off.ensures (unpacked y i.wire)))
     c.unpack_at.ensures

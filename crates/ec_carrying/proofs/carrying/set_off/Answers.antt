@@ -1,4 +1,4 @@
--- Objects go, then activations, and then the directory has the objects at the other node.
+-- Objects go, then activations, and then it is noted that the objects are at the other node.
 use Rattle.ec_carrying.proofs.Once.{once_front}
 use Rattle.ec_carrying.proofs.SettingOff.{activations_kept, all_set_off}
 use Rattle.ec_carrying.proofs.carrying.set_off.Goals as goal
@@ -15,5 +15,5 @@ note_moves-requires-clause-once c =
 pub returns : goal.returns
 returns c =
     all_set_off c.args.cluster.now c.take_objects.new.cluster c.args.from c.args.contents.now c.requires.kept c.take_objects.ensures
-    c.take_activations.new.cluster c.note_moves.new.directory c.args.to c.take_activations.ensures c.note_moves.ensures.there
-    c.note_moves.ensures.others c.note_moves.ensures.count
+    c.take_activations.new.cluster c.note_moves.new.whereabouts c.args.to c.take_activations.ensures c.in_ok-note_moves.ensures.there
+    c.in_ok-note_moves.ensures.others c.in_ok-note_moves.ensures.count

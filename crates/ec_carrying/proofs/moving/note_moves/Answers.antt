@@ -4,22 +4,22 @@ use Rattle.ec_carrying.proofs.Places.{all_moved, next_from, none_moved, one_move
 use Rattle.ec_carrying.proofs.moving.note_moves.Goals as goal
 
 pub loop-i-init : goal.loop-i-init
-loop-i-init c = none_moved c.args.directory.now c.args.objects.now c.args.from c.args.to c.requires.there
+loop-i-init c = none_moved c.args.whereabouts.now c.args.objects.now c.args.from c.args.to c.requires.there
 
 pub note_move-requires : goal.note_move-requires
 note_move-requires c = record {
   there =
-      next_from c.args.directory.now c.loop-i.directory c.args.objects.now c.args.from c.args.to c.loop-i.i c.at-object.result.now
+      next_from c.args.whereabouts.now c.loop-i.whereabouts c.args.objects.now c.args.from c.args.to c.loop-i.i c.at-object.result.now
       c.loop-i.invariant c.at-object.ensures;
 }
 
 pub loop-i-preserved : goal.loop-i-preserved
 loop-i-preserved c =
-    one_moved c.args.directory.now c.loop-i.directory c.note_move.new.self c.args.objects.now c.args.from c.args.to c.loop-i.i
-    c.at-object.result.now c.requires.once c.loop-i.invariant c.at-object.ensures c.note_move.ensures
+    one_moved c.args.whereabouts.now c.loop-i.whereabouts c.note_move.new.self c.args.objects.now c.args.from c.args.to c.loop-i.i
+    c.at-object.result.now c.requires.once c.loop-i.invariant c.at-object.ensures c.in_ok-note_move.ensures.ok
 
 pub returns : goal.returns
 returns c =
-    let all = all_moved c.args.directory.now c.loop-i.directory c.args.objects.now c.args.from c.args.to c.loop-i.i
+    let all = all_moved c.args.whereabouts.now c.loop-i.whereabouts c.args.objects.now c.args.from c.args.to c.loop-i.i
     (omega (arith, c.len-i-end.ensures)) c.loop-i.invariant in
     record { there = all.0; others = all.1; count = c.loop-i.invariant.count }

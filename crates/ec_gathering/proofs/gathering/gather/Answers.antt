@@ -55,7 +55,7 @@ bring-requires c =
       parcels = ships.parcels;
       brings =
           brings_these h.declared s h.world table members c.args.target fixes h.may c.node_of-to.result c.node_of-to.ensures
-          c.made-made.ensures.table bs ships c.flag.new.cluster c.flag.ensures.changes c.flag.ensures.directory
+          c.made-made.ensures.table bs ships c.flag.new.cluster c.flag.ensures.changes c.flag.ensures.whereabouts
           (c.flag.ensures.shows h.world h.may.lets.runs.mirrors.shows) c.as_slice-shipments.result.now c.as_slice-shipments.ensures.value
           (λ store e bytes. none_told c.in_ok-lack.lack none (c.in_ok-lack.ensures.none ships.parcels store bytes e));
     }
@@ -73,11 +73,11 @@ flag-requires-then-is_none c =
     let shows = c.flag.ensures.shows h.world h.may.lets.runs.mirrors.shows in
     let brings =
     brings_these h.declared s h.world table members c.args.target fixes h.may c.node_of-to.result c.node_of-to.ensures
-    c.made-made.ensures.table bs ships c.flag.new.cluster c.flag.ensures.changes c.flag.ensures.directory shows
+    c.made-made.ensures.table bs ships c.flag.new.cluster c.flag.ensures.changes c.flag.ensures.whereabouts shows
     c.as_slice-shipments.result.now c.as_slice-shipments.ensures.value
     (λ store e bytes. none_told c.in_ok-lack.lack none (c.in_ok-lack.ensures.none ships.parcels store bytes e)) in
     fixed_still h.declared s h.world table members c.args.target fixes h.may c.node_of-to.result c.node_of-to.ensures
-    c.made-made.ensures.table bs ships c.flag.new.cluster c.flag.ensures.changes c.flag.ensures.directory shows c.bring.new.cluster
+    c.made-made.ensures.table bs ships c.flag.new.cluster c.flag.ensures.changes c.flag.ensures.whereabouts shows c.bring.new.cluster
     (c.in_ok-bring.ensures h.declared (loosened h.declared s h.world table members c.args.target fixes h.may) members ships.parcels brings)
 
 pub returns-clause-done : goal.returns-clause-done
@@ -93,15 +93,15 @@ returns-clause-done c = if_none c.in_ok-lack.lack (λ none d w may.
           let shows = v.flag.ensures.shows w may.lets.runs.mirrors.shows in
           let brings =
           brings_these d s w table members c.args.target fixes may c.node_of-to.result c.node_of-to.ensures c.made-made.ensures.table bs
-          ships v.flag.new.cluster v.flag.ensures.changes v.flag.ensures.directory shows c.as_slice-shipments.result.now
+          ships v.flag.new.cluster v.flag.ensures.changes v.flag.ensures.whereabouts shows c.as_slice-shipments.result.now
           c.as_slice-shipments.ensures.value
           (λ store e bytes. none_told c.in_ok-lack.lack none (c.in_ok-lack.ensures.none ships.parcels store bytes e)) in
           let loose : CodeWorld = loosened d s w table members c.args.target fixes may in
           let brought = v.in_ok-bring.ensures d loose members ships.parcels brings in
           subst (λ (t : System). Gathers s t w members c.args.target fixes) (sym v.system-is)
           (has_gone d s w table members c.args.target fixes may c.node_of-to.result c.node_of-to.ensures c.made-made.ensures.table bs ships
-          v.flag.new.cluster v.flag.ensures.changes v.flag.ensures.directory shows v.bring.new.cluster brought
-          v.flag-then-is_none.new.cluster v.flag-then-is_none.ensures.changes v.flag-then-is_none.ensures.directory
+          v.flag.new.cluster v.flag.ensures.changes v.flag.ensures.whereabouts shows v.bring.new.cluster brought
+          v.flag-then-is_none.new.cluster v.flag-then-is_none.ensures.changes v.flag-then-is_none.ensures.whereabouts
           (v.flag-then-is_none.ensures.shows loose brought.came.shows))
       | else-is_none v ↦ absurd (let some : is_some c.in_ok-lack.lack ≡ true = c.is_none.ensures ∙ ap not v.if-is_none.false in cc)
     ])

@@ -1,4 +1,4 @@
--- It is one that the directory has.
+-- It is one that was noted.
 use Rattle.ec_cluster.proofs.FindingLemmas.{seen_there}
 use Rattle.ec_cluster.proofs.seen.laws.what_is_seen_is_there.Goals as goal
 

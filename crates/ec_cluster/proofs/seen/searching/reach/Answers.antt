@@ -1,6 +1,6 @@
 -- A search that ends has found the group.
 use Rattle.std.proofs.Common.{refl, sym, ◌∙◌}
-use Rattle.ec_cluster.specs.Directory.{made_count}
+use Rattle.ec_cluster.specs.Whereabouts.{made_count}
 use Rattle.ec_cluster.proofs.Marking.{search_begun, search_ended, search_more, work_less}
 use Rattle.ec_cluster.proofs.seen.searching.reach.Goals as goal
 
@@ -11,7 +11,7 @@ loop-next-init c =
 
 pub loop-next-smaller : goal.loop-next-smaller
 loop-next-smaller c =
-    work_less (made_count c.args.seen.now.directory) c.in-Some.next c.loop-next.search
+    work_less (made_count c.args.seen.now.whereabouts) c.in-Some.next c.loop-next.search
     (record { members = c.loop-next.search.members; todo = c.pop.new.self }) c.find_all.new.self c.deref.result.now
     c.in-Some.ensures.top refl c.in-Some.ensures.below c.in_ok-find_all.ensures
 

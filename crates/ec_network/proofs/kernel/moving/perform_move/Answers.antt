@@ -34,7 +34,7 @@ returns-in-Ok-clause-acted c = λ d w b.
     (c.in-Ok.ensures.settles d (world_done w c.args.who (Moves c.args.members.now c.args.target c.args.fixes)) b.below b.top
     (move_settles d c.args.system.now w c.args.numbers.now c.args.who c.args.members.now c.args.target c.args.fixes b c.gather.new.system
     gathers))
-    c.in-Ok.ensures.directory
+    c.in-Ok.ensures.whereabouts
 
 pub returns-in-Ok-Some-clause-refused : goal.returns-in-Ok-Some-clause-refused
 returns-in-Ok-Some-clause-refused c = λ d w b.

@@ -27,4 +27,4 @@ returns-in-Ok-settle-clause-acted c = λ d w a.
     (c.in-Ok-settle.ensures.settles d (world_done w c.args.who c.args.doing) a.below a.top
     (settles_in d c.args.system.now w c.args.who c.args.doing a room c.does.new.system c.in-Ok.outcome does c.in-Ok.ensures.texts
     c.in-Ok.ensures.places))
-    c.in-Ok-settle.ensures.directory
+    c.in-Ok-settle.ensures.whereabouts

@@ -43,5 +43,5 @@ returns-clause-some c = λ d w s.
     let goes = goes_in d system w c.args.p s h t c.if-headings.false in
     went_on d system w c.args.p s h t c.if-headings.false c.go_on.new.system c.go_on.result c.go_on.ensures.parts c.go_on.ensures.images
     (c.go_on.ensures.mirrors d w t.below t.top goes) (c.go_on.ensures.counts d w t.below t.top goes)
-    (c.go_on.ensures.native d w t.below t.top goes) (c.go_on.ensures.few d w t.below t.top goes) c.go_on.ensures.directory
+    (c.go_on.ensures.native d w t.below t.top goes) (c.go_on.ensures.few d w t.below t.top goes) c.go_on.ensures.whereabouts
     c.go_on.ensures.output

@@ -2,7 +2,7 @@
 use Rattle.std.proofs.Common.{◌≡◌, Bool, true, false, [], ◌∷◌, ◌++◌, refl}
 use Rattle.std.specs.Prelude.{not, Ok, Err, OnOk, Result}
 use Rattle.std.specs.Bool.{OnFalse}
-use Rattle.ec_cluster.specs.Directory.{made_count}
+use Rattle.ec_cluster.specs.Whereabouts.{made_count}
 use Rattle.ec_cluster.proofs.Marking.{as_before, no_object, one_more}
 use Rattle.ec_cluster.proofs.seen.searching.Search.find.Goals as goal
 
@@ -24,13 +24,13 @@ was_new b false e f = refl
 
 pub returns-then-not-has : goal.returns-then-not-has
 returns-then-not-has c =
-    no_object (made_count c.args.seen.now.directory) c.args.oid c.args.self.now
+    no_object (made_count c.args.seen.now.whereabouts) c.args.oid c.args.self.now
     (λ p l. let t = c.has.ensures.1 (p, l) in let f = c.if-not-has.true in absurd cc)
 
 pub returns-then-not-branch : goal.returns-then-not-branch
 returns-then-not-branch c =
     let there = c.has.ensures.0 c.if-not-has.false in
-    as_before (made_count c.args.seen.now.directory) c.args.oid c.args.self.now.members c.insert.new.self c.args.self.now.todo
+    as_before (made_count c.args.seen.now.whereabouts) c.args.oid c.args.self.now.members c.insert.new.self c.args.self.now.todo
     c.args.self.now.todo (on_false _ c.in_ok-insert.field-0 c.if-not-branch.true c.in_ok-insert.ensures.unchanged) refl
     (was_there c.in_ok-insert.field-0 _ c.in_ok-insert.ensures.added c.if-not-branch.true) there.0 there.1
 
@@ -39,7 +39,7 @@ returns c =
     let there = c.has.ensures.0 c.if-not-has.false in
     on_ok _ _ c.push.result
     (λ (more : c.push.new.self ≡ c.args.self.now.todo ++ c.args.oid ∷ []).
-    one_more (made_count c.args.seen.now.directory) c.args.oid c.args.self.now.members c.insert.new.self there.0 there.1
+    one_more (made_count c.args.seen.now.whereabouts) c.args.oid c.args.self.now.members c.insert.new.self there.0 there.1
     c.in_ok-insert.ensures.updates c.args.self.now.todo c.push.new.self
     (was_new c.in_ok-insert.field-0 _ c.in_ok-insert.ensures.added c.if-not-branch.false) more)
     c.push.ensures.ok

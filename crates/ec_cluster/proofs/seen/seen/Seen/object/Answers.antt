@@ -1,4 +1,4 @@
--- An object of the directory is where it has it.
+-- An object that was noted is at its place.
 use Rattle.std.proofs.Common.{◌≡◌, Option, Some, None, refl, sym, subst}
 use Rattle.std.specs.Prelude.{IfNone, IsSome}
 use Rattle.ec_cluster.specs.declared.cluster.Cluster.{Cluster}

@@ -1,0 +1,54 @@
+-- The whereabouts of objects, which have the numbers from 1 on.
+use Rattle.std.specs.Prelude.{◌≡◌, ℕ, zero, suc, ◌<◌, ◌≤◌, List, length, Option, None, IsSome, option_map, unwrap_or, slice_get}
+use Rattle.ec_cluster.specs.Each.{each_from}
+use Rattle.ec_cluster.specs.Located.{Located}
+use Rattle.ec_forwarding.specs.Addresses.{Addresses}
+use Rattle.ec_forwarding.specs.Forwardings.{ObjectTraces, addresses_in, trace_at}
+use Rattle.ec_forwarding.specs.Traces.{Trace, first_trace, start_of}
+
+-- what nodes know of each object, in the order of the objects' numbers
+abbrev pub Traces : Type 0
+Traces = List Trace
+
+-- how many objects were noted
+abbrev pub made_count : Traces → ℕ
+made_count d = length d
+
+-- what nodes know of an object, where it was noted
+abbrev pub known_of : Traces → ℕ → Option Trace
+known_of d zero = None
+known_of d (suc i) = slice_get d i
+
+-- the node at which an object is, where it was noted
+abbrev pub place_at : Traces → ℕ → Option ℕ
+place_at d oid = option_map (λ t. t.newest.node) (known_of d oid)
+
+-- how often an object has moved
+abbrev pub moves_of : Traces → ℕ → ℕ
+moves_of d oid = unwrap_or (option_map (λ t. t.newest.moves) (known_of d oid)) 0
+
+-- the addresses that nodes have of an object
+abbrev pub addresses_at : Traces → ℕ → Addresses
+addresses_at d oid = addresses_in (known_of d oid)
+
+-- the node at which the search for an object from a node begins
+abbrev pub start_at : Traces → ℕ → ℕ → ℕ
+start_at d oid from = unwrap_or (option_map (λ t. start_of t from) (known_of d oid)) from
+
+-- It is known of each object where it is, and how often it has moved.
+pub record Gives (d : Traces) (w : Located) : Type 0 where
+  pub made : made_count d ≡ w.made
+  pub places : (oid : ℕ) → place_at d oid ≡ w.place oid
+  pub moves : (oid : ℕ) → moves_of d oid ≡ w.moves oid
+
+-- ---- objects of any numbers, of which those from 1 on were noted
+
+-- what is kept of the objects from 1 to n
+abbrev pub numbered : ObjectTraces → ℕ → Traces
+numbered d n = each_from (λ oid. unwrap_or (trace_at d oid) (first_trace 0)) 1 n
+
+-- Just the objects from 1 to n were noted.
+pub record AreNumbered (d : ObjectTraces) (n : ℕ) : Type 0 where
+  pub noted : (oid : ℕ) → 0 < oid → oid ≤ n → IsSome (trace_at d oid)
+  pub none : trace_at d 0 ≡ None
+  pub past : (oid : ℕ) → n < oid → trace_at d oid ≡ None
