@@ -59,11 +59,11 @@ NodesStay =
 -- the node at which an object is; none where it is not there, or the network is spent
 abbrev pub place_on : Net → ℕ → Option ℕ
 place_on None x = None
-place_on (Some s) x = place s.cluster x
+place_on (Some n) x = place n.system.cluster x
 
 abbrev pub nodes_on : Net → ℕ
 nodes_on None = 0
-nodes_on (Some s) = length s.cluster.nodes
+nodes_on (Some n) = length n.system.cluster.nodes
 
 -- object k + 1, which is that of node k, is there
 abbrev pub NodesAreHome : Net → Type 0
