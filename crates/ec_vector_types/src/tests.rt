@@ -28,10 +28,15 @@ fn are(found: &[VectorType], wanted: &[(u32, PlainType)]) -> bool {
 /// Texts, each with its vector types.
 const CASES: [(&[u8], &[(u32, PlainType)]); 5] = [
     (b"const n <- 1", &[]),
-    // a type that is mentioned before another one is made
+    // a type that is mentioned first, and of which the code makes vectors last
     (
-        b"const a : vector.of[string] <- nil const b <- vector.of[integer].create[2]",
-        &[(0, PlainType::Bytes), (0, PlainType::Integer)],
+        b"const a : vector.of[string] <- nil const b <- vector.of[integer].create[2]
+          const c <- vector.of[string].create[1]",
+        &[
+            (0, PlainType::Bytes),
+            (0, PlainType::Integer),
+            (0, PlainType::Bytes),
+        ],
     ),
     // the outer one is written before the inner one
     (
