@@ -285,8 +285,8 @@ module _ (specs : List NodeSpec) (old : Net) (schedule : List Entry) (budget : �
         stays_full (ATurn p) step net' t.system t.is keeps lack sound t.told
 
   -- a move by the operator
-  module _ (o k : ℕ) (step : IsStep statuses budget progress (Does (AMove o k))) (net' : Net) (keeps : KeepsNumbers net net')
-      where
+  module _ (o k : ℕ) (step : IsStep statuses budget progress (Does (AMove o k))) (net' : Net)
+      (keeps : KeepsNumbers net net') where
     pub move_idle : NetMoved net net' o k Idle → GoesTo specs old schedule budget progress (AMove o k) net'
     move_idle moved =
         let t = moved f.come.declared f.now f.world f.is f.come.stands in

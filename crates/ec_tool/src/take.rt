@@ -49,7 +49,15 @@ pub(crate) fn come_to_end(
         Work::Run => {
             let written = written_vectors(alloc, &checked.table, found.tokens.as_slice())?;
             let vectors = written.as_slice();
-            native::run(alloc, &program, vectors, specs, schedule, budget.into(), net)
+            native::run(
+                alloc,
+                &program,
+                vectors,
+                specs,
+                schedule,
+                budget.into(),
+                net,
+            )
         }
         Work::Mean => plain::run(alloc, program, specs, schedule, budget.into()),
     }

@@ -23,19 +23,19 @@ returns-in-Ok-clause-moved c =
     let is = sym c.self.view_is ∙ c.in-Some.is in (
       is_there c.args.self.now c.in-Some.loaded is,
       net_moved c.args.self.now c.in-Some.loaded
-              (record { system = c.shift.new.system; numbers = c.in-Some.loaded.numbers }) c.args.o c.args.k c.in-Ok.did is c.in-Ok.ensures.moved,
+          (record { system = c.shift.new.system; numbers = c.in-Some.loaded.numbers }) c.args.o c.args.k c.in-Ok.did is c.in-Ok.ensures.moved,
     )
 
 pub returns-in-Ok-clause-together : goal.returns-in-Ok-clause-together
 returns-in-Ok-clause-together c =
     net_together c.args.self.now c.in-Some.loaded
-              (record { system = c.shift.new.system; numbers = c.in-Some.loaded.numbers }) c.args.o c.args.k c.in-Ok.did
+    (record { system = c.shift.new.system; numbers = c.in-Some.loaded.numbers }) c.args.o c.args.k c.in-Ok.did
     (sym c.self.view_is ∙ c.in-Some.is) c.in-Ok.ensures.moved
 
 pub returns-in-Ok-clause-fixed : goal.returns-in-Ok-clause-fixed
 returns-in-Ok-clause-fixed c =
     net_fixed_moved c.args.self.now c.in-Some.loaded
-              (record { system = c.shift.new.system; numbers = c.in-Some.loaded.numbers }) c.args.o c.args.k c.in-Ok.did
+    (record { system = c.shift.new.system; numbers = c.in-Some.loaded.numbers }) c.args.o c.args.k c.in-Ok.did
     (sym c.self.view_is ∙ c.in-Some.is) c.in-Ok.ensures.moved
 
 pub returns-in-Ok-clause-nodes : goal.returns-in-Ok-clause-nodes
@@ -49,7 +49,7 @@ returns-in-Err-Full-clause-refused c =
     let is = sym c.self.view_is ∙ c.in-Some.is in (
       is_there c.args.self.now c.in-Some.loaded is,
       move_full c.args.self.now c.in-Some.loaded
-              (record { system = c.shift.new.system; numbers = c.in-Some.loaded.numbers }) c.args.o c.args.k c.in-Err-Full.lack is
+          (record { system = c.shift.new.system; numbers = c.in-Some.loaded.numbers }) c.args.o c.args.k c.in-Err-Full.lack is
           (λ d w s. subst (λ e. MoveRefusedIn c.in-Some.loaded.system c.shift.new.system w c.args.o c.args.k e) c.in-Err-Full.field-0-is
           (c.in-Err-Full.ensures.refused d w s)),
     )

@@ -23,13 +23,13 @@ returns-in-Ok-clause-turned c =
     let is = sym c.self.view_is ∙ c.in-Some.is in (
       is_there c.args.self.now c.in-Some.loaded is,
       net_turned c.args.self.now c.in-Some.loaded
-              (record { system = c.turn.new.system; numbers = c.in-Some.loaded.numbers }) c.args.p c.in-Ok.did is c.in-Ok.ensures.turned,
+          (record { system = c.turn.new.system; numbers = c.in-Some.loaded.numbers }) c.args.p c.in-Ok.did is c.in-Ok.ensures.turned,
     )
 
 pub returns-in-Ok-clause-fixed : goal.returns-in-Ok-clause-fixed
 returns-in-Ok-clause-fixed c =
     net_fixed_turned c.args.self.now c.in-Some.loaded
-              (record { system = c.turn.new.system; numbers = c.in-Some.loaded.numbers }) c.args.p c.in-Ok.did
+    (record { system = c.turn.new.system; numbers = c.in-Some.loaded.numbers }) c.args.p c.in-Ok.did
     (sym c.self.view_is ∙ c.in-Some.is) c.in-Ok.ensures.turned
 
 pub returns-in-Ok-clause-nodes : goal.returns-in-Ok-clause-nodes
@@ -43,7 +43,7 @@ returns-in-Err-Full-clause-refused c =
     let is = sym c.self.view_is ∙ c.in-Some.is in (
       is_there c.args.self.now c.in-Some.loaded is,
       net_full c.args.self.now c.in-Some.loaded
-              (record { system = c.turn.new.system; numbers = c.in-Some.loaded.numbers }) c.args.p c.in-Err-Full.lack is
+          (record { system = c.turn.new.system; numbers = c.in-Some.loaded.numbers }) c.args.p c.in-Err-Full.lack is
           (λ d w s. subst (λ e. RefusedIn c.in-Some.loaded.system c.turn.new.system w c.args.p e) c.in-Err-Full.field-0-is
           (c.in-Err-Full.ensures.refused d w s)),
     )
