@@ -48,16 +48,8 @@ pub(crate) fn come_to_end(
     match work {
         Work::Run => {
             let written = written_vectors(alloc, &checked.table, found.tokens.as_slice())?;
-            let vectors = written.as_slice();
-            native::run(
-                alloc,
-                &program,
-                vectors,
-                specs,
-                schedule,
-                budget.into(),
-                net,
-            )
+            let types = written.as_slice();
+            native::run(alloc, &program, types, specs, schedule, budget.into(), net)
         }
         Work::Mean => plain::run(alloc, program, specs, schedule, budget.into()),
     }
