@@ -1,5 +1,5 @@
 -- A move on its system is one on the network.
-use Rattle.std.proofs.Common.{ap, sym, ◌∙◌, subst}
+use Rattle.std.proofs.Common.{sym, ◌∙◌, subst}
 use Rattle.ec_network.proofs.Networks.{has_left, is_there, move_full, moved_left, net_moved}
 use Rattle.ec_network.proofs.Places.{net_fixed_moved, net_together, nodes_home}
 use Rattle.ec_network.specs.Moving.{MoveRefusedIn}

@@ -1,5 +1,5 @@
 -- A turn of its system is one of the network.
-use Rattle.std.proofs.Common.{ap, sym, ◌∙◌, subst}
+use Rattle.std.proofs.Common.{sym, ◌∙◌, subst}
 use Rattle.ec_network.proofs.Networks.{has_left, is_there, net_full, net_turned, turned_left}
 use Rattle.ec_network.proofs.Places.{net_fixed_turned, nodes_home}
 use Rattle.ec_network.specs.Networks.{IsLoaded}
