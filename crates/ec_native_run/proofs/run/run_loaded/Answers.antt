@@ -1,4 +1,4 @@
-use Rattle.std.proofs.Common.{◌≡◌, ◌∙◌, arith, refl}
+use Rattle.std.proofs.Common.{◌≡◌, ◌∙◌, arith}
 use Rattle.ec_meaning.specs.Sources.{source_of}
 use Rattle.ec_native_run.proofs.run.run_loaded.Goals as goal
 use Rattle.ec_native_run.specs.Following.{ForNodes, IsReported}
