@@ -35,8 +35,9 @@ module _ (d : Declared) (s : System) (w : CodeWorld) (table : ClassTable) (membe
       let leave = may.each oid h in
       let same : leave.object ≡ o = same_Some leave.object o (sym leave.is ∙ is) in
       let other : o.class ≢ Node = subst (λ (x : ObjectRec). x.class ≢ Node) same leave.no_node in
-      subst (λ (t : ClassTable). IsSome (number_of t o.class)) (sym may.lets.table_is)
-      (number_some d s.cluster.parts may.lets.runs.steady.fine w may.lets.runs.sound may.lets.between.vectors oid o is other)
+      subst (λ (t : ClassTable). IsSome (number_of t o.class)) (sym may.lets.table_is.is)
+      (number_some d s.cluster.parts may.lets.runs.steady.fine w may.lets.runs.sound may.lets.between.vectors oid o is other
+      may.lets.table_is.written)
 
   pub can_pack : (from : ℕ) → from < length s.cluster.nodes → CanGo d s w table members from
   can_pack from node = record {

@@ -2,7 +2,7 @@
 use Rattle.std.specs.Prelude.{◌≡◌, ◌≢◌, ℕ, false, List, Option, Some, IsSome}
 use Rattle.ec_asking.specs.Bare.{IsBareProgram}
 use Rattle.ec_asking.specs.Typed.{IsTypedOnce}
-use Rattle.ec_parcels.specs.Vectors.{table_of}
+use Rattle.ec_parcels.specs.Vectors.{IsTableOf}
 use Rattle.ec_cluster.specs.Cluster.{CodeWorld, place}
 use Rattle.ec_cluster.specs.Steps.{Changes, with_common}
 use Rattle.ec_cluster.specs.declared.cluster.Cluster.{Cluster}
@@ -31,7 +31,7 @@ pub record LetsGo (d : Declared) (s : System) (w : CodeWorld) (table : ClassTabl
   pub runs : Runs d s w
   pub bare : IsBareProgram w.common
   pub typed : IsTypedOnce s.cluster.parts
-  pub table_is : table ≡ table_of s.cluster.parts
+  pub table_is : IsTableOf s.cluster.parts table
   pub between : IsBetween s.cluster.parts w
   pub few : CarriesFew s.cluster.parts
 

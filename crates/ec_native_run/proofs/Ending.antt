@@ -1,5 +1,5 @@
 -- From a run by machine code that has come to its end to the run of the source: their worlds differ in activations alone.
-use Rattle.std.proofs.Common.{◌≡◌, ℕ, suc, ◌<◌, List, ◌++◌, length, drop, None, refl, sym, ap, subst, ◌∙◌, arith}
+use Rattle.std.proofs.Common.{◌≡◌, ℕ, suc, ◌<◌, List, ◌++◌, length, drop, None, Some, refl, sym, ap, subst, ◌∙◌, arith}
 use Rattle.std.proofs.lemmas.Option.{same_Some}
 use Rattle.ec_accepted.proofs.Accepted.{runs_agree}
 use Rattle.ec_cluster.specs.Cluster.{CodeWorld}
@@ -26,8 +26,9 @@ use Rattle.ec_native_run.specs.Runs.EndsAfter.{ByItself, AsFull}
 use Rattle.ec_native_run.specs.Runs.RunsTo.{LoadIsFull, RanUntil}
 use Rattle.ec_world.specs.declared.room.Lack.{Lack}
 use Rattle.ec_world.specs.declared.room.Part.{Part}
-use Rattle.ec_network.specs.Nets.{Net, counts_of}
+use Rattle.ec_network.specs.Nets.{Net, counts_of, numbers_of}
 use Rattle.ec_network.specs.Networks.{CanRun, NetLoaded}
+use Rattle.ec_parcels.specs.Vectors.{table_of}
 use Rattle.ec_plain.specs.Plain.{source_run}
 use Rattle.ec_report.specs.Report.{end_line, line_feed, load_report, node_lines, object_lines, process_lines, turns_line}
 use Rattle.ec_report.specs.Status.{status_of}
@@ -46,6 +47,7 @@ use Rattle.ec_world.specs.Places.{places}
 use Rattle.ec_world.specs.Run.{Reaches, end_of, statuses_of}
 use Rattle.ec_world.specs.Simulation.{AgreeRun}
 use Rattle.ec_world.specs.declared.common.Common.{Common}
+use Rattle.ec_world.specs.declared.class.VectorType.{VectorType}
 use Rattle.ec_world.specs.declared.node.NodeSpec.{NodeSpec}
 use Rattle.ec_world.specs.declared.process.ProcStatus.{ProcStatus}
 use Rattle.ec_world.specs.declared.run.Entry.{Entry}
@@ -110,8 +112,8 @@ ends_after s text specs old schedule budget statuses progress net f lowered (IsF
     AsFull node need free part (reached s text p lowered n schedule budget progress.done comes.going)
     (same_end s text p lowered n schedule budget progress.done ∙ (here ∙ e)) (full f.start f.started)
 
-module _ (s : Source) (text : IsOfText s) (specs : List NodeSpec) (schedule : List Entry) (budget : ℕ) (net old net' : Net)
-    (status : Status) (written : List ℕ) (r : IsReported s specs schedule budget old net' status written) where
+module _ (s : Source) (text : IsOfText s) (vectors : List VectorType) (specs : List NodeSpec) (schedule : List Entry) (budget : ℕ)
+    (net old net' : Net) (status : Status) (written : List ℕ) (r : IsReported s specs schedule budget old net' status written) where
   abbrev f : Follows specs old schedule budget r.ended.statuses r.ended.progress net'
   f = r.ended.stands
 
@@ -125,8 +127,8 @@ module _ (s : Source) (text : IsOfText s) (specs : List NodeSpec) (schedule : Li
   k = r.ended.progress.done
 
   -- the nodes have run the entries of the source
-  ran : IsLowered s p → HasDone p specs (source_run s n schedule k).done net'
-  ran lowered = record {
+  ran : IsLowered s p → numbers_of old ≡ Some (table_of p vectors) → HasDone p vectors specs (source_run s n schedule k).done net'
+  ran lowered numbered = record {
     declared = f.come.declared;
     images = f.start.cluster.images;
     code = f.come.code;
@@ -134,6 +136,7 @@ module _ (s : Source) (text : IsOfText s) (specs : List NodeSpec) (schedule : Li
     loaded = f.come.loaded;
     now = f.now;
     is = f.is;
+    numbers = f.numbers ∙ numbered;
     along = subst (λ (es : List RunEntry). Along p f.start (world_first n p) es f.now)
         (sym (same_run s text p lowered n schedule k).done) f.come.along;
   }
@@ -153,33 +156,35 @@ module _ (s : Source) (text : IsOfText s) (specs : List NodeSpec) (schedule : Li
       ∙ report_same s (source_run s n schedule k).world (code_run p n schedule k).world specs (counts_of net') k r.how
       (same_run s text p lowered n schedule k).worlds.common (same_statuses s text p lowered n schedule k)))
 
-  reported_runs : IsLowered s p → ((node need free : ℕ) (part : Part) → LoadFull p specs node part need free → ⊥) →
-      RunsTo s specs schedule budget net net' status written
-  reported_runs lowered fits =
+  reported_runs : IsLowered s p → numbers_of old ≡ Some (table_of p vectors) →
+      ((node need free : ℕ) (part : Part) → LoadFull p specs node part need free → ⊥) →
+      RunsTo s vectors specs schedule budget net net' status written
+  reported_runs lowered numbered fits =
       let ends = ends_after s text specs old schedule budget r.ended.statuses r.ended.progress net' f lowered r.how r.ended.ends in
-      let runs = RanUntil p k r.how lowered fits f.come.fits ends (ran lowered) in
-      subst (λ (x : Status). RunsTo s specs schedule budget net net' x written) (sym (status_told lowered))
-      (subst (λ (y : List ℕ). RunsTo s specs schedule budget net net'
+      let runs = RanUntil p k r.how lowered fits f.come.fits ends (ran lowered numbered) in
+      subst (λ (x : Status). RunsTo s vectors specs schedule budget net net' x written) (sym (status_told lowered))
+      (subst (λ (y : List ℕ). RunsTo s vectors specs schedule budget net net'
       (status_of (statuses_of (source_run s n schedule k).world) r.how) y) (sym (text_told lowered)) runs)
 
 -- a run that is reported, from a network that was just loaded
-pub runs_to : (s : Source) → IsOfText s → (p : Parts) (images : Images) (specs : List NodeSpec) (schedule : List Entry) (budget : ℕ)
-    (net old net' : Net) (status : Status) (written : List ℕ) → IsLowered s p → CanLoad p images specs → NetLoaded p images specs old →
-    IsReported s specs schedule budget old net' status written → RunsTo s specs schedule budget net net' status written
-runs_to s text p images specs schedule budget net old net' status written lowered can l r =
+pub runs_to : (s : Source) → IsOfText s → (vectors : List VectorType) (p : Parts) (images : Images) (specs : List NodeSpec) (schedule : List Entry) (budget : ℕ)
+    (net old net' : Net) (status : Status) (written : List ℕ) → IsLowered s p → CanLoad p images specs → NetLoaded p vectors images specs old →
+    IsReported s specs schedule budget old net' status written → RunsTo s vectors specs schedule budget net net' status written
+runs_to s text vectors p images specs schedule budget net old net' status written lowered can l r =
     let start : r.ended.stands.start ≡ l.start = same_Some r.ended.stands.start l.start (sym r.ended.stands.started ∙ l.is) in
     let parts : r.ended.stands.start.cluster.parts ≡ p = ap (λ (x : System). x.cluster.parts) start ∙ l.loaded.parts in
-    reported_runs s text specs schedule budget net old net' status written r
+    reported_runs s text vectors specs schedule budget net old net' status written r
     (subst (λ (x : Parts). IsLowered s x) (sym parts) lowered)
+    (subst (λ (x : Parts). numbers_of old ≡ Some (table_of x vectors)) (sym parts) l.numbers)
     (subst (λ (x : Parts). (node need free : ℕ) (part : Part) → LoadFull x specs node part need free → ⊥) (sym parts)
     (λ node need free part full. loads_full.fits p images specs l.start can l.loaded node need free part full))
 
 -- a load that found no room
-pub load_full : (s : Source) (p : Parts) (images : Images) (specs : List NodeSpec) (schedule : List Entry) (budget : ℕ) (net : Net)
+pub load_full : (s : Source) (vectors : List VectorType) (p : Parts) (images : Images) (specs : List NodeSpec) (schedule : List Entry) (budget : ℕ) (net : Net)
     (lack : Lack) (status : Status) (written : List ℕ) → IsLowered s p → CanLoad p images specs →
     LacksFirst (first_needs p images (length specs)) specs lack → status ≡ statuses.Full →
-    written ≡ load_report specs (IsFull lack.node lack.part lack.need lack.free) → RunsTo s specs schedule budget net net status written
-load_full s p images specs schedule budget net lack status written lowered can lacks status_is text_is =
+    written ≡ load_report specs (IsFull lack.node lack.part lack.need lack.free) → RunsTo s vectors specs schedule budget net net status written
+load_full s vectors p images specs schedule budget net lack status written lowered can lacks status_is text_is =
     rw (status_is, text_is) (LoadIsFull p lack.node lack.need lack.free lack.part lowered (loads_full.full p images specs lack can lacks)
     refl)
 

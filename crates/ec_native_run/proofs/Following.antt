@@ -22,8 +22,9 @@ use Rattle.ec_native_run.specs.Following.{Follows, FullNext, HasCome, refusal_of
 use Rattle.ec_world.specs.declared.room.Lack.{Lack}
 use Rattle.ec_world.specs.declared.room.Part.{Part}
 use Rattle.ec_native_run.specs.Runs.{AreNodes}
-use Rattle.ec_network.specs.Nets.{AreCode, Net}
-use Rattle.ec_network.specs.Networks.{CanRun, NetLoaded, NetMoved, NetMoveRefused, NetRefused, NetTurned}
+use Rattle.ec_network.proofs.Networks.{is_running}
+use Rattle.ec_network.specs.Nets.{AreCode, Net, system_of}
+use Rattle.ec_network.specs.Networks.{CanRun, KeepsNumbers, NetLoaded, NetMoved, NetMoveRefused, NetRefused, NetTurned}
 use Rattle.ec_network.specs.Standing.{Stands}
 use Rattle.ec_network.specs.declared.nodes_running.turns.Did.{Did}
 use Rattle.ec_network.specs.declared.nodes_running.turns.Did.TheVariants.{Acted, Idle, Moved}
@@ -39,6 +40,7 @@ use Rattle.ec_code.specs.Sound.{SoundWorld}
 use Rattle.ec_cluster.specs.declared.system.System.{System}
 use Rattle.ec_world.proofs.Entries.{run_world}
 use Rattle.ec_world.specs.Run.{RunState, after_entries, after_entry, statuses_of, stepped}
+use Rattle.ec_world.specs.declared.class.VectorType.{VectorType}
 use Rattle.ec_world.specs.declared.node.NodeSpec.{NodeSpec}
 use Rattle.ec_world.specs.declared.process.ProcStatus.{ProcStatus}
 use Rattle.ec_world.specs.declared.run.Entry.{Entry}
@@ -60,7 +62,7 @@ pools_more p n schedule k c h = h
 -- ---- the load
 
 module _ (p : Parts) (images : Images) (specs : List NodeSpec) (schedule : List Entry) (budget : ℕ) (net : Net) (nodes : AreNodes specs)
-    (can : CanRun p images specs) (l : NetLoaded p images specs net) where
+    (can : CanRun p images specs) (written : List VectorType) (l : NetLoaded p written images specs net) where
   abbrev own : Parts
   own = l.start.cluster.parts
 
@@ -108,7 +110,7 @@ module _ (p : Parts) (images : Images) (specs : List NodeSpec) (schedule : List 
   pub first_follows : (statuses : List ProcStatus) × Follows specs net schedule budget statuses (at_start schedule) net
   first_follows = (
     statuses_of world,
-    record { start = l.start; started = l.is; now = l.start; is = l.is; world = world; come = first_come },
+    record { start = l.start; started = l.is; now = l.start; is = l.is; numbers = refl; world = world; come = first_come },
   )
 
 -- ---- the entry that comes next
@@ -213,9 +215,9 @@ module _ (specs : List NodeSpec) (old : Net) (schedule : List Entry) (budget : �
 
   module _ (e : RunEntry) (step : IsStep statuses budget progress (Does e)) where
     -- told over the program that the system has
-    follows_next : (net' : Net) (new : System) → net' ≡ Some new →
+    follows_next : (net' : Net) (new : System) → system_of net' ≡ Some new → KeepsNumbers net net' →
         GoneOn specs f.come.declared f.now.cluster.parts f.now f.world e PoolHere new → GoesTo specs old schedule budget progress e net'
-    follows_next net' new is g =
+    follows_next net' new is keeps g =
         let its : GoneOn specs f.come.declared f.start.cluster.parts f.now f.world e PoolHere new =
         subst (λ (p : Parts). GoneOn specs f.come.declared p f.now f.world e PoolHere new) f.come.parts g in (
           statuses_of (after_entry code_meaning (code_silent f.start.cluster.parts) f.world e),
@@ -224,25 +226,33 @@ module _ (specs : List NodeSpec) (old : Net) (schedule : List Entry) (budget : �
             started = f.started;
             now = new;
             is = is;
+            numbers = keeps (is_running net' new is) ∙ f.numbers;
             world = after_entry code_meaning (code_silent f.start.cluster.parts) f.world e;
             come = come_next specs f.start schedule budget statuses progress f.now f.world f.come e step new its;
           },
         )
 
     -- one that finds a node full leaves the network as it was
-    stays_full : (net' : Net) (new : System) → net' ≡ Some new → (lack : Lack) →
+    stays_full : (net' : Net) (new : System) → system_of net' ≡ Some new → KeepsNumbers net net' → (lack : Lack) →
         SoundWorld f.come.declared f.now.cluster.parts (after_action f.world e) →
         FoundFull f.now new f.world (after_action f.world e) lack →
         Follows specs old schedule budget statuses progress net'
         × FullNext specs old schedule progress.done lack.node lack.part lack.need lack.free
-    stays_full net' new is lack sound found =
-        let same : net ≡ net' = f.is ∙ ap Some (sym found.same) ∙ sym is in
+    stays_full net' new is keeps lack sound found =
         let goes = f.come.stands.works.goes in
         let full = found_full PoolHere f.come.declared specs f.now f.world (after_action f.world e) lack goes.runs sound f.come.shows
         goes.places found.finds in
         let its = subst (λ (q : Parts). FullAt specs (held q f.world) (held q (after_action f.world e)) PoolHere
         (Strings q (after_action f.world e)) lack.node lack.part lack.need lack.free) f.come.parts full in (
-          subst (λ (x : Net). Follows specs old schedule budget statuses progress x) same f,
+          record {
+            start = f.start;
+            started = f.started;
+            now = f.now;
+            is = is ∙ ap Some found.same;
+            numbers = keeps (is_running net' new is) ∙ f.numbers;
+            world = f.world;
+            come = f.come;
+          },
           λ start started.
               let begun : f.start ≡ start = same_Some f.start start (sym f.started ∙ started) in
               subst (λ (s : System). NextFull s.cluster.parts specs schedule progress.done lack.node lack.part lack.need lack.free) begun
@@ -251,17 +261,17 @@ module _ (specs : List NodeSpec) (old : Net) (schedule : List Entry) (budget : �
         )
 
   -- a turn
-  module _ (p : ℕ) (step : IsStep statuses budget progress (Does (ATurn p))) (net' : Net) where
+  module _ (p : ℕ) (step : IsStep statuses budget progress (Does (ATurn p))) (net' : Net) (keeps : KeepsNumbers net net') where
     pub turn_acted : (steps : ℕ) → NetTurned net net' p (Acted steps) → GoesTo specs old schedule budget progress (ATurn p) net'
     turn_acted steps turned =
         let t = turned f.come.declared f.now f.world f.is f.come.stands in
-        follows_next (ATurn p) step net' t.system t.is
+        follows_next (ATurn p) step net' t.system t.is keeps
         (turn_leaves specs f.come.declared f.now t.system f.world PoolHere f.come.stands f.come.shows p steps t.told)
 
     pub turn_idle : NetTurned net net' p Idle → GoesTo specs old schedule budget progress (ATurn p) net'
     turn_idle turned =
         let t = turned f.come.declared f.now f.world f.is f.come.stands in
-        follows_next (ATurn p) step net' t.system t.is
+        follows_next (ATurn p) step net' t.system t.is keeps
         (rest_leaves specs f.come.declared f.now t.system f.world PoolHere f.come.stands f.come.shows p t.told)
 
     -- one that finds a node full leaves the network as it was
@@ -272,20 +282,21 @@ module _ (specs : List NodeSpec) (old : Net) (schedule : List Entry) (budget : �
         let t = refused.1 f.come.declared f.now f.world f.is f.come.stands in
         let runs = f.come.stands.works.goes.runs in
         let sound = action_sound f.come.declared f.now.cluster.parts runs.steady.fine f.world p runs.sound in
-        stays_full (ATurn p) step net' t.system t.is lack sound t.told
+        stays_full (ATurn p) step net' t.system t.is keeps lack sound t.told
 
   -- a move by the operator
-  module _ (o k : ℕ) (step : IsStep statuses budget progress (Does (AMove o k))) (net' : Net) where
+  module _ (o k : ℕ) (step : IsStep statuses budget progress (Does (AMove o k))) (net' : Net)
+      (keeps : KeepsNumbers net net') where
     pub move_idle : NetMoved net net' o k Idle → GoesTo specs old schedule budget progress (AMove o k) net'
     move_idle moved =
         let t = moved f.come.declared f.now f.world f.is f.come.stands in
-        follows_next (AMove o k) step net' t.system t.is
+        follows_next (AMove o k) step net' t.system t.is keeps
         (stay_leaves specs f.come.declared f.now t.system f.world PoolHere f.come.stands f.come.shows o k t.told)
 
     pub move_done : NetMoved net net' o k Moved → GoesTo specs old schedule budget progress (AMove o k) net'
     move_done moved =
         let t = moved f.come.declared f.now f.world f.is f.come.stands in
-        follows_next (AMove o k) step net' t.system t.is
+        follows_next (AMove o k) step net' t.system t.is keeps
         (move_leaves specs f.come.declared f.now t.system f.world PoolHere f.come.stands f.come.shows o k t.told)
 
     pub move_full : (lack : Lack) → NetMoveRefused net net' o k (Full lack) →
@@ -295,11 +306,11 @@ module _ (specs : List NodeSpec) (old : Net) (schedule : List Entry) (budget : �
         let t = refused.1 f.come.declared f.now f.world f.is f.come.stands in
         let runs = f.come.stands.works.goes.runs in
         let sound = move_sound f.come.declared f.now.cluster.parts runs.steady.fine f.world o k runs.sound in
-        stays_full (AMove o k) step net' t.system t.is lack sound t.told
+        stays_full (AMove o k) step net' t.system t.is keeps lack sound t.told
 
 -- ---- entries, as they are given
 
-module _ (specs : List NodeSpec) (net net' : Net) (entry : RunEntry) where
+module _ (specs : List NodeSpec) (net net' : Net) (keeps : KeepsNumbers net net') (entry : RunEntry) where
   abbrev IsDoneBy : RunEntry → Type 0
   IsDoneBy e = IsDone (Follows specs) (FullNext specs) e net net'
 
@@ -309,15 +320,15 @@ module _ (specs : List NodeSpec) (net net' : Net) (entry : RunEntry) where
   module _ (p : ℕ) (is : entry ≡ ATurn p) where
     turned_done : (did : Did) → NetTurned net net' p did → IsDoneBy (ATurn p)
     turned_done (Acted steps) turned = λ old schedule budget statuses progress f step.
-        turn_acted specs old schedule budget statuses progress net f p step net' steps turned
+        turn_acted specs old schedule budget statuses progress net f p step net' keeps steps turned
     turned_done Idle turned = λ old schedule budget statuses progress f step.
-        turn_idle specs old schedule budget statuses progress net f p step net' turned
+        turn_idle specs old schedule budget statuses progress net f p step net' keeps turned
     turned_done Moved turned = λ old schedule budget statuses progress f step.
         absurd (turned f.come.declared f.now f.world f.is f.come.stands).told
 
     turned_refused : (e : NetError) → NetRefused net net' p e → IsRefusedBy (ATurn p) (refusal_of e)
     turned_refused (Full lack) refused = λ old schedule budget statuses progress f step.
-        turn_full specs old schedule budget statuses progress net f p step net' lack refused
+        turn_full specs old schedule budget statuses progress net f p step net' keeps lack refused
     turned_refused (Memory e) refused = tt
 
     pub turn_done : (did : Did) → NetTurned net net' p did → IsDoneBy entry
@@ -331,14 +342,14 @@ module _ (specs : List NodeSpec) (net net' : Net) (entry : RunEntry) where
   module _ (o k : ℕ) (is : entry ≡ AMove o k) where
     moved_refused : (e : NetError) → NetMoveRefused net net' o k e → IsRefusedBy (AMove o k) (refusal_of e)
     moved_refused (Full lack) refused = λ old schedule budget statuses progress f step.
-        move_full specs old schedule budget statuses progress net f o k step net' lack refused
+        move_full specs old schedule budget statuses progress net f o k step net' keeps lack refused
     moved_refused (Memory e) refused = tt
 
     shift_done : (did : Did) → NetMoved net net' o k did → IsDoneBy (AMove o k)
     shift_done Moved moved = λ old schedule budget statuses progress f step.
-        move_done specs old schedule budget statuses progress net f o k step net' moved
+        move_done specs old schedule budget statuses progress net f o k step net' keeps moved
     shift_done Idle moved = λ old schedule budget statuses progress f step.
-        move_idle specs old schedule budget statuses progress net f o k step net' moved
+        move_idle specs old schedule budget statuses progress net f o k step net' keeps moved
     shift_done (Acted steps) moved = λ old schedule budget statuses progress f step.
         absurd (moved f.come.declared f.now f.world f.is f.come.stands).told
 

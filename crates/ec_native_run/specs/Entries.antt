@@ -7,10 +7,12 @@ use Rattle.ec_code.specs.Typing.{Declared}
 use Rattle.ec_code.specs.declared.code.Parts.{Parts}
 use Rattle.ec_acts.specs.Loaded.{Loaded}
 use Rattle.ec_acts.specs.Worlds.{world_first}
-use Rattle.ec_network.specs.Nets.{AreCode, Net}
+use Rattle.ec_network.specs.Nets.{AreCode, Net, numbers_of, system_of}
 use Rattle.ec_network.specs.Showing.{MovedGroup, NoMove, NoTurn, TookTurn}
 use Rattle.ec_cluster.specs.declared.system.System.{System}
+use Rattle.ec_parcels.specs.Vectors.{table_of}
 use Rattle.ec_world.specs.Run.{after_entry}
+use Rattle.ec_world.specs.declared.class.VectorType.{VectorType}
 use Rattle.ec_world.specs.declared.node.NodeSpec.{NodeSpec}
 use Rattle.ec_world.specs.declared.run.RunEntry.{RunEntry}
 use Rattle.ec_world.specs.declared.run.RunEntry.TheVariants as entry
@@ -30,13 +32,15 @@ Along p s w [] t = t ≡ s
 Along p s w (e ∷ es) t = (m : System) × EntryOf s m w e × Along p m (after_entry code_meaning (code_silent p) w e) es t
 
 -- The network has done these entries of a program: nodes of these kinds and sizes began with the program and its machine code for each
--- kind, and from there the entries have led to what the network is.
-pub record HasDone (p : Parts) (specs : List NodeSpec) (entries : List RunEntry) (net : Net) : Type 0 where
+-- kind, and from there the entries have led to what the network is. In parcels its classes have the numbers that they have where these
+-- vector types are written.
+pub record HasDone (p : Parts) (written : List VectorType) (specs : List NodeSpec) (entries : List RunEntry) (net : Net) : Type 0 where
   pub declared : Declared
   pub images : Images
   pub code : AreCode declared p images
   pub start : System
   pub loaded : Loaded p images specs start
   pub now : System
-  pub is : net ≡ Some now
+  pub is : system_of net ≡ Some now
+  pub numbers : numbers_of net ≡ Some (table_of p written)
   pub along : Along p start (world_first (length specs) p) entries now

@@ -14,7 +14,7 @@ use Rattle.ec_meaning.specs.Programs.{Source}
 use Rattle.ec_native_run.specs.Entries.{Along}
 use Rattle.ec_native_run.specs.Runs.{AreNodes, run_report}
 use Rattle.ec_world.specs.declared.room.Part.{Part}
-use Rattle.ec_network.specs.Nets.{AreCode, Net, counts_of}
+use Rattle.ec_network.specs.Nets.{AreCode, Net, counts_of, numbers_of, system_of}
 use Rattle.ec_network.specs.Networks.{ForStanding}
 use Rattle.ec_network.specs.Standing.{Stands}
 use Rattle.ec_network.specs.declared.nodes_running.turns.NetError.{NetError}
@@ -57,19 +57,20 @@ pub record HasCome (specs : List NodeSpec) (start : System) (schedule : List Ent
   pub fits : NoneFullBefore start.cluster.parts specs schedule progress.done
   pub shows : ShowsWith specs now w (PoolAfter start.cluster.parts (length specs) schedule progress.done)
 
--- so it is for two networks
+-- so it is for two networks, of which the later one has the numbers of classes that the earlier one had
 pub record Follows (specs : List NodeSpec) (old : Net) (schedule : List Entry) (budget : ℕ) (statuses : List ProcStatus)
     (progress : Progress) (net : Net) : Type 0 where
   pub start : System
-  pub started : old ≡ Some start
+  pub started : system_of old ≡ Some start
   pub now : System
-  pub is : net ≡ Some now
+  pub is : system_of net ≡ Some now
+  pub numbers : numbers_of net ≡ numbers_of old
   pub world : CodeWorld
   pub come : HasCome specs start schedule budget statuses progress now world
 
 -- the entry that follows k entries of the run from a network that was just loaded finds a node full
 abbrev pub FullNext : List NodeSpec → Net → List Entry → ℕ → ℕ → Part → ℕ → ℕ → Type 0
-FullNext specs old schedule k node part need free = (start : System) → old ≡ Some start →
+FullNext specs old schedule k node part need free = (start : System) → system_of old ≡ Some start →
     NextFull start.cluster.parts specs schedule k node part need free
 
 -- the run has come to its end on the network

@@ -21,6 +21,7 @@ use Rattle.ec_report.specs.declared.status.Status.TheVariants as statuses
 use Rattle.ec_rooms.specs.Rooms.{LoadFull}
 use Rattle.ec_rooms.specs.Runs.{NextFull, NoneFullBefore}
 use Rattle.ec_world.specs.Run.{Reaches, Run, end_of, statuses_of}
+use Rattle.ec_world.specs.declared.class.VectorType.{VectorType}
 use Rattle.ec_world.specs.declared.node.NodeSpec.{NodeSpec}
 use Rattle.ec_world.specs.declared.run.Entry.{Entry}
 use Rattle.ec_world.specs.declared.run.RunEnd.{RunEnd}
@@ -53,15 +54,15 @@ run_report s w specs counts entries how = report (class_name s) w specs (node_li
 
 -- What is said of the run of an accepted source on nodes along a schedule: its status and its text. The text is the report of the run of
 -- the source's meaning, with the instructions that the nodes have run; and the nodes' own machine code has led along the same entries to
--- what the network is in the end.
-pub data RunsTo (s : Source) (specs : List NodeSpec) (schedule : List Entry) (budget : ℕ) (net net' : Net) : Status → List ℕ →
-    Type 0 where
+-- what the network is in the end. These vector types are written in the source, and have their numbers in parcels in this order.
+pub data RunsTo (s : Source) (written : List VectorType) (specs : List NodeSpec) (schedule : List Entry) (budget : ℕ) (net net' : Net) :
+    Status → List ℕ → Type 0 where
   -- the load finds no room
   LoadIsFull : (p : Parts) (node need free : ℕ) (part : Part) → IsLowered s p → LoadFull p specs node part need free → net' ≡ net →
-      RunsTo s specs schedule budget net net' statuses.Full (load_report specs (IsFull node part need free))
+      RunsTo s written specs schedule budget net net' statuses.Full (load_report specs (IsFull node part need free))
   -- the load finds room, and so does each entry that is done
   RanUntil : (p : Parts) (k : ℕ) (how : ReportEnd) → IsLowered s p →
       ((node need free : ℕ) (part : Part) → LoadFull p specs node part need free → ⊥) → NoneFullBefore p specs schedule k →
-      EndsAfter s p specs schedule budget k how → HasDone p specs (source_run s (length specs) schedule k).done net' →
-      RunsTo s specs schedule budget net net' (status_of (statuses_of (source_run s (length specs) schedule k).world) how)
+      EndsAfter s p specs schedule budget k how → HasDone p written specs (source_run s (length specs) schedule k).done net' →
+      RunsTo s written specs schedule budget net net' (status_of (statuses_of (source_run s (length specs) schedule k).world) how)
       (run_report s (source_run s (length specs) schedule k).world specs (counts_of net') k how)

@@ -24,16 +24,18 @@ use ec_report::drive::{Ended, drive};
 use ec_report::end::ReportEnd;
 use ec_report::status::{Status, status_after};
 use ec_runnable::prepare::prepare;
+use ec_world::class::VectorType;
 use ec_world::node::NodeSpec;
 use ec_world::room::Lack;
 use ec_world::run::Entry;
 use std::alloc::{AllocError, Global};
 
-/// Runs a program on 1 to 64 nodes of either kind along a schedule, for at most so many entries, and reports the end. What has run it is left in
-/// `net`. The error is want of memory, or a table of numbers of 32 bits that is full.
+/// Runs a program on 1 to 64 nodes of either kind along a schedule, for at most so many entries, and reports the end. `written` are the vector
+/// types that are written in its text, which have their numbers in parcels in this order. What has run it is left in `net`. The error is want of memory, or a table of numbers of 32 bits that is full.
 pub fn run(
     alloc: Global,
     program: &Program<'_>,
+    written: &[VectorType],
     specs: &[NodeSpec],
     schedule: &[Entry],
     budget: u64,
@@ -42,10 +44,11 @@ pub fn run(
     requires accepted { IsOfText (source_of program.now) }
     requires nodes { AreNodes specs.now }
     ensures { IfOk result
-        (λ answer. RunsTo (source_of program.now) specs.now schedule.now budget net.old net.new answer.status answer.text.items) }
+        (λ answer. RunsTo (source_of program.now) written.now specs.now schedule.now budget net.old net.new answer.status
+        answer.text.items) }
 {
     let made = prepare(alloc, program)?;
-    match Network::load(alloc, made.parts, made.images, specs) {
+    match Network::load(alloc, made.parts, written, made.images, specs) {
         Ok(loaded) => {
             *net = loaded;
             run_loaded(alloc, program, specs, schedule, budget, net)

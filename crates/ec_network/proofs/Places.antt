@@ -10,12 +10,13 @@ use Rattle.ec_moving.proofs.Worlds.{action_brings, fixed_objects_stay, move_brin
 use Rattle.ec_moving.specs.Placed.{ComeTo, IsFixed, Refixes, place_of}
 use Rattle.ec_network.proofs.Networks.{for_standing}
 use Rattle.ec_network.specs.Moving.{MovedIn}
-use Rattle.ec_network.specs.Nets.{Net}
+use Rattle.ec_network.specs.Nets.{Net, system_of}
 use Rattle.ec_network.specs.Places.{FixedObjectsStay, FixedStay, FixedStayUnlessRefixed, GoTogether, MovesBringTheGroup, NodesAreHome}
 use Rattle.ec_network.specs.Places.{NodesStay, OthersStayInTurns, TurnsBringTheGroup, WentTogether, place_on}
 use Rattle.ec_network.specs.Showing.{turned}
 use Rattle.ec_network.specs.Standing.{Stands, StandsInSome}
 use Rattle.ec_network.specs.Turns.{TurnedIn, TurnOf}
+use Rattle.ec_network.specs.declared.nodes_running.network.Numbered.{Numbered}
 use Rattle.ec_network.specs.declared.nodes_running.turns.Did.{Did}
 use Rattle.ec_network.specs.declared.nodes_running.turns.Did.TheVariants.{Idle, Acted, Moved}
 use Rattle.ec_rooms.specs.Places.{HasPlaces}
@@ -97,8 +98,8 @@ nodes_stay d s w k stands within =
 same_place : (s t : System) → t ≡ s → (x : ℕ) → place t.cluster x ≡ place s.cluster x
 same_place s t same x = ap (λ (y : System). place y.cluster x) same
 
-pub nodes_home : (t : System) → StandsInSome t → NodesAreHome (Some t)
-nodes_home t some k within = nodes_stay some.0 t some.1.0 k some.1.1 within
+pub nodes_home : (t : Numbered) → StandsInSome t.system → NodesAreHome (Some t)
+nodes_home t some k within = nodes_stay some.0 t.system some.1.0 k some.1.1 within
 
 fixed_turned : (d : Declared) (s t : System) (w : CodeWorld) (p : ℕ) (did : Did) → Stands d s w → TurnedIn d s t w p did → (x : ℕ) →
     IsFixed w.common x → (place t.cluster x ≡ place s.cluster x) ⊎ Refixes code_meaning w p x
@@ -106,12 +107,12 @@ fixed_turned d s t w p Idle stands idle x fixed = inl (same_place s t idle.same 
 fixed_turned d s t w p (Acted steps) stands turn x fixed = fixed_stay.by_turn d s t w p steps x stands turn fixed
 fixed_turned d s t w p Moved stands none x fixed = absurd none
 
-pub net_fixed_turned : (old : Net) (s t : System) (p : ℕ) (did : Did) → old ≡ Some s →
-    ((d : Declared) (w : CodeWorld) → Stands d s w → TurnedIn d s t w p did) → FixedStayUnlessRefixed old (Some t) p
+pub net_fixed_turned : (old : Net) (s t : Numbered) (p : ℕ) (did : Did) → old ≡ Some s →
+    ((d : Declared) (w : CodeWorld) → Stands d s.system w → TurnedIn d s.system t.system w p did) → FixedStayUnlessRefixed old (Some t) p
 net_fixed_turned old s t p did is told =
-    for_standing _ old s is (λ d w stands x fixed.
-    subst (λ (n : Net). (place t.cluster x ≡ place_on n x) ⊎ Refixes code_meaning w p x) (sym is)
-    (fixed_turned d s t w p did stands (told d w stands) x fixed))
+    for_standing _ old s.system (ap system_of is) (λ d w stands x fixed.
+    subst (λ (n : Net). (place t.system.cluster x ≡ place_on n x) ⊎ Refixes code_meaning w p x) (sym is)
+    (fixed_turned d s.system t.system w p did stands (told d w stands) x fixed))
 
 fixed_moved : (d : Declared) (s t : System) (w : CodeWorld) (o k : ℕ) (did : Did) → Stands d s w → MovedIn d s t w o k did → (x : ℕ) →
     IsFixed w.common x → place t.cluster x ≡ place s.cluster x
@@ -119,20 +120,21 @@ fixed_moved d s t w o k Idle stands idle x fixed = same_place s t idle.same x
 fixed_moved d s t w o k (Acted steps) stands none x fixed = absurd none
 fixed_moved d s t w o k Moved stands moved x fixed = fixed_stay.by_move d s t w o k x stands moved fixed
 
-pub net_fixed_moved : (old : Net) (s t : System) (o k : ℕ) (did : Did) → old ≡ Some s →
-    ((d : Declared) (w : CodeWorld) → Stands d s w → MovedIn d s t w o k did) → FixedStay old (Some t)
+pub net_fixed_moved : (old : Net) (s t : Numbered) (o k : ℕ) (did : Did) → old ≡ Some s →
+    ((d : Declared) (w : CodeWorld) → Stands d s.system w → MovedIn d s.system t.system w o k did) → FixedStay old (Some t)
 net_fixed_moved old s t o k did is told =
-    for_standing _ old s is (λ d w stands x fixed.
-    subst (λ (n : Net). place t.cluster x ≡ place_on n x) (sym is) (fixed_moved d s t w o k did stands (told d w stands) x fixed))
+    for_standing _ old s.system (ap system_of is) (λ d w stands x fixed.
+    subst (λ (n : Net). place t.system.cluster x ≡ place_on n x) (sym is)
+    (fixed_moved d s.system t.system w o k did stands (told d w stands) x fixed))
 
-went_together : (d : Declared) (s t : System) (w : CodeWorld) (o k : ℕ) (did : Did) → Stands d s w → MovedIn d s t w o k did →
-    WentTogether (Some s) (Some t) w o k did
-went_together d s t w o k Idle stands idle = same_place s t idle.same
+went_together : (d : Declared) (s t : Numbered) (w : CodeWorld) (o k : ℕ) (did : Did) → Stands d s.system w →
+    MovedIn d s.system t.system w o k did → WentTogether (Some s) (Some t) w o k did
+went_together d s t w o k Idle stands idle = same_place s.system t.system idle.same
 went_together d s t w o k (Acted steps) stands none = none
-went_together d s t w o k Moved stands moved = moves_bring d s t w o k stands moved
+went_together d s t w o k Moved stands moved = moves_bring d s.system t.system w o k stands moved
 
-pub net_together : (old : Net) (s t : System) (o k : ℕ) (did : Did) → old ≡ Some s →
-    ((d : Declared) (w : CodeWorld) → Stands d s w → MovedIn d s t w o k did) → GoTogether old (Some t) o k did
+pub net_together : (old : Net) (s t : Numbered) (o k : ℕ) (did : Did) → old ≡ Some s →
+    ((d : Declared) (w : CodeWorld) → Stands d s.system w → MovedIn d s.system t.system w o k did) → GoTogether old (Some t) o k did
 net_together old s t o k did is told =
-    for_standing _ old s is (λ d w stands.
+    for_standing _ old s.system (ap system_of is) (λ d w stands.
     subst (λ (n : Net). WentTogether n (Some t) w o k did) (sym is) (went_together d s t w o k did stands (told d w stands)))

@@ -1,7 +1,7 @@
 -- The action of a process on the nodes of a system.
 use Rattle.std.specs.Prelude.{◌≡◌, ℕ, List}
 use Rattle.ec_asking.specs.Typed.{IsTypedOnce}
-use Rattle.ec_parcels.specs.Vectors.{table_of}
+use Rattle.ec_parcels.specs.Vectors.{IsTableOf}
 use Rattle.ec_cluster.specs.Cluster.{CodeWorld}
 use Rattle.ec_cluster.specs.Steps.{Changes}
 use Rattle.ec_code.specs.Activations.{code_meaning}
@@ -40,7 +40,7 @@ pub record Begins (d : Declared) (s : System) (w : CodeWorld) (table : ClassTabl
   pub goes : Goes d s w
   pub between : IsBetween s.cluster.parts w
   pub few : CarriesFew s.cluster.parts
-  pub table_is : table ≡ table_of s.cluster.parts
+  pub table_is : IsTableOf s.cluster.parts table
 
 -- some world
 abbrev pub BeginsSome : System → ClassTable → Type 0

@@ -11,42 +11,44 @@ use Rattle.ec_acts.specs.Loaded.{AreImages, Loaded}
 use Rattle.ec_acts.specs.Loading.{CanLoad}
 use Rattle.ec_acts.specs.Worlds.{world_first}
 use Rattle.ec_network.specs.Moving.{MoveRefusedIn, MovedIn}
-use Rattle.ec_network.specs.Nets.{AreCode, Net}
+use Rattle.ec_network.specs.Nets.{AreCode, Net, numbers_of, system_of}
 use Rattle.ec_network.specs.Standing.{HasNumbers, Stands, StandsInSome}
 use Rattle.ec_network.specs.Turns.{RefusedIn, TurnedIn}
-use Rattle.ec_network.specs.declared.nodes_running.network.Numbered.{Numbered}
 use Rattle.ec_network.specs.declared.nodes_running.turns.Did.{Did}
 use Rattle.ec_network.specs.declared.nodes_running.turns.NetError.{NetError}
 use Rattle.ec_network.specs.declared.nodes_running.turns.NetError.TheVariants.{Full, Memory}
 use Rattle.ec_code.specs.Code.{SmallProgram}
 use Rattle.ec_cluster.specs.declared.system.System.{System}
 use Rattle.ec_generate.specs.Limits.{CarriesFew}
+use Rattle.ec_parcels.specs.Vectors.{table_of}
 use Rattle.ec_world.specs.Objects.{object_at}
 use Rattle.ec_world.specs.Sights.{class_of}
 use Rattle.ec_world.specs.declared.class.ClassNo.{ClassNo}
+use Rattle.ec_world.specs.declared.class.VectorType.{VectorType}
 use Rattle.ec_world.specs.declared.node.NodeSpec.{NodeSpec}
 use Rattle.ec_world.specs.declared.object.ObjectRec.{ObjectRec}
 use Rattle.ec_world.specs.declared.process.Proc.{Proc}
 use Rattle.ec_world.specs.declared.process.ProcStatus.{ProcStatus}
 
-abbrev pub system_of : Option Numbered → Net
-system_of = option_map (λ l. l.system)
-
 -- if it is not spent, it stands in some world, and has the numbers of its program's classes
-abbrev pub IsLoaded : Option Numbered → Type 0
+abbrev pub IsLoaded : Net → Type 0
 IsLoaded None = Unit {0}
-IsLoaded (Some l) = StandsInSome l.system × HasNumbers l.system l.numbers
+IsLoaded (Some n) = StandsInSome n.system × HasNumbers n.system n.numbers
+
+-- these numbers are kept, unless it is spent
+abbrev pub KeepsNumbers : Net → Net → Type 0
+KeepsNumbers old new = IsSome new → numbers_of new ≡ numbers_of old
 
 -- of each world in which it stands
 abbrev pub ForStanding : Net → (Declared → System → CodeWorld → Type 0) → Type 0
-ForStanding net P = (d : Declared) (s : System) (w : CodeWorld) → net ≡ Some s → Stands d s w → P d s w
+ForStanding net P = (d : Declared) (s : System) (w : CodeWorld) → system_of net ≡ Some s → Stands d s w → P d s w
 
 -- ---- turns
 
 -- a system that is there now, of which this is told
 pub record Now (net : Net) (P : System → Type 0) : Type 0 where
   pub system : System
-  pub is : net ≡ Some system
+  pub is : system_of net ≡ Some system
   pub told : P system
 
 abbrev pub NetTurned : Net → Net → ℕ → Did → Type 0
@@ -79,10 +81,12 @@ pub record CanRun (p : Parts) (images : Images) (specs : List NodeSpec) : Type 0
   pub typed : IsTypedOnce p
   pub few : CarriesFew p
 
--- The program is loaded, and the system stands in its first world.
-pub record NetLoaded (p : Parts) (images : Images) (specs : List NodeSpec) (net : Net) : Type 0 where
+-- The program is loaded, and the system stands in its first world. Its classes have the numbers that they have where these vector types are
+-- written.
+pub record NetLoaded (p : Parts) (written : List VectorType) (images : Images) (specs : List NodeSpec) (net : Net) : Type 0 where
   pub start : System
-  pub is : net ≡ Some start
+  pub is : system_of net ≡ Some start
+  pub numbers : numbers_of net ≡ Some (table_of p written)
   pub loaded : Loaded p images specs start
   pub stands : (d : Declared) → AreImages d p images → AreCode d p images → Stands d start (world_first (length specs) p)
 

@@ -7,7 +7,7 @@ use Rattle.ec_code.specs.Activations.{code_meaning}
 use Rattle.ec_code.specs.Typing.{Declared}
 use Rattle.ec_moving.specs.Placed.{AsksToMove, ComeTo, IsFixed, MayGo, Refixes, TakesAlong}
 use Rattle.ec_network.specs.Moving.{MovedTo}
-use Rattle.ec_network.specs.Nets.{Net}
+use Rattle.ec_network.specs.Nets.{Net, system_of}
 use Rattle.ec_network.specs.Networks.{ForStanding}
 use Rattle.ec_network.specs.Standing.{Stands}
 use Rattle.ec_network.specs.Turns.{TurnOf}
@@ -56,14 +56,17 @@ NodesStay =
 
 -- ---- what a caller of a network is told
 
+abbrev pub place_in : Option System → ℕ → Option ℕ
+place_in None x = None
+place_in (Some s) x = place s.cluster x
+
 -- the node at which an object is; none where it is not there, or the network is spent
 abbrev pub place_on : Net → ℕ → Option ℕ
-place_on None x = None
-place_on (Some s) x = place s.cluster x
+place_on net x = place_in (system_of net) x
 
 abbrev pub nodes_on : Net → ℕ
 nodes_on None = 0
-nodes_on (Some s) = length s.cluster.nodes
+nodes_on (Some n) = length n.system.cluster.nodes
 
 -- object k + 1, which is that of node k, is there
 abbrev pub NodesAreHome : Net → Type 0

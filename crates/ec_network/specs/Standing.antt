@@ -1,6 +1,5 @@
 -- Systems that run a world as runs of their program come to it, by the code of this program.
-use Rattle.std.specs.Prelude.{◌≡◌}
-use Rattle.ec_parcels.specs.Vectors.{table_of}
+use Rattle.ec_parcels.specs.Vectors.{IsTableOf}
 use Rattle.ec_cluster.specs.Cluster.{CodeWorld}
 use Rattle.ec_code.specs.Typing.{Declared}
 use Rattle.ec_legs.specs.Going.{HasCode, HasLiterals}
@@ -38,6 +37,6 @@ pub record Stands (d : Declared) (s : System) (w : CodeWorld) : Type 0 where
 abbrev pub StandsInSome : System → Type 0
 StandsInSome s = (d : Declared) × ((w : CodeWorld) × Stands d s w)
 
--- these are the numbers of the program's classes on the wire
+-- these are the numbers of the program's classes on the wire, for some list of written vector types
 abbrev pub HasNumbers : System → ClassTable → Type 0
-HasNumbers s table = table ≡ table_of s.cluster.parts
+HasNumbers s table = IsTableOf s.cluster.parts table

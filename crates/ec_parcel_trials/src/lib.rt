@@ -10,6 +10,8 @@
 
 pub mod causes;
 pub mod laws;
+#[cfg(test)]
+mod numbering;
 mod stops;
 #[cfg(test)]
 mod trials;

@@ -1,6 +1,6 @@
 -- The classes of the objects of a program's worlds, and their numbers.
-use Rattle.std.specs.Prelude.{◌≡◌, ◌≢◌, ℕ, List, Some, IsSome}
-use Rattle.ec_parcels.specs.Vectors.{VectorsAreMade, table_of, vector_types}
+use Rattle.std.specs.Prelude.{◌≡◌, ◌≢◌, ℕ, List, ◌++◌, Some, IsSome}
+use Rattle.ec_parcels.specs.Vectors.{VectorsAreMade, each_once, numbered_types, table_of, vector_types}
 use Rattle.ec_code.specs.Activations.{code_meaning, code_silent}
 use Rattle.ec_code.specs.declared.activation.CodeActivation.{CodeActivation}
 use Rattle.ec_code.specs.declared.code.Parts.{Parts}
@@ -10,10 +10,12 @@ use Rattle.ec_parcels.specs.Classes.{number_of}
 use Rattle.ec_world.specs.Held.{Distinct}
 use Rattle.ec_code.specs.SoundLaws.{world_after}
 use Rattle.ec_code.specs.Sound.{SoundWorld}
+use Rattle.ec_world.specs.Group.{Has}
 use Rattle.ec_world.specs.Moves.{OperatorMove}
 use Rattle.ec_world.specs.Objects.{object_at}
 use Rattle.ec_world.specs.World.{Action, GoOn}
 use Rattle.ec_world.specs.declared.class.ClassNo.TheVariants.{Node}
+use Rattle.ec_world.specs.declared.class.VectorType.{VectorType}
 use Rattle.ec_world.specs.declared.object.ObjectRec.{ObjectRec}
 use Rattle.ec_world.specs.declared.run.RunEntry.{RunEntry}
 use Rattle.ec_world.specs.declared.world.World.{World}
@@ -42,12 +44,28 @@ EachRunMakesVectors =
 
 -- ---- numbers
 
--- The class of each object has a number, but that of nodes.
+-- The class of each object has a number, but that of nodes, whatever vector types are written.
 abbrev pub EachClassHasNumber : Type 0
 EachClassHasNumber =
     (d : Declared) (p : Parts) → Fine d p → (w : World CodeActivation) → SoundWorld d p w → VectorsAreMade p w →
-    (oid : ℕ) (o : ObjectRec) → object_at w.common.objects oid ≡ Some o → o.class ≢ Node → IsSome (number_of (table_of p) o.class)
+    (oid : ℕ) (o : ObjectRec) → object_at w.common.objects oid ≡ Some o → o.class ≢ Node → (written : List VectorType) →
+    IsSome (number_of (table_of p written) o.class)
 
--- No type stands twice in the list of a program.
+-- No type stands twice in the table of a program.
 abbrev pub TableOnce : Type 0
-TableOnce = (p : Parts) → Distinct (vector_types p)
+TableOnce = (p : Parts) (written : List VectorType) → Distinct (numbered_types p written)
+
+-- what stands behind the written types
+pub record ComeFirst (p : Parts) (written : List VectorType) : Type 0 where
+  pub rest : List VectorType
+  pub are : numbered_types p written ≡ each_once written ++ rest
+
+-- The types that are written come first, each where it stands first.
+abbrev pub WrittenComeFirst : Type 0
+WrittenComeFirst = (p : Parts) (written : List VectorType) → ComeFirst p written
+
+-- Where each type of which the code makes vectors is written, no others are in the table.
+abbrev pub NoneButWritten : Type 0
+NoneButWritten =
+    (p : Parts) (written : List VectorType) → ((of : VectorType) → Has (vector_types p) of → Has written of) →
+    numbered_types p written ≡ each_once written

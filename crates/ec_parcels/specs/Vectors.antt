@@ -1,4 +1,4 @@
--- The types of the vectors that a program's code makes, and the numbers of its classes on the wire.
+-- The types of vectors that a program's text writes and those that its code makes, and the numbers of its classes on the wire.
 use Rattle.std.specs.Prelude.{◌≡◌, ℕ, if◌then◌else◌, Bool, List, [], ◌∷◌, ◌++◌, length, Option, Some, None}
 use Rattle.std.specs.List.{list_any}
 use Rattle.ec_code.specs.declared.activation.CodeActivation.{CodeActivation}
@@ -46,6 +46,15 @@ abbrev pub with_made : List VectorType → Option VectorType → List VectorType
 with_made types None = types
 with_made types (Some of) = with_type types of
 
+-- those of a list too, in its order
+abbrev pub with_types : List VectorType → List VectorType → List VectorType
+with_types types [] = types
+with_types types (of ∷ rest) = with_types (with_type types of) rest
+
+-- the types of a list, each where it stands first
+abbrev pub each_once : List VectorType → List VectorType
+each_once written = with_types [] written
+
 -- those of some lines too, in the order of these
 abbrev pub with_lines : List VectorType → List Line → List VectorType
 with_lines types [] = types
@@ -60,9 +69,20 @@ with_operations types (o ∷ os) = with_operations (with_lines types o.code) os
 abbrev pub vector_types : Parts → List VectorType
 vector_types p = with_operations [] p.operations
 
--- Classes and object constructors have the first numbers, and the types of which the code makes vectors follow.
-abbrev pub table_of : Parts → ClassTable
-table_of p = record { made = length p.classes; vectors = vector_types p }
+-- ---- numbers
+
+-- The types that are written, each where it stands first; and behind them any others of which the code makes vectors, in the order of the code.
+abbrev pub numbered_types : Parts → List VectorType → List VectorType
+numbered_types p written = with_operations (each_once written) p.operations
+
+-- Classes and object constructors have the first numbers, and vector types follow, those that are written first.
+abbrev pub table_of : Parts → List VectorType → ClassTable
+table_of p written = record { made = length p.classes; vectors = numbered_types p written }
+
+-- the numbers of a program's classes, where some list of vector types is written
+pub record IsTableOf (p : Parts) (table : ClassTable) : Type 0 where
+  pub written : List VectorType
+  pub is : table ≡ table_of p written
 
 -- ---- worlds
 

@@ -17,6 +17,7 @@ use Rattle.ec_report.specs.declared.end.ReportEnd.TheVariants.{Ends, IsFull}
 use Rattle.ec_report.specs.declared.status.Status.{Status}
 use Rattle.ec_report.specs.declared.status.Status.TheVariants as statuses
 use Rattle.ec_world.specs.Run.{statuses_of}
+use Rattle.ec_world.specs.declared.class.VectorType.{VectorType}
 use Rattle.ec_world.specs.declared.node.NodeSpec.{NodeSpec}
 use Rattle.ec_world.specs.declared.process.ProcStatus.{ProcStatus}
 use Rattle.ec_world.specs.declared.run.Entry.{Entry}
@@ -35,11 +36,11 @@ run_status_of ss (Ends Stuck) = Sticks
 run_status_of ss (Ends Spent) = Spends
 run_status_of ss (IsFull node part need free) = Fills
 
-run_status : {meant : Meant} {specs : List NodeSpec} {entries : List Entry} {budget : ℕ} {net net' : Net} {status : Status}
+run_status : {meant : Meant} {vectors : List VectorType} {specs : List NodeSpec} {entries : List Entry} {budget : ℕ} {net net' : Net} {status : Status}
     {text : List ℕ} →
-    RunsTo meant specs entries budget net net' status text → IsRunStatus status
+    RunsTo meant vectors specs entries budget net net' status text → IsRunStatus status
 run_status (LoadIsFull p node need free part l f n) = Fills
-run_status {meant} {specs} {entries} (RanUntil p k how l room quiet e r) =
+run_status {meant} {vectors} {specs} {entries} (RanUntil p k how l room quiet e r) =
     run_status_of (statuses_of (source_run meant (length specs) entries k).world) how
 
 plain_ends : (b : Bool) → IsPlainStatus (finished_status b)

@@ -12,10 +12,13 @@ use Rattle.ec_acts.specs.Fresh.{IsNodeSize}
 use Rattle.ec_native_run.specs.Runs.{AreNodes, Net, RunsTo}
 use Rattle.ec_plain.specs.Plain.{IsPlainRun}
 use Rattle.ec_report.specs.declared.status.Status.{Status}
-use Rattle.ec_tool.specs.Sources.{IsMeant}
+use Rattle.ec_check.specs.Accepted.{HasCore}
+use Rattle.ec_tool.specs.Sources.{IsMeant, IsProgramText, vectors_in}
 use Rattle.ec_tool.specs.Taking.{AsksFor, WorkComesTo, asked_of, source_in}
+use Rattle.ec_tool.specs.declared.source.Accepted.{Accepted}
 use Rattle.ec_tool.specs.declared.take.Work.{Work}
 use Rattle.ec_tool.specs.declared.take.Work.TheVariants.{Run, Mean}
+use Rattle.ec_world.specs.declared.class.VectorType.{VectorType}
 use Rattle.ec_world.specs.declared.node.NodeSpec.{NodeSpec}
 use Rattle.ec_world.specs.declared.run.Entry.{Entry}
 
@@ -49,6 +52,17 @@ is_of_text text checked small meant = record {
   core = meant.has_core;
 }
 
+-- the source of a program's text, with its tokens and its core
+pub meant_by : (text : List ℕ) (found : Accepted) → IsProgramText text found.tokens found.checked.program →
+    HasCore found.checked.program found.checked.table found.checked.core → IsMeant text (source_in text found.checked)
+meant_by text found program core = record {
+  tokens = found.tokens;
+  program = found.checked.program;
+  is_program = program;
+  text_is = refl;
+  has_core = core;
+}
+
 -- ---- commands
 
 -- a command whose files are read asks for its work within its budget
@@ -69,15 +83,18 @@ takes Mean budget (command.Check check) asks source checked t = absurd asks
 
 module _ (source : List ℕ) (checked : Checked) (meant : IsMeant source (source_in source checked)) (specs : List NodeSpec)
     (entries : List Entry) (net net' : Net) (status : Status) (text : List ℕ) where
+  abbrev vectors : List VectorType
+  vectors = vectors_in source (source_in source checked) meant
+
   pub comes_to : (work : Work) (budget : ℕ) (asked : CommandWords) → AsksFor work budget asked →
-      WorkComesTo work (source_in source checked) specs entries budget net net' status text →
+      WorkComesTo work (source_in source checked) vectors specs entries budget net net' status text →
       ComesTo asked source specs entries net net' status text
   comes_to Run budget (command.Run run) asks r =
       let core = source_in source checked in
-      (core, meant, subst (λ (most : ℕ). RunsTo core specs entries most net net' status text) (sym asks) r)
+      (core, meant, subst (λ (most : ℕ). RunsTo core vectors specs entries most net net' status text) (sym asks) r)
   comes_to Run budget (command.Trial number) asks r =
       let core = source_in source checked in
-      (core, meant, subst (λ (most : ℕ). RunsTo core specs entries most net net' status text) (sym asks) r)
+      (core, meant, subst (λ (most : ℕ). RunsTo core vectors specs entries most net net' status text) (sym asks) r)
   comes_to Run budget (command.Mean mean) asks r = absurd asks
   comes_to Run budget (command.Check check) asks r = absurd asks
   comes_to Mean budget (command.Mean mean) asks r =

@@ -11,7 +11,7 @@ use Rattle.ec_outside.specs.Fault.{HasRisen, ShareCount}
 use Rattle.ec_outside.specs.Whole.{IsWhole}
 use Rattle.ec_plain.specs.Plain.{IsPlainRun}
 use Rattle.ec_report.specs.declared.status.Status.{Status}
-use Rattle.ec_tool.specs.Sources.{IsChecked, IsMeant}
+use Rattle.ec_tool.specs.Sources.{IsChecked, IsMeant, vectors_in}
 use Rattle.ec_trial.specs.Draws.{drawn_from}
 use Rattle.ec_trial.specs.Texts.{nodes_text, schedule_text, source_text}
 use Rattle.ec_world.specs.declared.node.NodeSpec.{NodeSpec}
@@ -103,13 +103,13 @@ Checks (command.Mean mean) source = ⊥
 Checks (command.Check check) source = IsChecked source
 Checks (command.Trial number) source = ⊥
 
--- On these nodes along these entries the source comes to this status and this text; a plain meaning leaves the network alone. A trial is a
--- run within the budget that a run has where the words don't say.
+-- On these nodes along these entries the source comes to this status and this text; a plain meaning leaves the network alone. A run numbers
+-- the vector types that are written in the source's text. A trial is a run within the budget that a run has where the words don't say.
 abbrev pub ComesTo : CommandWords → List ℕ → List NodeSpec → List Entry → Net → Net → Status → List ℕ → Type 0
 ComesTo (command.Run run) source specs entries net net' status text =
-    (meant : Meant) × IsMeant source meant × RunsTo meant specs entries run.budget net net' status text
+    (meant : Meant) × (is : IsMeant source meant) × RunsTo meant (vectors_in source meant is) specs entries run.budget net net' status text
 ComesTo (command.Mean mean) source specs entries net net' status text =
     (meant : Meant) × IsMeant source meant × IsPlainRun meant specs entries mean.budget status text × (net' ≡ net)
 ComesTo (command.Check check) source specs entries net net' status text = ⊥
 ComesTo (command.Trial number) source specs entries net net' status text =
-    (meant : Meant) × IsMeant source meant × RunsTo meant specs entries default_budget net net' status text
+    (meant : Meant) × (is : IsMeant source meant) × RunsTo meant (vectors_in source meant is) specs entries default_budget net net' status text

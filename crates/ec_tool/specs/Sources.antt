@@ -20,6 +20,8 @@ use Rattle.ec_tool.specs.declared.source.Refusal.TheVariants.{Lexical, Syntax, D
 use Rattle.ec_tool.specs.declared.source.SourceError.{SourceError}
 use Rattle.ec_tool.specs.declared.source.SourceError.TheVariants.{Refused, Memory}
 use Rattle.ec_tool.specs.Places.{place_text}
+use Rattle.ec_vector_types.specs.Written.{written_vectors}
+use Rattle.ec_world.specs.declared.class.VectorType.{VectorType}
 
 -- ---- programs
 
@@ -43,6 +45,10 @@ pub record IsMeant (text : List ℕ) (source : Source) : Type 0 where
   pub is_program : IsProgramText text tokens program
   pub text_is : source.text ≡ text
   pub has_core : HasCore program source.table source.core
+
+-- The vector types that are written in the text of a source, in the order of the text, as often as they are written.
+abbrev pub vectors_in : (text : List ℕ) (source : Source) → IsMeant text source → List VectorType
+vectors_in text source meant = written_vectors source.table.names meant.tokens
 
 -- ---- refusals
 

@@ -7,8 +7,11 @@ use Rattle.ec_meaning.specs.Programs.{Source as Meant}
 use Rattle.ec_native_run.specs.Runs.{Net, RunsTo}
 use Rattle.ec_plain.specs.Plain.{IsPlainRun}
 use Rattle.ec_report.specs.declared.status.Status.{Status}
+use Rattle.ec_tool.specs.declared.source.Accepted.{Accepted}
 use Rattle.ec_tool.specs.declared.take.Work.{Work}
 use Rattle.ec_tool.specs.declared.take.Work.TheVariants.{Run, Mean}
+use Rattle.ec_vector_types.specs.Written.{written_vectors}
+use Rattle.ec_world.specs.declared.class.VectorType.{VectorType}
 use Rattle.ec_world.specs.declared.node.NodeSpec.{NodeSpec}
 use Rattle.ec_world.specs.declared.run.Entry.{Entry}
 
@@ -28,8 +31,14 @@ AsksFor work budget asked = ⊥
 abbrev pub source_in : List ℕ → Checked → Meant
 source_in text checked = record { text = text; table = checked.table; core = checked.core }
 
--- on these nodes along these entries a source comes to this status and this text; its plain meaning leaves the network alone
-abbrev pub WorkComesTo : Work → Meant → List NodeSpec → List Entry → ℕ → Net → Net → Status → List ℕ → Type 0
-WorkComesTo Run source specs entries budget net net' status written = RunsTo source specs entries budget net net' status written
-WorkComesTo Mean source specs entries budget net net' status written =
-    IsPlainRun source specs entries budget status written × (net' ≡ net)
+-- the vector types that are written in the text of a program
+abbrev pub vectors_of : Accepted → List VectorType
+vectors_of found = written_vectors found.checked.table.names found.tokens
+
+-- on these nodes along these entries a source, in which these vector types are written, comes to this status and this text; its plain
+-- meaning leaves the network alone
+abbrev pub WorkComesTo : Work → Meant → List VectorType → List NodeSpec → List Entry → ℕ → Net → Net → Status → List ℕ → Type 0
+WorkComesTo Run source vectors specs entries budget net net' status text =
+    RunsTo source vectors specs entries budget net net' status text
+WorkComesTo Mean source vectors specs entries budget net net' status text =
+    IsPlainRun source specs entries budget status text × (net' ≡ net)

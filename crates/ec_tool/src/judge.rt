@@ -9,7 +9,7 @@ ghost use Rattle.ec_tool.specs.Taking.{AsksFor};
 
 use crate::answers::{accepted, nodes_refused, schedule_refused, source_refused};
 use crate::files::Files;
-use crate::source::{SourceError, check_source, meant_source};
+use crate::source::{SourceError, check_source};
 use crate::take::{Work, come_to_end};
 use ec_inputs::nodes::{NodesError, read_nodes};
 use ec_inputs::schedule::{ScheduleError, read_schedule};
@@ -28,8 +28,8 @@ pub(crate) fn judge(
     ensures { IfOk result (λ answer. (asked : CommandWords) → AsksFor work budget asked →
         Judged asked (held_in files.now) net.old net.new answer.status answer.text.items) }
 {
-    let checked = match meant_source(alloc, &files.source) {
-        Ok(checked) => checked,
+    let found = match check_source(alloc, &files.source) {
+        Ok(found) => found,
         Err(SourceError::Refused(refused)) => return source_refused(alloc, &files.source, refused),
         Err(SourceError::Memory) => return Err(AllocError),
     };
@@ -42,7 +42,7 @@ pub(crate) fn judge(
         Ok(entries) => come_to_end(
             alloc,
             work,
-            &checked,
+            &found,
             &files.source,
             &specs,
             &entries,

@@ -4,7 +4,7 @@ ghost use Rattle.ec_check.specs.Accepted.{HasCore};
 ghost use Rattle.ec_lexer.specs.Tokens.{HasTokens};
 ghost use Rattle.ec_parser.specs.HasTree.{HasTree};
 ghost use Rattle.ec_parser.specs.Program.{IsShallow};
-ghost use Rattle.ec_tool.specs.Sources.{IsProgramText, IsMeant, IsErrorOf, place_of, fault_name, rule_name, refusal_name, refused_line};
+ghost use Rattle.ec_tool.specs.Sources.{IsProgramText, IsErrorOf, place_of, fault_name, rule_name, refusal_name, refused_line};
 
 use crate::place::push_place;
 use ec_ast::Program;
@@ -65,15 +65,6 @@ pub fn check_source(alloc: Global, text: &[u8]) -> Result<Accepted, SourceError>
         Err(CheckError::Fault(fault)) => Err(refuse(Refusal::Static(fault.rule), fault.at.from)),
         Err(CheckError::Memory) => Err(SourceError::Memory),
     }
-}
-
-/// The program of a source, with its core.
-pub fn meant_source(alloc: Global, text: &[u8]) -> Result<Checked, SourceError>
-    ensures meant { IfOk result (λ checked. IsMeant text.now (record { text = text.now; table = checked.table; core = checked.core })) }
-    ensures refused { IfErr result (IsErrorOf text.now) }
-{
-    let found = check_source(alloc, text)?;
-    Ok(found.checked)
 }
 
 fn refuse(refusal: Refusal, at: u32) -> SourceError

@@ -13,7 +13,7 @@ use ec_generate::conditions::look_at_conditions;
 use ec_legs::machines::Machines;
 use ec_parcels::class_numbers::numbers::class_numbers;
 use ec_parcels::mover::classes::ClassNumbers;
-use ec_world::class::ClassNo;
+use ec_world::class::{ClassNo, VectorType};
 use ec_world::node::NodeSpec;
 use ec_world::process::ProcStatus;
 use ec_world::sight::Sees;
@@ -30,18 +30,18 @@ pub struct Network {
 
 /// A system, and the numbers of its program's classes on the wire.
 #[derive(Drop)]
-pub(crate) struct Numbered {
+pub struct Numbered {
     pub system: System,
     pub numbers: ClassNumbers,
 }
 
 impl Model for Network {
     ghost use Rattle.ec_network.specs.Nets.{Net};
-    ghost use Rattle.ec_network.specs.Networks.{IsLoaded, system_of};
+    ghost use Rattle.ec_network.specs.Networks.{IsLoaded};
 
     ghost Value = { Net };
 
-    ghost view = { λ n. system_of n.loaded };
+    ghost view = { λ n. n.loaded };
 
     ghost invariant = { λ n. IsLoaded n.loaded };
 }
@@ -50,9 +50,10 @@ impl Network {
     ghost use Rattle.std.specs.Prelude.{IfErr, IfOk, IsSome, None, Some, is_some, length};
     ghost use Rattle.ec_acts.specs.Loaded.{WhenFull};
     ghost use Rattle.ec_acts.specs.Loading.{LacksFirst, first_needs};
-    ghost use Rattle.ec_network.specs.Networks.{CanRun, ForStanding, NetLoaded, NetMoved, NetMoveRefused, NetRefused, NetTurned};
+    ghost use Rattle.ec_network.specs.Networks.{CanRun, ForStanding, KeepsNumbers, NetLoaded, NetMoved, NetMoveRefused, NetRefused};
+    ghost use Rattle.ec_network.specs.Networks.{NetTurned};
     ghost use Rattle.ec_network.specs.Networks.{class_at, fixed_at, status_at};
-    ghost use Rattle.ec_network.specs.Nets.{counts_of};
+    ghost use Rattle.ec_network.specs.Nets.{counts_of, system_of};
     ghost use Rattle.ec_network.specs.Places.{FixedStay, FixedStayUnlessRefixed, GoTogether, NodesAreHome, place_on};
     ghost use Rattle.ec_network.specs.Standing.{StandsInSome};
     ghost use Rattle.ec_rooms.specs.Places.{place_of};
@@ -68,20 +69,22 @@ impl Network {
     }
 
     /// Loads a program with its images onto 1 to 64 nodes of these kinds and sizes (at most 65,536 blocks and 16,777,216 bytes of text), so
-    /// that process 0 is about to run operation 0. The error is what the first node that lacks room for that lacks, blocks before text; or
+    /// that process 0 is about to run operation 0. On the wire the vector types of the list have the first numbers behind the program's
+    /// classes and object constructors, in the order of the list: it is that of the types that are written in the program's text. The error is what the first node that lacks room for that lacks, blocks before text; or
     /// want of memory, which literals of 2^64 bytes or more are too, and 2^32 - 1 classes and vector types or more.
     pub fn load(
         alloc: Global,
         parts: Parts,
+        written: &[VectorType],
         images: Images,
         specs: &[NodeSpec],
     ) -> Result<Network, LoadError>
         requires { CanRun parts images specs.now }
-        ensures loaded { IfOk result (λ net. NetLoaded parts images specs.now net) }
+        ensures loaded { IfOk result (λ net. NetLoaded parts written.now images specs.now net) }
         ensures full { WhenFull result (LacksFirst (first_needs parts images (length specs.now)) specs.now) }
     {
         look_at_conditions(parts.classes.as_slice());
-        let numbers = match class_numbers(alloc, &parts) {
+        let numbers = match class_numbers(alloc, &parts, written) {
             Ok(numbers) => numbers,
             Err(e) => return Err(LoadError::Memory(e)),
         };
@@ -108,6 +111,7 @@ impl Network {
         ensures turned { IfOk result (λ did. IsSome self.old × NetTurned self.old self.new p did) }
         ensures fixed { IfOk result (λ did. FixedStayUnlessRefixed self.old self.new p) }
         ensures nodes { IfOk result (λ did. NodesAreHome self.new) }
+        ensures numbers { KeepsNumbers self.old self.new }
         ensures refused { IfErr result (λ e. NetRefused self.old self.new p e) }
     {
         let Some(loaded) = &mut self.loaded else {
@@ -131,6 +135,7 @@ impl Network {
         ensures together { IfOk result (λ did. GoTogether self.old self.new o k did) }
         ensures fixed { IfOk result (λ did. FixedStay self.old self.new) }
         ensures nodes { IfOk result (λ did. NodesAreHome self.new) }
+        ensures numbers { KeepsNumbers self.old self.new }
         ensures refused { IfErr result (λ e. NetMoveRefused self.old self.new o k e) }
     {
         let Some(loaded) = &mut self.loaded else {
@@ -211,7 +216,7 @@ impl Network {
     /// The system of a network that is not spent.
     fn standing(&self) -> &System
         requires whole { IsSome self.now }
-        ensures is { self.now ≡ Some result.now }
+        ensures is { system_of self.now ≡ Some result.now }
         ensures stands { StandsInSome result.now }
     {
         match &self.loaded {

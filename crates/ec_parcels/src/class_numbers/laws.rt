@@ -1,6 +1,6 @@
 //! What holds of the classes of the objects of a program's worlds.
 ghost use Rattle.ec_parcels.specs.ClassNumbersLaws.{ActionsKeepVectorsMade, EachClassHasNumber, EachRunMakesVectors, MovesKeepVectorsMade};
-ghost use Rattle.ec_parcels.specs.ClassNumbersLaws.{SilentStepsKeepVectorsMade, TableOnce};
+ghost use Rattle.ec_parcels.specs.ClassNumbersLaws.{NoneButWritten, SilentStepsKeepVectorsMade, TableOnce, WrittenComeFirst};
 
 /// An action makes no vectors but of types that the code makes.
 pub fn actions_keep_vectors_made()
@@ -27,7 +27,17 @@ pub fn each_class_has_number()
     ensures { EachClassHasNumber }
 {}
 
-/// No type stands twice among those of which a program makes vectors.
+/// No type stands twice in the table of a program.
 pub fn table_once()
     ensures { TableOnce }
+{}
+
+/// The types that are written come first, each where it stands first.
+pub fn written_come_first()
+    ensures { WrittenComeFirst }
+{}
+
+/// Where each type of which the code makes vectors is written, the table has no others.
+pub fn none_but_written()
+    ensures { NoneButWritten }
 {}

@@ -9,13 +9,19 @@ use ec_world::class::VectorType;
 use ec_world::stop::Stop;
 use std::alloc::{AllocError, Global};
 
-/// The numbers of a program's classes on the wire: those of its classes and object constructors, and then those of the vectors of each
-/// type of which its code makes some. The error is want of memory, or that there are 2^32 - 1 classes and vector types or more.
+/// The numbers of a program's classes on the wire: those of its classes and object constructors; then those of the vectors of each type that
+/// is written, each type where it stands first; and then those of any other types of which its code makes vectors. The error is want of
+/// memory, or that there are 2^32 - 1 classes and vector types or more.
 #[tactic(auto, using(crate::proofs::Types::all_once))]
-pub fn class_numbers(alloc: Global, parts: &Parts) -> Result<ClassNumbers, AllocError>
-    ensures { IfOk result (λ numbers. numbers ≡ spec.table_of parts.now) }
+pub fn class_numbers(
+    alloc: Global,
+    parts: &Parts,
+    written: &[VectorType],
+) -> Result<ClassNumbers, AllocError>
+    ensures { IfOk result (λ numbers. numbers ≡ spec.table_of parts.now written.now) }
 {
     let mut types = Seq::new(alloc);
+    add_types(&mut types, written)?;
     add_operations(&mut types, parts.operations.as_slice())?;
     let made = parts.classes.len();
     let most = u32::MAX as usize;
@@ -23,6 +29,16 @@ pub fn class_numbers(alloc: Global, parts: &Parts) -> Result<ClassNumbers, Alloc
         return Err(AllocError);
     }
     Ok(ClassNumbers::new(made as u32, types))
+}
+
+/// The types of a list, behind those that are there, each once. The error is want of memory.
+fn add_types(types: &mut Seq<VectorType>, list: &[VectorType]) -> Result<(), AllocError>
+    ensures { OnOk result (types.new ≡ spec.with_types types.old list.now) }
+{
+    for of in list {
+        add_type(types, *of)?;
+    }
+    Ok(())
 }
 
 /// The types of the vectors that some operations make, behind those that are there, each once. The error is want of memory.

@@ -23,7 +23,7 @@ run_loaded-requires c =
     let can = can_run p images specs c.in_ok-made.ensures.runnable c.requires.nodes in
     record {
       loaded = first_follows p images specs c.args.schedule.now c.args.budget c.in-Ok.loaded c.requires.nodes can
-          c.in-Ok.ensures.loaded;
+          c.args.written.now c.in-Ok.ensures.loaded;
     }
 
 pub returns-in-Ok : goal.returns-in-Ok
@@ -37,9 +37,9 @@ returns-in-Ok c =
     let net = c.run_loaded.new.net in
     let can = can_run p images specs c.in_ok-made.ensures.runnable c.requires.nodes in
     if_ok_one (λ (a : Answer). IsReported source specs schedule budget c.in-Ok.loaded net a.status a.text.items)
-    (λ (a : Answer). RunsTo source specs schedule budget c.args.net.now net a.status a.text.items)
+    (λ (a : Answer). RunsTo source c.args.written.now specs schedule budget c.args.net.now net a.status a.text.items)
     c.run_loaded.result c.run_loaded.ensures
-    (λ a r. runs_to source c.requires.accepted p images specs schedule budget c.args.net.now c.in-Ok.loaded net a.status a.text.items
+    (λ a r. runs_to source c.requires.accepted c.args.written.now p images specs schedule budget c.args.net.now c.in-Ok.loaded net a.status a.text.items
     c.in_ok-made.ensures.lowered can.loads c.in-Ok.ensures.loaded r)
 
 pub returns-in-Err-Full : goal.returns-in-Err-Full
@@ -56,7 +56,7 @@ returns-in-Err-Full c =
     let can = can_run p images specs c.in_ok-made.ensures.runnable c.requires.nodes in
     if_ok_two (λ (a : Answer). a.status ≡ statuses.Full)
     (λ (a : Answer). a.text.items ≡ load_report specs (IsFull lack.node lack.part lack.need lack.free))
-    (λ (a : Answer). RunsTo source specs schedule budget net net a.status a.text.items)
+    (λ (a : Answer). RunsTo source c.args.written.now specs schedule budget net net a.status a.text.items)
     c.answer_full.result c.answer_full.ensures.status c.answer_full.ensures.text
-    (λ a status text. load_full source p images specs schedule budget net lack a.status a.text.items c.in_ok-made.ensures.lowered
+    (λ a status text. load_full source c.args.written.now p images specs schedule budget net lack a.status a.text.items c.in_ok-made.ensures.lowered
     can.loads lacks status text)

@@ -1,8 +1,9 @@
-use Rattle.std.proofs.Common.{◌≡◌, ◌∙◌, arith, refl}
+use Rattle.std.proofs.Common.{◌≡◌, ◌∙◌, arith}
 use Rattle.ec_meaning.specs.Sources.{source_of}
 use Rattle.ec_native_run.proofs.run.run_loaded.Goals as goal
 use Rattle.ec_native_run.specs.Following.{ForNodes, IsReported}
 use Rattle.ec_native_run.specs.Runs.{run_report}
+use Rattle.ec_network.proofs.Networks.{is_running}
 use Rattle.ec_network.specs.Nets.{counts_of}
 use Rattle.ec_network.specs.Networks.{ForStanding}
 use Rattle.ec_report.proofs.Lifting.{if_ok_two}
@@ -11,7 +12,7 @@ use Rattle.ec_report.specs.declared.answer.Answer.{Answer}
 use Rattle.ec_world.specs.Run.{statuses_of}
 
 pub answer_end-requires-clause-whole : goal.answer_end-requires-clause-whole
-answer_end-requires-clause-whole c = rw c.in_ok-ended.ensures.stands.is refl
+answer_end-requires-clause-whole c = is_running c.drive.new.state c.in_ok-ended.ensures.stands.now c.in_ok-ended.ensures.stands.is
 
 pub answer_end-requires-clause-few : goal.answer_end-requires-clause-few
 answer_end-requires-clause-few c = omega (arith, c.in_ok-ended.ensures.stands.come.nodes.few)

@@ -3,4 +3,4 @@ use Rattle.ec_parcels.proofs.Numbered.{number_some}
 use Rattle.ec_parcels.proofs.class_numbers.laws.each_class_has_number.Goals as goal
 
 pub returns : goal.returns
-returns start d p fine w s made oid o e other = number_some d p fine w s made oid o e other
+returns start d p fine w s made oid o e other written = number_some d p fine w s made oid o e other written

@@ -1,9 +1,10 @@
 -- What is loaded stands in its first world, and has the numbers of its classes.
-use Rattle.std.proofs.Common.{List, ap, length, refl, subst, sym, ◌∙◌}
+use Rattle.std.proofs.Common.{List, Some, ap, length, refl, subst, sym, ◌∙◌}
 use Rattle.ec_parcels.specs.Vectors.{table_of}
 use Rattle.ec_acts.specs.Worlds.{world_first}
 use Rattle.ec_network.proofs.Loading.{stands_first}
 use Rattle.ec_network.proofs.nodes_running.network.Network.load.Goals as goal
+use Rattle.ec_code.specs.declared.code.Parts.{Parts}
 use Rattle.ec_generate.specs.Limits.{FewConditionsIn}
 use Rattle.ec_world.specs.declared.class.ClassRec.{ClassRec}
 
@@ -16,6 +17,7 @@ returns-in-Ok-load-clause-loaded c =
     record {
       start = c.in-Ok-load.system;
       is = refl;
+      numbers = ap Some c.in-Ok.ensures;
       loaded = c.in-Ok-load.ensures.loaded;
       stands = λ d are code.
           stands_first c.args.parts c.args.images c.args.specs.now c.in-Ok-load.system c.in-Ok-load.ensures.loaded d c.requires conditions
@@ -34,5 +36,8 @@ invariant_of-result c =
               (c.in-Ok-load.ensures.runs d c.requires.loads.tables) c.requires.code,
         ),
       ),
-      c.in-Ok.ensures ∙ ap table_of (sym c.in-Ok-load.ensures.loaded.parts),
+      record {
+        written = c.args.written.now;
+        is = c.in-Ok.ensures ∙ ap (λ (p : Parts). table_of p c.args.written.now) (sym c.in-Ok-load.ensures.loaded.parts);
+      },
     )

@@ -1,9 +1,9 @@
 -- A move on its system is one on the network.
-use Rattle.std.proofs.Common.{ap, sym, ◌∙◌, subst}
+use Rattle.std.proofs.Common.{sym, ◌∙◌, subst}
 use Rattle.ec_network.proofs.Networks.{has_left, is_there, move_full, moved_left, net_moved}
 use Rattle.ec_network.proofs.Places.{net_fixed_moved, net_together, nodes_home}
 use Rattle.ec_network.specs.Moving.{MoveRefusedIn}
-use Rattle.ec_network.specs.Networks.{IsLoaded, system_of}
+use Rattle.ec_network.specs.Networks.{IsLoaded}
 use Rattle.ec_network.proofs.nodes_running.network.Network.operator_move.Goals as goal
 
 pub shift-requires-clause-stands : goal.shift-requires-clause-stands
@@ -20,32 +20,36 @@ invariant_of-self-in-Ok c =
 
 pub returns-in-Ok-clause-moved : goal.returns-in-Ok-clause-moved
 returns-in-Ok-clause-moved c =
-    let is = sym c.self.view_is ∙ ap system_of c.in-Some.is in (
-      is_there c.args.self.now c.in-Some.loaded.system is,
-      net_moved c.args.self.now c.in-Some.loaded.system c.shift.new.system c.args.o c.args.k c.in-Ok.did is c.in-Ok.ensures.moved,
+    let is = sym c.self.view_is ∙ c.in-Some.is in (
+      is_there c.args.self.now c.in-Some.loaded is,
+      net_moved c.args.self.now c.in-Some.loaded
+          (record { system = c.shift.new.system; numbers = c.in-Some.loaded.numbers }) c.args.o c.args.k c.in-Ok.did is c.in-Ok.ensures.moved,
     )
 
 pub returns-in-Ok-clause-together : goal.returns-in-Ok-clause-together
 returns-in-Ok-clause-together c =
-    net_together c.args.self.now c.in-Some.loaded.system c.shift.new.system c.args.o c.args.k c.in-Ok.did
-    (sym c.self.view_is ∙ ap system_of c.in-Some.is) c.in-Ok.ensures.moved
+    net_together c.args.self.now c.in-Some.loaded
+    (record { system = c.shift.new.system; numbers = c.in-Some.loaded.numbers }) c.args.o c.args.k c.in-Ok.did
+    (sym c.self.view_is ∙ c.in-Some.is) c.in-Ok.ensures.moved
 
 pub returns-in-Ok-clause-fixed : goal.returns-in-Ok-clause-fixed
 returns-in-Ok-clause-fixed c =
-    net_fixed_moved c.args.self.now c.in-Some.loaded.system c.shift.new.system c.args.o c.args.k c.in-Ok.did
-    (sym c.self.view_is ∙ ap system_of c.in-Some.is) c.in-Ok.ensures.moved
+    net_fixed_moved c.args.self.now c.in-Some.loaded
+    (record { system = c.shift.new.system; numbers = c.in-Some.loaded.numbers }) c.args.o c.args.k c.in-Ok.did
+    (sym c.self.view_is ∙ c.in-Some.is) c.in-Ok.ensures.moved
 
 pub returns-in-Ok-clause-nodes : goal.returns-in-Ok-clause-nodes
 returns-in-Ok-clause-nodes c =
     let loaded = subst IsLoaded c.in-Some.is c.self.invariant in
-    nodes_home c.shift.new.system
+    nodes_home (record { system = c.shift.new.system; numbers = c.in-Some.loaded.numbers })
     (moved_left c.in-Some.loaded.system c.shift.new.system c.args.o c.args.k c.in-Ok.did loaded.0 c.in-Ok.ensures.moved).stands
 
 pub returns-in-Err-Full-clause-refused : goal.returns-in-Err-Full-clause-refused
 returns-in-Err-Full-clause-refused c =
-    let is = sym c.self.view_is ∙ ap system_of c.in-Some.is in (
-      is_there c.args.self.now c.in-Some.loaded.system is,
-      move_full c.args.self.now c.in-Some.loaded.system c.shift.new.system c.args.o c.args.k c.in-Err-Full.lack is
+    let is = sym c.self.view_is ∙ c.in-Some.is in (
+      is_there c.args.self.now c.in-Some.loaded is,
+      move_full c.args.self.now c.in-Some.loaded
+          (record { system = c.shift.new.system; numbers = c.in-Some.loaded.numbers }) c.args.o c.args.k c.in-Err-Full.lack is
           (λ d w s. subst (λ e. MoveRefusedIn c.in-Some.loaded.system c.shift.new.system w c.args.o c.args.k e) c.in-Err-Full.field-0-is
           (c.in-Err-Full.ensures.refused d w s)),
     )

@@ -1,8 +1,8 @@
 -- A turn of its system is one of the network.
-use Rattle.std.proofs.Common.{ap, sym, ◌∙◌, subst}
+use Rattle.std.proofs.Common.{sym, ◌∙◌, subst}
 use Rattle.ec_network.proofs.Networks.{has_left, is_there, net_full, net_turned, turned_left}
 use Rattle.ec_network.proofs.Places.{net_fixed_turned, nodes_home}
-use Rattle.ec_network.specs.Networks.{IsLoaded, system_of}
+use Rattle.ec_network.specs.Networks.{IsLoaded}
 use Rattle.ec_network.specs.Turns.{RefusedIn}
 use Rattle.ec_network.proofs.nodes_running.network.Network.turn.Goals as goal
 
@@ -20,27 +20,30 @@ invariant_of-self-in-Ok c =
 
 pub returns-in-Ok-clause-turned : goal.returns-in-Ok-clause-turned
 returns-in-Ok-clause-turned c =
-    let is = sym c.self.view_is ∙ ap system_of c.in-Some.is in (
-      is_there c.args.self.now c.in-Some.loaded.system is,
-      net_turned c.args.self.now c.in-Some.loaded.system c.turn.new.system c.args.p c.in-Ok.did is c.in-Ok.ensures.turned,
+    let is = sym c.self.view_is ∙ c.in-Some.is in (
+      is_there c.args.self.now c.in-Some.loaded is,
+      net_turned c.args.self.now c.in-Some.loaded
+          (record { system = c.turn.new.system; numbers = c.in-Some.loaded.numbers }) c.args.p c.in-Ok.did is c.in-Ok.ensures.turned,
     )
 
 pub returns-in-Ok-clause-fixed : goal.returns-in-Ok-clause-fixed
 returns-in-Ok-clause-fixed c =
-    net_fixed_turned c.args.self.now c.in-Some.loaded.system c.turn.new.system c.args.p c.in-Ok.did
-    (sym c.self.view_is ∙ ap system_of c.in-Some.is) c.in-Ok.ensures.turned
+    net_fixed_turned c.args.self.now c.in-Some.loaded
+    (record { system = c.turn.new.system; numbers = c.in-Some.loaded.numbers }) c.args.p c.in-Ok.did
+    (sym c.self.view_is ∙ c.in-Some.is) c.in-Ok.ensures.turned
 
 pub returns-in-Ok-clause-nodes : goal.returns-in-Ok-clause-nodes
 returns-in-Ok-clause-nodes c =
     let loaded = subst IsLoaded c.in-Some.is c.self.invariant in
-    nodes_home c.turn.new.system
+    nodes_home (record { system = c.turn.new.system; numbers = c.in-Some.loaded.numbers })
     (turned_left c.in-Some.loaded.system c.turn.new.system c.args.p c.in-Ok.did loaded.0 c.in-Ok.ensures.turned).stands
 
 pub returns-in-Err-Full-clause-refused : goal.returns-in-Err-Full-clause-refused
 returns-in-Err-Full-clause-refused c =
-    let is = sym c.self.view_is ∙ ap system_of c.in-Some.is in (
-      is_there c.args.self.now c.in-Some.loaded.system is,
-      net_full c.args.self.now c.in-Some.loaded.system c.turn.new.system c.args.p c.in-Err-Full.lack is
+    let is = sym c.self.view_is ∙ c.in-Some.is in (
+      is_there c.args.self.now c.in-Some.loaded is,
+      net_full c.args.self.now c.in-Some.loaded
+          (record { system = c.turn.new.system; numbers = c.in-Some.loaded.numbers }) c.args.p c.in-Err-Full.lack is
           (λ d w s. subst (λ e. RefusedIn c.in-Some.loaded.system c.turn.new.system w c.args.p e) c.in-Err-Full.field-0-is
           (c.in-Err-Full.ensures.refused d w s)),
     )
