@@ -29,7 +29,7 @@ use Rattle.ec_gathering.proofs.Next.{can_gather_so, member_or_not}
 use Rattle.ec_gathering.proofs.Told.{if_some}
 use Rattle.ec_gathering.specs.Bringing.{Brings, Brought, NoneHasResult, Sends, flag_if}
 use Rattle.ec_gathering.specs.Gathers.{Gathers, LacksFor, LetsGo, MayGather, world_gathered}
-use Rattle.ec_gathering.specs.Shipping.{AreShipped, EachIsShipped, IsShipped, froms, parcels_of}
+use Rattle.ec_gathering.specs.Shipping.{AreShipped, EachIsShipped, froms, parcels_of}
 use Rattle.ec_gathering.specs.declared.shipping.Shipment.{Shipment}
 use Rattle.ec_gathering.proofs.Gathered.{gathering_full, gone_is_such}
 use Rattle.ec_gathering.proofs.GatheringRoomLists.{has_is_in, is_in_has}

@@ -2,7 +2,7 @@
 use Rattle.std.proofs.Common.{◌≡◌, ◌≢◌, ◌<◌, ◌+◌, ◌∙◌, ◌∷◌, ◌⊎◌, ℕ, suc, List, [], length, Option, Some, None}
 use Rattle.std.proofs.Common.{true, false, ap, arith, inl, inr, refl, subst, sym, ⊎_elim}
 use Rattle.std.proofs.lemmas.Option.{same_Some}
-use Rattle.std.specs.Prelude.{if◌then◌else◌, slice_get}
+use Rattle.std.specs.Prelude.{if◌then◌else◌}
 use Rattle.ec_carrying.proofs.Steps.{frames_along}
 use Rattle.ec_carrying.proofs.Texts.{back_fits}
 use Rattle.ec_carrying.specs.Carrying.{Carried}

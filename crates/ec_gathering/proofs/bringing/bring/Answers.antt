@@ -1,7 +1,7 @@
 -- One parcel more.
 use Rattle.std.proofs.Common.{◌≤◌, ℕ, List, subst, sym}
 use Rattle.std.proofs.lemmas.List.{drop_all}
-use Rattle.std.specs.Prelude.{drop, length}
+use Rattle.std.specs.Prelude.{length}
 use Rattle.ec_carrying.specs.Carrying.{CanCarry, IsCarriedIn}
 use Rattle.ec_cluster.specs.declared.cluster.Cluster.{Cluster}
 use Rattle.ec_gathering.proofs.Coming.{IsBringing, all_brought, next_bringing, next_can, next_spelled, none_came}
