@@ -19,7 +19,7 @@ use Rattle.ec_fullness.proofs.Keeping.{steady_after}
 use Rattle.ec_fullness.proofs.Shown.{has_object}
 use Rattle.ec_cluster.specs.Directory.{made_count, place_at}
 use Rattle.ec_cluster.specs.declared.forward.directory.Whereabouts.{Whereabouts}
-use Rattle.ec_fullness.specs.Fullness.{IsFull}
+use Rattle.ec_fullness.specs.Fullness.{IsFull, gathered}
 use Rattle.ec_gathering.proofs.Along.{but_back, but_then, packs_along}
 use Rattle.ec_gathering.proofs.Changing.{changes_before, changes_behind}
 use Rattle.ec_gathering.proofs.Coming.{node_at}
@@ -34,7 +34,7 @@ use Rattle.ec_gathering.specs.declared.shipping.Shipment.{Shipment}
 use Rattle.ec_gathering.proofs.Gathered.{gathering_full, gone_is_such}
 use Rattle.ec_gathering.proofs.GatheringRoomLists.{has_is_in, is_in_has}
 use Rattle.ec_gathering.proofs.Same.{fixed_needs}
-use Rattle.ec_gathering.specs.Gathering.{ButFixed, CanGather, gathered}
+use Rattle.ec_gathering.specs.Gathering.{ButFixed, CanGather}
 use Rattle.ec_packing.specs.Between.{RestsBetween}
 use Rattle.ec_parcels.specs.Owners.{all_blocks, all_values}
 use Rattle.ec_parcels.proofs.Numbers.{class_again}

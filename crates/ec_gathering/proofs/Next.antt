@@ -18,7 +18,8 @@ use Rattle.ec_gathering.specs.declared.shipping.Shipment.{Shipment}
 use Rattle.ec_gathering.proofs.Blocks.{held_to}
 use Rattle.ec_gathering.proofs.GatheringRoomLists.{has_is_in, has_or_not}
 use Rattle.ec_gathering.proofs.One.{text_goes}
-use Rattle.ec_gathering.specs.Gathering.{CanGather, PacksAll, gathered}
+use Rattle.ec_fullness.specs.Fullness.{gathered}
+use Rattle.ec_gathering.specs.Gathering.{CanGather, PacksAll}
 use Rattle.ec_parcels.specs.Classes.{ClassTable, IsClassTable}
 use Rattle.ec_objects.specs.Lacks.{HasRoomForAll}
 use Rattle.ec_world.proofs.Keys.{same_or_not}
