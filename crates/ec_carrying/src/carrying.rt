@@ -6,36 +6,38 @@ ghost use Rattle.ec_carrying.specs.Steps.{AreKept};
 ghost use Rattle.ec_cluster.specs.Cluster.{CodeWorld};
 ghost use Rattle.ec_code.specs.Typing.{Declared};
 ghost use Rattle.ec_parcels.specs.Owners.{keys_of};
+ghost use Rattle.ec_wire.specs.WireForm.{IsWire};
 ghost use Rattle.ec_wire.specs.declared.parcel.Contents.{Contents as ContentsData};
 
 use crate::moving::note_moves;
 use crate::taking::{take_activations, take_objects};
-use crate::unpacking::{parcel_of, unpack_at};
+use crate::unpacking::unpack_at;
 use ec_cluster::cluster::Cluster;
 use ec_parcels::mover::classes::ClassNumbers;
-use ec_wire::parcel::Contents;
+use ec_wire::parcel::{Contents, Parcel};
 use ec_world::value::NodeNo;
 use std::alloc::{AllocError, Global};
 
 /// The things of a parcel go from one node to another, by the nodes' numbers from 0: they are taken away at the first, it is
-/// noted where the objects are now, and they are put at the second from the parcel's bytes. None of the objects is fixed, and the second
-/// node has blocks for all of them and for the activations on them, and room for their texts. The error is want of memory, that an object
-/// has moved 2^64 - 1 times, or that this node has 2^32 - 1 texts or references; what the nodes keep is then left open.
+/// noted where the objects are now, and they are put at the second from the parcel's bytes alone. None of the objects is fixed, and the
+/// second node has blocks for all of them and for the activations on them, and room for their texts. The error is want of memory, that an
+/// object has moved 2^64 - 1 times, or that this node has 2^32 - 1 texts or references; what the nodes keep is then left open.
 pub fn carry(
     cluster: &mut Cluster,
     alloc: Global,
     numbers: &ClassNumbers,
     from: NodeNo,
     to: NodeNo,
+    parcel: &Parcel,
     bytes: &[u8],
 ) -> Result<(), AllocError>
-    requires { CanCarry numbers.now cluster.old from to bytes.now }
+    requires spelled { IsWire parcel.now bytes.now }
+    requires can { CanCarry numbers.now cluster.old from to bytes.now }
     ensures { OnOk result ((d : Declared) (w : CodeWorld) (members : List ℕ) (x : ContentsData) →
         IsCarriedIn numbers.now cluster.old from to bytes.now d w members x → Carried cluster.old cluster.new w x to) }
 {
     // With the numbers looked at, each is known to be that of one class alone.
     let _made = numbers.made();
-    let parcel = parcel_of(alloc, bytes)?;
     set_off(cluster, from, to, parcel.contents())?;
     unpack_at(cluster, alloc, numbers, to, bytes)
 }

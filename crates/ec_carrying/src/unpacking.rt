@@ -84,7 +84,7 @@ pub fn unpack_at(
 }
 
 /// The parcel that has these bytes. The error is want of memory.
-pub(crate) fn parcel_of(alloc: Global, bytes: &[u8]) -> Result<Parcel, AllocError>
+fn parcel_of(alloc: Global, bytes: &[u8]) -> Result<Parcel, AllocError>
     requires { (x : ContentsData) × IsWire x bytes.now }
     ensures { (x : ContentsData) → IsWire x bytes.now → IfOk result (λ parcel. parcel ≡ x) }
 {

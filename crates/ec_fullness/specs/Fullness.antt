@@ -15,7 +15,7 @@ use Rattle.ec_things.specs.Held.{Held}
 use Rattle.ec_things.specs.Store.{Store}
 use Rattle.ec_things.specs.Texts.{IsHeld, NewBytes}
 use Rattle.ec_things.specs.Things.{things_of}
-use Rattle.ec_world.specs.Group.{Has}
+use Rattle.ec_world.specs.Group.{Has, is_in}
 use Rattle.ec_world.specs.declared.doing.Doing.{Doing}
 use Rattle.ec_world.specs.declared.doing.Doing.TheVariants.{Passes, Prints, Defines, Stores, Makes, MakesVector, Invokes, Returns}
 use Rattle.ec_world.specs.declared.doing.Doing.TheVariants.{Moves, Unfixes, Enters, Waits, Signals, Finishes, Breaks}
@@ -57,6 +57,10 @@ pub record ActsInSome (s : System) (who : Who) (doing : Doing) : Type 0 where
 -- Where objects are once an action has made one: the new one is where its maker is.
 abbrev pub place_then : Cluster → ℕ → ℕ → Option ℕ
 place_then c maker oid = if oid == suc (made_count c.whereabouts) then place c maker else place c oid
+
+-- where objects are once a group has gone to a node
+abbrev pub gathered : (ℕ → Option ℕ) → List ℕ → ℕ → ℕ → Option ℕ
+gathered place members to oid = if is_in oid members then Some to else place oid
 
 -- the texts that a world has at a node, with objects at these places: in objects and activations there, and in constants
 abbrev pub Wants : Cluster → (ℕ → Option ℕ) → CodeWorld → ℕ → List ℕ → Type 0

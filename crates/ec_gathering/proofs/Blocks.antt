@@ -8,7 +8,8 @@ use Rattle.ec_gathering.proofs.All.{all_keys, all_once, is_from, keys_travel, tr
 use Rattle.ec_gathering.proofs.GatheringRoomLists.{has_is_in, has_or_not, sum_joined, sum_same, sum_zero}
 use Rattle.ec_gathering.proofs.One.{size, size_sum}
 use Rattle.ec_gathering.proofs.Without.{held_without, key_weight, weight_if}
-use Rattle.ec_gathering.specs.Gathering.{CanGather, gathered}
+use Rattle.ec_fullness.specs.Fullness.{gathered}
+use Rattle.ec_gathering.specs.Gathering.{CanGather}
 use Rattle.ec_parcels.specs.Classes.{ClassTable}
 use Rattle.ec_world.specs.Held.{if_at}
 use Rattle.ec_world.specs.declared.key.Key.{Key}

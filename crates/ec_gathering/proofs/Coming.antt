@@ -1,9 +1,9 @@
 -- The parcels of a group come one after another.
-use Rattle.std.proofs.Common.{◌≡◌, ◌≢◌, ◌<◌, ◌∙◌, ◌∷◌, ℕ, false, List, [], length, Some, ap, arith, inl, refl, subst, sym, ⊎_elim}
+use Rattle.std.proofs.Common.{◌≡◌, ◌≢◌, ◌<◌, ◌≤◌, ◌+◌, ◌∙◌, ◌∷◌, ℕ, false, List, [], length, Some, ap, arith, inl, refl, subst, sym, ⊎_elim}
 use Rattle.std.proofs.lemmas.List.Sums.{sum_by-cons}
 use Rattle.std.proofs.lemmas.Option.{same_Some}
-use Rattle.std.specs.Prelude.{option_map}
-use Rattle.ec_base.proofs.Lists.{get_there}
+use Rattle.std.specs.Prelude.{drop, option_map, slice_get}
+use Rattle.ec_base.proofs.Lists.{drop_at, get_there}
 use Rattle.ec_carrying.proofs.Texts.{front_fits}
 use Rattle.ec_carrying.specs.Carrying.{CanCarry, Carried, IsCarriedIn}
 use Rattle.ec_cluster.specs.Cluster.{CodeWorld, Shows, stores}
@@ -13,14 +13,15 @@ use Rattle.ec_code.specs.Typing.{Declared}
 use Rattle.ec_acts.proofs.Stepping.{unchanged}
 use Rattle.ec_gathering.proofs.Next.{came_then, next_room, next_sends, one_came}
 use Rattle.ec_gathering.specs.Bringing.{Brings, Brought, Came}
-use Rattle.ec_gathering.specs.Shipping.{froms}
+use Rattle.ec_gathering.specs.Shipping.{IsShipped, froms, parcels_of}
 use Rattle.ec_gathering.specs.declared.shipping.Shipment.{Shipment}
 use Rattle.ec_parcels.specs.Classes.{ClassTable}
 use Rattle.ec_world.proofs.Keys.{same_or_not}
-use Rattle.ec_parcels.specs.Owners.{all_values, blocks_in, values_in}
+use Rattle.ec_parcels.specs.Owners.{all_blocks, all_values, blocks_in, values_in}
 use Rattle.ec_stores.specs.Node.{store_of}
 use Rattle.ec_cluster.proofs.Pools.{strings_come}
 use Rattle.ec_things.specs.Store.{Store}
+use Rattle.ec_wire.specs.WireForm.{IsWire}
 use Rattle.ec_wire.specs.declared.parcel.Contents.{Contents}
 use Rattle.ec_world.proofs.Members.{has_first, has_none}
 use Rattle.ec_world.specs.declared.object.ObjectRec.{ObjectRec}
@@ -28,8 +29,7 @@ use Rattle.ec_world.specs.declared.object.ObjectRec.{ObjectRec}
 -- Some of a group has come, and what is left goes in these shipments.
 pub record IsBringing (d : Declared) (table : ClassTable) (old new : Cluster) (w : CodeWorld) (members : List ℕ) (to : ℕ)
     (shipments : List Shipment) : Type 0 where
-  pub parcels : List Contents
-  pub brings : Brings d table new w members to shipments parcels
+  pub brings : Brings d table new w members to shipments
   pub came : Came old new w members to
 
 -- a node of a cluster, which has as many
@@ -46,7 +46,16 @@ none_came c w members to shows = record {
 }
 
 module _ (d : Declared) (table : ClassTable) (c : Cluster) (w : CodeWorld) (members : List ℕ) (to : ℕ) (b : Shipment) (bs : List Shipment)
-    (x : Contents) (xs : List Contents) (brings : Brings d table c w members to (b ∷ bs) (x ∷ xs)) where
+    (brings : Brings d table c w members to (b ∷ bs)) where
+  abbrev x : Contents
+  x = b.parcel
+
+  abbrev xs : List Contents
+  xs = parcels_of bs
+
+  here : IsShipped table c w members b
+  here = brings.sends.ships b (has_first b bs)
+
   -- the next parcel can come
   pub next_carried : IsCarriedIn table c b.from to b.bytes.items d w members x
   next_carried =
@@ -58,8 +67,8 @@ module _ (d : Declared) (table : ClassTable) (c : Cluster) (w : CodeWorld) (memb
         shows = sends.shows;
         images = sends.steady.images;
         each_is = λ oid h. let l = sends.loose oid h in (l.object, l.is);
-        packs = sends.ships.0.packs;
-        wire = sends.ships.0.spelled;
+        packs = here.packs;
+        wire = here.spelled;
         unfixed = λ oid o goes.
             let l = sends.loose oid goes.member in
             let same : l.object ≡ o = same_Some l.object o (sym l.is ∙ goes.is) in
@@ -68,54 +77,53 @@ module _ (d : Declared) (table : ClassTable) (c : Cluster) (w : CodeWorld) (memb
         apart = λ same. apart.1 (sym same);
         store = s.0;
         there = s.1;
-        blocks = let fits = room.blocks_fit in omega (arith, sum_by-cons (blocks_in table) x xs, fits);
+        blocks =
+            let fits : all_blocks table (x ∷ xs) ≤ s.0.free = room.blocks_fit in
+            omega (arith, sum_by-cons (blocks_in table) x xs, fits);
         texts = front_fits s.0 (values_in x) (all_values xs) room.texts_fit;
       }
 
   -- and when it has, so can those that are left
-  pub next_brings : (c' : Cluster) → Carried c c' w x to → Brings d table c' w members to bs xs
+  pub next_brings : (c' : Cluster) → Carried c c' w x to → Brings d table c' w members to bs
   next_brings c' carried = record {
-    sends = next_sends d table c w members to b bs x xs brings.sends c' carried;
+    sends = next_sends d table c w members to b bs brings.sends c' carried;
     room = λ s' e'.
         let s = node_at c to brings.sends.there in
-        next_room d table c w members to b bs x xs brings.sends c' carried s.0 s' s.1 e' (brings.room s.0 s.1);
+        next_room d table c w members to b bs brings.sends c' carried s.0 s' s.1 e' (brings.room s.0 s.1);
   }
 
 -- ---- in the loop
 
-module _ (d : Declared) (table : ClassTable) (old c : Cluster) (w : CodeWorld) (members : List ℕ) (to : ℕ) (b : Shipment)
-    (bs : List Shipment) where
-  -- some parcel comes next
-  pub next_can : IsBringing d table old c w members to (b ∷ bs) → CanCarry table c b.from to b.bytes.items
-  next_can is = by is.parcels is.brings
-    where
-      by : (xs : List Contents) → Brings d table c w members to (b ∷ bs) xs → CanCarry table c b.from to b.bytes.items
-      by [] brings = absurd brings.sends.ships
-      by (x ∷ xs) brings = record {
-        declared = d;
-        world = w;
-        members = members;
-        contents = x;
-        carried = next_carried d table c w members to b bs x xs brings;
-      }
+module _ (d : Declared) (table : ClassTable) (old c : Cluster) (w : CodeWorld) (members : List ℕ) (to : ℕ) (bs : List Shipment) (i : ℕ)
+    (b : Shipment) (is : slice_get bs i ≡ Some b) (so_far : IsBringing d table old c w members to (drop i bs)) where
+  -- a parcel comes next
+  brings_next : Brings d table c w members to (b ∷ drop (i + 1) bs)
+  brings_next = subst (λ (ys : List Shipment). Brings d table c w members to ys) (drop_at bs i b is) so_far.brings
+
+  pub next_spelled : IsWire b.parcel b.bytes.items
+  next_spelled = (brings_next.sends.ships b (has_first b (drop (i + 1) bs))).spelled
+
+  pub next_can : CanCarry table c b.from to b.bytes.items
+  next_can = record {
+    declared = d;
+    world = w;
+    members = members;
+    contents = b.parcel;
+    carried = next_carried d table c w members to b (drop (i + 1) bs) brings_next;
+  }
 
   -- it has come
   pub next_bringing : (c' : Cluster) → Shows old w →
       ((x : Contents) → IsCarriedIn table c b.from to b.bytes.items d w members x → Carried c c' w x to) →
-      IsBringing d table old c w members to (b ∷ bs) → IsBringing d table old c' w members to bs
-  next_bringing c' shows come is = by is.parcels is.brings
-    where
-      by : (xs : List Contents) → Brings d table c w members to (b ∷ bs) xs → IsBringing d table old c' w members to bs
-      by [] brings = absurd brings.sends.ships
-      by (x ∷ xs) brings =
-          let carried = come x (next_carried d table c w members to b bs x xs brings) in
-          record {
-            parcels = xs;
-            brings = next_brings d table c w members to b bs x xs brings c' carried;
-            came =
-                came_then w members to old c c' shows is.came
-                (one_came d table c w members to b bs x xs brings.sends c' carried);
-          }
+      IsBringing d table old c' w members to (drop (i + 1) bs)
+  next_bringing c' shows come =
+      let carried = come b.parcel (next_carried d table c w members to b (drop (i + 1) bs) brings_next) in
+      record {
+        brings = next_brings d table c w members to b (drop (i + 1) bs) brings_next c' carried;
+        came =
+            came_then w members to old c c' shows so_far.came
+            (one_came d table c w members to b (drop (i + 1) bs) brings_next.sends c' carried);
+      }
 
 -- all of the group has come where nothing is left
 pub all_brought : (d : Declared) (table : ClassTable) (old c : Cluster) (w : CodeWorld) (members : List ℕ) (to : ℕ) →

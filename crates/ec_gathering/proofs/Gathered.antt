@@ -7,7 +7,8 @@ use Rattle.ec_base.proofs.Lists.{get_set_other, get_set_same, get_within, length
 use Rattle.ec_cluster.specs.Cluster.{place}
 use Rattle.ec_gathering.proofs.Needs.{each_fits, is_full}
 use Rattle.ec_gathering.proofs.Same.{each_same, fixed_needs, full_same}
-use Rattle.ec_gathering.specs.Gathering.{ButFixed, gathered}
+use Rattle.ec_fullness.specs.Fullness.{gathered}
+use Rattle.ec_gathering.specs.Gathering.{ButFixed}
 use Rattle.ec_gathering.specs.GatheringRoomLaws.{GatheringFits, GatheringIsFull, GoneIsSuch, OperatorMovesAreSuch}
 use Rattle.ec_things.proofs.Put.{same_or_not}
 use Rattle.ec_world.specs.Moves.{is_idle_move, moved_unless}

@@ -5,7 +5,6 @@ use Rattle.std.proofs.lemmas.Option.{same_Some}
 use Rattle.std.specs.Prelude.{IfSome, IsSome, if◌then◌else◌}
 use Rattle.ec_activations.specs.Frames.{Numbered}
 use Rattle.ec_node_frames.specs.Carried.{IsCarried}
-use Rattle.ec_base.proofs.Lists.{get_there, get_within}
 use Rattle.ec_carrying.proofs.Steps.{places_along}
 use Rattle.ec_carrying.proofs.Texts.{back_fits}
 use Rattle.ec_cluster.proofs.Putting.{is_node}
@@ -19,26 +18,26 @@ use Rattle.ec_acts.proofs.Stepping.{Beside, mirrors_with_common, with_cluster}
 use Rattle.ec_fullness.proofs.Keeping.{steady_after}
 use Rattle.ec_fullness.proofs.Shown.{has_object}
 use Rattle.ec_cluster.specs.Whereabouts.{Traces, made_count, place_at}
-use Rattle.ec_fullness.specs.Fullness.{IsFull}
+use Rattle.ec_fullness.specs.Fullness.{IsFull, gathered}
 use Rattle.ec_gathering.proofs.Along.{but_back, but_then, packs_along}
 use Rattle.ec_gathering.proofs.Changing.{changes_before, changes_behind}
 use Rattle.ec_gathering.proofs.Coming.{node_at}
 use Rattle.ec_gathering.proofs.Flags.{but_flag, flagged_so, loose_then, shows_gathered}
-use Rattle.ec_gathering.proofs.Lists.{as_many, two_at, two_right}
 use Rattle.ec_gathering.proofs.Moves.{object_of}
 use Rattle.ec_gathering.proofs.Next.{can_gather_so, member_or_not}
 use Rattle.ec_gathering.proofs.Told.{if_some}
 use Rattle.ec_gathering.specs.Bringing.{Brings, Brought, NoneHasResult, Sends, flag_if}
 use Rattle.ec_gathering.specs.Gathers.{Gathers, LacksFor, LetsGo, MayGather, world_gathered}
-use Rattle.ec_gathering.specs.Shipping.{AreBytes, AreShipped, CanBeRead, IsShipped, IsSpelled, froms}
+use Rattle.ec_gathering.specs.Shipping.{AreShipped, EachIsShipped, froms, parcels_of}
 use Rattle.ec_gathering.specs.declared.shipping.Shipment.{Shipment}
 use Rattle.ec_gathering.proofs.Gathered.{gathering_full, gone_is_such}
 use Rattle.ec_gathering.proofs.GatheringRoomLists.{has_is_in, is_in_has}
 use Rattle.ec_gathering.proofs.Same.{fixed_needs}
-use Rattle.ec_gathering.specs.Gathering.{ButFixed, CanGather, gathered}
+use Rattle.ec_gathering.specs.Gathering.{ButFixed, CanGather}
 use Rattle.ec_packing.specs.Between.{RestsBetween}
 use Rattle.ec_parcels.specs.Owners.{all_blocks, all_values}
 use Rattle.ec_parcels.proofs.Numbers.{class_again}
+use Rattle.ec_parcels.proofs.Rising.{get_mapped}
 use Rattle.ec_parcels.specs.Classes.{ClassTable, IsClassTable, class_of}
 use Rattle.ec_objects.specs.Lacks.{HasRoomForAll, LacksRoom}
 use Rattle.ec_world.specs.declared.room.Lack.{Lack}
@@ -132,19 +131,14 @@ module _ (d : Declared) (s : System) (w : CodeWorld) (table : ClassTable) (membe
     all_ship : (oid k : ℕ) → Has members oid → place old oid ≡ Some k → k ≢ to → Has (froms bs) k
     all_ship oid k member is ne = ships.all oid k member is (low oid k (member_there oid member) is) ne
 
-    to_low : to < length old.nodes
+    pub to_low : to < length old.nodes
     to_low = low target to (there target may.target_there) at
 
-    -- the bytes can be read
-    spelled : AreBytes bs ships.parcels
-    spelled = two_right (IsShipped table old w members) IsSpelled bs ships.parcels (λ b x h shipped. shipped.spelled) ships.each
-
-    classed : AreOfClasses table ships.parcels
+    classed : AreOfClasses table (parcels_of bs)
     classed x h part has =
-        let l = get_within ships.parcels h.at x h.is in
-        let many = as_many (IsShipped table old w members) bs ships.parcels ships.each in
-        let b = get_there bs h.at (omega (arith, l, many)) in
-        let of = (two_at (IsShipped table old w members) bs ships.parcels h.at b.0 x ships.each b.1 h.is).packs.objects part has in
+        let b = get_mapped (λ (b : Shipment). b.parcel) bs h.at x h.is in
+        let of = (ships.each b.0 (record { at = h.at; is = b.1 })).packs.objects part
+        (subst (λ (y : Contents). Has y.objects part) (sym b.2) has) in
         let number : of.class ≡ part.class = ap (λ (y : ObjectPart). y.class) (sym of.is) in
         some_of (class_of table part.class) of.object.class
         (ap (class_of table) (sym number) ∙ class_again table numbers of.object.class of.class of.numbered)
@@ -153,35 +147,36 @@ module _ (d : Declared) (s : System) (w : CodeWorld) (table : ClassTable) (membe
         some_of None a e = absurd cc
         some_of (Some b) a e = refl
 
-    pub can_read : CanBeRead table old to bs
-    can_read = record { parcels = ships.parcels; spell = spelled; classed = classed; there = to_low }
+    -- the shipments may be told otherwise
+    pub classed_these : (ys : List Shipment) → ys ≡ bs → AreOfClasses table (parcels_of ys)
+    classed_these ys same = subst (λ (zs : List Shipment). AreOfClasses table (parcels_of zs)) (sym same) classed
 
     -- ---- the node is full
 
-    goes_in : CanGather table old w members to ships.parcels
+    goes_in : CanGather table old w members to (parcels_of bs)
     goes_in =
-        can_gather_so table old w members to bs ships.parcels shows numbers ships.each ships.once (λ k h. (ships.apart k h).1) all_ship
+        can_gather_so table old w members to bs shows numbers ships.each ships.once (λ k h. (ships.apart k h).1) all_ship
         (waits_so d s w table may.lets)
 
     is_lacking : (store : Store) (lack : Lack) → stores old to ≡ Some store →
-        LacksRoom store to (all_blocks table ships.parcels) (all_values ships.parcels) lack → LacksFor old w members target fixes lack
+        LacksRoom store to (all_blocks table (parcels_of bs)) (all_values (parcels_of bs)) lack → LacksFor old w members target fixes lack
     is_lacking store lack e lacks = λ k its.
         let same : to ≡ k = same_Some to k (sym at ∙ its) in
         subst
         (λ n. IsFull old w (world_gathered w members target fixes) (gathered (place old) members n) lack.node lack.part lack.need lack.free)
         same
-        (gathering_full table old w (world_gathered w members target fixes) members to ships.parcels store lack goes_in
+        (gathering_full table old w (world_gathered w members target fixes) members to (parcels_of bs) store lack goes_in
         (gone_is_such w members target fixes) e lacks)
 
-    -- the shipments may be told otherwise, and it is known what is lacked for their bytes
     pub lacking_these : (lack : Lack) (ys : List Shipment) → ys ≡ bs →
-        ((store : Store) → stores old to ≡ Some store → AreBytes ys ships.parcels →
-        LacksRoom store to (all_blocks table ships.parcels) (all_values ships.parcels) lack) →
+        ((store : Store) → stores old to ≡ Some store →
+        LacksRoom store to (all_blocks table (parcels_of ys)) (all_values (parcels_of ys)) lack) →
         LacksFor old w members target fixes lack
     lacking_these lack ys same lacks =
         let store = node_at old to to_low in
         is_lacking store.0 lack store.1
-        (lacks store.0 store.1 (subst (λ (zs : List Shipment). AreBytes zs ships.parcels) (sym same) spelled))
+        (subst (λ (zs : List Shipment). LacksRoom store.0 to (all_blocks table (parcels_of zs)) (all_values (parcels_of zs)) lack) same
+        (lacks store.0 store.1))
 
     -- ---- the node has room
 
@@ -190,22 +185,21 @@ module _ (d : Declared) (s : System) (w : CodeWorld) (table : ClassTable) (membe
       place_same : (oid : ℕ) → place loose oid ≡ place old oid
       place_same oid = ap (λ (x : Traces). place_at x oid) whereabouts
 
-      ships_loose : (b : Shipment) (x : Contents) → Has bs b → IsShipped table old w members b x →
-          IsShipped table loose loosened members b x
-      ships_loose b x h shipped = record {
-        spelled = shipped.spelled;
+      ships_loose : EachIsShipped table loose loosened members bs
+      ships_loose b h = record {
+        spelled = (ships.each b h).spelled;
         packs =
             packs_along table old loose w loosened members b.from (but_flag w fixes false)
-            (λ oid member is. place_same oid ∙ is) (λ oid member is. sym (place_same oid) ∙ is) changes.parts x shipped.packs;
+            (λ oid member is. place_same oid ∙ is) (λ oid member is. sym (place_same oid) ∙ is) changes.parts
+            b.parcel (ships.each b h).packs;
       }
 
-      pub sends : Sends d table loose loosened members to bs ships.parcels
+      pub sends : Sends d table loose loosened members to bs
       sends = record {
         shows = shows_loose;
         steady = steady_after d Nothing old loose changes may.lets.runs.steady;
         numbers = numbers;
-        ships =
-            two_right (IsShipped table old w members) (IsShipped table loose loosened members) bs ships.parcels ships_loose ships.each;
+        ships = ships_loose;
         once = ships.once;
         apart = λ k h. let a = ships.apart k h in (subst (λ n. k < n) (sym changes.nodes) a.0, a.1);
         all = λ oid k member is ne. all_ship oid k member (sym (place_same oid) ∙ is) ne;
@@ -215,7 +209,7 @@ module _ (d : Declared) (s : System) (w : CodeWorld) (table : ClassTable) (membe
       }
 
       module _ (store store' : Store) (e : stores old to ≡ Some store) (e' : stores loose to ≡ Some store')
-          (room : HasRoomForAll store (all_blocks table ships.parcels) (all_values ships.parcels)) where
+          (room : HasRoomForAll store (all_blocks table (parcels_of bs)) (all_values (parcels_of bs))) where
         gets : GetsTexts (λ text. Has [] (Str text)) store store'
         gets =
             let y = changes.each to store e in
@@ -240,7 +234,7 @@ module _ (d : Declared) (s : System) (w : CodeWorld) (table : ClassTable) (membe
             (λ frame places. Held frame places to loosened ≡ Held (frame_of old) (place old) to loosened) whereabouts refl
             ∙ (fixed_needs old (place old) w loosened (but_flag w fixes false)).blocks to
 
-        still_room : HasRoomForAll store' (all_blocks table ships.parcels) (all_values ships.parcels)
+        still_room : HasRoomForAll store' (all_blocks table (parcels_of bs)) (all_values (parcels_of bs))
         still_room = record {
           blocks_fit =
               let before = shows.room to store e in
@@ -249,24 +243,25 @@ module _ (d : Declared) (s : System) (w : CodeWorld) (table : ClassTable) (membe
               let fits = room.blocks_fit in
               omega (arith, before, after, node, held_same, fits);
           texts_fit =
-              back_fits store store' [] (all_values ships.parcels) room.texts_fit (shows.tidy to store e) (shows_loose.tidy to store' e')
+              back_fits store store' [] (all_values (parcels_of bs)) room.texts_fit (shows.tidy to store e) (shows_loose.tidy to store' e')
               gets;
         }
 
       brings : (store : Store) → stores old to ≡ Some store →
-          HasRoomForAll store (all_blocks table ships.parcels) (all_values ships.parcels) →
-          Brings d table loose loosened members to bs ships.parcels
+          HasRoomForAll store (all_blocks table (parcels_of bs)) (all_values (parcels_of bs)) →
+          Brings d table loose loosened members to bs
       brings store e room = record { sends = sends; room = λ store' e'. still_room store store' e e' room }
 
-      -- the shipments may be told otherwise, and their bytes are known to have room
       pub brings_these : (ys : List Shipment) → ys ≡ bs →
-          ((store : Store) → stores old to ≡ Some store → AreBytes ys ships.parcels →
-          HasRoomForAll store (all_blocks table ships.parcels) (all_values ships.parcels)) →
-          Brings d table loose loosened members to ys ships.parcels
+          ((store : Store) → stores old to ≡ Some store →
+          HasRoomForAll store (all_blocks table (parcels_of ys)) (all_values (parcels_of ys))) →
+          Brings d table loose loosened members to ys
       brings_these ys same room =
           let store = node_at old to to_low in
-          subst (λ (zs : List Shipment). Brings d table loose loosened members to zs ships.parcels) (sym same)
-          (brings store.0 store.1 (room store.0 store.1 (subst (λ (zs : List Shipment). AreBytes zs ships.parcels) (sym same) spelled)))
+          subst (λ (zs : List Shipment). Brings d table loose loosened members to zs) (sym same)
+          (brings store.0 store.1
+          (subst (λ (zs : List Shipment). HasRoomForAll store.0 (all_blocks table (parcels_of zs)) (all_values (parcels_of zs))) same
+          (room store.0 store.1)))
 
       -- ---- the group has gone
 

@@ -15,7 +15,6 @@ pub mod Moved
 pub mod Told
 pub mod Lists
 pub mod Moves
-pub mod Spelled
 pub mod Values
 pub mod Sending
 pub mod Along

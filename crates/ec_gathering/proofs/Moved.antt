@@ -6,7 +6,7 @@ use Rattle.ec_code.specs.Activations.{code_meaning}
 use Rattle.ec_gathering.proofs.Acted.{acted_needs}
 use Rattle.ec_gathering.proofs.Gathered.{gathering_fits, gathering_full, gone_is_such}
 use Rattle.ec_gathering.proofs.Same.{each_same, full_same}
-use Rattle.ec_gathering.specs.Gathering.{gathered}
+use Rattle.ec_fullness.specs.Fullness.{gathered}
 use Rattle.ec_gathering.specs.GatheringRoomLaws.{MovesAreFullSo, MovesFit}
 use Rattle.ec_world.specs.Outcomes.{gone}
 use Rattle.ec_world.specs.World.{Action}

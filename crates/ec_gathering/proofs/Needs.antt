@@ -3,10 +3,10 @@ use Rattle.std.proofs.Common.{◌≡◌, ◌≢◌, ℕ, ⊎_elim, List, [], Opt
 use Rattle.std.proofs.lemmas.Option.{same_Some}
 use Rattle.ec_cluster.specs.Cluster.{CodeWorld, place, stores}
 use Rattle.ec_cluster.specs.declared.cluster.Cluster.{Cluster}
-use Rattle.ec_fullness.specs.Fullness.{EachFits, FitsAt, IsFull, NeedsAt, Wants}
+use Rattle.ec_fullness.specs.Fullness.{EachFits, FitsAt, IsFull, NeedsAt, Wants, gathered}
 use Rattle.ec_gathering.proofs.Blocks.{held_off, held_to}
 use Rattle.ec_gathering.proofs.Texts.{Comes, comes_wanted, wants_either}
-use Rattle.ec_gathering.specs.Gathering.{CanGather, gathered}
+use Rattle.ec_gathering.specs.Gathering.{CanGather}
 use Rattle.ec_parcels.specs.Owners.{all_blocks, all_values}
 use Rattle.ec_parcels.specs.Classes.{ClassTable}
 use Rattle.ec_objects.specs.Lacks.{HasRoomForAll, LacksRoom, needs_at}

@@ -2,8 +2,7 @@
 use Rattle.std.proofs.Common.{◌≡◌, ◌≢◌, ◌<◌, ◌+◌, ◌∙◌, ◌∷◌, ◌⊎◌, ℕ, suc, List, [], length, Option, Some, None}
 use Rattle.std.proofs.Common.{true, false, ap, arith, inl, inr, refl, subst, sym, ⊎_elim}
 use Rattle.std.proofs.lemmas.Option.{same_Some}
-use Rattle.std.specs.Prelude.{if◌then◌else◌, slice_get}
-use Rattle.ec_base.proofs.Lists.{get_there, get_within}
+use Rattle.std.specs.Prelude.{if◌then◌else◌}
 use Rattle.ec_carrying.proofs.Steps.{frames_along}
 use Rattle.ec_carrying.proofs.Texts.{back_fits}
 use Rattle.ec_carrying.specs.Carrying.{Carried}
@@ -13,14 +12,14 @@ use Rattle.ec_code.specs.Typing.{Declared}
 use Rattle.ec_code.specs.declared.code.Parts.{Parts}
 use Rattle.ec_fullness.proofs.Keeping.{steady_after, strings_then}
 use Rattle.ec_gathering.proofs.Along.{SameHere, but_itself, packs_along}
-use Rattle.ec_gathering.proofs.Lists.{as_many, two_at, two_right}
 use Rattle.ec_gathering.specs.Bringing.{Came, NoneHasResult, Sends}
-use Rattle.ec_gathering.specs.Shipping.{IsShipped, froms}
+use Rattle.ec_gathering.specs.Shipping.{EachIsShipped, IsShipped, froms, parcels_of}
 use Rattle.ec_gathering.specs.declared.shipping.Shipment.{Shipment}
 use Rattle.ec_gathering.proofs.Blocks.{held_to}
 use Rattle.ec_gathering.proofs.GatheringRoomLists.{has_is_in, has_or_not}
 use Rattle.ec_gathering.proofs.One.{text_goes}
-use Rattle.ec_gathering.specs.Gathering.{CanGather, PacksAll, gathered}
+use Rattle.ec_fullness.specs.Fullness.{gathered}
+use Rattle.ec_gathering.specs.Gathering.{CanGather, PacksAll}
 use Rattle.ec_parcels.specs.Classes.{ClassTable, IsClassTable}
 use Rattle.ec_objects.specs.Lacks.{HasRoomForAll}
 use Rattle.ec_world.proofs.Keys.{same_or_not}
@@ -37,8 +36,7 @@ use Rattle.ec_things.specs.Things.{Thing, object_thing, things_of}
 use Rattle.ec_things.proofs.Totals.{total_same}
 use Rattle.ec_wire.specs.WireForm.{KeepsRules}
 use Rattle.ec_wire.specs.declared.parcel.Contents.{Contents}
-use Rattle.ec_world.proofs.Members.{has_later, has_parts}
-use Rattle.ec_world.specs.Agree.{AllTwo}
+use Rattle.ec_world.proofs.Members.{has_first, has_later, has_parts}
 use Rattle.ec_world.specs.Group.{Has, is_in}
 use Rattle.ec_world.specs.declared.object.ObjectRec.{ObjectRec}
 use Rattle.ec_world.specs.declared.process.Proc.{Proc}
@@ -46,49 +44,47 @@ use Rattle.ec_world.specs.declared.value.Value.TheVariants.{Str}
 
 -- ---- the group can go in these parcels
 
-module _ (table : ClassTable) (c : Cluster) (w : CodeWorld) (members : List ℕ) (to : ℕ) (bs : List Shipment) (xs : List Contents)
-    (shows : Shows c w) (numbers : IsClassTable table) (ships : AllTwo (IsShipped table c w members) bs xs)
+module _ (table : ClassTable) (c : Cluster) (w : CodeWorld) (members : List ℕ) (to : ℕ) (bs : List Shipment)
+    (shows : Shows c w) (numbers : IsClassTable table) (ships : EachIsShipped table c w members bs)
     (once : Distinct (froms bs)) (apart : (k : ℕ) → Has (froms bs) k → k ≢ to)
     (all : (oid k : ℕ) → Has members oid → place c oid ≡ Some k → k ≢ to → Has (froms bs) k) (waits : NoneHasResult c.parts w) where
-  many : length bs ≡ length xs
-  many = as_many (IsShipped table c w members) bs xs ships
+  many : (ys : List Shipment) → length (froms ys) ≡ length (parcels_of ys)
+  many [] = refl
+  many (y ∷ ys) = let rest : length (froms ys) ≡ length (parcels_of ys) = many ys in omega arith
 
-  froms_many : (ys : List Shipment) → length (froms ys) ≡ length ys
-  froms_many [] = refl
-  froms_many (y ∷ ys) = let rest : length (froms ys) ≡ length ys = froms_many ys in omega arith
-
-  packs_all : PacksAll table c w members to xs
+  packs_all : PacksAll table c w members to (parcels_of bs)
   packs_all = record {
     nodes = froms bs;
-    many = froms_many bs ∙ many;
+    many = many bs;
     once = once;
     each = λ i k x e f.
         let b = get_mapped (λ (b : Shipment). b.from) bs i k e in
-        let shipped = two_at (IsShipped table c w members) bs xs i b.0 x ships b.1 f in
-        subst (λ n. Packs table c w members n x) b.2 shipped.packs;
+        let p = get_mapped (λ (b : Shipment). b.parcel) bs i x f in
+        let same : p.0 ≡ b.0 = same_Some p.0 b.0 (sym p.1 ∙ b.1) in
+        subst (λ n. Packs table c w members n x) (ap (λ (b : Shipment). b.from) same ∙ b.2)
+        (subst (λ (y : Contents). Packs table c w members p.0.from y) p.2 (ships p.0 (record { at = i; is = p.1 })).packs);
     apart = apart;
     all = all;
   }
 
-  rules_of : (x : Contents) (i : ℕ) → slice_get xs i ≡ Some x → KeepsRules x
-  rules_of x i e =
-      let l = get_within xs i x e in
-      let b = get_there bs i (omega (arith, l, many)) in
-      (two_at (IsShipped table c w members) bs xs i b.0 x ships b.1 e).spelled.rules
+  rules_of : (x : Contents) → Has (parcels_of bs) x → KeepsRules x
+  rules_of x h =
+      let p = get_mapped (λ (b : Shipment). b.parcel) bs h.at x h.is in
+      subst (λ (y : Contents). KeepsRules y) p.2 (ships p.0 (record { at = h.at; is = p.1 })).spelled.rules
 
-  pub can_gather_so : CanGather table c w members to xs
+  pub can_gather_so : CanGather table c w members to (parcels_of bs)
   can_gather_so = record {
     shows = shows;
     numbers = numbers;
     packs = packs_all;
-    rules = λ x h. rules_of x h.at h.is;
+    rules = rules_of;
     waits = λ p depth a e is member rests. waits p depth a e is rests;
   }
 
-can_gather : (d : Declared) (table : ClassTable) (c : Cluster) (w : CodeWorld) (members : List ℕ) (to : ℕ) (bs : List Shipment)
-    (xs : List Contents) → Sends d table c w members to bs xs → CanGather table c w members to xs
-can_gather d table c w members to bs xs sends =
-    can_gather_so table c w members to bs xs sends.shows sends.numbers sends.ships sends.once (λ k h. (sends.apart k h).1) sends.all
+can_gather : (d : Declared) (table : ClassTable) (c : Cluster) (w : CodeWorld) (members : List ℕ) (to : ℕ) (bs : List Shipment) →
+    Sends d table c w members to bs → CanGather table c w members to (parcels_of bs)
+can_gather d table c w members to bs sends =
+    can_gather_so table c w members to bs sends.shows sends.numbers sends.ships sends.once (λ k h. (sends.apart k h).1) sends.all
     sends.waits
 
 -- ---- places
@@ -128,19 +124,27 @@ held_along {A = A} frame p q k objects procs same = omega (arith, all_objects, a
 -- ---- one parcel comes
 
 module _ (d : Declared) (table : ClassTable) (c : Cluster) (w : CodeWorld) (members : List ℕ) (to : ℕ) (b : Shipment) (bs : List Shipment)
-    (x : Contents) (xs : List Contents) (sends : Sends d table c w members to (b ∷ bs) (x ∷ xs)) (c' : Cluster)
-    (carried : Carried c c' w x to) where
+    (sends : Sends d table c w members to (b ∷ bs)) (c' : Cluster) (carried : Carried c c' w b.parcel to) where
+  abbrev x : Contents
+  x = b.parcel
+
+  abbrev xs : List Contents
+  xs = parcels_of bs
+
+  here : IsShipped table c w members b
+  here = sends.ships b (has_first b bs)
+
   -- members at the node of the parcel have come
   comes : (oid : ℕ) → Has members oid → place c oid ≡ Some b.from → place c' oid ≡ Some to
   comes oid member at =
       let o = sends.loose oid member in
-      let part = sends.ships.0.packs.each_object oid o.object (record { member = member; at = at; is = o.is }) in
+      let part = here.packs.each_object oid o.object (record { member = member; at = at; is = o.is }) in
       subst (λ n. place c' n ≡ Some to) part.1.1 (carried.there part.0 part.1.0)
 
   -- all else is where it was
   stays : (oid : ℕ) → (Has members oid → place c oid ≢ Some b.from) → place c' oid ≡ place c oid
   stays oid other = carried.others oid (λ part h same.
-      let of = sends.ships.0.packs.objects part h in
+      let of = here.packs.objects part h in
       other (subst (Has members) same of.goes.member) (ap (place c) (sym same) ∙ of.goes.at))
 
   either : (oid : ℕ) → (Has members oid × (place c oid ≡ Some b.from)) ⊎ (Has members oid → place c oid ≢ Some b.from)
@@ -163,23 +167,24 @@ module _ (d : Declared) (table : ClassTable) (c : Cluster) (w : CodeWorld) (memb
       (either oid)
 
   -- what goes from them is the same
-  rest_ships : (b2 : Shipment) (x2 : Contents) → Has bs b2 → IsShipped table c w members b2 x2 → IsShipped table c' w members b2 x2
-  rest_ships b2 x2 h shipped =
+  rest_ships : EachIsShipped table c' w members bs
+  rest_ships b2 h =
+      let shipped : IsShipped table c w members b2 = sends.ships b2 (has_later b b2 bs h) in
       let from : Has (froms bs) b2.from = record { at = h.at; is = map_get (λ (y : Shipment). y.from) bs h.at b2 h.is } in
       let ne : b2.from ≢ to = (sends.apart b2.from (has_later b.from b2.from (froms bs) from)).1 in
       let other : b2.from ≢ b.from = λ same. once_first b.from (froms bs) sends.once (subst (Has (froms bs)) same from) in
       record {
         spelled = shipped.spelled;
-        packs = packs_along table c c' w w members b2.from (but_itself w) (forth b2.from other) (back b2.from ne) carried.changes.parts x2
-            shipped.packs;
+        packs = packs_along table c c' w w members b2.from (but_itself w) (forth b2.from other) (back b2.from ne) carried.changes.parts
+            b2.parcel shipped.packs;
       }
 
-  pub next_sends : Sends d table c' w members to bs xs
+  pub next_sends : Sends d table c' w members to bs
   next_sends = record {
     shows = carried.shows;
     steady = steady_after d (λ k text. (k ≡ to) × Has (values_in x) (Str text)) c c' carried.changes sends.steady;
     numbers = sends.numbers;
-    ships = two_right (IsShipped table c w members) (IsShipped table c' w members) bs xs rest_ships sends.ships.1;
+    ships = rest_ships;
     once = once_tail b.from (froms bs) sends.once;
     apart = λ k h.
         let a = sends.apart k (has_later b.from k (froms bs) h) in
@@ -200,7 +205,7 @@ module _ (d : Declared) (table : ClassTable) (c : Cluster) (w : CodeWorld) (memb
   come : (k : ℕ) (text : List ℕ) → (k ≡ to) × Has (values_in x) (Str text) → Strings c' w k text
   come k text h =
       let t =
-      text_goes table c w members b.from x sends.ships.0.packs (λ p depth a e is member rests. sends.waits p depth a e is rests) text h.1 in
+      text_goes table c w members b.from x here.packs (λ p depth a e is member rests. sends.waits p depth a e is rests) text h.1 in
       inl (record {
         key = t.key;
         thing = t.goes.thing;
@@ -271,8 +276,8 @@ module _ (d : Declared) (table : ClassTable) (c : Cluster) (w : CodeWorld) (memb
           let before = sends.shows.room to s e in
           let after = carried.shows.room to s' e' in
           let node = gets.room in
-          let all = held_to table c w members to (x ∷ xs) (can_gather d table c w members to (b ∷ bs) (x ∷ xs) sends) in
-          let rest = held_to table c' w members to xs (can_gather d table c' w members to bs xs next_sends) in
+          let all = held_to table c w members to (x ∷ xs) (can_gather d table c w members to (b ∷ bs) sends) in
+          let rest = held_to table c' w members to xs (can_gather d table c' w members to bs next_sends) in
           let fits = room.blocks_fit in
           omega (arith, before, after, node, all, rest, held_then, fits);
       texts_fit =

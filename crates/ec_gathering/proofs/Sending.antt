@@ -6,7 +6,6 @@ use Rattle.ec_parcels.proofs.Numbered.{number_some}
 use Rattle.ec_cluster.specs.Cluster.{CodeWorld, place}
 use Rattle.ec_cluster.specs.declared.cluster.Cluster.{Cluster}
 use Rattle.ec_code.specs.Typing.{Declared}
-use Rattle.ec_gathering.proofs.Lists.{two_more}
 use Rattle.ec_gathering.proofs.Values.{few_go}
 use Rattle.ec_gathering.specs.Gathers.{MayGather}
 use Rattle.ec_gathering.specs.Shipping.{AreShipped, IsShipped, froms}
@@ -17,7 +16,6 @@ use Rattle.ec_world.specs.Held.{Distinct}
 use Rattle.ec_packing.specs.Packing.{CanGo}
 use Rattle.ec_parcels.proofs.Rising.{once_both, once_cons, once_none}
 use Rattle.ec_cluster.specs.declared.system.System.{System}
-use Rattle.ec_wire.specs.declared.parcel.Contents.{Contents}
 use Rattle.ec_world.proofs.Members.{has_back, has_either, has_first, has_front, has_none, has_one}
 use Rattle.ec_world.specs.Group.{Has}
 use Rattle.ec_world.specs.Objects.{object_at}
@@ -62,8 +60,7 @@ module _ (table : ClassTable) (c : Cluster) (w : CodeWorld) (members : List ℕ)
   -- before any node
   pub none_shipped : AreShipped table c w members to 0 []
   none_shipped = record {
-    parcels = [];
-    each = tt;
+    each = λ b h. absurd (has_none b h);
     once = once_none;
     apart = λ k h. absurd (has_none k h);
     all = λ oid k member at low ne. absurd (omega arith);
@@ -73,7 +70,6 @@ module _ (table : ClassTable) (c : Cluster) (w : CodeWorld) (members : List ℕ)
   pub one_without : (k : ℕ) (bs : List Shipment) → ((oid : ℕ) → Has members oid → place c oid ≡ Some k → k ≡ to) →
       AreShipped table c w members to k bs → AreShipped table c w members to (k + 1) bs
   one_without k bs none ships = record {
-    parcels = ships.parcels;
     each = ships.each;
     once = ships.once;
     apart = λ j h. let a = ships.apart j h in let l = a.0 in (omega arith, a.1);
@@ -84,11 +80,13 @@ module _ (table : ClassTable) (c : Cluster) (w : CodeWorld) (members : List ℕ)
   }
 
   -- another node
-  pub one_with : (k : ℕ) (bs : List Shipment) (b : Shipment) (x : Contents) → k ≢ to → b.from ≡ k → IsShipped table c w members b x →
+  pub one_with : (k : ℕ) (bs : List Shipment) (b : Shipment) → k ≢ to → b.from ≡ k → IsShipped table c w members b →
       AreShipped table c w members to k bs → AreShipped table c w members to (k + 1) (bs ++ b ∷ [])
-  one_with k bs b x ne from shipped ships = record {
-    parcels = ships.parcels ++ x ∷ [];
-    each = two_more (IsShipped table c w members) bs ships.parcels b x ships.each shipped;
+  one_with k bs b ne from shipped ships = record {
+    each = λ y h. ⊎_elim
+        (λ (old : Has bs y). ships.each y old)
+        (λ (last : Has (b ∷ []) y). subst (λ (z : Shipment). IsShipped table c w members z) (sym (has_one b y last)) shipped)
+        (has_either y bs (b ∷ []) h);
     once = subst (λ (ks : List ℕ). Distinct ks) (sym (froms_more bs b))
         (once_both (froms bs) (b.from ∷ []) ships.once (once_cons b.from [] (has_none b.from) once_none)
         (λ j h last. let a = ships.apart j h in let l = a.0 in let is : j ≡ b.from = has_one b.from j last in absurd (omega arith)));

@@ -3,11 +3,11 @@ use Rattle.std.proofs.Common.{◌≡◌, ◌≢◌, ◌⊎◌, ℕ, inl, inr, �
 use Rattle.std.proofs.lemmas.Option.{same_Some}
 use Rattle.ec_cluster.specs.Cluster.{CodeWorld, frame_of, place, stores}
 use Rattle.ec_cluster.specs.declared.cluster.Cluster.{Cluster}
-use Rattle.ec_fullness.specs.Fullness.{Wants}
+use Rattle.ec_fullness.specs.Fullness.{Wants, gathered}
 use Rattle.ec_gathering.proofs.All.{travel_values, values_travel}
 use Rattle.ec_gathering.proofs.Blocks.{member_goes, other_stays}
 use Rattle.ec_gathering.proofs.GatheringRoomLists.{has_or_not}
-use Rattle.ec_gathering.specs.Gathering.{CanGather, gathered}
+use Rattle.ec_gathering.specs.Gathering.{CanGather}
 use Rattle.ec_parcels.specs.Owners.{all_values}
 use Rattle.ec_parcels.specs.Classes.{ClassTable}
 use Rattle.ec_cluster.proofs.Pools.{strings_in_pool}

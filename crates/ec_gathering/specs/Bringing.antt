@@ -8,7 +8,7 @@ use Rattle.ec_code.specs.Typing.{Declared}
 use Rattle.ec_code.specs.declared.activation.CodeActivation.{CodeActivation}
 use Rattle.ec_code.specs.declared.code.Parts.{Parts}
 use Rattle.ec_cluster.specs.Whereabouts.{made_count}
-use Rattle.ec_gathering.specs.Shipping.{IsShipped, froms}
+use Rattle.ec_gathering.specs.Shipping.{EachIsShipped, froms, parcels_of}
 use Rattle.ec_gathering.specs.declared.shipping.Shipment.{Shipment}
 use Rattle.ec_parcels.specs.Owners.{all_blocks, all_values}
 use Rattle.ec_parcels.specs.Classes.{ClassTable, IsClassTable}
@@ -19,8 +19,6 @@ use Rattle.ec_world.specs.Things.{activation_at}
 use Rattle.ec_generate.specs.declared.table.StopEntry.{StopEntry}
 use Rattle.ec_cluster.specs.Systems.{Steady, Strings}
 use Rattle.ec_things.specs.Store.{Store}
-use Rattle.ec_wire.specs.declared.parcel.Contents.{Contents}
-use Rattle.ec_world.specs.Agree.{AllTwo}
 use Rattle.ec_world.specs.Group.{Has}
 use Rattle.ec_world.specs.Objects.{object_at}
 use Rattle.ec_world.specs.Outcomes.{flagged}
@@ -44,13 +42,13 @@ pub record IsLoose (w : CodeWorld) (oid : ℕ) : Type 0 where
   pub is : object_at w.common.objects oid ≡ Some object
   pub free : object.fixed ≡ false
 
--- What is left of a group, none of which is fixed, is to go to node `to` in these shipments, of parcels with these contents.
+-- What is left of a group, none of which is fixed, is to go to node `to` in these shipments.
 pub record Sends (d : Declared) (table : ClassTable) (c : Cluster) (w : CodeWorld) (members : List ℕ) (to : ℕ)
-    (shipments : List Shipment) (xs : List Contents) : Type 0 where
+    (shipments : List Shipment) : Type 0 where
   pub shows : Shows c w
   pub steady : Steady d c
   pub numbers : IsClassTable table
-  pub ships : AllTwo (IsShipped table c w members) shipments xs
+  pub ships : EachIsShipped table c w members shipments
   pub once : Distinct (froms shipments)
   pub apart : (k : ℕ) → Has (froms shipments) k → (k < length c.nodes) × (k ≢ to)
   pub all : (oid k : ℕ) → Has members oid → place c oid ≡ Some k → k ≢ to → Has (froms shipments) k
@@ -58,19 +56,19 @@ pub record Sends (d : Declared) (table : ClassTable) (c : Cluster) (w : CodeWorl
   pub waits : NoneHasResult c.parts w
   pub there : to < length c.nodes
 
--- the node has room for all of them together
+-- the node has room for all of their parcels together
 pub record Brings (d : Declared) (table : ClassTable) (c : Cluster) (w : CodeWorld) (members : List ℕ) (to : ℕ)
-    (shipments : List Shipment) (xs : List Contents) : Type 0 where
-  pub sends : Sends d table c w members to shipments xs
-  pub room : (s : Store) → stores c to ≡ Some s → HasRoomForAll s (all_blocks table xs) (all_values xs)
+    (shipments : List Shipment) : Type 0 where
+  pub sends : Sends d table c w members to shipments
+  pub room : (s : Store) → stores c to ≡ Some s →
+      HasRoomForAll s (all_blocks table (parcels_of shipments)) (all_values (parcels_of shipments))
 
 -- some group
 pub record BringsSome (table : ClassTable) (c : Cluster) (shipments : List Shipment) (to : ℕ) : Type 0 where
   pub declared : Declared
   pub world : CodeWorld
   pub members : List ℕ
-  pub parcels : List Contents
-  pub brings : Brings declared table c world members to shipments parcels
+  pub brings : Brings declared table c world members to shipments
 
 -- Some of a group has come to node `to`: all else is where it was, and each node has the texts that it had and those of the world.
 pub record Came (old new : Cluster) (w : CodeWorld) (members : List ℕ) (to : ℕ) : Type 0 where

@@ -1,5 +1,5 @@
 -- A group of objects that goes to a node in parcels, one from each other node that has some of it.
-use Rattle.std.specs.Prelude.{◌≡◌, ◌≢◌, ℕ, Bool, if◌then◌else◌, List, length, Option, Some, slice_get}
+use Rattle.std.specs.Prelude.{◌≡◌, ◌≢◌, ℕ, Bool, List, length, Some, slice_get}
 use Rattle.ec_node_frames.specs.Carried.{IsCarried}
 use Rattle.ec_cluster.specs.Cluster.{CodeWorld, Shows, place}
 use Rattle.ec_cluster.specs.declared.cluster.Cluster.{Cluster}
@@ -12,12 +12,8 @@ use Rattle.ec_parcels.specs.Parcels.{Packs}
 use Rattle.ec_generate.specs.declared.table.StopEntry.{StopEntry}
 use Rattle.ec_wire.specs.WireForm.{KeepsRules}
 use Rattle.ec_wire.specs.declared.parcel.Contents.{Contents}
-use Rattle.ec_world.specs.Group.{Has, is_in}
+use Rattle.ec_world.specs.Group.{Has}
 use Rattle.ec_world.specs.declared.object.ObjectRec.{ObjectRec}
-
--- where objects are once a group has gone to a node
-abbrev pub gathered : (ℕ → Option ℕ) → List ℕ → ℕ → ℕ → Option ℕ
-gathered place members to oid = if is_in oid members then Some to else place oid
 
 -- These are the contents of the parcels of a group that goes to node `to`: one from each other node that has a member, and none from
 -- any node twice.

@@ -6,8 +6,8 @@ use Rattle.ec_cluster.specs.declared.cluster.Cluster.{Cluster}
 use Rattle.ec_code.specs.Activations.{code_meaning}
 use Rattle.ec_code.specs.Typing.{Declared}
 use Rattle.ec_code.specs.declared.activation.CodeActivation.{CodeActivation}
-use Rattle.ec_fullness.specs.Fullness.{EachFits, IsFull}
-use Rattle.ec_gathering.specs.Gathering.{ButFixed, CanGather, gathered}
+use Rattle.ec_fullness.specs.Fullness.{EachFits, IsFull, gathered}
+use Rattle.ec_gathering.specs.Gathering.{ButFixed, CanGather}
 use Rattle.ec_parcels.specs.Owners.{all_blocks, all_values}
 use Rattle.ec_parcels.specs.Classes.{ClassTable}
 use Rattle.ec_objects.specs.Lacks.{HasRoomForAll, LacksRoom}

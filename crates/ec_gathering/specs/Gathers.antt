@@ -8,8 +8,7 @@ use Rattle.ec_cluster.specs.Steps.{Changes, with_common}
 use Rattle.ec_cluster.specs.declared.cluster.Cluster.{Cluster}
 use Rattle.ec_code.specs.Typing.{Declared}
 use Rattle.ec_cluster.specs.Whereabouts.{made_count}
-use Rattle.ec_fullness.specs.Fullness.{IsFull}
-use Rattle.ec_gathering.specs.Gathering.{gathered}
+use Rattle.ec_fullness.specs.Fullness.{IsFull, gathered}
 use Rattle.ec_packing.specs.Between.{IsBetween}
 use Rattle.ec_parcels.specs.Classes.{ClassTable}
 use Rattle.ec_world.specs.declared.room.Lack.{Lack}

@@ -1,5 +1,5 @@
--- The parcels of a group as bytes, and the node from which each goes.
-use Rattle.std.specs.Prelude.{◌≡◌, ◌≢◌, ◌<◌, ℕ, List, Option, Some, length, map}
+-- The parcels of a group, their bytes, and the node from which each goes.
+use Rattle.std.specs.Prelude.{◌≡◌, ◌≢◌, ◌<◌, ℕ, List, Option, Some, map}
 use Rattle.ec_cluster.specs.Cluster.{CodeWorld, place}
 use Rattle.ec_cluster.specs.declared.cluster.Cluster.{Cluster}
 use Rattle.ec_code.specs.Typing.{Declared}
@@ -7,12 +7,10 @@ use Rattle.ec_gathering.specs.Gathers.{MayGather}
 use Rattle.ec_gathering.specs.declared.shipping.Shipment.{Shipment}
 use Rattle.ec_parcels.specs.Classes.{ClassTable}
 use Rattle.ec_world.specs.Held.{Distinct}
-use Rattle.ec_packing.specs.Room.{AreOfClasses}
 use Rattle.ec_parcels.specs.Parcels.{Packs}
 use Rattle.ec_cluster.specs.declared.system.System.{System}
 use Rattle.ec_wire.specs.WireForm.{IsWire}
 use Rattle.ec_wire.specs.declared.parcel.Contents.{Contents}
-use Rattle.ec_world.specs.Agree.{AllTwo}
 use Rattle.ec_world.specs.Group.{Has}
 
 -- ---- nodes that have members
@@ -27,26 +25,15 @@ pub record HasSomeAt (c : Cluster) (members : List ℕ) (k : ℕ) : Type 0 where
 abbrev pub HasNoneAt : Cluster → List ℕ → ℕ → Type 0
 HasNoneAt c members k = (member : ℕ) → Has members member → place c member ≢ Some k
 
--- ---- bytes
+-- ---- shipments
 
--- the bytes of a shipment are those of a parcel
-abbrev pub IsSpelled : Shipment → Contents → Type 0
-IsSpelled shipment x = IsWire x shipment.bytes.items
+-- the nodes from which shipments go
+abbrev pub froms : List Shipment → List ℕ
+froms shipments = map (λ b. b.from) shipments
 
--- the bytes of these shipments are those of these parcels
-abbrev pub AreBytes : List Shipment → List Contents → Type 0
-AreBytes shipments xs = AllTwo IsSpelled shipments xs
-
--- of some parcels
-abbrev pub AreRead : List Shipment → Type 0
-AreRead shipments = (xs : List Contents) × AreBytes shipments xs
-
--- The bytes are those of parcels of objects whose classes have numbers, and the node is there.
-pub record CanBeRead (table : ClassTable) (c : Cluster) (to : ℕ) (shipments : List Shipment) : Type 0 where
-  pub parcels : List Contents
-  pub spell : AreBytes shipments parcels
-  pub classed : AreOfClasses table parcels
-  pub there : to < length c.nodes
+-- what their parcels hold
+abbrev pub parcels_of : List Shipment → List Contents
+parcels_of shipments = map (λ b. b.parcel) shipments
 
 -- ---- a group
 
@@ -58,22 +45,20 @@ pub record MayShip (s : System) (table : ClassTable) (members : List ℕ) : Type
   pub fixes : Option ℕ
   pub may : MayGather declared s world table members target fixes
 
--- the nodes from which shipments go
-abbrev pub froms : List Shipment → List ℕ
-froms shipments = map (λ b. b.from) shipments
+-- The parcel of a shipment holds what goes of a group from its node, and its bytes are the parcel's.
+pub record IsShipped (table : ClassTable) (c : Cluster) (w : CodeWorld) (members : List ℕ) (shipment : Shipment) : Type 0 where
+  pub packs : Packs table c w members shipment.from shipment.parcel
+  pub spelled : IsWire shipment.parcel shipment.bytes.items
 
--- A shipment has what goes of a group from its node, in a parcel with these contents.
-pub record IsShipped (table : ClassTable) (c : Cluster) (w : CodeWorld) (members : List ℕ) (shipment : Shipment) (x : Contents) :
-    Type 0 where
-  pub spelled : IsSpelled shipment x
-  pub packs : Packs table c w members shipment.from x
+-- so it is with each of these
+abbrev pub EachIsShipped : ClassTable → Cluster → CodeWorld → List ℕ → List Shipment → Type 0
+EachIsShipped table c w members shipments = (shipment : Shipment) → Has shipments shipment → IsShipped table c w members shipment
 
 -- A group that goes to node `to` goes in these shipments from the nodes of numbers below a bound: one from each but `to` that has a member,
 -- and none from any node twice.
 pub record AreShipped (table : ClassTable) (c : Cluster) (w : CodeWorld) (members : List ℕ) (to bound : ℕ) (shipments : List Shipment) :
     Type 0 where
-  pub parcels : List Contents
-  pub each : AllTwo (IsShipped table c w members) shipments parcels
+  pub each : EachIsShipped table c w members shipments
   pub once : Distinct (froms shipments)
   pub apart : (k : ℕ) → Has (froms shipments) k → (k < bound) × (k ≢ to)
   pub all : (oid k : ℕ) → Has members oid → place c oid ≡ Some k → k < bound → k ≢ to → Has (froms shipments) k

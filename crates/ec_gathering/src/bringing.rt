@@ -4,7 +4,6 @@ ghost use Rattle.ec_cluster.specs.Cluster.{CodeWorld, Shows};
 ghost use Rattle.ec_cluster.specs.Steps.{Changes, HasObject, Nothing, with_common};
 ghost use Rattle.ec_code.specs.Typing.{Declared};
 ghost use Rattle.ec_gathering.specs.Bringing.{Brings, BringsSome, Brought, flag_if};
-ghost use Rattle.ec_wire.specs.declared.parcel.Contents.{Contents};
 
 use crate::shipping::Shipment;
 use ec_carrying::carrying::carry;
@@ -25,8 +24,8 @@ pub(crate) fn bring(
     to: NodeNo,
 ) -> Result<(), AllocError>
     requires { BringsSome numbers.now cluster.old shipments.now to }
-    ensures { OnOk result ((d : Declared) (w : CodeWorld) (members : List ℕ) (xs : List Contents) →
-        Brings d numbers.now cluster.old w members to shipments.now xs → Brought cluster.old cluster.new w members to) }
+    ensures { OnOk result ((d : Declared) (w : CodeWorld) (members : List ℕ) →
+        Brings d numbers.now cluster.old w members to shipments.now → Brought cluster.old cluster.new w members to) }
 {
     for shipment in shipments {
         carry(
@@ -35,6 +34,7 @@ pub(crate) fn bring(
             numbers,
             shipment.from,
             to,
+            &shipment.parcel,
             shipment.bytes.as_slice(),
         )?;
     }

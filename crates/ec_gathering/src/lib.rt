@@ -3,7 +3,7 @@
 //!
 //! | modules | what they have |
 //! |---|---|
-//! | `shipping` | the parcels in which a group goes, as bytes |
+//! | `shipping` | the parcels in which a group goes, and their bytes |
 //! | `lacking` | what the node lacks for all of them together |
 //! | `bringing` | the parcels come to the node |
 //! | `gathering_room` | laws: the worlds before and after the move tell the same lack |

@@ -1,4 +1,4 @@
-//! The parcels in which a group goes, as bytes.
+//! The parcels in which a group goes, and their bytes.
 ghost use Rattle.std.specs.Prelude.{ℕ, length, IfOk, IsFalse, IsTrue, Option};
 ghost use Rattle.ec_cluster.specs.Cluster.{CodeWorld};
 ghost use Rattle.ec_code.specs.Typing.{Declared};
@@ -9,13 +9,16 @@ use ec_cluster::cluster::Cluster;
 use ec_cluster::system::System;
 use ec_packing::packing::pack;
 use ec_parcels::mover::classes::ClassNumbers;
+use ec_wire::parcel::Parcel;
+use ec_wire::write;
 use ec_world::value::{NodeNo, Oid};
 use std::alloc::{AllocError, Global};
 
-/// A parcel on its way: the node from which it goes, and its bytes.
+/// A parcel on its way: the node from which it goes, what was packed there, and its bytes.
 #[derive(Drop)]
 pub(crate) struct Shipment {
     pub from: NodeNo,
+    pub parcel: Parcel,
     pub bytes: Vec<u8>,
 }
 
@@ -37,8 +40,13 @@ pub(crate) fn ship(
     for k in 0..system.cluster.nodes.len() {
         let from = k as NodeNo;
         if from != to && has_some_at(&system.cluster, members, from) {
-            let bytes = pack(system, alloc, numbers, members, from)?;
-            shipments.push(Shipment { from, bytes })?;
+            let parcel = pack(system, alloc, numbers, members, from)?;
+            let bytes = write(alloc, &parcel)?;
+            shipments.push(Shipment {
+                from,
+                parcel,
+                bytes,
+            })?;
         }
     }
     Ok(shipments)

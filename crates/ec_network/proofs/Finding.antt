@@ -3,11 +3,10 @@ use Rattle.std.proofs.Common.{◌≡◌, ℕ, List, Option, Some}
 use Rattle.ec_cluster.specs.Cluster.{CodeWorld, place}
 use Rattle.ec_code.specs.Activations.{code_meaning}
 use Rattle.ec_code.specs.Typing.{Declared}
-use Rattle.ec_fullness.specs.Fullness.{IsFull, StaysPut, place_then}
+use Rattle.ec_fullness.specs.Fullness.{IsFull, StaysPut, gathered, place_then}
 use Rattle.ec_gathering.specs.Gathers.{LacksFor, MayGather, world_gathered}
 use Rattle.ec_gathering.proofs.Acted.{acted_needs}
 use Rattle.ec_gathering.proofs.Same.{full_same}
-use Rattle.ec_gathering.specs.Gathering.{gathered}
 use Rattle.ec_network.proofs.Asking.{may_gather}
 use Rattle.ec_network.proofs.Gathered.{members_there, target_has}
 use Rattle.ec_network.specs.Acts.{AsksBetween, AsksOfEach}

@@ -12,7 +12,7 @@ use Rattle.ec_code.specs.declared.code.Parts.{Parts}
 use Rattle.ec_fullness.proofs.Keeping.{steady_after}
 use Rattle.ec_gathering.proofs.Moves.{operator_may}
 use Rattle.ec_gathering.specs.Gathers.{Gathers, LacksFor, LetsGo, MayGather, world_gathered}
-use Rattle.ec_gathering.specs.Gathering.{gathered}
+use Rattle.ec_fullness.specs.Fullness.{gathered}
 use Rattle.ec_legs.proofs.GoingKeeping.{code_kept}
 use Rattle.ec_code.proofs.IdleWorlds.{entry_idle}
 use Rattle.ec_code.specs.Idle.{OfClasses}

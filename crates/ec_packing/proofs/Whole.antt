@@ -1,13 +1,12 @@
 -- A whole parcel: it holds what goes, and keeps the rules of the wire form.
-use Rattle.std.proofs.Common.{◌≡◌, ◌<◌, ◌≤◌, ◌^◌, ℕ, true, List, length, Some, refl, sym, ap, ◌∙◌, subst, arith}
+use Rattle.std.proofs.Common.{◌≡◌, ◌<◌, ◌^◌, ℕ, true, List, length, sym, ap, ◌∙◌, arith}
 use Rattle.std.specs.Prelude.{slice_get}
 use Rattle.ec_cluster.specs.Cluster.{CodeWorld}
 use Rattle.ec_code.specs.Typing.{Declared}
 use Rattle.ec_formats.proofs.Steps.{both}
 use Rattle.ec_formats.specs.Lists.{list}
-use Rattle.ec_monitors.specs.Laws.{HasDepths}
 use Rattle.ec_parcels.specs.Classes.{ClassTable}
-use Rattle.ec_packing.proofs.ActivationParts.{Source, activation_parts, activations_sorted, few_there, has_activation, is_activation}
+use Rattle.ec_packing.proofs.ActivationParts.{activation_parts, activations_sorted, few_there, has_activation, is_activation}
 use Rattle.ec_packing.proofs.ActivationParts.{own_positive, source, values_few, values_good}
 use Rattle.ec_packing.proofs.Carrying.{IsGood}
 use Rattle.ec_packing.proofs.Counting.{fewer_items}
@@ -18,7 +17,6 @@ use Rattle.ec_packing.specs.Blocks.{HaveSmallBlocks}
 use Rattle.ec_packing.specs.Narrow.{EachIs, IsNarrow, NarrowContents}
 use Rattle.ec_packing.specs.Packing.{CanGo}
 use Rattle.ec_parcels.specs.Parcels.{Packs}
-use Rattle.ec_stores.specs.Node.{NodeData, store_of}
 use Rattle.ec_cluster.specs.declared.system.System.{System}
 use Rattle.ec_things.specs.Store.{Store, Tidy}
 use Rattle.ec_wire.specs.WireForm.{KeepsRules, activation, monitor, most, object, value_fits}
@@ -26,7 +24,6 @@ use Rattle.ec_wire.specs.declared.parcel.ActivationPart.{ActivationPart}
 use Rattle.ec_wire.specs.declared.parcel.Contents.{Contents}
 use Rattle.ec_wire.specs.declared.parcel.MonitorPart.{MonitorPart}
 use Rattle.ec_wire.specs.declared.parcel.ObjectPart.{ObjectPart}
-use Rattle.ec_world.specs.Group.{Has}
 use Rattle.ec_world.specs.declared.value.Value.{Value}
 
 module _ (d : Declared) (s : System) (w : CodeWorld) (table : ClassTable) (members : List ℕ) (from : ℕ)

@@ -3,6 +3,5 @@ pub mod Packing
 pub mod Standing
 pub mod Narrow
 pub mod Blocks
-pub mod Packed
 pub mod Between
 pub mod Laws

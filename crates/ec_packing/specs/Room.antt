@@ -1,10 +1,9 @@
 -- What parcels want together at the node to which they come.
-use Rattle.std.specs.Prelude.{ℕ, IsSome, List}
+use Rattle.std.specs.Prelude.{IsSome, List}
 use Rattle.ec_parcels.specs.Classes.{ClassTable, class_of}
 use Rattle.ec_wire.specs.declared.parcel.Contents.{Contents}
 use Rattle.ec_wire.specs.declared.parcel.ObjectPart.{ObjectPart}
 use Rattle.ec_world.specs.Group.{Has}
-use Rattle.ec_world.specs.declared.value.Value.{Value}
 
 -- the class number of each object of a parcel is that of a class
 abbrev pub IsOfClasses : ClassTable → Contents → Type 0

@@ -1,4 +1,4 @@
-//! What goes of a group from a node, as the bytes of a parcel.
+//! What goes of a group from a node, as a parcel.
 //!
 //! | modules | what they have |
 //! |---|---|

@@ -2,7 +2,6 @@
 ghost use Rattle.std.specs.Prelude.{◌≡◌, IfOk};
 ghost use Rattle.ec_cluster.specs.Cluster.{CodeWorld};
 ghost use Rattle.ec_code.specs.Typing.{Declared};
-ghost use Rattle.ec_packing.specs.Packed.{IsPacked};
 ghost use Rattle.ec_packing.specs.Packing.{CanGo, CanGoInSome};
 ghost use Rattle.ec_parcels.specs.Parcels.{Packs};
 
@@ -13,29 +12,12 @@ use crate::widths::look_at;
 use ec_cluster::system::System;
 use ec_parcels::mover::classes::ClassNumbers;
 use ec_wire::parcel::{Contents, Parcel};
-use ec_wire::write;
 use ec_world::value::{NodeNo, Oid};
 use std::alloc::{AllocError, Global};
 
-/// The bytes of the parcel of a group's things at a node: the objects of the group that are there, their monitors, and the activations on
-/// them. Nothing changes. The error is want of memory, or that there are 2^32 processes or more.
+/// The parcel of a group's things at a node: the objects of the group that are there, their monitors, and the activations on them.
+/// Nothing changes. The error is want of memory, or that there are 2^32 processes or more.
 pub fn pack(
-    system: &System,
-    alloc: Global,
-    numbers: &ClassNumbers,
-    members: &[Oid],
-    from: NodeNo,
-) -> Result<Vec<u8>, AllocError>
-    requires { CanGoInSome system.now numbers.now members.now from }
-    ensures { IfOk result (λ bytes. (d : Declared) (w : CodeWorld) → CanGo d system.now w numbers.now members.now from →
-        IsPacked numbers.now system.now.cluster w members.now from bytes.items) }
-{
-    let parcel = parcel_of(system, alloc, numbers, members, from)?;
-    write(alloc, &parcel)
-}
-
-/// The parcel itself. The error is the same.
-fn parcel_of(
     system: &System,
     alloc: Global,
     numbers: &ClassNumbers,

@@ -1,5 +1,5 @@
 //! What a node lacks for parcels to come to it.
-ghost use Rattle.std.specs.Prelude.{◌≡◌, ◌+◌, ◌++◌, ◌^◌, ◌<◌, IfNone, IfOk, IfSome, IsSome, OnOk, length};
+ghost use Rattle.std.specs.Prelude.{◌≡◌, ◌+◌, ◌++◌, ◌^◌, ◌<◌, IfNone, IfOk, IfSome, IsSome, OnOk, length, map};
 ghost use Rattle.std.specs.List.{flat_map};
 ghost use Rattle.ec_parcels.specs.Classes as numbering;
 ghost use Rattle.ec_objects.specs.Lacks.{HasRoomForAll, LacksRoom};
@@ -25,13 +25,13 @@ pub fn lack_for(
     number: NodeNo,
     alloc: Global,
     numbers: &ClassNumbers,
-    parcels: &[Parcel],
+    parcels: &[&Parcel],
 ) -> Result<Option<Lack>, AllocError>
-    requires { AreOfClasses numbers.now parcels.now }
+    requires { AreOfClasses numbers.now (map (λ p. p.now) parcels.now) }
     ensures some { IfOk result (λ r. IfSome r (λ lack. LacksRoom (store_of node.now) number
-        (owners.all_blocks numbers.now parcels.now) (owners.all_values parcels.now) lack)) }
+        (owners.all_blocks numbers.now (map (λ p. p.now) parcels.now)) (owners.all_values (map (λ p. p.now) parcels.now)) lack)) }
     ensures none { IfOk result (λ r. IfNone r (HasRoomForAll (store_of node.now)
-        (owners.all_blocks numbers.now parcels.now) (owners.all_values parcels.now))) }
+        (owners.all_blocks numbers.now (map (λ p. p.now) parcels.now)) (owners.all_values (map (λ p. p.now) parcels.now)))) }
 {
     let blocks = all_blocks(numbers, parcels)?;
     let values = all_values(alloc, parcels)?;
@@ -48,13 +48,13 @@ pub fn lack_for(
 }
 
 /// How many blocks parcels want together. The error is that there are 2^64 or more.
-fn all_blocks(numbers: &ClassNumbers, parcels: &[Parcel]) -> Result<u64, AllocError>
-    requires { AreOfClasses numbers.now parcels.now }
-    ensures { IfOk result (λ n. n ≡ owners.all_blocks numbers.now parcels.now) }
+fn all_blocks(numbers: &ClassNumbers, parcels: &[&Parcel]) -> Result<u64, AllocError>
+    requires { AreOfClasses numbers.now (map (λ p. p.now) parcels.now) }
+    ensures { IfOk result (λ n. n ≡ owners.all_blocks numbers.now (map (λ p. p.now) parcels.now)) }
 {
     let mut blocks = 0;
     for i in 0..parcels.len() {
-        blocks = plus(blocks, blocks_in(numbers, &parcels[i])?)?;
+        blocks = plus(blocks, blocks_in(numbers, parcels[i])?)?;
     }
     Ok(blocks)
 }
@@ -96,8 +96,8 @@ fn plus(a: u64, b: u64) -> Result<u64, AllocError>
 }
 
 /// The values that parcels bring, one parcel after another. The error is want of memory.
-fn all_values(alloc: Global, parcels: &[Parcel]) -> Result<Vec<Value>, AllocError>
-    ensures { IfOk result (λ values. values.items ≡ owners.all_values parcels.now) }
+fn all_values(alloc: Global, parcels: &[&Parcel]) -> Result<Vec<Value>, AllocError>
+    ensures { IfOk result (λ values. values.items ≡ owners.all_values (map (λ p. p.now) parcels.now)) }
 {
     let mut values = Vec::new(alloc);
     for parcel in parcels {

@@ -1,3 +1,1 @@
-pub mod Parts
-pub mod Reasons
-pub mod Standing
+pub mod Unpacked

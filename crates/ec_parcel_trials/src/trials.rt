@@ -5,13 +5,13 @@
 ghost use Rattle.std.specs.Prelude.{◌<◌, ◌≤◌};
 ghost use Rattle.ec_wire.specs.WireForm.{IsWire};
 
-use crate::causes::{ActivationCause, ObjectCause, Unfit};
-use crate::unfitting::unfit;
 use ec_base::list::Seq;
 use ec_carrying::unpacking::unpack;
 use ec_code::code::{Live, Variable};
 use ec_generate::table::{OperationTable, StopEntry};
 use ec_machine_code::homes::Home;
+use ec_parcel_fits::causes::{ActivationCause, ObjectCause, Unfit};
+use ec_parcel_fits::unfitting::unfit;
 use ec_parcels::mover::classes::ClassNumbers;
 use ec_stores::node::NodeStore;
 use ec_types::conform::static_type::{Plain, StaticType};

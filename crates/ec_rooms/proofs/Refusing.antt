@@ -13,7 +13,7 @@ use Rattle.ec_fullness.specs.Fitting.{HasNamed, IsMakable}
 use Rattle.ec_cluster.specs.Whereabouts.{made_count}
 use Rattle.ec_fullness.proofs.Acting.{action_is}
 use Rattle.ec_fullness.proofs.Needs.{then_new}
-use Rattle.ec_fullness.specs.Fullness.{StaysPut, place_then}
+use Rattle.ec_fullness.specs.Fullness.{StaysPut, gathered, place_then}
 use Rattle.ec_rooms.proofs.Counting.{Stays, done_stays}
 use Rattle.ec_rooms.proofs.Making.{more_agrees}
 use Rattle.ec_rooms.proofs.Moving.{gone_place}
@@ -110,9 +110,9 @@ agrees_then d s w below top who doing runs asks stays has =
 pub agrees_gathered : (c : Cluster) (w : CodeWorld) (below : List CodeActivation) (top : CodeActivation) (who : Who) (members : List ℕ)
     (target : ℕ) (fixes : Option ℕ) (k : ℕ) → Asks w below top who (Moves members target fixes) →
     ((oid : ℕ) → Has members oid → IsSome (object_at w.common.objects oid)) → place c target ≡ Some k → HasPlaces c w →
-    AgreeWith (λ oid. if is_in oid members then Some k else place c oid) (Action code_meaning w who.process)
+    AgreeWith (gathered (place c) members k) (Action code_meaning w who.process)
 agrees_gathered c w below top who members target fixes k asks there at has =
-    agree_acted (λ oid. if is_in oid members then Some k else place c oid) w below top who (Moves members target fixes) asks
+    agree_acted (gathered (place c) members k) w below top who (Moves members target fixes) asks
     (λ oid o e.
     ap (λ x. if is_in oid members then Some k else x) (has.placed oid)
     ∙ sym (gone_place w members target fixes there has.each k (sym (has.placed target) ∙ at) oid))

@@ -1,5 +1,5 @@
 -- What keeps objects where the events of worlds have them.
-use Rattle.std.specs.Prelude.{◌≡◌, ℕ, if◌then◌else◌, IsSome, List, length, Option, Some}
+use Rattle.std.specs.Prelude.{◌≡◌, ℕ, IsSome, List, length, Option, Some}
 use Rattle.ec_cluster.specs.Cluster.{CodeWorld, place}
 use Rattle.ec_cluster.specs.Steps.{with_common}
 use Rattle.ec_cluster.specs.declared.cluster.Cluster.{Cluster}
@@ -11,12 +11,13 @@ use Rattle.ec_code.specs.declared.code.Parts.{Parts}
 use Rattle.ec_acts.specs.Doings.{Places}
 use Rattle.ec_acts.specs.Loaded.{Loaded}
 use Rattle.ec_acts.specs.Worlds.{world_first}
+use Rattle.ec_fullness.specs.Fullness.{gathered}
 use Rattle.ec_rooms.specs.Places.{HasPlaces, PlacesEach}
 use Rattle.ec_cluster.specs.Acting.{Asks}
 use Rattle.ec_cluster.specs.SystemSteps.{world_done, world_settled}
 use Rattle.ec_cluster.specs.Systems.{Runs}
 use Rattle.ec_cluster.specs.declared.system.System.{System}
-use Rattle.ec_world.specs.Group.{Has, is_in}
+use Rattle.ec_world.specs.Group.{Has}
 use Rattle.ec_world.specs.Moves.{OperatorMove}
 use Rattle.ec_world.specs.Objects.{object_at}
 use Rattle.ec_world.specs.Outcomes.{gone}
@@ -64,7 +65,7 @@ SettlingKeepsPlaces =
 pub record AreGathered (old new : Cluster) (members : List ℕ) (target : ℕ) : Type 0 where
   pub node : ℕ
   pub there : place old target ≡ Some node
-  pub each : (oid : ℕ) → place new oid ≡ (if is_in oid members then Some node else place old oid)
+  pub each : (oid : ℕ) → place new oid ≡ gathered (place old) members node oid
 
 -- So it is then with the world in which the group has gone there.
 abbrev pub MovesKeepPlaces : Type 0

@@ -1,41 +1,45 @@
 -- One parcel more.
-use Rattle.std.proofs.Common.{◌≡◌, ◌≤◌, ◌+◌, ◌∷◌, ℕ, List, subst, sym}
+use Rattle.std.proofs.Common.{◌≤◌, ℕ, List, subst, sym}
 use Rattle.std.proofs.lemmas.List.{drop_all}
-use Rattle.std.specs.Prelude.{drop, length}
-use Rattle.ec_base.proofs.Lists.{drop_at}
+use Rattle.std.specs.Prelude.{length}
 use Rattle.ec_carrying.specs.Carrying.{CanCarry, IsCarriedIn}
 use Rattle.ec_cluster.specs.declared.cluster.Cluster.{Cluster}
-use Rattle.ec_gathering.proofs.Coming.{IsBringing, all_brought, next_bringing, next_can, none_came}
+use Rattle.ec_gathering.proofs.Coming.{IsBringing, all_brought, next_bringing, next_can, next_spelled, none_came}
 use Rattle.ec_gathering.proofs.Lists.{item_there}
 use Rattle.ec_gathering.proofs.bringing.bring.Goals as goal
 use Rattle.ec_gathering.specs.declared.shipping.Shipment.{Shipment}
 use Rattle.ec_parcels.specs.Classes.{ClassTable}
+use Rattle.ec_wire.specs.WireForm.{IsWire}
 use Rattle.ec_wire.specs.declared.parcel.Contents.{Contents}
 
 pub loop-shipment-init : goal.loop-shipment-init
-loop-shipment-init c = λ d w members xs brings. record {
-  parcels = xs;
+loop-shipment-init c = λ d w members brings. record {
   brings = brings;
   came = none_came c.args.cluster.now w members c.args.to brings.sends.shows;
 }
 
-pub carry-requires : goal.carry-requires
-carry-requires c =
+pub carry-requires-clause-spelled : goal.carry-requires-clause-spelled
+carry-requires-clause-spelled c =
     let all = c.requires in
-    let bs : List Shipment = c.args.shipments.now in
     let i : ℕ = c.loop-shipment.shipment-index in
     let b : Shipment = c.shipment-item.result in
-    let left : drop i bs ≡ b ∷ drop (i + 1) bs = drop_at bs i b (item_there bs i b c.loop-shipment-test.true c.shipment-item.is) in
-    let is : IsBringing all.declared c.args.numbers.now c.args.cluster.now c.loop-shipment.cluster all.world all.members c.args.to
-    (drop i bs) = c.loop-shipment.invariant all.declared all.world all.members all.parcels all.brings in
+    subst (λ bytes. IsWire b.parcel bytes) (sym c.as_slice.ensures.value)
+    (next_spelled all.declared c.args.numbers.now c.args.cluster.now c.loop-shipment.cluster all.world all.members c.args.to
+    c.args.shipments.now i b (item_there c.args.shipments.now i b c.loop-shipment-test.true c.shipment-item.is)
+    (c.loop-shipment.invariant all.declared all.world all.members all.brings))
+
+pub carry-requires-clause-can : goal.carry-requires-clause-can
+carry-requires-clause-can c =
+    let all = c.requires in
+    let i : ℕ = c.loop-shipment.shipment-index in
+    let b : Shipment = c.shipment-item.result in
     subst (λ bytes. CanCarry c.args.numbers.now c.loop-shipment.cluster b.from c.args.to bytes) (sym c.as_slice.ensures.value)
-    (next_can all.declared c.args.numbers.now c.args.cluster.now c.loop-shipment.cluster all.world all.members c.args.to b
-    (drop (i + 1) bs)
-    (subst (λ (ys : List Shipment). IsBringing all.declared c.args.numbers.now c.args.cluster.now c.loop-shipment.cluster all.world
-    all.members c.args.to ys) left is))
+    (next_can all.declared c.args.numbers.now c.args.cluster.now c.loop-shipment.cluster all.world all.members c.args.to
+    c.args.shipments.now i b (item_there c.args.shipments.now i b c.loop-shipment-test.true c.shipment-item.is)
+    (c.loop-shipment.invariant all.declared all.world all.members all.brings))
 
 pub loop-shipment-preserved : goal.loop-shipment-preserved
-loop-shipment-preserved c = λ d w members xs brings.
+loop-shipment-preserved c = λ d w members brings.
     let table : ClassTable = c.args.numbers.now in
     let old : Cluster = c.args.cluster.now in
     let now : Cluster = c.loop-shipment.cluster in
@@ -44,16 +48,15 @@ loop-shipment-preserved c = λ d w members xs brings.
     let bs : List Shipment = c.args.shipments.now in
     let i : ℕ = c.loop-shipment.shipment-index in
     let b : Shipment = c.shipment-item.result in
-    let left : drop i bs ≡ b ∷ drop (i + 1) bs = drop_at bs i b (item_there bs i b c.loop-shipment-test.true c.shipment-item.is) in
-    next_bringing d table old now w members to b (drop (i + 1) bs) next brings.sends.shows
+    next_bringing d table old now w members to bs i b (item_there bs i b c.loop-shipment-test.true c.shipment-item.is)
+    (c.loop-shipment.invariant d w members brings) next brings.sends.shows
     (λ (x : Contents) carries. c.in_ok-carry.ensures d w members x
     (subst (λ bytes. IsCarriedIn table now b.from to bytes d w members x) (sym c.as_slice.ensures.value) carries))
-    (subst (λ (ys : List Shipment). IsBringing d table old now w members to ys) left (c.loop-shipment.invariant d w members xs brings))
 
 pub returns : goal.returns
-returns c = λ d w members xs brings.
+returns c = λ d w members brings.
     let bs : List Shipment = c.args.shipments.now in
     let done : length bs ≤ c.loop-shipment.shipment-index = c.loop-shipment-test.false in
     all_brought d c.args.numbers.now c.args.cluster.now c.loop-shipment.cluster w members c.args.to
     (subst (λ (ys : List Shipment). IsBringing d c.args.numbers.now c.args.cluster.now c.loop-shipment.cluster w members c.args.to ys)
-    (drop_all c.loop-shipment.shipment-index bs done) (c.loop-shipment.invariant d w members xs brings))
+    (drop_all c.loop-shipment.shipment-index bs done) (c.loop-shipment.invariant d w members brings))

@@ -6,10 +6,8 @@ use Rattle.ec_code.specs.Typing.{Declared}
 use Rattle.ec_gathering.proofs.bringing.bring.Given as goal
 use Rattle.ec_gathering.proofs.Coming.{IsBringing}
 use Rattle.ec_gathering.specs.Bringing.{Brings}
-use Rattle.ec_wire.specs.declared.parcel.Contents.{Contents}
 
 abbrev pub invariant-loop-shipment : goal.invariant-loop-shipment
 invariant-loop-shipment l =
-    (d : Declared) (w : CodeWorld) (members : List ℕ) (xs : List Contents) →
-    Brings d l.numbers l.fn.cluster w members l.to l.shipments xs →
+    (d : Declared) (w : CodeWorld) (members : List ℕ) → Brings d l.numbers l.fn.cluster w members l.to l.shipments →
     IsBringing d l.numbers l.fn.cluster l.cluster w members l.to (drop l.shipment-index l.shipments)

@@ -3,12 +3,13 @@ use Rattle.std.proofs.Common.{◌≡◌, ◌∙◌, ℕ, List, Option, false, ap
 use Rattle.std.specs.Prelude.{is_some, not}
 use Rattle.ec_cluster.specs.Cluster.{CodeWorld}
 use Rattle.ec_code.specs.Typing.{Declared}
-use Rattle.ec_gathering.proofs.Gone.{brings_these, can_read, fixed_still, fixed_there, has_gone, lacking_these, loosened, target_placed}
+use Rattle.ec_gathering.proofs.Gone.{brings_these, classed_these, fixed_still, fixed_there, has_gone, lacking_these, loosened}
+use Rattle.ec_gathering.proofs.Gone.{target_placed, to_low}
 use Rattle.ec_gathering.proofs.Told.{if_none, if_some, none_told, some_told}
 use Rattle.ec_gathering.proofs.gathering.gather.Goals as goal
 use Rattle.ec_gathering.proofs.gathering.gather.Goals.{else-is_none, then-is_none+in_ok-bring}
 use Rattle.ec_gathering.specs.Gathers.{Gathers, LacksFor, MayGather}
-use Rattle.ec_gathering.specs.Shipping.{CanBeRead}
+use Rattle.ec_gathering.specs.Shipping.{parcels_of}
 use Rattle.ec_gathering.specs.declared.shipping.Shipment.{Shipment}
 use Rattle.ec_parcels.specs.Owners.{all_blocks, all_values}
 use Rattle.ec_parcels.specs.Classes.{ClassTable}
@@ -21,17 +22,20 @@ node_of-to-requires c =
     let h = c.requires in
     target_placed h.declared c.args.system.now h.world c.args.numbers.now c.args.members.now c.args.target c.args.fixes h.may
 
-pub lack_of-requires : goal.lack_of-requires
-lack_of-requires c =
+pub lack_of-requires-clause-there : goal.lack_of-requires-clause-there
+lack_of-requires-clause-there c =
     let h = c.requires in
-    let s : System = c.args.system.now in
-    let table : ClassTable = c.args.numbers.now in
-    let bs : List Shipment = c.in_ok-shipments.shipments.items in
     let ships = c.in_ok-shipments.ensures h.declared h.world c.args.target c.args.fixes h.may in
-    subst (λ (ys : List Shipment). CanBeRead table s.cluster c.node_of-to.result ys)
-    (sym {A = List Shipment} c.as_slice-shipments.ensures.value)
-    (can_read h.declared s h.world table c.args.members.now c.args.target c.args.fixes h.may c.node_of-to.result c.node_of-to.ensures
-    c.made-made.ensures.table bs ships)
+    to_low h.declared c.args.system.now h.world c.args.numbers.now c.args.members.now c.args.target c.args.fixes h.may c.node_of-to.result
+    c.node_of-to.ensures c.made-made.ensures.table c.in_ok-shipments.shipments.items ships
+
+pub lack_of-requires-clause-classed : goal.lack_of-requires-clause-classed
+lack_of-requires-clause-classed c =
+    let h = c.requires in
+    let ships = c.in_ok-shipments.ensures h.declared h.world c.args.target c.args.fixes h.may in
+    classed_these h.declared c.args.system.now h.world c.args.numbers.now c.args.members.now c.args.target c.args.fixes h.may
+    c.node_of-to.result c.node_of-to.ensures c.made-made.ensures.table c.in_ok-shipments.shipments.items ships
+    c.as_slice-shipments.result.now c.as_slice-shipments.ensures.value
 
 pub flag-requires : goal.flag-requires
 flag-requires c =
@@ -52,12 +56,11 @@ bring-requires c =
       declared = h.declared;
       world = loosened h.declared s h.world table members c.args.target fixes h.may;
       members = members;
-      parcels = ships.parcels;
       brings =
           brings_these h.declared s h.world table members c.args.target fixes h.may c.node_of-to.result c.node_of-to.ensures
           c.made-made.ensures.table bs ships c.flag.new.cluster c.flag.ensures.changes c.flag.ensures.whereabouts
           (c.flag.ensures.shows h.world h.may.lets.runs.mirrors.shows) c.as_slice-shipments.result.now c.as_slice-shipments.ensures.value
-          (λ store e bytes. none_told c.in_ok-lack.lack none (c.in_ok-lack.ensures.none ships.parcels store bytes e));
+          (λ store e. none_told c.in_ok-lack.lack none (c.in_ok-lack.ensures.none store e));
     }
 
 pub flag-requires-then-is_none : goal.flag-requires-then-is_none
@@ -75,10 +78,10 @@ flag-requires-then-is_none c =
     brings_these h.declared s h.world table members c.args.target fixes h.may c.node_of-to.result c.node_of-to.ensures
     c.made-made.ensures.table bs ships c.flag.new.cluster c.flag.ensures.changes c.flag.ensures.whereabouts shows
     c.as_slice-shipments.result.now c.as_slice-shipments.ensures.value
-    (λ store e bytes. none_told c.in_ok-lack.lack none (c.in_ok-lack.ensures.none ships.parcels store bytes e)) in
+    (λ store e. none_told c.in_ok-lack.lack none (c.in_ok-lack.ensures.none store e)) in
     fixed_still h.declared s h.world table members c.args.target fixes h.may c.node_of-to.result c.node_of-to.ensures
     c.made-made.ensures.table bs ships c.flag.new.cluster c.flag.ensures.changes c.flag.ensures.whereabouts shows c.bring.new.cluster
-    (c.in_ok-bring.ensures h.declared (loosened h.declared s h.world table members c.args.target fixes h.may) members ships.parcels brings)
+    (c.in_ok-bring.ensures h.declared (loosened h.declared s h.world table members c.args.target fixes h.may) members brings)
 
 pub returns-clause-done : goal.returns-clause-done
 returns-clause-done c = if_none c.in_ok-lack.lack (λ none d w may.
@@ -95,9 +98,9 @@ returns-clause-done c = if_none c.in_ok-lack.lack (λ none d w may.
           brings_these d s w table members c.args.target fixes may c.node_of-to.result c.node_of-to.ensures c.made-made.ensures.table bs
           ships v.flag.new.cluster v.flag.ensures.changes v.flag.ensures.whereabouts shows c.as_slice-shipments.result.now
           c.as_slice-shipments.ensures.value
-          (λ store e bytes. none_told c.in_ok-lack.lack none (c.in_ok-lack.ensures.none ships.parcels store bytes e)) in
+          (λ store e. none_told c.in_ok-lack.lack none (c.in_ok-lack.ensures.none store e)) in
           let loose : CodeWorld = loosened d s w table members c.args.target fixes may in
-          let brought = v.in_ok-bring.ensures d loose members ships.parcels brings in
+          let brought = v.in_ok-bring.ensures d loose members brings in
           subst (λ (t : System). Gathers s t w members c.args.target fixes) (sym v.system-is)
           (has_gone d s w table members c.args.target fixes may c.node_of-to.result c.node_of-to.ensures c.made-made.ensures.table bs ships
           v.flag.new.cluster v.flag.ensures.changes v.flag.ensures.whereabouts shows v.bring.new.cluster brought
@@ -121,9 +124,10 @@ returns-clause-full c = if_some (λ (lack : Lack). (c.if-is_none.system ≡ c.ar
             lacking_these d c.args.system.now w c.args.numbers.now c.args.members.now c.args.target c.args.fixes may c.node_of-to.result
             c.node_of-to.ensures c.made-made.ensures.table c.in_ok-shipments.shipments.items ships lack c.as_slice-shipments.result.now
             c.as_slice-shipments.ensures.value
-            (λ store e bytes. some_told
-            (λ (told : Lack). LacksRoom store c.node_of-to.result (all_blocks c.args.numbers.now ships.parcels)
-            (all_values ships.parcels) told)
-            c.in_ok-lack.lack lack is (c.in_ok-lack.ensures.some ships.parcels store bytes e)),
+            (λ store e. some_told
+            (λ (told : Lack). LacksRoom store c.node_of-to.result
+            (all_blocks c.args.numbers.now (parcels_of c.as_slice-shipments.result.now))
+            (all_values (parcels_of c.as_slice-shipments.result.now)) told)
+            c.in_ok-lack.lack lack is (c.in_ok-lack.ensures.some store e)),
       )
     ])

@@ -1,5 +1,5 @@
 -- What goes of the monitor of one member more.
-use Rattle.std.proofs.Common.{◌≡◌, ◌∷◌, [], List, Option, Some, None, arith, sym, ap, ◌∙◌, get_or}
+use Rattle.std.proofs.Common.{◌≡◌, ◌∷◌, [], Option, arith, sym, ap, ◌∙◌, get_or}
 use Rattle.std.specs.Prelude.{option_to_list}
 use Rattle.ec_parcels.specs.Objects.{monitor_part_of}
 use Rattle.ec_packing.proofs.Joining.{all_joined, more_joined, none_joined, read_has}

@@ -1,5 +1,5 @@
 -- What goes of one member more.
-use Rattle.std.proofs.Common.{◌≡◌, ◌++◌, ◌∷◌, [], List, arith, sym, ap, ◌∙◌, get_or}
+use Rattle.std.proofs.Common.{◌≡◌, ◌∷◌, [], arith, sym, ap, ◌∙◌, get_or}
 use Rattle.ec_parcels.specs.Objects.{part_of}
 use Rattle.ec_packing.proofs.Joining.{more_joined, read_has}
 use Rattle.ec_packing.proofs.Members.{class, leaves, object, object_part_is}

@@ -1,5 +1,5 @@
 -- The blocks of one object more; its values are few, since the parcel keeps the rules of the wire form.
-use Rattle.std.proofs.Common.{◌≡◌, ◌+◌, sym, ap, ◌∙◌, arith, take}
+use Rattle.std.proofs.Common.{ap, ◌∙◌, arith, take}
 use Rattle.std.specs.List.{sum_by}
 use Rattle.std.proofs.lemmas.List.Sums.{sum_by_push}
 use Rattle.ec_base.proofs.Lists.{take_next}
