@@ -108,7 +108,8 @@ stores_ranged m h own n (Some v) r =
     record { common = stored m.common h.common own n v r; variables = h.variables; temporaries = h.temporaries }
 
 pub itself_ranged : (on_itself : Bool) (own : ℕ) (vs : List Value) → AllInRange vs → AllInRange (with_itself on_itself own vs)
-itself_ranged true own vs h = (tt, h)
+itself_ranged true own [] h = tt
+itself_ranged true own (v ∷ vs) h = (tt, h.1)
 itself_ranged false own vs h = h
 
 others_ranged : (v : Value) (vs : Option (List Value)) → InRange v → IfThere AllInRange vs → IfThere AllInRange (with_others v vs)

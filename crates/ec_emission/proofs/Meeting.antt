@@ -25,11 +25,11 @@ use Rattle.ec_meaning.specs.declared.item.Item.{Item}
 use Rattle.ec_meaning.specs.declared.item.Item.TheVariants as i
 use Rattle.ec_meaning.specs.declared.state.State.{State}
 use Rattle.ec_meaning.specs.declared.state.Whose.{Whose}
-use Rattle.ec_emission.proofs.Holding.{Has, HoldsAll, holds_kept, holds_push, reads}
+use Rattle.ec_emission.proofs.Holding.{Has, HoldsAll, holds_kept, holds_own, holds_push, reads}
 use Rattle.ec_emission.specs.Ops.{ops}
 use Rattle.ec_emission.proofs.Walking.{from, from_done, one_op}
 use Rattle.ec_emission.specs.Rows.{into_if}
-use Rattle.ec_emission.specs.Stands.{Hold, Kept, IsLast, Stands, one_more, read}
+use Rattle.ec_emission.specs.Stands.{Hold, Kept, Own, IsLast, Stands, one_more, read}
 use Rattle.ec_world.specs.declared.common.Common.{Common}
 use Rattle.ec_world.specs.declared.stop.Stop.{Stop}
 use Rattle.ec_world.specs.declared.value.Value.{Value}
@@ -123,6 +123,17 @@ module _ (r : Routine) (own : ℕ) where
     variables = f.variables;
     many = f.many;
     held = holds_kept own m.variables m.temporaries hs st.held v f.held;
+    owns = f.owns;
+  }
+
+  -- the own object, in the temporary above the others
+  pub fits_own : (hs : List Hold) (st : State) (m : Machine) → Fits hs st m →
+      Fits (Own ∷ hs) (pushed st (value.Ref own)) (with_variable m (variable.Temporary (length hs)) (value.Ref own))
+  fits_own hs st m f = record {
+    common = f.common;
+    variables = f.variables;
+    many = f.many;
+    held = holds_own own m.variables m.temporaries hs st.held f.held;
     owns = f.owns;
   }
 

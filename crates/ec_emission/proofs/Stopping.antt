@@ -5,8 +5,9 @@ use Rattle.std.specs.Prelude.{slice_get}
 use Rattle.ec_base.proofs.Stacks.{stack_parts}
 use Rattle.ec_base.specs.Stack.{below_of}
 use Rattle.ec_code.specs.Steps as code_steps
-use Rattle.ec_code.specs.Steps.{Machine, and_others}
+use Rattle.ec_code.specs.Steps.{Machine, and_others, variables_at}
 use Rattle.ec_code.specs.declared.code.Op.TheVariants as op
+use Rattle.ec_code.specs.declared.code.StopRow.{StopRow}
 use Rattle.ec_types.specs.declared.conform.static_type.StaticType.{StaticType}
 use Rattle.ec_core.specs.declared.Block.{Block}
 use Rattle.ec_meaning.specs.Steps.{Rests, NoCase, block_items, holding, rest_at, returned, step}
@@ -17,7 +18,7 @@ use Rattle.ec_emission.proofs.Holding.{Above, Has, HoldsAll, parted, rest_takes}
 use Rattle.ec_emission.proofs.Meeting.{Behind, Fits, IsAt, Matched, Meets, Routine, StandsIn, by_op, fits_holding, goes_on, is_last, itself}
 use Rattle.ec_emission.proofs.Meeting.{settled, silent, stops, stuck, walked}
 use Rattle.ec_emission.proofs.Values.{ComesTo}
-use Rattle.ec_emission.specs.Rows.{bare_row, own_row, rest_row, return_row}
+use Rattle.ec_emission.specs.Rows.{bare_row, own_row, rest_row, return_row, temporaries}
 use Rattle.ec_emission.specs.Stands.{Hold, IsLast, Own, all_kept, one_more}
 use Rattle.ec_world.specs.declared.stop.Stop.{Stop}
 use Rattle.ec_world.specs.declared.stop.Stop.TheVariants as stop
@@ -62,20 +63,22 @@ module _ (r : Routine) (own : ℕ) where
       (fits_holding r own (all_kept takes hs) st m hs p.base p.holds f) (goes_on d))
 
   pub calls_own : (hs : List Hold) (q takes : ℕ) (action : Stop) (xs : List Item) (gives : Option StaticType) →
-      IsAt r q (op.Rest (own_row action (length hs) takes gives)) → StandsIn r (one_more gives hs) (suc q) xs →
+      IsAt r q (op.Rest (own_row action (length hs) (suc takes) gives)) → StandsIn r (one_more gives hs) (suc q) xs →
       Meets r own (all_kept takes (Own ∷ hs)) q (i.Rest action (suc takes) ∷ xs)
   calls_own hs q takes action xs gives is d st m f =
       let p = parted own m takes (Own ∷ hs) st.held f.held in
       let o : Above (Has own m.variables m.temporaries (length hs) Own) (HoldsAll own m.variables m.temporaries hs) p.base = p.holds in
       let base : List Value = below_of p.base in
       let last : List Value = value.Ref own ∷ p.last in
+      let row : StopRow = own_row action (length hs) (suc takes) gives in
       let e : st.held ≡ base ++ last =
-      p.is ∙ ap (λ l. l ++ p.last) (stack_parts p.base o.value o.is ∙ ap (λ v. base ++ v ∷ []) o.here)
+      p.is ∙ ap (λ l. l ++ p.last) (stack_parts p.base o.value o.is ∙ ap (λ v. base ++ v ∷ []) o.here.1)
       ∙ append_assoc base (value.Ref own ∷ []) p.last in
       silent r own st (i.Rest action (suc takes)) xs (walked r own q m) (Rests action last (holding st base) [])
       (rest_takes action st base last (suc takes) e (ap suc p.many))
-      (stops r own hs q (own_row action (length hs) takes gives) last xs gives (holding st base) m is
-      (ap (code_steps.rests (own_row action (length hs) takes gives) own) p.read) refl
+      (stops r own hs q row last xs gives (holding st base) m is
+      (ap (λ v. code_steps.rests row own (and_others v (variables_at m (temporaries (suc (length hs)) takes)))) o.here.0
+      ∙ ap (λ vs. code_steps.rests row own (and_others (Some o.value) vs)) p.read) refl
       (fits_holding r own (all_kept takes (Own ∷ hs)) st m hs base o.below f) (goes_on d))
 
   -- a named variable, where it is there
