@@ -192,7 +192,7 @@ opened_ranged : (args : List Value) (count : ℕ) → AllInRange args → AllInR
 opened_ranged args count h =
     each_append InRange args (replicate (count - length args) Nil) h (each_replicate InRange (count - length args) Nil tt)
 
-behind_ranged : (p : Parts) (a : CodeActivation) (at : ℕ) → AllInRange a.variables → AllInRange (variables_behind p a at)
+pub behind_ranged : (p : Parts) (a : CodeActivation) (at : ℕ) → AllInRange a.variables → AllInRange (variables_behind p a at)
 behind_ranged p a zero h = opened_ranged a.variables (length (variables_if (operation_at p a.operation))) h
 behind_ranged p a (suc at) h = h
 
