@@ -33,6 +33,7 @@ use Rattle.ec_emission.specs.Stands.{Hold, Kept, Own, IsLast, Stands, one_more, 
 use Rattle.ec_world.specs.declared.common.Common.{Common}
 use Rattle.ec_world.specs.declared.stop.Stop.{Stop}
 use Rattle.ec_world.specs.declared.value.Value.{Value}
+use Rattle.ec_world.specs.declared.value.Value.TheVariants as value
 use Rattle.ec_world.specs.Objects.{object_at}
 
 abbrev pub under : State → State
