@@ -209,7 +209,7 @@ module _ (r : Routine) (own : ℕ) where
       (done r own q m (passes m 1 (as_wanted true (Some (not z)))))
   quotient hs q at by xs st below m x y a b d u v f fails is k true e =
       next r own _ q m
-      (stops r own hs (suc q) (fail_row cause.ZeroDivisor (line r.source at)) [] xs None below m fails refl refl f (is_last tt))
+      (stops r own hs (suc q) (fail_row cause.ZeroDivisor (line r.source at)) [] xs None below m fails refl refl (λ invokes. refl) f (is_last tt))
   quotient hs q at by xs st below m x y a b d u v f fails is k false e =
       let w : Value = value.Int (calculated by x y) in
       let new : Machine = with_variable m (into hs) w in

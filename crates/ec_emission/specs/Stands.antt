@@ -78,6 +78,11 @@ IsLast stop.End = Unit {0}
 IsLast (stop.Fail why line) = Unit {0}
 IsLast _ = ⊥
 
+-- an operation is invoked
+abbrev pub IsInvocation : Stop → Type 0
+IsInvocation (stop.Invoke name line) = Unit {0}
+IsInvocation _ = ⊥
+
 -- The activation is one of operation `number`, whose own object's class captures so many names; it has so many named
 -- variables; `literals` are the program's. `Loop top again b`: the code of a loop over b stands from its loop top up to the
 -- step that leads back.
