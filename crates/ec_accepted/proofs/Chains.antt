@@ -1,4 +1,4 @@
--- A chain: a value, and what is done with it. The own object is no operand where one of its operations is called.
+-- A chain: a value, and what is done with it.
 use Rattle.std.proofs.Common.{◌≡◌, ◌&&◌, Bool, true, false, List, [], ◌∷◌, length, Some, None, option_map, refl, sym}
 use Rattle.std.proofs.Common.{ap, ◌∙◌, subst}
 use Rattle.ec_check.specs.WellTyped.{AfterLink, Typed, along}
@@ -18,7 +18,7 @@ use Rattle.ec_accepted.proofs.Stopping.{held_if}
 -- ---- what is shown of a link
 
 module _ (c : Stand) where
-  -- code of a link behind a value of a type; and its code without that value, where this is the own object
+  -- code of a link behind a value of a type; and its code where this is the own object
   pub record Follows (before after : Typed) (f : Following) : Type 0 where
     pub well : before.is_well ≡ true
     pub kind : StaticType
@@ -26,7 +26,7 @@ module _ (c : Stand) where
     pub code : before.is_itself && f.is_call ≡ false → (hs : Held) →
         Goes (setting c) (f.code (length hs)) (Some kind ∷ hs) (held_if after.of hs)
     pub own : before.is_itself && f.is_call ≡ true → (hs : Held) →
-        Goes (setting c) (f.own_code (length hs)) hs (held_if after.of hs)
+        Goes (setting c) (f.own_code (length hs)) (Some kind ∷ hs) (held_if after.of hs)
 
   pub record LinkReady (l : AfterLink) (f : Following) : Type 0 where
     pub other : (before : Typed) → (l before).is_itself ≡ false
@@ -107,7 +107,8 @@ module _ (c : Stand) where
       Goes (setting c) (chain_code e (f ∷ fs) (length hs) b) hs (held_if (along t (l ∷ ls)).of hs)
   chain_leads t e l ls f fs s same first ready follows well true is hs =
       let own : t.is_itself && f.is_call ≡ true = ap (λ b. b && f.is_call) same ∙ is in
-      go_on (follows.own own hs) (links_lead ls fs ready (l t) (first.other t) well hs)
+      let v : Works (setting c) e follows.kind = works s.shown follows.kind follows.is in
+      go_on (v.code hs) (go_on (follows.own own hs) (links_lead ls fs ready (l t) (first.other t) well hs))
   chain_leads t e l ls f fs s same first ready follows well false is hs =
       let code : t.is_itself && f.is_call ≡ false = ap (λ b. b && f.is_call) same ∙ is in
       let v : Works (setting c) e follows.kind = works s.shown follows.kind follows.is in

@@ -28,8 +28,8 @@ use Rattle.ec_accepted.proofs.Frames.{Held}
 use Rattle.ec_accepted.proofs.Taking.{Taken, taken, only_integers, only_booleans, only_strings, type_of_taken, well_taken}
 use Rattle.ec_accepted.proofs.Making.{Arguments}
 use Rattle.ec_accepted.proofs.Pieces.{FitsAs, go_on}
-use Rattle.ec_accepted.proofs.Shown.{Goes, Works, passed_over, works}
-use Rattle.ec_accepted.proofs.Standing.{Stand, Known, Stated, AllStated, setting, site, types_in, each_fits}
+use Rattle.ec_accepted.proofs.Shown.{Goes, Works, works}
+use Rattle.ec_accepted.proofs.Standing.{Stand, Known, KnownOwn, Stated, AllStated, setting, site, types_in, each_fits}
 use Rattle.ec_accepted.proofs.Stopping.{above, held_if, own_with, rests, rests_with}
 use Rattle.ec_emission.specs.Lowered.{declared_of}
 use Rattle.ec_meaning.specs.Programs.{name_number}
@@ -70,7 +70,7 @@ module _ (c : Stand) (Right : Number → Type 0) (here : Known c Right) where
     abbrev invokes : Following
     invokes = record {
       code = λ h. all_code es (suc h) ++ op.Rest (rest_row action h (suc (length es)) result) ∷ [];
-      own_code = λ h. all_code es (suc h) ++ op.Rest (own_row action h (length es) result) ∷ [];
+      own_code = λ h. all_code es (suc h) ++ op.Rest (own_row action h (suc (length es)) result) ∷ [];
       is_call = true;
       gives = gives_result result;
       fits = all_fit es;
@@ -94,16 +94,16 @@ module _ (c : Stand) (Right : Number → Type 0) (here : Known c Right) where
 
     own_leads :
         (n : ℕ) (b : ByOwn c Right here n name es result) → c.own ≡ Some n → (hs : Held) →
-        Goes (setting c) (invokes.own_code (length hs)) hs (held_if result hs)
+        Goes (setting c) (invokes.own_code (length hs)) (Some (named n) ∷ hs) (held_if result hs)
     own_leads n b is hs =
+        let own : KnownOwn c n = here.own n is in
         let args = b.call.taken in
-        let held : Held = above (None ∷ hs) args.types in
-        go_on (passed_over (setting c) hs)
-        (go_on (all_lead es args.types args.work (None ∷ hs))
-        (subst (λ k. Goes (setting c) (op.Rest (own_row action (length hs) k result) ∷ []) held (held_if result hs))
+        let held : Held = above (Some (named n) ∷ hs) args.types in
+        go_on (all_lead es args.types args.work (Some (named n) ∷ hs))
+        (subst (λ k. Goes (setting c) (op.Rest (own_row action (length hs) (suc k) result) ∷ []) held (held_if result hs))
         args.count
-        (own_with (length c.operation.variables) hs args.types result fits_result action
-        (own_call c Right here n name es result (here.own n is) b))))
+        (own_with (length c.operation.variables) hs (named n ∷ args.types) result fits_result action
+        (sym own.type, own_call c Right here n name es result own b)))
 
     -- the own object has the operation
     own_number : (o : Option ℕ) → own_has (site c) o name xs result ≡ true → (n : ℕ) × (o ≡ Some n)

@@ -205,37 +205,33 @@ module _ {w : Setting} where
   rests_with known hs ts None fits action fine = rests_only known hs ts action fine
   rests_with known hs ts (Some t) fits action fine = rests known t hs ts (fits t refl) action fine
 
-  -- ---- the same on the own object, which stands below them and in no temporary
+  -- ---- the same on the own object, which is held first
 
   own_giving :
       (known : ℕ) (t : StaticType) (hs : Held) (ts : List StaticType) → FitsAs w t t → (action : Stop) →
       FineOwn w.declared w.parts w.number w.operation action ts (Some t) →
       Leads w (op.Rest (own_row action (length hs) (length ts) (Some t)) ∷ [])
-      (record { known = known; held = above (None ∷ hs) ts })
+      (record { known = known; held = above hs ts })
       (record { known = known; held = Some t ∷ hs })
   own_giving known t hs ts fits action fine =
-      stop_giving known t hs (above (None ∷ hs) ts) (within_above (None ∷ hs) ts) fits
-      (own_row action (length hs) (length ts) (Some t)) refl refl ts
-      (types_above w.declared w.parts w.operation.variables known (None ∷ hs) (above (None ∷ hs) ts) ts (λ e s h. h)) fine
+      stop_giving known t hs (above hs ts) (within_above hs ts) fits (own_row action (length hs) (length ts) (Some t))
+      refl refl ts
+      (types_above w.declared w.parts w.operation.variables known hs (above hs ts) ts (λ e s h. h)) fine
 
   own_only :
       (known : ℕ) (hs : Held) (ts : List StaticType) → (action : Stop) →
       FineOwn w.declared w.parts w.number w.operation action ts None →
-      Leads w (op.Rest (own_row action (length hs) (length ts) None) ∷ [])
-      (record { known = known; held = above (None ∷ hs) ts })
+      Leads w (op.Rest (own_row action (length hs) (length ts) None) ∷ []) (record { known = known; held = above hs ts })
       (record { known = known; held = hs })
   own_only known hs ts action fine =
-      stop_alone known hs (above (None ∷ hs) ts) (within_above (None ∷ hs) ts)
-      (own_row action (length hs) (length ts) None) refl refl
-      ts (types_above w.declared w.parts w.operation.variables known (None ∷ hs) (above (None ∷ hs) ts) ts (λ e s h. h))
-      fine
+      stop_alone known hs (above hs ts) (within_above hs ts) (own_row action (length hs) (length ts) None) refl refl ts
+      (types_above w.declared w.parts w.operation.variables known hs (above hs ts) ts (λ e s h. h)) fine
 
   pub own_with :
       (known : ℕ) (hs : Held) (ts : List StaticType) → (gives : Option StaticType) →
       ((t : StaticType) → gives ≡ Some t → FitsAs w t t) → (action : Stop) →
       FineOwn w.declared w.parts w.number w.operation action ts gives →
-      Leads w (op.Rest (own_row action (length hs) (length ts) gives) ∷ [])
-      (record { known = known; held = above (None ∷ hs) ts })
+      Leads w (op.Rest (own_row action (length hs) (length ts) gives) ∷ []) (record { known = known; held = above hs ts })
       (record { known = known; held = held_if gives hs })
   own_with known hs ts None fits action fine = own_only known hs ts action fine
   own_with known hs ts (Some t) fits action fine = own_giving known t hs ts (fits t refl) action fine

@@ -1,10 +1,11 @@
 -- What holds of each accepted program, and of the three-address code that it is lowered to.
 use Rattle.std.specs.Prelude.{◌≡◌, ℕ, true, false, List, map, Some, IsSome, slice_get}
-use Rattle.ec_emission.specs.AgreementLaws.{source_after}
+use Rattle.ec_emission.specs.AgreementLaws.{HoldsOperands, source_after}
 use Rattle.ec_ast.specs.declared.Program.{Program}
 use Rattle.ec_base.specs.Stack.{top_of, below_of}
 use Rattle.ec_check.specs.Accepted.{HasCore}
 use Rattle.ec_code.specs.Activations.{code_meaning, code_silent}
+use Rattle.ec_code.specs.declared.activation.CodeActivation.{CodeActivation}
 use Rattle.ec_code.specs.declared.code.Parts.{Parts}
 use Rattle.ec_code.specs.Fine.{Fine}
 use Rattle.ec_code.specs.Typing.{kind_of}
@@ -59,6 +60,12 @@ LoweredRunsAgree =
     (n : ℕ) (schedule : List Entry) (k : ℕ) →
     AgreeRun (SameRest source_meaning code_meaning) (run_after source_meaning (source_silent s) (source_start s n) schedule k)
     (run_after code_meaning (code_silent p) (first_world code_meaning n p.classes (map kind_of p.constants)) schedule k)
+
+-- While an invocation is pending in one of the code's worlds, its variables hold its operands.
+abbrev pub OperandsAreHeld : Type 0
+OperandsAreHeld =
+    (s : Source) (program : Program) (p : Parts) → IsAccepted s program → IsLowered s p → (n : ℕ) (entries : List RunEntry) (i : ℕ)
+    (top : CodeActivation) → top_of (stack_at (world_after p n entries) i) ≡ Some top → HoldsOperands p top
 
 -- ---- the source goes on
 

@@ -1,6 +1,6 @@
 //! What holds of each accepted program and of what it is lowered to.
 ghost use Rattle.ec_accepted.specs.Laws.{AcceptedIsSound, LoweredIsFine, LoweredRunsAgree, LoweredWorldsAgree};
-ghost use Rattle.ec_accepted.specs.Laws.{NoStepLacksACase, NoStopLacksACase, ReadyProcessesGoOn, TextsAreAccepted};
+ghost use Rattle.ec_accepted.specs.Laws.{NoStepLacksACase, NoStopLacksACase, OperandsAreHeld, ReadyProcessesGoOn, TextsAreAccepted};
 
 /// A text that has tokens, a tree and a core is an accepted program's.
 pub fn texts_are_accepted()
@@ -25,6 +25,12 @@ pub fn lowered_worlds_agree()
 /// So do they along each schedule, after so many entries.
 pub fn lowered_runs_agree()
     ensures { LoweredRunsAgree }
+{}
+
+/// While an invocation is pending in one of its worlds, its variables hold its operands, the own object too where this is the
+/// receiver.
+pub fn operands_are_held()
+    ensures { OperandsAreHeld }
 {}
 
 /// No pending stop of the source lacks a case.

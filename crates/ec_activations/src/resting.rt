@@ -6,7 +6,8 @@ pub fn each_rests_at_an_entry()
     ensures { EachRestsAtAnEntry }
 {}
 
-/// The operands of a pending stop are what the frame holds for them, behind the own object where this is one of them.
+/// The operands of a pending stop are what the frame holds for them, the own object in the place of the first where the action is
+/// on it.
 pub fn operands_are_held()
     ensures { OperandsAreHeld }
 {}

@@ -9,7 +9,6 @@ use Rattle.ec_asking.proofs.OfKind.{of_kind}
 use Rattle.ec_asking.specs.Typed.{AreTypedOnce}
 use Rattle.ec_code.specs.Activations.{variables_behind}
 use Rattle.ec_code.specs.Fine.{Has, HaveTypes}
-use Rattle.ec_code.specs.Steps.{with_itself}
 use Rattle.ec_code.specs.Typing.{Declared, kind_of}
 use Rattle.ec_code.specs.declared.activation.CodeActivation.{CodeActivation}
 use Rattle.ec_code.specs.declared.code.Live.{Live}
@@ -20,7 +19,10 @@ use Rattle.ec_types.specs.declared.conform.static_type.StaticType.{StaticType}
 use Rattle.ec_code.proofs.Among.{is_same_self, same_is}
 use Rattle.ec_code.specs.Marks.{is_same}
 use Rattle.ec_objects.specs.Kinds.{IsOfKind}
-use Rattle.ec_code.specs.RangesValues.{AllInRange}
+use Rattle.ec_code.specs.RangesValues.{AllInRange, InRange}
+use Rattle.ec_code.specs.Worlds.{RangedActivation}
+use Rattle.ec_code.proofs.Carried.{each_get}
+use Rattle.ec_code.proofs.RangesSteps.{behind_ranged}
 use Rattle.ec_activations.specs.RestingLaws.{its_entry}
 use Rattle.ec_code.specs.Sound.{SoundPending}
 use Rattle.ec_code.specs.SoundValues.{AreHeld, HasType, held}
@@ -43,10 +45,19 @@ pub typed_has : (live : List Live) (x : Variable) (t : StaticType) → Has live 
 typed_has [] x t h = absurd h
 typed_has (l ∷ ls) x t h = typed_by ls l x t (is_same l.variable x) refl h (λ i. typed_has ls x t i)
 
--- values behind the own object
-pub behind_itself : (b : Bool) (own : ℕ) (vs : List Value) → AllInRange (with_itself b own vs) → AllInRange vs
-behind_itself true own vs h = h.1
-behind_itself false own vs h = h
+-- ---- what variables hold is in range
+
+pub held_in_range : (p : Parts) (a : CodeActivation) → RangedActivation a → (x : Variable) (v : Value) →
+    held (variables_behind p a a.at) a.temporaries x ≡ Some v → InRange v
+held_in_range p a r (Named n) v e = each_get InRange (variables_behind p a a.at) n v (behind_ranged p a a.at r.variables) e
+held_in_range p a r (Temporary n) v e = each_get InRange a.temporaries n v r.temporaries e
+
+pub all_in_range : (p : Parts) (a : CodeActivation) → RangedActivation a → (xs : List Variable) (vs : List Value) →
+    AreHeld xs (variables_behind p a a.at) a.temporaries vs → AllInRange vs
+all_in_range p a r [] [] h = tt
+all_in_range p a r [] (v ∷ vs) h = absurd h
+all_in_range p a r (x ∷ xs) [] h = absurd h
+all_in_range p a r (x ∷ xs) (v ∷ vs) h = (held_in_range p a r x v h.0, all_in_range p a r xs vs h.1)
 
 module _ (d : Declared) (p : Parts) (objects : List ObjectRec) (a : CodeActivation) where
   held_is : (x : Variable) (v : Value) → held (variables_behind p a a.at) a.temporaries x ≡ Some v → value_in p a x ≡ v
@@ -73,9 +84,9 @@ module _ (d : Declared) (p : Parts) (objects : List ObjectRec) (a : CodeActivati
   kinds_by live (x ∷ xs) (t ∷ ts) (v ∷ vs) once have those fit ranged (suc i) l e =
       kinds_by live xs ts vs once have.1 those.1 fit.1 ranged.1 i l e
 
-  pub operand_kinds : (h : SoundPending d p objects a) → AreTypedOnce h.rests.line.live → AllInRange a.operands → (i : ℕ) (l : Live) →
+  pub operand_kinds : (h : SoundPending d p objects a) → AreTypedOnce h.rests.line.live → RangedActivation a → (i : ℕ) (l : Live) →
       slice_get (its_entry d p objects a h.rests).operands i ≡ Some l → IsOfKind (kind_of l.of) (value_in p a l.variable)
   operand_kinds h once ranged i l e =
       let fit = h.operands in
       kinds_by h.rests.line.live h.rests.row.operands h.rests.typed.types fit.values once h.rests.typed.are fit.those fit.fit
-      (behind_itself h.rests.row.on_itself a.own fit.values (subst AllInRange fit.are ranged)) i l e
+      (all_in_range p a ranged h.rests.row.operands fit.values fit.those) i l e

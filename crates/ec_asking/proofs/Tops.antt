@@ -27,7 +27,6 @@ use Rattle.ec_machine_code.specs.Stops as stops
 use Rattle.ec_node_frames.specs.Finishing.{RestsHere}
 use Rattle.ec_node_frames.specs.Operands.{ActsHere}
 use Rattle.ec_world.proofs.Procs.{get_end}
-use Rattle.ec_code.specs.RangesValues.{AllInRange}
 use Rattle.ec_code.specs.Worlds.{RangedActivation, RangedProc}
 use Rattle.ec_activations.proofs.Operands.{held_for_it}
 use Rattle.ec_activations.specs.RestingLaws.{its_entry}
@@ -121,10 +120,10 @@ module _ (d : Declared) (s : System) (w : CodeWorld) (below : List CodeActivatio
 
   -- ---- its operands
 
-  operands_ranged : AllInRange top.operands
-  operands_ranged =
+  top_ranged : RangedActivation top
+  top_ranged =
       let procs = each_get RangedProc w.processes who.process proc h.runs.ranged.processes h.is_top.is in
-      (each_get RangedActivation proc.activations who.depth top procs its_depth).operands
+      each_get RangedActivation proc.activations who.depth top procs its_depth
 
   pub operands_are : (e : StopEntry) (row : StopRow) (values : List Value) → e ≡ entry_here →
       HasStop s.cluster.parts who.operation e.place row →
@@ -175,7 +174,7 @@ module _ (d : Declared) (s : System) (w : CodeWorld) (below : List CodeActivatio
               kinds =
                   operand_kinds d s.cluster.parts w.common.objects top is_pending
                   (typed top.operation top.at is_pending.rests.of is_pending.rests.line is_pending.rests.is_operation
-                  is_pending.rests.is_line) operands_ranged;
+                  is_pending.rests.is_line) top_ranged;
             })
 
   -- ---- what it comes to

@@ -3,19 +3,18 @@ ghost use Rattle.std.specs.Prelude.{◌≡◌, List, IfOk};
 ghost use Rattle.ec_asking.specs.Asking.{Acts, HasStop, SomeActs};
 ghost use Rattle.ec_asking.specs.Typed.{IsTypedOnce};
 ghost use Rattle.ec_cluster.specs.Cluster.{CodeWorld};
-ghost use Rattle.ec_code.specs.Steps as steps;
 ghost use Rattle.ec_code.specs.Typing.{Declared};
 ghost use Rattle.ec_code.specs.declared.activation.CodeActivation.{CodeActivation};
 ghost use Rattle.ec_code.specs.declared.code.StopRow.{StopRow as Row};
 
-use ec_base::list::Seq;
 use ec_cluster::objects::node_of;
 use ec_cluster::stops::{entry_of, table_of};
 use ec_cluster::system::System;
 use ec_code::code::{Op, Parts, StopRow};
+use ec_code::steps::with_itself;
 use ec_node_frames::operands::operands_of;
 use ec_world::stop::{Stop, Who};
-use ec_world::value::{Oid, OpNo, Value, Values};
+use ec_world::value::{OpNo, Values};
 use std::alloc::{AllocError, Global};
 
 /// The stop of who acts, and the operands of its action. The error is want of memory.
@@ -36,7 +35,7 @@ pub(crate) fn stop_of(
     let entry = entry_of(table, node, who.process, who.depth);
     let values = operands_of(node, alloc, table, entry, who.process, who.depth)?;
     let row = row_at(&cluster.parts, who.operation, entry.place);
-    let operands = with_itself(alloc, row.on_itself, who.own, values)?;
+    let operands = with_itself(row.on_itself, who.own, values);
     Ok((row.stop, operands))
 }
 
@@ -50,22 +49,4 @@ fn row_at(parts: &Parts, operation: OpNo, place: u32) -> &StopRow
         Op::Rest(row) => row,
         _ => unreachable!(),
     }
-}
-
-/// Operands, behind the own object where this is one of them. The error is want of memory.
-fn with_itself(
-    alloc: Global,
-    on_itself: bool,
-    own: Oid,
-    others: Values,
-) -> Result<Values, AllocError>
-    ensures { IfOk result (λ vs. vs ≡ steps.with_itself on_itself own others) }
-{
-    if !on_itself {
-        return Ok(others);
-    }
-    let mut all = Seq::new(alloc);
-    all.push(Value::Ref(own))?;
-    all.append(others)?;
-    Ok(all)
 }

@@ -108,7 +108,8 @@ stores_ranged m h own n (Some v) r =
     record { common = stored m.common h.common own n v r; variables = h.variables; temporaries = h.temporaries }
 
 pub itself_ranged : (on_itself : Bool) (own : ℕ) (vs : List Value) → AllInRange vs → AllInRange (with_itself on_itself own vs)
-itself_ranged true own vs h = (tt, h)
+itself_ranged true own [] h = tt
+itself_ranged true own (v ∷ vs) h = (tt, h.1)
 itself_ranged false own vs h = h
 
 others_ranged : (v : Value) (vs : Option (List Value)) → InRange v → IfThere AllInRange vs → IfThere AllInRange (with_others v vs)
@@ -191,7 +192,7 @@ opened_ranged : (args : List Value) (count : ℕ) → AllInRange args → AllInR
 opened_ranged args count h =
     each_append InRange args (replicate (count - length args) Nil) h (each_replicate InRange (count - length args) Nil tt)
 
-behind_ranged : (p : Parts) (a : CodeActivation) (at : ℕ) → AllInRange a.variables → AllInRange (variables_behind p a at)
+pub behind_ranged : (p : Parts) (a : CodeActivation) (at : ℕ) → AllInRange a.variables → AllInRange (variables_behind p a at)
 behind_ranged p a zero h = opened_ranged a.variables (length (variables_if (operation_at p a.operation))) h
 behind_ranged p a (suc at) h = h
 

@@ -117,8 +117,10 @@ module _ (d : Declared) (p : Parts) (fine : Fine d p) (c : Common) (sound : Soun
   stop_sound (stop.Fail why line) ts vs h f = fails d p c sound o given who why line
 
   own_stop : (s : Stop) (ts : List StaticType) (vs : List Value) → Typed ts vs → FineOwn d p number o s ts given
-      → FineActed d p c o given (outcome_of c who s (Ref who.own ∷ vs))
-  own_stop (stop.Invoke name line) ts vs h f = own_call d p fine c sound o given who number name line ts vs at h f
+      → FineActed d p c o given (outcome_of c who s (with_itself true who.own vs))
+  own_stop (stop.Invoke name line) (t ∷ ts) (v ∷ vs) h f = own_call d p fine c sound o given who number name line ts vs at h.1 f.1
+  own_stop (stop.Invoke name line) (t ∷ ts) [] h f = absurd h
+  own_stop (stop.Invoke name line) [] vs h f = absurd f
   own_stop _ ts vs h f = absurd f
 
   pub stop_if_sound : (on_itself : Bool) (s : Stop) (ts : List StaticType) (vs : List Value) → Typed ts vs

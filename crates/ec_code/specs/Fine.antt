@@ -271,8 +271,10 @@ module _ (d : Declared) (p : Parts) where
       pub same : called.class ≡ Made place
       pub fits : TakesAndGives ts called.parameters called.result given
 
+    -- Its first operand is the own object, typed as its class is.
     abbrev pub FineOwn : Stop → List StaticType → Option StaticType → Type 0
-    FineOwn (stop.Invoke name line) ts given = OwnCall name ts given
+    FineOwn (stop.Invoke name line) (t ∷ ts) given = (t ≡ class_type d o.class) × OwnCall name ts given
+    FineOwn (stop.Invoke name line) [] given = ⊥
     FineOwn _ ts given = ⊥
 
     abbrev pub FineStopIf : Bool → Stop → List StaticType → Option StaticType → Type 0

@@ -95,7 +95,7 @@ module _ (d : Declared) (p : Parts) where
           IsGiven d p given a.into x t
           ⊎ ((a.into ≢ Some x) × IsOfType d objects t (held (variables_behind p a a.at) a.temporaries x))
 
-    -- the operands of a stop are the values of these variables and are of these types, behind the own object where this is one of them
+    -- The values of these variables are of these types, and with the own object where the action is on it they are the operands.
     pub record OperandsFit (on_itself : Bool) (own : ℕ) (types : List StaticType) (operands : List Value) (names : List Variable)
         (variables temporaries : List Value) : Type 0 where
       pub values : List Value

@@ -118,9 +118,10 @@ abbrev pub variables_at : Machine → List Variable → Option (List Value)
 variables_at m [] = Some []
 variables_at m (x ∷ xs) = and_others (variable_at m x) (variables_at m xs)
 
--- the own object first where it is one of them
+-- what some variables hold, as the operands of a stop: where its action is on the own object, this is the first one
 abbrev pub with_itself : Bool → ℕ → List Value → List Value
-with_itself true own vs = Ref own ∷ vs
+with_itself true own [] = []
+with_itself true own (v ∷ vs) = Ref own ∷ vs
 with_itself false own vs = vs
 
 -- ---- one step

@@ -50,8 +50,8 @@ pub enum Test {
     Divides(Operand, Operand),
 }
 
-/// A stop: what it is, whether the own object is its first operand, the variables that have its other operands, and, where
-/// it gives something, the static type of that and the variable that takes it.
+/// A stop: what it is, whether its action is on the own object, which then is its first operand, the variables that have its
+/// operands, and, where it gives something, the static type of that and the variable that takes it.
 #[derive(Drop)]
 pub struct StopRow {
     pub stop: Stop,

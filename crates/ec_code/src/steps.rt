@@ -1,11 +1,13 @@
-//! What a step reads and writes, and where the code may go on.
+//! What a step reads and writes, where the code may go on, and the operands of a stop.
 ghost use Rattle.std.specs.Prelude.{◌≡◌, ◌<◌, ◌+◌, suc, length};
 ghost use Rattle.ec_code.specs.Live as spec;
 ghost use Rattle.ec_code.specs.Marks as table;
+ghost use Rattle.ec_code.specs.Steps as steps;
 
 use crate::code::{Op, Operand, Test, Variable};
 use ec_base::list::Seq;
 use ec_world::stop::Stop;
+use ec_world::value::{Oid, Value, Values};
 
 /// Whether a place isn't marked, and the variable is live there by its step and by what is marked where the code may go on.
 pub(crate) fn is_missing(op: &Op, x: Variable, q: usize, marks: &[bool]) -> bool
@@ -155,4 +157,16 @@ pub(crate) fn is_marked(marks: &[bool], q: usize) -> bool
     ensures { result ≡ table.is_marked marks.now q }
 {
     q < marks.len() && marks[q]
+}
+
+/// What the variables of a stop hold, as its operands: where its action is on the own object, this is the first one.
+#[tactic(auto, using(crate::proofs::Itself::set_first, crate::proofs::Itself::no_first))]
+pub fn with_itself(on_itself: bool, own: Oid, held: Values) -> Values
+    ensures { result ≡ steps.with_itself on_itself own held }
+{
+    let mut operands = held;
+    if on_itself && operands.len() > 0 {
+        operands.set(0, Value::Ref(own));
+    }
+    operands
 }

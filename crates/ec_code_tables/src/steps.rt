@@ -62,16 +62,16 @@ fn gets(alloc: Global, to: Variable, what: &str) -> Result<String, AllocError> {
     format!(in alloc; "{to} <- {what}")
 }
 
-/// What a stop is, with the own object where it is an operand, its other operands, and where what it gives goes, and of
-/// which type that is.
+/// What a stop is, its operands, whether its action is on the own object, and where what it gives goes, and of which type
+/// that is.
 fn rest_text(alloc: Global, row: &StopRow) -> Result<String, AllocError> {
     let mut text = stop_text(alloc, row.stop)?;
-    if row.on_itself {
-        text.push_str(" self")?;
-    }
     for x in row.operands.as_slice() {
         text.push(' ')?;
         text.push_str(variable_text(alloc, *x)?.as_str())?;
+    }
+    if row.on_itself {
+        text.push_str(" on self")?;
     }
     if let Some(into) = row.into {
         text.push_str(" into ")?;

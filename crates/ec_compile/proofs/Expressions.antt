@@ -282,7 +282,8 @@ module _ (s : Source) (captured count : ℕ) (literals : Texts) where
       Within count top (m + budget_of_links xs) (chain_code x (followings xs) h own)
   chain_within {v} {m} {x} k xs n h top l true =
       let e : 1 ≤ v = k.some in
-      more (budget_of_links xs) _ _ (omega arith) (own_within xs n h top (omega arith) (omega arith))
+      join m (budget_of_links xs) (x.code h) (own_code (followings xs) h) (k.code h top (omega arith))
+      (own_within xs n h top (omega arith) (omega arith))
   chain_within {v} {m} {x} k xs n h top l false =
       let e : 1 ≤ v = k.some in
       join m (budget_of_links xs) (x.code h) (links_code (followings xs) h) (k.code h top (omega arith))
@@ -434,8 +435,8 @@ module _ (s : Source) (captured count : ℕ) (literals : Texts) where
             let room : suc h + length (codes xs) ≤ top = all_room xs c h 1 (suc h) top (omega arith) (omega arith) (omega arith) in
             more (budget_of_all xs + 1) _ _ (omega arith)
             (join (budget_of_all xs) 1 (all_code (codes xs) (suc h)) _ (all_within xs c h 1 (suc h) top (omega arith) (omega arith))
-            (one (op.Rest (own_row action h (length (codes xs)) result))
-            (temporaries_reach count top (suc h) (length (codes xs)) room, into_reaches count top result h l)));
+            (one (op.Rest (own_row action h (suc (length (codes xs))) result))
+            (temporaries_reach count top h (suc (length (codes xs))) (omega arith), into_reaches count top result h l)));
       }
   link_layer (Link-F.Call builtin xs at) c = record {
     code = λ h top l r.

@@ -29,7 +29,7 @@ pub record Sized (count height below : ℕ) (x : Emitted) : Type 0 where
   pub holds : Holds count height most x
   pub condition : (h top : ℕ) → h + height ≤ top → Asked count top most (x.condition h)
 
--- code behind a value in its temporary, or without it
+-- code behind a value in its temporary, also where this is the own object
 pub record Follows (count height below : ℕ) (f : Following) : Type 0 where
   pub code : (h top : ℕ) → h < top → h + height ≤ top → Within count top below (f.code h)
   pub own : (h top : ℕ) → h < top → h + height ≤ top → Within count top below (f.own_code h)

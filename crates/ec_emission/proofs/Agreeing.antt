@@ -36,9 +36,9 @@ use Rattle.ec_world.specs.declared.world.World.{World}
 use Rattle.ec_emission.proofs.Acting as acting
 use Rattle.ec_emission.proofs.Classes.{Stays, stays}
 use Rattle.ec_emission.proofs.AgreementGoing.{comes, goes_alike}
-use Rattle.ec_emission.proofs.Related.{Tops, Waits, tops_later, tops_operands, tops_same, waits_later, waits_same}
+use Rattle.ec_emission.proofs.Related.{Tops, Waits, tops_hold, tops_later, tops_operands, tops_same, waits_later, waits_same}
 use Rattle.ec_emission.specs.Agreement.{IsCodeOf, LoopsStand}
-use Rattle.ec_emission.specs.AgreementLaws.{source_after}
+use Rattle.ec_emission.specs.AgreementLaws.{HoldsOperands, source_after}
 
 -- The same activation acts alike in the same world.
 outcome_same : (process : ℕ) (c e : Common) (m n number other own object : ℕ) (s t : Stop) (us vs : List Value) → c ≡ e → m ≡ n →
@@ -145,6 +145,21 @@ module _ (Loops : LoopsStand) (s : Source) (d : Declared) (p : Parts) (code_of :
     follower : (a : SourceActivation) → top_of (stack_at w i) ≡ Some a → Follower a
     follower a e = follower_by a (top_of (stack_at w i)) (top_of (stack_at v i)) e refl stacks.top
 
+    -- ---- what the code's activations hold
+
+    holds_by : (b : CodeActivation) (x : Option SourceActivation) (y : Option CodeActivation) → y ≡ Some b → Maybe (On v.common) x y →
+        HoldsOperands p b
+    holds_by b (Some a) (Some y) e m =
+        let q : y ≡ b = cc in
+        subst (HoldsOperands p) q (tops_hold Loops s d p code_of v.common a y m)
+    holds_by b None (Some y) e m = absurd m
+    holds_by b x None e m = absurd cc
+
+    top_holds : (b : CodeActivation) → top_of (stack_at v i) ≡ Some b → HoldsOperands p b
+    top_holds b e = holds_by b (top_of (stack_at w i)) (top_of (stack_at v i)) e stacks.top
+
+    -- ---- what they tell of the source's
+
     stop_has_case : (a : SourceActivation) → top_of (stack_at w i) ≡ Some a → a.pending ≡ true →
         IsSome (outcome_at source_meaning w i (below_of (stack_at w i)) a)
     stop_has_case a e t =
@@ -202,3 +217,6 @@ module _ (Loops : LoopsStand) (s : Source) (d : Declared) (p : Parts) (code_of :
     pub ready_source_goes_on : (x : Proc SourceActivation) → slice_get (source_after s n entries).processes i ≡ Some x →
         x.status ≡ Ready → IsSome (top_of x.activations)
     ready_source_goes_on x e r = ready_goes_on (source_after s n entries) (world_after p n entries) (after_alike n entries) i x e r
+
+    pub operands_are_held : (b : CodeActivation) → top_of (stack_at (world_after p n entries) i) ≡ Some b → HoldsOperands p b
+    operands_are_held b e = top_holds (source_after s n entries) (world_after p n entries) (after_alike n entries) i b e

@@ -66,11 +66,12 @@ module _ {w : Setting} where
   links (l ∷ ls) [] a e hs = absurd a
   links (l ∷ ls) (f ∷ fs) a e hs = and_links f ls fs hs ((a.0 (first_fits f fs e)).code hs) a.1 e
 
-  -- the own object first, where it needs no code
+  -- the own object first
   own_links :
       {x : Expression} {e : Emitted} → (ls : List Link) → (fs : List Following) → Emits w x e → AllLinks w ls fs →
       links_fit fs ≡ true → own_call e.is_itself fs ≡ true → (hs : List Hold) →
-      Turns w (own_code fs (length hs)) hs (given (links_give true fs) hs) (i.Evaluate x ∷ map i.Follow ls) []
+      Turns w (e.code (length hs) ++ own_code fs (length hs)) hs (given (links_give true fs) hs)
+      (i.Evaluate x ∷ map i.Follow ls) []
   own_links ls [] t a f o hs = not_true o
   own_links [] (g ∷ fs) t a f o hs = absurd a
   own_links {x} {e} (l ∷ ls) (g ∷ fs) t a f o hs =
@@ -121,13 +122,13 @@ module _ {w : Setting} where
   pub rested_own :
       (action : Stop) → (of : Option StaticType) → (xs : List Expression) → (es : List Emitted) → AllGood w xs es →
       all_fit es ≡ true → (hs : List Hold) →
-      Turns w (all_code es (suc (length hs)) ++ op.Rest (own_row action (length hs) (length es) of) ∷ []) (Own ∷ hs)
+      Turns w (all_code es (suc (length hs)) ++ op.Rest (own_row action (length hs) (suc (length es)) of) ∷ []) (Own ∷ hs)
       (given (gives_result of) hs) (evaluated xs ++ i.Rest action (suc (length xs)) ∷ []) []
   rested_own action of xs es a f hs =
       in_turn (framed (i.Rest action (suc (length xs)) ∷ []) (all_held xs es a f (Own ∷ hs)))
       (subst
       (λ k.
-      Turns w (op.Rest (own_row action (length hs) (length es) of) ∷ []) (all_kept (length es) (Own ∷ hs))
+      Turns w (op.Rest (own_row action (length hs) (suc (length es)) of) ∷ []) (all_kept (length es) (Own ∷ hs))
       (given (gives_result of) hs) (i.Rest action (suc k) ∷ []) [])
       (same_number w xs es a)
       (one

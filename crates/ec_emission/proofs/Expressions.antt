@@ -21,7 +21,7 @@ use Rattle.ec_emission.proofs.Forms.{Emits, Good, AllGood, Says, value, plain, b
 use Rattle.ec_emission.proofs.Forms.{both_true, not_true, no_leaf, same_leaf, all_held, same_number, needs, all_needed}
 use Rattle.ec_emission.proofs.Operands.{operand, held, reads}
 use Rattle.ec_emission.proofs.Operators.{GoodApplied, AllApply, worked_out, adds, multiplies}
-use Rattle.ec_emission.proofs.Turns.{Setting, Comes, Turns, whose, in_turn, framed, one, silent, opened, nothing, stops, kept_under}
+use Rattle.ec_emission.proofs.Turns.{Setting, Comes, Turns, whose, in_turn, framed, one, opened, nothing, stops, kept_under}
 use Rattle.ec_emission.specs.Expressions.{Emitted, Following, Applied, fits_here, all_fit, all_code, fetch_all}
 use Rattle.ec_emission.specs.Expressions.{as_leaf, by_code, by_condition, itself, leaf_at, variable_if, then_stop, negated}
 use Rattle.ec_emission.specs.Expressions.{inverted, operand_of, fetch}
@@ -327,7 +327,7 @@ module _ (w : Setting) where
   layer Expression-F.Itself f =
       plain None true (λ h. op.Itself (variable.Temporary h) ∷ []) true true
       (λ hs. one (λ q zs is d. at.itself (comes_to w Expression-F.Itself) is d)) (λ l e hs. no_leaf l e)
-      (λ e hs. silent (λ q zs d. at.is_own (comes_to w Expression-F.Itself) d))
+      (λ e hs. one (λ q zs is d. at.is_own (comes_to w Expression-F.Itself) is d))
   layer (Expression-F.Read p) f =
       let comes = comes_to w (Expression-F.Read p) in
       plain (leaf_at w.source w.captured w.count w.literals p) false

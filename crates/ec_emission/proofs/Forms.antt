@@ -45,11 +45,11 @@ needs false x = i.AndThen x
 needs true x = i.OrElse x
 
 module _ (w : Setting) where
-  -- the code of an expression, it as an operand that needs none, and it as a condition
+  -- the code of an expression, it as an operand that needs none, it as the own object, and it as a condition
   pub record Emits (x : Expression) (e : Emitted) : Type 0 where
     pub code : (hs : List Hold) → Turns w (e.code (length hs)) hs (given e.gives hs) (i.Evaluate x ∷ []) []
     pub leaf : (l : Leaf) → e.leaf ≡ Some l → (hs : List Hold) → Turns w [] hs (Said l ∷ hs) (i.Evaluate x ∷ []) []
-    pub own : e.is_itself ≡ true → (hs : List Hold) → Turns w [] hs (Own ∷ hs) (i.Evaluate x ∷ []) []
+    pub own : e.is_itself ≡ true → (hs : List Hold) → Turns w (e.code (length hs)) hs (Own ∷ hs) (i.Evaluate x ∷ []) []
     pub condition : e.gives ≡ true → (hs : List Hold) → Asked w (e.condition (length hs)) hs (i.Evaluate x ∷ [])
 
   abbrev pub Good : Expression → Emitted → Type 0
@@ -93,7 +93,7 @@ module _ {w : Setting} where
       {x : Expression} → (leaf : Option Leaf) → (is_itself : Bool) → (code : ℕ → List Op) → (gives fits : Bool) →
       ((hs : List Hold) → Turns w (code (length hs)) hs (given gives hs) (i.Evaluate x ∷ []) []) →
       ((l : Leaf) → leaf ≡ Some l → (hs : List Hold) → Turns w [] hs (Said l ∷ hs) (i.Evaluate x ∷ []) []) →
-      (is_itself ≡ true → (hs : List Hold) → Turns w [] hs (Own ∷ hs) (i.Evaluate x ∷ []) []) →
+      (is_itself ≡ true → (hs : List Hold) → Turns w (code (length hs)) hs (Own ∷ hs) (i.Evaluate x ∷ []) []) →
       Emits
       w
       x

@@ -44,7 +44,7 @@ module _ (own : ℕ) where
   abbrev pub Has : List Value → List Value → ℕ → Hold → Value → Type 0
   Has vs ts n Kept v = slice_get ts n ≡ Some v
   Has vs ts n (Said l) v = said vs l ≡ Some v
-  Has vs ts n Own v = v ≡ value.Ref own
+  Has vs ts n Own v = (slice_get ts n ≡ Some v) × (v ≡ value.Ref own)
 
   abbrev pub HoldsAll : List Value → List Value → List Hold → List Value → Type 0
   HoldsAll vs ts [] held = held ≡ []
@@ -72,7 +72,7 @@ module _ (own : ℕ) where
   has_put : (vs ts : List Value) (d n : ℕ) (h : Hold) (u v : Value) → n < d → Has vs ts n h v → Has vs (put ts d u) n h v
   has_put vs ts d n Kept u v l a = put_keeps ts d n u v l a
   has_put vs ts d n (Said x) u v l a = a
-  has_put vs ts d n Own u v l a = a
+  has_put vs ts d n Own u v l a = (put_keeps ts d n u v l a.0, a.1)
 
   -- one more value is held
   pub holds_push : (vs ts : List Value) (hs : List Hold) (held : List Value) (h : Hold) (v : Value) → Has vs ts (length hs) h v →
@@ -84,11 +84,22 @@ module _ (own : ℕ) where
     below = subst (HoldsAll vs ts hs) (sym (below_of-push held v)) all;
   }
 
+  -- in its temporary
+  pub holds_put : (vs ts : List Value) (hs : List Hold) (held : List Value) (h : Hold) (v : Value) →
+      Has vs (put ts (length hs) v) (length hs) h v → HoldsAll vs ts hs held →
+      HoldsAll vs (put ts (length hs) v) (h ∷ hs) (held ++ v ∷ [])
+  holds_put vs ts hs held h v here all =
+      holds_push vs (put ts (length hs) v) hs held h v here
+      (held_along vs ts vs (put ts (length hs) v) hs held (λ n k u l. has_put vs ts (length hs) n k v u l) all)
+
   pub holds_kept : (vs ts : List Value) (hs : List Hold) (held : List Value) (v : Value) → HoldsAll vs ts hs held →
       HoldsAll vs (put ts (length hs) v) (Kept ∷ hs) (held ++ v ∷ [])
-  holds_kept vs ts hs held v all =
-      holds_push vs (put ts (length hs) v) hs held Kept v (put_here ts (length hs) v)
-      (held_along vs ts vs (put ts (length hs) v) hs held (λ n h u l. has_put vs ts (length hs) n h v u l) all)
+  holds_kept vs ts hs held v all = holds_put vs ts hs held Kept v (put_here ts (length hs) v) all
+
+  pub holds_own : (vs ts : List Value) (hs : List Hold) (held : List Value) → HoldsAll vs ts hs held →
+      HoldsAll vs (put ts (length hs) (value.Ref own)) (Own ∷ hs) (held ++ value.Ref own ∷ [])
+  holds_own vs ts hs held all =
+      holds_put vs ts hs held Own (value.Ref own) (put_here ts (length hs) (value.Ref own), refl) all
 
   -- ---- operands
 
@@ -103,7 +114,7 @@ module _ (own : ℕ) where
       operand_at m x ≡ Some v
   reads m n Kept v x a r = let e : temporary n ≡ x = cc in subst (λ y. operand_at m y ≡ Some v) e a
   reads m n (Said l) v x a r = let e : leaf_operand l ≡ x = cc in subst (λ y. operand_at m y ≡ Some v) e (said_is m l ∙ a)
-  reads m n Own v x a r = cc
+  reads m n Own v x a r = let e : temporary n ≡ x = cc in subst (λ y. operand_at m y ≡ Some v) e a.0
 
   -- ---- values held last, in their temporaries
 

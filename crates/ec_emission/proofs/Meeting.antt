@@ -3,9 +3,11 @@ use Rattle.std.proofs.Common.{◌≡◌, ℕ, suc, ◌+◌, ◌≤◌, List, [],
 use Rattle.std.proofs.Common.{arith}
 use Rattle.std.specs.Prelude.{slice_get}
 use Rattle.ec_base.specs.Stack.{below_of}
+use Rattle.ec_code.proofs.Held.{all_held}
 use Rattle.ec_code.specs.Activations.{Arrived}
+use Rattle.ec_code.specs.SoundValues.{AreHeld}
 use Rattle.ec_code.specs.Steps as code_steps
-use Rattle.ec_code.specs.Steps.{Machine, Done, act, operand_at, with_variable}
+use Rattle.ec_code.specs.Steps.{Machine, Done, act, operand_at, variables_at, with_variable}
 use Rattle.ec_code.specs.declared.code.Line.{Line}
 use Rattle.ec_code.specs.declared.code.Op.{Op}
 use Rattle.ec_code.specs.declared.code.Op.TheVariants as op
@@ -25,14 +27,15 @@ use Rattle.ec_meaning.specs.declared.item.Item.{Item}
 use Rattle.ec_meaning.specs.declared.item.Item.TheVariants as i
 use Rattle.ec_meaning.specs.declared.state.State.{State}
 use Rattle.ec_meaning.specs.declared.state.Whose.{Whose}
-use Rattle.ec_emission.proofs.Holding.{Has, HoldsAll, holds_kept, holds_push, reads}
+use Rattle.ec_emission.proofs.Holding.{Has, HoldsAll, holds_kept, holds_own, holds_push, reads}
 use Rattle.ec_emission.specs.Ops.{ops}
 use Rattle.ec_emission.proofs.Walking.{from, from_done, one_op}
 use Rattle.ec_emission.specs.Rows.{into_if}
-use Rattle.ec_emission.specs.Stands.{Hold, Kept, IsLast, Stands, one_more, read}
+use Rattle.ec_emission.specs.Stands.{Hold, Kept, Own, IsInvocation, IsLast, Stands, one_more, read}
 use Rattle.ec_world.specs.declared.common.Common.{Common}
 use Rattle.ec_world.specs.declared.stop.Stop.{Stop}
 use Rattle.ec_world.specs.declared.value.Value.{Value}
+use Rattle.ec_world.specs.declared.value.Value.TheVariants as value
 use Rattle.ec_world.specs.Objects.{object_at}
 
 abbrev pub under : State → State
@@ -85,6 +88,10 @@ module _ (r : Routine) (own : ℕ) where
   pub record AtStop (x : Reached) (y : Arrived) : Type 0 where
     pub action : x.action ≡ y.action
     pub operands : x.operands ≡ y.operands
+    -- Those of an invocation are the values of the variables that the row there names.
+    pub reads :
+        IsInvocation y.action → (row : StopRow) → IsAt r y.place (op.Rest row) →
+        AreHeld row.operands y.variables y.temporaries y.operands
     pub variables : x.variables ≡ y.variables
     pub many : r.count ≤ length y.variables
     pub holds : List Hold
@@ -123,6 +130,17 @@ module _ (r : Routine) (own : ℕ) where
     variables = f.variables;
     many = f.many;
     held = holds_kept own m.variables m.temporaries hs st.held v f.held;
+    owns = f.owns;
+  }
+
+  -- the own object, in the temporary above the others
+  pub fits_own : (hs : List Hold) (st : State) (m : Machine) → Fits hs st m →
+      Fits (Own ∷ hs) (pushed st (value.Ref own)) (with_variable m (variable.Temporary (length hs)) (value.Ref own))
+  fits_own hs st m f = record {
+    common = f.common;
+    variables = f.variables;
+    many = f.many;
+    held = holds_own own m.variables m.temporaries hs st.held f.held;
     owns = f.owns;
   }
 
@@ -232,9 +250,10 @@ module _ (r : Routine) (own : ℕ) where
 
   pub stops : (hs : List Hold) (q : ℕ) (row : StopRow) (operands : List Value) (items : List Item) (gives : Option StaticType)
       (st : State) (m : Machine) → IsAt r q (op.Rest row) →
-      act r.literals own m (op.Rest row) ≡ code_steps.Rests row operands → row.into ≡ into_if gives (length hs) → Fits hs st m →
+      act r.literals own m (op.Rest row) ≡ code_steps.Rests row operands → row.into ≡ into_if gives (length hs) →
+      (IsInvocation row.stop → variables_at m row.operands ≡ Some operands) → Fits hs st m →
       Behind r row.stop gives hs q items → Matched (st.common, Some (reached row.stop operands st items)) (walked q m)
-  stops hs q row operands items gives st m is g i f b =
+  stops hs q row operands items gives st m is g i held f b =
       by_op (st.common, Some (reached row.stop operands st items)) q m (op.Rest row) (code_steps.Rests row operands) is g
       (record {
         common = f.common;
@@ -242,6 +261,11 @@ module _ (r : Routine) (own : ℕ) where
         stops = record {
           action = refl;
           operands = refl;
+          reads = λ invokes other at.
+              let same : Some (op.Rest row) ≡ Some (op.Rest other) = sym is ∙ at in
+              let rows : row ≡ other = cc in
+              subst (λ (z : StopRow). AreHeld z.operands m.variables m.temporaries operands) rows
+              (all_held m row.operands operands (held invokes));
           variables = f.variables;
           many = f.many;
           holds = hs;

@@ -1,12 +1,15 @@
 -- Activations of the source, and those of its code that follow them.
 use Rattle.std.proofs.Common.{◌≡◌, ℕ, suc, Bool, true, false, List, [], length, reverse, Option, Some, None, refl, sym, ap, ◌∙◌, subst}
 use Rattle.std.proofs.lemmas.Bool.{true≢false}
-use Rattle.std.specs.Prelude.{is_some}
+use Rattle.std.proofs.lemmas.Option.{same_Some}
+use Rattle.std.specs.Prelude.{is_some, slice_get}
 use Rattle.ec_code.specs.Activations as of_code
 use Rattle.ec_code.specs.Activations.{Arrived, code_meaning, into_variable, operation_at}
 use Rattle.ec_code.specs.declared.activation.CodeActivation.{CodeActivation}
+use Rattle.ec_code.specs.declared.code.Op.TheVariants as op
 use Rattle.ec_code.specs.declared.code.Operation.{Operation}
 use Rattle.ec_code.specs.declared.code.Parts.{Parts}
+use Rattle.ec_code.specs.declared.code.StopRow.{StopRow}
 use Rattle.ec_code.specs.declared.code.Variable.{Variable}
 use Rattle.ec_code.specs.declared.code.Variable.TheVariants as variable
 use Rattle.ec_code.specs.Typing.{Declared}
@@ -17,18 +20,19 @@ use Rattle.ec_meaning.specs.Meaning.{Reached}
 use Rattle.ec_meaning.specs.Programs.{Source}
 use Rattle.ec_meaning.specs.Steps.{captured_by}
 use Rattle.ec_meaning.specs.declared.activation.SourceActivation.{SourceActivation}
-use Rattle.ec_code.specs.SoundValues.{class_in}
+use Rattle.ec_code.specs.SoundValues.{AreHeld, class_in}
 use Rattle.ec_emission.proofs.StandsGoing.{GivenAs}
 use Rattle.ec_emission.proofs.Meeting.{AtStop, Routine, StandsIn}
 use Rattle.ec_emission.specs.Ops.{ops}
 use Rattle.ec_emission.specs.Rows.{into_if}
-use Rattle.ec_emission.specs.Stands.{one_more}
+use Rattle.ec_emission.specs.Stands.{IsInvocation, one_more}
 use Rattle.ec_world.specs.Agree.{SameRest}
 use Rattle.ec_world.specs.declared.common.Common.{Common}
 use Rattle.ec_world.specs.declared.stop.Stop.TheVariants.{Entry}
 use Rattle.ec_world.specs.declared.value.Value.{Value}
 use Rattle.ec_emission.proofs.Classes.{Stays}
 use Rattle.ec_emission.specs.Agreement.{IsCodeOf, LoopsStand}
+use Rattle.ec_emission.specs.AgreementLaws.{HoldsOperands}
 
 -- ---- activations at stops
 
@@ -273,6 +277,21 @@ module _ (Loops : LoopsStand) (s : Source) (d : Declared) (p : Parts) (code_of :
   tops_operands c a b (is_pending k) t =
       ap (λ (z : SourceActivation). z.operands) k.source ∙ k.meet.same.operands ∙ sym (ap (λ (z : CodeActivation). z.operands) k.code)
   tops_operands c a b (is_done k) t = absurd (true≢false (sym t ∙ done_idle c a b k))
+
+  -- ---- what is held for an invocation
+
+  meet_holds : (c : Common) (number own : ℕ) (m : Meet c number own) (o : Operation) (row : StopRow) → operation_at p number ≡ Some o →
+      slice_get (ops o.code) m.arrived.place ≡ Some (op.Rest row) → IsInvocation m.arrived.action →
+      AreHeld row.operands m.arrived.variables m.arrived.temporaries m.arrived.operands
+  meet_holds c number own m o row is at invokes =
+      let same : o ≡ m.on.code = same_Some o m.on.code (sym is ∙ m.on.is) in
+      m.same.reads invokes row (subst (λ (z : Operation). slice_get (ops z.code) m.arrived.place ≡ Some (op.Rest row)) same at)
+
+  pub tops_hold : (c : Common) (a : SourceActivation) (b : CodeActivation) → Tops c a b → HoldsOperands p b
+  tops_hold c a b (is_at_entry k) = subst (HoldsOperands p) (sym k.code) (λ pending invokes o row is at. absurd invokes)
+  tops_hold c a b (is_pending k) =
+      subst (HoldsOperands p) (sym k.code) (λ pending invokes o row is at. meet_holds c k.number k.own k.meet o row is at invokes)
+  tops_hold c a b (is_done k) = λ pending invokes o row is at. absurd (true≢false (sym pending ∙ done_idle c a b k))
 
   -- ---- beside what comes later
 

@@ -54,7 +54,7 @@ module _ (r : Routine) (own : ℕ) where
   silent_alike (at.returns {x = x} {xs = xs} e d) = returns _ _ x xs (e own) (silent_alike d)
   silent_alike (at.discards {xs = xs} d) = discards _ _ xs (silent_alike d)
   silent_alike (at.says {x = x} {xs = xs} l e t d) = value.says r own _ _ x xs l (e own) t (silent_alike d)
-  silent_alike (at.is_own {x = x} {xs = xs} e d) = value.is_own r own _ _ x xs (e own) (silent_alike d)
+  silent_alike (at.is_own {x = x} {xs = xs} e is d) = value.is_own r own _ _ x xs (e own) is (silent_alike d)
   silent_alike (at.copies {x = x} {xs = xs} l e is d) = value.copies r own _ _ x xs l (e own) is (silent_alike d)
   silent_alike (at.literal {x = x} {xs = xs} text index e g is d) = value.literal r own _ _ x xs text index (e own) g is (silent_alike d)
   silent_alike (at.itself {x = x} {xs = xs} e is d) = value.gives_itself r own _ _ x xs (e own) is (silent_alike d)

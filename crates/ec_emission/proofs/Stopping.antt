@@ -5,8 +5,9 @@ use Rattle.std.specs.Prelude.{slice_get}
 use Rattle.ec_base.proofs.Stacks.{stack_parts}
 use Rattle.ec_base.specs.Stack.{below_of}
 use Rattle.ec_code.specs.Steps as code_steps
-use Rattle.ec_code.specs.Steps.{Machine, and_others}
+use Rattle.ec_code.specs.Steps.{Machine, and_others, variables_at}
 use Rattle.ec_code.specs.declared.code.Op.TheVariants as op
+use Rattle.ec_code.specs.declared.code.StopRow.{StopRow}
 use Rattle.ec_types.specs.declared.conform.static_type.StaticType.{StaticType}
 use Rattle.ec_core.specs.declared.Block.{Block}
 use Rattle.ec_meaning.specs.Steps.{Rests, NoCase, block_items, holding, rest_at, returned, step}
@@ -17,7 +18,7 @@ use Rattle.ec_emission.proofs.Holding.{Above, Has, HoldsAll, parted, rest_takes}
 use Rattle.ec_emission.proofs.Meeting.{Behind, Fits, IsAt, Matched, Meets, Routine, StandsIn, by_op, fits_holding, goes_on, is_last, itself}
 use Rattle.ec_emission.proofs.Meeting.{settled, silent, stops, stuck, walked}
 use Rattle.ec_emission.proofs.Values.{ComesTo}
-use Rattle.ec_emission.specs.Rows.{bare_row, own_row, rest_row, return_row}
+use Rattle.ec_emission.specs.Rows.{bare_row, own_row, rest_row, return_row, temporaries}
 use Rattle.ec_emission.specs.Stands.{Hold, IsLast, Own, all_kept, one_more}
 use Rattle.ec_world.specs.declared.stop.Stop.{Stop}
 use Rattle.ec_world.specs.declared.stop.Stop.TheVariants as stop
@@ -31,7 +32,7 @@ module _ (r : Routine) (own : ℕ) where
       IsAt r q (op.Rest (bare_row action)) → Behind r action None hs q (more ++ xs) → Meets r own hs q (x ∷ xs)
   bare hs q x action more xs e is b st m f =
       silent r own st x xs (walked r own q m) (Rests action [] st more) (e st)
-      (stops r own hs q (bare_row action) [] (more ++ xs) None st m is refl refl f b)
+      (stops r own hs q (bare_row action) [] (more ++ xs) None st m is refl refl (λ invokes. refl) f b)
 
   pub waits : (hs : List Hold) (q : ℕ) (x : Item) (action : Stop) (xs : List Item) → ComesTo r own x (λ st. Rests action [] st []) →
       IsAt r q (op.Rest (bare_row action)) → StandsIn r hs (suc q) xs → Meets r own hs q (x ∷ xs)
@@ -58,24 +59,27 @@ module _ (r : Routine) (own : ℕ) where
       silent r own st (i.Rest action takes) xs (walked r own q m) (Rests action p.last (holding st p.base) [])
       (rest_takes action st p.base p.last takes p.is p.many)
       (stops r own hs q (rest_row action (length hs) takes gives) p.last xs gives (holding st p.base) m is
-      (ap (code_steps.rests (rest_row action (length hs) takes gives) own) p.read) refl
+      (ap (code_steps.rests (rest_row action (length hs) takes gives) own) p.read) refl (λ invokes. p.read)
       (fits_holding r own (all_kept takes hs) st m hs p.base p.holds f) (goes_on d))
 
   pub calls_own : (hs : List Hold) (q takes : ℕ) (action : Stop) (xs : List Item) (gives : Option StaticType) →
-      IsAt r q (op.Rest (own_row action (length hs) takes gives)) → StandsIn r (one_more gives hs) (suc q) xs →
+      IsAt r q (op.Rest (own_row action (length hs) (suc takes) gives)) → StandsIn r (one_more gives hs) (suc q) xs →
       Meets r own (all_kept takes (Own ∷ hs)) q (i.Rest action (suc takes) ∷ xs)
   calls_own hs q takes action xs gives is d st m f =
       let p = parted own m takes (Own ∷ hs) st.held f.held in
       let o : Above (Has own m.variables m.temporaries (length hs) Own) (HoldsAll own m.variables m.temporaries hs) p.base = p.holds in
       let base : List Value = below_of p.base in
       let last : List Value = value.Ref own ∷ p.last in
+      let row : StopRow = own_row action (length hs) (suc takes) gives in
       let e : st.held ≡ base ++ last =
-      p.is ∙ ap (λ l. l ++ p.last) (stack_parts p.base o.value o.is ∙ ap (λ v. base ++ v ∷ []) o.here)
+      p.is ∙ ap (λ l. l ++ p.last) (stack_parts p.base o.value o.is ∙ ap (λ v. base ++ v ∷ []) o.here.1)
       ∙ append_assoc base (value.Ref own ∷ []) p.last in
+      let read : variables_at m (temporaries (length hs) (suc takes)) ≡ Some last =
+      ap (λ v. and_others v (variables_at m (temporaries (suc (length hs)) takes))) o.here.0
+      ∙ ap (λ vs. and_others (Some o.value) vs) p.read ∙ ap (λ v. Some (v ∷ p.last)) o.here.1 in
       silent r own st (i.Rest action (suc takes)) xs (walked r own q m) (Rests action last (holding st base) [])
       (rest_takes action st base last (suc takes) e (ap suc p.many))
-      (stops r own hs q (own_row action (length hs) takes gives) last xs gives (holding st base) m is
-      (ap (code_steps.rests (own_row action (length hs) takes gives) own) p.read) refl
+      (stops r own hs q row last xs gives (holding st base) m is (ap (code_steps.rests row own) read) refl (λ invokes. read)
       (fits_holding r own (all_kept takes (Own ∷ hs)) st m hs base o.below f) (goes_on d))
 
   -- a named variable, where it is there
@@ -89,7 +93,7 @@ module _ (r : Routine) (own : ℕ) where
   back_if hs q k x xs st m (Some v) e g is f =
       silent r own st x xs (walked r own q m) (Rests (stop.Return false) (v ∷ []) st []) e
       (stops r own hs q (return_row k) (v ∷ []) xs None st m is
-      (ap (λ o. code_steps.rests (return_row k) own (and_others o (Some []))) g) refl f (is_last tt))
+      (ap (λ o. code_steps.rests (return_row k) own (and_others o (Some []))) g) refl (λ invokes. absurd invokes) f (is_last tt))
 
   pub gives_back : (hs : List Hold) (q k : ℕ) (x : Item) (xs : List Item) →
       ComesTo r own x (λ st. returned st true (slice_get st.variables k)) → IsAt r q (op.Rest (return_row k)) → Meets r own hs q (x ∷ xs)
@@ -115,6 +119,7 @@ module _ (r : Routine) (own : ℕ) where
         stops = record {
           action = refl;
           operands = refl;
+          reads = λ invokes row at. absurd invokes;
           variables = f.variables;
           many = f.many;
           holds = [];

@@ -238,7 +238,7 @@ module _ (r : Routine) (own : ℕ) where
       at_place r own (settled r own below xs) (suc (suc q)) (suc (q + 1)) m (omega arith) (k below m f)
   require_ways hs pl xs q m fails k now below false f =
       next r own _ q m
-      (stops r own hs (suc q) (fail_row cause.FalseAssertion (line r.source pl)) [] xs None below m fails refl refl f (is_last tt))
+      (stops r own hs (suc q) (fail_row cause.FalseAssertion (line r.source pl)) [] xs None below m fails refl refl (λ invokes. refl) f (is_last tt))
 
   pub requires : {ks hs : List Hold} {before : List Item} {asks : Test} {wanted : Bool} (pl : ℕ) (xs : List Item) (q : ℕ) →
       AsksIn ks before hs asks wanted → IsAt r q (op.Branch asks wanted 1) →

@@ -31,7 +31,7 @@ use Rattle.ec_meaning.specs.declared.item.Item.TheVariants as i
 use Rattle.ec_meaning.specs.declared.state.State.{State}
 use Rattle.ec_world.specs.Same as same
 use Rattle.ec_emission.proofs.Holding.{said_is}
-use Rattle.ec_emission.proofs.Meeting.{Fits, IsAt, Matched, Meets, Routine, at_place, by_op, done, fits_kept, fits_push, gives_on, is_last}
+use Rattle.ec_emission.proofs.Meeting.{Fits, IsAt, Matched, Meets, Routine, at_place, by_op, done, fits_kept, fits_own, fits_push, gives_on, goes, is_last}
 use Rattle.ec_emission.proofs.Meeting.{itself, left, next, settled}
 use Rattle.ec_emission.proofs.Meeting.{silent, stops, stuck, top, top_two, under, walked}
 use Rattle.ec_emission.specs.Leaves.{Leaf, Named, Number, Truth, Nil, IsThereOf, leaf_operand, said}
@@ -110,12 +110,6 @@ module _ (r : Routine) (own : ℕ) where
       silent r own st x xs (walked r own q m) (gives st v.0) (e st ∙ ap (gives_if st) g)
       (k (pushed st v.0) m (fits_push r own hs st m (Said l) v.0 v.1 f))
 
-  pub is_own : (hs : List Hold) (q : ℕ) (x : Item) (xs : List Item) → ComesTo x (λ st. gives st (value.Ref own)) →
-      Meets r own (Own ∷ hs) q xs → Meets r own hs q (x ∷ xs)
-  is_own hs q x xs e k st m f =
-      silent r own st x xs (walked r own q m) (gives st (value.Ref own)) (e st)
-      (k (pushed st (value.Ref own)) m (fits_push r own hs st m Own (value.Ref own) refl f))
-
   -- ---- what is read
 
   pub copies : (hs : List Hold) (q : ℕ) (x : Item) (xs : List Item) (l : Leaf) → ComesTo x (λ st. gives_if st (said st.variables l)) →
@@ -135,6 +129,13 @@ module _ (r : Routine) (own : ℕ) where
       IsAt r q (op.Itself (into hs)) → Meets r own (Kept ∷ hs) (suc q) xs → Meets r own hs q (x ∷ xs)
   gives_itself hs q x xs e is k st m f =
       gives_on r own x xs q (op.Itself (into hs)) hs hs st st m (Some (value.Ref own)) (e st) is refl f f k
+
+  -- the same, where it is kept that this is the own object
+  pub is_own : (hs : List Hold) (q : ℕ) (x : Item) (xs : List Item) → ComesTo x (λ st. gives st (value.Ref own)) →
+      IsAt r q (op.Itself (into hs)) → Meets r own (Own ∷ hs) (suc q) xs → Meets r own hs q (x ∷ xs)
+  is_own hs q x xs e is k st m f =
+      goes r own x xs q (op.Itself (into hs)) (Own ∷ hs) st (pushed st (value.Ref own)) m
+      (with_variable m (into hs) (value.Ref own)) (e st) is refl (fits_own r own hs st m f) k
 
   abbrev fetch : Variable → Place → Op
   fetch to p = fetched r.source r.number r.captured r.count r.literals r.code r.Loop to p
@@ -208,7 +209,7 @@ module _ (r : Routine) (own : ℕ) where
       (done r own q m (passes m 1 (as_wanted true (Some (not z)))))
   quotient hs q at by xs st below m x y a b d u v f fails is k true e =
       next r own _ q m
-      (stops r own hs (suc q) (fail_row cause.ZeroDivisor (line r.source at)) [] xs None below m fails refl refl f (is_last tt))
+      (stops r own hs (suc q) (fail_row cause.ZeroDivisor (line r.source at)) [] xs None below m fails refl refl (λ invokes. refl) f (is_last tt))
   quotient hs q at by xs st below m x y a b d u v f fails is k false e =
       let w : Value = value.Int (calculated by x y) in
       let new : Machine = with_variable m (into hs) w in

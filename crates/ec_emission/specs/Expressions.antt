@@ -200,8 +200,8 @@ comparison how x y (Some o) =
 
 -- ---- chains
 
--- what follows a value: its code, where the value is in its temporary or is the own object; whether the own object may be
--- that value without one; whether it gives a value
+-- what follows a value in its temporary: its code, and that where the value is the own object; whether it invokes an
+-- operation; whether it gives a value
 pub record Following : Type 0 where
   pub code : ℕ → List Op
   pub own_code : ℕ → List Op
@@ -231,10 +231,13 @@ abbrev pub own_code : List Following → ℕ → List Op
 own_code [] h = []
 own_code (l ∷ ls) h = l.own_code h ++ links_code ls h
 
--- The own object is no operand of its own where its operation is invoked.
+-- what follows, where it may begin with an invocation on the own object
+abbrev pub following_code : List Following → ℕ → Bool → List Op
+following_code ls h true = own_code ls h
+following_code ls h false = links_code ls h
+
 abbrev pub chain_code : Emitted → List Following → ℕ → Bool → List Op
-chain_code x ls h true = own_code ls h
-chain_code x ls h false = x.code h ++ links_code ls h
+chain_code x ls h own = x.code h ++ following_code ls h own
 
 abbrev pub chain : Emitted → List Following → Emitted
 chain x ls =
@@ -379,7 +382,7 @@ module _ (s : Source) (captured count : ℕ) (literals : List (List ℕ)) where
       let action : Stop = stop.Invoke (name_number s name) (line s at) in
       record {
         code = λ h. all_code xs (suc h) ++ op.Rest (rest_row action h (suc (length xs)) result) ∷ [];
-        own_code = λ h. all_code xs (suc h) ++ op.Rest (own_row action h (length xs) result) ∷ [];
+        own_code = λ h. all_code xs (suc h) ++ op.Rest (own_row action h (suc (length xs)) result) ∷ [];
         is_call = true;
         gives = gives_result result;
         fits = all_fit xs;

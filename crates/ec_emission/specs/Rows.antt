@@ -22,10 +22,10 @@ abbrev pub rest_row : Stop → ℕ → ℕ → Option StaticType → StopRow
 rest_row action h takes gives =
     record { stop = action; on_itself = false; operands = temporaries h takes; gives = gives; into = into_if gives h }
 
--- a stop that takes the own object and the values in so many temporaries, above the place of the own object
+-- the same on the own object, which is in the first of these temporaries
 abbrev pub own_row : Stop → ℕ → ℕ → Option StaticType → StopRow
 own_row action h takes gives =
-    record { stop = action; on_itself = true; operands = temporaries (suc h) takes; gives = gives; into = into_if gives h }
+    record { stop = action; on_itself = true; operands = temporaries h takes; gives = gives; into = into_if gives h }
 
 -- a stop that takes nothing and gives nothing
 abbrev pub bare_row : Stop → StopRow

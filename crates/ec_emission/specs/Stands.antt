@@ -38,7 +38,7 @@ use Rattle.ec_world.specs.declared.value.Value.TheVariants as value
 
 -- ---- values that are held
 
--- A value that is held lies in the temporary of its depth, or the code says it, or it is the own object.
+-- A value that is held lies in the temporary of its depth, or the code says it, or it lies there and is the own object.
 pub data Hold : Type 0 where
   Kept : Hold
   Said : Leaf → Hold
@@ -48,7 +48,7 @@ pub data Hold : Type 0 where
 abbrev pub read : ℕ → Hold → Option Operand
 read h Kept = Some (temporary h)
 read h (Said l) = Some (leaf_operand l)
-read h Own = None
+read h Own = Some (temporary h)
 
 -- so many values in their temporaries, above others
 abbrev pub all_kept : ℕ → List Hold → List Hold
@@ -77,6 +77,11 @@ IsLast (stop.Return gives_self) = Unit {0}
 IsLast stop.End = Unit {0}
 IsLast (stop.Fail why line) = Unit {0}
 IsLast _ = ⊥
+
+-- an operation is invoked
+abbrev pub IsInvocation : Stop → Type 0
+IsInvocation (stop.Invoke name line) = Unit {0}
+IsInvocation _ = ⊥
 
 -- The activation is one of operation `number`, whose own object's class captures so many names; it has so many named
 -- variables; `literals` are the program's. `Loop top again b`: the code of a loop over b stands from its loop top up to the
@@ -155,8 +160,8 @@ module _ (s : Source) (number captured count : ℕ) (literals : List (List ℕ))
         {hs : List Hold} {q : ℕ} {x : Item} {xs : List Item} → (l : Leaf) → Comes x (λ own st. gives_if st (leaf_value st l)) →
         IsThere l → Stands (Said l ∷ hs) q xs → Stands hs q (x ∷ xs)
     is_own :
-        {hs : List Hold} {q : ℕ} {x : Item} {xs : List Item} → Comes x (λ own st. gives st (value.Ref own)) → Stands (Own ∷ hs) q xs →
-        Stands hs q (x ∷ xs)
+        {hs : List Hold} {q : ℕ} {x : Item} {xs : List Item} → Comes x (λ own st. gives st (value.Ref own)) →
+        Is q (op.Itself (variable.Temporary (length hs))) → Stands (Own ∷ hs) (suc q) xs → Stands hs q (x ∷ xs)
     copies :
         {hs : List Hold} {q : ℕ} {x : Item} {xs : List Item} → (l : Leaf) → Comes x (λ own st. gives_if st (leaf_value st l)) →
         Is q (op.Copy (variable.Temporary (length hs)) (leaf_operand l)) → Stands (Kept ∷ hs) (suc q) xs → Stands hs q (x ∷ xs)
@@ -245,7 +250,7 @@ module _ (s : Source) (number captured count : ℕ) (literals : List (List ℕ))
         Stands (all_kept takes hs) q (i.Rest action takes ∷ xs)
     calls_own :
         {q takes : ℕ} {action : Stop} {xs : List Item} → (hs : List Hold) → (gives : Option StaticType) →
-        Is q (op.Rest (own_row action (length hs) takes gives)) → Stands (one_more gives hs) (suc q) xs →
+        Is q (op.Rest (own_row action (length hs) (suc takes) gives)) → Stands (one_more gives hs) (suc q) xs →
         Stands (all_kept takes (Own ∷ hs)) q (i.Rest action (suc takes) ∷ xs)
     waits :
         {hs : List Hold} {q : ℕ} {x : Item} {action : Stop} {xs : List Item} → Comes x (λ own st. Rests action [] st []) →

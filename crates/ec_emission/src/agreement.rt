@@ -1,6 +1,7 @@
 //! What holds of a program and its three-address code.
 ghost use Rattle.ec_emission.specs.Agreement.{LoopsStand};
-ghost use Rattle.ec_emission.specs.AgreementLaws.{NoSourceStepLacksACase, NoSourceStopLacksACase, ReadySourcesGoOn, RunsAgree, WorldsAgree};
+ghost use Rattle.ec_emission.specs.AgreementLaws.{NoSourceStepLacksACase, NoSourceStopLacksACase, OperandsAreHeld, ReadySourcesGoOn};
+ghost use Rattle.ec_emission.specs.AgreementLaws.{RunsAgree, WorldsAgree};
 
 /// Whoever writes code for sources says how loops stand in it.
 pub trait Loops {
@@ -30,4 +31,10 @@ pub fn no_source_step_lacks_a_case<L: Loops>()
 /// In each of the source's worlds a process that is Ready has an activation on top.
 pub fn ready_sources_go_on<L: Loops>()
     ensures { ReadySourcesGoOn L.stand }
+{}
+
+/// While an invocation is pending in one of the code's worlds, its variables hold its operands, the own object too where this is
+/// the receiver.
+pub fn operands_are_held<L: Loops>()
+    ensures { OperandsAreHeld L.stand }
 {}

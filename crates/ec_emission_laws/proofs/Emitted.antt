@@ -18,7 +18,7 @@ use Rattle.ec_emission.specs.Expressions.{chain, chain_code, code_or, compared_p
 use Rattle.ec_emission.specs.Expressions.{first_code}
 use Rattle.ec_emission.specs.Expressions.{first_operand, holds, inverted, itself, joined, leaf_at, links_code, multiplied, needed_code}
 use Rattle.ec_emission.specs.Expressions.{negated}
-use Rattle.ec_emission.specs.Expressions.{operand_code, operand_of, operand_or, own_call, own_code, pair_code, pair_first, pair_second}
+use Rattle.ec_emission.specs.Expressions.{operand_code, operand_of, operand_or, own_call, own_code, following_code, pair_code, pair_first, pair_second}
 use Rattle.ec_emission.specs.Expressions.{read}
 use Rattle.ec_emission.specs.Expressions.{test_of, variable_if}
 use Rattle.ec_meaning.specs.Programs.{Source}
@@ -197,10 +197,13 @@ own_small : (ls : List Following) → Each SmallFollowing ls → (h : ℕ) → S
 own_small [] k h = tt
 own_small (l ∷ ls) k h = let j = k.0 in both (l.own_code h) (links_code ls h) (j.own_code h) (links_small ls k.1 h)
 
+following_small : (ls : List Following) → Each SmallFollowing ls → (h : ℕ) (own : Bool) → Small (following_code ls h own)
+following_small ls k h true = own_small ls k h
+following_small ls k h false = links_small ls k h
+
 chain_code_small : (x : Emitted) (ls : List Following) → SmallEmitted x → Each SmallFollowing ls → (h : ℕ) (own : Bool)
     → Small (chain_code x ls h own)
-chain_code_small x ls j k h true = own_small ls k h
-chain_code_small x ls j k h false = both (x.code h) (links_code ls h) (j.code h) (links_small ls k h)
+chain_code_small x ls j k h own = both (x.code h) (following_code ls h own) (j.code h) (following_small ls k h own)
 
 pub chain_small : (x : Emitted) (ls : List Following) → SmallEmitted x → Each SmallFollowing ls → SmallEmitted (chain x ls)
 chain_small x ls j k =

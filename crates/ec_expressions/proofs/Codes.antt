@@ -15,7 +15,7 @@ use Rattle.ec_core.specs.declared.Expression.{Expression, out-Expression}
 use Rattle.ec_core.specs.declared.Expression.TheOpen.{Expression-F, Link-F}
 use Rattle.ec_core.specs.declared.Link.{Link, out-Link}
 use Rattle.ec_core.specs.declared.Place.{Place}
-use Rattle.ec_emission.specs.Expressions.{Emitted, Following, Condition, all_code, links_code, own_call, chain_code}
+use Rattle.ec_emission.specs.Expressions.{Emitted, Following, Condition, all_code, links_code, own_call, chain_code, following_code}
 use Rattle.ec_emission.specs.Expressions.{needed_code}
 use Rattle.ec_emission.specs.Expressions.{comparison, pair_second, test_of, wanted_of, stop_order, operand_code, operand_of}
 use Rattle.ec_emission.specs.Expressions.{first_code, first_operand, stops_at, builtin_type, fetch_all}
@@ -24,7 +24,7 @@ use Rattle.ec_expressions.proofs.Parts.{of_expression, of_link, layer, link_laye
 use Rattle.ec_expressions.specs.Emitting.{source_by, count_by, emitted_by, following_by, AnExpression, ALink, leaf_in}
 use Rattle.ec_expressions.specs.Emitting.{itself_in, is_call_in}
 use Rattle.ec_expressions.specs.Emitting.{is_leaf, is_own_by, fetch_by, fetch_onto, all_onto, needed_onto, arguments_onto}
-use Rattle.ec_expressions.specs.Emitting.{links_onto, head_by}
+use Rattle.ec_expressions.specs.Emitting.{links_onto}
 use Rattle.ec_expressions.specs.Emitting.{stop_if, makes, left_code, over_operand, compares_over, needs_no_code, is_test}
 use Rattle.ec_expressions.specs.Emitting.{steps_in, code_onto}
 use Rattle.ec_expressions.specs.Emitting.{compared_in, condition_in}
@@ -168,7 +168,7 @@ module _ (m : Emitter) where
       ∙ ap
       (λ k.
       (all_code (map (emitted_by m) xs) (suc h)
-      ++ op.Rest (own_row (stop.Invoke (name_number (source_by m) name) (line (source_by m) at)) h k result)
+      ++ op.Rest (own_row (stop.Invoke (name_number (source_by m) name) (line (source_by m) at)) h (suc k) result)
       ∷ [])
       ++ old) (sym (length-map xs (emitted_by m)))
   own_at_layer (Link-F.Call builtin xs at) h old e = cc
@@ -206,21 +206,27 @@ module _ (m : Emitter) where
   second true b e = e
   second false b e = cc
 
-  chained : (b : Bool) (x : Expression) (ls : List Link) (h : ℕ) (old : List Op) → is_own_by (out-Expression x) ls ≡ b →
-      head_by m b x h ++ links_onto m b 0 ls h old ≡ chain_code (emitted_by m x) (map (following_by m) ls) h b ++ old
-  chained false x [] h old e = sym (append_assoc ((emitted_by m x).code h) [] old)
-  chained false x (l ∷ ls) h old e =
-      let head : List Op = (emitted_by m x).code h in
+  first_links : (b : Bool) (x : Expression) (ls : List Link) (h : ℕ) (old : List Op) → is_own_by (out-Expression x) ls ≡ b →
+      links_onto m b 0 ls h old ≡ following_code (map (following_by m) ls) h b ++ old
+  first_links false x [] h old e = refl
+  first_links true x [] h old e = refl
+  first_links false x (l ∷ ls) h old e =
       let more : List Op = links_code (map (following_by m) ls) h in
-      ap (λ xs. head ++ arguments_onto m (out-Link l) (suc h) (stop_if m false (out-Link l) h ++ xs)) (later_links ls false 0 h old)
-      ∙ ap (λ xs. head ++ xs) (one_link l h (more ++ old) ∙ sym (append_assoc ((following_by m l).code h) more old))
-      ∙ sym (append_assoc head ((following_by m l).code h ++ more) old)
-  chained true x [] h old e = refl
-  chained true x (l ∷ ls) h old e =
+      ap (λ xs. arguments_onto m (out-Link l) (suc h) (stop_if m false (out-Link l) h ++ xs)) (later_links ls false 0 h old)
+      ∙ one_link l h (more ++ old)
+      ∙ sym (append_assoc ((following_by m l).code h) more old)
+  first_links true x (l ∷ ls) h old e =
       let more : List Op = links_code (map (following_by m) ls) h in
       ap (λ xs. arguments_onto m (out-Link l) (suc h) (stop_if m true (out-Link l) h ++ xs)) (later_links ls true 0 h old)
       ∙ own_link l h (more ++ old) (second (itself_in (out-Expression x)) (is_call_in (out-Link l)) e)
       ∙ sym (append_assoc ((following_by m l).own_code h) more old)
+
+  chained : (b : Bool) (x : Expression) (ls : List Link) (h : ℕ) (old : List Op) → is_own_by (out-Expression x) ls ≡ b →
+      (emitted_by m x).code h ++ links_onto m b 0 ls h old ≡ chain_code (emitted_by m x) (map (following_by m) ls) h b ++ old
+  chained b x ls h old e =
+      let head : List Op = (emitted_by m x).code h in
+      ap (λ xs. head ++ xs) (first_links b x ls h old e)
+      ∙ sym (append_assoc head (following_code (map (following_by m) ls) h b) old)
 
   -- ---- leaves
 

@@ -230,15 +230,15 @@ arguments_onto m (Link-F.Invoke name xs result at) h old = all_onto m h 0 xs old
 arguments_onto m (Link-F.Call builtin xs at) h old = all_onto m h 0 xs old
 arguments_onto m (Link-F.Element x of at) h old = (emitted_by m x).code h ++ old
 
--- the row of an invocation with so many arguments, of the own object or of one that is held
+-- the row of an invocation that takes so many values, on the own object or on another
 abbrev pub invoke_row : Bool → Stop → ℕ → ℕ → Option StaticType → StopRow
 invoke_row true action h takes gives = own_row action h takes gives
-invoke_row false action h takes gives = rest_row action h (suc takes) gives
+invoke_row false action h takes gives = rest_row action h takes gives
 
 -- the stop of a link
 abbrev pub stop_if : Emitter → Bool → ALink → ℕ → List Op
 stop_if m is_own (Link-F.Invoke name xs result at) h =
-    op.Rest (invoke_row is_own (stop.Invoke (name_number (source_by m) name) (line (source_by m) at)) h (length xs) result) ∷ []
+    op.Rest (invoke_row is_own (stop.Invoke (name_number (source_by m) name) (line (source_by m) at)) h (suc (length xs)) result) ∷ []
 stop_if m is_own (Link-F.Call builtin xs at) h =
     stops_at (stop_of builtin (line (source_by m) at)) h (suc (length xs)) (builtin_type builtin)
 stop_if m is_own (Link-F.Element x of at) h = stops_at (stop.Get (line (source_by m) at)) h 2 of
@@ -266,11 +266,6 @@ is_own_of head (Some link) = itself_in head && is_call_in (out-Link link)
 
 abbrev pub is_own_by : AnExpression → List Link → Bool
 is_own_by head links = is_own_of head (slice_get links 0)
-
--- The own object isn't worked out then.
-abbrev pub head_by : Emitter → Bool → Expression → ℕ → List Op
-head_by m true x h = []
-head_by m false x h = (emitted_by m x).code h
 
 -- ---- what is done behind the parts of an expression
 
@@ -330,7 +325,7 @@ parts_onto m (Expression-F.NewVector of x at) h old = (emitted_by m x).code h ++
 parts_onto m (Expression-F.Construct class places) h old = fetch_onto m h 0 places old
 parts_onto m (Expression-F.Create class xs) h old = all_onto m h 0 xs old
 parts_onto m (Expression-F.Chain head links) h old =
-    head_by m (is_own_by (out-Expression head) links) head h
+    (emitted_by m head).code h
     ++ links_onto m (is_own_by (out-Expression head) links) 0 links h old
 parts_onto m (Expression-F.Negative x) h old = left_code (emitted_by m x) true h ++ old
 parts_onto m (Expression-F.Not x) h old = left_code (emitted_by m x) true h ++ old

@@ -42,7 +42,7 @@ impl<'a> Emitter<'a> {
             Expression::Chain(head, links) => {
                 let is_own = is_own_call(head.get(), links.as_slice());
                 self.links(links.as_slice(), is_own, h, out)?;
-                self.head(head.get(), is_own, h, out)
+                self.expression(head.get(), h, out)
             }
             Expression::Negative(x) => self.value(x.get(), true, h, out),
             Expression::Not(x) => self.value(x.get(), true, h, out),
@@ -84,23 +84,6 @@ impl<'a> Emitter<'a> {
             }
             _ => Ok(()),
         }
-    }
-
-    /// What stands before the links of a chain. The own object isn't worked out where an operation of it is invoked.
-    #[cycle(expressions)]
-    fn head(
-        &self,
-        x: &Expression,
-        is_own: bool,
-        h: u32,
-        out: &mut Backward,
-    ) -> Result<(), AllocError>
-        ensures { OnOk result (out.new ≡ emitting.head_by self.now is_own x.now h ++ out.old) }
-    {
-        if is_own {
-            return Ok(());
-        }
-        self.expression(x, h, out)
     }
 
     /// A value that is to be held, or an operand alone, which needs no code where it is a leaf.

@@ -72,7 +72,7 @@ pub fn rest(
     }))
 }
 
-/// The same on the own object, with the values above its place.
+/// The same on the own object, which is in the first of these temporaries.
 pub(crate) fn own_rest(
     out: &mut Backward,
     stop: Stop,
@@ -82,11 +82,11 @@ pub(crate) fn own_rest(
 ) -> Result<(), AllocError>
     ensures { OnOk result (out.new ≡ Op.Rest (spec.own_row stop h takes gives) ∷ out.old) }
 {
-    let operands = temporaries(out.allocator(), above(h)?, takes)?;
+    let own_and_others = temporaries(out.allocator(), h, takes)?;
     out.before(Op::Rest(StopRow {
         stop,
         on_itself: true,
-        operands,
+        operands: own_and_others,
         gives,
         into: into_if(gives, h),
     }))

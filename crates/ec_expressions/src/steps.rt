@@ -149,7 +149,7 @@ impl<'a> Emitter<'a> {
             Link::Invoke(name, xs, gives, at) => {
                 let name = self.name_number(name.as_slice())?;
                 let line = self.line(*at);
-                let takes = number_of(xs.len())?;
+                let takes = above(number_of(xs.len())?)?;
                 invoke(out, Stop::Invoke { name, line }, is_own, h, takes, *gives)
             }
             Link::Call(builtin, xs, at) => {
@@ -165,7 +165,8 @@ impl<'a> Emitter<'a> {
     }
 }
 
-/// An invocation, on the own object or on one that is held. The error is want of memory, or a number of more than 32 bits.
+/// An invocation that takes so many values, on the own object or on another. The error is want of memory, or a temporary of
+/// more than 32 bits.
 fn invoke(
     out: &mut Backward,
     stop: Stop,
@@ -179,6 +180,6 @@ fn invoke(
     if is_own {
         own_rest(out, stop, h, takes, gives)
     } else {
-        rest(out, stop, h, above(takes)?, gives)
+        rest(out, stop, h, takes, gives)
     }
 }

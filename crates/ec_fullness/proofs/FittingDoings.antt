@@ -397,12 +397,16 @@ module _ (d : Declared) (c : Cluster) (w : CodeWorld) (who : Who) (fine : Fine d
   own_named number o (stop.Invoke name line) ts vs gives f = tt
   own_named number o s ts vs gives f = absurd f
 
+  itself_there : (vs : List Value) → Each (IsReferred c) vs → Each (IsReferred c) (with_itself true who.own vs)
+  itself_there [] h = tt
+  itself_there (v ∷ vs) h = (own, h.1)
+
   asked_named : (number : ℕ) (o : Operation) (on_itself : Bool) (s : Stop) (ts : List StaticType) (vs : List Value)
       (gives : Option StaticType) → AllTwo (HasType d w.common.objects) ts vs → FineStopIf d c.parts number o on_itself s ts gives →
       Named c w who shows many own (doing_of (sight_of w.common) who s (with_itself on_itself who.own vs))
   asked_named number o true s ts vs gives h f =
-      doing_named c w who shows many own s (Ref who.own ∷ vs) (own, values_there d c w shows ts vs h)
-      (own_named number o s ts (Ref who.own ∷ vs) gives f)
+      doing_named c w who shows many own s (with_itself true who.own vs) (itself_there vs (values_there d c w shows ts vs h))
+      (own_named number o s ts (with_itself true who.own vs) gives f)
   asked_named number o false s ts vs gives h f =
       doing_named c w who shows many own s vs (values_there d c w shows ts vs h) (stop_named number o s ts vs gives h f)
 

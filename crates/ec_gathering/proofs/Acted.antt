@@ -18,7 +18,7 @@ use Rattle.ec_fullness.proofs.Values.{none_taken, values_of}
 use Rattle.ec_fullness.proofs.Waiting.{goer_waits}
 use Rattle.ec_fullness.specs.Fullness.{Wants}
 use Rattle.ec_gathering.proofs.Ended.{ended, text_stays}
-use Rattle.ec_gathering.proofs.Operands.{no_text_moves}
+use Rattle.ec_gathering.proofs.Operands.{moves_others, no_text_moves}
 use Rattle.ec_gathering.proofs.Same.{SameNeeds}
 use Rattle.ec_gathering.proofs.Things.{frame_is}
 use Rattle.ec_world.proofs.Procs.{activation_here, activation_is, activation_there, get_but_end, get_end}
@@ -26,6 +26,8 @@ use Rattle.ec_world.specs.Things.{activation_at}
 use Rattle.ec_world.specs.declared.key.Key.{Key}
 use Rattle.ec_world.specs.declared.key.Key.TheVariants.{Frame, Object}
 use Rattle.ec_code.proofs.Facts.{pending_top}
+use Rattle.ec_code.specs.Sound.{SoundPending}
+use Rattle.ec_world.specs.Doings.{doing_of}
 use Rattle.ec_cluster.specs.Acting.{Asks}
 use Rattle.ec_cluster.specs.Systems.{Runs}
 use Rattle.ec_cluster.specs.declared.system.System.{System}
@@ -125,10 +127,16 @@ module _ (d : Declared) (s : System) (w : CodeWorld) (below : List CodeActivatio
   c = s.cluster
 
   top_stays : (text : List ℕ) → Has (values_of c.parts top) (Str text) → Has (values_of c.parts (ended top)) (Str text)
-  top_stays = text_stays d c.parts w.common.objects top
-      (pending_top d c.parts runs.steady.fine w runs.sound who.process top
-      (top_is w below top who (Moves members target fixes) asks) asks.pending)
-      asks.pending (no_text_moves (sight_of w.common) who top.stop top.operands members target fixes asks.is)
+  top_stays =
+      let h : SoundPending d c.parts w.common.objects top =
+      pending_top d c.parts runs.steady.fine w runs.sound who.process top
+      (top_is w below top who (Moves members target fixes) asks) asks.pending in
+      let asked : doing_of (sight_of w.common) who h.rests.row.stop top.operands ≡ Some (Moves members target fixes) =
+      ap (λ x. doing_of (sight_of w.common) who x top.operands) (sym h.rests.stop) ∙ asks.is in
+      text_stays d c.parts w.common.objects top h asks.pending
+      (moves_others d c.parts top.operation h.rests.of h.rests.row.on_itself h.rests.row.stop h.rests.typed.types h.rests.row.gives
+      (sight_of w.common) who top.operands members target fixes h.rests.typed.stop asked)
+      (no_text_moves (sight_of w.common) who top.stop top.operands members target fixes asks.is)
 
   module _ (places : ℕ → Option ℕ) where
     as_many : (k : ℕ) → Held (frame_of c) places k acted ≡ Held (frame_of c) places k moved

@@ -1,4 +1,5 @@
--- What the frame of an activation holds once an action is done that had no text among its operands: the texts that it held.
+-- What the frame of an activation holds once an action is done that is not on its own object and had no text among its operands: the
+-- texts that it held.
 use Rattle.std.proofs.Common.{◌≡◌, ℕ, zero, suc, ◌+◌, ⊎_elim, Bool, true, false, List, ◌++◌, length, map, Some, refl, sym, ap}
 use Rattle.std.proofs.Common.{◌∙◌, subst}
 use Rattle.std.specs.Prelude.{if◌then◌else◌, slice_get}
@@ -21,11 +22,11 @@ use Rattle.ec_activations.proofs.Operands.{held_for_it}
 use Rattle.ec_activations.specs.RestingLaws.{its_entry}
 use Rattle.ec_code.specs.Sound.{SoundPending}
 use Rattle.ec_generate.specs.declared.table.StopEntry.{StopEntry}
-use Rattle.ec_world.proofs.Members.{has_either, has_later}
+use Rattle.ec_world.proofs.Members.{has_either}
 use Rattle.ec_world.specs.Group.{Has}
 use Rattle.ec_world.specs.declared.object.ObjectRec.{ObjectRec}
 use Rattle.ec_world.specs.declared.value.Value.{Value}
-use Rattle.ec_world.specs.declared.value.Value.TheVariants.{Ref, Str}
+use Rattle.ec_world.specs.declared.value.Value.TheVariants.{Str}
 
 -- ---- variables
 
@@ -43,13 +44,8 @@ same_value p a (Temporary d) = refl
 
 -- ---- the frame
 
--- what a variable holds is an operand, also where the own object is one beside
-is_operand : (on_itself : Bool) (own : ℕ) (vs : List Value) (v : Value) → Has vs v → Has (with_itself on_itself own vs) v
-is_operand true own vs v h = has_later (Ref own) v vs h
-is_operand false own vs v h = h
-
 module _ (d : Declared) (p : Parts) (objects : List ObjectRec) (a : CodeActivation) (h : SoundPending d p objects a)
-    (pending : a.pending ≡ true) (plain : (text : List ℕ) → Has a.operands (Str text) → ⊥) where
+    (pending : a.pending ≡ true) (others : h.rests.row.on_itself ≡ false) (plain : (text : List ℕ) → Has a.operands (Str text) → ⊥) where
   abbrev entry : StopEntry
   entry = its_entry d p objects a h.rests
 
@@ -66,8 +62,8 @@ module _ (d : Declared) (p : Parts) (objects : List ObjectRec) (a : CodeActivati
       let vs : List Value = map (λ (y : Held). y.value) (held_in p a entry.operands) in
       let value : Has vs (Str text) =
       record { at = o.at; is = get_map (λ (y : Held). y.value) (held_in p a entry.operands) o.at x o.is ∙ ap Some is } in
-      plain text (subst (λ (us : List Value). Has us (Str text)) (sym (held_for_it d p objects a h))
-      (is_operand h.rests.row.on_itself a.own vs (Str text) value))
+      plain text (subst (λ (us : List Value). Has us (Str text))
+      (sym (held_for_it d p objects a h ∙ ap (λ b. with_itself b a.own vs) others)) value)
 
   -- what is live behind the stop is held afterwards
   still_live : (text : List ℕ) → Holds p a entry.live text → Has (values_of p (ended a)) (Str text)

@@ -139,9 +139,11 @@ module _ (d : Declared) (objects : List ObjectRec) (x : ℕ) where
 
   each_there : (on_itself : Bool) (own : ℕ) (ts : List StaticType) (vs : List Value) → IsSome (object_at objects own) →
       AllTwo (HasType d objects) ts vs → Has (with_itself on_itself own vs) (Ref x) → IsSome (object_at objects x)
-  each_there true own ts vs there fit h = ⊎_elim
+  each_there true own ts [] there fit h = absurd (has_none (Ref x) h)
+  each_there true own [] (v ∷ vs) there fit h = absurd fit
+  each_there true own (t ∷ ts) (v ∷ vs) there fit h = ⊎_elim
       (λ (same : Ref x ≡ Ref own). let is : x ≡ own = cc in rw is there)
-      (λ (later : Has vs (Ref x)). operand_there ts vs fit later)
+      (λ (later : Has vs (Ref x)). operand_there ts vs fit.1 later)
       (has_parts (Ref own) (Ref x) vs h)
   each_there false own ts vs there fit h = operand_there ts vs fit h
 

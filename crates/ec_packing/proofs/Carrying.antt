@@ -1,20 +1,20 @@
 -- The values that go with an activation: each is of a type, and of the kind of its variable.
-use Rattle.std.proofs.Common.{◌≡◌, ◌≢◌, ◌-◌, inl, inr, ⊎_elim, ◌⊎◌, ℕ, zero, suc, Bool, true, false, true≢false, List, [], ◌∷◌, ◌++◌, drop, length}
+use Rattle.std.proofs.Common.{◌≡◌, ◌≢◌, inl, inr, ⊎_elim, ◌⊎◌, ℕ, zero, suc, Bool, true, false, true≢false, List, [], ◌∷◌, ◌++◌, drop}
 use Rattle.std.proofs.Common.{map, Option, Some, None, refl, sym, ap, ◌∙◌, subst}
 use Rattle.std.proofs.lemmas.Option.{same_Some}
 use Rattle.std.specs.List.{AllByRecursion as Each}
-use Rattle.std.specs.Prelude.{if◌then◌else◌, replicate, slice_get}
+use Rattle.std.specs.Prelude.{if◌then◌else◌, slice_get}
 use Rattle.ec_activations.proofs.Stops.{in_list, in_without}
 use Rattle.ec_activations.proofs.Words.{typed_variable}
 use Rattle.ec_activations.specs.Frames.{or_nil, value_in}
 use Rattle.ec_node_frames.specs.Carried.{IsCarried, carried}
 use Rattle.ec_asking.proofs.OfKind.{of_kind}
-use Rattle.ec_asking.proofs.Operands.{behind_itself, operand_kinds}
+use Rattle.ec_asking.proofs.Operands.{all_in_range, held_in_range, operand_kinds}
 use Rattle.ec_asking.proofs.Resting.{rests_at}
 use Rattle.ec_asking.specs.Typed.{IsTypedOnce}
 use Rattle.ec_base.proofs.Stacks.{stack_parts, top_of_none}
 use Rattle.ec_base.specs.Stack.{below_of, top_of}
-use Rattle.ec_code.specs.Activations.{operation_at, variables_behind, variables_if}
+use Rattle.ec_code.specs.Activations.{variables_behind}
 use Rattle.ec_code.specs.Fine.{GoesOn, Has, IsGiven, IsIn, live_at}
 use Rattle.ec_code.specs.Typing.{Declared, kind_of}
 use Rattle.ec_code.specs.declared.activation.CodeActivation.{CodeActivation}
@@ -34,7 +34,7 @@ use Rattle.ec_objects.specs.Kinds.{IsOfKind}
 use Rattle.ec_code.specs.RangesValues.{AllInRange, InRange}
 use Rattle.ec_code.specs.Worlds.{RangedActivation}
 use Rattle.ec_activations.specs.RestingLaws.{its_entry}
-use Rattle.ec_code.proofs.Carried.{each_append, each_get, each_replicate}
+use Rattle.ec_code.proofs.Carried.{each_get}
 use Rattle.ec_code.specs.Sound.{Chain, LiveBehind, RestsAt, SoundDone, SoundPending, SoundProc, SoundTop}
 use Rattle.ec_code.specs.Sound.{SoundTower, SoundWaiting, TopIs, Waits}
 use Rattle.ec_code.specs.SoundValues.{AreHeld, HasType, IsOfType, held}
@@ -46,7 +46,6 @@ use Rattle.ec_world.specs.declared.process.Proc.{Proc}
 use Rattle.ec_world.specs.declared.stop.Stop.{Stop}
 use Rattle.ec_world.specs.declared.stop.Stop.TheVariants as stop
 use Rattle.ec_world.specs.declared.value.Value.{Value}
-use Rattle.ec_world.specs.declared.value.Value.TheVariants.{Nil}
 
 -- ---- values
 
@@ -55,12 +54,6 @@ pub record IsGood (d : Declared) (objects : List ObjectRec) (v : Value) : Type 0
   pub type : StaticType
   pub fits : HasType d objects type v
   pub ranged : InRange v
-
--- what is read in range
-held_in_range : (variables temporaries : List Value) (x : Variable) (v : Value) → AllInRange variables → AllInRange temporaries →
-    held variables temporaries x ≡ Some v → InRange v
-held_in_range variables temporaries (Named n) v r s e = each_get InRange variables n v r e
-held_in_range variables temporaries (Temporary n) v r s e = each_get InRange temporaries n v s e
 
 -- code goes on behind a stop
 going : (d : Declared) (p : Parts) (number : ℕ) (o : Operation) (s : Stop) (T : Type 0) → GoesOn d p number o s T → stays s ≡ true → T
@@ -97,12 +90,6 @@ get_either : {A : Type 0} (xs ys : List A) (i : ℕ) (x : A) → slice_get (xs +
 get_either [] ys i x e = inr (i, e)
 get_either (y ∷ xs) ys zero x e = inl e
 get_either (y ∷ xs) ys (suc i) x e = get_either xs ys i x e
-
-behind_ranged : (p : Parts) (a : CodeActivation) (at : ℕ) → AllInRange a.variables → AllInRange (variables_behind p a at)
-behind_ranged p a zero r =
-    let more = length (variables_if (operation_at p a.operation)) - length a.variables in
-    each_append InRange a.variables (replicate more Nil) r (each_replicate InRange more Nil tt)
-behind_ranged p a (suc at) r = r
 
 module _ (d : Declared) (p : Parts) (objects : List ObjectRec) (a : CodeActivation) where
   -- ---- what is known of an activation, wherever it lies
@@ -149,7 +136,7 @@ module _ (d : Declared) (p : Parts) (objects : List ObjectRec) (a : CodeActivati
     read_good : (x : Variable) (t : StaticType) → IsOfType d objects t (held variables a.temporaries x) →
         HoldsGood (record { variable = x; of = t })
     read_good x t h =
-        let in_range = held_in_range variables a.temporaries x h.value (behind_ranged p a a.at ranged.variables) ranged.temporaries h.is in
+        let in_range = held_in_range p a ranged x h.value h.is in
         let good : IsGood d objects h.value = record { type = t; fits = h.fits; ranged = in_range } in
         subst (λ (v : Value). IsGood d objects v × IsOfKind (kind_of t) v) (sym (value_is x h.value h.is))
         (good, of_kind d objects t h.value h.fits in_range)
@@ -204,9 +191,9 @@ module _ (d : Declared) (p : Parts) (objects : List ObjectRec) (a : CodeActivati
     pending_good h once i l e =
         let fit = h.operands in (
           operands_good h.rests.line.live h.rests.row.operands h.rests.typed.types fit.values fit.those fit.fit
-              (behind_itself h.rests.row.on_itself a.own fit.values (subst AllInRange fit.are ranged.operands)) i l e,
+              (all_in_range p a ranged h.rests.row.operands fit.values fit.those) i l e,
           operand_kinds d p objects a h
-              (once a.operation a.at h.rests.of h.rests.line h.rests.is_operation h.rests.is_line) ranged.operands i l e,
+              (once a.operation a.at h.rests.of h.rests.line h.rests.is_operation h.rests.is_line) ranged i l e,
         )
 
     -- each value that goes

@@ -21,7 +21,7 @@ use Rattle.ec_emission.specs.Expressions.{by_code}
 use Rattle.ec_emission.specs.Expressions.{own_call, own_code, stop_order, stops_at}
 use Rattle.ec_emission.specs.Literals.{Texts}
 use Rattle.ec_runnable.proofs.Stops.{above, own_rests, rests}
-use Rattle.ec_runnable.proofs.Uses.{Leads, Within, lead, less, nothing}
+use Rattle.ec_runnable.proofs.Uses.{Leads, Within, lead, nothing}
 use Rattle.ec_runnable.proofs.Values.{Applies, Follows, IsClean}
 use Rattle.ec_runnable.proofs.Values.{held_by, value}
 use Rattle.ec_meaning.specs.Programs.{Source, class_number, line, name_number}
@@ -172,15 +172,15 @@ module _ (s : Source) (captured count : ℕ) (literals : Texts) where
       (subst (λ (b : Bool). Leads ((of_link x.0).code (length hs)) (true ∷ hs) (b ∷ hs)) q.0 (x.1.code q.1 hs))
       (links_lead (y ∷ ys) (of_link x.0).gives q.0 p.1 hs)
 
-  -- without a value for the own object
+  -- the same on the own object
   own_lead : (x : LinkHeld) (xs : List LinkHeld) → (of_link x.0).is_call ≡ true → links_fit (followings (x ∷ xs)) ≡ true →
-      (hs : List Bool) → Leads (own_code (followings (x ∷ xs)) (length hs)) hs (links_give true (followings (x ∷ xs)) ∷ hs)
+      (hs : List Bool) → Leads (own_code (followings (x ∷ xs)) (length hs)) (true ∷ hs) (links_give true (followings (x ∷ xs)) ∷ hs)
   own_lead x [] c e hs = lead ((of_link x.0).own_code (length hs)) [] (x.1.own c e hs) nothing
   own_lead x (y ∷ ys) c e hs =
       let p = and_parts ((of_link x.0).gives && (of_link x.0).fits) (links_fit (followings (y ∷ ys))) e in
       let q = and_parts (of_link x.0).gives (of_link x.0).fits p.0 in
       lead ((of_link x.0).own_code (length hs)) _
-      (subst (λ (b : Bool). Leads ((of_link x.0).own_code (length hs)) hs (b ∷ hs)) q.0 (x.1.own c q.1 hs))
+      (subst (λ (b : Bool). Leads ((of_link x.0).own_code (length hs)) (true ∷ hs) (b ∷ hs)) q.0 (x.1.own c q.1 hs))
       (links_lead (y ∷ ys) (of_link x.0).gives q.0 p.1 hs)
 
   chain_lead : (x : ExpressionHeld) (xs : List LinkHeld) → fits_here (code_of x.0) ≡ true → links_fit (followings xs) ≡ true →
@@ -189,7 +189,9 @@ module _ (s : Source) (captured count : ℕ) (literals : Texts) where
   chain_lead x xs e f hs false o =
       lead ((code_of x.0).code (length hs)) _ (value (code_of x.0) x.1 e hs) (links_lead xs true refl f hs)
   chain_lead x [] e f hs true o = absurd (true≢false (sym o))
-  chain_lead x (y ∷ ys) e f hs true o = own_lead y ys (and_parts (code_of x.0).is_itself (of_link y.0).is_call o).1 f hs
+  chain_lead x (y ∷ ys) e f hs true o =
+      lead ((code_of x.0).code (length hs)) _ (value (code_of x.0) x.1 e hs)
+      (own_lead y ys (and_parts (code_of x.0).is_itself (of_link y.0).is_call o).1 f hs)
 
   chain_clean : (x : ExpressionHeld) (xs : List LinkHeld) → IsClean (chain (code_of x.0) (followings xs))
   chain_clean x xs =
@@ -275,9 +277,8 @@ module _ (s : Source) (captured count : ℕ) (literals : Texts) where
             lead (all_code (codes xs) (suc (length hs))) _ (all_lead xs e (true ∷ hs))
             (rests hs action (suc (length (codes xs))) result);
         own = λ c e hs.
-            less _ hs (gives_result result ∷ hs) (λ d h. h) (λ d h. h)
-            (lead (all_code (codes xs) (suc (length hs))) _ (all_lead xs e (false ∷ hs))
-            (own_rests hs action (length (codes xs)) result));
+            lead (all_code (codes xs) (suc (length hs))) _ (all_lead xs e (true ∷ hs))
+            (own_rests hs action (suc (length (codes xs))) result);
       }
   link_layer (Link-F.Call builtin xs at) = record {
     code = λ e hs.

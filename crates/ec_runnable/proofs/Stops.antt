@@ -81,20 +81,17 @@ module _ (hs : List Bool) (action : Stop) (takes : ℕ) (gives : Option StaticTy
     };
   }
 
-  -- on the own object, whose place above what is held holds nothing
-  pub own_rests :
-      Leads (op.Rest (own_row action (length hs) takes gives) ∷ []) (above (false ∷ hs) takes) (gives_result gives ∷ hs)
+  -- and on the own object
+  pub own_rests : Leads (op.Rest (own_row action (length hs) takes gives) ∷ []) (above hs takes) (gives_result gives ∷ hs)
   own_rests = record {
     stands = record {
       held = λ uss b.
-          each_joined (IsHeld (above (false ∷ hs) takes)) _ _ (all_above takes (false ∷ hs))
-          (each_weaker (IsHeld hs) (IsHeld (above (false ∷ hs) takes)) (within_above takes (false ∷ hs)) _ (left_held uss b));
+          each_joined (IsHeld (above hs takes)) _ _ (all_above takes hs)
+          (each_weaker (IsHeld hs) (IsHeld (above hs takes)) (within_above takes hs) _ (left_held uss b));
       clear = λ all place uss e b. (
         record {
-          in_order = temporaries_in_order takes (suc (length hs));
-          above = λ s.
-              all_higher _ takes (suc (length hs))
-              (lower _ (length hs) (suc (length hs)) (omega arith) (all_lower hs _ (left_held uss b)));
+          in_order = temporaries_in_order takes (length hs);
+          above = λ s. all_higher _ takes (length hs) (all_lower hs _ (left_held uss b));
         },
         tt,
       );

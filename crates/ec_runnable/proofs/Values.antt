@@ -43,10 +43,10 @@ pub record IsClean (x : Emitted) : Type 0 where
   pub code : x.fits ≡ true → (hs : List Bool) → Leads (x.code (length hs)) hs (x.gives ∷ hs)
   pub condition : fits_here x ≡ true → (hs : List Bool) → Asks (x.condition (length hs)) hs
 
--- code behind a value in its temporary; or without it, where it stands for the own object
+-- code behind a value in its temporary, also where this is the own object
 pub record Follows (f : Following) : Type 0 where
   pub code : f.fits ≡ true → (hs : List Bool) → Leads (f.code (length hs)) (true ∷ hs) (f.gives ∷ hs)
-  pub own : f.is_call ≡ true → f.fits ≡ true → (hs : List Bool) → Leads (f.own_code (length hs)) hs (f.gives ∷ hs)
+  pub own : f.is_call ≡ true → f.fits ≡ true → (hs : List Bool) → Leads (f.own_code (length hs)) (true ∷ hs) (f.gives ∷ hs)
 
 -- code over what is to the left, which is worked out or in its temporary already
 pub record Applies (a : Applied) : Type 0 where

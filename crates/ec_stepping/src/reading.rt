@@ -6,6 +6,7 @@ ghost use Rattle.ec_stepping.specs.Stepping.{as_machine, number_in, numbers_in};
 use crate::machine::Machine;
 use ec_base::list::Seq;
 use ec_code::code::{Operand, Variable};
+use ec_code::steps::with_itself;
 use ec_world::value::{Oid, Value, Values};
 use std::alloc::AllocError;
 
@@ -89,7 +90,7 @@ fn values(m: &Machine, xs: &Seq<Variable>) -> Result<Option<Values>, AllocError>
     Ok(Some(found))
 }
 
-/// The operands of a stop, the own object first where it is one of them. The error is want of memory.
+/// The operands of a stop, of which the own object is the first where the action is on it. The error is want of memory.
 pub(crate) fn operands(
     m: &Machine,
     on_itself: bool,
@@ -99,14 +100,8 @@ pub(crate) fn operands(
     ensures { IfOk result
         (λ vs. vs ≡ option_map (spec.with_itself on_itself own) (spec.variables_at (as_machine m.now) xs.now)) }
 {
-    let Some(others) = values(m, xs)? else {
-        return Ok(None);
-    };
-    if !on_itself {
-        return Ok(Some(others));
+    match values(m, xs)? {
+        Some(held) => Ok(Some(with_itself(on_itself, own, held))),
+        None => Ok(None),
     }
-    let mut all = Seq::new(others.allocator());
-    all.push(Value::Ref(own))?;
-    all.append(others)?;
-    Ok(Some(all))
 }

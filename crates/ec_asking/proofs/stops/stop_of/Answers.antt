@@ -91,4 +91,4 @@ returns c = λ d w below top acts.
     let read = c.in_ok-values.ensures d s.cluster.parts (homes_on s.cluster.images) (tables_for s.cluster.images (store_of n)) top acting in
     let are = operands_are d s w below top c.args.who acts c.entry_of-entry.result.now c.row_at-row.result.now c.in_ok-values.values same
     c.row_at-row.ensures read in
-    (are.0, c.in_ok-operands.ensures ∙ are.1)
+    (are.0, c.with_itself-operands.ensures ∙ are.1)
