@@ -8,7 +8,7 @@ use ec_stepping::code::Code;
 use ec_world::process::ProcStatus;
 use ec_world::run::RunEntry;
 use ec_world::running::Running;
-use std::alloc::{AllocError, Global};
+use ec_world::value::Pid;
 
 /// Code that is run step by step, and the world that it has made so far.
 pub type CodeRun<'a> = Running<CodeActivation, Code<'a>>;
@@ -21,8 +21,9 @@ impl<'a> Driver<Running<CodeActivation, Code<'a>>> for Stepwise {
 
     ghost FindsFull = { λ _ start schedule k node part need free. ⊥ };
 
-    fn statuses(&self, alloc: Global, state: &CodeRun<'a>) -> Result<Vec<ProcStatus>, AllocError> {
-        state.statuses(alloc)
+    fn status(&self, state: &CodeRun<'a>, p: Pid) -> Option<ProcStatus> {
+        let process = state.world.processes.as_slice().get(p as usize)?;
+        Some(process.status)
     }
 
     fn does(&self, state: &mut CodeRun<'a>, entry: RunEntry) -> Result<(), Refusal> {

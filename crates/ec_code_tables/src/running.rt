@@ -39,13 +39,13 @@ pub fn run_code(alloc: Global, program: &Program, setting: Setting) -> Result<An
     let count = setting.nodes.len() as u32;
     let start: CodeRun = Running::start(alloc, code, count, classes, &globals)?;
     let mut running = ManuallyDrop::new(start);
-    let ended = driven(alloc, &mut running, setting)?;
+    let ended = driven(&mut running, setting)?;
     answer(alloc, program, &running, setting.nodes, ended)
 }
 
 /// Does the entries up to the end.
-fn driven(alloc: Global, running: &mut CodeRun, setting: Setting) -> Result<Ended, AllocError> {
-    drive(alloc, &Stepwise, running, setting.schedule, setting.budget)
+fn driven(running: &mut CodeRun, setting: Setting) -> Result<Ended, AllocError> {
+    drive(&Stepwise, running, setting.schedule, setting.budget)
 }
 
 /// What constants are.

@@ -172,3 +172,12 @@ word_of_first s blocks b i first l =
 pub first_of_one : (blocks : List ℕ) → length blocks ≡ 1 → (b : ℕ) × (slice_get blocks 0 ≡ Some b)
 first_of_one [] e = absurd (omega arith)
 first_of_one (b ∷ bs) e = (b, refl)
+
+-- an owner's first block stays the same
+pub first_kept : (s s' : Store) (of key : Key) (block : ℕ) (IsKept : ℕ → Type 0) → KeepsWords s s' of IsKept → FirstBlock s key block →
+    FirstBlock s' key block
+first_kept s s' of key block IsKept keeps first = record {
+  row = first.row;
+  there = keeps.rows key ∙ first.there;
+  first = first.first;
+}

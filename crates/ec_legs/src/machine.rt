@@ -87,8 +87,9 @@ fn restore<M: Machine, N: NativeKind<M>>(
     requires { IsFrame (store_of node.now) process depth }
     ensures { Restores N.meaning (store_of node.now) process depth N.HOMES machine.old machine.new }
 {
+    let block = node.block_of_frame(process, depth);
     for k in 0..N::HOMES {
-        let word = node.frame_word(process, depth, FIRST_SAVED + k);
+        let word = node.word_in(block, FIRST_SAVED + k);
         machine.set_reg(N::FIRST_HOME + k, word);
     }
 }
@@ -121,8 +122,9 @@ fn save<M: Machine, N: NativeKind<M>>(node: &mut NodeStore, machine: &M, process
     ensures saves { Saves N.meaning (store_of node.old) (store_of node.new) process depth N.HOMES machine.now }
     ensures bytes { KeepsBytes node.old node.new (Frame process depth) (IsUnsaved N.HOMES) }
 {
+    let block = node.block_of_frame(process, depth);
     for k in 0..N::HOMES {
         let word = machine.read_reg(N::FIRST_HOME + k);
-        node.set_frame_word(process, depth, FIRST_SAVED + k, word);
+        node.set_word_in(block, FIRST_SAVED + k, word);
     }
 }

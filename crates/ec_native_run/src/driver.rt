@@ -3,14 +3,14 @@ ghost use Rattle.std.specs.Prelude.{◌≡◌};
 ghost use Rattle.ec_native_run.specs.Following as spec;
 ghost use Rattle.ec_native_run.specs.Following.{Follows, FullNext};
 
-use crate::processes::statuses_in;
 use ec_network::nodes_running::network::Network;
 use ec_network::nodes_running::turns::NetError;
 use ec_report::driver::{Driver, Refusal};
 use ec_world::node::NodeSpec;
 use ec_world::process::ProcStatus;
 use ec_world::run::RunEntry;
-use std::alloc::{AllocError, Global};
+use ec_world::value::Pid;
+use std::alloc::Global;
 
 /// The driver of runs on a network of these nodes.
 #[derive(Drop)]
@@ -24,8 +24,8 @@ impl<'a> Driver<Network> for OnNodes<'a> {
 
     ghost FindsFull = { λ d. FullNext d.specs.now };
 
-    fn statuses(&self, alloc: Global, net: &Network) -> Result<Vec<ProcStatus>, AllocError> {
-        statuses_in(alloc, net)
+    fn status(&self, net: &Network, p: Pid) -> Option<ProcStatus> {
+        net.process(p)
     }
 
     fn does(&self, net: &mut Network, entry: RunEntry) -> Result<(), Refusal> {

@@ -92,7 +92,7 @@ fn run_loaded(
         IsReported (source_of program.now) specs.now schedule.now budget net.old net.new answer.status answer.text.items) }
 {
     let driver = OnNodes { alloc, specs };
-    let ended = drive(alloc, &driver, net, schedule, budget)?;
+    let ended = drive(&driver, net, schedule, budget)?;
     answer_end(alloc, program, specs, net, ended)
 }
 

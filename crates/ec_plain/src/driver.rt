@@ -7,6 +7,7 @@ use ec_meaning::meaning::Meaning;
 use ec_report::driver::{Driver, Refusal};
 use ec_world::process::ProcStatus;
 use ec_world::run::RunEntry;
+use ec_world::value::Pid;
 use std::alloc::{AllocError, Global};
 
 /// The driver of plain runs.
@@ -17,8 +18,9 @@ impl<'a> Driver<Meaning<'a>> for Plainly {
 
     ghost FindsFull = { λ _. NeverFull };
 
-    fn statuses(&self, alloc: Global, m: &Meaning<'a>) -> Result<Vec<ProcStatus>, AllocError> {
-        statuses_in(alloc, m)
+    fn status(&self, m: &Meaning<'a>, p: Pid) -> Option<ProcStatus> {
+        let process = m.world.processes.as_slice().get(p as usize)?;
+        Some(process.status)
     }
 
     fn does(&self, m: &mut Meaning<'a>, entry: RunEntry) -> Result<(), Refusal> {

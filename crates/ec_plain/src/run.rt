@@ -32,7 +32,7 @@ pub fn run(
     ensures { IfOk result (λ answer. IsPlainRun (source_of program.entry) specs.now schedule.now budget answer.status answer.text.items) }
 {
     let mut meaning = Meaning::start(alloc, program, specs.len() as u32)?;
-    let ended = drive(alloc, &Plainly, &mut meaning, schedule, budget)?;
+    let ended = drive(&Plainly, &mut meaning, schedule, budget)?;
     tell(alloc, &meaning, specs, ended)
 }
 

@@ -1,5 +1,5 @@
 -- Runs that are driven: what a driver's calls answer, and the end of a run.
-use Rattle.std.specs.Prelude.{◌≡◌, ℕ, List, nat_le, Option, None}
+use Rattle.std.specs.Prelude.{◌≡◌, ℕ, List, nat_le, Option, None, slice_get}
 use Rattle.ec_world.specs.declared.process.ProcStatus.{ProcStatus}
 use Rattle.ec_world.specs.declared.run.Entry.{Entry}
 use Rattle.ec_world.specs.declared.run.RunEntry.{RunEntry}
@@ -41,11 +41,15 @@ module _ {S : Type 0} (Stands : S → List Entry → ℕ → List ProcStatus →
     pub stands : Stands start schedule budget statuses progress state
     pub next : IsStep statuses budget progress (Does e)
 
-  -- these are the statuses in each run that comes to a state
-  abbrev pub AreStatuses : S → List ProcStatus → Type 0
-  AreStatuses state found =
+  -- this holds of the statuses in each run that comes to a state
+  abbrev pub OfStatuses : S → (List ProcStatus → Type 0) → Type 0
+  OfStatuses state Holds =
       (start : S) (schedule : List Entry) (budget : ℕ) (statuses : List ProcStatus) (progress : Progress)
-      → Stands start schedule budget statuses progress state → found ≡ statuses
+      → Stands start schedule budget statuses progress state → Holds statuses
+
+  -- this is the status of a process there; none, where there is no such process
+  abbrev pub IsStatus : S → ℕ → Option ProcStatus → Type 0
+  IsStatus state p found = OfStatuses state (λ statuses. found ≡ slice_get statuses p)
 
   -- each run in which an entry is next comes from one state to the other by it
   abbrev pub IsDone : RunEntry → S → S → Type 0

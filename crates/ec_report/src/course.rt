@@ -1,15 +1,15 @@
 //! How far a run is along its schedule.
-ghost use Rattle.std.specs.Prelude.{◌≡◌, ◌+◌, ◌-◌, ◌<◌, ◌^◌, [], IfOk};
+ghost use Rattle.std.specs.Prelude.{◌≡◌, ◌+◌, ◌-◌, ◌<◌, ◌^◌, IfOk};
 ghost use Rattle.ec_world.specs.Run.{expanded, last_of, tail_of};
+ghost use Rattle.ec_report.specs.Driver.{IsOnWay, OfStatuses};
 ghost use Rattle.ec_report.specs.Progress.{IsStep, advanced, at_start};
 ghost use Rattle.ec_report.specs.Lines.{HasLeft, begins_empty, entry_count, entry_of, first_of, left_of};
 
-use crate::processes::ready_ones;
+use crate::driver::Driver;
 use crate::step::{Step, robin_step};
-use ec_world::process::ProcStatus;
 use ec_world::run::{Entry, RunEnd, RunEntry};
 use ec_world::value::Pid;
-use std::alloc::{AllocError, Global};
+use std::alloc::AllocError;
 use std::marker::Model;
 
 /// How far a run is along its schedule. A line of many turns takes no memory: its entries are counted.
@@ -56,18 +56,20 @@ impl<'a> Course<'a> {
         self.done
     }
 
-    /// What comes next, by the statuses of the processes: the schedule's next entry while there is one, and then round robin's.
-    /// The error is want of memory, or, where the turn is round robin's, 2^32 processes or more.
-    pub fn next(
+    /// What comes next in a run that is driven: the schedule's next entry while there is one, and then round robin's. The error is
+    /// 2^32 processes or more, where the turn is round robin's.
+    pub fn next<S, D: Driver<S>>(
         &self,
-        alloc: Global,
-        statuses: &[ProcStatus],
+        driver: &D,
+        state: &S,
         budget: u64,
     ) -> Result<Step, AllocError>
-        ensures { IfOk result (λ step. IsStep statuses.now budget self.now step) }
+        requires { IsOnWay (D.Stands driver.now) (D.FindsFull driver.now) state.now }
+        ensures { IfOk result (λ step. OfStatuses (D.Stands driver.now) (D.FindsFull driver.now) state.now
+            (λ statuses. IsStep statuses budget self.now step)) }
     {
         let Some(entry) = first_entry(self.lines, self.of_first) else {
-            return next_of_robin(alloc, statuses, budget, self.done, self.last);
+            return robin_step(driver, state, budget, self.done, self.last);
         };
         if self.done >= budget {
             return Ok(Step::Stops(RunEnd::Spent));
@@ -86,23 +88,6 @@ impl<'a> Course<'a> {
         self.last = last_turn(entry, self.last);
         self.done += 1;
     }
-}
-
-/// What round robin does next.
-fn next_of_robin(
-    alloc: Global,
-    statuses: &[ProcStatus],
-    budget: u64,
-    done: u64,
-    last: Option<Pid>,
-) -> Result<Step, AllocError>
-    ensures { IfOk result (λ step. IsStep statuses.now budget (record { left = []; last = last; done = done }) step) }
-{
-    let ready = ready_ones(alloc, statuses)?;
-    if ready.len() > u32::MAX as usize {
-        return Err(AllocError);
-    }
-    Ok(robin_step(statuses, &ready, budget, done, last))
 }
 
 /// The process of the last turn after an entry.

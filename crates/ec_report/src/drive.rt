@@ -9,7 +9,7 @@ use crate::driver::{Driver, Refusal};
 use crate::end::ReportEnd;
 use crate::step::Step;
 use ec_world::run::Entry;
-use std::alloc::{AllocError, Global};
+use std::alloc::AllocError;
 
 /// How many entries a run has done, and how it came to its end.
 #[derive(Clone, Copy)]
@@ -19,9 +19,9 @@ pub struct Ended {
 }
 
 /// Does the entries of a schedule in order, and then round robin, up to the end of the run. The error is want of memory, or,
-/// once the schedule is used up, 2^32 processes or more.
+/// once the schedule is used up, 2^32 processes or more. A scheduled entry reads no status, and round robin those of the processes that it
+/// passes over.
 pub fn drive<S, D: Driver<S>>(
-    alloc: Global,
     driver: &D,
     state: &mut S,
     schedule: &[Entry],
@@ -34,8 +34,7 @@ pub fn drive<S, D: Driver<S>>(
 {
     let mut course = Course::new(schedule);
     'entries: loop {
-        let statuses = driver.statuses(alloc, state)?;
-        match course.next(alloc, &statuses, budget)? {
+        match course.next(driver, &*state, budget)? {
             Step::Stops(how) => {
                 let end = ReportEnd::Ends(how);
                 return Ok(Ended {

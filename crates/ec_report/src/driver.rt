@@ -1,5 +1,5 @@
 //! What runs are driven on: a plain meaning, or a network.
-ghost use Rattle.std.specs.Prelude.{◌≡◌, IfErr, IfOk, List, OnOk, ℕ};
+ghost use Rattle.std.specs.Prelude.{◌≡◌, IfErr, List, OnOk, ℕ};
 ghost use Rattle.ec_world.specs.declared.process.ProcStatus.{ProcStatus as AStatus};
 ghost use Rattle.ec_world.specs.declared.run.Entry.{Entry};
 ghost use Rattle.ec_world.specs.declared.room.Part.{Part as APart};
@@ -9,8 +9,8 @@ ghost use Rattle.ec_report.specs.declared.driver.Refusal.TheVariants.{Memory};
 use ec_world::process::ProcStatus;
 use ec_world::room::Part;
 use ec_world::run::RunEntry;
-use ec_world::value::NodeNo;
-use std::alloc::{AllocError, Global};
+use ec_world::value::{NodeNo, Pid};
+use std::alloc::AllocError;
 
 /// Why an entry wasn't done.
 #[derive(Clone, Copy, PartialEq, Eq, Debug)]
@@ -36,16 +36,16 @@ impl From<AllocError> for Refusal {
 
 /// How entries are done on a state.
 pub trait Driver<S> {
-    ghost use Rattle.ec_report.specs.Driver.{AreStatuses, IsDone, IsNext, IsOnWay, IsRefused};
+    ghost use Rattle.ec_report.specs.Driver.{IsDone, IsNext, IsOnWay, IsRefused, IsStatus};
 
     ghost Stands: { Self → S → List Entry → ℕ → List AStatus → Progress → S → Type 0 };
 
     ghost FindsFull: { Self → S → List Entry → ℕ → ℕ → APart → ℕ → ℕ → Type 0 };
 
-    /// The statuses of the processes. The error is want of memory.
-    fn statuses(&self, alloc: Global, state: &S) -> Result<Vec<ProcStatus>, AllocError>
+    /// The status of a process; none exactly where there is no process of this number.
+    fn status(&self, state: &S, p: Pid) -> Option<ProcStatus>
         requires { IsOnWay (Stands self.now) (FindsFull self.now) state.now }
-        ensures { IfOk result (λ found. AreStatuses (Stands self.now) (FindsFull self.now) state.now found.items) };
+        ensures { IsStatus (Stands self.now) (FindsFull self.now) state.now p result };
 
     /// Does the next entry.
     fn does(&self, state: &mut S, entry: RunEntry) -> Result<(), Refusal>

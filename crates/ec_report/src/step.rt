@@ -1,13 +1,15 @@
 //! What comes next in a run.
-ghost use Rattle.std.specs.Prelude.{◌≡◌, ◌≤◌, ◌^◌, [], map, length};
-ghost use Rattle.ec_world.specs.Run.{is_ready};
+ghost use Rattle.std.specs.Prelude.{◌≡◌, [], ◌≤◌, ◌^◌, map, IfOk};
+ghost use Rattle.std.specs.List.{list_all};
+ghost use Rattle.ec_world.specs.Run.{first_true, is_over, is_ready, next_ready_of};
+ghost use Rattle.ec_report.specs.Driver.{IsOnWay, OfStatuses};
 ghost use Rattle.ec_report.specs.Progress.{IsStep};
 
-use crate::processes::are_over;
-use ec_world::process::ProcStatus;
-use ec_world::robin::next_ready;
+use crate::driver::Driver;
+use crate::processes::{is_over, is_ready};
 use ec_world::run::{RunEnd, RunEntry};
 use ec_world::value::Pid;
+use std::alloc::AllocError;
 
 /// What comes next in a run: its end, or an entry.
 #[derive(Clone, Copy)]
@@ -16,27 +18,85 @@ pub enum Step {
     Does(RunEntry),
 }
 
-/// What comes next once the schedule is used up, by the statuses of the processes, the marks of the Ready ones, the budget,
-/// the entries done and the last turn.
-pub(crate) fn robin_step(
-    statuses: &[ProcStatus],
-    ready: &[bool],
+/// What comes next once the schedule is used up, by the statuses of the processes, the budget, the entries done and the last turn. The
+/// error is 2^32 processes or more.
+pub(crate) fn robin_step<S, D: Driver<S>>(
+    driver: &D,
+    state: &S,
     budget: u64,
     done: u64,
     last: Option<Pid>,
-) -> Step
-    requires marks { ready.now ≡ map is_ready statuses.now }
-    requires few { length ready.now ≤ 2 ^ 32 }
-    ensures { IsStep statuses.now budget (record { left = []; last = last; done = done }) result }
+) -> Result<Step, AllocError>
+    requires { IsOnWay (D.Stands driver.now) (D.FindsFull driver.now) state.now }
+    ensures { IfOk result (λ step. OfStatuses (D.Stands driver.now) (D.FindsFull driver.now) state.now
+        (λ statuses. IsStep statuses budget (record { left = []; last = last; done = done }) step)) }
 {
-    if are_over(statuses) {
-        return Step::Stops(RunEnd::Finished);
-    }
-    let Some(p) = next_ready(ready, last) else {
-        return Step::Stops(RunEnd::Stuck);
+    let Some(p) = next_ready(driver, state, last)? else {
+        let are_over = are_over(driver, state)?;
+        return Ok(Step::Stops(if are_over {
+            RunEnd::Finished
+        } else {
+            RunEnd::Stuck
+        }));
     };
     if done >= budget {
-        return Step::Stops(RunEnd::Spent);
+        return Ok(Step::Stops(RunEnd::Spent));
     }
-    Step::Does(RunEntry::TurnOf(p))
+    Ok(Step::Does(RunEntry::TurnOf(p)))
+}
+
+/// The next process to have a turn: the least Ready one above that of the last turn, else the least Ready one. The error is
+/// 2^32 processes or more.
+fn next_ready<S, D: Driver<S>>(
+    driver: &D,
+    state: &S,
+    last: Option<Pid>,
+) -> Result<Option<Pid>, AllocError>
+    requires { IsOnWay (D.Stands driver.now) (D.FindsFull driver.now) state.now }
+    ensures { IfOk result (λ next. OfStatuses (D.Stands driver.now) (D.FindsFull driver.now) state.now
+        (λ statuses. next ≡ next_ready_of (map is_ready statuses) last)) }
+{
+    let Some(last) = last else {
+        return first_ready(driver, state, 0);
+    };
+    match first_ready(driver, state, u64::from(last) + 1)? {
+        Some(p) => Ok(Some(p)),
+        None => first_ready(driver, state, 0),
+    }
+}
+
+/// The least Ready process from one on. The error is 2^32 processes or more.
+fn first_ready<S, D: Driver<S>>(driver: &D, state: &S, from: u64) -> Result<Option<Pid>, AllocError>
+    requires way { IsOnWay (D.Stands driver.now) (D.FindsFull driver.now) state.now }
+    requires few { from ≤ 2 ^ 32 }
+    ensures { IfOk result (λ first. OfStatuses (D.Stands driver.now) (D.FindsFull driver.now) state.now
+        (λ statuses. first ≡ first_true from 0 (map is_ready statuses))) }
+{
+    for p in from..1 << 32 {
+        let p = p as Pid;
+        match driver.status(state, p) {
+            None => return Ok(None),
+            Some(status) => if is_ready(status) {
+                return Ok(Some(p));
+            },
+        }
+    }
+    Err(AllocError)
+}
+
+/// Whether each process has ended or failed. The error is 2^32 processes or more.
+fn are_over<S, D: Driver<S>>(driver: &D, state: &S) -> Result<bool, AllocError>
+    requires { IsOnWay (D.Stands driver.now) (D.FindsFull driver.now) state.now }
+    ensures { IfOk result (λ over. OfStatuses (D.Stands driver.now) (D.FindsFull driver.now) state.now
+        (λ statuses. over ≡ list_all is_over statuses)) }
+{
+    for p in 0..u64::from(u32::MAX) + 1 {
+        match driver.status(state, p as Pid) {
+            None => return Ok(true),
+            Some(status) => if !is_over(status) {
+                return Ok(false);
+            },
+        }
+    }
+    Err(AllocError)
 }

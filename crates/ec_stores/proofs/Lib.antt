@@ -13,3 +13,4 @@ pub mod Changing
 pub mod Putting
 pub mod Readable
 pub mod Standing
+pub mod Firsts

@@ -2,7 +2,8 @@
 ghost use Rattle.std.specs.Prelude.{◌≡◌, ◌≢◌, ◌<◌, IsSome, Some};
 ghost use Rattle.ec_world.specs.declared.key.Key.TheVariants.{Object as OfObject, Frame as OfFrame};
 ghost use Rattle.ec_stores.specs.Node.{KeepsBytes, store_of};
-ghost use Rattle.ec_stores.specs.Changes.{OwnsWord, WordIs, WritesGlobal, WritesWord};
+ghost use Rattle.ec_stores.specs.Changes.{FirstBlock, OwnsWord, WordIs, WritesGlobal, WritesWord};
+ghost use Rattle.ec_world.specs.declared.key.Key.{Key};
 
 use crate::lists::{global_word, set_word_of, word_of};
 use crate::node::NodeStore;
@@ -52,6 +53,26 @@ impl NodeStore {
             Some(row) => set_word_of(&mut self.memory, &[row.block], i, word),
             None => unreachable!(),
         }
+    }
+
+    /// Word i of the first block of whoever it belongs to, of its 128: found by the block, without a search.
+    pub fn word_in(&self, block: u32, i: u32) -> u32
+        requires owned { (key : Key) × FirstBlock (store_of self.now) key block }
+        requires within { i < 128 }
+        ensures { (key : Key) → FirstBlock (store_of self.now) key block → WordIs (store_of self.now) key i result }
+    {
+        word_of(&self.memory, &[block], i)
+    }
+
+    /// Writes word i of the first block of whoever it belongs to.
+    pub fn set_word_in(&mut self, block: u32, i: u32, word: u32)
+        requires owned { (key : Key) × FirstBlock (store_of self.old) key block }
+        requires within { i < 128 }
+        ensures writes { (key : Key) → FirstBlock (store_of self.old) key block →
+            WritesWord (store_of self.old) (store_of self.new) key i word }
+        ensures bytes { (key : Key) → FirstBlock (store_of self.old) key block → KeepsBytes self.old self.new key (λ j. j ≢ i) }
+    {
+        set_word_of(&mut self.memory, &[block], i, word);
     }
 
     /// Constant i.

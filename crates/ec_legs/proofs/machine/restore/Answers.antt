@@ -1,15 +1,16 @@
 use Rattle.std.proofs.Common.{◌≡◌, ◌+◌, subst, arith}
-use Rattle.ec_legs.proofs.Keeping.{owns_word}
 use Rattle.ec_legs.proofs.Registers.{restores_more, restores_none}
 use Rattle.ec_legs.proofs.machine.restore.Goals as goal
 use Rattle.ec_legs.specs.Machines.{Restores}
 use Rattle.ec_stores.specs.Node.{store_of}
+use Rattle.ec_world.specs.declared.key.Key.TheVariants.{Frame}
 use Rattle.ec_target.specs.Runs.{SetsRegister}
 
-pub frame_word-word-requires : goal.frame_word-word-requires
-frame_word-word-requires g c =
-    let few = g.met.N.NativeKind.registers.few in
-    owns_word (store_of c.args.node.now) c.args.process c.args.depth c.requires (8 + c.loop-k.k) (omega arith)
+pub word_in-word-requires-clause-owned : goal.word_in-word-requires-clause-owned
+word_in-word-requires-clause-owned g c = (Frame c.args.process c.args.depth, c.block_of_frame-block.ensures.first)
+
+pub word_in-word-requires-clause-within : goal.word_in-word-requires-clause-within
+word_in-word-requires-clause-within g c = let few = g.met.N.NativeKind.registers.few in omega arith
 
 pub set_reg-requires : goal.set_reg-requires
 set_reg-requires g c = let there = g.met.N.NativeKind.registers.there in omega arith
@@ -28,11 +29,11 @@ loop-k-preserved g c =
     g.M.Machine.rests g.M.Machine.beside g.M.Machine.flow g.met.N.NativeKind.means g.M.Machine.REGISTERS g.M.Machine.FRAME
     g.M.Machine.OWN g.N.NativeKind.FIRST_HOME g.N.NativeKind.HOMES g.met.N.NativeKind.registers (store_of c.args.node.now) c.args.process
     c.args.depth
-    c.loop-k.k c.frame_word-word.result c.args.machine.now c.loop-k.machine c.set_reg.new.self c.loop-k.invariant (omega arith)
-    c.frame_word-word.ensures
+    c.loop-k.k c.word_in-word.result c.args.machine.now c.loop-k.machine c.set_reg.new.self c.loop-k.invariant (omega arith)
+    (c.word_in-word.ensures (Frame c.args.process c.args.depth) c.block_of_frame-block.ensures.first)
     (subst
     (λ r. SetsRegister g.M.Machine.register g.M.Machine.place g.M.Machine.rests g.M.Machine.beside g.M.Machine.flow c.loop-k.machine
-    c.set_reg.new.self (r + c.loop-k.k) c.frame_word-word.result)
+    c.set_reg.new.self (r + c.loop-k.k) c.word_in-word.result)
     c.FIRST_HOME.ensures c.set_reg.ensures)
 
 pub overflow_add-FIRST_HOME : goal.overflow_add-FIRST_HOME

@@ -1,26 +1,26 @@
-use Rattle.std.proofs.Common.{sym, ap, ◌∙◌}
-use Rattle.std.proofs.Common.{arith, List, Bool}
-use Rattle.ec_world.specs.Run.{next_ready_of}
-use Rattle.ec_report.proofs.Choosing.{step_finished, step_stuck, step_spent, step_turn}
+use Rattle.std.proofs.Common.{sym, ◌∙◌, arith}
+use Rattle.ec_report.proofs.Choosing.{next_going, step_finished, step_spent, step_stuck, step_turn}
 use Rattle.ec_report.proofs.step.robin_step.Goals as goal
 
 pub returns-then-are_over : goal.returns-then-are_over
-returns-then-are_over c = step_finished c.args.statuses.now c.args.budget c.args.done c.args.last (sym c.if-are_over.ensures)
+returns-then-are_over g c = λ start schedule budget statuses progress stands.
+    let over = c.in_ok-are_over.ensures start schedule budget statuses progress stands in
+    step_finished statuses c.args.budget c.args.done c.args.last (sym over ∙ c.if-are_over.true)
 
-pub returns-in_default : goal.returns-in_default
-returns-in_default c =
-    let next = ap (λ (ready : List Bool). next_ready_of ready c.args.last) (sym c.requires.marks)
-    ∙ (sym c.next_ready.ensures ∙ c.in_default.is) in
-    step_stuck c.args.statuses.now c.args.budget c.args.done c.args.last (sym c.if-are_over.ensures) next
+pub returns-else-are_over : goal.returns-else-are_over
+returns-else-are_over g c = λ start schedule budget statuses progress stands.
+    let over = c.in_ok-are_over.ensures start schedule budget statuses progress stands in
+    let next = c.in_ok-p.ensures start schedule budget statuses progress stands in
+    step_stuck statuses c.args.budget c.args.done c.args.last (sym over ∙ c.if-are_over.false) (sym next ∙ c.in_default.is)
 
 pub returns-then-done-budget : goal.returns-then-done-budget
-returns-then-done-budget c =
-    let next = ap (λ (ready : List Bool). next_ready_of ready c.args.last) (sym c.requires.marks)
-    ∙ (sym c.next_ready.ensures ∙ c.in-Some.is) in
-    step_spent c.args.statuses.now c.args.budget c.args.done c.args.last (sym c.if-are_over.ensures) c.in-Some.p next (omega arith)
+returns-then-done-budget g c = λ start schedule budget statuses progress stands.
+    let next = sym (c.in_ok-p.ensures start schedule budget statuses progress stands) ∙ c.in-Some.is in
+    let going = next_going statuses c.args.last c.in-Some.p next in
+    step_spent statuses c.args.budget c.args.done c.args.last going c.in-Some.p next (omega arith)
 
 pub returns : goal.returns
-returns c =
-    let next = ap (λ (ready : List Bool). next_ready_of ready c.args.last) (sym c.requires.marks)
-    ∙ (sym c.next_ready.ensures ∙ c.in-Some.is) in
-    step_turn c.args.statuses.now c.args.budget c.args.done c.args.last (sym c.if-are_over.ensures) c.in-Some.p next (omega arith)
+returns g c = λ start schedule budget statuses progress stands.
+    let next = sym (c.in_ok-p.ensures start schedule budget statuses progress stands) ∙ c.in-Some.is in
+    let going = next_going statuses c.args.last c.in-Some.p next in
+    step_turn statuses c.args.budget c.args.done c.args.last going c.in-Some.p next (omega arith)
