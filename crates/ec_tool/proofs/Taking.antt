@@ -53,7 +53,7 @@ is_of_text text checked small meant = record {
 }
 
 -- the source of a program's text, with its tokens and its core
-pub meant_by : (text : List ℕ) (found : Accepted) → IsProgramText text found.tokens found.checked.program →
+abbrev pub meant_by : (text : List ℕ) (found : Accepted) → IsProgramText text found.tokens found.checked.program →
     HasCore found.checked.program found.checked.table found.checked.core → IsMeant text (source_in text found.checked)
 meant_by text found program core = record {
   tokens = found.tokens;

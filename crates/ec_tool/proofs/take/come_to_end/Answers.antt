@@ -20,8 +20,16 @@ run-requires-in-Mean-clause-some c = let some = c.requires.nodes.some in omega a
 pub run-requires-in-Mean-clause-at_most : goal.run-requires-in-Mean-clause-at_most
 run-requires-in-Mean-clause-at_most c = c.requires.nodes.few
 
-pub returns-in-Run : goal.returns-in-Run
-returns-in-Run c = rw c.in-Run.is (rw (c.in_ok-program.ensures, c.into.ensures) at c.run.ensures)
+pub returns-in_ok-written-in-Run : goal.returns-in_ok-written-in-Run
+returns-in_ok-written-in-Run c =
+    rw c.in-Run.is
+    (rw (
+      c.in_ok-program.ensures,
+      c.into.ensures,
+      c.as_slice-types.ensures,
+      c.in_ok-written-in-Run.ensures,
+      c.as_slice.ensures,
+    ) at c.run.ensures)
 
 pub returns-in-Mean : goal.returns-in-Mean
 returns-in-Mean c =
