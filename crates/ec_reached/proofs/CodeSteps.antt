@@ -25,6 +25,7 @@ use Rattle.ec_world.specs.declared.value.Value.TheVariants.{Ref, Str}
 use Rattle.ec_world.specs.Objects.{object_at}
 use Rattle.ec_world.specs.Outcomes.{monitor_if, monitor_of, with_element}
 use Rattle.ec_world.specs.Sights.{class_of}
+use Rattle.ec_reached.proofs.Asking.{and_false}
 use Rattle.ec_reached.proofs.Objects.{changed_kept}
 use Rattle.ec_reached.proofs.Order.{blocked_rests, monitor_fits, order_kept, reached_orderly, stack_is_calls}
 use Rattle.ec_reached.specs.Code.{CodeFits, EachCodeStays, EachCodeStops, EachRunOfCodeIsOrderly, EachRunOfCodeKeeps, EntriesOfCodeKeepOrder, LinesFit}
@@ -204,12 +205,8 @@ module _ (p : Parts) (fits : OperationsFit p.classes 0 p.operations) (c : Common
       (let e : 0 + a.operation ≡ a.operation = omega arith in
       subst (λ n. LinesFit p.classes n (behind p c a)) e (operation_fits p.classes p.operations 0 a.operation a.at fits))
 
-  not_done : (b : Bool) → (b && false) ≡ false
-  not_done true = refl
-  not_done false = refl
-
   idle : (b : Bool) → (b && a.pending) ≡ false
-  idle b = ap (λ x. b && x) done ∙ not_done b
+  idle b = ap (λ x. b && x) done ∙ and_false b
 
   entry_by : (r : Option Arrived) → ArrivedFits p.classes a.operation r → is_coming code_meaning (rested a r) ≡ false
   entry_by None h = idle (is_entry a.stop)

@@ -40,7 +40,7 @@ use Rattle.ec_world.specs.Outcomes.{Done, all_granted, done, dropped_each, monit
 use Rattle.ec_world.specs.Run.{after_entries, first_world, node_object, program_object}
 use Rattle.ec_world.specs.Sights.{class_of, sight_of}
 use Rattle.ec_world.specs.World.{Action, GoOn, advanced, all_readied, begun_for, changed, finish_top, given_up, owns_of, settled, stack_at, who_of}
-use Rattle.ec_reached.proofs.Asking.{AllThere, IsObject, all_there, asked_later, asked_owns, asked_push, asks, begun_none, below_calls, come_asks}
+use Rattle.ec_reached.proofs.Asking.{and_false, AllThere, IsObject, all_there, asked_later, asked_owns, asked_push, asks, begun_none, below_calls, come_asks}
 use Rattle.ec_reached.proofs.Asking.{coming_asks, left_asked, lowest_alone, lowest_outside, may_ask, may_same, not_pending, stay_asked, within_later}
 use Rattle.ec_reached.proofs.Deepening.{MayDo, MayLeave, NowhereIn, balance, each_none, each_none_before, given_other, is_enters, is_leaving}
 use Rattle.ec_reached.proofs.Depths.{deep, deep_holds, nowhere_deep}
@@ -460,12 +460,7 @@ module _ {A : Type 0} (M : ActivationMeaning A) (stays : StaysItself M) where
     pub depths : DepthsFit M w
 
   done_ends : (a : A) → M.is_pending a ≡ false → is_ending M a ≡ true → ⊥
-  done_ends a e i =
-      let f : is_ending M a ≡ false = ap (λ b. is_end (M.stop a) && b) e ∙ by (is_end (M.stop a)) in cc
-    where
-      by : (b : Bool) → (b && false) ≡ false
-      by true = refl
-      by false = refl
+  done_ends a e i = let f : is_ending M a ≡ false = ap (λ b. is_end (M.stop a) && b) e ∙ and_false (is_end (M.stop a)) in cc
 
   module _ (classes : List ClassRec) where
     push_ends : (xs : List A) (x : A) → (is_ending M x ≡ true → IsNotCalled classes (M.operation x)) → TopEnds classes (xs ++ x ∷ [])

@@ -25,3 +25,4 @@ pub mod Conditions
 pub mod Queuing
 pub mod SourceSteps
 pub mod Agreements
+pub mod Asked

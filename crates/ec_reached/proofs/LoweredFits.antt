@@ -27,6 +27,7 @@ use Rattle.ec_world.specs.Group.{Has}
 use Rattle.ec_world.specs.Objects.{operation_named}
 use Rattle.ec_reached.proofs.CodeSteps.{code_orderly}
 use Rattle.ec_reached.proofs.EmittedFits.{Fit, both, is_fit, plain}
+use Rattle.ec_reached.proofs.Table.{both_true}
 use Rattle.ec_reached.proofs.StatementFits.{block_fit, defaults_fit}
 use Rattle.ec_reached.specs.Code.{CodeFits, LinesFit, OperationsFit, StopFits}
 use Rattle.ec_reached.specs.Lowered.{EachLoweredRunIsOrderly, LoweredStops}
@@ -40,10 +41,6 @@ has_map f (x ∷ xs) y h = ⊎_elim
     (λ (e : y ≡ f x). (x, e))
     (λ (k : Has (map f xs) y). has_map f xs y k)
     (has_parts (f x) y (map f xs) h)
-
-both_true : (a b : Bool) → (a && b) ≡ true → b ≡ true
-both_true true b e = e
-both_true false b e = absurd cc
 
 -- the number of the operation that makes objects is at least that of the first one
 initial_low : (os : List Operation) (from class n : ℕ) → initial_from from os class ≡ n → from ≤ n
@@ -60,7 +57,7 @@ initial_is (x ∷ xs) from class zero o at e =
     let same : x ≡ o = cc in
     if_case (λ (m : ℕ). m ≡ from + 0 → is_initial o.kind ≡ true) (x.class == class && is_initial x.kind) from
     (initial_from (suc from) xs class)
-    (λ b j. subst (λ (z : Operation). is_initial z.kind ≡ true) same (both_true (x.class == class) (is_initial x.kind) b))
+    (λ b j. subst (λ (z : Operation). is_initial z.kind ≡ true) same (both_true (x.class == class) (is_initial x.kind) b).1)
     (λ b j. let l = initial_low xs (suc from) class (from + 0) j in absurd (omega arith)) e
 initial_is (x ∷ xs) from class (suc i) o at e =
     if_case (λ (m : ℕ). m ≡ from + suc i → is_initial o.kind ≡ true) (x.class == class && is_initial x.kind) from
@@ -102,7 +99,7 @@ module _ (s : Source) (class : ℕ) where
       (λ (front : List OperationRec). operation_named (front ++ operations_from s (suc from) xs class) name ≡ Some (from + 0) →
       is_named o.kind ≡ true)
       (x.class == class && is_named x.kind) (record { name = name_number s x.name; operation = from } ∷ []) []
-      (λ b i. subst (λ (z : Operation). is_named z.kind ≡ true) same (both_true (x.class == class) (is_named x.kind) b))
+      (λ b i. subst (λ (z : Operation). is_named z.kind ≡ true) same (both_true (x.class == class) (is_named x.kind) b).1)
       (λ b i. let l = named_low xs (suc from) name (from + 0) i in absurd (omega arith)) e
   named_is (x ∷ xs) from name (suc i) o at e =
       if_case

@@ -3,6 +3,7 @@ use Rattle.std.proofs.Common.{◌≡◌, ◌≢◌, ◌∙◌, ◌-◌, ℕ, zer
 use Rattle.std.proofs.Common.{refl, sym, ap, subst, arith}
 use Rattle.std.specs.Prelude.{slice_get, slice_set}
 use Rattle.ec_base.proofs.Lists.{get_set_same, get_set_other, get_within}
+use Rattle.ec_reached.proofs.Procs.{none_behind}
 use Rattle.ec_world.proofs.Keys.{same_or_not}
 use Rattle.ec_world.specs.declared.object.ObjectRec.{ObjectRec}
 use Rattle.ec_world.specs.Objects.{object_at, changed_if, changed_object}
@@ -59,10 +60,6 @@ push_other [] x zero n = absurd (n refl)
 push_other [] x (suc i) n = refl
 push_other (y ∷ ys) x zero n = refl
 push_other (y ∷ ys) x (suc i) n = push_other ys x i (λ e. n (ap suc e))
-
-none_behind : {B : Type 0} (xs : List B) → slice_get xs (length xs) ≡ None
-none_behind [] = refl
-none_behind (y ∷ ys) = none_behind ys
 
 module _ (objects : List ObjectRec) (r : ObjectRec) where
   pub added_here : object_at (objects ++ r ∷ []) (suc (length objects)) ≡ Some r

@@ -48,7 +48,7 @@ use Rattle.ec_world.specs.Run.{after_entries, first_world}
 use Rattle.ec_world.specs.Sights.{sight_of}
 use Rattle.ec_world.specs.Waiting.{times_blocked, times_blocked_if, times_queued_if}
 use Rattle.ec_world.specs.World.{advanced, all_readied, begun_for, changed, given_up, owns_of, readied, settled, stack_at, who_of}
-use Rattle.ec_reached.proofs.Asking.{asked_push, come_asks, may_ask}
+use Rattle.ec_reached.proofs.Asking.{and_false, asked_push, come_asks, may_ask}
 use Rattle.ec_reached.proofs.DeepWorlds.{Whole, first_monitors, kept_whole, may_leave, no_queue, top_ends, first_whole}
 use Rattle.ec_reached.proofs.Depths.{among_none, deep, hold_none, in_queues_none}
 use Rattle.ec_reached.proofs.Doing.{does, monitor_after}
@@ -391,17 +391,13 @@ module _ {A : Type 0} (M : ActivationMeaning A) (stays : StaysItself M) (classes
     asked_top : (o : ℕ) (all : List A) → WaitsAt M w.common is_wait o (top_of all) → 1 ≤ times_asked M w.common o all
     asked_top o all k =
         let parts = stack_parts all k.of k.is_top in
-        let coming : is_coming M k.of ≡ false = ap (λ b. is_entry (M.stop k.of) && b) k.done ∙ and_none (is_entry (M.stop k.of)) in
+        let coming : is_coming M k.of ≡ false = ap (λ b. is_entry (M.stop k.of) && b) k.done ∙ and_false (is_entry (M.stop k.of)) in
         let one = come_asks M w.common o k.of coming in
         let may : may_ask M w.common o k.of ≡ 1 =
         ap (λ b. one_if ((M.own k.of == o) && b)) k.within ∙ ap (λ b. one_if (b && true)) ((Decides-eqb (M.own k.of) o).1 k.own) in
         let push = asked_push M w.common o (below_of all) k.of in
         let same : times_asked M w.common o all ≡ times_asked M w.common o (below_of all ++ k.of ∷ []) = ap (times_asked M w.common o) parts in
         omega arith
-      where
-        and_none : (b : Bool) → (b && false) ≡ false
-        and_none true = refl
-        and_none false = refl
 
     waiting_stands : (o q : ℕ) → 1 ≤ times_blocked_if ForCondition o (slice_get w.processes q) →
         1 ≤ times_queued_if ForCondition (monitor_of w.common o) q

@@ -18,7 +18,7 @@ known : (class : ClassNo) (vs given : List Value) (k : Option ClassRec) → new_
 known class vs given None e = absurd cc
 known class vs given (Some k) e = refl
 
-both_true : (a b : Bool) → (a && b) ≡ true → (a ≡ true) × (b ≡ true)
+pub both_true : (a b : Bool) → (a && b) ≡ true → (a ≡ true) × (b ≡ true)
 both_true true b e = (refl, e)
 both_true false b e = absurd cc
 

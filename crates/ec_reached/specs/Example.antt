@@ -26,9 +26,9 @@ use Rattle.ec_reached.specs.Code.{StopsFit}
 abbrev pub rests : StopRow → Line
 rests r = record { op = op.Rest r; live = [] }
 
+-- a creation, whose object is held
 abbrev pub made_row : StopRow
-made_row =
-    record { stop = stop.New (Made 0); on_itself = false; operands = []; gives = Some any; into = Some (Temporary 0) }
+made_row = record (row (stop.New (Made 0)) []) { gives = Some any; into = Some (Temporary 0) }
 
 abbrev pub main : Operation
 main = record {

@@ -12,7 +12,7 @@ use Rattle.ec_world.specs.Meaning.{ActivationMeaning}
 use Rattle.ec_world.specs.Run.{after_entries, first_world}
 use Rattle.ec_reached.specs.Depths.{MonitorsFit, OfEachMonitor}
 use Rattle.ec_reached.specs.Meant.{StaysItself, StepsStay, StepsStop}
-use Rattle.ec_reached.specs.Orderly.{HoldsCount, Orderly}
+use Rattle.ec_reached.specs.Orderly.{AskedStand, HoldsCount, Orderly}
 use Rattle.ec_reached.specs.Stacks.{BlockedRest, StacksFit}
 
 -- what holds of each monitor
@@ -66,3 +66,8 @@ module _ {A : Type 0} (M : ActivationMeaning A) where
   -- In an orderly world the depth of each hold is how many activations of its process have entered.
   abbrev pub EachHoldCounts : Type 0
   EachHoldCounts = (classes : List ClassRec) (w : World A) → Orderly M classes w → HoldsCount M w
+
+  -- In an orderly world those stand in a monitor, as its holder, as signallers, for a condition or to enter, that have asked to enter it and
+  -- haven't left it, and no others.
+  abbrev pub EachAskedStands : Type 0
+  EachAskedStands = (classes : List ClassRec) (w : World A) → Orderly M classes w → AskedStand M w

@@ -11,7 +11,7 @@ use Rattle.ec_world.specs.declared.world.World.{World}
 use Rattle.ec_world.specs.Group.{Has}
 use Rattle.ec_world.specs.Meaning.{ActivationMeaning}
 use Rattle.ec_world.specs.Outcomes.{monitor_of}
-use Rattle.ec_reached.specs.Depths.{DepthsFit, EachStands, MonitorsFit, OfEachMonitor, QueuesFit, times_asked_if}
+use Rattle.ec_reached.specs.Depths.{DepthsFit, EachStands, MonitorsFit, OfEachMonitor, QueuesFit, has_asked, times_asked_if}
 use Rattle.ec_reached.specs.Meant.{IsNotCalled, is_ending}
 use Rattle.ec_reached.specs.Stacks.{BlockedRest, StacksFit}
 
@@ -20,6 +20,11 @@ pub data IsWithin (m : MonitorRec) (h : Hold) : Type 0 where
   Holding : m.holder ≡ Some h → IsWithin m h
   Signalling : Has m.urgent h → IsWithin m h
   Waiting : (queue : List Hold) → Has m.conditions queue → Has queue h → IsWithin m h
+
+-- whose hold there is, or who waits to enter
+pub data StandsIn (m : MonitorRec) (q : ℕ) : Type 0 where
+  Within : (h : Hold) → IsWithin m h → h.process ≡ q → StandsIn m q
+  Entering : Has m.entry q → StandsIn m q
 
 module _ {A : Type 0} (M : ActivationMeaning A) where
   -- only an operation that no class has for a call ends its process
@@ -48,3 +53,16 @@ module _ {A : Type 0} (M : ActivationMeaning A) where
   HoldsCount w =
       (o : ℕ) (m : MonitorRec) (h : Hold) → monitor_of w.common o ≡ Some m → IsWithin m h →
       times_asked_if M w.common o (slice_get w.processes h.process) ≡ h.depth
+
+  -- a process has an activation that has asked to enter the monitor of object o
+  pub record HasAsked (w : World A) (o q : ℕ) : Type 0 where
+    pub proc : Proc A
+    pub there : slice_get w.processes q ≡ Some proc
+    pub of : A
+    pub member : Has proc.activations of
+    pub asked : has_asked M w.common o of ≡ true
+
+  -- Whoever holds a monitor, or waits in it behind its entry, has an activation that has asked to enter it. Whoever has one stands in it.
+  pub record AskedStand (w : World A) : Type 0 where
+    pub within : (o : ℕ) (m : MonitorRec) (h : Hold) → monitor_of w.common o ≡ Some m → IsWithin m h → HasAsked w o h.process
+    pub asked : (o q : ℕ) → HasAsked w o q → (m : MonitorRec) × ((monitor_of w.common o ≡ Some m) × StandsIn m q)

@@ -2,7 +2,7 @@
 ghost use Rattle.ec_reached.specs.Agreeing.{AgreeingAreOrderly, AgreeingSourcesAreOrderly};
 ghost use Rattle.ec_reached.specs.Code.{EachCodeStays, EachCodeStops, EachRunOfCodeIsOrderly, EachRunOfCodeKeeps, EntriesOfCodeKeepOrder};
 ghost use Rattle.ec_reached.specs.Example.{ExampleIsMet};
-ghost use Rattle.ec_reached.specs.Laws.{EachBlockedRests, EachHoldCounts, EachMonitorFits, EachReachedIsOrderly, EachStackIsCalls};
+ghost use Rattle.ec_reached.specs.Laws.{EachAskedStands, EachBlockedRests, EachHoldCounts, EachMonitorFits, EachReachedIsOrderly, EachStackIsCalls};
 ghost use Rattle.ec_reached.specs.Laws.{OrderIsKept};
 ghost use Rattle.ec_reached.specs.Lowered.{EachLoweredRunIsOrderly, LoweredStops};
 ghost use Rattle.ec_reached.specs.Source.{EachRunOfASourceKeeps, EachSourceStays};
@@ -97,4 +97,9 @@ pub fn agreeing_are_orderly<A: Activation, B: Activation>()
 /// So each world of a source is that agrees with the one of the program to which it is lowered.
 pub fn agreeing_sources_are_orderly()
     ensures { AgreeingSourcesAreOrderly }
+{}
+
+/// In an orderly world those stand in a monitor that have asked to enter it and haven't left it, and no others.
+pub fn each_asked_stands<A: Activation>()
+    ensures { EachAskedStands A.meaning }
 {}
