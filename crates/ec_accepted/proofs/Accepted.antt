@@ -15,11 +15,11 @@ use Rattle.ec_core_laws.proofs.Beginnings.{each_begins_once}
 use Rattle.ec_core_laws.proofs.Waiting.{each_waits}
 use Rattle.ec_core_laws.specs.Beginnings.{BeginsOnce}
 use Rattle.ec_core_laws.specs.Waiting.{UsesItsConditions}
-use Rattle.ec_core_shapes.proofs.MakingPrograms.{program_makes}
-use Rattle.ec_core_shapes.specs.Makings.{IsMadeRight}
-use Rattle.ec_core_shapes.proofs.FormedPrograms.{core_is_formed}
-use Rattle.ec_core_shapes.proofs.Tables.{few_types, none_unknown}
-use Rattle.ec_core_shapes.specs.Formed.{IsFormed}
+use Rattle.ec_core_laws.proofs.MakingPrograms.{program_makes}
+use Rattle.ec_core_laws.specs.Makings.{IsMadeRight}
+use Rattle.ec_core_laws.proofs.FormedPrograms.{core_is_formed}
+use Rattle.ec_core_laws.proofs.Tables.{few_types, none_unknown}
+use Rattle.ec_core_laws.specs.Formed.{IsFormed}
 use Rattle.ec_accepted.proofs.Whole.{fine}
 use Rattle.ec_accepted.specs.FineProgramsSound.{IsSound}
 use Rattle.ec_emission.specs.Lowered.{IsLowered, declared_of}

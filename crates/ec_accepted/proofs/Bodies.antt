@@ -24,8 +24,8 @@ use Rattle.ec_core.specs.declared.Statement.{Statement, roll-Statement, map-Stat
 use Rattle.ec_core.specs.declared.Statement.TheOpen.{Statement-F, Arm-F, Block-F}
 use Rattle.ec_core_laws.specs.Waiting.{all_of, arm_conditions, block_conditions, statement_conditions}
 use Rattle.ec_core_laws.specs.Waiting.{conditions_of_arm, conditions_of_block, conditions_of_statement}
-use Rattle.ec_core_shapes.specs.Formed.{all_formed, arm_formed, block_formed, formed_arm, formed_block, formed_expression}
-use Rattle.ec_core_shapes.specs.Formed.{formed_statement, statement_formed}
+use Rattle.ec_core_laws.specs.Formed.{all_formed, arm_formed, block_formed, formed_arm, formed_block, formed_expression}
+use Rattle.ec_core_laws.specs.Formed.{formed_statement, statement_formed}
 use Rattle.ec_emission.proofs.Forms.{both_true, not_true}
 use Rattle.ec_emission.specs.Expressions.{all_fit, fits_here}
 use Rattle.ec_emission.specs.Statements.{Done, Choice, all_choices, all_done, block_code, block_of, choice_code, done_of}

@@ -25,10 +25,10 @@ use Rattle.ec_core.specs.declared.Expression.TheOpen.{Expression-F, Link-F, Adde
 use Rattle.ec_core.specs.declared.Factor.{Factor, roll-Factor, fold-Factor, map-Factor, fold-roll-Factor}
 use Rattle.ec_core.specs.declared.Link.{Link, roll-Link, fold-Link, map-Link, fold-roll-Link}
 use Rattle.ec_core.specs.declared.Place.{Place}
-use Rattle.ec_core_shapes.specs.Formed.{is_of as is_of_types, is_of_if, is_not_nil, all_formed, expression_formed}
-use Rattle.ec_core_shapes.specs.Formed.{link_formed}
-use Rattle.ec_core_shapes.specs.Formed.{addend_formed, factor_formed, formed_expression, formed_link, formed_addend}
-use Rattle.ec_core_shapes.specs.Formed.{formed_factor}
+use Rattle.ec_core_laws.specs.Formed.{is_of as is_of_types, is_of_if, is_not_nil, all_formed, expression_formed}
+use Rattle.ec_core_laws.specs.Formed.{link_formed}
+use Rattle.ec_core_laws.specs.Formed.{addend_formed, factor_formed, formed_expression, formed_link, formed_addend}
+use Rattle.ec_core_laws.specs.Formed.{formed_factor}
 use Rattle.ec_emission.proofs.Forms.{both_true, no_leaf, not_true, same_leaf}
 use Rattle.ec_emission.specs.Expressions.{Applied, Emitted, Following, addend_code, all_apply, all_fit, applied_code}
 use Rattle.ec_emission.specs.Expressions.{by_code, chain, comparison}

@@ -17,7 +17,7 @@ use Rattle.ec_types.specs.declared.conform.static_type.StaticType.{StaticType}
 use Rattle.ec_types.specs.declared.conform.static_type.StaticType.TheVariants as type
 use Rattle.ec_types.specs.Known.{IsOfProgram}
 use Rattle.ec_core.specs.declared.Place.{Place}
-use Rattle.ec_core_shapes.specs.Formed.{is_not_nil}
+use Rattle.ec_core_laws.specs.Formed.{is_not_nil}
 use Rattle.ec_emission.proofs.Expressions.{found}
 use Rattle.ec_emission.proofs.Forms.{both_true, not_true, no_leaf, same_leaf}
 use Rattle.ec_emission.specs.Expressions.{Emitted, all_fit, as_leaf, by_code, by_condition, fits_here, has_text, inverted}

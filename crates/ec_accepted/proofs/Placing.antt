@@ -25,7 +25,7 @@ use Rattle.ec_core.specs.declared.Field.{Field}
 use Rattle.ec_core.specs.declared.Kind.{Kind}
 use Rattle.ec_core.specs.declared.Kind.TheVariants as kind
 use Rattle.ec_core.specs.declared.Operation.{Operation}
-use Rattle.ec_core_shapes.specs.Formed.{IsFormed, IsFormedClass, IsFormedConstant, IsFormedOperation, IsOf as IsOfTypes}
+use Rattle.ec_core_laws.specs.Formed.{IsFormed, IsFormedClass, IsFormedConstant, IsFormedOperation, IsOf as IsOfTypes}
 use Rattle.ec_emission.proofs.Forms.{not_true, no_leaf}
 use Rattle.ec_accepted.proofs.Calling.{FirstOf, each_in, first_of}
 use Rattle.ec_accepted.proofs.Making.{within_taken}

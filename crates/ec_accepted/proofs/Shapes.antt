@@ -6,7 +6,7 @@ use Rattle.ec_types.specs.declared.conform.static_type.Plain.TheVariants as stat
 use Rattle.ec_types.specs.declared.conform.static_type.StaticType.{StaticType}
 use Rattle.ec_types.specs.declared.conform.static_type.StaticType.TheVariants as type
 use Rattle.ec_types.specs.Known.{IsPlainOfProgram, IsOfProgram}
-use Rattle.ec_core_shapes.specs.Formed.{is_of, is_plain_of}
+use Rattle.ec_core_laws.specs.Formed.{is_of, is_plain_of}
 use Rattle.ec_emission.proofs.Forms.{not_true}
 
 of_plain : (types : List NamedType) (of : PlainType) → is_plain_of (length types) of ≡ true → IsPlainOfProgram types of

@@ -16,7 +16,7 @@ use Rattle.ec_types.specs.declared.conform.static_type.StaticType.{StaticType}
 use Rattle.ec_types.specs.declared.conform.static_type.StaticType.TheVariants as type
 use Rattle.ec_types.specs.Known.{IsOfProgram, NoneUnknown}
 use Rattle.ec_core.specs.declared.Expression.{Expression}
-use Rattle.ec_core_shapes.specs.Formed.{formed_expression}
+use Rattle.ec_core_laws.specs.Formed.{formed_expression}
 use Rattle.ec_emission.proofs.Forms.{both_true, not_true}
 use Rattle.ec_emission.specs.Expressions.{Emitted, has_text}
 use Rattle.ec_emission.specs.Statements.{value_of}

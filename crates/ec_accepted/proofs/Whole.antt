@@ -22,8 +22,8 @@ use Rattle.ec_core.specs.declared.Kind.TheVariants as kind
 use Rattle.ec_core.specs.declared.Operation.{Operation}
 use Rattle.ec_core_laws.specs.Headings.{HeadingFits}
 use Rattle.ec_core_laws.specs.Waiting.{MayUse, UsesItsConditions, conditions_of_block}
-use Rattle.ec_core_shapes.specs.Makings.{BeginsBare, IsBareAs, MakesRight}
-use Rattle.ec_core_shapes.specs.Formed.{IsFormedClass, IsFormedConstant, IsFormedOperation, IsOf}
+use Rattle.ec_core_laws.specs.Makings.{BeginsBare, IsBareAs, MakesRight}
+use Rattle.ec_core_laws.specs.Formed.{IsFormedClass, IsFormedConstant, IsFormedOperation, IsOf}
 use Rattle.ec_emission.proofs.Forms.{both_true}
 use Rattle.ec_emission.proofs.Literals.{empty_among}
 use Rattle.ec_emission.specs.Expressions.{emitted, fits_here, has_text}

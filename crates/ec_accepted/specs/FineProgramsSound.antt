@@ -12,8 +12,8 @@ use Rattle.ec_core_laws.specs.Beginnings.{BeginsOnce}
 use Rattle.ec_core_laws.specs.Exits.{leaves_block}
 use Rattle.ec_core_laws.specs.Headings.{HeadingFits}
 use Rattle.ec_core_laws.specs.Waiting.{UsesItsConditions}
-use Rattle.ec_core_shapes.specs.Makings.{IsMadeRight}
-use Rattle.ec_core_shapes.specs.Formed.{IsFormed}
+use Rattle.ec_core_laws.specs.Makings.{IsMadeRight}
+use Rattle.ec_core_laws.specs.Formed.{IsFormed}
 use Rattle.ec_emission_laws.specs.Dropped.{DropsCalls}
 use Rattle.ec_meaning.specs.Programs.{Source}
 use Rattle.ec_places.specs.Rising.{IsRising}

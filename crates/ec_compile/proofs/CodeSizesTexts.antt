@@ -17,8 +17,8 @@ use Rattle.ec_core.specs.declared.Statement.TheOpen.{Statement-F, Arm-F, Block-F
 use Rattle.ec_core_laws.specs.Measures.{all_of, all_behind, expression_size, link_size, factor_size, addend_size, size_of}
 use Rattle.ec_core_laws.specs.Measures.{size_of_link, size_of_factor, size_of_addend, statement_size, arm_size, block_size}
 use Rattle.ec_core_laws.specs.Measures.{size_of_statement, size_of_arm, size_of_block}
-use Rattle.ec_core_texts.specs.Constants.{size_of_constants}
-use Rattle.ec_core_texts.specs.Limits.{size_of_core, size_of_operations}
+use Rattle.ec_core_laws.specs.Constants.{size_of_constants}
+use Rattle.ec_core_laws.specs.Limits.{size_of_core, size_of_operations}
 use Rattle.ec_emission.specs.Expressions.{has_text}
 use Rattle.ec_emission.specs.Literals.{Texts, all_of as joined, addend_texts, arm_texts, block_texts, expression_texts, factor_texts}
 use Rattle.ec_emission.specs.Literals.{link_texts, literals_of, statement_texts, texts_of, texts_of_block, texts_of_constants}

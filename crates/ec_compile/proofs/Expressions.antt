@@ -20,8 +20,8 @@ use Rattle.ec_core.specs.declared.Link.{Link, roll-Link, map-Link, fold-Link, fo
 use Rattle.ec_core_laws.specs.Measures.{all_of, all_behind, greatest_of, stacked_of, expression_size, link_size, factor_size, addend_size}
 use Rattle.ec_core_laws.specs.Measures.{size_of, size_of_link, size_of_factor, size_of_addend, expression_height, link_height}
 use Rattle.ec_core_laws.specs.Measures.{factor_height, addend_height, height_of, height_of_link, height_of_factor, height_of_addend}
-use Rattle.ec_core_texts.specs.Captures.{expression_captures, link_captures, factor_captures, addend_captures, captures_of}
-use Rattle.ec_core_texts.specs.Captures.{captures_of_link, captures_of_factor, captures_of_addend}
+use Rattle.ec_core_laws.specs.Captures.{expression_captures, link_captures, factor_captures, addend_captures, captures_of}
+use Rattle.ec_core_laws.specs.Captures.{captures_of_link, captures_of_factor, captures_of_addend}
 use Rattle.ec_emission.specs.Expressions.{Applied, Emitted, Following, addend_code, all_code, all_fit, applied_code}
 use Rattle.ec_emission.specs.Expressions.{builtin_type, chain, chain_code, emitted, expression_code, factor_code, fetch_all, fits_here}
 use Rattle.ec_emission.specs.Expressions.{kept}

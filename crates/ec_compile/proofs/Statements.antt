@@ -22,8 +22,8 @@ use Rattle.ec_core.specs.declared.Statement.TheOpen.{Statement-F, Arm-F, Block-F
 use Rattle.ec_core_laws.specs.Measures.{all_of, greatest_of, size_of, height_of, statement_size, arm_size, block_size}
 use Rattle.ec_core_laws.specs.Measures.{size_of_statement, size_of_arm, size_of_block, statement_height, arm_height, block_height}
 use Rattle.ec_core_laws.specs.Measures.{height_of_statement, height_of_arm, height_of_block}
-use Rattle.ec_core_texts.specs.Captures.{captures_of, statement_captures, arm_captures, block_captures, captures_of_statement}
-use Rattle.ec_core_texts.specs.Captures.{captures_of_arm, captures_of_block}
+use Rattle.ec_core_laws.specs.Captures.{captures_of, statement_captures, arm_captures, block_captures, captures_of_statement}
+use Rattle.ec_core_laws.specs.Captures.{captures_of_arm, captures_of_block}
 use Rattle.ec_emission.specs.Expressions.{Emitted, all_code}
 use Rattle.ec_emission.specs.Literals.{Texts}
 use Rattle.ec_emission.specs.Statements.{Choice, Done, arms_code, block_code, block_of, choice_code, done_of, in_order, required}

@@ -20,7 +20,7 @@ use Rattle.ec_compile.specs.Texts.{IsOfText}
 use Rattle.ec_types.specs.Declarations.{declarations_of}
 use Rattle.ec_types.specs.Types.{places_of}
 use Rattle.ec_core_laws.proofs.TextPrograms.{text_has_small_numbers}
-use Rattle.ec_core_texts.proofs.TextPrograms.{text_has_bytes}
+use Rattle.ec_core_laws.proofs.CoreTextsTextPrograms.{text_has_bytes}
 use Rattle.ec_emission.specs.Lowered.{IsLowered, declared_of}
 use Rattle.ec_meaning.specs.Programs.{Source}
 use Rattle.ec_machine_code.specs.Fitting.{NumbersFit, OperandFits, TestFits}

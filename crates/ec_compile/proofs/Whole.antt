@@ -31,14 +31,14 @@ use Rattle.ec_core_laws.proofs.SmallOperations.{each_is_small}
 use Rattle.ec_core_laws.specs.Counts.{HasFewParts}
 use Rattle.ec_core_laws.specs.Headings.{HeadingFits}
 use Rattle.ec_core_laws.specs.Measures.{IsSmall, height_of_block, size_of_block}
-use Rattle.ec_core_texts.proofs.Constants.{constants_are_small}
-use Rattle.ec_core_texts.proofs.Few.{each_has_few_fields, each_has_few_parameters}
-use Rattle.ec_core_texts.proofs.Whole.{captured_once, nodes_have_tokens}
-use Rattle.ec_core_texts.specs.Captures.{captures_of_block}
-use Rattle.ec_core_texts.specs.Constants.{HasSmallConstants, captures_of_constants, height_of_constants, size_of_constants}
-use Rattle.ec_core_texts.specs.Limits.{HasFewParameters, captured_by, captures_of_core, captures_of_operations, size_of_core}
-use Rattle.ec_core_texts.specs.Limits.{size_of_operations}
-use Rattle.ec_core_texts.specs.Limits as core_limits
+use Rattle.ec_core_laws.proofs.Constants.{constants_are_small}
+use Rattle.ec_core_laws.proofs.Few.{each_has_few_fields, each_has_few_parameters}
+use Rattle.ec_core_laws.proofs.Whole.{captured_once, nodes_have_tokens}
+use Rattle.ec_core_laws.specs.Captures.{captures_of_block}
+use Rattle.ec_core_laws.specs.Constants.{HasSmallConstants, captures_of_constants, height_of_constants, size_of_constants}
+use Rattle.ec_core_laws.specs.Limits.{HasFewParameters, captured_by, captures_of_core, captures_of_operations, size_of_core}
+use Rattle.ec_core_laws.specs.Limits.{size_of_operations}
+use Rattle.ec_core_laws.specs.Limits as core_limits
 use Rattle.ec_emission.specs.Literals.{literals_of}
 use Rattle.ec_emission.specs.Statements.{operation_ops, program_ops}
 use Rattle.ec_lexer.proofs.Reading.{few_tokens}

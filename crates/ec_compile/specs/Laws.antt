@@ -8,8 +8,8 @@ use Rattle.ec_code.specs.Fine.{IsIn}
 use Rattle.ec_machine_code.specs.Limits.{HasLimits, steps_of}
 use Rattle.ec_core.specs.declared.Operation.{Operation}
 use Rattle.ec_core_laws.specs.Measures.{size_of_block}
-use Rattle.ec_core_texts.specs.Captures.{captures_of_block}
-use Rattle.ec_core_texts.specs.Constants.{captures_of_constants, size_of_constants}
+use Rattle.ec_core_laws.specs.Captures.{captures_of_block}
+use Rattle.ec_core_laws.specs.Constants.{captures_of_constants, size_of_constants}
 use Rattle.ec_lexer.specs.Tokens.{HasTokens}
 use Rattle.ec_lexer.specs.declared.token.Token.{Token}
 use Rattle.ec_emission.specs.Lowered.{IsLowered, IsOperationOf, IsProgramOf}

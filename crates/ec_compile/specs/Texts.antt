@@ -2,7 +2,7 @@
 use Rattle.std.specs.Prelude.{List}
 use Rattle.ec_ast.specs.declared.Program.{Program}
 use Rattle.ec_check.specs.Accepted.{HasCore}
-use Rattle.ec_core_texts.specs.TreeTexts.{IsBytes}
+use Rattle.ec_core_laws.specs.TreeTexts.{IsBytes}
 use Rattle.ec_lexer.specs.Tokens.{HasTokens}
 use Rattle.ec_lexer.specs.declared.token.Token.{Token}
 use Rattle.ec_meaning.specs.Programs.{Source}

@@ -31,3 +31,58 @@ pub mod TextPrograms
 pub mod TextTrees
 pub mod Trees
 pub mod Waiting
+pub mod FormedExpressions
+pub mod FormedPrograms
+pub mod FormedStatements
+pub mod Scopes
+pub mod ShapedBodies
+pub mod ShapedExpressions
+pub mod ShapedParts
+pub mod ShapedPrograms
+pub mod ShapedStatements
+pub mod ShapedTrees
+pub mod Shapes
+pub mod Signatures
+pub mod SignedTrees
+pub mod Sites
+pub mod Tables
+pub mod Types
+pub mod MakingBodies
+pub mod MakingChains
+pub mod MakingExpressions
+pub mod MakingParts
+pub mod MakingPrograms
+pub mod MakingStatements
+pub mod MakingTrees
+pub mod AllTargets
+pub mod Chains
+pub mod Declared
+pub mod CoreTiesExpressions
+pub mod Holders
+pub mod Links
+pub mod Naming
+pub mod CoreTiesPrograms
+pub mod Ready
+pub mod CoreTiesStatements
+pub mod TargetForms
+pub mod Targets
+pub mod CoreTiesTextParts
+pub mod CoreTiesTextPrograms
+pub mod CoreTiesTextTrees
+pub mod CoreTiesTrees
+mod CoreTextsExpressions
+mod CoreTextsStatements
+mod Made
+mod CoreTextsTrees
+pub mod CoreTextsPrograms
+mod CoreTextsTextParts
+mod CoreTextsTextTrees
+pub mod CoreTextsTextPrograms
+pub mod Constants
+pub mod Few
+pub mod Tied
+pub mod Weighed
+pub mod CoreSizesTextParts
+pub mod CoreSizesTextTrees
+pub mod CoreSizesTextPrograms
+pub mod Whole

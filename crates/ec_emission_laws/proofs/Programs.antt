@@ -19,9 +19,9 @@ use Rattle.ec_core_laws.proofs.Literals.{each_text_is_short}
 use Rattle.ec_core_laws.specs.Literals.{HasShortTexts, IsShort}
 use Rattle.ec_core_laws.specs.Numbers.{HasSmallIntegers, numbers_in, numbers_in_block}
 use Rattle.ec_core_laws.specs.TreeNumbers.{Fits, HasSmallNumbers}
-use Rattle.ec_core_texts.proofs.Programs.{each_text_is_bytes}
-use Rattle.ec_core_texts.specs.CoreTexts.{HasByteTexts}
-use Rattle.ec_core_texts.specs.TreeTexts.{HasBytes, IsBytes}
+use Rattle.ec_core_laws.proofs.CoreTextsPrograms.{each_text_is_bytes}
+use Rattle.ec_core_laws.specs.CoreTexts.{HasByteTexts}
+use Rattle.ec_core_laws.specs.TreeTexts.{HasBytes, IsBytes}
 use Rattle.ec_emission.specs.Expressions.{emitted}
 use Rattle.ec_emission.specs.Literals.{literals_of}
 use Rattle.ec_emission.specs.Statements.{body_done, constant_ops, default_ops, leave_ops, operation_ops, program_ops}

@@ -4,7 +4,7 @@ use Rattle.ec_ast.specs.declared.Program.{Program}
 use Rattle.ec_check.specs.Accepted.{HasCore}
 use Rattle.ec_code.specs.declared.code.Parts.{Parts}
 use Rattle.ec_core_laws.specs.TreeNumbers.{HasSmallNumbers}
-use Rattle.ec_core_texts.specs.TreeTexts.{HasBytes, IsBytes}
+use Rattle.ec_core_laws.specs.TreeTexts.{HasBytes, IsBytes}
 use Rattle.ec_lexer.specs.Tokens.{HasTokens}
 use Rattle.ec_lexer.specs.declared.token.Token.{Token}
 use Rattle.ec_emission.specs.Lowered.{IsLowered}

@@ -10,7 +10,7 @@ use Rattle.ec_compile.proofs.Few.{text_has_few}
 use Rattle.ec_compile.proofs.Texts.{text_has_limits, text_is_fine}
 use Rattle.ec_compile.specs.Texts.{IsOfText}
 use Rattle.ec_core_laws.proofs.TextPrograms.{text_has_small_numbers}
-use Rattle.ec_core_texts.proofs.TextPrograms.{text_has_bytes}
+use Rattle.ec_core_laws.proofs.CoreTextsTextPrograms.{text_has_bytes}
 use Rattle.ec_emission.proofs.Expressions.{found}
 use Rattle.ec_emission.proofs.Literals.{empty_among}
 use Rattle.ec_emission.specs.Expressions.{has_text, literal_from}

@@ -1,6 +1,6 @@
 -- What a text's program is lowered to is small.
 use Rattle.ec_core_laws.proofs.TextPrograms.{text_has_small_numbers}
-use Rattle.ec_core_texts.proofs.TextPrograms.{text_has_bytes}
+use Rattle.ec_core_laws.proofs.CoreTextsTextPrograms.{text_has_bytes}
 use Rattle.ec_emission_laws.proofs.Programs.{lowered_small}
 use Rattle.ec_emission_laws.proofs.small_programs.lowered_text_is_small.Goals as goal
 

@@ -1,0 +1,372 @@
+-- The literal texts in what is made of a tree are lists of bytes, where those in the tree are: one induction over all kinds
+-- of parts.
+use Rattle.std.proofs.Common.{List, [], ◌∷◌, ◌++◌, map, Option, Some, None, refl, sym, subst}
+use Rattle.ec_ast.specs.declared.Addend.{Addend, roll-Addend}
+use Rattle.ec_ast.specs.declared.Arm.{Arm, roll-Arm}
+use Rattle.ec_ast.specs.declared.Block.{Block, roll-Block}
+use Rattle.ec_ast.specs.declared.Body.{Body, roll-Body}
+use Rattle.ec_ast.specs.declared.Expression.TheOpen.{Expression-F, Link-F, Member-F, Statement-F}
+use Rattle.ec_ast.specs.declared.Expression.{Expression, roll-Expression}
+use Rattle.ec_ast.specs.declared.Factor.{Factor, roll-Factor}
+use Rattle.ec_ast.specs.declared.Link.{Link, roll-Link}
+use Rattle.ec_ast.specs.declared.Member.{Member, roll-Member}
+use Rattle.ec_ast.specs.declared.ObjectConstructor.{ObjectConstructor, roll-ObjectConstructor}
+use Rattle.ec_ast.specs.declared.Operation.{Operation, roll-Operation}
+use Rattle.ec_ast.specs.declared.ProcessSection.{ProcessSection, roll-ProcessSection}
+use Rattle.ec_ast.specs.declared.Statement.{Statement, roll-Statement}
+use Rattle.ec_check.proofs.Every.{Every, every_left, every_right}
+use Rattle.ec_check.proofs.Rolled.{body_rolled, factor_rolled, object_rolled, operation_rolled, process_rolled}
+use Rattle.ec_check.proofs.Rolled.{expression_mapped, link_mapped, member_mapped, statement_mapped, block_mapped, body_mapped}
+use Rattle.ec_check.proofs.Rolled.{part_rolled, link_rolled, member_rolled, statement_rolled, addend_rolled, arm_rolled, block_rolled}
+use Rattle.ec_check.specs.Parts.{AnExpression, AStatement, ABlock, OperationPart, ProcessPart}
+use Rattle.ec_check.specs.Tree.{expression_step, statement_step, block_step, link_step, member_step, body_step}
+use Rattle.ec_check.specs.Tree.{object_of, operation_of, process_of}
+use Rattle.ec_check.specs.Tree.{part_of, link_of, member_of, statement_of, addend_of, arm_of, block_of, body_of, factor_of}
+use Rattle.ec_core_laws.proofs.Statements.{block_is}
+use Rattle.ec_core_laws.proofs.Trees as trees
+use Rattle.ec_core_laws.specs.Literals.{statement_texts, arm_texts, block_texts, texts_of_statement, Texts, joined}
+use Rattle.ec_core_laws.proofs.CoreTextsExpressions.{AllFit, PartFits, StatementFits, PieceFits, PartHas, LinkHas, FactorHas, AddendHas}
+use Rattle.ec_core_laws.proofs.CoreTextsExpressions.{ArmHas, PieceHas, MemberHas, BodyHas, ObjectHas, ExpressionHas, IsFitting, all_fit}
+use Rattle.ec_core_laws.proofs.CoreTextsExpressions.{core_fits}
+use Rattle.ec_core_laws.proofs.Made.{expression_made_fits, statement_made_fits, statements_made_fit}
+use Rattle.ec_core_laws.proofs.CoreTextsStatements.{statement_core_fits, statements_fit}
+use Rattle.ec_core_laws.specs.TreeTexts.{kinds, steps, IsBytes, expression_texts, link_texts, member_texts, body_texts}
+use Rattle.ec_core_laws.specs.TreeTexts.{statement_texts as texts_of_statement_layer}
+use Rattle.ec_rules.specs.Judging.{expression_part, statement_part}
+use Rattle.ec_ast.proofs.Claims.{AddendWith, ArmWith, BlockWith, BodyWith, FactorWith, ObjectWith, OperationWith, ProcessWith}
+use Rattle.ec_ast.proofs.Claims.{Claims, Passes, Held, trees as bare_trees, ExpressionWith, LinkWith, MemberWith, StatementWith}
+use Rattle.ec_ast.proofs.Claims.{bare_body, bare_factor, bare_object, bare_operation, bare_process, expression_holds, body_holds}
+use Rattle.ec_ast.proofs.Claims.{bare_expression, bare_link, bare_member, bare_statement, bare_addend, bare_arm, bare_block}
+use Rattle.ec_ast.proofs.Rolled.{Rolled, folded, folds_are_rolled}
+use Rattle.ec_ast.specs.Kinds.{tree}
+use Rattle.ec_ast.specs.Layers as layers
+use Rattle.ec_ast.specs.Layers.{Maps}
+
+-- the texts in a part of each kind
+abbrev pub texts : Maps tree kinds
+texts = folded steps
+
+rolled : Rolled steps texts
+rolled = folds_are_rolled steps
+
+-- ---- a layer, where what is said holds of the parts in it
+
+expression_has : (x : AnExpression) → ExpressionHas x → IsFitting x → PartFits (expression_step x)
+unfolding expression_step expression_part
+expression_has x h g = (λ env. core_fits x h g env, λ scope. expression_made_fits x h scope)
+
+statement_has : (x : AStatement) → trees.StatementHas PartFits StatementFits PieceFits x → StatementFits (statement_step x)
+unfolding statement_step statement_part
+statement_has x h = (λ env. statement_core_fits x h env, λ scope. statement_made_fits x h scope)
+
+block_has : (b : ABlock) → Every StatementFits b.statements → PieceFits (block_step b)
+unfolding block_step
+block_has b h = (
+  λ env.
+      subst AllFit (sym (block_is Texts statement_texts arm_texts block_texts _))
+      (all_fit texts_of_statement _ (statements_fit b.statements h env)),
+  λ scope. statements_made_fit b.statements h scope,
+)
+
+-- ---- what is claimed of each part of a tree
+
+abbrev OperationHas : OperationPart → Type 0
+OperationHas = trees.OperationHas PartFits StatementFits PieceFits
+
+abbrev ProcessHas : ProcessPart → Type 0
+ProcessHas = trees.ProcessHas PartFits StatementFits PieceFits
+
+abbrev pub FittingExpression : Expression → Type 0
+FittingExpression x = AllFit (texts.expression x) → PartHas (part_of x)
+
+abbrev FittingLink : Link → Type 0
+FittingLink x = AllFit (texts.link x) → LinkHas (link_of x)
+
+abbrev FittingMember : Member → Type 0
+FittingMember x = AllFit (texts.member x) → MemberHas (member_of x)
+
+abbrev FittingStatement : Statement → Type 0
+FittingStatement x = AllFit (texts.statement x) → StatementFits (statement_of x)
+
+abbrev FittingAddend : Addend → Type 0
+FittingAddend x = AllFit (texts.addend x) → AddendHas (addend_of x)
+
+abbrev FittingArm : Arm → Type 0
+FittingArm x = AllFit (texts.arm x) → ArmHas (arm_of x)
+
+abbrev FittingBlock : Block → Type 0
+FittingBlock x = AllFit (texts.block x) → PieceHas (block_of x)
+
+abbrev pub FittingBody : Body → Type 0
+FittingBody x = AllFit (texts.body x) → BodyHas (body_of x)
+
+abbrev FittingFactor : Factor → Type 0
+FittingFactor x = AllFit (texts.factor x) → FactorHas (factor_of x)
+
+abbrev FittingObject : ObjectConstructor → Type 0
+FittingObject x = AllFit (texts.object x) → ObjectHas (object_of x)
+
+abbrev FittingOperation : Operation → Type 0
+FittingOperation x = AllFit (texts.operation x) → OperationHas (operation_of x)
+
+abbrev FittingProcess : ProcessSection → Type 0
+FittingProcess x = AllFit (texts.process x) → ProcessHas (process_of x)
+
+abbrev fitting : Claims
+fitting = record {
+  expression = FittingExpression;
+  link = FittingLink;
+  member = FittingMember;
+  statement = FittingStatement;
+  addend = FittingAddend;
+  arm = FittingArm;
+  block = FittingBlock;
+  body = FittingBody;
+  factor = FittingFactor;
+  object = FittingObject;
+  operation = FittingOperation;
+  process = FittingProcess;
+}
+
+-- ---- lists of texts
+
+first : (ns ms : Texts) → AllFit (ns ++ ms) → AllFit ns
+first ns ms h = every_left IsBytes ns ms h
+
+behind : (ns ms : Texts) → AllFit (ns ++ ms) → AllFit ms
+behind ns ms h = every_right IsBytes ns ms h
+
+-- what is claimed of each tree of a list
+each_claimed : {A B : Type 0} (f : A → B) (n : A → Texts) (P : B → Type 0) (xs : List (Held (λ x. AllFit (n x) → P (f x)))) →
+    AllFit (joined (map n (bare_trees xs))) → Every P (map f (bare_trees xs))
+each_claimed f n P [] h = tt
+each_claimed f n P (x ∷ xs) h =
+    (x.1 (first (n x.0) (joined (map n (bare_trees xs))) h), each_claimed f n P xs (behind (n x.0) (joined (map n (bare_trees xs))) h))
+
+-- ---- expressions
+
+abbrev layer_texts : ExpressionWith fitting → Texts
+layer_texts y = expression_texts (layers.expression_mapped texts (bare_expression fitting y))
+
+-- of one part and of several behind it
+one_and : {A B : Type 0} (f : A → B) (n : A → Texts) (P : B → Type 0) (x : Held FittingExpression)
+    (more : List (Held (λ x. AllFit (n x) → P (f x)))) → AllFit (texts.expression x.0 ++ joined (map n (bare_trees more))) →
+    PartHas (part_of x.0) × Every P (map f (bare_trees more))
+one_and f n P x more h = (
+  x.1 (first (texts.expression x.0) (joined (map n (bare_trees more))) h),
+  each_claimed f n P more (behind (texts.expression x.0) (joined (map n (bare_trees more))) h),
+)
+
+two : (x y : Held FittingExpression) → AllFit (texts.expression x.0 ++ texts.expression y.0) →
+    PartHas (part_of x.0) × PartHas (part_of y.0)
+two x y h =
+    (x.1 (first (texts.expression x.0) (texts.expression y.0) h), y.1 (behind (texts.expression x.0) (texts.expression y.0) h))
+
+parts_are : (y : ExpressionWith fitting) → AllFit (layer_texts y) → ExpressionHas (expression_mapped (bare_expression fitting y))
+parts_are (Expression-F.Number n) h = tt
+parts_are (Expression-F.Literal t) h = tt
+parts_are (Expression-F.Truth b at) h = tt
+parts_are (Expression-F.Nil at) h = tt
+parts_are (Expression-F.Itself at) h = tt
+parts_are (Expression-F.Expression::Variable name) h = tt
+parts_are (Expression-F.Parenthesised x at) h = x.1 h
+parts_are (Expression-F.Constructor o) h = o.1 h
+parts_are (Expression-F.NodeAt x at word) h = x.1 h
+parts_are (Expression-F.NodeCount at) h = tt
+parts_are (Expression-F.NewVector of x at word) h = x.1 h
+parts_are (Expression-F.Postfix x links) h = one_and link_of texts.link LinkHas x links h
+parts_are (Expression-F.Negative x at) h = x.1 h
+parts_are (Expression-F.View x of at) h = x.1 h
+parts_are (Expression-F.IsFixed x at) h = x.1 h
+parts_are (Expression-F.Term x more) h = one_and factor_of texts.factor FactorHas x more h
+parts_are (Expression-F.Sum x more) h = one_and addend_of texts.addend AddendHas x more h
+parts_are (Expression-F.Compare x op at y) h = two x y h
+parts_are (Expression-F.Not x at) h = x.1 h
+parts_are (Expression-F.And x more) h = one_and part_of texts.expression PartHas x more h
+parts_are (Expression-F.Or x more) h = one_and part_of texts.expression PartHas x more h
+
+text_is : (y : ExpressionWith fitting) → AllFit (layer_texts y) → IsFitting (expression_mapped (bare_expression fitting y))
+text_is (Expression-F.Number n) h = tt
+text_is (Expression-F.Literal t) h = h.0
+text_is (Expression-F.Truth b at) h = tt
+text_is (Expression-F.Nil at) h = tt
+text_is (Expression-F.Itself at) h = tt
+text_is (Expression-F.Expression::Variable name) h = tt
+text_is (Expression-F.Parenthesised x at) h = tt
+text_is (Expression-F.Constructor o) h = tt
+text_is (Expression-F.NodeAt x at word) h = tt
+text_is (Expression-F.NodeCount at) h = tt
+text_is (Expression-F.NewVector of x at word) h = tt
+text_is (Expression-F.Postfix x links) h = tt
+text_is (Expression-F.Negative x at) h = tt
+text_is (Expression-F.View x of at) h = tt
+text_is (Expression-F.IsFixed x at) h = tt
+text_is (Expression-F.Term x more) h = tt
+text_is (Expression-F.Sum x more) h = tt
+text_is (Expression-F.Compare x op at y) h = tt
+text_is (Expression-F.Not x at) h = tt
+text_is (Expression-F.And x more) h = tt
+text_is (Expression-F.Or x more) h = tt
+
+part_at : (y : ExpressionWith fitting) → FittingExpression (roll-Expression (bare_expression fitting y))
+part_at y h =
+    let inner : AllFit (layer_texts y) = subst AllFit (rolled.expression (bare_expression fitting y)) h in (
+      (roll-Expression (bare_expression fitting y), refl),
+      subst PartFits (sym (part_rolled (bare_expression fitting y)))
+          (expression_has (expression_mapped (bare_expression fitting y)) (parts_are y inner) (text_is y inner)),
+    )
+
+-- ---- statements, arms and blocks
+
+statement_parts_are : (y : StatementWith fitting) →
+    AllFit (texts_of_statement_layer (layers.statement_mapped texts (bare_statement fitting y))) →
+    trees.StatementHas PartFits StatementFits PieceFits (statement_mapped (bare_statement fitting y))
+statement_parts_are (Statement-F.LocalVariable name of None) h = tt
+statement_parts_are (Statement-F.LocalVariable name of (Some x)) h = x.1 h
+statement_parts_are (Statement-F.LocalConstant name of x) h = x.1 h
+statement_parts_are (Statement-F.Assign x y) h = two x y h
+statement_parts_are (Statement-F.Invoke x) h = x.1 h
+statement_parts_are (Statement-F.Print x at) h = x.1 h
+statement_parts_are (Statement-F.If arms None at) h =
+    (each_claimed arm_of texts.arm ArmHas arms (first (joined (map texts.arm (bare_trees arms))) [] h), tt)
+statement_parts_are (Statement-F.If arms (Some b) at) h = (
+  each_claimed arm_of texts.arm ArmHas arms (first (joined (map texts.arm (bare_trees arms))) (texts.block b.0) h),
+  b.1 (behind (joined (map texts.arm (bare_trees arms))) (texts.block b.0) h),
+)
+statement_parts_are (Statement-F.Loop b at) h = b.1 h
+statement_parts_are (Statement-F.Exit None at) h = tt
+statement_parts_are (Statement-F.Exit (Some x) at) h = x.1 h
+statement_parts_are (Statement-F.Return at) h = tt
+statement_parts_are (Statement-F.Assert x at) h = x.1 h
+statement_parts_are (Statement-F.Move x y at) h = two x y h
+statement_parts_are (Statement-F.Fix x y at) h = two x y h
+statement_parts_are (Statement-F.Refix x y at) h = two x y h
+statement_parts_are (Statement-F.Unfix x at) h = x.1 h
+statement_parts_are (Statement-F.Wait name at) h = tt
+statement_parts_are (Statement-F.Signal name at) h = tt
+
+statement_at : (y : StatementWith fitting) → FittingStatement (roll-Statement (bare_statement fitting y))
+statement_at y h =
+    subst StatementFits (sym (statement_rolled (bare_statement fitting y)))
+    (statement_has (statement_mapped (bare_statement fitting y))
+    (statement_parts_are y (subst AllFit (rolled.statement (bare_statement fitting y)) h)))
+
+arm_at : (y : ArmWith fitting) → FittingArm (roll-Arm (bare_arm fitting y))
+arm_at y h =
+    let inner : AllFit (texts.expression y.condition.0 ++ texts.block y.block.0) = subst AllFit (rolled.arm (bare_arm fitting y)) h in
+    subst ArmHas (sym (arm_rolled (bare_arm fitting y))) (
+      y.condition.1 (first (texts.expression y.condition.0) (texts.block y.block.0) inner),
+      y.block.1 (behind (texts.expression y.condition.0) (texts.block y.block.0) inner),
+    )
+
+block_at : (y : BlockWith fitting) → FittingBlock (roll-Block (bare_block fitting y))
+block_at y h = (
+  (roll-Block (bare_block fitting y), refl),
+  subst PieceFits (sym (block_rolled (bare_block fitting y)))
+      (block_has (block_mapped (bare_block fitting y))
+      (each_claimed statement_of texts.statement StatementFits y.statements (subst AllFit (rolled.block (bare_block fitting y)) h))),
+)
+
+-- ---- links, factors and addends
+
+link_is : (y : LinkWith fitting) → AllFit (link_texts (layers.link_mapped texts (bare_link fitting y))) →
+    LinkHas (link_step (link_mapped (bare_link fitting y)))
+link_is (Link-F.Call name xs) h = each_claimed part_of texts.expression PartHas xs h
+link_is (Link-F.Index x at) h = x.1 h
+
+link_at : (y : LinkWith fitting) → FittingLink (roll-Link (bare_link fitting y))
+link_at y h =
+    subst LinkHas (sym (link_rolled (bare_link fitting y))) (link_is y (subst AllFit (rolled.link (bare_link fitting y)) h))
+
+factor_at : (y : FactorWith fitting) → FittingFactor (roll-Factor (bare_factor fitting y))
+factor_at y h =
+    subst FactorHas (sym (factor_rolled (bare_factor fitting y))) (y.value.1 (subst AllFit (rolled.factor (bare_factor fitting y)) h))
+
+addend_at : (y : AddendWith fitting) → FittingAddend (roll-Addend (bare_addend fitting y))
+addend_at y h =
+    subst AddendHas (sym (addend_rolled (bare_addend fitting y))) (y.value.1 (subst AllFit (rolled.addend (bare_addend fitting y)) h))
+
+-- ---- members and bodies
+
+member_is : (y : MemberWith fitting) → AllFit (member_texts (layers.member_mapped texts (bare_member fitting y))) →
+    MemberHas (member_step (member_mapped (bare_member fitting y)))
+member_is (Member-F.Member::Variable is_attached name of None) h = tt
+member_is (Member-F.Member::Variable is_attached name of (Some x)) h = x.1 h
+member_is (Member-F.Constant is_attached name of x) h = x.1 h
+member_is (Member-F.Condition name) h = tt
+member_is (Member-F.Operation o) h = o.1 h
+
+member_at : (y : MemberWith fitting) → FittingMember (roll-Member (bare_member fitting y))
+member_at y h =
+    subst MemberHas (sym (member_rolled (bare_member fitting y)))
+    (member_is y (subst AllFit (rolled.member (bare_member fitting y)) h))
+
+operation_at : (y : OperationWith fitting) → FittingOperation (roll-Operation (bare_operation fitting y))
+operation_at y h =
+    subst OperationHas (sym (operation_rolled (bare_operation fitting y)))
+    (y.block.1 (subst AllFit (rolled.operation (bare_operation fitting y)) h))
+
+process_at : (y : ProcessWith fitting) → FittingProcess (roll-ProcessSection (bare_process fitting y))
+process_at y h =
+    subst ProcessHas (sym (process_rolled (bare_process fitting y)))
+    (y.block.1 (subst AllFit (rolled.process (bare_process fitting y)) h))
+
+abbrev body_layer : List (Held FittingMember) → Option (Held FittingBlock) → Option (Held FittingProcess) → BodyWith fitting
+body_layer ms i p = record { members = ms; initially = i; process = p }
+
+abbrev of_members : List (Held FittingMember) → Texts
+of_members ms = joined (map texts.member (bare_trees ms))
+
+members_have : (ms : List (Held FittingMember)) (more : Texts) → AllFit (of_members ms ++ more) →
+    Every MemberHas (map member_of (bare_trees ms))
+members_have ms more h = each_claimed member_of texts.member MemberHas ms (first (of_members ms) more h)
+
+body_is : (ms : List (Held FittingMember)) (i : Option (Held FittingBlock)) (p : Option (Held FittingProcess)) →
+    AllFit (body_texts (layers.body_mapped texts (bare_body fitting (body_layer ms i p)))) →
+    BodyHas (body_step (body_mapped (bare_body fitting (body_layer ms i p))))
+body_is ms None None h = (members_have ms [] h, tt, tt)
+body_is ms None (Some p) h = (members_have ms (texts.process p.0) h, tt, p.1 (behind (of_members ms) (texts.process p.0) h))
+body_is ms (Some i) None h =
+    let inner : AllFit (texts.block i.0 ++ []) = behind (of_members ms) (texts.block i.0 ++ []) h in
+    (members_have ms (texts.block i.0 ++ []) h, i.1 (first (texts.block i.0) [] inner), tt)
+body_is ms (Some i) (Some p) h =
+    let inner : AllFit (texts.block i.0 ++ texts.process p.0) =
+    behind (of_members ms) (texts.block i.0 ++ texts.process p.0) h in (
+      members_have ms (texts.block i.0 ++ texts.process p.0) h,
+      i.1 (first (texts.block i.0) (texts.process p.0) inner),
+      p.1 (behind (texts.block i.0) (texts.process p.0) inner),
+    )
+
+body_at : (y : BodyWith fitting) → FittingBody (roll-Body (bare_body fitting y))
+body_at y h =
+    subst BodyHas (sym (body_rolled (bare_body fitting y)))
+    (body_is y.members y.initially y.process (subst AllFit (rolled.body (bare_body fitting y)) h))
+
+object_at : (y : ObjectWith fitting) → FittingObject (roll-ObjectConstructor (bare_object fitting y))
+object_at y h =
+    subst ObjectHas (sym (object_rolled (bare_object fitting y)))
+    ((y.body.0, refl), y.body.1 (subst AllFit (rolled.object (bare_object fitting y)) h))
+
+-- ---- the induction
+
+passes : Passes fitting
+passes = record {
+  expression = part_at;
+  link = link_at;
+  member = member_at;
+  statement = statement_at;
+  addend = addend_at;
+  arm = arm_at;
+  block = block_at;
+  body = body_at;
+  factor = factor_at;
+  object = object_at;
+  operation = operation_at;
+  process = process_at;
+}
+
+pub fitting_part : (x : Expression) → FittingExpression x
+fitting_part = expression_holds passes
+
+pub fitting_body : (x : Body) → FittingBody x
+fitting_body = body_holds passes

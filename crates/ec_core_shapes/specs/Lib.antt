@@ -1,4 +1,0 @@
-pub mod Formed
-pub mod Laws
-pub mod CoreMakingsLaws
-pub mod Makings

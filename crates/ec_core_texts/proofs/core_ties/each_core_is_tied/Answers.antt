@@ -1,6 +1,0 @@
--- The core of an accepted program is tied to its tree.
-use Rattle.ec_core_texts.proofs.CoreTiesPrograms.{program_tied}
-use Rattle.ec_core_texts.proofs.core_ties.each_core_is_tied.Goals as goal
-
-pub returns : goal.returns
-returns start table program is none targets = program_tied table program none targets
