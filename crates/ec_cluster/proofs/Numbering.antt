@@ -41,9 +41,9 @@ module _ (d : ObjectTraces) (n : ℕ) (are : AreNumbered d n) where
   known_next : (i : ℕ) → known_of (numbered d n) (suc i) ≡ trace_at d (suc i)
   known_next i = ⊎_elim
       (λ (h : suc i ≤ n).
-          let at : 1 + i ≡ suc i = omega arith in
-          each-get (kept_of d) 1 n i (omega (arith, h)) ∙ ap (λ k. Some (kept_of d k)) at
-          ∙ unwrapped (trace_at d (suc i)) (first_trace 0) (are.noted (suc i) (omega arith) h))
+      let at : 1 + i ≡ suc i = omega arith in
+      each-get (kept_of d) 1 n i (omega (arith, h)) ∙ ap (λ k. Some (kept_of d k)) at
+      ∙ unwrapped (trace_at d (suc i)) (first_trace 0) (are.noted (suc i) (omega arith) h))
       (λ (h : n < suc i). each-past (kept_of d) 1 n i (omega (arith, h)) ∙ sym (are.past (suc i) h))
       (within_or_past (suc i) n)
 
@@ -61,10 +61,13 @@ module _ (d : ObjectTraces) (n : ℕ) (are : AreNumbered d n) where
   -- what has a place was noted
   pub is_within : (oid : ℕ) → IsSome (place_on d oid) → (0 < oid) × (oid ≤ n)
   is_within zero h = absurd (lacks (trace_at d 0) h are.none)
-  is_within (suc i) h = (omega arith, ⊎_elim
-      (λ (l : suc i ≤ n). l)
-      (λ (l : n < suc i). absurd (lacks (trace_at d (suc i)) h (are.past (suc i) l)))
-      (within_or_past (suc i) n))
+  is_within (suc i) h = (
+    omega arith,
+    ⊎_elim
+        (λ (l : suc i ≤ n). l)
+        (λ (l : n < suc i). absurd (lacks (trace_at d (suc i)) h (are.past (suc i) l)))
+        (within_or_past (suc i) n),
+  )
 
   -- and what was noted has one
   pub noted_place : (oid : ℕ) → 0 < oid → oid ≤ n → IsSome (place_on d oid)
@@ -145,16 +148,16 @@ module _ (d d' : ObjectTraces) (n : ℕ) (are : AreNumbered d n) (oid at : ℕ) 
   place_then w o gives = ⊎_elim
       (λ (e : o ≡ oid). ap (place_on d') e ∙ place ∙ sym (with-same w.place oid o (Some at) e))
       (λ (ne : o ≢ oid).
-          ap (option_map (λ (t : Trace). t.newest.node)) (others o ne) ∙ sym (place_is d n are o) ∙ gives.places o
-          ∙ sym (with-other w.place oid o (Some at) ne))
+      ap (option_map (λ (t : Trace). t.newest.node)) (others o ne) ∙ sym (place_is d n are o) ∙ gives.places o
+      ∙ sym (with-other w.place oid o (Some at) ne))
       (same_or_not o oid)
 
   moves_then : (w : Located) (o : ℕ) → Gives (numbered d n) w → moves_on d' o ≡ (made_at w oid at).moves o
   moves_then w o gives = ⊎_elim
       (λ (e : o ≡ oid). ap (moves_on d') e ∙ moves ∙ sym (with-same w.moves oid o 0 e))
       (λ (ne : o ≢ oid).
-          ap (λ (x : Option Trace). unwrap_or (option_map (λ t. t.newest.moves) x) 0) (others o ne) ∙ sym (moves_is d n are o)
-          ∙ gives.moves o ∙ sym (with-other w.moves oid o 0 ne))
+      ap (λ (x : Option Trace). unwrap_or (option_map (λ t. t.newest.moves) x) 0) (others o ne) ∙ sym (moves_is d n are o)
+      ∙ gives.moves o ∙ sym (with-other w.moves oid o 0 ne))
       (same_or_not o oid)
 
   pub gives_made : (w : Located) → Gives (numbered d n) w → Gives (numbered d' oid) (made_at w oid at)
@@ -177,8 +180,8 @@ module _ (d d' : ObjectTraces) (n : ℕ) (are : AreNumbered d n) (oid from to : 
       (λ (ne : o ≢ oid). rw (others o ne) h)
       (same_or_not o oid))
       (λ o h. others o (λ e.
-          let there = is_noted (λ (t : Trace). t.newest.node) (trace_at d o) from (ap (place_on d) e ∙ was) in
-          absurd (no (trace_at d o) there h)) ∙ h)
+      let there = is_noted (λ (t : Trace). t.newest.node) (trace_at d o) from (ap (place_on d) e ∙ was) in
+      absurd (no (trace_at d o) there h)) ∙ h)
     where
       no : (x : Option Trace) → IsSome x → x ≡ None → ⊥
       no x h e = cc
@@ -187,8 +190,8 @@ module _ (d d' : ObjectTraces) (n : ℕ) (are : AreNumbered d n) (oid from to : 
   place_gone w o gives = ⊎_elim
       (λ (e : o ≡ oid). ap (place_on d') e ∙ place ∙ sym (with-same w.place oid o (Some to) e))
       (λ (ne : o ≢ oid).
-          ap (option_map (λ (t : Trace). t.newest.node)) (others o ne) ∙ sym (place_is d n are o) ∙ gives.places o
-          ∙ sym (with-other w.place oid o (Some to) ne))
+      ap (option_map (λ (t : Trace). t.newest.node)) (others o ne) ∙ sym (place_is d n are o) ∙ gives.places o
+      ∙ sym (with-other w.place oid o (Some to) ne))
       (same_or_not o oid)
 
   moves_gone : (w : Located) (o : ℕ) → Gives (numbered d n) w → moves_on d' o ≡ (moved_to w oid from to).moves o
@@ -196,11 +199,11 @@ module _ (d d' : ObjectTraces) (n : ℕ) (are : AreNumbered d n) (oid from to : 
       let count = count_of_move from to in
       ⊎_elim
       (λ (e : o ≡ oid).
-          ap (moves_on d') e ∙ moves ∙ ap (λ m. m + count) (sym (moves_is d n are oid) ∙ gives.moves oid)
-          ∙ sym (with-same w.moves oid o (w.moves oid + count) e))
+      ap (moves_on d') e ∙ moves ∙ ap (λ m. m + count) (sym (moves_is d n are oid) ∙ gives.moves oid)
+      ∙ sym (with-same w.moves oid o (w.moves oid + count) e))
       (λ (ne : o ≢ oid).
-          ap (λ (x : Option Trace). unwrap_or (option_map (λ t. t.newest.moves) x) 0) (others o ne) ∙ sym (moves_is d n are o)
-          ∙ gives.moves o ∙ sym (with-other w.moves oid o (w.moves oid + count) ne))
+      ap (λ (x : Option Trace). unwrap_or (option_map (λ t. t.newest.moves) x) 0) (others o ne) ∙ sym (moves_is d n are o)
+      ∙ gives.moves o ∙ sym (with-other w.moves oid o (w.moves oid + count) ne))
       (same_or_not o oid)
 
   pub gives_gone : (w : Located) → Gives (numbered d n) w → Gives (numbered d' n) (moved_to w oid from to)

@@ -21,7 +21,7 @@ use Rattle.ec_core.specs.declared.Link.{Link, roll-Link, map-Link, fold-Link, fo
 use Rattle.ec_core.specs.declared.Place.{Place}
 use Rattle.ec_core.specs.declared.Place.TheVariants as place
 use Rattle.ec_emission.specs.Expressions.{Applied, Condition, Emitted, Following, addend_code, all_code, applied_code, as_leaf, by_code, by_condition}
-use Rattle.ec_emission.specs.Expressions.{calculated, chain, chain_code, code_or, compared_pair, comparison, divided, emitted, expression_code}
+use Rattle.ec_emission.specs.Expressions.{calculated, chain, chain_code, code_or, compared_pair, comparison, divided, emitted, expression_code, following_code}
 use Rattle.ec_emission.specs.Expressions.{factor_code, fetch_all, first_code, inverted, itself, joined, leaf_at, link_code, links_code, multiplied}
 use Rattle.ec_emission.specs.Expressions.{needed_code, negated, operand_code, own_call, own_code, pair_code, read, stop_order}
 use Rattle.ec_emission.specs.Leaves.{Leaf, Truth, Nil}
@@ -151,9 +151,12 @@ module _ (classes : List ClassRec) (number : ℕ) where
   own_fit [] k h = tt
   own_fit (l ∷ ls) k h = let j = k.0 in both (l.own_code h) (links_code ls h) (j.own_code h) (links_fit ls k.1 h)
 
+  following_fit : (ls : List Following) → Each FitFollowing ls → (h : ℕ) (own : Bool) → Fit (following_code ls h own)
+  following_fit ls k h true = own_fit ls k h
+  following_fit ls k h false = links_fit ls k h
+
   chain_by : (x : Emitted) (ls : List Following) → FitEmitted x → Each FitFollowing ls → (h : ℕ) (own : Bool) → Fit (chain_code x ls h own)
-  chain_by x ls j k h true = own_fit ls k h
-  chain_by x ls j k h false = both (x.code h) (links_code ls h) (j.code h) (links_fit ls k h)
+  chain_by x ls j k h own = both (x.code h) (following_code ls h own) (j.code h) (following_fit ls k h own)
 
   chain_fit : (x : Emitted) (ls : List Following) → FitEmitted x → Each FitFollowing ls → FitEmitted (chain x ls)
   chain_fit x ls j k =
