@@ -1,5 +1,6 @@
--- The places of a MIPS code where HI or LO is read, and two no-ops wait behind that nothing needs. Words are counted from 0; a place is
--- named by the word before the read.
+-- The places of a MIPS code where HI or LO is read, and two no-ops wait behind that nothing needs (Kane, MIPS RISC Architecture, appendix
+-- A, MFHI and MFLO: neither of the two instructions behind may write HI or LO). Words are counted from 0; a place is named by the word
+-- before the read.
 use Rattle.std.specs.Prelude.{◌≡◌, ◌≢◌, ◌⊎◌, ℕ, suc, true, false, List, Some}
 use Rattle.ec_target.specs.Code.{pc_of, word_at}
 use Rattle.mips_delay.specs.Fillable.{GoesTo, StandsAt}
