@@ -8,3 +8,4 @@ pub mod Example
 pub mod Lowered
 pub mod Source
 pub mod Agreeing
+pub mod Accepted

@@ -1,4 +1,5 @@
 //! What holds of reached worlds, over any meaning of activations, and so of three-address code and of a source.
+ghost use Rattle.ec_reached.specs.Accepted.{AcceptedSourcesAreOrderly};
 ghost use Rattle.ec_reached.specs.Agreeing.{AgreeingAreOrderly, AgreeingSourcesAreOrderly};
 ghost use Rattle.ec_reached.specs.Code.{EachCodeStays, EachCodeStops, EachRunOfCodeIsOrderly, EachRunOfCodeKeeps, EntriesOfCodeKeepOrder};
 ghost use Rattle.ec_reached.specs.Example.{ExampleIsMet};
@@ -97,6 +98,11 @@ pub fn agreeing_are_orderly<A: Activation, B: Activation>()
 /// So each world of a source is that agrees with the one of the program to which it is lowered.
 pub fn agreeing_sources_are_orderly()
     ensures { AgreeingSourcesAreOrderly }
+{}
+
+/// And so each world of the source of an accepted program.
+pub fn accepted_sources_are_orderly()
+    ensures { AcceptedSourcesAreOrderly }
 {}
 
 /// In an orderly world those stand in a monitor that have asked to enter it and haven't left it, and no others.

@@ -9,7 +9,7 @@
 //! | `Stacks` | what a stop calls, stacks of calls, where blocked processes rest |
 //! | `Depths` | monitors of classes, how deep processes are in them, who stands in their queues |
 //! | `Orderly`, `Laws` | all of it of one world; that each reached world has it |
-//! | `Code`, `Lowered`, `Source`, `Agreeing` | the same of code, of lowered code, of a source, and of worlds that agree |
+//! | `Code`, `Lowered`, `Source`, `Agreeing`, `Accepted` | the same of code, of lowered code, of a source, of worlds that agree, and of accepted programs |
 //! | `Example` | a program in whose runs a process waits for a condition |
 #![tactic(auto)]
 
