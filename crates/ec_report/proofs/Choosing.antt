@@ -133,6 +133,16 @@ first_end (x ∷ ss) i zero from at e = cc
 first_end (x ∷ ss) i (suc k) from at e =
     skipped from i (is_ready x) (map is_ready ss) (omega arith) ∙ first_end ss (suc i) k from (omega arith) e
 
+-- nobody stands behind a place at which nobody stands
+none_behind : (ss : List ProcStatus) (j k : ℕ) → slice_get ss j ≡ None → j ≤ k → slice_get ss k ≡ None
+none_behind [] j k e h = refl
+none_behind (s ∷ ss) zero k e h = cc
+none_behind (s ∷ ss) (suc j) zero e h = absurd (omega arith)
+none_behind (s ∷ ss) (suc j) (suc k) e h = none_behind ss j k e (omega arith)
+
+pub first_behind : (ss : List ProcStatus) (j k : ℕ) → slice_get ss j ≡ None → j ≤ k → first_true k 0 (map is_ready ss) ≡ None
+first_behind ss j k e h = first_end ss 0 k k (omega arith) (none_behind ss j k e h)
+
 -- ---- whether all are over, from a place on
 
 abbrev over_from : List ProcStatus → ℕ → Bool

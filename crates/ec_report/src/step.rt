@@ -81,7 +81,10 @@ fn first_ready<S, D: Driver<S>>(driver: &D, state: &S, from: u64) -> Result<Opti
             },
         }
     }
-    Err(AllocError)
+    match driver.status(state, Pid::MAX) {
+        None => Ok(None),
+        Some(_) => Err(AllocError),
+    }
 }
 
 /// Whether each process has ended or failed. The error is 2^32 processes or more.

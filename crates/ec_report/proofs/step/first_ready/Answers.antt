@@ -1,5 +1,5 @@
 use Rattle.std.proofs.Common.{sym, ◌∙◌, arith}
-use Rattle.ec_report.proofs.Choosing.{first_end, first_here, first_past}
+use Rattle.ec_report.proofs.Choosing.{first_behind, first_end, first_here, first_past}
 use Rattle.ec_report.proofs.step.first_ready.Goals as goal
 
 pub returns-in-None : goal.returns-in-None
@@ -19,3 +19,9 @@ loop-p-preserved g c = λ start schedule budget statuses progress stands.
     let at = c.in-Some.ensures start schedule budget statuses progress stands in
     c.loop-p.invariant start schedule budget statuses progress stands
     ∙ first_past statuses c.loop-p.p c.in-Some.status (sym at) (sym c.if-is_ready.ensures)
+
+pub returns-in-None-status : goal.returns-in-None-status
+returns-in-None-status g c = λ start schedule budget statuses progress stands.
+    let at = c.in-None-status.ensures start schedule budget statuses progress stands in
+    sym (c.loop-p.invariant start schedule budget statuses progress stands
+    ∙ first_behind statuses 4294967295 c.loop-p.p (sym at) (omega arith))
