@@ -1,5 +1,5 @@
 -- Runs that are driven: what a driver's calls answer, and the end of a run.
-use Rattle.std.specs.Prelude.{◌≡◌, ℕ, List, nat_le, Option, None, slice_get}
+use Rattle.std.specs.Prelude.{◌≡◌, ◌≤◌, ◌^◌, ℕ, List, length, nat_le, Option, None, slice_get}
 use Rattle.ec_world.specs.declared.process.ProcStatus.{ProcStatus}
 use Rattle.ec_world.specs.declared.run.Entry.{Entry}
 use Rattle.ec_world.specs.declared.run.RunEntry.{RunEntry}
@@ -50,6 +50,10 @@ module _ {S : Type 0} (Stands : S → List Entry → ℕ → List ProcStatus →
   -- this is the status of a process there; none, where there is no such process
   abbrev pub IsStatus : S → ℕ → Option ProcStatus → Type 0
   IsStatus state p found = OfStatuses state (λ statuses. found ≡ slice_get statuses p)
+
+  -- there are more processes than numbers of 32 bits
+  abbrev pub AreTooMany : S → Type 0
+  AreTooMany state = OfStatuses state (λ statuses. 2 ^ 32 ≤ length statuses)
 
   -- each run in which an entry is next comes from one state to the other by it
   abbrev pub IsDone : RunEntry → S → S → Type 0

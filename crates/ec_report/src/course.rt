@@ -1,7 +1,7 @@
 //! How far a run is along its schedule.
-ghost use Rattle.std.specs.Prelude.{◌≡◌, ◌+◌, ◌-◌, ◌<◌, ◌^◌, IfOk};
+ghost use Rattle.std.specs.Prelude.{◌≡◌, ◌+◌, ◌-◌, ◌<◌, ◌^◌, IfOk, OnErr};
 ghost use Rattle.ec_world.specs.Run.{expanded, last_of, tail_of};
-ghost use Rattle.ec_report.specs.Driver.{IsOnWay, OfStatuses};
+ghost use Rattle.ec_report.specs.Driver.{AreTooMany, IsOnWay, OfStatuses};
 ghost use Rattle.ec_report.specs.Progress.{IsStep, advanced, at_start};
 ghost use Rattle.ec_report.specs.Lines.{HasLeft, begins_empty, entry_count, entry_of, first_of, left_of};
 
@@ -65,8 +65,9 @@ impl<'a> Course<'a> {
         budget: u64,
     ) -> Result<Step, AllocError>
         requires { IsOnWay (D.Stands driver.now) (D.FindsFull driver.now) state.now }
-        ensures { IfOk result (λ step. OfStatuses (D.Stands driver.now) (D.FindsFull driver.now) state.now
+        ensures step { IfOk result (λ step. OfStatuses (D.Stands driver.now) (D.FindsFull driver.now) state.now
             (λ statuses. IsStep statuses budget self.now step)) }
+        ensures many { OnErr result (AreTooMany (D.Stands driver.now) (D.FindsFull driver.now) state.now) }
     {
         let Some(entry) = first_entry(self.lines, self.of_first) else {
             return robin_step(driver, state, budget, self.done, self.last);

@@ -1,8 +1,8 @@
 //! What comes next in a run.
-ghost use Rattle.std.specs.Prelude.{◌≡◌, [], ◌≤◌, ◌^◌, map, IfOk};
+ghost use Rattle.std.specs.Prelude.{◌≡◌, [], ◌≤◌, ◌^◌, map, IfOk, OnErr};
 ghost use Rattle.std.specs.List.{list_all};
 ghost use Rattle.ec_world.specs.Run.{first_true, is_over, is_ready, next_ready_of};
-ghost use Rattle.ec_report.specs.Driver.{IsOnWay, OfStatuses};
+ghost use Rattle.ec_report.specs.Driver.{AreTooMany, IsOnWay, OfStatuses};
 ghost use Rattle.ec_report.specs.Progress.{IsStep};
 
 use crate::driver::Driver;
@@ -28,8 +28,9 @@ pub(crate) fn robin_step<S, D: Driver<S>>(
     last: Option<Pid>,
 ) -> Result<Step, AllocError>
     requires { IsOnWay (D.Stands driver.now) (D.FindsFull driver.now) state.now }
-    ensures { IfOk result (λ step. OfStatuses (D.Stands driver.now) (D.FindsFull driver.now) state.now
+    ensures step { IfOk result (λ step. OfStatuses (D.Stands driver.now) (D.FindsFull driver.now) state.now
         (λ statuses. IsStep statuses budget (record { left = []; last = last; done = done }) step)) }
+    ensures many { OnErr result (AreTooMany (D.Stands driver.now) (D.FindsFull driver.now) state.now) }
 {
     let Some(p) = next_ready(driver, state, last)? else {
         let are_over = are_over(driver, state)?;
@@ -53,8 +54,9 @@ fn next_ready<S, D: Driver<S>>(
     last: Option<Pid>,
 ) -> Result<Option<Pid>, AllocError>
     requires { IsOnWay (D.Stands driver.now) (D.FindsFull driver.now) state.now }
-    ensures { IfOk result (λ next. OfStatuses (D.Stands driver.now) (D.FindsFull driver.now) state.now
+    ensures next { IfOk result (λ next. OfStatuses (D.Stands driver.now) (D.FindsFull driver.now) state.now
         (λ statuses. next ≡ next_ready_of (map is_ready statuses) last)) }
+    ensures many { OnErr result (AreTooMany (D.Stands driver.now) (D.FindsFull driver.now) state.now) }
 {
     let Some(last) = last else {
         return first_ready(driver, state, 0);
@@ -69,8 +71,9 @@ fn next_ready<S, D: Driver<S>>(
 fn first_ready<S, D: Driver<S>>(driver: &D, state: &S, from: u64) -> Result<Option<Pid>, AllocError>
     requires way { IsOnWay (D.Stands driver.now) (D.FindsFull driver.now) state.now }
     requires few { from ≤ 2 ^ 32 }
-    ensures { IfOk result (λ first. OfStatuses (D.Stands driver.now) (D.FindsFull driver.now) state.now
+    ensures first { IfOk result (λ first. OfStatuses (D.Stands driver.now) (D.FindsFull driver.now) state.now
         (λ statuses. first ≡ first_true from 0 (map is_ready statuses))) }
+    ensures many { OnErr result (AreTooMany (D.Stands driver.now) (D.FindsFull driver.now) state.now) }
 {
     for p in from..1 << 32 {
         let p = p as Pid;
@@ -90,8 +93,9 @@ fn first_ready<S, D: Driver<S>>(driver: &D, state: &S, from: u64) -> Result<Opti
 /// Whether each process has ended or failed. The error is 2^32 processes or more.
 fn are_over<S, D: Driver<S>>(driver: &D, state: &S) -> Result<bool, AllocError>
     requires { IsOnWay (D.Stands driver.now) (D.FindsFull driver.now) state.now }
-    ensures { IfOk result (λ over. OfStatuses (D.Stands driver.now) (D.FindsFull driver.now) state.now
+    ensures over { IfOk result (λ over. OfStatuses (D.Stands driver.now) (D.FindsFull driver.now) state.now
         (λ statuses. over ≡ list_all is_over statuses)) }
+    ensures many { OnErr result (AreTooMany (D.Stands driver.now) (D.FindsFull driver.now) state.now) }
 {
     for p in 0..u64::from(u32::MAX) + 1 {
         match driver.status(state, p as Pid) {
