@@ -1,7 +1,9 @@
 //! The cases of a table, one behind the other.
 use crate::error::{Fault, TableError};
 use crate::trial::{Outcome, Trial};
+use ec_tool::network::Network;
 use std::alloc::{AllocError, Global};
+use std::mem::ManuallyDrop;
 use std::{io, mem};
 
 /// A line of a table, with its number from 1.
@@ -38,6 +40,9 @@ struct Case<'a> {
     /// How many calls had failed when it began.
     failed_before: u32,
     tally: Tally,
+
+    /// What the last call left, which the next one takes over.
+    net: ManuallyDrop<Network>,
 }
 
 /// Makes the calls of a table, and tells of each case.
@@ -64,6 +69,7 @@ impl<'a> Case<'a> {
                 passed: 0,
                 failed: 0,
             },
+            net: ManuallyDrop::new(Network::empty()),
         }
     }
 
@@ -155,7 +161,7 @@ impl<'a> Case<'a> {
         let mut trial = Trial::new(alloc);
         add_rows(alloc, &self.settings, fill, &mut trial)?;
         add_rows(alloc, &self.wanted, fill, &mut trial)?;
-        let came = trial.call(alloc)?;
+        let came = trial.call(alloc, &mut self.net)?;
         if trial.wants(&came) {
             self.tally.passed = self.tally.passed.saturating_add(1);
             return Ok(());

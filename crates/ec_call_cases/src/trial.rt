@@ -151,8 +151,8 @@ impl Trial {
         Ok(())
     }
 
-    /// Makes the call.
-    pub fn call(&self, alloc: Global) -> Result<Outcome, AllocError> {
+    /// Makes the call. The network that an earlier one left is taken over.
+    pub fn call(&self, alloc: Global, net: &mut Network) -> Result<Outcome, AllocError> {
         let mut words = Vec::new(alloc);
         for word in &self.words {
             words.push(word.as_str())?;
@@ -164,7 +164,7 @@ impl Trial {
                 bytes: file.text.as_slice(),
             })?;
         }
-        self.call_with(alloc, &words, &files)
+        self.call_with(alloc, &words, &files, net)
     }
 
     /// Makes the call with these words over a shelf of these files.
@@ -173,11 +173,11 @@ impl Trial {
         alloc: Global,
         words: &'a [&'a str],
         files: &[MemFile],
+        net: &mut Network,
     ) -> Result<Outcome, AllocError> {
         let mut shelf = MemShelf::new(alloc, files, self.read_piece.max(1), &self.read_fails)?;
         let mut sink = MemSink::new(alloc, self.put_piece.max(1), &self.put_fails)?;
-        let mut net = Network::empty();
-        let status = emerald(alloc, words, &mut shelf, &mut sink, &mut net);
+        let status = emerald(alloc, words, &mut shelf, &mut sink, net);
         Ok(Outcome {
             status: status.code(),
             text: Vec::from_slice(alloc, sink.taken())?,

@@ -1,5 +1,5 @@
 -- When nodes with the rows of processes show a world of three-address code, and what else holds of them between entries.
-use Rattle.std.specs.Prelude.{◌≡◌, ◌≤◌, ◌⊎◌, ℕ, List, length, map}
+use Rattle.std.specs.Prelude.{◌≡◌, ◌≤◌, ℕ, List, length, map}
 use Rattle.ec_cluster.specs.Cluster.{CodeWorld, Shows, frame_of, place}
 use Rattle.ec_cluster.specs.declared.cluster.Cluster.{Cluster}
 use Rattle.ec_cluster.specs.Frames.{HasImages}
@@ -11,11 +11,9 @@ use Rattle.ec_code.specs.Worlds.{RangedWorld, most_nodes}
 use Rattle.ec_code.specs.Sound.{SoundWorld}
 use Rattle.ec_cluster.specs.declared.system.ProcessRow.{ProcessRow}
 use Rattle.ec_cluster.specs.declared.system.System.{System}
-use Rattle.ec_things.specs.Texts.{IsHeld}
+use Rattle.ec_things.specs.Texts.{TextsAt}
 use Rattle.ec_things.specs.Things.{things_of}
-use Rattle.ec_world.specs.Group.{Has}
 use Rattle.ec_world.specs.declared.process.Proc.{Proc}
-use Rattle.ec_world.specs.declared.value.Value.TheVariants.{Str}
 
 -- the row of a process
 abbrev pub row_of : Proc CodeActivation → ProcessRow
@@ -51,4 +49,4 @@ RunsSome s = (d : Declared) × ((w : CodeWorld) × Runs d s w)
 
 -- the texts that a world has at a node: in objects and activations there, and in constants
 abbrev pub Strings : Cluster → CodeWorld → ℕ → List ℕ → Type 0
-Strings c w k text = IsHeld (things_of (frame_of c) w) (place c) k text ⊎ Has w.common.globals (Str text)
+Strings c w = TextsAt (things_of (frame_of c) w) w.common.globals (place c)

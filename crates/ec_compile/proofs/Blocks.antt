@@ -14,7 +14,7 @@ use Rattle.ec_types.specs.declared.conform.static_type.StaticType.{StaticType}
 use Rattle.ec_core.specs.declared.Place.{Place}
 use Rattle.ec_core.specs.declared.Place.TheVariants as place
 use Rattle.ec_emission.specs.Expressions.{Condition, Emitted, all_code, operand_code, operand_of}
-use Rattle.ec_emission.specs.Literals.{Texts}
+use Rattle.ec_core.specs.Literals.{Texts}
 use Rattle.ec_emission.specs.Statements.{Choice, Done, arm_code, given, jump_over, loop_code}
 use Rattle.ec_emission.specs.Statements.{store, stored, unless, where_it_holds}
 use Rattle.ec_code.specs.Live.{read_in}

@@ -20,9 +20,9 @@ use Rattle.ec_core_laws.specs.Measures.{size_of_statement, size_of_arm, size_of_
 use Rattle.ec_core_laws.specs.Constants.{size_of_constants}
 use Rattle.ec_core_laws.specs.Limits.{size_of_core, size_of_operations}
 use Rattle.ec_emission.specs.Expressions.{has_text}
-use Rattle.ec_emission.specs.Literals.{Texts, all_of as joined, addend_texts, arm_texts, block_texts, expression_texts, factor_texts}
-use Rattle.ec_emission.specs.Literals.{link_texts, literals_of, statement_texts, texts_of, texts_of_block, texts_of_constants}
-use Rattle.ec_emission.specs.Literals.{texts_of_operations, with_new}
+use Rattle.ec_core.specs.Literals.{Texts, joined, addend_texts, arm_texts, block_texts, expression_texts, factor_texts}
+use Rattle.ec_core.specs.Literals.{link_texts, statement_texts, texts_of, texts_of_block}
+use Rattle.ec_emission.specs.Literals.{literals_of, texts_of_constants, texts_of_operations, with_new}
 
 -- ---- lists
 

@@ -27,7 +27,7 @@ use Rattle.ec_emission.specs.Expressions.{builtin_type, chain, chain_code, emitt
 use Rattle.ec_emission.specs.Expressions.{kept}
 use Rattle.ec_emission.specs.Expressions.{link_code, links_code, literal_number, needed_code, own_call, own_code, by_code}
 use Rattle.ec_emission.specs.Expressions.{stop_order}
-use Rattle.ec_emission.specs.Literals.{Texts}
+use Rattle.ec_core.specs.Literals.{Texts}
 use Rattle.ec_meaning.specs.Programs.{Source, class_number, line, name_number}
 use Rattle.ec_meaning.specs.Steps.{stop_of}
 use Rattle.ec_emission.specs.Leaves.{Number, Truth, Nil}

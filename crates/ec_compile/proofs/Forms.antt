@@ -30,7 +30,7 @@ use Rattle.ec_emission.specs.Expressions.{Emitted, by_code, by_condition, calcul
 use Rattle.ec_emission.specs.Expressions.{fetch_all, fits_here, inverted, itself, joined, leaf_at, multiplied, negated}
 use Rattle.ec_emission.specs.Expressions.{pair_code, pair_first, pair_second, operand_code, operand_of, read, stops_at, test_of}
 use Rattle.ec_emission.specs.Expressions.{then_stop, variable_if}
-use Rattle.ec_emission.specs.Literals.{Texts}
+use Rattle.ec_core.specs.Literals.{Texts}
 use Rattle.ec_code.specs.Live.{read_by, read_in}
 use Rattle.ec_meaning.specs.Programs.{Source}
 use Rattle.ec_emission.specs.Leaves.{IsThereOf}

@@ -5,7 +5,8 @@ use Rattle.std.proofs.Common.{sym, ap, ap₂, ◌∙◌, subst, eq-eqb, eqb-true
 use Rattle.std.specs.Prelude.{slice_get}
 use Rattle.ec_core.specs.declared.Core.{Core}
 use Rattle.ec_emission.specs.Expressions.{has_text, is_text}
-use Rattle.ec_emission.specs.Literals.{Texts, literals_of, texts_of_constants, texts_of_operations, with_new}
+use Rattle.ec_core.specs.Literals.{Texts}
+use Rattle.ec_emission.specs.Literals.{literals_of, texts_of_constants, texts_of_operations, with_new}
 
 -- ---- texts that are the same
 

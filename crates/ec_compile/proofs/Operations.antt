@@ -21,7 +21,7 @@ use Rattle.ec_core_laws.specs.Measures.{height_of, height_of_block, size_of, siz
 use Rattle.ec_core_laws.specs.Captures.{captures_of, captures_of_block}
 use Rattle.ec_core_laws.specs.Constants.{captures_of_constants, height_of_constants, size_of_constants}
 use Rattle.ec_emission.specs.Expressions.{emitted}
-use Rattle.ec_emission.specs.Literals.{Texts}
+use Rattle.ec_core.specs.Literals.{Texts}
 use Rattle.ec_emission.specs.Statements.{body_done, constant_ops, default_ops, defaults_from, entry, given, leave_ops, leave_row}
 use Rattle.ec_emission.specs.Statements.{operation_ops, program_ops, result_of}
 use Rattle.ec_meaning.specs.Programs.{Source}

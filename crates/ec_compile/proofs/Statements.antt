@@ -25,7 +25,7 @@ use Rattle.ec_core_laws.specs.Measures.{height_of_statement, height_of_arm, heig
 use Rattle.ec_core_laws.specs.Captures.{captures_of, statement_captures, arm_captures, block_captures, captures_of_statement}
 use Rattle.ec_core_laws.specs.Captures.{captures_of_arm, captures_of_block}
 use Rattle.ec_emission.specs.Expressions.{Emitted, all_code}
-use Rattle.ec_emission.specs.Literals.{Texts}
+use Rattle.ec_core.specs.Literals.{Texts}
 use Rattle.ec_emission.specs.Statements.{Choice, Done, arms_code, block_code, block_of, choice_code, done_of, in_order, required}
 use Rattle.ec_emission.specs.Statements.{statement_code, value_of, where_it_holds}
 use Rattle.ec_meaning.specs.Programs.{Source, line}

@@ -22,8 +22,8 @@ use Rattle.ec_core.specs.declared.Operation.{Operation}
 use Rattle.ec_core.specs.declared.Statement.{Statement}
 use Rattle.ec_core_laws.proofs.Expressions.{expression_is, link_is, addend_is, factor_is, link_out_is}
 use Rattle.ec_core_laws.proofs.Trees as trees
-use Rattle.ec_core_laws.specs.Literals.{expression_texts, link_texts, addend_texts, factor_texts, texts_of, texts_of_link}
-use Rattle.ec_core_laws.specs.Literals.{texts_of_addend, texts_of_factor, texts_of_statement, texts_of_block, Texts, joined}
+use Rattle.ec_core.specs.Literals.{expression_texts, link_texts, addend_texts, factor_texts, texts_of, texts_of_link}
+use Rattle.ec_core.specs.Literals.{texts_of_addend, texts_of_factor, texts_of_statement, texts_of_block, Texts, joined}
 use Rattle.ec_core_laws.specs.TreeTexts.{IsBytes}
 use Rattle.ec_rules.specs.Calls as calls
 use Rattle.ec_rules.specs.Calls.{Receiver, Creation, Own, Typed, callee, receiver, link_type, type_of_receiver, type_indexed}

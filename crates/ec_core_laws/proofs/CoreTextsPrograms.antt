@@ -13,7 +13,7 @@ use Rattle.ec_check.specs.Tree.{class_part, part_of}
 use Rattle.ec_types.specs.Table.{Table}
 use Rattle.ec_core.specs.declared.Constant.{Constant as CoreConstant}
 use Rattle.ec_core.specs.declared.Operation.{Operation}
-use Rattle.ec_core_laws.specs.Literals.{texts_of, texts_of_block, Texts, joined}
+use Rattle.ec_core.specs.Literals.{texts_of, texts_of_block, Texts, joined}
 use Rattle.ec_core_laws.proofs.CoreTextsExpressions.{AllFit, OperationFits, MadeFits}
 use Rattle.ec_core_laws.proofs.Made.{both_fit, holder_fits}
 use Rattle.ec_core_laws.proofs.CoreTextsTrees.{fitting_part, fitting_body}

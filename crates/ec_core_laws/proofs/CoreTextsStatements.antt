@@ -20,8 +20,8 @@ use Rattle.ec_core.specs.declared.Statement.{Statement, roll-Statement, map-Stat
 use Rattle.ec_core_laws.proofs.Expressions.{out_is, link_out_is}
 use Rattle.ec_core_laws.proofs.Statements.{statement_is, arm_is}
 use Rattle.ec_core_laws.proofs.Trees as trees
-use Rattle.ec_core_laws.specs.Literals.{expression_texts, link_texts, addend_texts, factor_texts, statement_texts, arm_texts, block_texts}
-use Rattle.ec_core_laws.specs.Literals.{texts_of, texts_of_link, texts_of_statement, texts_of_arm, texts_of_block, Texts, joined}
+use Rattle.ec_core.specs.Literals.{expression_texts, link_texts, addend_texts, factor_texts, statement_texts, arm_texts, block_texts}
+use Rattle.ec_core.specs.Literals.{texts_of, texts_of_link, texts_of_statement, texts_of_arm, texts_of_block, Texts, joined}
 use Rattle.ec_core_laws.proofs.CoreTextsExpressions.{AllFit, Fit, FitLink, FitStatement, PartFits, StatementFits, PieceFits, PartHas, ArmHas}
 use Rattle.ec_core_laws.proofs.CoreTextsExpressions.{PieceHas, each_fits, layer_texts, link_layer_texts, chained_fits}
 use Rattle.ec_core_laws.specs.TreeTexts.{IsBytes}

@@ -19,7 +19,7 @@ use Rattle.ec_ast.specs.declared.Span.{Span}
 use Rattle.ec_ast.specs.declared.Statement.TheVariants as statement
 use Rattle.ec_ast.specs.declared.Statement.{Statement, roll-Statement}
 use Rattle.ec_ast.specs.declared.TypeName.{TypeName}
-use Rattle.ec_core_laws.specs.Literals.{Texts, joined, if_there}
+use Rattle.ec_core.specs.Literals.{Texts, joined, if_there}
 use Rattle.ec_core_laws.specs.TreeTexts.{kinds, steps, expression_texts, link_texts, member_texts, statement_texts, body_texts}
 use Rattle.ec_lexer.specs.declared.token.Token.{Token}
 use Rattle.ec_parser.specs.Chains.{or_of, and_of, sum_of, term_of, postfix_of}

@@ -7,7 +7,7 @@ use Rattle.ec_ast.specs.declared.Constant.{Constant}
 use Rattle.ec_ast.specs.declared.Program.{Program}
 use Rattle.ec_ast.specs.declared.Typeobject.{Typeobject}
 use Rattle.ec_check.proofs.Every.{Every, all_of}
-use Rattle.ec_core_laws.specs.Literals.{Texts, joined}
+use Rattle.ec_core.specs.Literals.{Texts, joined}
 use Rattle.ec_core_laws.proofs.CoreTextsTextParts.{Taken, arrived, passed, literal, and_then, past, skipped, texts}
 use Rattle.ec_core_laws.proofs.CoreTextsTextTrees.{body, expr}
 use Rattle.ec_core_laws.specs.TreeTexts.{IsByte, IsBytes, HasBytes, texts_of_value, texts_of_program}

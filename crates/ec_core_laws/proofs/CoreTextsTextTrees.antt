@@ -16,7 +16,7 @@ use Rattle.ec_ast.specs.declared.ObjectConstructor.{ObjectConstructor}
 use Rattle.ec_ast.specs.declared.ProcessSection.{ProcessSection}
 use Rattle.ec_ast.specs.declared.Statement.TheVariants as s
 use Rattle.ec_ast.specs.declared.Statement.{Statement}
-use Rattle.ec_core_laws.specs.Literals.{joined, if_there}
+use Rattle.ec_core.specs.Literals.{joined, if_there}
 use Rattle.ec_core_laws.proofs.CoreTextsTextParts.{Taken, arrived, passed, literal, and_then, past, skipped, texts}
 use Rattle.ec_core_laws.proofs.CoreTextsTextParts.{of_expression, of_link, of_member, of_statement, of_addend, of_arm, of_block, of_factor}
 use Rattle.ec_core_laws.proofs.CoreTextsTextParts.{of_local_variable, of_if, of_variable, of_members}

@@ -24,7 +24,7 @@ use Rattle.ec_check.specs.Tree.{object_of, operation_of, process_of}
 use Rattle.ec_check.specs.Tree.{part_of, link_of, member_of, statement_of, addend_of, arm_of, block_of, body_of, factor_of}
 use Rattle.ec_core_laws.proofs.Statements.{block_is}
 use Rattle.ec_core_laws.proofs.Trees as trees
-use Rattle.ec_core_laws.specs.Literals.{statement_texts, arm_texts, block_texts, texts_of_statement, Texts, joined}
+use Rattle.ec_core.specs.Literals.{statement_texts, arm_texts, block_texts, texts_of_statement, Texts, joined}
 use Rattle.ec_core_laws.proofs.CoreTextsExpressions.{AllFit, PartFits, StatementFits, PieceFits, PartHas, LinkHas, FactorHas, AddendHas}
 use Rattle.ec_core_laws.proofs.CoreTextsExpressions.{ArmHas, PieceHas, MemberHas, BodyHas, ObjectHas, ExpressionHas, IsFitting, all_fit}
 use Rattle.ec_core_laws.proofs.CoreTextsExpressions.{core_fits}

@@ -55,10 +55,10 @@ use Rattle.ec_core_laws.proofs.Programs.{Faultless, constants_faultless, each_op
 use Rattle.ec_core_laws.proofs.Statements.{statement_is, arm_is, block_is, statements_are}
 use Rattle.ec_core_laws.proofs.Trees as trees
 use Rattle.ec_core_laws.proofs.Trees.{IsPart, IsPiece}
-use Rattle.ec_core_laws.specs.Literals.{Texts, joined, expression_texts, link_texts, addend_texts, factor_texts, statement_texts}
-use Rattle.ec_core_laws.specs.Literals.{arm_texts, block_texts}
-use Rattle.ec_core_laws.specs.Literals.{texts_of, texts_of_link, texts_of_addend, texts_of_factor, texts_of_statement, texts_of_arm}
-use Rattle.ec_core_laws.specs.Literals.{texts_of_block}
+use Rattle.ec_core.specs.Literals.{Texts, joined, expression_texts, link_texts, addend_texts, factor_texts, statement_texts}
+use Rattle.ec_core.specs.Literals.{arm_texts, block_texts}
+use Rattle.ec_core.specs.Literals.{texts_of, texts_of_link, texts_of_addend, texts_of_factor, texts_of_statement, texts_of_arm}
+use Rattle.ec_core.specs.Literals.{texts_of_block}
 use Rattle.ec_core_laws.specs.Literals.{IsShort, HasShortTexts}
 use Rattle.ec_rules.specs.Calls.{Receiver, Creation, Own, Typed, callee, receiver, link_type, type_of_receiver, type_indexed}
 use Rattle.ec_rules.specs.Calls.{faults_of_head}

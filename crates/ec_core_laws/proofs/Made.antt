@@ -18,7 +18,7 @@ use Rattle.ec_core.specs.declared.Statement.TheVariants as s
 use Rattle.ec_core.specs.declared.Statement.{Statement}
 use Rattle.ec_core_laws.proofs.Statements.{block_is, statements_are}
 use Rattle.ec_core_laws.proofs.Trees as trees
-use Rattle.ec_core_laws.specs.Literals.{statement_texts, arm_texts, block_texts, texts_of_statement, Texts}
+use Rattle.ec_core.specs.Literals.{statement_texts, arm_texts, block_texts, texts_of_statement, Texts}
 use Rattle.ec_core_laws.proofs.CoreTextsExpressions.{AllFit, FitStatement, OperationFits, MadeFits, PartFits, StatementFits, PieceFits}
 use Rattle.ec_core_laws.proofs.CoreTextsExpressions.{ExpressionHas, all_fit, each_fits}
 use Rattle.ec_core_laws.proofs.CoreTextsExpressions.{PartHas, LinkHas, FactorHas, AddendHas, ArmHas, PieceHas, MemberHas, BodyHas}

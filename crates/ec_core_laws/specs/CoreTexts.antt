@@ -3,7 +3,7 @@ use Rattle.std.specs.Prelude.{All}
 use Rattle.ec_core.specs.declared.Constant.{Constant}
 use Rattle.ec_core.specs.declared.Core.{Core}
 use Rattle.ec_core.specs.declared.Operation.{Operation}
-use Rattle.ec_core_laws.specs.Literals.{texts_of, texts_of_block}
+use Rattle.ec_core.specs.Literals.{texts_of, texts_of_block}
 use Rattle.ec_core_laws.specs.TreeTexts.{IsBytes}
 
 -- in the operations, and in the values of the constants

@@ -8,7 +8,7 @@ use Rattle.ec_ast.specs.declared.ConstantValue.TheVariants as stands
 use Rattle.ec_ast.specs.declared.Expression.{Expression}
 use Rattle.ec_ast.specs.declared.Expression.TheOpen.{Expression-F, Link-F, Member-F, Statement-F}
 use Rattle.ec_ast.specs.declared.Program.{Program}
-use Rattle.ec_core_laws.specs.Literals.{Texts, joined, if_there}
+use Rattle.ec_core.specs.Literals.{Texts, joined, if_there}
 use Rattle.ec_types.specs.Names.{Text}
 use Rattle.ec_ast.specs.Folds.{Steps, expression_folded, body_folded}
 use Rattle.ec_ast.specs.Kinds.{Kinds, ExpressionOf, LinkOf, MemberOf, StatementOf, BodyOf}

@@ -3,7 +3,8 @@ use Rattle.std.proofs.Common.{◌≡◌, ℕ, Bool, true, false, ◌==◌, if◌
 use Rattle.ec_core.specs.declared.Core.{Core}
 use Rattle.ec_emission.proofs.Forms.{not_true}
 use Rattle.ec_emission.specs.Expressions.{is_text, has_text}
-use Rattle.ec_emission.specs.Literals.{Texts, with_new, literals_of, texts_of_constants, texts_of_operations}
+use Rattle.ec_core.specs.Literals.{Texts}
+use Rattle.ec_emission.specs.Literals.{with_new, literals_of, texts_of_constants, texts_of_operations}
 
 -- each of these is one of those
 abbrev pub AllAmong : Texts → Texts → Type 0

@@ -8,7 +8,8 @@ use Rattle.ec_core.specs.declared.Operation.{Operation}
 use Rattle.ec_core_laws.specs.Exits.{leaves_block}
 use Rattle.ec_emission.proofs.Literals.{AllAmong, among_first, among_second, texts_among, empty_among}
 use Rattle.ec_emission.specs.Expressions.{emitted, fits_here}
-use Rattle.ec_emission.specs.Literals.{Texts, literals_of, texts_of, texts_of_block, texts_of_constants, texts_of_operations}
+use Rattle.ec_core.specs.Literals.{Texts, texts_of, texts_of_block}
+use Rattle.ec_emission.specs.Literals.{literals_of, texts_of_constants, texts_of_operations}
 use Rattle.ec_emission.specs.Statements.{Done, are_given, body_done, leave_ops, operation_fits, program_fits}
 use Rattle.ec_emission_laws.proofs.Expressions.{is_fit}
 use Rattle.ec_emission_laws.proofs.Leaving.{exits_as_left}

@@ -28,7 +28,7 @@ use Rattle.ec_emission.proofs.Literals.{AllAmong, among_first, among_second}
 use Rattle.ec_emission.specs.Expressions.{Emitted, Following, Applied, fits_here, all_fit, all_apply, links_fit, links_give}
 use Rattle.ec_emission.specs.Expressions.{comparison, stop_order, gives_result, expression_code, link_code, addend_code, factor_code}
 use Rattle.ec_emission.specs.Expressions.{emitted}
-use Rattle.ec_emission.specs.Literals.{Texts, all_of, texts_of, expression_texts, link_texts, addend_texts, factor_texts}
+use Rattle.ec_core.specs.Literals.{Texts, joined, texts_of, expression_texts, link_texts, addend_texts, factor_texts}
 use Rattle.ec_emission_laws.proofs.Values.{SelfIsValue, with_addend, one_of, taken_some, goes_in_value, element_some}
 use Rattle.ec_emission_laws.proofs.Values.{receiver_some, compared_some, own_some, sum_some, sum_other}
 use Rattle.ec_emission_laws.specs.Dropped.{last_gives, expression_gives, link_gives, addend_gives, factor_gives, gives_value}
@@ -190,16 +190,16 @@ module _ (site : Site) (s : Source) (captured count : ℕ) (literals : Texts) wh
   typed_all xs = map (typed site) (map bare_x xs)
 
   abbrev texts_of_all : List ExpressionHeld → Texts
-  texts_of_all xs = all_of (map texts_of (map bare_x xs))
+  texts_of_all xs = joined (map texts_of (map bare_x xs))
 
   abbrev texts_of_links : List LinkHeld → Texts
-  texts_of_links xs = all_of (map texts_of_link (map bare_l xs))
+  texts_of_links xs = joined (map texts_of_link (map bare_l xs))
 
   abbrev texts_of_addends : List AddendHeld → Texts
-  texts_of_addends xs = all_of (map texts_of_addend (map bare_a xs))
+  texts_of_addends xs = joined (map texts_of_addend (map bare_a xs))
 
   abbrev texts_of_factors : List FactorHeld → Texts
-  texts_of_factors xs = all_of (map texts_of_factor (map bare_f xs))
+  texts_of_factors xs = joined (map texts_of_factor (map bare_f xs))
 
   abbrev CodesFit : List ExpressionHeld → Type 0
   CodesFit xs = all_fit (map code_of (map bare_x xs)) ≡ true

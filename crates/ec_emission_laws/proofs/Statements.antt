@@ -16,7 +16,7 @@ use Rattle.ec_core.specs.declared.Statement.{Statement, roll-Statement, map-Stat
 use Rattle.ec_core.specs.declared.Statement.TheOpen.{Statement-F, Arm-F, Block-F}
 use Rattle.ec_emission.proofs.Literals.{AllAmong, among_first, among_second}
 use Rattle.ec_emission.specs.Expressions.{fits_here, has_text}
-use Rattle.ec_emission.specs.Literals.{Texts, all_of, texts_of, statement_texts, arm_texts, block_texts, texts_of_block}
+use Rattle.ec_core.specs.Literals.{Texts, joined, texts_of, statement_texts, arm_texts, block_texts, texts_of_block}
 use Rattle.ec_emission.specs.Statements.{Done, Choice, all_done, all_choices, is_given, are_given, value_of, statement_code, choice_code}
 use Rattle.ec_emission.specs.Statements.{block_code, done_of, block_of}
 use Rattle.ec_emission_laws.proofs.Expressions.{is_fit, fits_as}
@@ -151,10 +151,10 @@ module _ (site : Site) (s : Source) (captured : ℕ) (types : List StaticType) (
   -- ---- lists of parts
 
   abbrev texts_of_statements : List StatementHeld → Texts
-  texts_of_statements xs = all_of (map texts_of_statement (map bare_s xs))
+  texts_of_statements xs = joined (map texts_of_statement (map bare_s xs))
 
   abbrev texts_of_arms : List ArmHeld → Texts
-  texts_of_arms xs = all_of (map texts_of_arm (map bare_a xs))
+  texts_of_arms xs = joined (map texts_of_arm (map bare_a xs))
 
   statements_fit : (xs : List StatementHeld) → all_well site (map (is_well_statement site) (map bare_s xs)) ≡ true →
       all_drop (map drops_statement (map bare_s xs)) ≡ true → Among (texts_of_statements xs) →

@@ -10,7 +10,7 @@ use Rattle.std.proofs.lemmas.Map.Text.{is_eq-slice_cmp}
 use lib.Dec.{eqb}
 use lib.Pointwise.{pointwise}
 use Rattle.ec_emission.specs.Expressions.{is_text, has_text, literal_from}
-use Rattle.ec_emission.specs.Literals.{Texts}
+use Rattle.ec_core.specs.Literals.{Texts}
 use Rattle.ec_expressions.specs.Places.{ArePlaces, by_bytes, place_from}
 
 -- ---- texts that are the same

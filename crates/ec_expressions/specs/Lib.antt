@@ -2,4 +2,3 @@ pub mod Emitting
 pub mod Numbers
 pub mod Replacing
 pub mod Places
-pub mod Texts

@@ -5,7 +5,7 @@ use Rattle.std.specs.Ordering.{nat_cmp}
 use Rattle.std.specs.Cmp.Lexicographic.{slice_cmp}
 use Rattle.std.specs.BTreeMap.{BTreeMap, get}
 use Rattle.ec_emission.specs.Expressions.{is_text}
-use Rattle.ec_emission.specs.Literals.{Texts}
+use Rattle.ec_core.specs.Literals.{Texts}
 
 -- the place of the first of these texts that is the same as a text; they are those from n on
 abbrev pub place_from : ℕ → Texts → List ℕ → Option ℕ

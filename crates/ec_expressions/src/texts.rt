@@ -1,7 +1,7 @@
 //! The texts of a program's core, in the order in which they stand.
 ghost use Rattle.std.specs.Prelude.{◌≡◌, ◌++◌, [], ◌∷◌, IfOk, OnOk, map, option_map};
 ghost use Rattle.ec_emission.specs.Literals as spec;
-ghost use Rattle.ec_expressions.specs.Texts as part;
+ghost use Rattle.ec_core.specs.Literals as part;
 
 use ec_base::list::Seq;
 use ec_core::{Addend, Arm, Block, Constant, Core, Expression, Factor, Link, Operation, Statement};
@@ -41,14 +41,14 @@ fn add_operations(operations: &[Operation], found: &mut Seq<Text>) -> Result<(),
 
 #[cycle(blocks)]
 fn add_block(block: &Block, found: &mut Seq<Text>) -> Result<(), AllocError>
-    ensures { OnOk result (found.new ≡ found.old ++ spec.texts_of_block block.now) }
+    ensures { OnOk result (found.new ≡ found.old ++ part.texts_of_block block.now) }
 {
     add_statements(block.statements.as_slice(), found)
 }
 
 #[cycle(blocks)]
 fn add_statements(statements: &[Statement], found: &mut Seq<Text>) -> Result<(), AllocError>
-    ensures { OnOk result (found.new ≡ found.old ++ spec.all_of (map part.texts_of_statement statements.now)) }
+    ensures { OnOk result (found.new ≡ found.old ++ part.joined (map part.texts_of_statement statements.now)) }
 {
     for statement in statements {
         add_statement(statement, found)?;
@@ -87,7 +87,7 @@ fn add_statement(statement: &Statement, found: &mut Seq<Text>) -> Result<(), All
 
 #[cycle(blocks)]
 fn add_arms(arms: &[Arm], found: &mut Seq<Text>) -> Result<(), AllocError>
-    ensures { OnOk result (found.new ≡ found.old ++ spec.all_of (map part.texts_of_arm arms.now)) }
+    ensures { OnOk result (found.new ≡ found.old ++ part.joined (map part.texts_of_arm arms.now)) }
 {
     for arm in arms {
         add_expression(&arm.condition, found)?;
@@ -98,7 +98,7 @@ fn add_arms(arms: &[Arm], found: &mut Seq<Text>) -> Result<(), AllocError>
 
 #[cycle(blocks)]
 fn add_block_if_there(block: &Option<Block>, found: &mut Seq<Text>) -> Result<(), AllocError>
-    ensures { OnOk result (found.new ≡ found.old ++ spec.block_if (option_map spec.texts_of_block block.now)) }
+    ensures { OnOk result (found.new ≡ found.old ++ part.if_there (option_map part.texts_of_block block.now)) }
 {
     match block {
         None => Ok(()),
@@ -107,7 +107,7 @@ fn add_block_if_there(block: &Option<Block>, found: &mut Seq<Text>) -> Result<()
 }
 
 fn add_if_there(x: &Option<Expression>, found: &mut Seq<Text>) -> Result<(), AllocError>
-    ensures { OnOk result (found.new ≡ found.old ++ spec.texts_if x.now) }
+    ensures { OnOk result (found.new ≡ found.old ++ part.texts_if x.now) }
 {
     match x {
         None => Ok(()),
@@ -120,7 +120,7 @@ fn add_if_there(x: &Option<Expression>, found: &mut Seq<Text>) -> Result<(), All
 /// The texts of an expression behind those that were found. The error is want of memory.
 #[cycle(expressions)]
 fn add_expression(x: &Expression, found: &mut Seq<Text>) -> Result<(), AllocError>
-    ensures { OnOk result (found.new ≡ found.old ++ spec.texts_of x.now) }
+    ensures { OnOk result (found.new ≡ found.old ++ part.texts_of x.now) }
 {
     match x {
         Expression::Literal(text) => add(text.as_slice(), found),
@@ -165,7 +165,7 @@ fn add(text: &[u8], found: &mut Seq<Text>) -> Result<(), AllocError>
 
 #[cycle(expressions)]
 fn add_all(xs: &[Expression], found: &mut Seq<Text>) -> Result<(), AllocError>
-    ensures { OnOk result (found.new ≡ found.old ++ spec.all_of (map spec.texts_of xs.now)) }
+    ensures { OnOk result (found.new ≡ found.old ++ part.joined (map part.texts_of xs.now)) }
 {
     for x in xs {
         add_expression(x, found)?;
@@ -175,7 +175,7 @@ fn add_all(xs: &[Expression], found: &mut Seq<Text>) -> Result<(), AllocError>
 
 #[cycle(expressions)]
 fn add_links(links: &[Link], found: &mut Seq<Text>) -> Result<(), AllocError>
-    ensures { OnOk result (found.new ≡ found.old ++ spec.all_of (map part.texts_of_link links.now)) }
+    ensures { OnOk result (found.new ≡ found.old ++ part.joined (map part.texts_of_link links.now)) }
 {
     for link in links {
         add_link(link, found)?;
@@ -196,7 +196,7 @@ fn add_link(link: &Link, found: &mut Seq<Text>) -> Result<(), AllocError>
 
 #[cycle(expressions)]
 fn add_addends(addends: &[Addend], found: &mut Seq<Text>) -> Result<(), AllocError>
-    ensures { OnOk result (found.new ≡ found.old ++ spec.all_of (map part.texts_of_addend addends.now)) }
+    ensures { OnOk result (found.new ≡ found.old ++ part.joined (map part.texts_of_addend addends.now)) }
 {
     for a in addends {
         add_expression(&a.value, found)?;
@@ -206,7 +206,7 @@ fn add_addends(addends: &[Addend], found: &mut Seq<Text>) -> Result<(), AllocErr
 
 #[cycle(expressions)]
 fn add_factors(factors: &[Factor], found: &mut Seq<Text>) -> Result<(), AllocError>
-    ensures { OnOk result (found.new ≡ found.old ++ spec.all_of (map part.texts_of_factor factors.now)) }
+    ensures { OnOk result (found.new ≡ found.old ++ part.joined (map part.texts_of_factor factors.now)) }
 {
     for f in factors {
         add_expression(&f.value, found)?;

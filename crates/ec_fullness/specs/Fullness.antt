@@ -1,5 +1,5 @@
 -- What an action needs of each node for the world that it leaves, and when a node lacks it.
-use Rattle.std.specs.Prelude.{◌≡◌, ◌⊎◌, ◌-◌, ◌<◌, ◌==◌, ℕ, suc, if◌then◌else◌, List, Option, Some}
+use Rattle.std.specs.Prelude.{◌≡◌, ◌-◌, ◌<◌, ◌==◌, ℕ, suc, if◌then◌else◌, List, Option, Some}
 use Rattle.ec_cluster.specs.Cluster.{CodeWorld, frame_of, place, stores}
 use Rattle.ec_cluster.specs.declared.cluster.Cluster.{Cluster}
 use Rattle.ec_code.specs.Typing.{Declared}
@@ -13,14 +13,13 @@ use Rattle.ec_cluster.specs.Systems.{Runs}
 use Rattle.ec_cluster.specs.declared.system.System.{System}
 use Rattle.ec_things.specs.Held.{Held}
 use Rattle.ec_things.specs.Store.{Store}
-use Rattle.ec_things.specs.Texts.{IsHeld, NewBytes}
+use Rattle.ec_things.specs.Texts.{NewBytes, TextsAt}
 use Rattle.ec_things.specs.Things.{things_of}
-use Rattle.ec_world.specs.Group.{Has, is_in}
+use Rattle.ec_world.specs.Group.{is_in}
 use Rattle.ec_world.specs.declared.doing.Doing.{Doing}
 use Rattle.ec_world.specs.declared.doing.Doing.TheVariants.{Passes, Prints, Defines, Stores, Makes, MakesVector, Invokes, Returns}
 use Rattle.ec_world.specs.declared.doing.Doing.TheVariants.{Moves, Unfixes, Enters, Waits, Signals, Finishes, Breaks}
 use Rattle.ec_world.specs.declared.stop.Who.{Who}
-use Rattle.ec_world.specs.declared.value.Value.TheVariants.{Str}
 
 -- ---- the action
 
@@ -64,7 +63,7 @@ gathered place members to oid = if is_in oid members then Some to else place oid
 
 -- the texts that a world has at a node, with objects at these places: in objects and activations there, and in constants
 abbrev pub Wants : Cluster → (ℕ → Option ℕ) → CodeWorld → ℕ → List ℕ → Type 0
-Wants c places w k text = IsHeld (things_of (frame_of c) w) places k text ⊎ Has w.common.globals (Str text)
+Wants c places w = TextsAt (things_of (frame_of c) w) w.common.globals places
 
 -- What node k, which keeps s, needs for world w', with objects at these places, to come after w: the blocks by which those held there rise,
 -- and the bytes of the texts that w' has there and the node lacks.

@@ -5,10 +5,9 @@ use Rattle.std.specs.Prelude.{◌↔◌, slice_get}
 use Rattle.std.proofs.lemmas.Option.{same_Some}
 use Rattle.ec_world.specs.Held.{Distinct}
 use Rattle.ec_world.specs.Words.{text_bytes}
-use Rattle.ec_rooms.specs.Rooms.{BytesOf}
 use Rattle.ec_things.proofs.Sums.{summed, summed_le}
 use Rattle.ec_things.specs.Store.{Filled, Store}
-use Rattle.ec_things.specs.Texts.{InPool}
+use Rattle.ec_things.specs.Texts.{BytesOf, InPool}
 use Rattle.ec_world.proofs.Members.{has_back, has_either, has_first, has_front, has_later, has_none}
 use Rattle.ec_world.specs.Group.{Has}
 

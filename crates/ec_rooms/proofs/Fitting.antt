@@ -6,7 +6,8 @@ use Rattle.ec_world.specs.declared.room.Needs.{Needs}
 use Rattle.ec_world.specs.declared.room.Part.{Part}
 use Rattle.ec_world.specs.declared.room.Part.TheVariants.{Blocks, Text}
 use Rattle.ec_rooms.proofs.Bytes.{bytes_both, bytes_le}
-use Rattle.ec_rooms.specs.Rooms.{BytesOf, FullAt, NeedsOf}
+use Rattle.ec_rooms.specs.Rooms.{FullAt, NeedsOf}
+use Rattle.ec_things.specs.Texts.{BytesOf}
 use Rattle.ec_world.specs.declared.node.NodeSpec.{NodeSpec}
 
 -- A node of this size has so many blocks, and room for these texts.

@@ -21,7 +21,8 @@ use Rattle.ec_rooms.proofs.Nodes.{NodeAt, node_at}
 use Rattle.ec_rooms.proofs.Retelling.{Agree, held_by, strings_by}
 use Rattle.ec_rooms.proofs.Single.{same_needs}
 use Rattle.ec_rooms.specs.Laws.{FoundIsFull}
-use Rattle.ec_rooms.specs.Rooms.{BytesOf, FullAt, NeedsOf, Strings, held}
+use Rattle.ec_rooms.specs.Rooms.{FullAt, NeedsOf, Strings, held}
+use Rattle.ec_things.specs.Texts.{BytesOf}
 use Rattle.ec_rooms.specs.Standing.{ShowsWith}
 use Rattle.ec_code.proofs.Carried.{there}
 use Rattle.ec_code.proofs.Facts.{activation_rests}

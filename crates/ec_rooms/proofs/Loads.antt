@@ -21,7 +21,8 @@ use Rattle.ec_rooms.specs.Places.{place_of}
 use Rattle.ec_rooms.proofs.Bytes.{bytes_along, none_bytes}
 use Rattle.ec_rooms.proofs.Fitting.{Both, Holds, needs_fit, never_full}
 use Rattle.ec_rooms.specs.Laws.{LoadsAreFull}
-use Rattle.ec_rooms.specs.Rooms.{BytesOf, Literals, LoadFull, NoTexts, held, nothing}
+use Rattle.ec_rooms.specs.Rooms.{Literals, LoadFull, NoTexts, held, nothing}
+use Rattle.ec_things.specs.Texts.{BytesOf}
 use Rattle.ec_rooms.specs.Standing.{HavePools, HaveSizes}
 use Rattle.ec_cluster.specs.declared.system.System.{System}
 use Rattle.ec_things.specs.Held.{Held}

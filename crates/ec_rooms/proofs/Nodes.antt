@@ -9,13 +9,13 @@ use Rattle.ec_rooms.proofs.Bytes.{bytes_along, pool_bytes}
 use Rattle.ec_rooms.proofs.Fitting.{Both, Holds, never_full}
 use Rattle.ec_rooms.proofs.Retelling.{held_by, strings_by}
 use Rattle.ec_rooms.specs.Laws.{SameNodesHaveRoom}
-use Rattle.ec_rooms.specs.Rooms.{BytesOf, Strings, held}
+use Rattle.ec_rooms.specs.Rooms.{Strings, held}
 use Rattle.ec_rooms.specs.Standing.{ShowsWith}
 use Rattle.ec_stores.specs.Node.{store_of}
 use Rattle.ec_cluster.proofs.Pools.{strings_in_pool}
 use Rattle.ec_cluster.specs.declared.system.System.{System}
 use Rattle.ec_things.specs.Store.{Store}
-use Rattle.ec_things.specs.Texts.{InPool}
+use Rattle.ec_things.specs.Texts.{BytesOf, InPool}
 use Rattle.ec_world.specs.declared.node.NodeSpec.{NodeSpec}
 
 -- The node of a number is there: its blocks are those held and those that are free, and so it is with the bytes of its texts.

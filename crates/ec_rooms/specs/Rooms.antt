@@ -1,21 +1,19 @@
 -- What a world holds at each node and which texts it has there, by the world and its events alone; and when an entry finds no room.
-use Rattle.std.specs.Prelude.{◌≡◌, ℕ, ◌-◌, ◌<◌, ◌⊎◌, ◌↔◌, List, [], length, Some, slice_get}
+use Rattle.std.specs.Prelude.{◌≡◌, ℕ, ◌-◌, ◌<◌, List, [], length, Some, slice_get}
 use Rattle.ec_activations.specs.Frames.{frame_thing}
 use Rattle.ec_cluster.specs.Cluster.{CodeWorld}
 use Rattle.ec_code.specs.declared.activation.CodeActivation.{CodeActivation}
 use Rattle.ec_code.specs.declared.code.Parts.{Parts}
 use Rattle.ec_acts.specs.Worlds.{world_first}
-use Rattle.ec_world.specs.Held.{Distinct, Fits, Lacks}
-use Rattle.ec_world.specs.Words.{text_bytes}
+use Rattle.ec_world.specs.Held.{Fits, Lacks}
 use Rattle.ec_world.specs.declared.room.Needs.{Needs}
 use Rattle.ec_world.specs.declared.room.Part.{Part}
 use Rattle.ec_rooms.specs.Places.{place_of}
 use Rattle.ec_things.specs.Held.{Held}
-use Rattle.ec_things.specs.Texts.{IsHeld}
+use Rattle.ec_things.specs.Texts.{BytesOf, TextsAt}
 use Rattle.ec_things.specs.Things.{Thing, things_of}
 use Rattle.ec_world.specs.Group.{Has}
 use Rattle.ec_world.specs.declared.node.NodeSpec.{NodeSpec}
-use Rattle.ec_world.specs.declared.value.Value.TheVariants.{Str}
 
 -- ---- what is where
 
@@ -30,16 +28,9 @@ held p w k = Held (frame p) (place_of w) k w
 
 -- the texts that a world has at node k: in objects and activations there, and in constants, which each node has
 abbrev pub Strings : Parts → CodeWorld → ℕ → List ℕ → Type 0
-Strings p w k text = IsHeld (things_of (frame p) w) (place_of w) k text ⊎ Has w.common.globals (Str text)
+Strings p w = TextsAt (things_of (frame p) w) w.common.globals (place_of w)
 
 -- ---- what is needed
-
--- so many bytes have these texts, each once
-pub record BytesOf (Texts : List ℕ → Type 0) (n : ℕ) : Type 0 where
-  pub texts : List (List ℕ)
-  pub once : Distinct texts
-  pub these : (text : List ℕ) → Has texts text ↔ Texts text
-  pub bytes : n ≡ text_bytes texts
 
 -- What an entry needs of a node of this size that holds so many blocks before it and so many after it, whose pool has some texts and is to
 -- have others: the blocks by which those held rise, and the bytes of texts that the pool lacks; and what is free of both before it.

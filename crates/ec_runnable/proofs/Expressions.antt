@@ -19,7 +19,7 @@ use Rattle.ec_emission.specs.Expressions.{fetch, fetch_all, fits_here, gives_res
 use Rattle.ec_emission.specs.Expressions.{links_fit, links_give, literal_number, needed_code}
 use Rattle.ec_emission.specs.Expressions.{by_code}
 use Rattle.ec_emission.specs.Expressions.{own_call, own_code, stop_order, stops_at}
-use Rattle.ec_emission.specs.Literals.{Texts}
+use Rattle.ec_core.specs.Literals.{Texts}
 use Rattle.ec_runnable.proofs.Stops.{above, own_rests, rests}
 use Rattle.ec_runnable.proofs.Uses.{Leads, Within, lead, nothing}
 use Rattle.ec_runnable.proofs.Values.{Applies, Follows, IsClean}

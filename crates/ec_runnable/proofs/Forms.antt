@@ -23,7 +23,7 @@ use Rattle.ec_emission.specs.Expressions.{fetch, fetch_all, fits_here, inverted,
 use Rattle.ec_emission.specs.Expressions.{multiplied, negated, operand_of}
 use Rattle.ec_emission.specs.Expressions.{as_leaf, by_code, by_condition, compared_pair}
 use Rattle.ec_emission.specs.Expressions.{pair_first, pair_second, stops_at, then_stop}
-use Rattle.ec_emission.specs.Literals.{Texts}
+use Rattle.ec_core.specs.Literals.{Texts}
 use Rattle.ec_runnable.proofs.Stops.{above, rests, writes_next}
 use Rattle.ec_runnable.proofs.Uses.{AreHeld, IsHeld, Leads, Within, each_joined, each_weaker, lead, nothing, past_code, step, uses}
 use Rattle.ec_runnable.proofs.Uses.{IsClearStep, but_for, temporaries_in, uses_at, uses_of}

@@ -9,7 +9,7 @@ use Rattle.ec_core.specs.declared.Kind.{Kind}
 use Rattle.ec_core.specs.declared.Kind.TheVariants as kind
 use Rattle.ec_core.specs.declared.Operation.{Operation}
 use Rattle.ec_emission.specs.Expressions.{emitted, fits_here}
-use Rattle.ec_emission.specs.Literals.{Texts}
+use Rattle.ec_core.specs.Literals.{Texts}
 use Rattle.ec_emission.specs.Statements.{body_done, constant_ops, default_ops, defaults_from, entry, given, leave_ops, leave_row}
 use Rattle.ec_emission.specs.Statements.{operation_fits, operation_ops, program_fits, program_ops, result_of}
 use Rattle.ec_runnable.proofs.Expressions.{is_clean}

@@ -15,7 +15,7 @@ use Rattle.ec_core.specs.declared.Place.TheVariants as place
 use Rattle.ec_core.specs.declared.Statement.{Statement, roll-Statement, map-Statement, fold-roll-Statement}
 use Rattle.ec_core.specs.declared.Statement.TheOpen.{Statement-F, Arm-F, Block-F}
 use Rattle.ec_emission.specs.Expressions.{Condition, Emitted, all_code, all_fit, fits_here, operand_code, operand_of}
-use Rattle.ec_emission.specs.Literals.{Texts}
+use Rattle.ec_core.specs.Literals.{Texts}
 use Rattle.ec_emission.specs.Statements.{Choice, Done, all_choices, all_done, arms_code, block_code, block_of, choice_code}
 use Rattle.ec_emission.specs.Statements.{done_of, given, in_order, statement_code}
 use Rattle.ec_emission.specs.Statements.{stop_with, store, stored, value_of, where_it_holds}

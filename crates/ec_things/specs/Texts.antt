@@ -6,6 +6,7 @@ use Rattle.ec_world.specs.declared.key.Key.{Key}
 use Rattle.ec_things.specs.Store.{Store}
 use Rattle.ec_things.specs.Things.{Thing}
 use Rattle.ec_world.specs.Group.{Has}
+use Rattle.ec_world.specs.declared.value.Value.{Value}
 use Rattle.ec_world.specs.declared.value.Value.TheVariants.{Str}
 
 -- a text is in the pool of a node
@@ -35,9 +36,17 @@ pub record IsHeld (things : Key → Option Thing) (place : ℕ → Option ℕ) (
   pub at : place thing.home ≡ Some k
   pub has : Has thing.values (Str text)
 
--- The bytes of the texts that are wanted and not in the pool, each text once; so no order matters.
-pub record NewBytes (Wanted : List ℕ → Type 0) (s : Store) (n : ℕ) : Type 0 where
+-- The texts that things have at node k, and those of constants, which each node has.
+abbrev pub TextsAt : (things : Key → Option Thing) (globals : List Value) (place : ℕ → Option ℕ) → ℕ → List ℕ → Type 0
+TextsAt things globals place k text = IsHeld things place k text ⊎ Has globals (Str text)
+
+-- So many bytes have these texts, each text once; so no order matters.
+pub record BytesOf (Texts : List ℕ → Type 0) (n : ℕ) : Type 0 where
   pub texts : List (List ℕ)
   pub once : Distinct texts
-  pub these : (text : List ℕ) → Has texts text ↔ (Wanted text × (InPool s text → ⊥))
+  pub these : (text : List ℕ) → Has texts text ↔ Texts text
   pub bytes : n ≡ text_bytes texts
+
+-- the bytes of the texts that are wanted and not in the pool
+abbrev pub NewBytes : (Wanted : List ℕ → Type 0) → Store → ℕ → Type 0
+NewBytes Wanted s = BytesOf (λ text. Wanted text × (InPool s text → ⊥))

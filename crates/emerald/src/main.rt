@@ -10,6 +10,7 @@ use ec_tool::emerald::emerald;
 use ec_tool::network::Network;
 use ec_tool::status::Status;
 use std::alloc::AllocError;
+use std::mem::ManuallyDrop;
 use std::process::ExitCode;
 use std::{env, io};
 
@@ -31,7 +32,7 @@ fn call(rt: &HostRuntime) -> Result<Status, AllocError> {
     call_with(rt, &words)
 }
 
-/// Calls the program with these words.
+/// Calls the program with these words. The network goes when the program ends.
 fn call_with<'a>(rt: &HostRuntime, words: &'a [&'a str]) -> Result<Status, AllocError>
     ensures usage { IfOk result (λ status. status ≡ Status.Usage → WordsOf (map (λ word. word.now) words.now) ≡ None) }
     ensures no_command { IfOk result (λ status. WordsOf (map (λ word. word.now) words.now) ≡ None →
@@ -40,7 +41,7 @@ fn call_with<'a>(rt: &HostRuntime, words: &'a [&'a str]) -> Result<Status, Alloc
     let alloc = rt.alloc();
     let mut shelf = FileShelf::new(alloc, rt, words)?;
     let mut sink = OutSink::new(rt);
-    let mut net = Network::empty();
+    let mut net = ManuallyDrop::new(Network::empty());
     Ok(emerald(alloc, words, &mut shelf, &mut sink, &mut net))
 }
 
