@@ -21,6 +21,7 @@ use Rattle.ec_core_laws.specs.Constants.{size_of_constants}
 use Rattle.ec_core_laws.specs.Limits.{size_of_core, size_of_operations}
 use Rattle.ec_emission.specs.Expressions.{has_text}
 use Rattle.ec_core.specs.Literals.{Texts, joined, addend_texts, arm_texts, block_texts, expression_texts, factor_texts}
+use Rattle.ec_core.specs.Literals.{texts_of_link, texts_of_addend, texts_of_factor, texts_of_statement, texts_of_arm}
 use Rattle.ec_core.specs.Literals.{link_texts, statement_texts, texts_of, texts_of_block}
 use Rattle.ec_emission.specs.Literals.{literals_of, texts_of_constants, texts_of_operations, with_new}
 
@@ -55,15 +56,6 @@ one_more : (ts : Texts) (n : ℕ) → length ts ≤ n → length ts ≤ 1 + n
 one_more ts n h = omega arith
 
 -- ---- expressions
-
-abbrev texts_of_link : Link → Texts
-texts_of_link = fold-Link Texts Texts Texts Texts expression_texts link_texts addend_texts factor_texts
-
-abbrev texts_of_addend : Addend → Texts
-texts_of_addend = fold-Addend Texts Texts Texts Texts expression_texts link_texts addend_texts factor_texts
-
-abbrev texts_of_factor : Factor → Texts
-texts_of_factor = fold-Factor Texts Texts Texts Texts expression_texts link_texts addend_texts factor_texts
 
 abbrev IsFew : Expression → Type 0
 IsFew = Few texts_of size_of
@@ -204,12 +196,6 @@ few_texts : (x : Expression) → IsFew x
 few_texts = ind-Expression IsFew LinkFew AddendFew FactorFew expression_from link_from addend_from factor_from
 
 -- ---- statements
-
-abbrev texts_of_statement : Statement → Texts
-texts_of_statement = fold-Statement Texts Texts Texts statement_texts arm_texts block_texts
-
-abbrev texts_of_arm : Arm → Texts
-texts_of_arm = fold-Arm Texts Texts Texts statement_texts arm_texts block_texts
 
 abbrev StatementFew : Statement → Type 0
 StatementFew = Few texts_of_statement size_of_statement

@@ -29,6 +29,7 @@ use Rattle.ec_emission.specs.Expressions.{Emitted, Following, Applied, fits_here
 use Rattle.ec_emission.specs.Expressions.{comparison, stop_order, gives_result, expression_code, link_code, addend_code, factor_code}
 use Rattle.ec_emission.specs.Expressions.{emitted}
 use Rattle.ec_core.specs.Literals.{Texts, joined, texts_of, expression_texts, link_texts, addend_texts, factor_texts}
+use Rattle.ec_core.specs.Literals.{texts_of_link, texts_of_addend, texts_of_factor}
 use Rattle.ec_emission_laws.proofs.Values.{SelfIsValue, with_addend, one_of, taken_some, goes_in_value, element_some}
 use Rattle.ec_emission_laws.proofs.Values.{receiver_some, compared_some, own_some, sum_some, sum_other}
 use Rattle.ec_emission_laws.specs.Dropped.{last_gives, expression_gives, link_gives, addend_gives, factor_gives, gives_value}
@@ -83,15 +84,6 @@ module _ (site : Site) (s : Source) (captured count : ℕ) (literals : Texts) wh
 
   abbrev of_factor : Factor → Applied
   of_factor = fold-Factor Emitted Following Applied Applied of_layer of_link_layer of_addend_layer of_factor_layer
-
-  abbrev texts_of_link : Link → Texts
-  texts_of_link = fold-Link Texts Texts Texts Texts expression_texts link_texts addend_texts factor_texts
-
-  abbrev texts_of_addend : Addend → Texts
-  texts_of_addend = fold-Addend Texts Texts Texts Texts expression_texts link_texts addend_texts factor_texts
-
-  abbrev texts_of_factor : Factor → Texts
-  texts_of_factor = fold-Factor Texts Texts Texts Texts expression_texts link_texts addend_texts factor_texts
 
   -- Each text of a part is one of the literals.
   abbrev Among : Texts → Type 0

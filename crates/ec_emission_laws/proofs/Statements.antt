@@ -17,6 +17,7 @@ use Rattle.ec_core.specs.declared.Statement.TheOpen.{Statement-F, Arm-F, Block-F
 use Rattle.ec_emission.proofs.Literals.{AllAmong, among_first, among_second}
 use Rattle.ec_emission.specs.Expressions.{fits_here, has_text}
 use Rattle.ec_core.specs.Literals.{Texts, joined, texts_of, statement_texts, arm_texts, block_texts, texts_of_block}
+use Rattle.ec_core.specs.Literals.{texts_of_statement, texts_of_arm}
 use Rattle.ec_emission.specs.Statements.{Done, Choice, all_done, all_choices, is_given, are_given, value_of, statement_code, choice_code}
 use Rattle.ec_emission.specs.Statements.{block_code, done_of, block_of}
 use Rattle.ec_emission_laws.proofs.Expressions.{is_fit, fits_as}
@@ -70,12 +71,6 @@ module _ (site : Site) (s : Source) (captured : ℕ) (types : List StaticType) (
 
   abbrev of_block : Block → Done
   of_block = block_of s captured types literals leaves
-
-  abbrev texts_of_statement : Statement → Texts
-  texts_of_statement = fold-Statement Texts Texts Texts statement_texts arm_texts block_texts
-
-  abbrev texts_of_arm : Arm → Texts
-  texts_of_arm = fold-Arm Texts Texts Texts statement_texts arm_texts block_texts
 
   abbrev Among : Texts → Type 0
   Among ts = AllAmong literals ts
