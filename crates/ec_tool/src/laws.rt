@@ -1,6 +1,6 @@
-//! What the promises of the call rest on: each program has a meaning, and what the headline asks of a call can be had.
+//! What the promises of the call rest on: each program has a meaning, its vectors have types that it writes, and what the headline asks of a call can be had.
 ghost use Rattle.ec_tool.specs.Example.{example_words, example_shelf, example_sink};
-ghost use Rattle.ec_tool.specs.Laws.{EachCheckedIsMeant};
+ghost use Rattle.ec_tool.specs.Laws.{EachCheckedIsMeant, EachVectorIsWritten};
 ghost use Rattle.ec_tool.specs.Promises.{IsAcceptedCall};
 
 use ec_outside::mem_shelf::MemShelf;
@@ -11,6 +11,11 @@ use ec_outside::sink::Sink;
 /// A text that a check accepts has a meaning.
 pub fn each_checked_is_meant()
     ensures { EachCheckedIsMeant }
+{}
+
+/// The code of a source makes vectors of no type but those that its text writes.
+pub fn each_vector_is_written()
+    ensures { EachVectorIsWritten }
 {}
 
 /// The headline speaks of a call: the empty source is run on one node, from a shelf and to a sink in memory, which tell what they hold, and

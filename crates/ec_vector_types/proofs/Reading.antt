@@ -14,7 +14,7 @@ use Rattle.ec_lexer.specs.declared.token.Symbol.TheVariants as symbol
 use Rattle.ec_lexer.specs.declared.token.Token.{Token}
 use Rattle.ec_lexer.specs.declared.token.TokenKind.{TokenKind}
 use Rattle.ec_lexer.specs.declared.token.TokenKind.TheVariants as kind
-use Rattle.ec_parser.specs.HasTree.{IsId, IsType}
+use Rattle.ec_parser.specs.HasTree.{Is, IsId, IsType}
 use Rattle.ec_parser.specs.Terminals.{terminal_of_kind, terminal_of_name, terminal_of_symbol, terminal_of_word, text_in}
 use Rattle.ec_parser.specs.declared.terminal.Terminal.{Terminal}
 use Rattle.ec_parser.specs.declared.terminal.Terminal.TheVariants as t
@@ -121,6 +121,10 @@ vector_kind (kind.Integer n) = refl
 vector_kind (kind.Literal text) = refl
 vector_kind (kind.Symbol s) = vector_symbol s
 
+pub the_word : (a : Token) → Is t.Vector a → is_vector a ≡ true
+unfolding is_vector_terminal
+the_word a h = vector_kind a.kind ∙ ap is_vector_terminal h
+
 -- ---- types of the tree
 
 module _ (names : List Text) (at : Span) where
@@ -156,7 +160,7 @@ module _ (names : List Text) where
   id_read us (IsId.putstring {a} h) = plain_read a us t.Putstring h refl
   id_read us (IsId.count {a} h) = plain_read a us t.Count h refl
 
-  vector_read : (a b c d : Token) (ts : List Token) (of : StaticType) → is_vector a ≡ true → type_at names ts ≡ of →
+  pub vector_read : (a b c d : Token) (ts : List Token) (of : StaticType) → is_vector a ≡ true → type_at names ts ≡ of →
       type_at names (a ∷ b ∷ c ∷ d ∷ ts) ≡ vector_of of
   vector_read a b c d ts of e same =
       ap (λ v. if v then vector_of (type_at names ts) else plain_at names a) e ∙ ap vector_of same

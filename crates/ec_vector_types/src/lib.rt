@@ -1,4 +1,5 @@
-//! The vector types that are written in a text: in declarations, parameters and results as well as where vectors are made.
+//! The vector types that are written in a text: in declarations, parameters and results as well as where vectors are made. Laws: its code makes
+//! vectors of no others.
 #![tactic(auto)]
 
 pub mod laws;
