@@ -1,6 +1,7 @@
 -- Objects get other places, one after another.
-use Rattle.std.proofs.Common.{◌≡◌, ◌≢◌, ℕ, ◌+◌, ◌≤◌, List, [], ◌∷◌, ◌++◌, length, take, Some, refl, sym, ap, ◌∙◌, subst, arith, ⊎_elim}
-use Rattle.std.specs.Prelude.{slice_get}
+use Rattle.std.proofs.Common.{◌≡◌, ◌≢◌, ℕ, ◌+◌, ◌≤◌, List, [], ◌∷◌, ◌++◌, length, take, Option, Some, refl, sym, ap, ◌∙◌, subst, arith, ⊎_elim}
+use Rattle.std.proofs.lemmas.Option.{same_Some}
+use Rattle.std.specs.Prelude.{Err, IsSome, Ok, OnOk, Result, slice_get}
 use Rattle.ec_base.proofs.Lists.{take_next}
 use Rattle.ec_carrying.specs.Moves.{AreAll, NotAny}
 use Rattle.ec_cluster.proofs.Places.{gives_located, located}
@@ -28,6 +29,21 @@ with_here f oid a = grind arith
 
 with_other : {A : Type 0} (f : ℕ → A) (oid : ℕ) (a : A) (o : ℕ) → o ≢ oid → with_at f oid a o ≡ f o
 with_other f oid a o ne = grind arith
+
+pub some_place : (x : Option ℕ) (k : ℕ) → x ≡ Some k → IsSome x
+some_place x k e = rw e refl
+
+-- an object that was looked for is where it was
+pub still_there : (d d' : Traces) → ((w : Located) → Gives d w → Gives d' w) → (oid : ℕ) → place_at d' oid ≡ place_at d oid
+still_there d d' kept oid = (kept (located d) (gives_located d)).places oid
+
+-- and moves on from there
+pub goes_from : {A E : Type 0} (r : Result A E) (d d1 d2 : Traces) (oid at to : ℕ) → ((w : Located) → Gives d w → Gives d1 w) →
+    place_at d oid ≡ Some at → ((w : Located) → Gives d1 w → OnOk r (Gives d2 (moved_to w oid at to))) →
+    OnOk r ((w : Located) (from : ℕ) → Gives d w → place_at d oid ≡ Some from → Gives d2 (moved_to w oid from to))
+goes_from (Ok a) d d1 d2 oid at to kept is noted = λ w from gives there.
+    subst (λ (k : ℕ). Gives d2 (moved_to w oid k to)) (same_Some at from (sym is ∙ there)) (noted w (kept w gives))
+goes_from (Err e) d d1 d2 oid at to kept is noted = tt
 
 module _ (d d' : Traces) (oid from to : ℕ) (noted : (w : Located) → Gives d w → Gives d' (moved_to w oid from to)) where
   moved : Gives d' (moved_to (located d) oid from to)

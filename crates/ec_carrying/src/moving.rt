@@ -1,18 +1,20 @@
 //! Objects go from one node to another, and this is noted.
-ghost use Rattle.std.specs.Prelude.{◌≡◌, ◌≢◌, ℕ, OnOk, Some};
+ghost use Rattle.std.specs.Prelude.{◌≡◌, ◌≢◌, ℕ, IsSome, OnOk, Some};
 ghost use Rattle.ec_carrying.specs.Moves.{AreAll, NotAny};
-ghost use Rattle.ec_cluster.specs.Whereabouts.{made_count, place_at};
+ghost use Rattle.ec_cluster.specs.Located.{Located, moved_to};
+ghost use Rattle.ec_cluster.specs.Whereabouts.{Gives, made_count, place_at};
 ghost use Rattle.ec_world.specs.Held.{Distinct};
 ghost use Rattle.ec_parcels.specs.Owners.{object_keys};
 
 use ec_base::list::Seq;
 use ec_cluster::forward::whereabouts::Whereabouts;
 use ec_wire::parcel::ObjectPart;
-use ec_world::value::NodeNo;
+use ec_world::value::{NodeNo, Oid};
 use std::alloc::AllocError;
 
-/// Notes that objects, none of which stands twice, went from the node where they all were to another, or to the same. The error is want
-/// of memory, or that an object has moved 2^64 - 1 times; some may then be noted at the other node.
+/// Notes that objects, none of which stands twice, went from the node where they all were to another, or to the same. The other node looks
+/// for each of them first, so that it and the nodes on the way know where the object is. The error is want of memory, or that an object
+/// has moved 2^64 - 1 times; some may then be noted at the other node.
 pub(crate) fn note_moves(
     whereabouts: &mut Whereabouts,
     from: NodeNo,
@@ -27,8 +29,20 @@ pub(crate) fn note_moves(
     ensures count { OnOk result (made_count whereabouts.new ≡ made_count whereabouts.old) }
 {
     for i in 0..objects.len() {
-        let object = objects.at(i);
-        whereabouts.note_move(object.number, from, to)?;
+        note_arrival(whereabouts, objects.at(i).number, to)?;
     }
     Ok(())
+}
+
+/// Notes that an object came to a node, which looks for it first. The error is want of memory, or that the object has moved 2^64 - 1 times.
+fn note_arrival(whereabouts: &mut Whereabouts, oid: Oid, to: NodeNo) -> Result<(), AllocError>
+    requires there { IsSome (place_at whereabouts.old oid) }
+    ensures { OnOk result ((w : Located) (from : ℕ) →
+        Gives whereabouts.old w → place_at whereabouts.old oid ≡ Some from → Gives whereabouts.new (moved_to w oid from to)) }
+{
+    let (from, _) = whereabouts.find(to, oid)?;
+    if !whereabouts.can_move(oid) {
+        return Err(AllocError);
+    }
+    whereabouts.note_move(oid, from, to)
 }

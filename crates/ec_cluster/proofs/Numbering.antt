@@ -1,15 +1,15 @@
 -- Objects that are kept by any numbers, of which those from 1 on were noted.
 use Rattle.std.proofs.Common.{◌≡◌, ◌≢◌, ◌⊎◌, ℕ, zero, suc, ◌+◌, ◌<◌, ◌≤◌, [], Option, Some, None}
 use Rattle.std.proofs.Common.{refl, sym, ap, ◌∙◌, subst, arith, inl, inr, ⊎_elim}
-use Rattle.std.proofs.lemmas.Bool.Decides.{leb_tells}
-use Rattle.std.specs.Prelude.{Err, IsSome, Ok, OnErr, OnOk, Result, option_map, unwrap_or}
+use Rattle.std.proofs.lemmas.Bool.Decides.{Decides-ltb, leb_tells}
+use Rattle.std.specs.Prelude.{◌↔◌, Err, IsSome, IsTrue, nat_lt, Ok, OnErr, OnOk, Result, option_map, unwrap_or}
 use Rattle.ec_cluster.proofs.Listing.{each-get, each-length, each-past}
 use Rattle.ec_cluster.proofs.Noting.{with-other, with-same}
 use Rattle.ec_cluster.specs.Located.{Located, made_at, moved_to, nothing_made}
 use Rattle.ec_cluster.specs.Whereabouts.{AreNumbered, Gives, Traces, known_of, made_count, moves_of, numbered, place_at}
 use Rattle.ec_forwarding.specs.Forwardings.{ObjectTraces, count_of_move, trace_at}
 use Rattle.ec_forwarding.specs.Forwardings.{moves_of as moves_on, place_at as place_on}
-use Rattle.ec_forwarding.specs.Traces.{Trace, first_trace}
+use Rattle.ec_forwarding.specs.Traces.{Trace, first_trace, newest_of}
 use Rattle.ec_world.proofs.Keys.{same_or_not}
 
 is_noted : {B : Type 0} (f : Trace → B) (x : Option Trace) (y : B) → option_map f x ≡ Some y → IsSome x
@@ -20,7 +20,7 @@ unwrapped : (x : Option Trace) (t : Trace) → IsSome x → Some (unwrap_or x t)
 unwrapped None t h = absurd cc
 unwrapped (Some a) t h = refl
 
-lacks : (x : Option Trace) → IsSome (option_map (λ t. t.newest.node) x) → x ≡ None → ⊥
+lacks : (x : Option Trace) → IsSome (option_map (λ t. (newest_of t).node) x) → x ≡ None → ⊥
 lacks None h e = cc
 lacks (Some t) h e = cc
 
@@ -53,10 +53,10 @@ module _ (d : ObjectTraces) (n : ℕ) (are : AreNumbered d n) where
   known_is (suc i) = known_next i
 
   pub place_is : (oid : ℕ) → place_at (numbered d n) oid ≡ place_on d oid
-  place_is oid = ap (option_map (λ (t : Trace). t.newest.node)) (known_is oid)
+  place_is oid = ap (option_map (λ (t : Trace). (newest_of t).node)) (known_is oid)
 
   pub moves_is : (oid : ℕ) → moves_of (numbered d n) oid ≡ moves_on d oid
-  moves_is oid = ap (λ (x : Option Trace). unwrap_or (option_map (λ t. t.newest.moves) x) 0) (known_is oid)
+  moves_is oid = ap (λ (x : Option Trace). unwrap_or (option_map (λ t. (newest_of t).moves) x) 0) (known_is oid)
 
   -- what has a place was noted
   pub is_within : (oid : ℕ) → IsSome (place_on d oid) → (0 < oid) × (oid ≤ n)
@@ -73,7 +73,7 @@ module _ (d : ObjectTraces) (n : ℕ) (are : AreNumbered d n) where
   pub noted_place : (oid : ℕ) → 0 < oid → oid ≤ n → IsSome (place_on d oid)
   noted_place oid p l = mapped (trace_at d oid) (are.noted oid p l)
     where
-      mapped : (x : Option Trace) → IsSome x → IsSome (option_map (λ t. t.newest.node) x)
+      mapped : (x : Option Trace) → IsSome x → IsSome (option_map (λ t. (newest_of t).node) x)
       mapped None h = absurd cc
       mapped (Some t) h = refl
 
@@ -83,7 +83,7 @@ module _ (d : ObjectTraces) (n : ℕ) (are : AreNumbered d n) where
     pub one_more : AreNumbered d' oid
     one_more = record {
       noted = λ o p l. ⊎_elim
-          (λ (e : o ≡ oid). is_noted (λ (t : Trace). t.newest.node) (trace_at d' o) at (ap (place_on d') e ∙ place))
+          (λ (e : o ≡ oid). is_noted (λ (t : Trace). (newest_of t).node) (trace_at d' o) at (ap (place_on d') e ∙ place))
           (λ (ne : o ≢ oid). rw (others o ne) (are.noted o p (omega (arith, l, next, ne))))
           (same_or_not o oid);
       none = others 0 (λ e. absurd (omega (arith, e, next))) ∙ are.none;
@@ -109,10 +109,10 @@ module _ (d : ObjectTraces) (n : ℕ) (are : AreNumbered d n) (now : Traces) (is
   known_now oid = sym (ap (λ (x : Traces). known_of x oid) is) ∙ known_is d n are oid
 
   pub place_now : (oid : ℕ) → place_at now oid ≡ place_on d oid
-  place_now oid = ap (option_map (λ (t : Trace). t.newest.node)) (known_now oid)
+  place_now oid = ap (option_map (λ (t : Trace). (newest_of t).node)) (known_now oid)
 
   pub moves_now : (oid : ℕ) → moves_of now oid ≡ moves_on d oid
-  moves_now oid = ap (λ (x : Option Trace). unwrap_or (option_map (λ t. t.newest.moves) x) 0) (known_now oid)
+  moves_now oid = ap (λ (x : Option Trace). unwrap_or (option_map (λ t. (newest_of t).moves) x) 0) (known_now oid)
 
   -- it has a place just where it was noted
   pub is_made : (oid : ℕ) (place : Option ℕ) → place ≡ place_on d oid → IsSome place → (0 < oid) × (oid ≤ made_count now)
@@ -148,7 +148,7 @@ module _ (d d' : ObjectTraces) (n : ℕ) (are : AreNumbered d n) (oid at : ℕ) 
   place_then w o gives = ⊎_elim
       (λ (e : o ≡ oid). ap (place_on d') e ∙ place ∙ sym (with-same w.place oid o (Some at) e))
       (λ (ne : o ≢ oid).
-      ap (option_map (λ (t : Trace). t.newest.node)) (others o ne) ∙ sym (place_is d n are o) ∙ gives.places o
+      ap (option_map (λ (t : Trace). (newest_of t).node)) (others o ne) ∙ sym (place_is d n are o) ∙ gives.places o
       ∙ sym (with-other w.place oid o (Some at) ne))
       (same_or_not o oid)
 
@@ -156,7 +156,7 @@ module _ (d d' : ObjectTraces) (n : ℕ) (are : AreNumbered d n) (oid at : ℕ) 
   moves_then w o gives = ⊎_elim
       (λ (e : o ≡ oid). ap (moves_on d') e ∙ moves ∙ sym (with-same w.moves oid o 0 e))
       (λ (ne : o ≢ oid).
-      ap (λ (x : Option Trace). unwrap_or (option_map (λ t. t.newest.moves) x) 0) (others o ne) ∙ sym (moves_is d n are o)
+      ap (λ (x : Option Trace). unwrap_or (option_map (λ t. (newest_of t).moves) x) 0) (others o ne) ∙ sym (moves_is d n are o)
       ∙ gives.moves o ∙ sym (with-other w.moves oid o 0 ne))
       (same_or_not o oid)
 
@@ -176,11 +176,11 @@ module _ (d d' : ObjectTraces) (n : ℕ) (are : AreNumbered d n) (oid from to : 
   pub numbered_on : AreNumbered d' n
   numbered_on = as_many d n are d'
       (λ o h. ⊎_elim
-      (λ (e : o ≡ oid). is_noted (λ (t : Trace). t.newest.node) (trace_at d' o) to (ap (place_on d') e ∙ place))
+      (λ (e : o ≡ oid). is_noted (λ (t : Trace). (newest_of t).node) (trace_at d' o) to (ap (place_on d') e ∙ place))
       (λ (ne : o ≢ oid). rw (others o ne) h)
       (same_or_not o oid))
       (λ o h. others o (λ e.
-      let there = is_noted (λ (t : Trace). t.newest.node) (trace_at d o) from (ap (place_on d) e ∙ was) in
+      let there = is_noted (λ (t : Trace). (newest_of t).node) (trace_at d o) from (ap (place_on d) e ∙ was) in
       absurd (no (trace_at d o) there h)) ∙ h)
     where
       no : (x : Option Trace) → IsSome x → x ≡ None → ⊥
@@ -190,7 +190,7 @@ module _ (d d' : ObjectTraces) (n : ℕ) (are : AreNumbered d n) (oid from to : 
   place_gone w o gives = ⊎_elim
       (λ (e : o ≡ oid). ap (place_on d') e ∙ place ∙ sym (with-same w.place oid o (Some to) e))
       (λ (ne : o ≢ oid).
-      ap (option_map (λ (t : Trace). t.newest.node)) (others o ne) ∙ sym (place_is d n are o) ∙ gives.places o
+      ap (option_map (λ (t : Trace). (newest_of t).node)) (others o ne) ∙ sym (place_is d n are o) ∙ gives.places o
       ∙ sym (with-other w.place oid o (Some to) ne))
       (same_or_not o oid)
 
@@ -202,7 +202,7 @@ module _ (d d' : ObjectTraces) (n : ℕ) (are : AreNumbered d n) (oid from to : 
       ap (moves_on d') e ∙ moves ∙ ap (λ m. m + count) (sym (moves_is d n are oid) ∙ gives.moves oid)
       ∙ sym (with-same w.moves oid o (w.moves oid + count) e))
       (λ (ne : o ≢ oid).
-      ap (λ (x : Option Trace). unwrap_or (option_map (λ t. t.newest.moves) x) 0) (others o ne) ∙ sym (moves_is d n are o)
+      ap (λ (x : Option Trace). unwrap_or (option_map (λ t. (newest_of t).moves) x) 0) (others o ne) ∙ sym (moves_is d n are o)
       ∙ gives.moves o ∙ sym (with-other w.moves oid o (w.moves oid + count) ne))
       (same_or_not o oid)
 
@@ -231,12 +231,12 @@ gives_moved d d' n are oid from to was others (Err e) place moves w gives = tt
 -- after one was looked for
 module _ (d d' : ObjectTraces) (n : ℕ) (are : AreNumbered d n) (places : (o : ℕ) → place_on d' o ≡ place_on d o)
     (moves : (o : ℕ) → moves_on d' o ≡ moves_on d o) where
-  same_some : (x y : Option Trace) → option_map (λ t. t.newest.node) x ≡ option_map (λ t. t.newest.node) y → IsSome y → IsSome x
+  same_some : (x y : Option Trace) → option_map (λ t. (newest_of t).node) x ≡ option_map (λ t. (newest_of t).node) y → IsSome y → IsSome x
   same_some x None e h = absurd cc
   same_some None (Some t) e h = absurd cc
   same_some (Some u) (Some t) e h = refl
 
-  same_none : (x y : Option Trace) → option_map (λ t. t.newest.node) x ≡ option_map (λ t. t.newest.node) y → y ≡ None → x ≡ None
+  same_none : (x y : Option Trace) → option_map (λ t. (newest_of t).node) x ≡ option_map (λ t. (newest_of t).node) y → y ≡ None → x ≡ None
   same_none None y e h = refl
   same_none (Some u) None e h = absurd cc
   same_none (Some u) (Some t) e h = absurd cc
@@ -251,3 +251,13 @@ module _ (d d' : ObjectTraces) (n : ℕ) (are : AreNumbered d n) (places : (o : 
     places = λ o. place_is d' n numbered_still o ∙ places o ∙ sym (place_is d n are o) ∙ gives.places o;
     moves = λ o. moves_is d' n numbered_still o ∙ moves o ∙ sym (moves_is d n are o) ∙ gives.moves o;
   }
+
+-- a move to the node where the object is
+pub same_stays : {A E : Type 0} (P : Type 0) (d d' : ObjectTraces) (n : ℕ) (now : Traces) → numbered d n ≡ now → (r : Result A E) →
+    OnOk r (P → d' ≡ d) → OnOk r (P → numbered d' n ≡ now)
+same_stays P d d' n now is (Ok a) same = λ p. ap (λ (x : ObjectTraces). numbered x n) (same p) ∙ is
+same_stays P d d' n now is (Err e) same = tt
+
+-- a test of a number by another that is the same
+pub less_by : (m n most : ℕ) → m ≡ n → IsTrue (nat_lt m most) ↔ (n < most)
+less_by m n most e = subst (λ (x : ℕ). IsTrue (nat_lt m most) ↔ (x < most)) e (Decides-ltb m most)

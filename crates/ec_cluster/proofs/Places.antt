@@ -4,7 +4,7 @@ use Rattle.std.specs.Prelude.{option_map, slice_get}
 use Rattle.ec_base.proofs.Lists.{get_within}
 use Rattle.ec_cluster.specs.Located.{Located}
 use Rattle.ec_cluster.specs.Whereabouts.{Gives, Traces, made_count, moves_of, place_at}
-use Rattle.ec_forwarding.specs.Traces.{Trace}
+use Rattle.ec_forwarding.specs.Traces.{Trace, newest_of}
 use Rattle.ec_world.proofs.Procs.{get_past}
 
 -- what became of objects, by what nodes know
@@ -16,9 +16,9 @@ gives_located d = record { made = refl; places = λ oid. refl; moves = λ oid. r
 
 -- the next object is nowhere
 pub none_next : (d : Traces) → place_at d (suc (made_count d)) ≡ None
-none_next d = ap (option_map (λ (t : Trace). t.newest.node)) (get_past d (made_count d) (omega arith))
+none_next d = ap (option_map (λ (t : Trace). (newest_of t).node)) (get_past d (made_count d) (omega arith))
 
-there : (x : Option Trace) (k : ℕ) → option_map (λ t. t.newest.node) x ≡ Some k → (t : Trace) × (x ≡ Some t)
+there : (x : Option Trace) (k : ℕ) → option_map (λ t. (newest_of t).node) x ≡ Some k → (t : Trace) × (x ≡ Some t)
 there None k e = absurd cc
 there (Some t) k e = (t, refl)
 

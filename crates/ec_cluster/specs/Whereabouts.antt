@@ -1,10 +1,11 @@
 -- The whereabouts of objects, which have the numbers from 1 on.
-use Rattle.std.specs.Prelude.{◌≡◌, ℕ, zero, suc, ◌<◌, ◌≤◌, List, length, Option, None, IsSome, option_map, unwrap_or, slice_get}
+use Rattle.std.specs.Prelude.{◌≡◌, ◌≢◌, ℕ, zero, suc, ◌<◌, ◌≤◌, List, length, Option, None, IsSome, option_map, unwrap_or, slice_get}
 use Rattle.ec_cluster.specs.Each.{each_from}
 use Rattle.ec_cluster.specs.Located.{Located}
-use Rattle.ec_forwarding.specs.Addresses.{Addresses}
+use Rattle.ec_forwarding.specs.Addresses.{Addresses, with_address}
 use Rattle.ec_forwarding.specs.Forwardings.{ObjectTraces, addresses_in, trace_at}
-use Rattle.ec_forwarding.specs.Traces.{Trace, first_trace, start_of}
+use Rattle.ec_forwarding.specs.declared.address.Address.{Address}
+use Rattle.ec_forwarding.specs.Traces.{Trace, first_trace, newest_of, start_of}
 
 -- what nodes know of each object, in the order of the objects' numbers
 abbrev pub Traces : Type 0
@@ -21,11 +22,11 @@ known_of d (suc i) = slice_get d i
 
 -- the node at which an object is, where it was noted
 abbrev pub place_at : Traces → ℕ → Option ℕ
-place_at d oid = option_map (λ t. t.newest.node) (known_of d oid)
+place_at d oid = option_map (λ t. (newest_of t).node) (known_of d oid)
 
 -- how often an object has moved
 abbrev pub moves_of : Traces → ℕ → ℕ
-moves_of d oid = unwrap_or (option_map (λ t. t.newest.moves) (known_of d oid)) 0
+moves_of d oid = unwrap_or (option_map (λ t. (newest_of t).moves) (known_of d oid)) 0
 
 -- the addresses that nodes have of an object
 abbrev pub addresses_at : Traces → ℕ → Addresses
@@ -34,6 +35,13 @@ addresses_at d oid = addresses_in (known_of d oid)
 -- the node at which the search for an object from a node begins
 abbrev pub start_at : Traces → ℕ → ℕ → ℕ
 start_at d oid from = unwrap_or (option_map (λ t. start_of t from) (known_of d oid)) from
+
+-- Of an object that went from one node to another both nodes have the address that it has there, behind one move more, and the other
+-- nodes what they had.
+abbrev pub IsAddressed : Option Trace → Option Trace → ℕ → ℕ → Type 0
+IsAddressed before after from to =
+    let newest : Address = record { node = to; moves = suc (unwrap_or (option_map (λ t. (newest_of t).moves) before) 0) } in
+    from ≢ to → (k : ℕ) → addresses_in after k ≡ with_address (with_address (addresses_in before) to newest) from newest k
 
 -- It is known of each object where it is, and how often it has moved.
 pub record Gives (d : Traces) (w : Located) : Type 0 where

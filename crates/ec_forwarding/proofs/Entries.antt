@@ -17,3 +17,7 @@ module _ {K X : Type 0} (test : K → Bool) where
 pub on_err : {A E P : Type 0} (r : Result A E) → P → OnErr r P
 on_err (Ok a) h = tt
 on_err (Err e) h = h
+
+pub then_same : {A E P Q : Type 0} (r : Result A E) → OnErr r P → (P → Q) → OnErr r Q
+then_same (Ok a) h then = tt
+then_same (Err e) h then = then h

@@ -99,6 +99,7 @@ module _ (A B : Addresses) (from : ℕ) (m : Address) (none : is_some (A from) �
           let it = since (suc a.moves) (A a.node) (leads.on k a (sym (adds k ∙ with_other A from m k other.1) ∙ e) away) in
           rw (keeps a.node it.0 it.1) it.2
     ];
+    own = keeps m.node m leads.own;
     old = λ k a e. elim (eqb_tells k from) as (λ _. a.moves ≤ m.moves) [
       | inl is ↦
           let new : m ≡ a = let at = ap B is.1 in let it = adds from in let same = with_same A from m from refl in cc in

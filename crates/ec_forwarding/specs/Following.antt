@@ -27,9 +27,10 @@ pub record IsFound (addresses : Addresses) (k place hops : ℕ) : Type 0 where
   pub there : node_after addresses k (suc hops) ≡ Some place
   pub first : (n : ℕ) → n < hops → node_after addresses k (suc n) ≢ Some place
 
--- Each address leads on: it names the place, or a node with a newer one; and none is newer than the newest.
+-- Each address leads on: it names the place, or a node with a newer one; the place has the newest itself; and none is newer.
 pub record Leads (addresses : Addresses) (newest : Address) : Type 0 where
   pub on : (k : ℕ) (a : Address) → addresses k ≡ Some a → a.node ≢ newest.node → IsSince (suc a.moves) (addresses a.node)
+  pub own : addresses newest.node ≡ Some newest
   pub old : (k : ℕ) (a : Address) → addresses k ≡ Some a → a.moves ≤ newest.moves
 
 -- node j isn't passed in so many hops from node k

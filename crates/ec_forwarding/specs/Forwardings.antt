@@ -5,7 +5,7 @@ use Rattle.std.specs.Map.{lookup}
 use Rattle.std.specs.Ordering.{nat_cmp}
 use Rattle.ec_forwarding.specs.Addresses.{Addresses}
 use Rattle.ec_forwarding.specs.declared.address.Address.{Address}
-use Rattle.ec_forwarding.specs.Traces.{IsTraceOf, Trace, addresses_of, start_of}
+use Rattle.ec_forwarding.specs.Traces.{IsTraceOf, Trace, addresses_of, newest_of, start_of}
 
 -- the traces of the objects that were noted, each behind the object's number, in the order of the numbers
 abbrev pub ObjectTraces : Type 0
@@ -15,13 +15,13 @@ ObjectTraces = List (ℕ × Trace)
 abbrev pub trace_at : ObjectTraces → ℕ → Option Trace
 trace_at d oid = lookup (is_at (nat_cmp oid)) d
 
--- the node at which an object is, where it was noted
+-- the node at which an object is, which is what the newest address says of it, where it was noted
 abbrev pub place_at : ObjectTraces → ℕ → Option ℕ
-place_at d oid = option_map (λ t. t.newest.node) (trace_at d oid)
+place_at d oid = option_map (λ t. (newest_of t).node) (trace_at d oid)
 
 -- how often it has moved, where it was noted
 abbrev pub moves_at : ObjectTraces → ℕ → Option ℕ
-moves_at d oid = option_map (λ t. t.newest.moves) (trace_at d oid)
+moves_at d oid = option_map (λ t. (newest_of t).moves) (trace_at d oid)
 
 abbrev pub moves_of : ObjectTraces → ℕ → ℕ
 moves_of d oid = unwrap_or (moves_at d oid) 0

@@ -11,8 +11,8 @@ use std::alloc::{AllocError, Global};
 use std::collections::BTreeMap;
 use std::marker::Model;
 
-/// What each node knows of where objects are. They have any numbers, and are noted in any order. `place` and `moves` only find an
-/// object by its number; the others also look through what the nodes know of it.
+/// What each node knows of where objects are. They have any numbers, and are noted in any order. Nothing else says where an object is:
+/// each call follows the addresses that the nodes have of it.
 #[derive(Drop)]
 pub struct Forwarding {
     trails: BTreeMap<Oid, Trail>,
@@ -70,7 +70,7 @@ impl Forwarding {
         ensures err { OnErr result (self.new ≡ self.old) }
     {
         if from != to {
-            self.trails.get_mut(&oid).unwrap().go(to)?;
+            self.trails.get_mut(&oid).unwrap().go(from, to)?;
         }
         Ok(())
     }
@@ -93,23 +93,20 @@ impl Forwarding {
         ensures others { (o : ℕ) → o ≢ oid → trace_at self.new o ≡ trace_at self.old o }
         ensures err { OnErr result (self.new ≡ self.old) }
     {
-        let trail = self.trails.get_mut(&oid).unwrap();
-        let place = trail.place();
-        let hops = trail.find(from)?;
-        Ok((place, hops))
+        self.trails.get_mut(&oid).unwrap().find(from)
     }
 
-    /// The node where an object is; none exactly where no object of this number was noted.
+    /// The node where an object is; none exactly where no object of this number was noted. It follows addresses, and writes none.
     pub fn place(&self, oid: Oid) -> Option<NodeNo>
         ensures at { result ≡ place_at self.now oid }
     {
-        Some(self.trails.get(&oid)?.place())
+        Some(self.trails.get(&oid)?.newest().node)
     }
 
     /// How often an object has moved; none exactly where no object of this number was noted.
     pub fn moves(&self, oid: Oid) -> Option<u64>
         ensures { result ≡ moves_at self.now oid }
     {
-        Some(self.trails.get(&oid)?.moves())
+        Some(self.trails.get(&oid)?.newest().moves)
     }
 }

@@ -2,6 +2,7 @@
 ghost use Rattle.std.specs.Prelude.{◌≡◌, ◌==◌, ◌≤◌, ℕ, position, is_some, IsSome, IfOk, OnOk, OnErr};
 ghost use Rattle.ec_forwarding.specs.Addresses.{address_in, with_address};
 ghost use Rattle.ec_forwarding.specs.Following.{AreNewer, AreShortened, IsFound, Leads, own_or_made};
+ghost use Rattle.ec_forwarding.specs.Traces.{newest_in};
 
 use crate::address::{Address, Known};
 use ec_world::value::NodeNo;
@@ -22,7 +23,7 @@ fn is_known(known: &[Known], node: NodeNo) -> bool
 }
 
 /// The address that a node has.
-fn address_of(known: &[Known], node: NodeNo) -> Address
+pub(crate) fn address_of(known: &[Known], node: NodeNo) -> Address
     requires { IsSome (address_in known.now node) }
     ensures { address_in known.now node ≡ Some result }
 {
@@ -69,20 +70,24 @@ pub(crate) fn note_both(
     Ok(())
 }
 
-/// How many addresses one follows from a node on, behind its own, until one names the place of the object.
-fn hops_from(known: &[Known], start: NodeNo, newest: Address) -> u64
+/// The newest address, which is that of the node where the object is, and how many addresses one follows to this node from another, behind
+/// the other's own.
+pub(crate) fn follow(known: &[Known], start: NodeNo) -> (Address, u64)
     requires start { IsSome (address_in known.now start) }
-    requires leads { Leads (address_in known.now) newest }
-    ensures found { IsFound (address_in known.now) start newest.node result }
-    ensures few { result ≤ newest.moves }
+    requires leads { Leads (address_in known.now) (newest_in known.now) }
+    ensures newest { result.0 ≡ newest_in known.now }
+    ensures found { IsFound (address_in known.now) start (newest_in known.now).node result.1 }
+    ensures few { result.1 ≤ (newest_in known.now).moves }
 {
     let mut address = address_of(known, start);
+    let mut next = address_of(known, address.node);
     let mut hops = 0;
-    while address.node != newest.node {
-        address = address_of(known, address.node);
+    while next.node != address.node {
+        address = next;
+        next = address_of(known, address.node);
         hops += 1;
     }
-    hops
+    (next, hops)
 }
 
 /// The nodes that one passes in so many hops get the newest address.
@@ -101,34 +106,34 @@ fn shorten(known: &mut [Known], start: NodeNo, hops: u64, newest: Address)
     renew(known, node, newest);
 }
 
-/// How many hops it takes to find the object from a node. This node and those that it passes have the newest address from then on.
-/// The error is want of memory.
+/// The node where the object is, and how many hops it takes to find it from a node. This node and those that it passes have the newest
+/// address from then on. The error is want of memory.
 pub(crate) fn find(
     known: &mut Vec<Known>,
     made: NodeNo,
     from: NodeNo,
-    newest: Address,
-) -> Result<u64, AllocError>
+) -> Result<(NodeNo, u64), AllocError>
     requires made { IsSome (address_in known.old.items made) }
-    requires leads { Leads (address_in known.old.items) newest }
+    requires leads { Leads (address_in known.old.items) (newest_in known.old.items) }
+    ensures place { IfOk result (λ answer. answer.0 ≡ (newest_in known.old.items).node) }
     ensures found { let A = address_in known.old.items in
-        IfOk result (λ hops. IsFound A (own_or_made (A from) from made) newest.node hops) }
-    ensures few { IfOk result (λ hops. hops ≤ newest.moves) }
-    ensures newer { let A = address_in known.old.items in
-        IfOk result (λ hops. AreNewer A (address_in known.new.items) from (own_or_made (A from) from made) hops newest) }
+        IfOk result (λ answer. IsFound A (own_or_made (A from) from made) (newest_in known.old.items).node answer.1) }
+    ensures few { IfOk result (λ answer. answer.1 ≤ (newest_in known.old.items).moves) }
+    ensures newer { let A = address_in known.old.items in IfOk result (λ answer.
+        AreNewer A (address_in known.new.items) from (own_or_made (A from) from made) answer.1 (newest_in known.old.items)) }
     ensures err { OnErr result (known.new.items ≡ known.old.items) }
 {
     if is_known(known, from) {
-        let hops = hops_from(known, from, newest);
+        let (newest, hops) = follow(known, from);
         shorten(known, from, hops, newest);
-        Ok(hops)
+        Ok((newest.node, hops))
     } else {
-        let hops = hops_from(known, made, newest);
+        let (newest, hops) = follow(known, made);
         known.push(Known {
             at: from,
             address: newest,
         })?;
         shorten(known, made, hops, newest);
-        Ok(hops)
+        Ok((newest.node, hops))
     }
 }

@@ -7,7 +7,9 @@ use std::test::Fail;
 /// An object goes to a node from where it is.
 fn go(whereabouts: &mut Whereabouts, oid: Oid, to: NodeNo) -> Result<(), AllocError> {
     if let Some(from) = whereabouts.place(oid) {
-        whereabouts.note_move(oid, from, to)?;
+        if whereabouts.can_move(oid) {
+            whereabouts.note_move(oid, from, to)?;
+        }
     }
     Ok(())
 }
@@ -32,6 +34,7 @@ fn an_object_is_found_where_it_went(rt: HostRuntime) -> Result<(), Fail> {
     go(&mut whereabouts, 1, 1)?;
     go(&mut whereabouts, 1, 2)?;
     go(&mut whereabouts, 1, 3)?;
+    assert_eq!(rt; whereabouts.place(1), Some(3));
     assert_eq!(rt; find(&mut whereabouts, 0, 1)?, Some((3, 2)));
     assert_eq!(rt; find(&mut whereabouts, 0, 1)?, Some((3, 0)));
     assert_eq!(rt; find(&mut whereabouts, 1, 1)?, Some((3, 0)));

@@ -1,7 +1,7 @@
 //! What nodes know of the whereabouts of objects.
-ghost use Rattle.std.specs.Prelude.{◌≡◌, ◌-◌, ◌^◌, suc, ◌<◌, ◌≤◌, ◌↔◌, IfNone, IfOk, IfSome, IsSome, OnErr, OnOk, Some};
+ghost use Rattle.std.specs.Prelude.{◌≡◌, ◌≢◌, ℕ, ◌-◌, ◌^◌, suc, ◌<◌, ◌≤◌, ◌↔◌, IfNone, IfOk, IfSome, IsSome, IsTrue, OnErr, OnOk, Some};
 ghost use Rattle.ec_cluster.specs.Located.{Located, made_at, moved_to, nothing_made};
-ghost use Rattle.ec_cluster.specs.Whereabouts.{Gives, addresses_at, made_count, place_at, start_at};
+ghost use Rattle.ec_cluster.specs.Whereabouts.{Gives, IsAddressed, addresses_at, known_of, made_count, moves_of, place_at, start_at};
 ghost use Rattle.ec_forwarding.specs.Following.{IsFound};
 
 use ec_forwarding::forwarding::Forwarding;
@@ -48,17 +48,24 @@ impl Whereabouts {
         Ok(())
     }
 
-    /// Notes that an object went from the node where it was to another, or to the same. The error is want of memory, or that the
-    /// object has moved 2^64 - 1 times.
+    /// Whether one more move of an object can be counted: it has moved fewer than 2^64 - 1 times.
+    pub fn can_move(&self, oid: Oid) -> bool
+        ensures { IsTrue result ↔ (moves_of self.now oid < 2 ^ 64 - 1) }
+    {
+        self.forwarding.moves(oid).unwrap_or(0) < u64::MAX
+    }
+
+    /// Notes that an object went from the node where it was to another, or to the same, which changes nothing. The error is want of
+    /// memory.
     pub fn note_move(&mut self, oid: Oid, from: NodeNo, to: NodeNo) -> Result<(), AllocError>
         requires there { place_at self.old oid ≡ Some from }
+        requires few { moves_of self.old oid < 2 ^ 64 - 1 }
         ensures ok { (w : Located) → Gives self.old w → OnOk result (Gives self.new (moved_to w oid from to)) }
+        ensures stays { OnOk result (from ≡ to → self.new ≡ self.old) }
+        ensures addresses { OnOk result (IsAddressed (known_of self.old oid) (known_of self.new oid) from to) }
+        ensures others { (o : ℕ) → o ≢ oid → known_of self.new o ≡ known_of self.old o }
         ensures err { OnErr result (self.new ≡ self.old) }
     {
-        let moves = self.forwarding.moves(oid).unwrap_or(0);
-        if moves == u64::MAX {
-            return Err(AllocError);
-        }
         self.forwarding.note_move(oid, from, to)
     }
 

@@ -2,6 +2,7 @@ use Rattle.std.proofs.Common.{◌≡◌, ◌∙◌, ◌++◌, ◌∷◌, [], ℕ
 use Rattle.std.specs.Prelude.{IsSome, is_some}
 use Rattle.ec_forwarding.specs.Addresses.{address_in, with_address}
 use Rattle.ec_forwarding.specs.Following.{AreNewer, AreShortened, IsFound, Leads, own_or_made}
+use Rattle.ec_forwarding.specs.Traces.{newest_in}
 use Rattle.ec_forwarding.specs.declared.address.Address.{Address}
 use Rattle.ec_forwarding.specs.declared.address.Known.{Known}
 use Rattle.ec_forwarding.proofs.Knowing.{adds, whole}
@@ -53,39 +54,63 @@ pub returns-then-is_known-clause-newer : goal.returns-then-is_known-clause-newer
 returns-then-is_known-clause-newer c =
     let ns = c.args.known.now.items in
     let there = ap (λ xs. is_some (address_in xs c.args.from)) (sym c.deref.ensures.value) ∙ sym c.is_known.ensures ∙ c.if-is_known.true in
-    own ns c.deref_mut.result.now c.shorten.new.known c.args.made c.args.from c.hops_from-hops.result _ c.args.newest
+    let newest = c.follow-hops.ensures.newest ∙ ap newest_in c.deref-then-is_known.ensures.value in
+    let P : Address → Type 0 =
+    AreShortened (address_in c.deref_mut.result.now) (address_in c.shorten.new.known) c.args.from c.follow-hops.result.1 in
+    own ns c.deref_mut.result.now c.shorten.new.known c.args.made c.args.from c.follow-hops.result.1 _ (newest_in ns)
     c.deref_mut.ensures.value there (cc (c.shorten.auto.known, c.deref_mut.ensures.len))
-    (cc (c.deref_mut.ensures.value, c.deref_mut.ensures.len)) c.shorten.ensures
+    (cc (c.deref_mut.ensures.value, c.deref_mut.ensures.len)) (subst P newest c.shorten.ensures)
+
+-- the list that is lent, with the newest address at its end
+pushed : (ns lent xs : List Known) (from : ℕ) (a m : Address) → a ≡ m → lent ≡ xs → xs ≡ ns ++ record { at = from; address = a } ∷ [] →
+    lent ≡ ns ++ record { at = from; address = m } ∷ []
+pushed ns lent xs from a m same is more = is ∙ more ∙ ap (λ (b : Address). ns ++ record { at = from; address = b } ∷ []) same
 
 pub shorten-requires-else-is_known-clause-start : goal.shorten-requires-else-is_known-clause-start
 shorten-requires-else-is_known-clause-start c =
+    let ns = c.args.known.now.items in
     let none = ap (λ xs. is_some (address_in xs c.args.from)) (sym c.deref.ensures.value) ∙ sym c.is_known.ensures ∙ c.if-is_known.false in
-    start_on c.args.known.now.items c.args.made c.args.from c.args.newest none c.deref_mut-else-is_known.result.now
-    (c.deref_mut-else-is_known.ensures.value ∙ c.in_ok-push.ensures.items) c.requires.made
+    let newest = c.follow-hops-else-is_known.ensures.newest ∙ ap newest_in c.deref-else-is_known.ensures.value in
+    let lent = c.deref_mut-else-is_known in
+    start_on ns c.args.made c.args.from (newest_in ns) none lent.result.now
+    (pushed ns _ _ _ _ _ newest lent.ensures.value c.in_ok-push.ensures.items) c.requires.made
 
 pub shorten-requires-else-is_known-clause-leads : goal.shorten-requires-else-is_known-clause-leads
 shorten-requires-else-is_known-clause-leads c =
+    let ns = c.args.known.now.items in
     let none = ap (λ xs. is_some (address_in xs c.args.from)) (sym c.deref.ensures.value) ∙ sym c.is_known.ensures ∙ c.if-is_known.false in
-    leads_on c.args.known.now.items c.args.made c.args.from c.args.newest none c.deref_mut-else-is_known.result.now
-    (c.deref_mut-else-is_known.ensures.value ∙ c.in_ok-push.ensures.items) c.requires.leads
+    let newest = c.follow-hops-else-is_known.ensures.newest ∙ ap newest_in c.deref-else-is_known.ensures.value in
+    let lent = c.deref_mut-else-is_known in
+    subst (Leads (address_in lent.result.now)) (sym newest)
+    (leads_on ns c.args.made c.args.from (newest_in ns) none lent.result.now
+    (pushed ns _ _ _ _ _ newest lent.ensures.value c.in_ok-push.ensures.items) c.requires.leads)
 
 pub shorten-requires-else-is_known-clause-found : goal.shorten-requires-else-is_known-clause-found
 shorten-requires-else-is_known-clause-found c =
+    let ns = c.args.known.now.items in
     let none = ap (λ xs. is_some (address_in xs c.args.from)) (sym c.deref.ensures.value) ∙ sym c.is_known.ensures ∙ c.if-is_known.false in
-    let P : List Known → Type 0 =
-    λ xs. IsFound (address_in xs) c.args.made c.args.newest.node c.hops_from-hops-else-is_known.result in
-    found_on c.args.known.now.items c.args.made c.args.from c.args.newest none c.deref_mut-else-is_known.result.now
-    (c.deref_mut-else-is_known.ensures.value ∙ c.in_ok-push.ensures.items) c.hops_from-hops-else-is_known.result c.requires.made
-    c.requires.leads (subst P c.deref-else-is_known.ensures.value c.hops_from-hops-else-is_known.ensures.found)
+    let newest = c.follow-hops-else-is_known.ensures.newest ∙ ap newest_in c.deref-else-is_known.ensures.value in
+    let lent = c.deref_mut-else-is_known in
+    let hops = c.follow-hops-else-is_known.result.1 in
+    let P : List Known → Type 0 = λ xs. IsFound (address_in xs) c.args.made (newest_in xs).node hops in
+    let Q : Address → Type 0 = λ m. IsFound (address_in lent.result.now) c.args.made m.node hops in
+    subst Q (sym newest)
+    (found_on ns c.args.made c.args.from (newest_in ns) none lent.result.now
+    (pushed ns _ _ _ _ _ newest lent.ensures.value c.in_ok-push.ensures.items) hops c.requires.made c.requires.leads
+    (subst P c.deref-else-is_known.ensures.value c.follow-hops-else-is_known.ensures.found))
 
 pub returns-in_ok-push-clause-newer : goal.returns-in_ok-push-clause-newer
 returns-in_ok-push-clause-newer c =
+    let ns = c.args.known.now.items in
     let none = ap (λ xs. is_some (address_in xs c.args.from)) (sym c.deref.ensures.value) ∙ sym c.is_known.ensures ∙ c.if-is_known.false in
-    let P : List Known → Type 0 =
-    λ xs. IsFound (address_in xs) c.args.made c.args.newest.node c.hops_from-hops-else-is_known.result in
+    let newest = c.follow-hops-else-is_known.ensures.newest ∙ ap newest_in c.deref-else-is_known.ensures.value in
     let lent = c.deref_mut-else-is_known in
-    newer c.args.known.now.items c.args.made c.args.from c.args.newest none lent.result.now
-    (lent.ensures.value ∙ c.in_ok-push.ensures.items) c.hops_from-hops-else-is_known.result _ c.shorten-else-is_known.new.known
-    c.push.new.self.items lent.ensures.value c.requires.made c.requires.leads
-    (subst P c.deref-else-is_known.ensures.value c.hops_from-hops-else-is_known.ensures.found)
-    (cc (c.shorten-else-is_known.auto.known, lent.ensures.len)) (cc (lent.ensures.value, lent.ensures.len)) c.shorten-else-is_known.ensures
+    let short = c.shorten-else-is_known in
+    let hops = c.follow-hops-else-is_known.result.1 in
+    let P : List Known → Type 0 = λ xs. IsFound (address_in xs) c.args.made (newest_in xs).node hops in
+    let Q : Address → Type 0 = AreShortened (address_in lent.result.now) (address_in short.new.known) c.args.made hops in
+    newer ns c.args.made c.args.from (newest_in ns) none lent.result.now
+    (pushed ns _ _ _ _ _ newest lent.ensures.value c.in_ok-push.ensures.items) hops _ short.new.known c.push.new.self.items
+    lent.ensures.value c.requires.made c.requires.leads
+    (subst P c.deref-else-is_known.ensures.value c.follow-hops-else-is_known.ensures.found)
+    (cc (short.auto.known, lent.ensures.len)) (cc (lent.ensures.value, lent.ensures.len)) (subst Q newest short.ensures)

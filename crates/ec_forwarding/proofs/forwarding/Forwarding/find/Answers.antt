@@ -3,16 +3,16 @@ use Rattle.std.specs.BTreeMap.{is_at}
 use Rattle.std.specs.Map.{set_value}
 use Rattle.std.specs.Option.{option_copied_mut}
 use Rattle.std.specs.Ordering.{nat_cmp}
-use Rattle.ec_forwarding.proofs.Entries.{on_err, written_same}
+use Rattle.ec_forwarding.proofs.Entries.{then_same, written_same}
 use Rattle.ec_forwarding.proofs.forwarding.Forwarding.find.Goals as goal
 
-pub returns-in_err-hops-clause-err : goal.returns-in_err-hops-clause-err
-returns-in_err-hops-clause-err c =
+pub returns-clause-err : goal.returns-clause-err
+returns-clause-err c =
     let test = is_at (nat_cmp c.args.oid) in
     let entries = c.self.inside.trails.entries in
-    let there = sym c.get_mut.ensures.value ∙ ap option_copied_mut c.unwrap-trail.ensures in
-    on_err c.from_residual.result
-    ((c.get_mut.follows.holds c.find.new.self).0
-    ∙ ap (set_value test entries) c.in_err-hops.ensures.err
-    ∙ written_same test entries c.unwrap-trail.result.now there
+    let there = sym c.get_mut.ensures.value ∙ ap option_copied_mut c.unwrap.ensures in
+    then_same c.find.result c.find.ensures.err (λ same.
+    (c.get_mut.follows.holds c.find.new.self).0
+    ∙ ap (set_value test entries) same
+    ∙ written_same test entries c.unwrap.result.now there
     ∙ c.self.view_is)
