@@ -12,6 +12,7 @@ use Rattle.ec_world.specs.declared.key.Key.TheVariants.{Frame}
 use Rattle.ec_objects.specs.Kinds.{IsOfKind}
 use Rattle.ec_generate.specs.declared.table.OperationTable.{OperationTable}
 use Rattle.ec_generate.specs.declared.table.StopEntry.{StopEntry}
+use Rattle.ec_stores.specs.Changes.{FirstBlock}
 use Rattle.ec_things.specs.Store.{Owned, StandsAt, Store}
 use Rattle.ec_world.specs.declared.node.Kind.{Kind}
 use Rattle.ec_world.specs.declared.value.Value.{Value}
@@ -40,6 +41,13 @@ pub record ReadsAs (s : Store) (table : OperationTable) (process depth : ℕ) (l
   pub low : spot_of table l < 128
   pub stands : StandsAt s row.blocks (spot_of table l) v
   pub kind : IsOfKind (kind_of l.of) v
+
+-- the same, in the frame of an activation that is this block
+pub record ReadsIn (s : Store) (table : OperationTable) (block : ℕ) (l : Live) (v : Value) : Type 0 where
+  pub process : ℕ
+  pub depth : ℕ
+  pub first : FirstBlock s (Frame process depth) block
+  pub reads : ReadsAs s table process depth l v
 
 -- there is such a value
 pub record HasOperand (s : Store) (table : OperationTable) (process depth : ℕ) (l : Live) : Type 0 where

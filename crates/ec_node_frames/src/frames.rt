@@ -35,10 +35,11 @@ pub fn headings_of(node: &NodeStore, process: Pid, depth: u32) -> Headings
     ensures { (p : Parts) (homes : KindData → List (List HomeData)) (a : CodeActivation) →
         Shown (store_of node.now) (OfFrame process depth) (frame_thing p homes process depth a) → AreHeadings p a result }
 {
-    let operation = node.frame_word(process, depth, 2);
-    let stop = node.frame_word(process, depth, 3);
-    let pending = node.frame_word(process, depth, PENDING);
-    let own = node.frame_word(process, depth, 5);
+    let block = node.block_of_frame(process, depth);
+    let operation = node.word_in(block, 2);
+    let stop = node.word_in(block, 3);
+    let pending = node.word_in(block, PENDING);
+    let own = node.word_in(block, 5);
     Headings {
         operation,
         stop,

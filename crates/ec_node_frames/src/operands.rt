@@ -6,7 +6,7 @@ ghost use Rattle.ec_code.specs.Typing.{Declared};
 ghost use Rattle.ec_code.specs.declared.activation.CodeActivation.{CodeActivation};
 ghost use Rattle.ec_code.specs.declared.code.Parts.{Parts};
 ghost use Rattle.ec_machine_code.specs.declared.homes.Home.{Home as HomeData};
-ghost use Rattle.ec_node_frames.specs.Operands.{ActsHere, HasOperand, HasOperands, ReadsAs};
+ghost use Rattle.ec_node_frames.specs.Operands.{ActsHere, HasOperands, ReadsIn};
 ghost use Rattle.ec_generate.specs.declared.table.OperationTable.{OperationTable as TableData};
 ghost use Rattle.ec_stores.specs.Node.{store_of};
 ghost use Rattle.ec_world.specs.declared.node.Kind.{Kind as KindData};
@@ -37,29 +37,29 @@ pub fn operands_of(
         ActsHere (store_of node.now) table.now entry.now process depth d p homes tables a →
         IfOk result (λ values. values ≡ map (λ h. h.value) (held_in p a entry.now.operands)) }
 {
+    let block = node.block_of_frame(process, depth);
     let mut values = Seq::new(alloc);
     for i in 0..entry.operands.len() {
         let operand = *entry.operands.at(i);
-        let value = operand_of(node, table, operand, process, depth)?;
+        let value = operand_of(node, table, operand, block)?;
         values.push(value)?;
     }
     Ok(values)
 }
 
-/// The value of an operand, read by its type. The error is want of memory.
+/// The value of an operand in the frame that is a block, read by its type. The error is want of memory.
 fn operand_of(
     node: &NodeStore,
     table: &OperationTable,
     operand: Live,
-    process: Pid,
-    depth: u32,
+    block: u32,
 ) -> Result<Value, AllocError>
-    requires { HasOperand (store_of node.now) table.now process depth operand }
-    ensures { (v : ValueData) → ReadsAs (store_of node.now) table.now process depth operand v → IfOk result (λ u. u ≡ v) }
+    requires { (v : ValueData) × ReadsIn (store_of node.now) table.now block operand v }
+    ensures { (v : ValueData) → ReadsIn (store_of node.now) table.now block operand v → IfOk result (λ u. u ≡ v) }
 {
     let _kind = node.kind();
     let at = home_word(table.home(operand.variable));
-    let word = node.frame_word(process, depth, at as u32);
+    let word = node.word_in(block, at as u32);
     value_of(node, kind_of(operand.of), word)
 }
 

@@ -1,6 +1,5 @@
 -- No instruction has the word that every row refuses.
-use Rattle.std.proofs.Common.{◌≡◌, ◌≢◌, ℕ, ◌<◌, ◌^◌, ◌/◌, arith, refl, sym, subst, Option, Some, None, IfSome, IfNone}
-use Rattle.std.specs.Option.{option_or}
+use Rattle.std.proofs.Common.{◌≡◌, ◌≢◌, ℕ, ◌<◌, ◌^◌, ◌/◌, arith, refl, subst, Option, Some, None, IfNone}
 use Rattle.mips_isa.specs.declared.field.Amount.{Amount}
 use Rattle.mips_isa.specs.declared.field.Link.{Link}
 use Rattle.mips_isa.specs.declared.field.Register.{Register}
@@ -29,15 +28,7 @@ use Rattle.mips_isa.specs.declared.instr.Instr.TheVariants.{LoadFrom, StoreTo}
 use Rattle.mips_isa.specs.OneWord.{shift_small, variable_shift_small, operation_small, hilo_small, from_small, to_small}
 use Rattle.mips_isa.specs.Words.{word_of, branch_op, zero_branch_op_rt, immediate_op, load_op, store_op}
 
--- ---- one row or another
-
-pub either : (P : Instr → Type 0) (o p r : Option Instr) → r ≡ option_or o p → IfSome o P → IfSome p P → IfSome r P
-either P None p r e h k = subst (λ x. IfSome x P) (sym e) k
-either P (Some i) p r e h k = subst (λ x. IfSome x P) (sym e) h
-
-pub neither : (o p r : Option Instr) → r ≡ option_or o p → r ≡ None → (o ≡ None) × (p ≡ None)
-neither None p r e h = let none : p ≡ None = cc in (refl, none)
-neither (Some i) p r e h = absurd (cc)
+-- ---- what is not there
 
 pub if_none : (T : Type 0) (o : Option Instr) → (o ≡ None → T) → IfNone o T
 if_none T None f = f refl

@@ -165,15 +165,31 @@ fn special_row(word: u32) -> Option<Instr>
     ensures some { IfSome result (λ i. word_of i ≡ word) }
     ensures none { IfNone result ((i : Instr) → word_of i ≢ word) }
 {
-    operation_row(word)
-        .or(shift_row(word))
-        .or(variable_shift_row(word))
-        .or(hilo_row(word))
-        .or(from_row(word))
-        .or(to_row(word))
-        .or(jr_row(word))
-        .or(jalr_row(word))
-        .or(syscall_row(word))
+    if let Some(instr) = operation_row(word) {
+        return Some(instr);
+    }
+    if let Some(instr) = shift_row(word) {
+        return Some(instr);
+    }
+    if let Some(instr) = variable_shift_row(word) {
+        return Some(instr);
+    }
+    if let Some(instr) = hilo_row(word) {
+        return Some(instr);
+    }
+    if let Some(instr) = from_row(word) {
+        return Some(instr);
+    }
+    if let Some(instr) = to_row(word) {
+        return Some(instr);
+    }
+    if let Some(instr) = jr_row(word) {
+        return Some(instr);
+    }
+    if let Some(instr) = jalr_row(word) {
+        return Some(instr);
+    }
+    syscall_row(word)
 }
 
 fn other_row(word: u32) -> Option<Instr>
@@ -181,14 +197,28 @@ fn other_row(word: u32) -> Option<Instr>
     ensures some { IfSome result (λ i. word_of i ≡ word) }
     ensures none { IfNone result ((i : Instr) → word_of i ≢ word) }
 {
-    immediate_row(word)
-        .or(load_row(word))
-        .or(store_row(word))
-        .or(branch_row(word))
-        .or(zero_branch_row(word))
-        .or(lui_row(word))
-        .or(j_row(word))
-        .or(jal_row(word))
+    if let Some(instr) = immediate_row(word) {
+        return Some(instr);
+    }
+    if let Some(instr) = load_row(word) {
+        return Some(instr);
+    }
+    if let Some(instr) = store_row(word) {
+        return Some(instr);
+    }
+    if let Some(instr) = branch_row(word) {
+        return Some(instr);
+    }
+    if let Some(instr) = zero_branch_row(word) {
+        return Some(instr);
+    }
+    if let Some(instr) = lui_row(word) {
+        return Some(instr);
+    }
+    if let Some(instr) = j_row(word) {
+        return Some(instr);
+    }
+    jal_row(word)
 }
 
 // ---- the rows of op 0, each by its funct

@@ -3,11 +3,11 @@ use Rattle.std.proofs.Common.{◌≡◌, ◌<◌, Option, Some, sym, ap, ◌∙�
 use Rattle.std.specs.Prelude.{Err, IfOk, IsSome, Ok, Result, refl}
 use Rattle.std.proofs.lemmas.Option.{same_Some}
 use Rattle.ec_machine_code.specs.Frames.{home_word}
-use Rattle.ec_node_frames.proofs.Reading.{frame_read, word_read}
-use Rattle.ec_node_frames.proofs.Shown.{owns_word}
+use Rattle.ec_node_frames.proofs.Reading.{word_read}
 use Rattle.ec_node_frames.proofs.operands.operand_of.Goals as goal
 use Rattle.ec_objects.specs.Values.{value_of}
 use Rattle.ec_stores.specs.Node.{store_of}
+use Rattle.ec_world.specs.declared.key.Key.TheVariants.{Frame}
 use Rattle.ec_world.specs.declared.value.Value.{Value}
 use Rattle.ec_world.specs.declared.value.ValueType.{ValueType}
 
@@ -18,28 +18,30 @@ same_value : {E : Type 0} (o : Option Value) (v : Value) (r : Result Value E) �
 same_value o v (Ok u) e f = same_Some u v (sym f ∙ e)
 same_value o v (Err x) e f = tt
 
-pub frame_word-word-requires : goal.frame_word-word-requires
-frame_word-word-requires c =
+pub word_in-word-requires-clause-owned : goal.word_in-word-requires-clause-owned
+word_in-word-requires-clause-owned c = let r = c.requires.1 in (Frame r.process r.depth, r.first)
+
+pub word_in-word-requires-clause-within : goal.word_in-word-requires-clause-within
+word_in-word-requires-clause-within c =
     let home = c.home_word-at.ensures ∙ ap home_word c.home.ensures in
-    owns_word (store_of c.args.node.now) c.args.process c.args.depth c.home_word-at.result
-    (frame_read (store_of c.args.node.now) c.args.table.now c.args.process c.args.depth c.args.operand c.requires.value c.requires.reads)
-    (subst (λ n. n < 128) (sym home) c.requires.reads.low)
+    subst (λ n. n < 128) (sym home) c.requires.1.reads.low
 
 pub value_of-requires : goal.value_of-requires
 value_of-requires c =
     let s = store_of c.args.node.now in
+    let r = c.requires.1 in
     let home = c.home_word-at.ensures ∙ ap home_word c.home.ensures in
-    there_is (value_of s c.kind_of.result c.frame_word-word.result) c.requires.value
-    (ap (λ (k : ValueType). value_of s k c.frame_word-word.result) c.kind_of.ensures
-    ∙ word_read s c.args.table.now c.args.process c.args.depth c.args.operand c.requires.value c.requires.reads c.home_word-at.result
-    c.frame_word-word.result c.kind-kind.ensures.tidy home c.frame_word-word.ensures)
+    there_is (value_of s c.kind_of.result c.word_in-word.result) c.requires.0
+    (ap (λ (k : ValueType). value_of s k c.word_in-word.result) c.kind_of.ensures
+    ∙ word_read s c.args.table.now r.process r.depth c.args.operand c.requires.0 r.reads c.home_word-at.result c.word_in-word.result
+    c.kind-kind.ensures.tidy home (c.word_in-word.ensures (Frame r.process r.depth) r.first))
 
 pub returns : goal.returns
-returns c = λ v reads.
+returns c = λ v r.
     let s = store_of c.args.node.now in
     let home = c.home_word-at.ensures ∙ ap home_word c.home.ensures in
-    same_value (value_of s c.kind_of.result c.frame_word-word.result) v c.value_of.result
-    (ap (λ (k : ValueType). value_of s k c.frame_word-word.result) c.kind_of.ensures
-    ∙ word_read s c.args.table.now c.args.process c.args.depth c.args.operand v reads c.home_word-at.result c.frame_word-word.result
-    c.kind-kind.ensures.tidy home c.frame_word-word.ensures)
+    same_value (value_of s c.kind_of.result c.word_in-word.result) v c.value_of.result
+    (ap (λ (k : ValueType). value_of s k c.word_in-word.result) c.kind_of.ensures
+    ∙ word_read s c.args.table.now r.process r.depth c.args.operand v r.reads c.home_word-at.result c.word_in-word.result
+    c.kind-kind.ensures.tidy home (c.word_in-word.ensures (Frame r.process r.depth) r.first))
     c.value_of.ensures
