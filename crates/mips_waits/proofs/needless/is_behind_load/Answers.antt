@@ -1,4 +1,4 @@
-use Rattle.std.proofs.Common.{◌≡◌, ◌+◌, ◌<◌, length, sym, ap, ◌∙◌, subst, arith}
+use Rattle.std.proofs.Common.{◌+◌, ◌<◌, length, sym, ap, ◌∙◌, subst, arith}
 use Rattle.mips_delay.proofs.Looking.{unmarked}
 use Rattle.mips_isa.specs.OneWord.{one_word}
 use Rattle.mips_machine.specs.Hazards.{loads}
