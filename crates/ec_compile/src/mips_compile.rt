@@ -28,7 +28,7 @@ use ec_meaning::source::Program;
 use mips_code::mips::Mips;
 use mips_delay::fill::fill;
 use mips_delay::links::has_links;
-use mips_hilo::waits::drop_waits;
+use mips_waits::waits::drop_waits;
 use std::alloc::{AllocError, Global};
 
 /// How many slots a frame has.
@@ -43,8 +43,8 @@ impl Target for MipsMeaning {
     ghost meaning = { mips_meaning };
 }
 
-/// Code without needless no-ops behind reads of HI and LO, and with its delay slots filled, unless the target or the link of some jump is a
-/// value. The error is want of memory.
+/// Code without needless no-ops behind reads of HI and LO and behind loads, and with its delay slots filled, unless the target or the link
+/// of some jump is a value. The error is want of memory.
 fn tightened(alloc: Global, code: Code) -> Result<Code, AllocError>
     requires low { length code.words ≤ words_end }
     requires few { HasFew code }
@@ -63,8 +63,8 @@ fn tightened(alloc: Global, code: Code) -> Result<Code, AllocError>
 }
 
 /// Compiles the program of an accepted text for MIPS I. Between any two stops the machine code does what the silent steps of the
-/// three-address code do, without a trap, and behind each stop there are states from which it does. No-ops behind reads of HI and LO
-/// that nothing needs are dropped, and delay slots filled. The error is want of memory.
+/// three-address code do, without a trap, and behind each stop there are states from which it does. No-ops behind reads of HI and LO and
+/// behind loads that nothing needs are dropped, and delay slots filled. The error is want of memory.
 pub fn compile_for_mips(alloc: Global, program: &Program<'_>) -> Result<Compiled, AllocError>
     requires accepted { IsOfText (source_of program.now) }
     ensures lowered { IfOk result (λ made. IsLowered (source_of program.now) made.program) }

@@ -1,5 +1,0 @@
-use Rattle.mips_hilo.proofs.Follows.{dropped_follows}
-use Rattle.mips_hilo.proofs.laws.dropped_follows.Goals as goal
-
-pub returns : goal.returns
-returns start = dropped_follows

@@ -1,5 +1,0 @@
-use Rattle.mips_hilo.proofs.Follows.{dropped_has_no_links}
-use Rattle.mips_hilo.proofs.laws.dropped_has_no_links.Goals as goal
-
-pub returns : goal.returns
-returns start = dropped_has_no_links

@@ -1,5 +1,0 @@
-use Rattle.mips_hilo.proofs.Follows.{dropped_is_short}
-use Rattle.mips_hilo.proofs.laws.dropped_is_short.Goals as goal
-
-pub returns : goal.returns
-returns start = dropped_is_short

@@ -1,5 +1,0 @@
-use Rattle.mips_hilo.proofs.Follows.{dropped_keeps}
-use Rattle.mips_hilo.proofs.laws.dropped_keeps.Goals as goal
-
-pub returns : goal.returns
-returns start = dropped_keeps

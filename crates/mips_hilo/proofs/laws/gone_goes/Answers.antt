@@ -1,5 +1,0 @@
-use Rattle.mips_hilo.proofs.Going.{gone_step}
-use Rattle.mips_hilo.proofs.laws.gone_goes.Goals as goal
-
-pub returns : goal.returns
-returns start = gone_step

@@ -1,5 +1,0 @@
-use Rattle.mips_hilo.proofs.Going.{kept_step}
-use Rattle.mips_hilo.proofs.laws.kept_goes.Goals as goal
-
-pub returns : goal.returns
-returns start = kept_step
