@@ -11,7 +11,7 @@ use Rattle.ec_code.specs.Worlds.{RangedWorld, most_nodes}
 use Rattle.ec_code.specs.Sound.{SoundWorld}
 use Rattle.ec_cluster.specs.declared.system.ProcessRow.{ProcessRow}
 use Rattle.ec_cluster.specs.declared.system.System.{System}
-use Rattle.ec_things.specs.Texts.{TextsAt}
+use Rattle.ec_things.specs.Texts.{TextsHeld}
 use Rattle.ec_things.specs.Things.{things_of}
 use Rattle.ec_world.specs.declared.process.Proc.{Proc}
 
@@ -49,4 +49,4 @@ RunsSome s = (d : Declared) × ((w : CodeWorld) × Runs d s w)
 
 -- the texts that a world has at a node: in objects and activations there, and in constants
 abbrev pub Strings : Cluster → CodeWorld → ℕ → List ℕ → Type 0
-Strings c w = TextsAt (things_of (frame_of c) w) w.common.globals (place c)
+Strings c w = TextsHeld (things_of (frame_of c) w) w.common.globals (place c)

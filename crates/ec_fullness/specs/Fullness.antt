@@ -13,7 +13,7 @@ use Rattle.ec_cluster.specs.Systems.{Runs}
 use Rattle.ec_cluster.specs.declared.system.System.{System}
 use Rattle.ec_things.specs.Held.{Held}
 use Rattle.ec_things.specs.Store.{Store}
-use Rattle.ec_things.specs.Texts.{NewBytes, TextsAt}
+use Rattle.ec_things.specs.Texts.{NewBytes, TextsHeld}
 use Rattle.ec_things.specs.Things.{things_of}
 use Rattle.ec_world.specs.Group.{is_in}
 use Rattle.ec_world.specs.declared.doing.Doing.{Doing}
@@ -63,7 +63,7 @@ gathered place members to oid = if is_in oid members then Some to else place oid
 
 -- the texts that a world has at a node, with objects at these places: in objects and activations there, and in constants
 abbrev pub Wants : Cluster → (ℕ → Option ℕ) → CodeWorld → ℕ → List ℕ → Type 0
-Wants c places w = TextsAt (things_of (frame_of c) w) w.common.globals places
+Wants c places w = TextsHeld (things_of (frame_of c) w) w.common.globals places
 
 -- What node k, which keeps s, needs for world w', with objects at these places, to come after w: the blocks by which those held there rise,
 -- and the bytes of the texts that w' has there and the node lacks.

@@ -10,7 +10,7 @@ use Rattle.ec_world.specs.declared.room.Needs.{Needs}
 use Rattle.ec_world.specs.declared.room.Part.{Part}
 use Rattle.ec_rooms.specs.Places.{place_of}
 use Rattle.ec_things.specs.Held.{Held}
-use Rattle.ec_things.specs.Texts.{BytesOf, TextsAt}
+use Rattle.ec_things.specs.Texts.{BytesOf, TextsHeld}
 use Rattle.ec_things.specs.Things.{Thing, things_of}
 use Rattle.ec_world.specs.Group.{Has}
 use Rattle.ec_world.specs.declared.node.NodeSpec.{NodeSpec}
@@ -28,7 +28,7 @@ held p w k = Held (frame p) (place_of w) k w
 
 -- the texts that a world has at node k: in objects and activations there, and in constants, which each node has
 abbrev pub Strings : Parts → CodeWorld → ℕ → List ℕ → Type 0
-Strings p w = TextsAt (things_of (frame p) w) w.common.globals (place_of w)
+Strings p w = TextsHeld (things_of (frame p) w) w.common.globals (place_of w)
 
 -- ---- what is needed
 

@@ -37,8 +37,8 @@ pub record IsHeld (things : Key → Option Thing) (place : ℕ → Option ℕ) (
   pub has : Has thing.values (Str text)
 
 -- The texts that things have at node k, and those of constants, which each node has.
-abbrev pub TextsAt : (things : Key → Option Thing) (globals : List Value) (place : ℕ → Option ℕ) → ℕ → List ℕ → Type 0
-TextsAt things globals place k text = IsHeld things place k text ⊎ Has globals (Str text)
+abbrev pub TextsHeld : (things : Key → Option Thing) (globals : List Value) (place : ℕ → Option ℕ) → ℕ → List ℕ → Type 0
+TextsHeld things globals place k text = IsHeld things place k text ⊎ Has globals (Str text)
 
 -- So many bytes have these texts, each text once; so no order matters.
 pub record BytesOf (Texts : List ℕ → Type 0) (n : ℕ) : Type 0 where
