@@ -51,7 +51,7 @@ fn word_at<K: Kind>(
     kind: &K,
     span: Span,
     site: &Site<'_>,
-    places: &[u32],
+    places: &Seq<u32>,
     start: u32,
     q: usize,
 ) -> u32
@@ -61,7 +61,7 @@ fn word_at<K: Kind>(
     ensures is { result ≡ place_there (pick K.vocabularies span) site.now start q }
     ensures room { result ≤ start + size_there (pick K.vocabularies span) site.now }
 {
-    start + places[q]
+    start + *places.at(q)
 }
 
 /// Writes what leads on to a step, where another one stands next: a jump, unless it is this one. The error is want of memory.
@@ -69,7 +69,7 @@ fn put_on<K: Kind>(
     kind: &K,
     span: Span,
     site: &Site<'_>,
-    places: &[u32],
+    places: &Seq<u32>,
     start: u32,
     next: usize,
     to: usize,
@@ -102,7 +102,7 @@ fn put_branch<K: Kind>(
     kind: &K,
     span: Span,
     site: &Site<'_>,
-    places: &[u32],
+    places: &Seq<u32>,
     start: u32,
     next: usize,
     q: usize,
@@ -137,7 +137,7 @@ fn put_ending<K: Kind>(
     kind: &K,
     span: Span,
     site: &Site<'_>,
-    places: &[u32],
+    places: &Seq<u32>,
     start: u32,
     next: usize,
     q: usize,
@@ -193,7 +193,7 @@ fn put_op<K: Kind>(
     kind: &K,
     span: Span,
     site: &Site<'_>,
-    places: &[u32],
+    places: &Seq<u32>,
     start: u32,
     next: usize,
     q: usize,
@@ -223,7 +223,7 @@ fn put_code<K: Kind>(
     kind: &K,
     span: Span,
     site: &Site<'_>,
-    places: &[u32],
+    places: &Seq<u32>,
     start: u32,
     words: &mut Seq<u32>,
 ) -> Result<(), AllocError>
@@ -238,7 +238,7 @@ fn put_code<K: Kind>(
         ++ layout.operation_words (pick K.vocabularies span) (home_there site.now) (ops_there site.now) site.now.order.now start) }
 {
     for spot in 0..site.order.len() {
-        let q = site.order[spot];
+        let q = *site.order.at(spot);
         let next = site.next_at(spot);
         let op = &site.code.at(q).op;
         put_op(kind, span, site, places, start, next, q, op, words)?;
@@ -273,7 +273,7 @@ fn stops_of<K: Kind>(
     kind: &K,
     span: Span,
     site: &Site<'_>,
-    places: &[u32],
+    places: &Seq<u32>,
     start: u32,
 ) -> Result<Seq<u32>, AllocError>
     requires placed { ArePlaces (pick K.vocabularies span) site.now places.now }
@@ -314,7 +314,7 @@ pub(crate) fn put_operation<K: Kind>(
     put_code(kind, span, site, &places, start, words)?;
     let stops = stops_of(alloc, kind, span, site, &places, start)?;
     Ok(OperationCode {
-        words: places[site.code.len()],
+        words: *places.at(site.code.len()),
         stops,
     })
 }

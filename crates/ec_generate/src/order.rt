@@ -131,10 +131,10 @@ fn listed(alloc: Global, at: &Vec<usize>, count: usize) -> Result<Vec<Spot>, All
 }
 
 /// The steps alone. The error is want of memory.
-fn steps_of(alloc: Global, spots: &Vec<Spot>) -> Result<Vec<usize>, AllocError>
-    ensures { IfOk result (λ steps. steps.items ≡ map (λ s. s.step) spots.now.items) }
+fn steps_of(alloc: Global, spots: &Vec<Spot>) -> Result<Seq<usize>, AllocError>
+    ensures { IfOk result (λ steps. steps ≡ map (λ s. s.step) spots.now.items) }
 {
-    let mut steps = Vec::new(alloc);
+    let mut steps = Seq::new(alloc);
     for spot in spots.iter() {
         steps.push(spot.step)?;
     }
@@ -142,8 +142,8 @@ fn steps_of(alloc: Global, spots: &Vec<Spot>) -> Result<Vec<usize>, AllocError>
 }
 
 /// The order in which the steps of an operation's code stand. The error is want of memory.
-pub(crate) fn order_of(alloc: Global, code: &Seq<Line>) -> Result<Vec<usize>, AllocError>
-    ensures { IfOk result (λ order. IsOrder (length code.now) order.items) }
+pub(crate) fn order_of(alloc: Global, code: &Seq<Line>) -> Result<Seq<usize>, AllocError>
+    ensures { IfOk result (λ order. IsOrder (length code.now) order) }
 {
     let at = spots_of(alloc, code)?;
     let mut spots = listed(alloc, &at, code.len())?;

@@ -13,7 +13,6 @@ ghost use Rattle.ec_machine_code.specs.Once.{FaithfulOnce};
 ghost use Rattle.ec_machine_code.specs.Speaks.{Speaks, words_end};
 ghost use Rattle.ec_generate.specs.Addresses.{HasFew as HasFewStops};
 ghost use Rattle.ec_generate.specs.Fits.{EachFits};
-ghost use Rattle.ec_generate.specs.Orders.{all_orders};
 ghost use Rattle.ec_generate.specs.Tables.{AreTablesOf, all_homes};
 
 use crate::direct::led_to;
@@ -35,7 +34,7 @@ fn site_of<'a>(
     operation: &'a Operation,
     led: &'a [bool],
     row: &'a Seq<Home>,
-    order: &'a [usize],
+    order: &'a Seq<usize>,
 ) -> Site<'a>
     ensures code { result.code.now ≡ operation.now.code }
     ensures led { result.led.now ≡ led.now }
@@ -53,8 +52,8 @@ fn site_of<'a>(
 }
 
 /// The order of the steps of each operation. The error is want of memory.
-fn orders_of(alloc: Global, parts: &Parts) -> Result<Seq<Vec<usize>>, AllocError>
-    ensures { IfOk result (λ orders. HasOrders (all_orders orders) parts.now) }
+fn orders_of(alloc: Global, parts: &Parts) -> Result<Seq<Seq<usize>>, AllocError>
+    ensures { IfOk result (λ orders. HasOrders orders parts.now) }
 {
     let mut orders = Seq::new(alloc);
     for n in 0..parts.operations.len() {
@@ -69,16 +68,16 @@ fn lay_out<K: Kind>(
     kind: &K,
     parts: &Parts,
     table: &StopTable,
-    orders: &Seq<Vec<usize>>,
+    orders: &Seq<Seq<usize>>,
 ) -> Result<Code, AllocError>
     requires fine { (d : Declared) × Fine d parts.now }
     requires limits { HasLimits parts.now }
     requires tables { AreTablesOf K.homes slots parts.now table.now.operations }
-    requires ordered { HasOrders (all_orders orders.now) parts.now }
+    requires ordered { HasOrders orders.now parts.now }
     ensures code { IfOk result (λ code.
-        code ≡ code_of K.vocabularies (all_homes table.now.operations) (all_orders orders.now) parts.now.operations) }
+        code ≡ code_of K.vocabularies (all_homes table.now.operations) orders.now parts.now.operations) }
     ensures room { IfOk result
-        (λ code. HasRoom K.vocabularies (all_homes table.now.operations) (all_orders orders.now) parts.now) }
+        (λ code. HasRoom K.vocabularies (all_homes table.now.operations) orders.now parts.now) }
     ensures fit { IfOk result (λ code. (n : ℕ) (o : One) → slice_get parts.now.operations n ≡ Some o →
         HomesFit K.homes (all_homes table.now.operations) n o) }
 {

@@ -16,7 +16,7 @@ pub(crate) struct Site<'a> {
     pub(crate) led: &'a [bool],
     pub(crate) named: usize,
     pub(crate) homes: &'a Seq<Home>,
-    pub(crate) order: &'a [usize],
+    pub(crate) order: &'a Seq<usize>,
 }
 
 /// The place of a variable among all, where there are so many named ones. One beyond 64 bits is no place.

@@ -9,6 +9,7 @@ ghost use Rattle.ec_machine_code.specs.Layout.{IsOrder, chosen};
 use crate::kind::{Kind, Span};
 use crate::lowering::opposite;
 use crate::site::Site;
+use ec_base::list::Seq;
 use ec_code::code::Op;
 use ec_machine_code::step::{Ending, Question};
 use std::alloc::{AllocError, Global};
@@ -101,7 +102,7 @@ fn spot_size<K: Kind>(kind: &K, span: Span, site: &Site<'_>, spot: usize) -> u32
         (drop (spot + 1) site.now.order.now) }
     ensures few { result ≤ 3 * most_words }
 {
-    let q = site.order[spot];
+    let q = *site.order.at(spot);
     op_size(
         kind,
         span,
@@ -149,19 +150,19 @@ pub(crate) fn places<K: Kind>(
     kind: &K,
     span: Span,
     site: &Site<'_>,
-) -> Result<Vec<u32>, AllocError>
+) -> Result<Seq<u32>, AllocError>
     requires led { IsLed site.now }
     requires ordered { IsOrder (length site.now.code.now) site.now.order.now }
     requires few { length (ops_there site.now) ≤ most_steps }
-    ensures { IfOk result (λ places. ArePlaces (pick K.vocabularies span) site.now places.items) }
+    ensures { IfOk result (λ places. ArePlaces (pick K.vocabularies span) site.now places) }
 {
     let count = site.code.len();
     let mut places = vec![in alloc; 0; count + 1]?;
     let mut at = 0;
     for spot in 0..site.order.len() {
-        places[site.order[spot]] = at;
+        places[*site.order.at(spot)] = at;
         at += spot_size(kind, span, site, spot);
     }
     places[count] = at;
-    Ok(places)
+    Ok(Seq::from_vec(places))
 }
