@@ -1,9 +1,9 @@
 //! The words of an operation.
-ghost use Rattle.std.specs.Prelude.{◌≡◌, ℕ, ◌≤◌, ◌<◌, ◌+◌, ◌++◌, true, false, IfOk, IsSome, OnOk, Some, None, length, map, slice_get};
+ghost use Rattle.std.specs.Prelude.{◌≡◌, ℕ, ◌≤◌, ◌<◌, ◌+◌, ◌∷◌, ◌++◌, true, false, IfOk, IsSome, OnOk, Some, None, length, map, slice_get};
 ghost use Rattle.ec_machine_code.specs.Stops.{stop_of, stop_places};
 ghost use Rattle.ec_generate.specs.Puts.{CanPutQuestion, pick};
-ghost use Rattle.ec_generate.specs.Sites.{ArePlaces, CanPutAll, IsLed, IsMakeable, code_there, home_there};
-ghost use Rattle.ec_generate.specs.Sites.{ops_there, place_there, size_there};
+ghost use Rattle.ec_generate.specs.Sites.{ArePlaces, CanPutAll, CanPutEnding, IsLed, IsMakeable, code_there, home_there};
+ghost use Rattle.ec_generate.specs.Sites.{most_steps, ops_there, place_there, size_there};
 ghost use Rattle.ec_machine_code.specs.Direct.{laid_op};
 ghost use Rattle.ec_machine_code.specs.Layout as layout;
 ghost use Rattle.ec_machine_code.specs.Layout.{IsOrder};
@@ -110,6 +110,7 @@ fn put_branch<K: Kind>(
     over: u32,
     words: &mut Seq<u32>,
 ) -> Result<(), AllocError>
+    requires few { length (ops_there site.now) ≤ most_steps }
     requires within { q + over + 1 ≤ length (ops_there site.now) }
     requires homes { CanPutQuestion K.homes question }
     requires placed { ArePlaces (pick K.vocabularies span) site.now places.now }
@@ -141,25 +142,22 @@ fn put_ending<K: Kind>(
     start: u32,
     next: usize,
     q: usize,
-    op: &Op,
+    ending: Option<Ending>,
     words: &mut Seq<u32>,
 ) -> Result<(), AllocError>
-    requires led { IsLed site.now }
-    requires in_code { q < length site.now.code.now }
-    requires there { slice_get (ops_there site.now) q ≡ Some (laid_op site.now.code.now q op.now) }
-    requires makeable { IsMakeable K.homes site.now }
+    requires few { length (ops_there site.now) ≤ most_steps }
+    requires there { q + 1 ≤ length (ops_there site.now) }
+    requires can { CanPutEnding K.homes (length (ops_there site.now)) q ending }
     requires placed { ArePlaces (pick K.vocabularies span) site.now places.now }
     requires near { size_there (pick K.vocabularies span) site.now ≤ (pick K.vocabularies span).reach }
     requires room { start + size_there (pick K.vocabularies span) site.now ≤ words_end }
     requires begins { start ≤ length words.old }
-    requires ends { length words.old + layout.ending_size (pick K.vocabularies span) next q
-        (lowering.ending_of (home_there site.now) (laid_op site.now.code.now q op.now))
+    requires ends { length words.old + layout.ending_size (pick K.vocabularies span) next q ending
         ≤ start + size_there (pick K.vocabularies span) site.now }
     ensures { OnOk result (words.new ≡ words.old ++ layout.ending_words (pick K.vocabularies span)
-        (place_there (pick K.vocabularies span) site.now start) next q (length words.old)
-        (lowering.ending_of (home_there site.now) (laid_op site.now.code.now q op.now))) }
+        (place_there (pick K.vocabularies span) site.now start) next q (length words.old) ending) }
 {
-    match site.ending_at(q, op) {
+    match ending {
         None => put_on(kind, span, site, places, start, next, q + 1, words),
         Some(Ending::Branch { question, over }) => put_branch(
             kind,
@@ -181,11 +179,34 @@ fn put_ending<K: Kind>(
             let to = q - back as usize;
             put_on(kind, span, site, places, start, next, to, words)
         }
-        Some(Ending::Stop) => {
-            kind.put_stop(span, words)?;
-            put_on(kind, span, site, places, start, next, q + 1, words)
-        }
+        Some(Ending::Stop) => put_rest(kind, span, site, places, start, next, q, words),
     }
+}
+
+/// Writes a stop at step q, and what leads on behind it. The error is want of memory.
+fn put_rest<K: Kind>(
+    kind: &K,
+    span: Span,
+    site: &Site<'_>,
+    places: &Seq<u32>,
+    start: u32,
+    next: usize,
+    q: usize,
+    words: &mut Seq<u32>,
+) -> Result<(), AllocError>
+    requires few { length (ops_there site.now) ≤ most_steps }
+    requires there { q + 1 ≤ length (ops_there site.now) }
+    requires placed { ArePlaces (pick K.vocabularies span) site.now places.now }
+    requires near { size_there (pick K.vocabularies span) site.now ≤ (pick K.vocabularies span).reach }
+    requires room { start + size_there (pick K.vocabularies span) site.now ≤ words_end }
+    requires begins { start ≤ length words.old }
+    requires ends { length words.old + (1 + layout.on_size (pick K.vocabularies span) next (q + 1))
+        ≤ start + size_there (pick K.vocabularies span) site.now }
+    ensures { OnOk result (words.new ≡ words.old ++ (pick K.vocabularies span).stop_word ∷ layout.on_words
+        (pick K.vocabularies span) (place_there (pick K.vocabularies span) site.now start) next (q + 1) (length words.old + 1)) }
+{
+    kind.put_stop(span, words)?;
+    put_on(kind, span, site, places, start, next, q + 1, words)
 }
 
 /// Writes the words of step q of the code, where another one stands next. The error is want of memory.
@@ -215,7 +236,18 @@ fn put_op<K: Kind>(
         next q (length words.old) (laid_op site.now.code.now q op.now)) }
 {
     put_steps(kind, span, site, q, op, words)?;
-    put_ending(kind, span, site, places, start, next, q, op, words)
+    let ending = site.ending_at(q, op);
+    put_ending(
+        kind,
+        span,
+        site,
+        places,
+        start,
+        next,
+        q,
+        ending,
+        words,
+    )
 }
 
 /// Writes the words of an operation's code, which begins at word `start`. The error is want of memory.

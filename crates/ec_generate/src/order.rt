@@ -1,5 +1,5 @@
 //! The order in which the words of an operation's steps stand.
-ghost use Rattle.std.specs.Prelude.{◌≡◌, IfOk, OnOk, length, map};
+ghost use Rattle.std.specs.Prelude.{◌≡◌, IfOk, length, map};
 ghost use Rattle.ec_generate.specs.Orders.{steps_below};
 ghost use Rattle.ec_machine_code.specs.Layout.{IsOrder};
 
@@ -131,12 +131,12 @@ fn listed(alloc: Global, at: &Vec<usize>, count: usize) -> Result<Vec<Spot>, All
 }
 
 /// The steps alone. The error is want of memory.
-fn steps_of(alloc: Global, spots: &Vec<Spot>) -> Result<Seq<usize>, AllocError>
-    ensures { IfOk result (λ steps. steps ≡ map (λ s. s.step) spots.now.items) }
+fn steps_of(alloc: Global, spots: &Seq<Spot>) -> Result<Seq<usize>, AllocError>
+    ensures { IfOk result (λ steps. steps ≡ map (λ s. s.step) spots.now) }
 {
     let mut steps = Seq::new(alloc);
-    for spot in spots.iter() {
-        steps.push(spot.step)?;
+    for k in 0..spots.len() {
+        steps.push(spots.at(k).step)?;
     }
     Ok(steps)
 }
@@ -148,5 +148,5 @@ pub(crate) fn order_of(alloc: Global, code: &Seq<Line>) -> Result<Seq<usize>, Al
     let at = spots_of(alloc, code)?;
     let mut spots = listed(alloc, &at, code.len())?;
     spots.sort()?;
-    steps_of(alloc, &spots)
+    steps_of(alloc, &Seq::from_vec(spots))
 }

@@ -56,7 +56,8 @@ fn orders_of(alloc: Global, parts: &Parts) -> Result<Seq<Seq<usize>>, AllocError
     ensures { IfOk result (λ orders. HasOrders orders parts.now) }
 {
     let mut orders = Seq::new(alloc);
-    for n in 0..parts.operations.len() {
+    let count = parts.operations.len();
+    for n in 0..count {
         orders.push(order_of(alloc, &parts.operations.at(n).code)?)?;
     }
     Ok(orders)

@@ -91,26 +91,18 @@ fn op_size<K: Kind>(
     }
 }
 
-/// How many words the step has that stands at a spot of the order.
-fn spot_size<K: Kind>(kind: &K, span: Span, site: &Site<'_>, spot: usize) -> u32
+/// How many words step q has, which stands at a spot of the order.
+fn spot_size<K: Kind>(kind: &K, span: Span, site: &Site<'_>, spot: usize, q: usize) -> u32
     requires led { IsLed site.now }
     requires ordered { IsOrder (length site.now.code.now) site.now.order.now }
-    requires there { spot < length site.now.order.now }
+    requires there { slice_get site.now.order.now spot ≡ Some q }
     requires few { length (ops_there site.now) ≤ most_steps }
-    ensures is { (q : ℕ) → slice_get site.now.order.now spot ≡ Some q →
-        result ≡ layout.size_at (pick K.vocabularies span) (home_there site.now) (ops_there site.now) q
+    ensures is { result ≡ layout.size_at (pick K.vocabularies span) (home_there site.now) (ops_there site.now) q
         (drop (spot + 1) site.now.order.now) }
     ensures few { result ≤ 3 * most_words }
 {
-    let q = *site.order.at(spot);
-    op_size(
-        kind,
-        span,
-        site,
-        site.next_at(spot),
-        q,
-        &site.code.at(q).op,
-    )
+    let next = site.next_at(spot);
+    op_size(kind, span, site, next, q, &site.code.at(q).op)
 }
 
 /// How many words an operation's code has.
@@ -122,7 +114,7 @@ fn size_of<K: Kind>(kind: &K, span: Span, site: &Site<'_>) -> u32
 {
     let mut size = 0;
     for spot in 0..site.order.len() {
-        size += spot_size(kind, span, site, spot);
+        size += spot_size(kind, span, site, spot, *site.order.at(spot));
     }
     size
 }
@@ -160,8 +152,9 @@ pub(crate) fn places<K: Kind>(
     let mut places = vec![in alloc; 0; count + 1]?;
     let mut at = 0;
     for spot in 0..site.order.len() {
-        places[*site.order.at(spot)] = at;
-        at += spot_size(kind, span, site, spot);
+        let q = *site.order.at(spot);
+        places[q] = at;
+        at += spot_size(kind, span, site, spot, q);
     }
     places[count] = at;
     Ok(Seq::from_vec(places))
