@@ -123,20 +123,18 @@ module _ (V : Vocabulary) (home : Variable → Home) (ops : List Op) where
       (same_or_not q p)
 
   module _ (order : List ℕ) (ordered : IsOrder (length ops) order) (table : List ℕ) (long : length table ≡ suc (length ops)) where
-    abbrev last : List ℕ
-    last = slice_set (filled table 0 order) (length ops) (size_of V home ops order)
-
-    pub last_long : length last ≡ suc (length ops)
+    pub last_long : length (slice_set (filled table 0 order) (length ops) (size_of V home ops order)) ≡ suc (length ops)
     last_long = length_set (filled table 0 order) (length ops) (size_of V home ops order) ∙ filled_long table 0 order ∙ long
 
     no_spot : IsIn (length ops) order → ⊥
     no_spot h = let lt = ordered.within (length ops) h in omega (arith, lt)
 
-    pub last_each : (q : ℕ) → q ≤ length ops → slice_get last q ≡ Some (before V home ops order q)
+    pub last_each : (q : ℕ) → q ≤ length ops →
+        slice_get (slice_set (filled table 0 order) (length ops) (size_of V home ops order)) q ≡ Some (before V home ops order q)
     last_each q h = ⊎_elim
         (λ (e : q ≡ length ops).
         let filled_size = filled_long table 0 order in
-        ap (slice_get last) e
+        ap (slice_get (slice_set (filled table 0 order) (length ops) (size_of V home ops order))) e
         ∙ get_set_same (filled table 0 order) (length ops) (size_of V home ops order) (omega (arith, filled_size, long))
         ∙ ap Some (sym (before_none V home ops order (length ops) no_spot)) ∙ ap (λ i. Some (before V home ops order i)) (sym e))
         (λ (ne : q ≢ length ops).

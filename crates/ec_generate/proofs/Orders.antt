@@ -1,6 +1,7 @@
 -- Orders of steps: a permutation of their numbers is one.
 use Rattle.std.proofs.Common.{◌≡◌, ◌≢◌, ℕ, zero, suc, ◌+◌, ◌<◌, ◌≤◌, List, [], ◌∷◌, ◌++◌, length, length-append, Some, refl, sym, ap, ◌∙◌, arith}
-use Rattle.std.proofs.Common.{inl, inr, subst, ⊎_elim}
+use Rattle.std.proofs.Common.{drop, inl, inr, subst, ⊎_elim}
+use Rattle.ec_base.proofs.Lists.{drop_at}
 use Rattle.std.specs.Prelude.{slice_get, sum_by, ◌==◌, if◌then◌else◌}
 use Rattle.std.specs.List.Sorted.{IsPermutation}
 use Rattle.std.proofs.lemmas.Bool.{cases_lt}
@@ -10,7 +11,7 @@ use Rattle.std.proofs.lemmas.Option.{same_Some}
 use Rattle.ec_code.specs.Fine.{IsIn}
 use Rattle.ec_code.specs.declared.code.Operation.{Operation}
 use Rattle.ec_machine_code.specs.Stops.{row_or_empty}
-use Rattle.ec_machine_code.specs.Layout.{IsOrder}
+use Rattle.ec_machine_code.specs.Layout.{IsOrder, first_of}
 use Rattle.ec_machine_code.specs.Once.{AreDifferent}
 use Rattle.ec_machine_code.proofs.Different.{different_append, different_few, in_back, in_either, in_front, same_or_not}
 use Rattle.ec_machine_code.proofs.LaidOutSizes.{other_test, same_test}
@@ -117,6 +118,17 @@ permuted n xs ys moved ordered = record {
 -- there are no more spots than steps
 pub as_many : (n : ℕ) (order : List ℕ) → IsOrder n order → length order ≤ n
 as_many n order ordered = different_few n 0 order ordered.different (λ i h. (omega arith, omega (arith, ordered.within i h)))
+
+-- ---- the first of those that are left
+
+pub first_at : (n : ℕ) (order : List ℕ) (k x : ℕ) → slice_get order k ≡ Some x → x ≡ first_of n (drop k order)
+first_at n order k x e = sym (ap (first_of n) (drop_at order k x e))
+
+pub first_past : (n : ℕ) (order : List ℕ) (k : ℕ) → length order ≤ k → n ≡ first_of n (drop k order)
+first_past n [] zero h = refl
+first_past n [] (suc k) h = refl
+first_past n (q ∷ qs) zero h = absurd (omega (arith, h))
+first_past n (q ∷ qs) (suc k) h = first_past n qs k (omega (arith, h))
 
 -- one order more
 pub more_orders :

@@ -43,13 +43,16 @@ impl<'a> Site<'a> {
     }
 
     /// The step that stands next behind a spot of the order; behind the last one more than there are.
+    #[tactic(auto, using(crate::proofs::Orders::first_at, crate::proofs::Orders::first_past))]
     pub(crate) fn next_at(&self, spot: usize) -> usize
         requires { spot < length self.now.order.now }
         ensures { result ≡ first_of (length self.now.code.now) (drop (spot + 1) self.now.order.now) }
     {
-        match self.order.get(spot + 1) {
-            Some(step) => *step,
-            None => self.code.len(),
+        let count = self.order.len();
+        if spot + 1 < count {
+            *self.order.at(spot + 1)
+        } else {
+            self.code.len()
         }
     }
 }

@@ -2,7 +2,7 @@ use Rattle.std.proofs.Common.{◌≡◌, ◌∙◌, ◌+◌, ◌++◌, ℕ, Some
 use Rattle.std.specs.Prelude.{slice_get}
 use Rattle.ec_generate.specs.Puts.{pick}
 use Rattle.ec_generate.specs.Sites.{home_there, ops_there}
-use Rattle.ec_generate.proofs.Loops.{all_there, longer, none_left, rest_next, size_here, size_so_far}
+use Rattle.ec_generate.proofs.Loops.{all_there, longer, rest_next, rest_words, size_here, size_so_far}
 use Rattle.ec_generate.proofs.Orders.{in_order}
 use Rattle.ec_generate.proofs.Room.{picked_sized}
 use Rattle.ec_machine_code.proofs.Direct.{laid_there as op_there, ops_long}
@@ -10,15 +10,15 @@ use Rattle.ec_machine_code.specs.Direct.{laid_op}
 use Rattle.ec_machine_code.specs.Layout.{first_of, op_size, op_words, place}
 use Rattle.ec_generate.proofs.operation.put_code.Goals as goal
 
-pub at-op-requires : goal.at-op-requires
-at-op-requires g c = c.requires.ordered.within c.at-q.result.now (in_order c.args.site.now.order.now c.loop-spot.spot c.at-q.result.now c.at-q.ensures)
+pub at-requires : goal.at-requires
+at-requires g c = c.requires.ordered.within c.at-q.result.now (in_order c.args.site.now.order.now c.loop-spot.spot c.at-q.result.now c.at-q.ensures)
 
 pub put_op-requires-clause-in_code : goal.put_op-requires-clause-in_code
 put_op-requires-clause-in_code g c =
     c.requires.ordered.within c.at-q.result.now (in_order c.args.site.now.order.now c.loop-spot.spot c.at-q.result.now c.at-q.ensures)
 
 pub put_op-requires-clause-there : goal.put_op-requires-clause-there
-put_op-requires-clause-there g c = op_there c.args.site.now.code.now c.at-q.result.now c.at-op.result.now c.at-op.ensures
+put_op-requires-clause-there g c = op_there c.args.site.now.code.now c.at-q.result.now c.at.result.now c.at.ensures
 
 pub put_op-requires-clause-ends : goal.put_op-requires-clause-ends
 put_op-requires-clause-ends g c =
@@ -27,8 +27,8 @@ put_op-requires-clause-ends g c =
     let ops = ops_there c.args.site.now in
     let order = c.args.site.now.order.now in
     let q = c.at-q.result.now in
-    let o = laid_op c.args.site.now.code.now q c.at-op.result.now.op in
-    let there = op_there c.args.site.now.code.now q c.at-op.result.now c.at-op.ensures in
+    let o = laid_op c.args.site.now.code.now q c.at.result.now.op in
+    let there = op_there c.args.site.now.code.now q c.at.result.now c.at.ensures in
     let here = size_here V home ops order c.args.start c.loop-spot.spot q o c.at-q.ensures there in
     let next = ap (λ n. op_size V home (first_of n (drop (c.loop-spot.spot + 1) order)) q o) (ops_long c.args.site.now.code.now) in
     let same = ap (λ n. op_size V home n q o) c.next_at-next.ensures in
@@ -36,7 +36,10 @@ put_op-requires-clause-ends g c =
 
 pub loop-spot-init : goal.loop-spot-init
 loop-spot-init g c = record {
-  rest = refl;
+  rest = ap
+      (λ n. c.args.words.now ++ rest_words (pick g.K.Kind.vocabularies c.args.span) (home_there c.args.site.now)
+      (ops_there c.args.site.now) c.args.site.now.order.now c.args.start n 0)
+      c.requires.here;
   size = omega (arith, c.requires.here);
   begins = omega (arith, c.requires.here);
 }
@@ -48,8 +51,8 @@ loop-spot-preserved g c =
     let ops = ops_there c.args.site.now in
     let order = c.args.site.now.order.now in
     let q = c.at-q.result.now in
-    let o = laid_op c.args.site.now.code.now q c.at-op.result.now.op in
-    let there = op_there c.args.site.now.code.now q c.at-op.result.now c.at-op.ensures in
+    let o = laid_op c.args.site.now.code.now q c.at.result.now.op in
+    let there = op_there c.args.site.now.code.now q c.at.result.now c.at.ensures in
     let sized = picked_sized g.K.Kind.vocabularies g.met.K.Kind.sized c.args.span in
     let old = c.loop-spot.words in
     let new = c.put_op.new.words in
