@@ -140,7 +140,8 @@ module _ (V : Vocabulary) (home : Variable → Home) (ops : List Op) where
         (λ (ne : q ≢ length ops).
         let lt : q < length ops = not_equal q (length ops) h ne in
         get_set_other (filled table 0 order) (length ops) q (size_of V home ops order) ne
-        ∙ filled_is table 0 order q ordered.different (ordered.all q lt) (omega (arith, long, lt)))
+        ∙ filled_is table 0 order q ordered.different (ordered.all q lt) (omega (arith, long, lt))
+        ∙ ap Some (let none : 0 + before V home ops order q ≡ before V home ops order q = omega arith in none))
         (same_or_not q (length ops))
       where
         not_equal : (a b : ℕ) → a ≤ b → a ≢ b → a < b
