@@ -36,6 +36,15 @@ code_by start V home code order = record {
   stops = map (λ q. pc_of (place V home (ops_of code) order start q)) (stop_places code);
 }
 
+-- a site has the order of its operation
+pub is_ordered :
+    (orders : List (List ℕ)) (n : ℕ) (o : Operation) (site : Site) (order : List ℕ) → slice_get orders n ≡ Some order →
+    site.order.now ≡ order → site.code.now ≡ o.code → IsOrder (length o.code) (row_or_empty (slice_get orders n)) →
+    IsOrder (length site.code.now) site.order.now
+is_ordered orders n o site order has same code h =
+    subst (λ (k : List Line). IsOrder (length k) site.order.now) (sym code)
+    (subst (IsOrder (length o.code)) (ap row_or_empty has ∙ sym same) h)
+
 -- an operation, with the site and the words that it gets
 pub record IsPlaced (vs : Vocabularies) (homes : List (List Home)) (orders : List (List ℕ)) (n : ℕ) (o : Operation) (site : Site)
     (span : Span) : Type 0 where
@@ -57,10 +66,6 @@ module _ (vs : Vocabularies) (homes : List (List Home)) (orders : List (List ℕ
 
   pub same_order : site.order.now ≡ order_of vs homes orders n
   same_order = is.order_is ∙ sym (ap row_or_empty is.has_order)
-
-  pub ordered : IsOrder (length o.code) (order_of vs homes orders n) → IsOrder (length site.code.now) site.order.now
-  ordered h =
-      subst (λ k. IsOrder (length k) site.order.now) (sym is.code) (subst (IsOrder (length o.code)) (sym same_order) h)
 
   pub same_words : pick vs span ≡ vocabulary_of vs homes orders n o
   same_words =

@@ -1,17 +1,14 @@
 -- What the loop over a program's operations keeps.
-use Rattle.std.proofs.Common.{◌≡◌, ℕ, suc, ◌+◌, List, [], ◌∷◌, ◌++◌, length, length-append, append_assoc, drop, Some, refl, sym}
+use Rattle.std.proofs.Common.{◌≡◌, ℕ, suc, ◌+◌, List, [], ◌∷◌, ◌++◌, length, length-append, append_assoc, drop, Some, sym}
 use Rattle.std.proofs.Common.{ap, ◌∙◌, arith}
 use Rattle.std.specs.Prelude.{slice_get}
 use Rattle.ec_base.proofs.Lists.{drop_at}
-use Rattle.ec_code.specs.declared.code.Op.{Op}
 use Rattle.ec_code.specs.declared.code.Operation.{Operation}
-use Rattle.ec_code.specs.declared.code.Variable.{Variable}
 use Rattle.ec_machine_code.specs.declared.code.OperationCode.{OperationCode}
 use Rattle.ec_generate.specs.Puts.{IsSized}
 use Rattle.ec_machine_code.specs.declared.homes.Home.{Home}
 use Rattle.ec_machine_code.specs.Layout.{Vocabularies, home_of, operation_codes, operation_words, ops_of, order_of, program_words}
 use Rattle.ec_machine_code.specs.Layout.{size_of_all, stop_addresses, vocabulary_of, words_in}
-use Rattle.ec_machine_code.specs.Speaks.{Vocabulary}
 use Rattle.ec_machine_code.proofs.LaidOutSizes.{from_long}
 
 module _ (vs : Vocabularies) (homes : List (List Home)) (orders : List (List ℕ)) where
@@ -30,7 +27,7 @@ module _ (vs : Vocabularies) (homes : List (List Home)) (orders : List (List ℕ
   abbrev pub rest_size : List Operation → ℕ → ℕ
   rest_size os n = size_of_all vs homes orders n (drop n os)
 
-module _ (vs : Vocabularies) (homes : List (List Home)) (orders : List (List ℕ)) 
+module _ (vs : Vocabularies) (homes : List (List Home)) (orders : List (List ℕ))
     (sized : (n : ℕ) (o : Operation) → IsSized (vocabulary_of vs homes orders n o)) where
   module _ (os : List Operation) (n : ℕ) (o : Operation) (there : slice_get os n ≡ Some o) (old new : List ℕ)
       (is : new ≡ old ++ words_at vs homes orders n o (length old)) where

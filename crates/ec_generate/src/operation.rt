@@ -160,16 +160,7 @@ fn put_ending<K: Kind>(
     match ending {
         None => put_on(kind, span, site, places, start, next, q + 1, words),
         Some(Ending::Branch { question, over }) => put_branch(
-            kind,
-            span,
-            site,
-            places,
-            start,
-            next,
-            q,
-            question,
-            over,
-            words,
+            kind, span, site, places, start, next, q, question, over, words,
         ),
         Some(Ending::Jump { over }) => {
             let to = q + over as usize + 1;
@@ -237,17 +228,7 @@ fn put_op<K: Kind>(
 {
     put_steps(kind, span, site, q, op, words)?;
     let ending = site.ending_at(q, op);
-    put_ending(
-        kind,
-        span,
-        site,
-        places,
-        start,
-        next,
-        q,
-        ending,
-        words,
-    )
+    put_ending(kind, span, site, places, start, next, q, ending, words)
 }
 
 /// Writes the words of an operation's code, which begins at word `start`. The error is want of memory.

@@ -148,5 +148,7 @@ pub(crate) fn order_of(alloc: Global, code: &Seq<Line>) -> Result<Seq<usize>, Al
     let at = spots_of(alloc, code)?;
     let mut spots = listed(alloc, &at, code.len())?;
     spots.sort()?;
-    steps_of(alloc, &Seq::from_vec(spots))
+    let sorted = Seq::from_vec(spots);
+    let order = steps_of(alloc, &sorted)?;
+    Ok(order)
 }

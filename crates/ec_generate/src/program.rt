@@ -53,7 +53,8 @@ fn site_of<'a>(
 
 /// The order of the steps of each operation. The error is want of memory.
 fn orders_of(alloc: Global, parts: &Parts) -> Result<Seq<Seq<usize>>, AllocError>
-    ensures { IfOk result (λ orders. HasOrders orders parts.now) }
+    ensures ordered { IfOk result (λ orders. HasOrders orders parts.now) }
+    ensures many { IfOk result (λ orders. length orders ≡ length parts.now.operations) }
 {
     let mut orders = Seq::new(alloc);
     let count = parts.operations.len();
@@ -75,6 +76,7 @@ fn lay_out<K: Kind>(
     requires limits { HasLimits parts.now }
     requires tables { AreTablesOf K.homes slots parts.now table.now.operations }
     requires ordered { HasOrders orders.now parts.now }
+    requires many { length orders.now ≡ length parts.now.operations }
     ensures code { IfOk result (λ code.
         code ≡ code_of K.vocabularies (all_homes table.now.operations) orders.now parts.now.operations) }
     ensures room { IfOk result
@@ -87,12 +89,7 @@ fn lay_out<K: Kind>(
     for n in 0..parts.operations.len() {
         let operation = parts.operations.at(n);
         let led = led_to(alloc, &operation.code)?;
-        let site = site_of(
-            operation,
-            &led,
-            &table.operations.at(n).homes,
-            orders.at(n),
-        );
+        let site = site_of(operation, &led, &table.operations.at(n).homes, orders.at(n));
         let span = span_of(kind, &site);
         operations.push(put_operation(alloc, kind, span, &site, &mut words)?)?;
     }

@@ -19,11 +19,7 @@ fn on_size<K: Kind>(kind: &K, span: Span, next: usize, to: usize) -> u32
     ensures is { result ≡ layout.on_size (pick K.vocabularies span) next to }
     ensures few { result ≤ most_jump_words }
 {
-    if next == to {
-        0
-    } else {
-        kind.jump_size(span)
-    }
+    if next == to { 0 } else { kind.jump_size(span) }
 }
 
 /// How many words a question of step q has, whose target is so many steps past the next one.
@@ -47,21 +43,14 @@ fn branch_size<K: Kind>(
 }
 
 /// How many words the way of going on behind step q has, where another one stands next.
-fn ending_size<K: Kind>(
-    kind: &K,
-    span: Span,
-    next: usize,
-    q: usize,
-    ending: Option<Ending>,
-) -> u32
+fn ending_size<K: Kind>(kind: &K, span: Span, next: usize, q: usize, ending: Option<Ending>) -> u32
     requires { q < 2 ^ 32 }
     ensures is { result ≡ layout.ending_size (pick K.vocabularies span) next q ending }
     ensures few { result ≤ most_words + most_jump_words }
 {
     match ending {
         None => on_size(kind, span, next, q + 1),
-        Some(Ending::Branch { question, over }) =>
-            branch_size(kind, span, next, q, question, over),
+        Some(Ending::Branch { question, over }) => branch_size(kind, span, next, q, question, over),
         Some(Ending::Jump { over }) => on_size(kind, span, next, q + over as usize + 1),
         Some(Ending::Again { back }) => on_size(kind, span, next, q.saturating_sub(back as usize)),
         Some(Ending::Stop) => 1 + on_size(kind, span, next, q + 1),
@@ -69,14 +58,7 @@ fn ending_size<K: Kind>(
 }
 
 /// How many words the step of three-address code at place q has, where another one stands next.
-fn op_size<K: Kind>(
-    kind: &K,
-    span: Span,
-    site: &Site<'_>,
-    next: usize,
-    q: usize,
-    op: &Op,
-) -> u32
+fn op_size<K: Kind>(kind: &K, span: Span, site: &Site<'_>, next: usize, q: usize, op: &Op) -> u32
     requires led { IsLed site.now }
     requires there { q < length site.now.code.now }
     requires few { length site.now.code.now ≤ most_steps }

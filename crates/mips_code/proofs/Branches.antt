@@ -1,5 +1,5 @@
 -- The words of a question are those up to the slot of its branch, and those behind them.
-use Rattle.std.proofs.Common.{◌≡◌, ℕ, ◌+◌, ◌-◌, ◌^◌, List, [], ◌∷◌, ◌++◌, refl, sym, ap, ◌∙◌}
+use Rattle.std.proofs.Common.{◌≡◌, ℕ, ◌+◌, ◌^◌, List, [], ◌∷◌, ◌++◌, refl, sym, ap, ◌∙◌}
 use mathlib.Core.List.{append_assoc}
 use Rattle.std.specs.Prelude.{not}
 use Rattle.ec_machine_code.specs.declared.step.Question.{Question}

@@ -1,4 +1,4 @@
-use Rattle.std.proofs.Common.{◌≡◌, ◌+◌, ◌++◌, ◌∷◌, ◌∙◌, [], ap, sym, append_assoc, arith, drop, map}
+use Rattle.std.proofs.Common.{◌+◌, ◌++◌, ◌∷◌, ◌∙◌, [], ap, sym, append_assoc, drop, map}
 use Rattle.ec_base.proofs.Lists.{drop_at}
 use Rattle.ec_generate.specs.declared.order.Spot.{Spot}
 use Rattle.ec_generate.proofs.order.steps_of.Goals as goal

@@ -21,7 +21,7 @@ returns-clause-faithful g c =
     let orders = c.in_ok-orders.orders in
     let can =
     can_be_laid_out g.M.Target.meaning vs homes orders c.requires.fine.0 p g.K.Kind.homes c.requires.near c.requires.middle c.requires.far
-    c.requires.homes c.requires.fine.1 c.requires.numbers c.in_ok-code.ensures.fit c.in_ok-orders.ensures c.in_ok-code.ensures.room in
+    c.requires.homes c.requires.fine.1 c.requires.numbers c.in_ok-code.ensures.fit c.in_ok-orders.ensures.ordered c.in_ok-code.ensures.room in
     subst (λ code. FaithfulOnce g.M.Target.meaning p code homes) (sym c.in_ok-code.ensures.code)
     (faithful g.M.Target.meaning vs homes orders c.requires.fine.0 p can)
 
@@ -33,7 +33,7 @@ returns-clause-met g c = λ d fine rests few.
     let orders = c.in_ok-orders.orders in
     let can =
     can_be_laid_out g.M.Target.meaning vs homes orders d p g.K.Kind.homes c.requires.near c.requires.middle c.requires.far c.requires.homes fine
-    c.requires.numbers c.in_ok-code.ensures.fit c.in_ok-orders.ensures c.in_ok-code.ensures.room in
+    c.requires.numbers c.in_ok-code.ensures.fit c.in_ok-orders.ensures.ordered c.in_ok-code.ensures.room in
     subst (λ code. EachFits g.M.Target.meaning p code homes) (sym c.in_ok-code.ensures.code)
     (each_fit g.M.Target.meaning vs homes orders d p can rests few)
 

@@ -3,7 +3,7 @@ use Rattle.ec_code.specs.declared.code.Operation.{Operation}
 use Rattle.ec_generate.proofs.Fit.{row_at, tables_fit}
 use Rattle.ec_machine_code.proofs.Direct.{ops_long}
 use Rattle.ec_generate.proofs.Makeable.{makeable}
-use Rattle.ec_generate.proofs.Placed.{IsPlaced, code_is, near, same_home, same_size, words_are}
+use Rattle.ec_generate.proofs.Placed.{IsPlaced, code_is, is_ordered, near, same_home, same_size, words_are}
 use Rattle.ec_generate.proofs.Programs.{codes_more, longer, size_more, words_at, words_more}
 use Rattle.ec_generate.proofs.Room.{chosen_sized, fits_room, is_at_most}
 use Rattle.ec_generate.proofs.program.lay_out.Goals as goal
@@ -20,6 +20,23 @@ at-requires g c =
     let same = all-length (IsTableOf g.K.Kind.homes slots) c.args.parts.now.operations c.args.table.now.operations c.requires.tables in
     let there = get_within c.args.parts.now.operations c.loop-n.n c.at-operation.result.now c.at-operation.ensures in
     omega (arith, same, there)
+
+pub at-requires-in-loop-n : goal.at-requires-in-loop-n
+at-requires-in-loop-n g c =
+    let there = get_within c.args.parts.now.operations c.loop-n.n c.at-operation.result.now c.at-operation.ensures in
+    omega (arith, there, c.requires.many)
+
+pub span_of-span-requires-clause-ordered : goal.span_of-span-requires-clause-ordered
+span_of-span-requires-clause-ordered g c =
+    is_ordered c.args.orders.now c.loop-n.n c.at-operation.result.now c.site_of-site.result c.at-in-loop-n.result.now
+    c.at-in-loop-n.ensures c.site_of-site.ensures.order c.site_of-site.ensures.code
+    (c.requires.ordered c.loop-n.n c.at-operation.result.now c.at-operation.ensures)
+
+pub put_operation-requires-clause-ordered : goal.put_operation-requires-clause-ordered
+put_operation-requires-clause-ordered g c =
+    is_ordered c.args.orders.now c.loop-n.n c.at-operation.result.now c.site_of-site.result c.at-in-loop-n.result.now
+    c.at-in-loop-n.ensures c.site_of-site.ensures.order c.site_of-site.ensures.code
+    (c.requires.ordered c.loop-n.n c.at-operation.result.now c.at-operation.ensures)
 
 pub span_of-span-requires-clause-few : goal.span_of-span-requires-clause-few
 span_of-span-requires-clause-few g c =
@@ -40,8 +57,8 @@ put_operation-requires-clause-makeable g c =
       homes_are = c.site_of-site.ensures.homes;
       named = c.site_of-site.ensures.named;
       code = c.site_of-site.ensures.code;
-      order = c.at-2.result.now;
-      has_order = c.at-2.ensures;
+      order = c.at-in-loop-n.result.now;
+      has_order = c.at-in-loop-n.ensures;
       order_is = c.site_of-site.ensures.order;
       span_is = c.span_of-span.ensures;
     } in
@@ -66,8 +83,8 @@ put_operation-requires-clause-near g c =
       homes_are = c.site_of-site.ensures.homes;
       named = c.site_of-site.ensures.named;
       code = c.site_of-site.ensures.code;
-      order = c.at-2.result.now;
-      has_order = c.at-2.ensures;
+      order = c.at-in-loop-n.result.now;
+      has_order = c.at-in-loop-n.ensures;
       order_is = c.site_of-site.ensures.order;
       span_is = c.span_of-span.ensures;
     } in
@@ -93,8 +110,8 @@ put_operation-requires-clause-room g c =
       homes_are = c.site_of-site.ensures.homes;
       named = c.site_of-site.ensures.named;
       code = c.site_of-site.ensures.code;
-      order = c.at-2.result.now;
-      has_order = c.at-2.ensures;
+      order = c.at-in-loop-n.result.now;
+      has_order = c.at-in-loop-n.ensures;
       order_is = c.site_of-site.ensures.order;
       span_is = c.span_of-span.ensures;
     } in
@@ -126,8 +143,8 @@ loop-n-preserved g c =
       homes_are = c.site_of-site.ensures.homes;
       named = c.site_of-site.ensures.named;
       code = c.site_of-site.ensures.code;
-      order = c.at-2.result.now;
-      has_order = c.at-2.ensures;
+      order = c.at-in-loop-n.result.now;
+      has_order = c.at-in-loop-n.ensures;
       order_is = c.site_of-site.ensures.order;
       span_is = c.span_of-span.ensures;
     } in

@@ -1,4 +1,4 @@
-use Rattle.std.proofs.Common.{◌∷◌, ◌+◌, ◌∙◌, [], ap, arith, length, length-append}
+use Rattle.std.proofs.Common.{◌∷◌, [], ap, arith, length, length-append}
 use Rattle.ec_base.proofs.Lists.{get_within}
 use Rattle.ec_generate.proofs.Orders.{more_orders}
 use Rattle.ec_generate.proofs.program.orders_of.Goals as goal
@@ -18,5 +18,8 @@ loop-n-preserved c = record {
       c.in_ok-push.ensures.ok c.loop-n.invariant.long c.at.ensures c.in_ok-order_of.ensures c.loop-n.invariant.each;
 }
 
-pub returns : goal.returns
-returns c = λ n o e. c.loop-n.invariant.each n o (let lt = get_within c.args.parts.now.operations n o e in omega (arith, lt)) e
+pub returns-clause-ordered : goal.returns-clause-ordered
+returns-clause-ordered c = λ n o e. c.loop-n.invariant.each n o (let lt = get_within c.args.parts.now.operations n o e in omega (arith, lt)) e
+
+pub returns-clause-many : goal.returns-clause-many
+returns-clause-many c = omega (arith, c.loop-n.invariant.long)

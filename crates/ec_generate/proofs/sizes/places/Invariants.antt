@@ -1,4 +1,4 @@
-use Rattle.std.proofs.Common.{◌≡◌, ◌≤◌, ◌+◌, ◌*◌, suc, length, drop, replicate}
+use Rattle.std.proofs.Common.{◌≡◌, ◌≤◌, ◌+◌, ◌*◌, length, drop, replicate}
 use Rattle.ec_generate.specs.Puts.{most_words, pick}
 use Rattle.ec_generate.specs.Sites.{home_there, ops_there, size_there}
 use Rattle.ec_generate.proofs.Loops.{filled, rest_size}
