@@ -24,8 +24,9 @@ use Rattle.ec_machine_code.specs.Stops.{IsStopAt, home_in, stop_of, stop_places,
 use Rattle.ec_machine_code.specs.Homes.{IsWithin}
 use Rattle.ec_machine_code.specs.declared.homes.Home.{Home}
 use Rattle.ec_machine_code.specs.declared.homes.Home.TheVariants.{Register, Slot}
-use Rattle.ec_machine_code.proofs.Direct.{none_behind}
-use Rattle.ec_machine_code.specs.Direct.{direct_before, direct_of}
+use Rattle.ec_code.specs.declared.code.Op.TheVariants.{Rest}
+use Rattle.ec_machine_code.proofs.Direct.{never_joined, none_behind}
+use Rattle.ec_machine_code.specs.Direct.{joined_before, joined_of}
 use Rattle.ec_machine_code.specs.Fitting.{CanBeLaidOut, LaidOutIsFaithful}
 use Rattle.ec_machine_code.specs.Layout.{Vocabularies, home_of, home_or, op_size, ops_of, vocabulary_of}
 use Rattle.ec_machine_code.specs.Micro.{Sight}
@@ -170,10 +171,12 @@ module _ {S : Type 0} (M : MachineMeaning S) (vs : Vocabularies) (homes : List (
         (sym stop.is_address ∙ address_is M vs homes d p can a.operation stop.number a.at o is here.number) in
         omega (arith, behind, from, next, one)
 
-    -- a stop does no copy of the step behind it
-    none_done : direct_before o.code (suc a.at) ≡ None
+    -- a stop isn't laid out with the step behind it
+    none_done : joined_before o.code (suc a.at) ≡ None
     none_done =
-        none_behind o.code a.at here.line here.is_line (ap (direct_of o.code a.at) (rest_is here.line.op here.row here.is_stop))
+        none_behind o.code a.at here.line here.is_line
+        (ap (joined_of o.code a.at) (rest_is here.line.op here.row here.is_stop)
+        ∙ never_joined o.code a.at (Rest here.row) (λ next. refl))
 
     module _ (e : Common) (r : Arrived)
         (walks : walk p.literals a.own (suc a.at) (drop (suc a.at) o.code) 0 m ≡ (e, Some r)) where
@@ -182,7 +185,7 @@ module _ {S : Type 0} (M : MachineMeaning S) (vs : Vocabularies) (homes : List (
           let first : suc a.at ≡ suc a.at + 0 = omega arith in
           subst (λ to. GetsTo M V g z s seen (word_of M V g z (suc a.at + 0)) to) walks
           (gets M V g z (drop (suc a.at) o.code) (suc a.at) 0 m refl s seen
-          (ap (direct_before o.code) (sym first) ∙ none_done) sees
+          (ap (joined_before o.code) (sym first) ∙ none_done) sees
           (begins ∙ ap (λ k. pc_of (at_place M vs homes d p can a.operation o k)) first)
           (subst (λ k. Standing M g home (length o.variables) (live_at o.code k) seen m) first stands))
 
