@@ -14,7 +14,7 @@ use Rattle.ec_machine_code.specs.declared.joined.Joined.{Joined}
 use Rattle.ec_machine_code.specs.declared.joined.Joined.TheVariants.{Asks, Into}
 use Rattle.ec_machine_code.proofs.Direct.{is_joined, left_ending, none_made, nothing_moved, same_ending}
 use Rattle.ec_machine_code.specs.Direct.{asking, further, if_so, into_named, is_unled, joined_before, joined_if, joined_line, joined_of}
-use Rattle.ec_machine_code.specs.Direct.{joined_with, laid_by, laid_op, led_far, led_on, led_to, left_out, marked, marked_one, passed_if}
+use Rattle.ec_machine_code.specs.Direct.{joined_with, laid_by, laid_op, led_far, led_on, led_to, left_out, marked, marked_one, most_led, passed_if}
 use Rattle.ec_machine_code.specs.Lowering.{ending_of, steps_of}
 
 pub none_past : (code : List Line) (p : ℕ) → length code ≤ p → slice_get code p ≡ None
@@ -32,6 +32,10 @@ pub next_live : (code : List Line) (p : ℕ) → live_at code (suc (p + 0)) ≡ 
 next_live code p = let e : p + 0 ≡ p = omega arith in ap (λ k. live_at code (suc k)) e
 
 -- ---- where code leads on
+
+pub most_is : most_led ≡ 16
+unfolding most_led
+most_is = refl
 
 module _ (code : List Line) (known : Option Variable) (value : Bool) (q : ℕ) where
   -- how many steps the one passes over that stands past so many
@@ -52,6 +56,9 @@ module _ (code : List Line) (known : Option Variable) (value : Bool) (q : ℕ) w
       by : (t : Bool) → nat_lt a b ≡ t → nat_lt a b ≡ false
       by true e = let l = ltb-true a b e in absurd (omega (arith, h, l))
       by false e = e
+
+  pub led_zero : (most over : ℕ) → most ≡ 0 → led_on most code known value q over ≡ over
+  led_zero most over e = ap (λ n. led_on n code known value q over) e
 
   pub led_ends : (most over : ℕ) → passed_if known value (slice_get code (suc (q + over))) ≡ None →
       led_on most code known value q over ≡ over
@@ -96,6 +103,9 @@ module _ (code : List Line) (q : ℕ) (o : Op) where
   none_next e =
       by_next ∙ ap (λ n. if_so (is_unled (slice_get (led_to code) (q + 1))) (joined_if code (q + 1) o n)) e
       ∙ nothing (is_unled (slice_get (led_to code) (q + 1)))
+
+  pub past_end : length code ≤ q + 1 → joined_of code q o ≡ None
+  past_end h = none_next (none_past code (q + 1) h)
 
   pub joined_next :
       (line : Line) → is_unled (slice_get (led_to code) (q + 1)) ≡ true → slice_get code (q + 1) ≡ Some line →

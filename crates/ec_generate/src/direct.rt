@@ -15,7 +15,12 @@ use ec_machine_code::joined::Joined;
 use std::alloc::{AllocError, Global};
 
 /// So many jumps and known questions are passed at most.
-const MOST_LED: u32 = 16;
+#[tactic(auto, using(crate::proofs::Led::most_is))]
+fn most_led() -> u32
+    ensures { result ≡ spec.most_led }
+{
+    16
+}
 
 /// Whether a truth value comes out as wanted.
 pub(crate) fn comes_out(wanted: bool, value: bool) -> bool
@@ -111,7 +116,7 @@ fn further(over: u32, more: u32) -> Option<u32>
 }
 
 /// How many steps are passed over on a way that leads past so many, past so many jumps and known questions at most.
-#[tactic(auto, using(crate::proofs::Led::led_ends, crate::proofs::Led::led_further, crate::proofs::Led::led_no_further))]
+#[tactic(auto, using(crate::proofs::Led::led_zero, crate::proofs::Led::led_ends, crate::proofs::Led::led_further, crate::proofs::Led::led_no_further))]
 fn led_on(
     code: &Seq<Line>,
     known: Option<Variable>,
@@ -138,14 +143,14 @@ fn led_on(
 pub(crate) fn far_branch(code: &Seq<Line>, place: usize, test: Test, wanted: bool, over: u32) -> u32
     ensures { result ≡ spec.far_over code.now (spec.asked_for test) wanted place over }
 {
-    led_on(code, asked_for(test), wanted, place, over, MOST_LED)
+    led_on(code, asked_for(test), wanted, place, over, most_led())
 }
 
 /// How many steps are passed over in the end where the step at a place leads past so many.
 pub(crate) fn far_jump(code: &Seq<Line>, place: usize, over: u32) -> u32
     ensures { result ≡ spec.far_over code.now None true place over }
 {
-    led_on(code, None, true, place, over, MOST_LED)
+    led_on(code, None, true, place, over, most_led())
 }
 
 /// The place so many steps past the next one. One beyond 64 bits is no place.
@@ -365,20 +370,18 @@ fn joined_with(code: &Seq<Line>, place: usize, op: &Op, next: &Op) -> Option<Joi
 
 impl<'a> Site<'a> {
     /// How the step at a place is laid out with the next one, where it is.
-    #[tactic(auto, using(crate::proofs::Led::is_led_to, crate::proofs::Led::joined_next, crate::proofs::Led::none_next))]
+    #[tactic(auto, using(crate::proofs::Led::is_led_to, crate::proofs::Led::joined_next, crate::proofs::Led::past_end))]
     pub(crate) fn joined_of(&self, place: usize, op: &Op) -> Option<Joined>
         requires led { IsLed self.now }
         requires there { place < length self.now.code.now }
         ensures { result ≡ spec.joined_of self.now.code.now place op.now }
     {
+        let count = self.code.len();
         let next = place + 1;
-        if !is_unled(self.led, next) {
+        if next >= count || !is_unled(self.led, next) {
             return None;
         }
-        match self.code.get(next) {
-            Some(line) => joined_with(self.code, next, op, &line.op),
-            None => None,
-        }
+        joined_with(self.code, next, op, &self.code.at(next).op)
     }
 
     /// That of the step before a place with the one there.

@@ -68,7 +68,7 @@ led_on zero code known value q over = over
 led_on (suc n) code known value q over =
     further (led_on n code known value q) over (passed_if known value (slice_get code (suc (q + over))))
 
-abbrev pub most_led : ℕ
+unfoldable pub most_led : ℕ
 most_led = 16
 
 -- How many steps are passed over in the end on a way that leads from a place past so many.
