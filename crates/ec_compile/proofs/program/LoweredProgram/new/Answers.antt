@@ -13,5 +13,5 @@ invariant_of-result c = record {
   source = source_of c.args.program.now;
   program = c.requires.accepted.program;
   accepted = text_is_accepted (source_of c.args.program.now) c.requires.accepted;
-  lowered = subst (IsLowered (source_of c.args.program.now)) (sym c.new.ensures) c.in_ok-parts.ensures;
+  lowered = subst (IsLowered (source_of c.args.program.now)) (sym c.new.ensures.parts) c.in_ok-parts.ensures;
 }
