@@ -181,3 +181,10 @@ first_kept s s' of key block IsKept keeps first = record {
   there = keeps.rows key ∙ first.there;
   first = first.first;
 }
+
+pub first_written : (s s' : Store) (of key : Key) (block i w : ℕ) → WritesWord s s' of i w → FirstBlock s key block → FirstBlock s' key block
+first_written s s' of key block i w writes first = record {
+  row = first.row;
+  there = writes.rows key ∙ first.there;
+  first = first.first;
+}

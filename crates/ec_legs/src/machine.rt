@@ -6,7 +6,7 @@ ghost use Rattle.ec_legs.specs.Machines.{RestsWhere, Saves};
 ghost use Rattle.ec_legs.specs.Words.{IsFrame};
 ghost use Rattle.ec_world.specs.declared.key.Key.TheVariants.{Frame, Object as OfObject};
 ghost use Rattle.ec_generate.specs.Addresses.{address_in};
-ghost use Rattle.ec_stores.specs.Changes.{HasBlock};
+ghost use Rattle.ec_stores.specs.Changes.{FirstBlock, HasBlock};
 ghost use Rattle.ec_stores.specs.Node.{KeepsBytes, store_of};
 
 use crate::kind::NativeKind;
@@ -49,45 +49,48 @@ pub(crate) fn go_behind_stop<M: Machine, N: NativeKind<M>>(
     requires object { NamesObject (store_of node.now) process depth }
     ensures { IsBehindStop N.meaning table.now.addresses (store_of node.now) process depth machine.new }
 {
-    let operation = node.frame_word(process, depth, OPERATION);
-    let stop = node.frame_word(process, depth, STOP);
-    let own = node.frame_word(process, depth, OWN_OBJECT);
+    let block = node.block_of_frame(process, depth);
+    let operation = node.word_in(block, OPERATION);
+    let stop = node.word_in(block, STOP);
+    let own = node.word_in(block, OWN_OBJECT);
     let address = table.pc_of(StopId { operation, stop });
-    set_up::<M, N>(machine, node, process, depth, own, address + 4);
+    set_up::<M, N>(machine, node, process, depth, block, own, address + 4);
 }
 
-/// Puts a machine at rest at a place, for an activation.
+/// Puts a machine at rest at a place, for an activation, whose frame is this block.
 fn set_up<M: Machine, N: NativeKind<M>>(
     machine: &mut M,
     node: &NodeStore,
     process: Pid,
     depth: u32,
+    block: u32,
     own: Oid,
     place: u32,
 )
-    requires frame { IsFrame (store_of node.now) process depth }
+    requires frame { FirstBlock (store_of node.now) (Frame process depth) block }
+    requires few { block < 65536 }
     requires object { HasBlock (store_of node.now) (OfObject own) }
     ensures { IsSetUp N.meaning (store_of node.now) process depth own place machine.new }
 {
-    let frame_at = block_address(node.block_of_frame(process, depth));
+    let frame_at = block_address(block);
     let own_at = block_address(node.first_block(own));
     machine.set_reg(M::FRAME, frame_at);
     machine.set_reg(M::OWN, own_at);
-    restore::<M, N>(machine, node, process, depth);
+    restore::<M, N>(machine, node, process, depth, block);
     machine.set_pc(place);
 }
 
-/// The homes get the words that a frame has saved.
+/// The homes get the words that a frame, this block, has saved.
 fn restore<M: Machine, N: NativeKind<M>>(
     machine: &mut M,
     node: &NodeStore,
     process: Pid,
     depth: u32,
+    block: u32,
 )
-    requires { IsFrame (store_of node.now) process depth }
+    requires { FirstBlock (store_of node.now) (Frame process depth) block }
     ensures { Restores N.meaning (store_of node.now) process depth N.HOMES machine.old machine.new }
 {
-    let block = node.block_of_frame(process, depth);
     for k in 0..N::HOMES {
         let word = node.word_in(block, FIRST_SAVED + k);
         machine.set_reg(N::FIRST_HOME + k, word);
@@ -111,18 +114,25 @@ pub(crate) fn rest_at<M: Machine, N: NativeKind<M>>(
     let Some(id) = table.at_pc(machine.pc()) else {
         unreachable!()
     };
-    save::<M, N>(node, machine, process, depth);
-    node.set_frame_word(process, depth, STOP, id.stop);
-    node.set_frame_word(process, depth, PENDING, 1);
+    let block = node.block_of_frame(process, depth);
+    save::<M, N>(node, machine, process, depth, block);
+    node.set_word_in(block, STOP, id.stop);
+    node.set_word_in(block, PENDING, 1);
 }
 
-/// The homes are saved in a frame.
-fn save<M: Machine, N: NativeKind<M>>(node: &mut NodeStore, machine: &M, process: Pid, depth: u32)
-    requires { IsFrame (store_of node.old) process depth }
+/// The homes are saved in a frame, which is this block.
+fn save<M: Machine, N: NativeKind<M>>(
+    node: &mut NodeStore,
+    machine: &M,
+    process: Pid,
+    depth: u32,
+    block: u32,
+)
+    requires frame { IsFrame (store_of node.old) process depth }
+    requires first { FirstBlock (store_of node.old) (Frame process depth) block }
     ensures saves { Saves N.meaning (store_of node.old) (store_of node.new) process depth N.HOMES machine.now }
     ensures bytes { KeepsBytes node.old node.new (Frame process depth) (IsUnsaved N.HOMES) }
 {
-    let block = node.block_of_frame(process, depth);
     for k in 0..N::HOMES {
         let word = machine.read_reg(N::FIRST_HOME + k);
         node.set_word_in(block, FIRST_SAVED + k, word);

@@ -1,20 +1,21 @@
 //! The machines on which native code runs.
-use mips_machine::machine::MipsMachine;
-use rv_machine::machine::RvMachine;
+use mips_machine::processor::MipsProcessor;
+use rv_machine::processor::RvProcessor;
 
-/// A machine of each kind, on which the nodes' code runs in turn: nothing that one run leaves there is read by the next.
+/// A machine of each kind, on which the nodes' code runs in turn. Each keeps what the words of its code are decoded to; of what else one
+/// run leaves there, nothing is read by the next.
 #[derive(Drop)]
 pub struct Machines {
-    pub(crate) riscv: RvMachine,
-    pub(crate) mips: MipsMachine,
+    pub(crate) riscv: RvProcessor,
+    pub(crate) mips: MipsProcessor,
 }
 
 impl Machines {
     /// A machine of each kind, with zero in each register.
     pub fn new() -> Machines {
         Machines {
-            riscv: RvMachine::new(),
-            mips: MipsMachine::new(),
+            riscv: RvProcessor::new(),
+            mips: MipsProcessor::new(),
         }
     }
 }

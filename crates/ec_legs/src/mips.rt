@@ -1,11 +1,11 @@
 //! MIPS I.
 use crate::kind::NativeKind;
-use mips_machine::machine::MipsMachine;
+use mips_machine::processor::MipsProcessor;
 
 /// MIPS I machines: $16 to $21 are homes.
 pub struct MipsKind;
 
-impl NativeKind<MipsMachine> for MipsKind {
+impl NativeKind<MipsProcessor> for MipsKind {
     ghost use Rattle.ec_legs.specs.NativeKindsKinds.{mips_means, mips_registers};
     ghost use Rattle.mips_code.specs.Meaning.{mips_meaning};
 

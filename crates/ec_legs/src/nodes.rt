@@ -10,8 +10,8 @@ use ec_cluster::cluster::Images;
 use ec_stores::node::NodeStore;
 use ec_world::node::Kind;
 use ec_world::value::Pid;
-use mips_machine::machine::MipsMachine;
-use rv_machine::machine::RvMachine;
+use mips_machine::processor::MipsProcessor;
+use rv_machine::processor::RvProcessor;
 
 /// Runs the native code of an activation that is here, by the image for the node's kind, to the next stop. Answers how many instructions
 /// come before that stop.
@@ -29,7 +29,11 @@ pub(crate) fn run_here(
     match node.kind() {
         Kind::Riscv => {
             let image = &images.riscv;
-            legs::go_on::<RvMachine, RiscvKind>(
+            let words = &image.code.words;
+            machines
+                .riscv
+                .decode_ahead(words.allocator(), words.as_slice());
+            legs::go_on::<RvProcessor, RiscvKind>(
                 &mut machines.riscv,
                 node,
                 &image.code,
@@ -40,7 +44,11 @@ pub(crate) fn run_here(
         }
         Kind::Mips => {
             let image = &images.mips;
-            legs::go_on::<MipsMachine, MipsKind>(
+            let words = &image.code.words;
+            machines
+                .mips
+                .decode_ahead(words.allocator(), words.as_slice());
+            legs::go_on::<MipsProcessor, MipsKind>(
                 &mut machines.mips,
                 node,
                 &image.code,

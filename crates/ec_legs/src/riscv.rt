@@ -1,11 +1,11 @@
 //! RISC-V.
 use crate::kind::NativeKind;
-use rv_machine::machine::RvMachine;
+use rv_machine::processor::RvProcessor;
 
 /// RISC-V machines: x18 to x27 are homes.
 pub struct RiscvKind;
 
-impl NativeKind<RvMachine> for RiscvKind {
+impl NativeKind<RvProcessor> for RiscvKind {
     ghost use Rattle.ec_legs.specs.NativeKindsKinds.{rv_means, rv_registers};
     ghost use Rattle.rv_code.specs.Meaning.{rv_meaning};
 

@@ -7,3 +7,4 @@ pub mod delays;
 mod execute;
 pub mod flow;
 pub mod machine;
+pub mod processor;

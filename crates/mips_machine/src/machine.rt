@@ -12,7 +12,7 @@ use mips_isa::field::Register;
 use mips_isa::word::decode;
 
 /// Where the code starts.
-const CODE_BASE: u32 = 0x0040_0000;
+pub(crate) const CODE_BASE: u32 = 0x0040_0000;
 
 /// A machine: the registers by number, HI and LO, and where it is.
 #[derive(Clone, Copy, Debug)]
@@ -132,7 +132,7 @@ impl Machine for MipsMachine {
 }
 
 // The word at a place of the code.
-fn fetch(code: &[u32], pc: u32) -> Option<u32>
+pub(crate) fn fetch(code: &[u32], pc: u32) -> Option<u32>
     ensures { result ≡ word_at code.now pc }
 {
     if pc < CODE_BASE || pc % 4 != 0 {

@@ -5,3 +5,4 @@ mod access;
 pub mod arithmetic;
 mod execute;
 pub mod machine;
+pub mod processor;

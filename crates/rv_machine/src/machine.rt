@@ -10,7 +10,7 @@ use rv_isa::field::Register;
 use rv_isa::word::decode;
 
 /// Where the code starts.
-const CODE_BASE: u32 = 0x0040_0000;
+pub(crate) const CODE_BASE: u32 = 0x0040_0000;
 
 /// A machine: the registers by number, and the place of the next instruction.
 #[derive(Clone, Copy, Debug)]
@@ -122,7 +122,7 @@ impl Machine for RvMachine {
 }
 
 // The word at a place of the code.
-fn fetch(code: &[u32], pc: u32) -> Option<u32>
+pub(crate) fn fetch(code: &[u32], pc: u32) -> Option<u32>
     ensures { result ≡ word_at code.now pc }
 {
     if pc < CODE_BASE || pc % 4 != 0 {

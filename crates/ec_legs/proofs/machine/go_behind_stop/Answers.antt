@@ -1,48 +1,44 @@
 use Rattle.std.proofs.Common.{ℕ, Option, refl, sym, ◌∙◌, subst, arith}
 use Rattle.std.specs.Prelude.{IsSome}
 use Rattle.std.proofs.lemmas.Option.{same_Some}
-use Rattle.ec_legs.proofs.Keeping.{owns_word}
 use Rattle.ec_legs.proofs.machine.go_behind_stop.Goals as goal
-use Rattle.ec_stores.specs.Node.{store_of}
+use Rattle.ec_world.specs.declared.key.Key.TheVariants.{Frame}
 
-pub frame_word-operation-requires : goal.frame_word-operation-requires
-frame_word-operation-requires g c =
-    owns_word (store_of c.args.node.now) c.args.process c.args.depth c.requires.frame 2 (omega arith)
+pub word_in-operation-requires-clause-owned : goal.word_in-operation-requires-clause-owned
+word_in-operation-requires-clause-owned g c = (Frame c.args.process c.args.depth, c.block_of_frame-block.ensures.first)
 
-pub frame_word-stop-requires : goal.frame_word-stop-requires
-frame_word-stop-requires g c =
-    owns_word (store_of c.args.node.now) c.args.process c.args.depth c.requires.frame 3 (omega arith)
+pub word_in-stop-requires-clause-owned : goal.word_in-stop-requires-clause-owned
+word_in-stop-requires-clause-owned g c = (Frame c.args.process c.args.depth, c.block_of_frame-block.ensures.first)
 
-pub frame_word-own-requires : goal.frame_word-own-requires
-frame_word-own-requires g c =
-    owns_word (store_of c.args.node.now) c.args.process c.args.depth c.requires.frame 5 (omega arith)
+pub word_in-own-requires-clause-owned : goal.word_in-own-requires-clause-owned
+word_in-own-requires-clause-owned g c = (Frame c.args.process c.args.depth, c.block_of_frame-block.ensures.first)
 
 pub pc_of-address-requires : goal.pc_of-address-requires
 pc_of-address-requires g c =
-    let z = c.requires.stop c.frame_word-operation.result c.frame_word-stop.result c.frame_word-operation.ensures
-    c.frame_word-stop.ensures in
+    let z = c.requires.stop c.word_in-operation.result c.word_in-stop.result (c.word_in-operation.ensures (Frame c.args.process c.args.depth) c.block_of_frame-block.ensures.first)
+    (c.word_in-stop.ensures (Frame c.args.process c.args.depth) c.block_of_frame-block.ensures.first) in
     subst (λ (o : Option ℕ). IsSome o) (sym z.1) refl
 
 pub overflow_add-address : goal.overflow_add-address
 overflow_add-address g c =
-    let z = c.requires.stop c.frame_word-operation.result c.frame_word-stop.result c.frame_word-operation.ensures
-    c.frame_word-stop.ensures in
+    let z = c.requires.stop c.word_in-operation.result c.word_in-stop.result (c.word_in-operation.ensures (Frame c.args.process c.args.depth) c.block_of_frame-block.ensures.first)
+    (c.word_in-stop.ensures (Frame c.args.process c.args.depth) c.block_of_frame-block.ensures.first) in
     let same = same_Some c.pc_of-address.result z.0 (sym c.pc_of-address.ensures ∙ z.1) in
     let small = z.2 in
     omega arith
 
 pub set_up-requires-clause-object : goal.set_up-requires-clause-object
-set_up-requires-clause-object g c = c.requires.object c.frame_word-own.result c.frame_word-own.ensures
+set_up-requires-clause-object g c = c.requires.object c.word_in-own.result (c.word_in-own.ensures (Frame c.args.process c.args.depth) c.block_of_frame-block.ensures.first)
 
 pub returns : goal.returns
 returns g c = record {
-  operation = c.frame_word-operation.result;
-  number = c.frame_word-stop.result;
-  own = c.frame_word-own.result;
+  operation = c.word_in-operation.result;
+  number = c.word_in-stop.result;
+  own = c.word_in-own.result;
   address = c.pc_of-address.result;
-  operation_is = c.frame_word-operation.ensures;
-  stop_is = c.frame_word-stop.ensures;
-  own_is = c.frame_word-own.ensures;
+  operation_is = (c.word_in-operation.ensures (Frame c.args.process c.args.depth) c.block_of_frame-block.ensures.first);
+  stop_is = (c.word_in-stop.ensures (Frame c.args.process c.args.depth) c.block_of_frame-block.ensures.first);
+  own_is = (c.word_in-own.ensures (Frame c.args.process c.args.depth) c.block_of_frame-block.ensures.first);
   is_there = c.pc_of-address.ensures;
   set_up = c.set_up.ensures;
 }

@@ -7,7 +7,7 @@ use Rattle.ec_world.specs.declared.key.Key.TheVariants.{Frame}
 use Rattle.ec_target.specs.Runs.{SetsRegister}
 
 pub word_in-word-requires-clause-owned : goal.word_in-word-requires-clause-owned
-word_in-word-requires-clause-owned g c = (Frame c.args.process c.args.depth, c.block_of_frame-block.ensures.first)
+word_in-word-requires-clause-owned g c = (Frame c.args.process c.args.depth, c.requires)
 
 pub word_in-word-requires-clause-within : goal.word_in-word-requires-clause-within
 word_in-word-requires-clause-within g c = let few = g.met.N.NativeKind.registers.few in omega arith
@@ -30,7 +30,7 @@ loop-k-preserved g c =
     g.M.Machine.OWN g.N.NativeKind.FIRST_HOME g.N.NativeKind.HOMES g.met.N.NativeKind.registers (store_of c.args.node.now) c.args.process
     c.args.depth
     c.loop-k.k c.word_in-word.result c.args.machine.now c.loop-k.machine c.set_reg.new.self c.loop-k.invariant (omega arith)
-    (c.word_in-word.ensures (Frame c.args.process c.args.depth) c.block_of_frame-block.ensures.first)
+    (c.word_in-word.ensures (Frame c.args.process c.args.depth) c.requires)
     (subst
     (λ r. SetsRegister g.M.Machine.register g.M.Machine.place g.M.Machine.rests g.M.Machine.beside g.M.Machine.flow c.loop-k.machine
     c.set_reg.new.self (r + c.loop-k.k) c.word_in-word.result)

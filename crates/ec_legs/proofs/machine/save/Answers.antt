@@ -13,7 +13,7 @@ pub set_word_in-requires-clause-owned : goal.set_word_in-requires-clause-owned
 set_word_in-requires-clause-owned g c = (
   Frame c.args.process c.args.depth,
   first_kept (store_of c.args.node.now) (store_of c.loop-k.node) (Frame c.args.process c.args.depth) (Frame c.args.process c.args.depth)
-      c.block_of_frame-block.result (IsUnsaved c.loop-k.k) c.loop-k.invariant.0.keeps c.block_of_frame-block.ensures.first,
+      c.args.block (IsUnsaved c.loop-k.k) c.loop-k.invariant.0.keeps c.requires.first,
 )
 
 pub set_word_in-requires-clause-within : goal.set_word_in-requires-clause-within
@@ -21,7 +21,7 @@ set_word_in-requires-clause-within g c = let few = g.met.N.NativeKind.registers.
 
 pub loop-k-init : goal.loop-k-init
 loop-k-init g c = (
-  saves_none g.N.NativeKind.meaning (store_of c.args.node.now) c.args.process c.args.depth c.requires c.args.machine.now,
+  saves_none g.N.NativeKind.meaning (store_of c.args.node.now) c.args.process c.args.depth c.requires.frame c.args.machine.now,
   bytes_none c.args.node.now (Frame c.args.process c.args.depth) (IsUnsaved 0),
 )
 
@@ -29,10 +29,10 @@ pub loop-k-preserved : goal.loop-k-preserved
 loop-k-preserved g c =
     let few = g.met.N.NativeKind.registers.few in
     let key = Frame c.args.process c.args.depth in
-    let first = first_kept (store_of c.args.node.now) (store_of c.loop-k.node) key key c.block_of_frame-block.result
-    (IsUnsaved c.loop-k.k) c.loop-k.invariant.0.keeps c.block_of_frame-block.ensures.first in
+    let first = first_kept (store_of c.args.node.now) (store_of c.loop-k.node) key key c.args.block
+    (IsUnsaved c.loop-k.k) c.loop-k.invariant.0.keeps c.requires.first in
     let m = c.args.machine.now in (
-      saves_more g.N.NativeKind.meaning (store_of c.args.node.now) c.args.process c.args.depth c.requires m (store_of c.loop-k.node)
+      saves_more g.N.NativeKind.meaning (store_of c.args.node.now) c.args.process c.args.depth c.requires.frame m (store_of c.loop-k.node)
           (store_of c.set_word_in.new.self) c.loop-k.k c.read_reg-word.result c.loop-k.invariant.0 (omega arith)
           (c.read_reg-word.ensures
           ∙ ap (λ (n : ℕ). g.M.Machine.register m (n + c.loop-k.k)) c.FIRST_HOME.ensures

@@ -16,7 +16,7 @@ returns g c =
     g.M.Machine.rests g.M.Machine.beside g.M.Machine.flow g.met.N.NativeKind.means g.M.Machine.REGISTERS g.M.Machine.FRAME
     g.M.Machine.OWN g.N.NativeKind.FIRST_HOME g.N.NativeKind.HOMES g.met.N.NativeKind.registers (store_of c.args.node.now) c.args.process
     c.args.depth
-    c.args.own c.args.place c.block_of_frame.result c.first_block.result c.block_address-frame_at.result c.block_address-own_at.result
+    c.args.own c.args.place c.args.block c.first_block.result c.block_address-frame_at.result c.block_address-own_at.result
     c.args.machine.now c.set_reg.new.self c.set_reg-2.new.self c.restore.new.machine c.set_pc.new.self
     (subst
     (λ r. SetsRegister g.M.Machine.register g.M.Machine.place g.M.Machine.rests g.M.Machine.beside g.M.Machine.flow c.args.machine.now
@@ -26,6 +26,6 @@ returns g c =
     (λ r. SetsRegister g.M.Machine.register g.M.Machine.place g.M.Machine.rests g.M.Machine.beside g.M.Machine.flow c.set_reg.new.self
     c.set_reg-2.new.self r c.block_address-own_at.result)
     c.OWN.ensures c.set_reg-2.ensures)
-    c.restore.ensures c.set_pc.ensures c.block_of_frame.ensures.first c.first_block.ensures.first
+    c.restore.ensures c.set_pc.ensures c.requires.frame c.first_block.ensures.first
     c.block_address-frame_at.ensures c.block_address-own_at.ensures g.met.M.Machine.bases.frame_not_zero
     g.met.M.Machine.bases.own_not_zero g.met.M.Machine.bases.two
