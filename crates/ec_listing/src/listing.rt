@@ -1,6 +1,10 @@
 //! The listing of a source: its machine code for a kind of machine, operation by operation.
+ghost use Rattle.std.specs.Prelude.{◌≡◌, IfErr, OnOk};
 ghost use Rattle.ec_compile.specs.Texts.{IsOfText};
+ghost use Rattle.ec_listing.specs.Unlisted.{GoesOn, IsUnlistedOf};
+ghost use Rattle.ec_listing.specs.declared.listing.Unlisted.TheVariants.{Memory};
 ghost use Rattle.ec_meaning.specs.Sources.{source_of};
+ghost use Rattle.ec_tool.specs.Sources.{IsChecked};
 
 use crate::lines::{Site, put_word};
 use crate::names::Names;
@@ -25,12 +29,16 @@ pub enum Unlisted {
 }
 
 impl From<AllocError> for Unlisted {
+    ghost from_gives = { λ _ e. e ≡ Memory };
+
     fn from(_error: AllocError) -> Unlisted {
         Unlisted::Memory
     }
 }
 
 impl From<SourceError> for Unlisted {
+    ghost from_gives = { GoesOn };
+
     fn from(error: SourceError) -> Unlisted {
         match error {
             SourceError::Refused(refused) => Unlisted::Refused(refused),
@@ -44,7 +52,10 @@ const CODE_BASE: u32 = 0x0040_0000;
 
 /// Adds the listing of a source for a kind of machine: of each operation its heading and its words, each with its address and its
 /// instruction, and at each stop what it is and what is live there.
-pub fn list(alloc: Global, source: &[u8], kind: Kind, out: &mut String) -> Result<(), Unlisted> {
+pub fn list(alloc: Global, source: &[u8], kind: Kind, out: &mut String) -> Result<(), Unlisted>
+    ensures accepted { OnOk result (IsChecked source.now) }
+    ensures refused { IfErr result (IsUnlistedOf source.now) }
+{
     let accepted = check_source(alloc, source)?;
     let checked = &accepted.checked;
     let program = Program::new(alloc, source, &checked.table, &checked.core)?;
