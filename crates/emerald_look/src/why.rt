@@ -70,7 +70,7 @@ fn put_rule(row: Row, out: &mut String) -> Result<(), AllocError> {
 fn put_remedy(row: Row, out: &mut String) -> Result<(), AllocError> {
     writeln!(out, "remedy: {}", row.remedy)?;
     match row.example {
-        Example::Text(text) => writeln!(out, "another that is refused so: {text}"),
-        Example::Words(words) => writeln!(out, "another that is refused so: {words}"),
+        Example::Text(text) => writeln!(out, "likewise refused: {text}"),
+        Example::Words(words) => writeln!(out, "likewise refused: {words}"),
     }
 }

@@ -126,8 +126,9 @@ fn command<'a>(alloc: Global) -> Result<Command<'a>, AllocError> {
         .subcommand(messages(alloc))
 }
 
+/// The statuses with which the program ends.
 const STATUSES: &str =
-    "It ends with status 0; 2 where the words name no command; 3 where the source is refused, 4 where the node file or the schedule is; 8 where a file isn't read, 9 where standard output doesn't take the text, 10 where there is no memory.";
+    "Statuses:\n  0   nothing is refused\n  2   the words name no command\n  3   the source is refused\n  4   the node file or the schedule is refused\n  8   a file wasn't read\n  9   standard output didn't take the text\n  10  there was no memory";
 
 fn why<'a>(alloc: Global) -> Result<Command<'a>, AllocError> {
     Command::new(alloc, "why")
