@@ -23,14 +23,14 @@ pub struct Files<'a> {
 }
 
 /// Why the files weren't read: that of this name met a fault, or there was no memory.
-#[derive(Clone, Copy, PartialEq, Eq, Debug)]
+#[derive(Clone, Copy)]
 pub enum Unread<'a> {
     Failed(&'a str),
     Memory,
 }
 
 /// The names of the files of a call, where it has them.
-#[derive(Clone, Copy, PartialEq, Eq, Debug)]
+#[derive(Clone, Copy)]
 pub struct FileNames<'a> {
     pub source: Option<&'a str>,
     pub nodes: Option<&'a str>,

@@ -8,6 +8,7 @@ use ec_outside::mem_shelf::{MemFile, MemShelf};
 use ec_tool::source::{SourceError, check_source, refused_text};
 use ec_tool::status::Status;
 use std::alloc::Global;
+use std::process::Abort;
 use std::test::Fail;
 
 /// The answer to these words, where the shelf has these files.
@@ -30,11 +31,11 @@ fn checked(alloc: Global, source: &[u8]) -> Result<Vec<u8>, Fail> {
     }
 }
 
-fn each_is_refused_so(rt: &HostRuntime, rows: &[Row]) -> Result<(), Fail> {
+fn each_is_refused_so(rt: &impl Abort, alloc: Global, rows: &[Row]) -> Result<(), Fail> {
     for row in rows {
         if let Example::Text(text) = row.example {
-            let told = checked(rt.alloc(), text.as_bytes())?;
-            let wanted = format!(in rt.alloc(); "{}\n", row.answer)?;
+            let told = checked(alloc, text.as_bytes())?;
+            let wanted = format!(in alloc; "{}\n", row.answer)?;
             assert_eq!(rt; told.as_slice(), wanted.as_bytes());
         }
     }
@@ -43,8 +44,8 @@ fn each_is_refused_so(rt: &HostRuntime, rows: &[Row]) -> Result<(), Fail> {
 
 #[test]
 fn each_example_is_refused_as_its_row_says(rt: HostRuntime) -> Result<(), Fail> {
-    each_is_refused_so(&rt, TEXTS.as_slice())?;
-    each_is_refused_so(&rt, RULES.as_slice())
+    each_is_refused_so(&rt, rt.alloc(), TEXTS.as_slice())?;
+    each_is_refused_so(&rt, rt.alloc(), RULES.as_slice())
 }
 
 static SOURCE: &[u8] = b"const main <- object main\nend main\n";

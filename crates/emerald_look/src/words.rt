@@ -5,7 +5,7 @@ use ec_world::node::Kind;
 use std::alloc::{AllocError, Global};
 
 /// What the words ask for. Files are known by their names.
-#[derive(Clone, Copy, PartialEq, Eq, Debug)]
+#[derive(Clone, Copy)]
 pub enum Asked<'a> {
     /// `why SOURCE [NODES [SCHEDULE]]`
     Why {
@@ -39,7 +39,7 @@ pub enum Asked<'a> {
 }
 
 /// The files of a run.
-#[derive(Clone, Copy, PartialEq, Eq, Debug)]
+#[derive(Clone, Copy)]
 pub struct RunFiles<'a> {
     pub source: &'a str,
     pub nodes: &'a str,
