@@ -1,10 +1,11 @@
 //! The listing of a source: its machine code for a kind of machine, operation by operation.
 ghost use Rattle.std.specs.Prelude.{◌≡◌, IfErr, OnOk};
+ghost use Rattle.ec_check.specs.Accepted.{HasCore};
 ghost use Rattle.ec_compile.specs.Texts.{IsOfText};
 ghost use Rattle.ec_listing.specs.Unlisted.{GoesOn, IsUnlistedOf};
 ghost use Rattle.ec_listing.specs.declared.listing.Unlisted.TheVariants.{Memory};
 ghost use Rattle.ec_meaning.specs.Sources.{source_of};
-ghost use Rattle.ec_tool.specs.Sources.{IsChecked};
+ghost use Rattle.ec_tool.specs.Sources.{IsChecked, IsProgramText};
 
 use crate::lines::{Site, put_word};
 use crate::names::Names;
@@ -12,7 +13,7 @@ use ec_compile::compile::Compiled;
 use ec_compile::mips_compile::compile_for_mips;
 use ec_compile::rv_compile::compile_for_riscv;
 use ec_meaning::source::Program;
-use ec_tool::source::{Refused, SourceError, check_source};
+use ec_tool::source::{Accepted, Refused, SourceError, check_source};
 use ec_world::node::Kind;
 use std::alloc::{AllocError, Global};
 use thiserror::Error;
@@ -57,16 +58,32 @@ pub fn list(alloc: Global, source: &[u8], kind: Kind, out: &mut String) -> Resul
     ensures refused { IfErr result (IsUnlistedOf source.now) }
 {
     let accepted = check_source(alloc, source)?;
+    list_accepted(alloc, source, &accepted, kind, out)?;
+    Ok(())
+}
+
+/// Adds the listing of a source, with the tokens and the core of its program. The error is want of memory.
+fn list_accepted(
+    alloc: Global,
+    source: &[u8],
+    accepted: &Accepted,
+    kind: Kind,
+    out: &mut String,
+) -> Result<(), AllocError>
+    requires program { IsProgramText source.now accepted.now.tokens accepted.now.checked.program }
+    requires core { HasCore accepted.now.checked.program accepted.now.checked.table accepted.now.checked.core }
+{
     let checked = &accepted.checked;
     let program = Program::new(alloc, source, &checked.table, &checked.core)?;
     let compiled = compile(alloc, kind, &program)?;
-    let listed = Listed {
-        kind,
-        program: &program,
-        compiled: &compiled,
-    };
-    put_operations(&listed, out)?;
-    Ok(())
+    put_operations(
+        &Listed {
+            kind,
+            program: &program,
+            compiled: &compiled,
+        },
+        out,
+    )
 }
 
 /// The machine code of a program for a kind of machine. The error is want of memory.
