@@ -2,6 +2,7 @@
 //!
 //! | module | what it has |
 //! |---|---|
+//! | `listing` | the listing of a source for a kind of machine, operation by operation |
 //! | `lines` | its lines: the heading of an operation, a word with its instruction, what is live at a stop |
 //! | `stops` | what a stop is called, and on which line of the source it stands |
 //! | `names` | the names of classes, operations, types, variables and homes |
@@ -9,6 +10,7 @@
 #![tactic(auto)]
 
 pub mod lines;
+pub mod listing;
 pub mod mips;
 pub mod names;
 pub mod riscv;

@@ -272,3 +272,6 @@ fn store_name(store: Store) -> &'static str {
         Store::Sw => "sw",
     }
 }
+
+#[cfg(test)]
+mod tests;

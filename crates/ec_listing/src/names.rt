@@ -1,4 +1,8 @@
 //! Names of what a listing speaks of: classes, operations, types, variables and homes.
+ghost use Rattle.std.specs.Prelude.{◌≡◌, ◌<◌};
+ghost use Rattle.rv_code.specs.Words as rv;
+ghost use Rattle.mips_code.specs.Words as mips;
+
 use ec_code::code::{Operation, Variable};
 use ec_core::{Core, Kind as Begins, Operation as CoreOperation};
 use ec_machine_code::homes::Home;
@@ -141,15 +145,23 @@ pub fn put_variable(
 pub fn put_home(kind: Kind, home: Home, out: &mut String) -> Result<(), AllocError> {
     match home {
         Home::Slot(slot) => write!(out, "slot {slot}"),
-        Home::Register(register) => match kind {
-            Kind::Riscv => write!(out, "x{}", register.wrapping_add(RISCV_HOMES)),
-            Kind::Mips => write!(out, "${}", register.wrapping_add(MIPS_HOMES)),
-        },
+        Home::Register(number) => {
+            let register = home_register(kind, number);
+            match kind {
+                Kind::Riscv => write!(out, "x{register}"),
+                Kind::Mips => write!(out, "${register}"),
+            }
+        }
     }
 }
 
-/// The first register of RISC-V that is a home.
-const RISCV_HOMES: u32 = 18;
-
-/// The first register of MIPS that is a home.
-const MIPS_HOMES: u32 = 16;
+/// The register of the machine that is the home of a number.
+fn home_register(kind: Kind, number: u32) -> u32
+    ensures riscv { kind ≡ Kind.Riscv → number < 10 → result ≡ rv.home_register number }
+    ensures mips { kind ≡ Kind.Mips → number < 6 → result ≡ mips.home_register number }
+{
+    match kind {
+        Kind::Riscv => number.saturating_add(18),
+        Kind::Mips => number.saturating_add(16),
+    }
+}

@@ -182,3 +182,6 @@ fn operation_name(operation: Operation) -> &'static str {
         Operation::Remu => "remu",
     }
 }
+
+#[cfg(test)]
+mod tests;
