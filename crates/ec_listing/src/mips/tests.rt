@@ -1,3 +1,4 @@
+//! MIPS instructions as GNU objdump prints them.
 use crate::mips::MipsAt;
 use mips_isa::word::decode;
 use std::test::Fail;

@@ -1,3 +1,4 @@
+//! RISC-V instructions as GNU objdump prints them.
 use crate::riscv::RiscvAt;
 use rv_isa::word::decode;
 use std::test::Fail;
