@@ -33,6 +33,11 @@ pub(crate) fn place(net: &Network, oid: Oid) -> Option<NodeNo> {
     if net.is_whole() { net.place(oid) } else { None }
 }
 
+/// The node of an object; none of the nodes where it isn't there.
+pub(crate) fn node_at(net: &Network, oid: Oid) -> NodeNo {
+    place(net, oid).unwrap_or(NodeNo::MAX)
+}
+
 /// What a move of an object's group to a node would carry now.
 pub(crate) fn cargo(
     alloc: Global,
@@ -68,11 +73,7 @@ pub(crate) fn cargo(
 }
 
 /// The group and the node that the action of a stop would move, where it moves any.
-pub(crate) fn asked_move(
-    net: &Network,
-    stop: Stop,
-    operands: &[Value],
-) -> Option<(Oid, NodeNo)> {
+pub(crate) fn asked_move(net: &Network, stop: Stop, operands: &[Value]) -> Option<(Oid, NodeNo)> {
     match stop {
         Stop::Move { .. } | Stop::Fix { .. } | Stop::Refix { .. } => {}
         _ => return None,
@@ -140,7 +141,11 @@ fn object_bytes(alloc: Global, running: &CodeRun<'_>, oid: Oid) -> Result<u64, A
 /// How many bytes a monitor has: its object, whether it is held, its holder, and its queues.
 fn monitor_bytes(alloc: Global, monitor: &Monitor) -> Result<u64, AllocError> {
     let record = monitor.to_record(alloc)?;
-    let mut bytes = if record.holder.is_some() { 25u64 } else { 17u64 };
+    let mut bytes = if record.holder.is_some() {
+        25u64
+    } else {
+        17u64
+    };
     bytes = bytes.saturating_add((record.entry.len() as u64).saturating_mul(4));
     bytes = bytes.saturating_add((record.urgent.len() as u64).saturating_mul(8));
     for queue in record.conditions.as_slice() {

@@ -1,4 +1,6 @@
 //! Where each object was and which process ran where, over the time of a run. Time is counted in entries that are done.
+ghost use Rattle.std.specs.Prelude.{◌≤◌};
+
 use crate::history::{Actor, Deed, EntrySeen, History, Step};
 use std::alloc::{AllocError, Global};
 
@@ -27,6 +29,13 @@ pub struct Stretch {
 struct Stays {
     all: Vec<Stay>,
     last: Vec<Option<usize>>,
+}
+
+/// A number, or 1 in place of 0.
+pub fn at_least_one(number: u32) -> u32
+    ensures { 1 ≤ result }
+{
+    if number == 0 { 1 } else { number }
 }
 
 /// How many entries a history has.

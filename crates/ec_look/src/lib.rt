@@ -4,14 +4,17 @@
 //! |---|---|
 //! | `trace`, `map`, `objects` | the three calls, and what they print |
 //! | `watch`, `watching`, `record` | a run on a network with the code's meaning beside it, and its history |
+//! | `before`, `deeds` | what is read before an entry, and behind it |
 //! | `cargo` | what a move carries, with its bytes |
 //! | `words` | stops, values and causes in words |
 //! | `history` | what happened, as plain data |
 //! | `course`, `layout`, `picture`, `strip` | a map: what is where and when, where that is drawn, and the two ways to draw it |
 #![tactic(auto)]
 
+mod before;
 mod cargo;
 mod course;
+mod deeds;
 mod history;
 mod layout;
 pub mod map;

@@ -1,5 +1,5 @@
 //! A map as lines of text: a line for each node with the processes that ran there, and below it a line for each object that was there.
-use crate::course::{Stay, Stretch, entry_count, number_at, object_stays, stretches};
+use crate::course::{Stay, Stretch, at_least_one, entry_count, number_at, object_stays, stretches};
 use crate::history::{Deed, EntrySeen, History};
 use std::alloc::{AllocError, Global};
 
@@ -31,7 +31,7 @@ pub(crate) fn write_strip(
     out: &mut String,
 ) -> Result<(), AllocError> {
     let entries = entry_count(history);
-    let per_column = entries.div_ceil(COLUMNS).max(1);
+    let per_column = at_least_one(entries.div_ceil(COLUMNS));
     let grid = Grid {
         columns: entries.div_ceil(per_column),
         per_column,
@@ -41,13 +41,20 @@ pub(crate) fn write_strip(
         stays: object_stays(alloc, history)?,
         stretches: stretches(alloc, history)?,
     };
-    write!(out, "{entries} entries, {per_column} to a column; stop {}\n", history.end)?;
+    write!(
+        out,
+        "{entries} entries, {per_column} to a column; stop {}\n",
+        history.end
+    )?;
     write_axis(grid, out)?;
     for (place, node) in history.nodes.iter().enumerate() {
         let Ok(number) = u32::try_from(place) else {
             return Ok(());
         };
-        write_name(format!(in alloc; "{} {}", node.name, node.kind)?.as_str(), out)?;
+        write_name(
+            format!(in alloc; "{} {}", node.name, node.kind)?.as_str(),
+            out,
+        )?;
         write_node(history, &drawn, number, out)?;
         write_objects(alloc, history, &drawn, number, out)?;
     }
@@ -55,7 +62,8 @@ pub(crate) fn write_strip(
 }
 
 /// What the marks mean.
-const LEGEND: &str = "0-9 a-z: the process that ran there (a for 10, * above 35, + several); X: one failed there
+const LEGEND: &str =
+    "0-9 a-z: the process that ran there (a for 10, * above 35, + several); X: one failed there
 -: the object is there; o: it was made; >: it came\n";
 
 /// The number of the first entry of each tenth column.
@@ -109,10 +117,9 @@ impl Grid {
 
 /// Whether an entry within these failed on a node.
 fn failed_within(history: &History, node: u32, first: u32, last: u32) -> bool {
-    history
-        .entries
-        .iter()
-        .any(|entry| entry.number >= first && entry.number <= last && failed_on(entry, node))
+    history.entries.iter().any(|entry| entry.number >= first
+        && entry.number <= last
+        && failed_on(entry, node))
 }
 
 /// Whether a process failed by an entry on a node.

@@ -62,7 +62,13 @@ fn write_entry(
         write!(out, "{}", stop.what)?;
     }
     for (place, deed) in entry.deeds.iter().enumerate() {
-        out.push_str(if place == 0 && entry.stop.is_some() { ": " } else if place > 0 { ", " } else { "" })?;
+        out.push_str(if place == 0 && entry.stop.is_some() {
+            ": "
+        } else if place > 0 {
+            ", "
+        } else {
+            ""
+        })?;
         write_deed(history, deed, out)?;
     }
     out.push('\n')
@@ -160,7 +166,10 @@ fn write_failure(
     let number = entry.number;
     match entry.actor {
         Actor::Process(p) => {
-            write!(out, "\nprocess {p} failed at entry {number} on {node}, line {line}: {why}\n")
+            write!(
+                out,
+                "\nprocess {p} failed at entry {number} on {node}, line {line}: {why}\n"
+            )
         }
         Actor::Operator => Ok(()),
     }

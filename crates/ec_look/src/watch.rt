@@ -1,5 +1,5 @@
 //! A run is watched: what its source, its nodes and its schedule give, entry by entry.
-ghost use Rattle.std.specs.Prelude.{◌≡◌};
+ghost use Rattle.std.specs.Prelude.{◌≤◌, length};
 ghost use Rattle.ec_check.specs.Accepted.{HasCore};
 ghost use Rattle.ec_native_run.specs.Runs.{AreNodes};
 ghost use Rattle.ec_tool.specs.Sources.{IsProgramText};
@@ -100,7 +100,7 @@ fn watch_loaded(
     schedule: &[Entry],
     budget: u64,
 ) -> Result<History, AllocError>
-    requires nodes { AreNodes specs.now }
+    requires { length specs.now ≤ 64 }
 {
     let mut parts = lower(alloc, program)?;
     let globals = globals_of(alloc, &parts)?;
