@@ -1,5 +1,5 @@
 //! What is read before an entry: the stop at which its process rests, what a move would carry, and the calls of a process.
-use crate::cargo::{Cargo, asked_move, cargo, node_at};
+use crate::cargo::{Cargo, asked_move, carried_by, node_at};
 use crate::history::{LineSeen, StopSeen};
 use crate::watching::{CodeRun, Watched, Watching};
 use crate::words::{line_of, operation_of, push_operands, push_operation, push_stop};
@@ -113,7 +113,7 @@ fn cargo_before(
     };
     match asked {
         Some((oid, target)) => {
-            Ok(Some(cargo(watching.alloc, watching.parts, net, running, oid, target)?))
+            Ok(Some(carried_by(watching.alloc, watching.parts, net, running, oid, target)?))
         }
         None => Ok(None),
     }

@@ -39,7 +39,7 @@ pub(crate) fn node_at(net: &Network, oid: Oid) -> NodeNo {
 }
 
 /// What a move of an object's group to a node would carry now.
-pub(crate) fn cargo(
+pub(crate) fn carried_by(
     alloc: Global,
     parts: &Parts,
     net: &Network,
