@@ -67,10 +67,15 @@ fn stop_of(
     activation: &CodeActivation,
 ) -> Result<StopSeen, AllocError> {
     let mut what = String::new(watching.alloc);
-    push_operation(watching.program, activation.operation, &mut what)?;
+    push_operation(&watching.program, activation.operation, &mut what)?;
     what.push_str(": ")?;
     if activation.pending {
-        push_stop(watching.alloc, watching.program, activation.stop, &mut what)?;
+        push_stop(
+            watching.alloc,
+            &watching.program,
+            activation.stop,
+            &mut what,
+        )?;
         push_operands(activation.operands.as_slice(), &mut what)?;
     } else {
         what.push_str("go on")?;
@@ -87,7 +92,7 @@ fn line_seen(watching: &Watching<'_>, activation: &CodeActivation) -> LineSeen {
     if let Some(line) = line_of(activation.stop) {
         return LineSeen::At(line);
     }
-    let Some(operation) = operation_of(watching.program, activation.operation) else {
+    let Some(operation) = operation_of(&watching.program, activation.operation) else {
         return LineSeen::Nowhere;
     };
     let first = watching.program.line(operation.at);
@@ -112,9 +117,7 @@ fn cargo_before(
         },
     };
     match asked {
-        Some((oid, target)) => {
-            Ok(Some(carried_by(watching.alloc, watching.parts, net, running, oid, target)?))
-        }
+        Some((oid, target)) => { Ok(Some(carried_by(watching.alloc, net, running, oid, target)?)) }
         None => Ok(None),
     }
 }
@@ -153,7 +156,7 @@ fn call_text(
         LineSeen::Within(line) => write!(text, "line {line} or below, in ")?,
         LineSeen::Nowhere => text.push_str("in ")?,
     }
-    push_operation(watching.program, activation.operation, &mut text)?;
+    push_operation(&watching.program, activation.operation, &mut text)?;
     let own = activation.own;
     let node = state.history.node_name(node_at(&state.net, own));
     write!(text, " on object {own} at {node}")?;

@@ -41,7 +41,6 @@ pub(crate) fn node_at(net: &Network, oid: Oid) -> NodeNo {
 /// What a move of an object's group to a node would carry now.
 pub(crate) fn carried_by(
     alloc: Global,
-    parts: &Parts,
     net: &Network,
     running: &CodeRun<'_>,
     oid: Oid,
@@ -68,7 +67,7 @@ pub(crate) fn carried_by(
         cargo.members.push((*member, from))?;
         cargo.add(object_bytes(alloc, running, *member)?);
     }
-    cargo.add_activations(parts, running);
+    cargo.add_activations(running);
     Ok(cargo)
 }
 
@@ -90,7 +89,8 @@ impl Cargo {
     }
 
     /// The activations on members.
-    fn add_activations(&mut self, parts: &Parts, running: &CodeRun<'_>) {
+    fn add_activations(&mut self, running: &CodeRun<'_>) {
+        let parts = running.code.parts;
         for process in running.world.processes.as_slice() {
             for activation in process.activations.as_slice() {
                 if self.has(activation.own) {

@@ -170,22 +170,24 @@ fn change(
     }
 }
 
-/// Objects that the history doesn't have yet, made by an entry.
+/// Objects that the history doesn't have yet: made by its last entry, or by the load.
 pub(crate) fn add_objects(
     watching: &Watching<'_>,
     net: &Network,
     running: &CodeRun<'_>,
     history: &mut History,
-    entry: u32,
 ) -> Result<(), AllocError> {
+    let Ok(made_by) = u32::try_from(history.entries.len()) else {
+        return Err(AllocError);
+    };
     let objects = running.world.common.objects.as_slice();
     for (place_in, object) in objects.iter().enumerate().skip(history.objects.len()) {
         let mut class = String::new(watching.alloc);
-        push_class(watching.alloc, watching.program, object.class, &mut class)?;
+        push_class(watching.alloc, &watching.program, object.class, &mut class)?;
         history.objects.push(ObjectSeen {
             class,
             node: node_at(net, number_behind(place_in)?),
-            made_by: entry,
+            made_by,
         })?;
     }
     Ok(())

@@ -18,10 +18,12 @@ use ec_meaning::source::Program;
 use ec_meaning::types::kind_of;
 use ec_native_run::network::Network;
 use ec_report::drive::drive;
+use ec_report::end::ReportEnd;
 use ec_runnable::prepare::prepare;
 use ec_stepping::code::Code;
 use ec_tool::source::{Accepted, SourceError, check_source};
 use ec_vector_types::written::written_vectors;
+use ec_world::class::Classes;
 use ec_world::node::NodeSpec;
 use ec_world::run::Entry;
 use ec_world::running::Running;
@@ -81,7 +83,7 @@ fn watch_run(
     let written = written_vectors(alloc, &checked.table, found.tokens.as_slice())?;
     let made = prepare(alloc, &program)?;
     match Network::load(alloc, made.parts, written.as_slice(), made.images, specs) {
-        Ok(net) => watch_loaded(alloc, &program, net, specs, schedule, budget),
+        Ok(net) => watch_loaded(alloc, program, net, specs, schedule, budget),
         Err(LoadError::Full(lack)) => {
             let mut history = first_history(alloc, specs)?;
             history.end = full_text(alloc, specs, lack)?;
@@ -94,7 +96,7 @@ fn watch_run(
 /// What happens from the load on.
 fn watch_loaded(
     alloc: Global,
-    program: &Program<'_>,
+    program: Program<'_>,
     net: Network,
     specs: &[NodeSpec],
     schedule: &[Entry],
@@ -102,26 +104,63 @@ fn watch_loaded(
 ) -> Result<History, AllocError>
     requires { length specs.now ≤ 64 }
 {
-    let mut parts = lower(alloc, program)?;
-    let globals = globals_of(alloc, &parts)?;
+    let mut parts = lower(alloc, &program)?;
     let classes = replace(&mut parts.classes, Seq::new(alloc));
-    let code = Code { parts: &parts };
-    let running: CodeRun = Running::start(alloc, code, specs.len() as u32, classes, &globals)?;
-    let watching = Watching {
-        alloc,
-        program,
-        parts: &parts,
-    };
-    let mut watched = Watched {
+    let history = first_history(alloc, specs)?;
+    let running = started(alloc, &parts, classes, specs)?;
+    let watched = Watched {
         net,
         running,
-        history: first_history(alloc, specs)?,
+        history,
     };
-    watching.look_at_first(&mut watched)?;
-    let ended = drive(&watching, &mut watched, schedule, budget)?;
-    let mut history = watched.history;
-    history.end = end_text(alloc, specs, ended.end)?;
+    watch_to_end(
+        &Watching { alloc, program },
+        watched,
+        specs,
+        schedule,
+        budget,
+    )
+}
+
+/// The run of code on nodes, before its first entry.
+fn started<'a>(
+    alloc: Global,
+    parts: &'a Parts,
+    classes: Classes,
+    specs: &[NodeSpec],
+) -> Result<CodeRun<'a>, AllocError>
+    requires { length specs.now ≤ 64 }
+{
+    let globals = globals_of(alloc, parts)?;
+    Running::start(alloc, Code { parts }, specs.len() as u32, classes, &globals)
+}
+
+/// What happens up to the end of a run.
+fn watch_to_end(
+    watching: &Watching<'_>,
+    watched: Watched<'_>,
+    specs: &[NodeSpec],
+    schedule: &[Entry],
+    budget: u64,
+) -> Result<History, AllocError> {
+    let mut watched = watched;
+    let end = follow(watching, &mut watched, schedule, budget)?;
+    let Watched { history, .. } = watched;
+    let mut history = history;
+    history.end = end_text(watching.alloc, specs, end)?;
     Ok(history)
+}
+
+/// Does the entries up to the end, which is told.
+fn follow(
+    watching: &Watching<'_>,
+    watched: &mut Watched<'_>,
+    schedule: &[Entry],
+    budget: u64,
+) -> Result<ReportEnd, AllocError> {
+    watching.add_new_objects(watched)?;
+    let ended = drive(watching, watched, schedule, budget)?;
+    Ok(ended.end)
 }
 
 /// What constants are.

@@ -2,11 +2,10 @@
 ghost use Rattle.std.specs.Prelude.{◌≡◌};
 ghost use Rattle.ec_world.specs.Run.{statuses_of};
 
-use crate::before::{calls_if_failed, read_before};
+use crate::before::{Before, calls_if_failed, read_before};
 use crate::deeds::{add_objects, seen_behind};
 use crate::history::{EntrySeen, History};
 use ec_code::activation::CodeActivation;
-use ec_code::code::Parts;
 use ec_meaning::source::Program;
 use ec_network::nodes_running::network::Network;
 use ec_network::nodes_running::turns::{Did, NetError};
@@ -29,25 +28,24 @@ pub(crate) struct Watched<'a> {
     pub history: History,
 }
 
-/// The driver of a run that is watched: its program in the source, and as three-address code.
+/// The driver of a run that is watched, with its program in the source.
 #[derive(Drop)]
 pub(crate) struct Watching<'a> {
     pub alloc: Global,
-    pub program: &'a Program<'a>,
-    pub parts: &'a Parts,
+    pub program: Program<'a>,
 }
 
-impl<'a> Driver<Watched<'a>> for Watching<'a> {
+impl<'a, 'b> Driver<Watched<'b>> for Watching<'a> {
     ghost Stands = { λ _ start schedule budget statuses progress state. statuses ≡ statuses_of state.running.world };
 
     ghost FindsFull = { λ _ start schedule k node part need free. Unit {0} };
 
-    fn status(&self, state: &Watched<'a>, p: Pid) -> Option<ProcStatus> {
+    fn status(&self, state: &Watched<'b>, p: Pid) -> Option<ProcStatus> {
         let process = state.running.world.processes.as_slice().get(p as usize)?;
         Some(process.status)
     }
 
-    fn does(&self, state: &mut Watched<'a>, entry: RunEntry) -> Result<(), Refusal> {
+    fn does(&self, state: &mut Watched<'b>, entry: RunEntry) -> Result<(), Refusal> {
         let before = read_before(self, &*state, entry)?;
         let did = match self.net_does(&mut state.net, entry) {
             Ok(did) => did,
@@ -61,21 +59,17 @@ impl<'a> Driver<Watched<'a>> for Watching<'a> {
             }
             Err(NetError::Memory(_)) => return Err(Refusal::Memory),
         };
-        let calls = calls_if_failed(self, &*state, entry)?;
-        match entry {
-            RunEntry::TurnOf(p) => state.running.turn(p)?,
-            RunEntry::MoveOf { o, k } => state.running.operator_move(o, k)?,
-        }
-        let seen = seen_behind(self, &*state, entry, before, did, calls)?;
-        add_objects(
-            self,
-            &state.net,
-            &state.running,
-            &mut state.history,
-            seen.number,
-        )?;
-        keep(&mut state.history, seen)?;
+        self.keep_up(state, entry, before, did)?;
+        self.add_new_objects(state)?;
         Ok(())
+    }
+}
+
+/// The meaning does an entry.
+fn go_on(running: &mut CodeRun<'_>, entry: RunEntry) -> Result<(), AllocError> {
+    match entry {
+        RunEntry::TurnOf(p) => running.turn(p),
+        RunEntry::MoveOf { o, k } => running.operator_move(o, k),
     }
 }
 
@@ -86,9 +80,23 @@ fn keep(history: &mut History, seen: EntrySeen) -> Result<(), AllocError> {
 }
 
 impl<'a> Watching<'a> {
-    /// The objects that are there after the load.
-    pub fn look_at_first(&self, state: &mut Watched<'a>) -> Result<(), AllocError> {
-        add_objects(self, &state.net, &state.running, &mut state.history, 0)
+    /// The objects that the history doesn't have yet: made by its last entry, or by the load.
+    pub fn add_new_objects(&self, state: &mut Watched<'_>) -> Result<(), AllocError> {
+        add_objects(self, &state.net, &state.running, &mut state.history)
+    }
+
+    /// The meaning does what the network did, and what is seen of it is kept.
+    fn keep_up(
+        &self,
+        state: &mut Watched<'_>,
+        entry: RunEntry,
+        before: Before,
+        did: Did,
+    ) -> Result<(), AllocError> {
+        let calls = calls_if_failed(self, &*state, entry)?;
+        go_on(&mut state.running, entry)?;
+        let seen = seen_behind(self, &*state, entry, before, did, calls)?;
+        keep(&mut state.history, seen)
     }
 
     /// An entry is done on the network.
