@@ -1,9 +1,11 @@
 -- What the loops keep that write code.
-use Rattle.std.proofs.Common.{◌≡◌, ℕ, zero, suc, ◌+◌, ◌<◌, List, [], ◌∷◌, ◌++◌, length, length-append, append_assoc, Some, None, Option}
+use Rattle.std.proofs.Common.{◌≡◌, ◌≢◌, ℕ, suc, ◌+◌, ◌<◌, ◌≤◌, List, [], ◌∷◌, ◌++◌, length, length-append, append_assoc, Some, None, Option}
 use Rattle.std.proofs.Common.{refl}
-use Rattle.std.proofs.Common.{sym, ap, ◌∙◌, arith, drop, map}
-use Rattle.std.specs.Prelude.{slice_get, IsSome}
-use Rattle.ec_base.proofs.Lists.{drop_at}
+use Rattle.std.proofs.Common.{sym, ap, ◌∙◌, arith, drop, inl, inr, map, subst, ⊎_elim}
+use Rattle.std.specs.Prelude.{slice_get, slice_set, IsSome}
+use Rattle.std.proofs.lemmas.Bool.{cases_lt}
+use Rattle.ec_base.proofs.Lists.{drop_at, get_set_other, get_set_same, length_set}
+use Rattle.ec_code.specs.Fine.{IsIn}
 use Rattle.ec_code.specs.declared.code.Line.{Line}
 use Rattle.ec_code.specs.declared.code.Op.{Op}
 use Rattle.ec_code.specs.declared.code.StopRow.{StopRow}
@@ -11,67 +13,139 @@ use Rattle.ec_code.specs.declared.code.Variable.{Variable}
 use Rattle.ec_machine_code.specs.Stops.{places_from, stop_of, with_place}
 use Rattle.ec_generate.specs.Puts.{IsSized}
 use Rattle.ec_machine_code.specs.declared.homes.Home.{Home}
-use Rattle.ec_machine_code.specs.Layout.{before, op_words, place, words_from}
+use Rattle.ec_machine_code.specs.Layout.{IsOrder, before, first_of, op_size, op_words, place, size_at, size_if, size_of, words_from, words_if}
+use Rattle.ec_machine_code.specs.Once.{AreDifferent}
 use Rattle.ec_machine_code.specs.Speaks.{Vocabulary}
-use Rattle.ec_machine_code.proofs.MicroSizes.{before_next, op_long}
-
--- one item more of a list of what f gives
-pub one_more : (xs new : List ℕ) (x : ℕ) (f : ℕ → ℕ) (n : ℕ) → new ≡ xs ++ x ∷ [] → length xs ≡ n → x ≡ f n →
-    ((k : ℕ) → k < n → slice_get xs k ≡ Some (f k)) → (k : ℕ) → k < n + 1 → slice_get new k ≡ Some (f k)
-one_more xs new x f n is long same before k h =
-    ap (λ l. slice_get l k) is ∙ at xs k n x f long same before h
-  where
-    at : (xs : List ℕ) (k n x : ℕ) (f : ℕ → ℕ) → length xs ≡ n → x ≡ f n → ((k : ℕ) → k < n → slice_get xs k ≡ Some (f k)) →
-        k < n + 1 → slice_get (xs ++ x ∷ []) k ≡ Some (f k)
-    at [] zero n x f long same before h = let z : n ≡ 0 = omega arith in ap Some (same ∙ ap f z)
-    at [] (suc k) n x f long same before h = absurd (omega arith)
-    at (y ∷ ys) zero n x f long same before h = before 0 (omega arith)
-    at (y ∷ ys) (suc k) zero x f long same before h = absurd (omega arith)
-    at (y ∷ ys) (suc k) (suc n) x f long same before h =
-        at ys k n x (λ j. f (suc j)) (omega arith) same (λ j lt. before (suc j) (omega arith)) (omega arith)
+use Rattle.ec_machine_code.proofs.Different.{same_or_not}
+use Rattle.ec_machine_code.proofs.LaidOutSizes.{before_here, before_none, before_there, in_rest, op_long}
 
 -- Loops by what remains: what is there, and what is made of the rest, is all.
-module _ (V : Vocabulary) (home : Variable → Home) (ops : List Op) (start : ℕ) where
-  abbrev pub rest_words : ℕ → List ℕ
-  rest_words q = words_from V home ops start q (drop q ops)
+module _ (V : Vocabulary) (home : Variable → Home) (ops : List Op) (order : List ℕ) (start : ℕ) where
+  abbrev next_at : ℕ → ℕ
+  next_at k = first_of (length ops) (drop (k + 1) order)
 
-  pub rest_next : (q : ℕ) (o : Op) (old new all : List ℕ) → slice_get ops q ≡ Some o → old ++ rest_words q ≡ all →
-      new ≡ old ++ op_words V home ops start q o → new ++ rest_words (q + 1) ≡ all
-  rest_next q o old new all there so_far is =
-      let n : q + 1 ≡ suc q = omega arith in
-      ap (λ l. l ++ rest_words (q + 1)) is ∙ append_assoc old (op_words V home ops start q o) (rest_words (q + 1))
-      ∙ ap (λ k. old ++ (op_words V home ops start q o ++ words_from V home ops start k (drop (q + 1) ops))) n
-      ∙ sym (ap (λ os. old ++ words_from V home ops start q os) (drop_at ops q o there)) ∙ so_far
+  abbrev pub rest_words : ℕ → ℕ → List ℕ
+  rest_words from k = words_from V home ops order start from (drop k order)
 
-  pub here_next : IsSized V → (q : ℕ) (o : Op) (old new : List ℕ) → slice_get ops q ≡ Some o →
-      length old ≡ place V home ops start q → new ≡ old ++ op_words V home ops start q o →
-      length new ≡ place V home ops start (q + 1)
-  here_next sized q o old new there here is =
-      let n : before V home ops (q + 1) ≡ before V home ops (suc q) = ap (before V home ops) (let m : q + 1 ≡ suc q = omega arith in m) in
-      omega (
-        arith,
-        n,
-        here,
-        ap length is,
-        length-append old (op_words V home ops start q o),
-        op_long V home sized.asks sized.jumps ops start q o,
-        before_next V home ops q o there,
-      )
+  -- how many words the steps have from a spot on
+  abbrev pub rest_size : ℕ → ℕ
+  rest_size k = size_of V home ops (drop k order)
 
-  nothing_behind : (os : List Op) → drop (length os) os ≡ []
+  pub size_next : (k q : ℕ) → slice_get order k ≡ Some q → rest_size k ≡ size_at V home ops q (drop (k + 1) order) + rest_size (k + 1)
+  size_next k q at = ap (size_of V home ops) (drop_at order k q at)
+
+  pub size_here :
+      (k q : ℕ) (o : Op) → slice_get order k ≡ Some q → slice_get ops q ≡ Some o →
+      rest_size k ≡ op_size V home (next_at k) q o + rest_size (k + 1)
+  size_here k q o at there =
+      let one = ap (size_if V home ops (next_at k) q) there in
+      let all = size_next k q at in
+      omega (arith, one, all)
+
+  module _ (sized : IsSized V) (k q : ℕ) (o : Op) (old new : List ℕ) (at : slice_get order k ≡ Some q) (there : slice_get ops q ≡ Some o)
+      (is : new ≡ old ++ op_words V home (place V home ops order start) (next_at k) q (length old) o) where
+    pub longer : length new ≡ length old + size_at V home ops q (drop (k + 1) order)
+    longer =
+        omega (
+          arith,
+          ap length is,
+          length-append old (op_words V home (place V home ops order start) (next_at k) q (length old) o),
+          op_long V home sized.asks sized.jumps (place V home ops order start) (next_at k) q (length old) o,
+          ap (size_if V home ops (next_at k) q) there,
+        )
+
+    pub rest_next : (all : List ℕ) → old ++ rest_words (length old) k ≡ all → new ++ rest_words (length new) (k + 1) ≡ all
+    rest_next all so_far =
+        let qs : List ℕ = drop (k + 1) order in
+        let ws : List ℕ = op_words V home (place V home ops order start) (next_at k) q (length old) o in
+        let behind : List ℕ = words_from V home ops order start (length old + size_at V home ops q qs) qs in
+        let one : rest_words (length old) k ≡ ws ++ behind =
+        ap (words_from V home ops order start (length old)) (drop_at order k q at)
+        ∙ ap (λ i. words_if V home ops (place V home ops order start) (next_at k) q (length old) i ++ behind) there in
+        ap (λ l. l ++ rest_words (length new) (k + 1)) is ∙ append_assoc old ws (rest_words (length new) (k + 1))
+        ∙ ap (λ n. old ++ (ws ++ words_from V home ops order start n qs)) longer ∙ sym (ap (λ l. old ++ l) one) ∙ so_far
+
+    pub size_so_far : (all : ℕ) → length old + rest_size k ≡ all → length new + rest_size (k + 1) ≡ all
+    size_so_far all so_far = omega (arith, longer, size_next k q at, so_far)
+
+  nothing_behind : (qs : List ℕ) → drop (length qs) qs ≡ []
   nothing_behind [] = refl
-  nothing_behind (o ∷ os) = nothing_behind os
+  nothing_behind (q ∷ qs) = nothing_behind qs
 
   no_more : (ws : List ℕ) → ws ++ [] ≡ ws
   no_more [] = refl
   no_more (w ∷ ws) = ap (λ r. w ∷ r) (no_more ws)
 
+  pub none_left : (k : ℕ) → k ≡ length order → drop k order ≡ []
+  none_left k end = ap (λ i. drop i order) end ∙ nothing_behind order
+
   -- at the end all is there
-  pub all_there : (q : ℕ) (old all : List ℕ) → q ≡ length ops → old ++ rest_words q ≡ all → old ≡ all
-  all_there q old all end there =
-      let none : rest_words q ≡ [] =
-      ap (λ k. words_from V home ops start q (drop k ops)) end ∙ ap (words_from V home ops start q) (nothing_behind ops) in
-      sym (no_more old) ∙ sym (ap (λ r. old ++ r) none) ∙ there
+  pub all_there : (k : ℕ) (old all : List ℕ) → k ≡ length order → old ++ rest_words (length old) k ≡ all → old ≡ all
+  all_there k old all end there =
+      sym (no_more old) ∙ sym (ap (λ r. old ++ words_from V home ops order start (length old) r) (none_left k end)) ∙ there
+
+-- ---- the table of places
+
+module _ (V : Vocabulary) (home : Variable → Home) (ops : List Op) where
+  -- with the places of these steps, the first of which begins at a word
+  abbrev pub filled : List ℕ → ℕ → List ℕ → List ℕ
+  filled table at [] = table
+  filled table at (q ∷ qs) = filled (slice_set table q at) (at + size_at V home ops q qs) qs
+
+  filled_long : (table : List ℕ) (at : ℕ) (qs : List ℕ) → length (filled table at qs) ≡ length table
+  filled_long table at [] = refl
+  filled_long table at (q ∷ qs) =
+      filled_long (slice_set table q at) (at + size_at V home ops q qs) qs ∙ length_set table q at
+
+  filled_other : (table : List ℕ) (at : ℕ) (qs : List ℕ) (p : ℕ) → (IsIn p qs → ⊥) → slice_get (filled table at qs) p ≡ slice_get table p
+  filled_other table at [] p out = refl
+  filled_other table at (q ∷ qs) p out =
+      filled_other (slice_set table q at) (at + size_at V home ops q qs) qs p (λ h. out (inr h))
+      ∙ get_set_other table q p at (λ e. out (inl e))
+
+  filled_is :
+      (table : List ℕ) (at : ℕ) (qs : List ℕ) (p : ℕ) → AreDifferent qs → IsIn p qs → p < length table →
+      slice_get (filled table at qs) p ≡ Some (at + before V home ops qs p)
+  filled_is table at [] p apart h lt = absurd h
+  filled_is table at (q ∷ qs) p apart h lt =
+      let size = size_at V home ops q qs in
+      ⊎_elim
+      (λ (e : q ≡ p).
+      let none = before_here V home ops q p qs e in
+      let sum : at ≡ at + before V home ops (q ∷ qs) p = omega (arith, none) in
+      filled_other (slice_set table q at) (at + size) qs p (λ k. apart.0 (subst (λ i. IsIn i qs) (sym e) k))
+      ∙ ap (λ i. slice_get (slice_set table i at) p) e ∙ get_set_same table p at lt ∙ ap Some sum)
+      (λ (ne : q ≢ p).
+      let more = before_there V home ops q p qs ne in
+      let sum : at + size + before V home ops qs p ≡ at + before V home ops (q ∷ qs) p = omega (arith, more) in
+      let long = length_set table q at in
+      filled_is (slice_set table q at) (at + size) qs p apart.1 (in_rest q p qs ne h) (omega (arith, long, lt)) ∙ ap Some sum)
+      (same_or_not q p)
+
+  module _ (order : List ℕ) (ordered : IsOrder (length ops) order) (table : List ℕ) (long : length table ≡ suc (length ops)) where
+    pub last_long : length (slice_set (filled table 0 order) (length ops) (size_of V home ops order)) ≡ suc (length ops)
+    last_long = length_set (filled table 0 order) (length ops) (size_of V home ops order) ∙ filled_long table 0 order ∙ long
+
+    no_spot : IsIn (length ops) order → ⊥
+    no_spot h = let lt = ordered.within (length ops) h in omega (arith, lt)
+
+    pub last_each : (q : ℕ) → q ≤ length ops →
+        slice_get (slice_set (filled table 0 order) (length ops) (size_of V home ops order)) q ≡ Some (before V home ops order q)
+    last_each q h = ⊎_elim
+        (λ (e : q ≡ length ops).
+        let filled_size = filled_long table 0 order in
+        ap (slice_get (slice_set (filled table 0 order) (length ops) (size_of V home ops order))) e
+        ∙ get_set_same (filled table 0 order) (length ops) (size_of V home ops order) (omega (arith, filled_size, long))
+        ∙ ap Some (sym (before_none V home ops order (length ops) no_spot)) ∙ ap (λ i. Some (before V home ops order i)) (sym e))
+        (λ (ne : q ≢ length ops).
+        let lt : q < length ops = not_equal q (length ops) h ne in
+        get_set_other (filled table 0 order) (length ops) q (size_of V home ops order) ne
+        ∙ filled_is table 0 order q ordered.different (ordered.all q lt) (omega (arith, long, lt))
+        ∙ ap Some (let none : 0 + before V home ops order q ≡ before V home ops order q = omega arith in none))
+        (same_or_not q (length ops))
+      where
+        not_equal : (a b : ℕ) → a ≤ b → a ≢ b → a < b
+        not_equal a b le ne = ⊎_elim (λ (lt : a < b). lt) (λ (ge : b ≤ a). absurd (ne (omega (arith, le, ge)))) (cases_lt a b)
 
 -- the addresses of the stops of what remains
 module _ (address : ℕ → ℕ) where

@@ -1,5 +1,6 @@
 pub mod Puts
 pub mod Sites
+pub mod Orders
 pub mod Addresses
 pub mod Entries
 pub mod Tables

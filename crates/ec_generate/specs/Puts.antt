@@ -37,17 +37,21 @@ CanPut homes (step.Decide into q) = IsWithin homes slots into × CanPutQuestion 
 
 -- ---- sizes
 
--- No step, question or jump has more words than this.
+-- No step or question has more words than this,
 abbrev pub most_words : ℕ
-most_words = 24
+most_words = 20
 
--- questions and jumps have as many words as they say, and no step has many
+-- and no jump more than this.
+abbrev pub most_jump_words : ℕ
+most_jump_words = 4
+
+-- questions and jumps have as many words as they say, and none has many
 pub record IsSized (V : Vocabulary) : Type 0 where
   pub asks : (q : Question) (from to : ℕ) → length (V.ask_words q from to) ≡ V.ask_size q
   pub jumps : (from to : ℕ) → length (V.jump_words from to) ≡ V.jump_size
   pub step : (m : Step) → length (V.step_words m) ≤ most_words
   pub ask : (q : Question) → V.ask_size q ≤ most_words
-  pub jump : V.jump_size ≤ most_words
+  pub jump : V.jump_size ≤ most_jump_words
 
 pub record Sized (vs : Vocabularies) : Type 0 where
   pub near : IsSized vs.near

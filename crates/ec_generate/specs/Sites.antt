@@ -31,11 +31,11 @@ abbrev pub ops_there : Site → List Op
 ops_there site = ops_of site.code.now
 
 abbrev pub size_there : Vocabulary → Site → ℕ
-size_there V site = layout.size_of V (home_there site) (ops_there site)
+size_there V site = layout.size_of V (home_there site) (ops_there site) site.order.now
 
 -- the word at which step q begins, where the code begins at word `start`
 abbrev pub place_there : Vocabulary → Site → ℕ → ℕ → ℕ
-place_there V site start q = layout.place V (home_there site) (ops_there site) start q
+place_there V site start q = layout.place V (home_there site) (ops_there site) site.order.now start q
 
 -- what is said of the code, which begins at word `start`
 abbrev pub code_there : Vocabulary → Site → ℕ → OperationCode
@@ -80,4 +80,4 @@ pub record IsMakeable (homes : ℕ) (site : Site) : Type 0 where
 -- how many words stand before each step, and in all
 pub record ArePlaces (V : Vocabulary) (site : Site) (places : List ℕ) : Type 0 where
   pub count : length places ≡ suc (length (ops_there site))
-  pub each : (q : ℕ) → q ≤ length (ops_there site) → slice_get places q ≡ Some (layout.before V (home_there site) (ops_there site) q)
+  pub each : (q : ℕ) → q ≤ length (ops_there site) → slice_get places q ≡ Some (layout.before V (home_there site) (ops_there site) site.order.now q)

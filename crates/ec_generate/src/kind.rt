@@ -1,6 +1,6 @@
 //! What a kind of machine writes.
 ghost use Rattle.std.specs.Prelude.{◌≡◌, ℕ, ◌+◌, ◌≤◌, [], ◌∷◌, ◌++◌, OnOk, length};
-ghost use Rattle.ec_generate.specs.Puts.{CanPut, CanPutQuestion, Sized, most_words, pick};
+ghost use Rattle.ec_generate.specs.Puts.{CanPut, CanPutQuestion, Sized, most_jump_words, most_words, pick};
 ghost use Rattle.ec_machine_code.specs.Layout.{Vocabularies};
 ghost use Rattle.ec_machine_code.specs.Speaks.{words_end};
 
@@ -45,14 +45,14 @@ pub trait Kind {
     /// How many words a jump has.
     fn jump_size(&self, span: Span) -> u32
         ensures is { result ≡ (pick vocabularies span).jump_size }
-        ensures few { result ≤ most_words };
+        ensures few { result ≤ most_jump_words };
 
     /// Writes a step.
     fn put_step(&self, span: Span, step: Step, words: &mut Seq<u32>) -> Result<(), AllocError>
         requires { CanPut homes step }
         ensures { OnOk result (words.new ≡ words.old ++ (pick vocabularies span).step_words step) };
 
-    /// Writes a question at a word that leads to another one behind it.
+    /// Writes a question at a word that leads to another one.
     fn put_ask(
         &self,
         span: Span,
@@ -62,9 +62,10 @@ pub trait Kind {
         words: &mut Seq<u32>,
     ) -> Result<(), AllocError>
         requires homes { CanPutQuestion homes question }
-        requires forward { from + (pick vocabularies span).ask_size question ≤ to }
-        requires room { to ≤ words_end }
-        requires near { to ≤ from + (pick vocabularies span).reach }
+        requires from { from + (pick vocabularies span).ask_size question ≤ words_end }
+        requires to { to ≤ words_end }
+        requires forward { to ≤ from + (pick vocabularies span).reach }
+        requires back { from ≤ to + (pick vocabularies span).reach }
         ensures { OnOk result (words.new ≡ words.old ++ (pick vocabularies span).ask_words question from to) };
 
     /// Writes a jump at a word to another one.

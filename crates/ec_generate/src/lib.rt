@@ -3,7 +3,7 @@
 //! | modules | what they have |
 //! |---|---|
 //! | `image` | the image of a program: words, and the stop table that is bound to them |
-//! | `program`, `operation`, `lowering`, `conditions`, `direct`, `site`, `sizes` | the words of code |
+//! | `program`, `operation`, `order`, `lowering`, `conditions`, `direct`, `site`, `sizes` | the words of code |
 //! | `kind` | what a kind of machine writes: rv_code and mips_code have one each |
 //! | `assign`, `addresses`, `entries`, `table` | the stop table: homes of variables, addresses of stops, what is live at each |
 //!
@@ -19,6 +19,7 @@ pub mod image;
 pub mod kind;
 mod lowering;
 mod operation;
+mod order;
 pub mod program;
 mod site;
 mod sizes;

@@ -192,6 +192,16 @@ fn question(relation: Relation, left: Source, right: Source, wanted: bool) -> Qu
     }
 }
 
+/// The question that is answered with yes where this one is answered with no.
+pub(crate) fn opposite(question: Question) -> Question
+    ensures { result ≡ spec.opposite question }
+{
+    Question {
+        wanted: !question.wanted,
+        ..question
+    }
+}
+
 /// Whether a relation holds between two words.
 fn related(relation: Relation, a: u32, b: u32) -> bool
     ensures { result ≡ related relation a b }

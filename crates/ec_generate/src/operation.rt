@@ -1,22 +1,24 @@
 //! The words of an operation.
-ghost use Rattle.std.specs.Prelude.{◌≡◌, ℕ, ◌≤◌, ◌<◌, ◌+◌, ◌++◌, true, false, IfOk, IsSome, OnOk, Some, None, length, map, slice_get};
+ghost use Rattle.std.specs.Prelude.{◌≡◌, ℕ, ◌≤◌, ◌<◌, ◌+◌, ◌∷◌, ◌++◌, true, false, IfOk, IsSome, OnOk, Some, None, length, map, slice_get};
 ghost use Rattle.ec_machine_code.specs.Stops.{stop_of, stop_places};
-ghost use Rattle.ec_generate.specs.Puts.{pick};
-ghost use Rattle.ec_generate.specs.Sites.{ArePlaces, CanPutAll, IsLed, IsMakeable, code_there, home_there};
-ghost use Rattle.ec_generate.specs.Sites.{ops_there, place_there, size_there};
+ghost use Rattle.ec_generate.specs.Puts.{CanPutQuestion, pick};
+ghost use Rattle.ec_generate.specs.Sites.{ArePlaces, CanPutAll, CanPutEnding, IsLed, IsMakeable, code_there, home_there};
+ghost use Rattle.ec_generate.specs.Sites.{most_steps, ops_there, place_there, size_there};
 ghost use Rattle.ec_machine_code.specs.Direct.{laid_op};
 ghost use Rattle.ec_machine_code.specs.Layout as layout;
+ghost use Rattle.ec_machine_code.specs.Layout.{IsOrder};
 ghost use Rattle.ec_machine_code.specs.Lowering as lowering;
 ghost use Rattle.ec_machine_code.specs.Speaks.{words_end};
 ghost use Rattle.ec_target.specs.Code.{pc_of};
 
 use crate::kind::{Kind, Span};
+use crate::lowering::opposite;
 use crate::site::Site;
 use crate::sizes::places;
 use ec_base::list::Seq;
 use ec_code::code::Op;
 use ec_machine_code::code::OperationCode;
-use ec_machine_code::step::Ending;
+use ec_machine_code::step::{Ending, Question};
 use std::alloc::{AllocError, Global};
 
 /// Where code starts, in bytes.
@@ -62,58 +64,150 @@ fn word_at<K: Kind>(
     start + *places.at(q)
 }
 
-/// Writes how the code goes on behind step q. The error is want of memory.
+/// Writes what leads on to a step, where another one stands next: a jump, unless it is this one. The error is want of memory.
+fn put_on<K: Kind>(
+    kind: &K,
+    span: Span,
+    site: &Site<'_>,
+    places: &Seq<u32>,
+    start: u32,
+    next: usize,
+    to: usize,
+    words: &mut Seq<u32>,
+) -> Result<(), AllocError>
+    requires within { to ≤ length (ops_there site.now) }
+    requires placed { ArePlaces (pick K.vocabularies span) site.now places.now }
+    requires near { size_there (pick K.vocabularies span) site.now ≤ (pick K.vocabularies span).reach }
+    requires room { start + size_there (pick K.vocabularies span) site.now ≤ words_end }
+    requires begins { start ≤ length words.old }
+    requires ends { length words.old + layout.on_size (pick K.vocabularies span) next to
+        ≤ start + size_there (pick K.vocabularies span) site.now }
+    ensures { OnOk result (words.new ≡ words.old ++ layout.on_words (pick K.vocabularies span)
+        (place_there (pick K.vocabularies span) site.now start) next to (length words.old)) }
+{
+    if next == to {
+        return Ok(());
+    }
+    let from = words.len() as u32;
+    kind.put_jump(
+        span,
+        from,
+        word_at(kind, span, site, places, start, to),
+        words,
+    )
+}
+
+/// Writes a question of step q whose target is so many steps past the next one. The error is want of memory.
+fn put_branch<K: Kind>(
+    kind: &K,
+    span: Span,
+    site: &Site<'_>,
+    places: &Seq<u32>,
+    start: u32,
+    next: usize,
+    q: usize,
+    question: Question,
+    over: u32,
+    words: &mut Seq<u32>,
+) -> Result<(), AllocError>
+    requires few { length (ops_there site.now) ≤ most_steps }
+    requires within { q + over + 1 ≤ length (ops_there site.now) }
+    requires homes { CanPutQuestion K.homes question }
+    requires placed { ArePlaces (pick K.vocabularies span) site.now places.now }
+    requires near { size_there (pick K.vocabularies span) site.now ≤ (pick K.vocabularies span).reach }
+    requires room { start + size_there (pick K.vocabularies span) site.now ≤ words_end }
+    requires begins { start ≤ length words.old }
+    requires ends { length words.old + layout.branch_size (pick K.vocabularies span) next q question over
+        ≤ start + size_there (pick K.vocabularies span) site.now }
+    ensures { OnOk result (words.new ≡ words.old ++ layout.branch_words (pick K.vocabularies span)
+        (place_there (pick K.vocabularies span) site.now start) next q question over (length words.old)) }
+{
+    let target = q + over as usize + 1;
+    let from = words.len() as u32;
+    if next == target {
+        let to = word_at(kind, span, site, places, start, q + 1);
+        return kind.put_ask(span, opposite(question), from, to, words);
+    }
+    let to = word_at(kind, span, site, places, start, target);
+    kind.put_ask(span, question, from, to, words)?;
+    put_on(kind, span, site, places, start, next, q + 1, words)
+}
+
+/// Writes how the code goes on behind step q, where another one stands next. The error is want of memory.
 fn put_ending<K: Kind>(
     kind: &K,
     span: Span,
     site: &Site<'_>,
     places: &Seq<u32>,
     start: u32,
+    next: usize,
     q: usize,
-    op: &Op,
+    ending: Option<Ending>,
     words: &mut Seq<u32>,
 ) -> Result<(), AllocError>
-    requires led { IsLed site.now }
-    requires in_code { q < length site.now.code.now }
-    requires there { slice_get (ops_there site.now) q ≡ Some (laid_op site.now.code.now q op.now) }
-    requires makeable { IsMakeable K.homes site.now }
+    requires few { length (ops_there site.now) ≤ most_steps }
+    requires there { q + 1 ≤ length (ops_there site.now) }
+    requires can { CanPutEnding K.homes (length (ops_there site.now)) q ending }
     requires placed { ArePlaces (pick K.vocabularies span) site.now places.now }
     requires near { size_there (pick K.vocabularies span) site.now ≤ (pick K.vocabularies span).reach }
     requires room { start + size_there (pick K.vocabularies span) site.now ≤ words_end }
-    requires here { length words.old ≡ place_there (pick K.vocabularies span) site.now start q
-        + layout.plain_size (pick K.vocabularies span) (home_there site.now) (laid_op site.now.code.now q op.now) }
-    ensures { OnOk result (words.new ≡ words.old ++ layout.ending_words (pick K.vocabularies span) (home_there site.now)
-        (ops_there site.now) start q (length words.old)
-        (lowering.ending_of (home_there site.now) (laid_op site.now.code.now q op.now))) }
+    requires begins { start ≤ length words.old }
+    requires ends { length words.old + layout.ending_size (pick K.vocabularies span) next q ending
+        ≤ start + size_there (pick K.vocabularies span) site.now }
+    ensures { OnOk result (words.new ≡ words.old ++ layout.ending_words (pick K.vocabularies span)
+        (place_there (pick K.vocabularies span) site.now start) next q (length words.old) ending) }
 {
-    let Some(ending) = site.ending_at(q, op) else {
-        return Ok(());
-    };
-    let from = words.len() as u32;
     match ending {
-        Ending::Branch { question, over } => {
-            let to = word_at(kind, span, site, places, start, q + over as usize + 1);
-            kind.put_ask(span, question, from, to, words)
+        None => put_on(kind, span, site, places, start, next, q + 1, words),
+        Some(Ending::Branch { question, over }) => put_branch(
+            kind, span, site, places, start, next, q, question, over, words,
+        ),
+        Some(Ending::Jump { over }) => {
+            let to = q + over as usize + 1;
+            put_on(kind, span, site, places, start, next, to, words)
         }
-        Ending::Jump { over } => {
-            let to = word_at(kind, span, site, places, start, q + over as usize + 1);
-            kind.put_jump(span, from, to, words)
+        Some(Ending::Again { back }) => {
+            let to = q - back as usize;
+            put_on(kind, span, site, places, start, next, to, words)
         }
-        Ending::Again { back } => {
-            let to = word_at(kind, span, site, places, start, q - back as usize);
-            kind.put_jump(span, from, to, words)
-        }
-        Ending::Stop => kind.put_stop(span, words),
+        Some(Ending::Stop) => put_rest(kind, span, site, places, start, next, q, words),
     }
 }
 
-/// Writes the words of step q of the code. The error is want of memory.
+/// Writes a stop at step q, and what leads on behind it. The error is want of memory.
+fn put_rest<K: Kind>(
+    kind: &K,
+    span: Span,
+    site: &Site<'_>,
+    places: &Seq<u32>,
+    start: u32,
+    next: usize,
+    q: usize,
+    words: &mut Seq<u32>,
+) -> Result<(), AllocError>
+    requires few { length (ops_there site.now) ≤ most_steps }
+    requires there { q + 1 ≤ length (ops_there site.now) }
+    requires placed { ArePlaces (pick K.vocabularies span) site.now places.now }
+    requires near { size_there (pick K.vocabularies span) site.now ≤ (pick K.vocabularies span).reach }
+    requires room { start + size_there (pick K.vocabularies span) site.now ≤ words_end }
+    requires begins { start ≤ length words.old }
+    requires ends { length words.old + (1 + layout.on_size (pick K.vocabularies span) next (q + 1))
+        ≤ start + size_there (pick K.vocabularies span) site.now }
+    ensures { OnOk result (words.new ≡ words.old ++ (pick K.vocabularies span).stop_word ∷ layout.on_words
+        (pick K.vocabularies span) (place_there (pick K.vocabularies span) site.now start) next (q + 1) (length words.old + 1)) }
+{
+    kind.put_stop(span, words)?;
+    put_on(kind, span, site, places, start, next, q + 1, words)
+}
+
+/// Writes the words of step q of the code, where another one stands next. The error is want of memory.
 fn put_op<K: Kind>(
     kind: &K,
     span: Span,
     site: &Site<'_>,
     places: &Seq<u32>,
     start: u32,
+    next: usize,
     q: usize,
     op: &Op,
     words: &mut Seq<u32>,
@@ -125,13 +219,16 @@ fn put_op<K: Kind>(
     requires placed { ArePlaces (pick K.vocabularies span) site.now places.now }
     requires near { size_there (pick K.vocabularies span) site.now ≤ (pick K.vocabularies span).reach }
     requires room { start + size_there (pick K.vocabularies span) site.now ≤ words_end }
-    requires here { length words.old ≡ place_there (pick K.vocabularies span) site.now start q }
+    requires begins { start ≤ length words.old }
+    requires ends { length words.old + layout.op_size (pick K.vocabularies span) (home_there site.now) next q
+        (laid_op site.now.code.now q op.now) ≤ start + size_there (pick K.vocabularies span) site.now }
     ensures { OnOk result (words.new ≡ words.old
-        ++ layout.op_words (pick K.vocabularies span) (home_there site.now) (ops_there site.now) start q
-        (laid_op site.now.code.now q op.now)) }
+        ++ layout.op_words (pick K.vocabularies span) (home_there site.now) (place_there (pick K.vocabularies span) site.now start)
+        next q (length words.old) (laid_op site.now.code.now q op.now)) }
 {
     put_steps(kind, span, site, q, op, words)?;
-    put_ending(kind, span, site, places, start, q, op, words)
+    let ending = site.ending_at(q, op);
+    put_ending(kind, span, site, places, start, next, q, ending, words)
 }
 
 /// Writes the words of an operation's code, which begins at word `start`. The error is want of memory.
@@ -144,25 +241,20 @@ fn put_code<K: Kind>(
     words: &mut Seq<u32>,
 ) -> Result<(), AllocError>
     requires led { IsLed site.now }
+    requires ordered { IsOrder (length site.now.code.now) site.now.order.now }
     requires makeable { IsMakeable K.homes site.now }
     requires placed { ArePlaces (pick K.vocabularies span) site.now places.now }
     requires near { size_there (pick K.vocabularies span) site.now ≤ (pick K.vocabularies span).reach }
     requires room { start + size_there (pick K.vocabularies span) site.now ≤ words_end }
     requires here { length words.old ≡ start }
     ensures { OnOk result (words.new ≡ words.old
-        ++ layout.operation_words (pick K.vocabularies span) (home_there site.now) (ops_there site.now) start) }
+        ++ layout.operation_words (pick K.vocabularies span) (home_there site.now) (ops_there site.now) site.now.order.now start) }
 {
-    for q in 0..site.code.len() {
-        put_op(
-            kind,
-            span,
-            site,
-            places,
-            start,
-            q,
-            &site.code.at(q).op,
-            words,
-        )?;
+    for spot in 0..site.order.len() {
+        let q = *site.order.at(spot);
+        let next = site.next_at(spot);
+        let op = &site.code.at(q).op;
+        put_op(kind, span, site, places, start, next, q, op, words)?;
     }
     Ok(())
 }
@@ -221,11 +313,13 @@ pub(crate) fn put_operation<K: Kind>(
     words: &mut Seq<u32>,
 ) -> Result<OperationCode, AllocError>
     requires led { IsLed site.now }
+    requires ordered { IsOrder (length site.now.code.now) site.now.order.now }
     requires makeable { IsMakeable K.homes site.now }
     requires near { size_there (pick K.vocabularies span) site.now ≤ (pick K.vocabularies span).reach }
     requires room { length words.old + size_there (pick K.vocabularies span) site.now ≤ words_end }
     ensures words { OnOk result (words.new ≡ words.old
-        ++ layout.operation_words (pick K.vocabularies span) (home_there site.now) (ops_there site.now) (length words.old)) }
+        ++ layout.operation_words (pick K.vocabularies span) (home_there site.now) (ops_there site.now) site.now.order.now
+        (length words.old)) }
     ensures code { IfOk result (λ code. code ≡ code_there (pick K.vocabularies span) site.now (length words.old)) }
 {
     let start = words.len() as u32;

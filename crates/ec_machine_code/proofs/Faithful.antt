@@ -10,6 +10,7 @@ use Rattle.ec_code.specs.Steps.{Machine}
 use Rattle.ec_code.specs.Typing.{Declared}
 use Rattle.ec_code.specs.declared.activation.CodeActivation.{CodeActivation}
 use Rattle.ec_code.specs.declared.code.Line.{Line}
+use Rattle.ec_code.specs.declared.code.Op.TheVariants as op
 use Rattle.ec_code.specs.declared.code.Operation.{Operation}
 use Rattle.ec_code.specs.declared.code.Parts.{Parts}
 use Rattle.ec_code.specs.declared.code.StopRow.{StopRow}
@@ -24,40 +25,41 @@ use Rattle.ec_machine_code.specs.Stops.{IsStopAt, home_in, stop_of, stop_places,
 use Rattle.ec_machine_code.specs.Homes.{IsWithin}
 use Rattle.ec_machine_code.specs.declared.homes.Home.{Home}
 use Rattle.ec_machine_code.specs.declared.homes.Home.TheVariants.{Register, Slot}
-use Rattle.ec_machine_code.proofs.Direct.{none_behind}
+use Rattle.ec_machine_code.proofs.Direct.{none_behind, rest_laid}
 use Rattle.ec_machine_code.specs.Direct.{direct_before, direct_of}
 use Rattle.ec_machine_code.specs.Fitting.{CanBeLaidOut, LaidOutIsFaithful}
-use Rattle.ec_machine_code.specs.Layout.{Vocabularies, home_of, home_or, op_size, ops_of, vocabulary_of}
+use Rattle.ec_machine_code.specs.Layout.{Vocabularies, home_of, home_or, order_of, vocabulary_of}
 use Rattle.ec_machine_code.specs.Micro.{Sight}
-use Rattle.ec_machine_code.specs.Speaks.{Sees, Vocabulary}
+use Rattle.ec_machine_code.specs.Speaks.{Ends, Sees, Vocabulary}
 use Rattle.ec_world.specs.Words.{StandsFor}
-use Rattle.ec_target.proofs.Climbing.{passes_lead, rises_few}
+use Rattle.ec_target.proofs.Climbing.{passes_lead}
 use Rattle.ec_target.specs.Code.{pc_of, word_at}
 use Rattle.ec_world.specs.declared.common.Common.{Common}
 use Rattle.ec_world.specs.declared.value.Value.{Value}
-use Rattle.ec_machine_code.proofs.Once.{rises_different, rises_inside}
 use Rattle.ec_machine_code.proofs.Programs.{before_is}
-use Rattle.ec_machine_code.proofs.Sites.{Site, behind_all, word_of}
-use Rattle.ec_machine_code.proofs.LaidOutSizes.{before_next}
+use Rattle.ec_machine_code.proofs.Goings.{leaves}
+use Rattle.ec_machine_code.proofs.Sites.{Site, end_of, word_of}
+use Rattle.ec_machine_code.proofs.Spots.{comes_few, is_within}
 use Rattle.ec_machine_code.proofs.Standing.{Held, Holds, Setting, Standing}
 use Rattle.ec_machine_code.proofs.Stops.{number_of, numbered, rest_is}
-use Rattle.ec_machine_code.proofs.Walks.{Gets, GetsTo, gets}
-use Rattle.ec_machine_code.proofs.Whole.{address_is, apart, at_place, code, known, laid_at, only, op_at, speaks, start, stop_line}
+use Rattle.ec_machine_code.proofs.Walks.{Gets, GetsTo, extends, gets}
+use Rattle.ec_machine_code.proofs.Whole.{address_is, apart, at_place, code, known, laid_at, only, speaks, start, stop_line}
 use Rattle.ec_machine_code.proofs.Whole.{stop_word_at, stops}
 use Rattle.ec_machine_code.proofs.Whole.{whole, within, words_are}
 
-module _ {S : Type 0} (M : MachineMeaning S) (vs : Vocabularies) (homes : List (List Home)) (d : Declared) (p : Parts)
-    (can : CanBeLaidOut M vs homes d p) (local : ℕ → Option ℕ) (text : ℕ → Option (List ℕ)) (o : Operation) (a : CodeActivation)
+module _ {S : Type 0} (M : MachineMeaning S) (vs : Vocabularies) (homes : List (List Home)) (orders : List (List ℕ)) (d : Declared)
+    (p : Parts)
+    (can : CanBeLaidOut M vs homes orders d p) (local : ℕ → Option ℕ) (text : ℕ → Option (List ℕ)) (o : Operation) (a : CodeActivation)
     (c : Common) (address f own : ℕ) (s : S) (bytes : Bytes)
     (tables : AreTables p local text)
     (is : operation_at p a.operation ≡ Some o)
-    (stop : IsStopAt p (code M vs homes d p can) a.operation a.at address)
+    (stop : IsStopAt p (code M vs homes orders d p can) a.operation a.at address)
     (behind : M.place s ≡ address + 4)
     (has : HasWhatIsSet o a.own (machine_behind p c a))
     (fits : Fits M local text (homes_of homes a.operation o) (live_at o.code (suc a.at)) f own a.own (machine_behind p c a) s bytes)
   where
     abbrev V : Vocabulary
-    V = vocabulary_of vs homes a.operation o
+    V = vocabulary_of vs homes orders a.operation o
 
     abbrev m : Machine
     m = machine_behind p c a
@@ -78,8 +80,8 @@ module _ {S : Type 0} (M : MachineMeaning S) (vs : Vocabularies) (homes : List (
       frame_small = fits.frame_small;
       own_small = fits.own_small;
       apart = fits.apart;
-      reads_back = (speaks M vs homes d p can a.operation o).reads_back;
-      length_bytes = (speaks M vs homes d p can a.operation o).length_bytes;
+      reads_back = (speaks M vs homes orders d p can a.operation o).reads_back;
+      length_bytes = (speaks M vs homes orders d p can a.operation o).length_bytes;
     }
 
     home_is : (x : Variable) (h : Home) → home_in homes a.operation (length o.variables) x ≡ Some h → home x ≡ h
@@ -87,7 +89,7 @@ module _ {S : Type 0} (M : MachineMeaning S) (vs : Vocabularies) (homes : List (
 
     abbrev z : Site M V g
     z = record {
-      speaks = speaks M vs homes d p can a.operation o;
+      speaks = speaks M vs homes orders d p can a.operation o;
       declared = d;
       number = a.operation;
       of = o;
@@ -99,9 +101,10 @@ module _ {S : Type 0} (M : MachineMeaning S) (vs : Vocabularies) (homes : List (
           subst (λ k. IsWithin M.homes slots k) (sym (home_is x h.0 h.1)) h.2;
       apart = (can.homes_fit a.operation o is).apart;
       sets = has.fields;
-      code = (code M vs homes d p can).words;
-      start = start M vs homes d p can a.operation;
-      laid = laid_at M vs homes d p can a.operation o is;
+      code = (code M vs homes orders d p can).words;
+      start = start M vs homes orders d p can a.operation;
+      order = order_of vs homes orders a.operation;
+      laid = laid_at M vs homes orders d p can a.operation o is;
     }
 
     abbrev seen : Sight
@@ -162,13 +165,16 @@ module _ {S : Type 0} (M : MachineMeaning S) (vs : Vocabularies) (homes : List (
           is_stop = n.is_stop;
         }
 
-    begins : M.place s ≡ pc_of (at_place M vs homes d p can a.operation o (suc a.at))
+    rests : here.line.op ≡ op.Rest here.row
+    rests = rest_is here.line.op here.row here.is_stop
+
+    -- behind the stop the code goes on to the next step
+    begins : Ends M f own z.code s seen (word_of M V g z a.at) (end_of M V g z a.at) (word_of M V g z (suc a.at)) seen
     begins =
-        let next = before_next V home (ops_of o.code) a.at here.line.op (op_at o.code a.at here.line here.row here.is_line here.is_stop) in
-        let one = ap (op_size V home) (rest_is here.line.op here.row here.is_stop) in
-        let from = same_Some address (pc_of (at_place M vs homes d p can a.operation o a.at))
-        (sym stop.is_address ∙ address_is M vs homes d p can a.operation stop.number a.at o is here.number) in
-        omega (arith, behind, from, next, one)
+        let from = same_Some address (pc_of (at_place M vs homes orders d p can a.operation o a.at))
+        (sym stop.is_address ∙ address_is M vs homes orders d p can a.operation stop.number a.at o is here.number) in
+        leaves M V g z a.at here.line.op here.line.op here.line.live here.is_line
+        (rest_laid o.code a.at here.line here.row here.is_line here.is_stop) here.row s seen rests (omega (arith, behind, from)) sees
 
     -- a stop does no copy of the step behind it
     none_done : direct_before o.code (suc a.at) ≡ None
@@ -177,24 +183,26 @@ module _ {S : Type 0} (M : MachineMeaning S) (vs : Vocabularies) (homes : List (
 
     module _ (e : Common) (r : Arrived)
         (walks : walk p.literals a.own (suc a.at) (drop (suc a.at) o.code) 0 m ≡ (e, Some r)) where
-      gone : Gets M V g z s seen (word_of M V g z (suc a.at + 0)) e r
+      gone : Gets M V g z s seen a.at e r
       gone =
           let first : suc a.at ≡ suc a.at + 0 = omega arith in
-          subst (λ to. GetsTo M V g z s seen (word_of M V g z (suc a.at + 0)) to) walks
-          (gets M V g z (drop (suc a.at) o.code) (suc a.at) 0 m refl s seen
-          (ap (direct_before o.code) (sym first) ∙ none_done) sees
-          (begins ∙ ap (λ k. pc_of (at_place M vs homes d p can a.operation o k)) first)
-          (subst (λ k. Standing M g home (length o.variables) (live_at o.code k) seen m) first stands))
+          extends M V g z s seen seen a.at (suc a.at + 0) (word_of M V g z (suc a.at)) here.line (e, Some r) here.is_line begins
+          (λ address out. refl) (omega arith)
+          (subst (λ to. GetsTo M V g z begins.last seen (suc a.at + 0) to) walks
+          (gets M V g z (drop (suc a.at) o.code) (suc a.at) 0 m refl begins.last seen
+          (ap (direct_before o.code) (sym first) ∙ none_done) begins.sees
+          (begins.at ∙ ap (λ k. pc_of (word_of M V g z k)) first)
+          (subst (λ k. Standing M g home (length o.variables) (live_at o.code k) seen m) first stands)))
 
       back :
           (h : Home) (u : Value) → Holds M g gone.sight.home gone.sight.bytes h u →
-          HomeStands M local text f gone.ends.last gone.sight.bytes h u
+          HomeStands M local text f gone.comes.last gone.sight.bytes h u
       back (Slot n) u w = w
-      back (Register k) u w = (w.0, subst (λ x. StandsFor local text u x) (sym (gone.ends.sees.home k w.0)) w.1)
+      back (Register k) u w = (w.0, subst (λ x. StandsFor local text u x) (sym (gone.comes.sees.home k w.0)) w.1)
 
       lives :
           (x : Variable) (t : StaticType) → Has gone.line.live x t →
-          Lives M local text (homes_of homes a.operation o) f gone.ends.last gone.sight.bytes (machine_at e r) x
+          Lives M local text (homes_of homes a.operation o) f gone.comes.last gone.sight.bytes (machine_at e r) x
       lives x t l =
           let h = gone.stand.held x t l in
           let there = (can.homes_fit a.operation o is).each gone.from gone.line x gone.is_line (inr (inr (t, l))) in
@@ -204,56 +212,54 @@ module _ {S : Type 0} (M : MachineMeaning S) (vs : Vocabularies) (homes : List (
             fits = h.fits;
             home = there.0;
             has = there.1;
-            stands = subst (λ k. HomeStands M local text f gone.ends.last gone.sight.bytes k h.value) (home_is x there.0 there.1)
+            stands = subst (λ k. HomeStands M local text f gone.comes.last gone.sight.bytes k h.value) (home_is x there.0 there.1)
                 (back (home x) h.value h.holds);
           }
 
       -- its words are the operation's
-      words_of_it : (i : ℕ) → word_of M V g z (suc a.at + 0) ≤ i → i < behind_all M V g z → IsWordOf (code M vs homes d p can) a.operation i
-      words_of_it i low high =
-          let first = before_is M vs can.near can.middle can.far homes 0 0 p.operations a.operation in
-          let all = words_are M vs homes d p can a.operation o is in
+      inside : (i : ℕ) → IsIn i gone.comes.path → IsWordOf (code M vs homes orders d p can) a.operation i
+      inside i h =
+          let within = is_within M V g z a.at i (gone.comes.words i h) in
+          let first = before_is M vs can.near can.middle can.far homes orders 0 0 p.operations a.operation in
+          let all = words_are M vs homes orders d p can a.operation o is in
+          let low = within.0 in
+          let high = within.1 in
           ((omega (arith, low, first)), (omega (arith, high, first, all)))
 
-      inside : (i : ℕ) → IsIn i gone.ends.climbs.path → IsWordOf (code M vs homes d p can) a.operation i
-      inside i h =
-          let within = rises_inside (word_of M V g z (suc a.at + 0)) (behind_all M V g z) gone.ends.climbs.path i gone.ends.climbs.rises h in
-          words_of_it i within.0 within.1
-
-      few : length gone.ends.climbs.path ≤ suc (words_of (code M vs homes d p can) a.operation)
+      few : length gone.comes.path ≤ suc (words_of (code M vs homes orders d p can) a.operation)
       few =
-          let few = rises_few (word_of M V g z (suc a.at + 0)) (behind_all M V g z) gone.ends.climbs.path gone.ends.climbs.rises in
-          let all = words_are M vs homes d p can a.operation o is in
+          let few = comes_few M V g z s seen gone.sight a.at (word_of M V g z r.place) gone.comes in
+          let all = words_are M vs homes orders d p can a.operation o is in
           omega (arith, few, all)
 
-      pub arrives : ArrivesOnce M p (code M vs homes d p can) homes local text a.operation o f own a.own m e r s bytes
+      pub arrives : ArrivesOnce M p (code M vs homes orders d p can) homes local text a.operation o f own a.own m e r s bytes
       arrives =
           let top = stop_line (slice_get o.code r.place) gone.arrival.row gone.arrival.is_row in
-          let word = stop_word_at M vs homes d p can a.operation r.place o top.0 gone.arrival.row is top.1 top.2 in
+          let word = stop_word_at M vs homes orders d p can a.operation r.place o top.0 gone.arrival.row is top.1 top.2 in
           let number = number_of o.code 0 r.place top.0 gone.arrival.row top.1 top.2 in
           let none : 0 + r.place ≡ r.place = omega arith in
           let is_number = number.1 ∙ ap Some none in
-          let rests = gone.ends.sees.rests in
-          let speaking = speaks M vs homes d p can a.operation o in
-          let path = gone.ends.climbs.path in (
+          let rests = gone.comes.sees.rests in
+          let speaking = speaks M vs homes orders d p can a.operation o in
+          let path = gone.comes.path in (
             record {
               steps = length path;
-              last = gone.ends.last;
+              last = gone.comes.last;
               memory = gone.sight.bytes;
               native = (
-                passes_lead (M.goes (code M vs homes d p can).words) M.place path s bytes gone.ends.last gone.sight.bytes
-                    gone.ends.climbs.passes,
-                speaking.halt (code M vs homes d p can).words gone.ends.last gone.sight.bytes rests
-                    (ap (word_at (code M vs homes d p can).words) gone.ends.at ∙ word),
+                passes_lead (M.goes (code M vs homes orders d p can).words) M.place path s bytes gone.comes.last gone.sight.bytes
+                    gone.comes.passes,
+                speaking.halt (code M vs homes orders d p can).words gone.comes.last gone.sight.bytes rests
+                    (ap (word_at (code M vs homes orders d p can).words) gone.comes.at ∙ word),
               );
               few = few;
-              is_loaded = speaking.is_loaded gone.ends.last rests;
+              is_loaded = speaking.is_loaded gone.comes.last rests;
               at = record {
                 operation = o;
                 is_operation = is;
                 number = number.0;
                 is_number = is_number;
-                is_address = address_is M vs homes d p can a.operation number.0 r.place o is is_number ∙ ap Some (sym gone.ends.at);
+                is_address = address_is M vs homes orders d p can a.operation number.0 r.place o is is_number ∙ ap Some (sym gone.comes.at);
               };
               row = gone.arrival.row;
               is_row = gone.arrival.is_row;
@@ -264,25 +270,25 @@ module _ {S : Type 0} (M : MachineMeaning S) (vs : Vocabularies) (homes : List (
             },
             record {
               path = path;
-              passes = gone.ends.climbs.passes;
-              different = rises_different (word_of M V g z (suc a.at + 0)) (behind_all M V g z) path gone.ends.climbs.rises;
+              passes = gone.comes.passes;
+              different = gone.comes.different;
               inside = inside;
             },
           )
 
 module _ {S : Type 0} (M : MachineMeaning S) where
   pub faithful : LaidOutIsFaithful M
-  faithful vs homes d p can = record {
+  faithful vs homes orders d p can = record {
     faithful = record {
-      stops = λ n k q o e is. stops M vs homes d p can n k q o e is;
-      only = only M vs homes d p can;
-      apart = apart M vs homes d p can;
-      known = known M vs homes d p can;
-      whole = whole M vs homes d p can;
-      within = within M vs homes d p can;
+      stops = λ n k q o e is. stops M vs homes orders d p can n k q o e is;
+      only = only M vs homes orders d p can;
+      apart = apart M vs homes orders d p can;
+      known = known M vs homes orders d p can;
+      whole = whole M vs homes orders d p can;
+      within = within M vs homes orders d p can;
       runs = λ local text o a c e r address f own s bytes tables is stop walks behind has fits.
-          (arrives M vs homes d p can local text o a c address f own s bytes tables is stop behind has fits e r walks).0;
+          (arrives M vs homes orders d p can local text o a c address f own s bytes tables is stop behind has fits e r walks).0;
     };
     once = λ local text o a c e r address f own s bytes tables is stop walks behind has fits.
-        arrives M vs homes d p can local text o a c address f own s bytes tables is stop behind has fits e r walks;
+        arrives M vs homes orders d p can local text o a c address f own s bytes tables is stop behind has fits e r walks;
   }

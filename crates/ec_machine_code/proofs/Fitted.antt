@@ -34,7 +34,7 @@ use Rattle.ec_code.specs.Marks.{is_same}
 use Rattle.ec_memory.proofs.Words.{word_other, word_written}
 use Rattle.ec_memory.specs.Words.{HasWord, block_word_at, global_word_at, word_in}
 use Rattle.ec_machine_code.specs.Fitting.{CanBeLaidOut}
-use Rattle.ec_machine_code.specs.Layout.{Vocabularies, home_of, ops_of, vocabulary_of}
+use Rattle.ec_machine_code.specs.Layout.{Vocabularies, home_of, ops_of, order_of, vocabulary_of}
 use Rattle.ec_machine_code.specs.Speaks.{Speaks}
 use Rattle.ec_world.specs.Words.{StandsFor}
 use Rattle.ec_target.specs.Code.{pc_of}
@@ -305,8 +305,9 @@ live_line : (o : Option Line) (x : Variable) (t : StaticType) → Has (live_if o
 live_line None x t h = absurd h
 live_line (Some line) x t h = (line, refl, h)
 
-module _ {S : Type 0} (M : MachineMeaning S) (vs : Vocabularies) (homes : List (List Home)) (d : Declared) (p : Parts)
-    (can : CanBeLaidOut M vs homes d p) (rest : CanRest M) (few : HasFew d p) (n k q : ℕ) (o : Operation)
+module _ {S : Type 0} (M : MachineMeaning S) (vs : Vocabularies) (homes : List (List Home)) (orders : List (List ℕ)) (d : Declared)
+    (p : Parts)
+    (can : CanBeLaidOut M vs homes orders d p) (rest : CanRest M) (few : HasFew d p) (n k q : ℕ) (o : Operation)
     (is : operation_at p n ≡ Some o) (number_is : slice_get (stop_places o.code) k ≡ Some q) where
   abbrev alive : List Live
   alive = live_at o.code (suc q)
@@ -343,20 +344,20 @@ module _ {S : Type 0} (M : MachineMeaning S) (vs : Vocabularies) (homes : List (
   abbrev machine : Machine
   machine = machine_behind p common activation
 
-  abbrev kind_speaks : Speaks M (vocabulary_of vs homes n o)
-  kind_speaks = speaks M vs homes d p can n o
+  abbrev kind_speaks : Speaks M (vocabulary_of vs homes orders n o)
+  kind_speaks = speaks M vs homes orders d p can n o
 
   abbrev bytes : Bytes
   bytes = memory M.number M.bytes_of kind_speaks.reads_back kind_speaks.length_bytes
 
   abbrev address : ℕ
-  address = pc_of (at_place M vs homes d p can n o q)
+  address = pc_of (at_place M vs homes orders d p can n o q)
 
   low : address + 4 < 2 ^ 32
   low =
-      let laid = laid_at M vs homes d p can n o is in
+      let laid = laid_at M vs homes orders d p can n o is in
       let end = laid.low in
-      let within = before_within (vocabulary_of vs homes n o) (home_of homes n o) (ops_of o.code) q in
+      let within = before_within (vocabulary_of vs homes orders n o) (home_of homes n o) (ops_of o.code) (order_of vs homes orders n) q in
       omega (arith, end, within)
 
   rested : RestsWith M (address + 4) (block_at 0) (block_at 1) (λ i. 0)
@@ -463,7 +464,7 @@ module _ {S : Type 0} (M : MachineMeaning S) (vs : Vocabularies) (homes : List (
     };
   }
 
-  pub fit : FitAt M p (code M vs homes d p can) homes n q o
+  pub fit : FitAt M p (code M vs homes orders d p can) homes n q o
   fit = record {
     local = local_of;
     text = text_of p.literals;
@@ -482,7 +483,7 @@ module _ {S : Type 0} (M : MachineMeaning S) (vs : Vocabularies) (homes : List (
       is_operation = is;
       number = k;
       is_number = number_is;
-      is_address = address_is M vs homes d p can n k q o is number_is;
+      is_address = address_is M vs homes orders d p can n k q o is number_is;
     };
     behind = rested.at;
     has = has_all;
@@ -494,4 +495,4 @@ module _ {S : Type 0} (M : MachineMeaning S) (vs : Vocabularies) (homes : List (
 
 module _ {S : Type 0} (M : MachineMeaning S) where
   pub each_fit : EachStopHasAFit M
-  each_fit vs homes d p can rest few n k q o is number_is = fit M vs homes d p can rest few n k q o is number_is
+  each_fit vs homes orders d p can rest few n k q o is number_is = fit M vs homes orders d p can rest few n k q o is number_is

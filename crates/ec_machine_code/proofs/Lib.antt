@@ -3,7 +3,7 @@ pub mod Lines
 pub mod Marking
 pub mod Swapping
 pub mod Taking
-pub mod MicroSizes
+pub mod Different
 pub mod FineAt
 pub mod Direct
 pub mod Values
@@ -12,12 +12,14 @@ pub mod Standing
 pub mod Stretches
 pub mod LaidOutSizes
 pub mod Sites
+pub mod Goings
 pub mod Operands
 pub mod Each
 pub mod Outcomes
 pub mod Pairs
-pub mod Walks
 pub mod Once
+pub mod Spots
+pub mod Walks
 pub mod Stops
 pub mod Laying
 pub mod Programs

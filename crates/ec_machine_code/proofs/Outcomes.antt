@@ -22,11 +22,11 @@ use Rattle.ec_code.specs.Marks.{is_same, is_written}
 use Rattle.ec_machine_code.proofs.Direct.{LeadsPast, branch_leads, jump_leads, none_behind, none_led}
 use Rattle.ec_machine_code.specs.Direct.{direct_at, direct_before, direct_of, laid_op}
 use Rattle.ec_machine_code.specs.Fitting.{TestFits}
-use Rattle.ec_machine_code.specs.Layout.{ending_size, ending_words, op_size, plain_size}
+use Rattle.ec_machine_code.specs.Layout.{plain_size}
 use Rattle.ec_machine_code.specs.Lowering.{branch, branch_by, ending_of, known, question_of, steps_of}
 use Rattle.ec_machine_code.specs.Micro.{CanAsk, Sight, asked}
-use Rattle.ec_machine_code.specs.Speaks.{Ends, HasAt, Sees, Vocabulary}
-use Rattle.ec_machine_code.specs.declared.step.Ending.TheVariants.{Branch, Jump}
+use Rattle.ec_machine_code.specs.Speaks.{Ends, Sees, Vocabulary}
+use Rattle.ec_machine_code.specs.declared.step.Ending.TheVariants.{Again, Jump}
 use Rattle.ec_machine_code.specs.declared.step.Question.{Question}
 use Rattle.ec_machine_code.specs.declared.step.Step.{Step}
 use Rattle.ec_target.specs.Code.{pc_of}
@@ -36,12 +36,10 @@ use Rattle.ec_world.specs.declared.value.Value.{Value}
 use Rattle.ec_world.specs.declared.value.Value.TheVariants.{Ref, Str, Bool as Truth}
 use Rattle.ec_machine_code.proofs.Each.{Did, copies, decides_home, sets_field, takes_constant, takes_field, takes_itself, takes_literal, works}
 use Rattle.ec_machine_code.proofs.Operands.{Asked, asked_is, known_is}
-use Rattle.ec_machine_code.proofs.Sites.{At, Site, ending_there, ends_at, fine_at, in_code, line_of, live_next, named, next_word, ops}
-use Rattle.ec_machine_code.proofs.Sites.{passes_next}
-use Rattle.ec_machine_code.proofs.Sites.{plain_there, word_of}
-use Rattle.ec_machine_code.proofs.LaidOutSizes.{before_rises, before_within}
+use Rattle.ec_machine_code.proofs.Goings.{LeadsTo, answered, goes_on, runs_on}
+use Rattle.ec_machine_code.proofs.Sites.{At, Site, end_of, ends_at, fine_at, line_of, live_next, named, passes_next, word_of}
 use Rattle.ec_machine_code.proofs.Standing.{Beside, Setting, Standing, passes_on}
-use Rattle.ec_machine_code.proofs.Stretches.{does_all, longer, runs_all, stays as stands_still}
+use Rattle.ec_machine_code.proofs.Stretches.{does_all}
 
 -- ---- what is live at a stop
 
@@ -83,7 +81,7 @@ module _ {S : Type 0} (M : MachineMeaning S) (V : Vocabulary) (g : Setting M) (z
   -- the code leads from the step at a place to another one, through words of its own
   pub record Went (q : ℕ) (s : S) (v : Sight) (new : Machine) (to : ℕ) : Type 0 where
     pub after : Sight
-    pub ends : Ends M g.f g.own z.code s v (word_of M V g z q) (word_of M V g z (suc q)) (word_of M V g z to) after
+    pub ends : Ends M g.f g.own z.code s v (word_of M V g z q) (end_of M V g z q) (word_of M V g z to) after
     pub stand : Standing M g z.home (named M V g z) (live_at z.of.code to) after new
     pub same : (address : ℕ) → Beside M g address → after.bytes address ≡ v.bytes address
     -- no copy was done before it
@@ -91,7 +89,7 @@ module _ {S : Type 0} (M : MachineMeaning S) (V : Vocabulary) (g : Setting M) (z
 
   pub record Looped (q back : ℕ) (here : List Live) (s : S) (v : Sight) : Type 0 where
     pub arrival : Arrival (q - back) here
-    pub ends : Ends M g.f g.own z.code s v (word_of M V g z q) (word_of M V g z (suc q)) (word_of M V g z (q - back)) v
+    pub ends : Ends M g.f g.own z.code s v (word_of M V g z q) (end_of M V g z q) (word_of M V g z (q - back)) v
 
   abbrev pub Outcome : ℕ → Op → List Live → S → Sight → Done → Type 0
   Outcome q o here s v (Goes new over) = Went q s v new (suc (q + over))
@@ -180,21 +178,13 @@ module _ {S : Type 0} (M : MachineMeaning S) (V : Vocabulary) (g : Setting M) (z
     -- a step behind which the next one follows
     follows : (new : Machine) → ending_of z.home o ≡ None → Does (steps_of z.home o) new → Leads (Goes new 0)
     follows new none d =
-        let next = next_word M V g z q o o here at same in
-        let low = in_code M V g z (suc q) in
-        let size : ending_size V (ending_of z.home o) ≡ 0 = ap (ending_size V) none in
         let first : suc q ≡ suc (q + 0) = omega arith in
-        let word = ap (word_of M V g z) first in
         let after = does_all M g.f g.own z.code (steps_of z.home o) v in
-        let e = runs_all M g.f g.own z.code V z.speaks g.frame_small g.own_small (steps_of z.home o) (word_of M V g z q)
-        (word_of M V g z q + plain_size V z.home o) s v (plain_there M V g z q o o here at same) refl there (omega (arith, next, low, size))
-        sees d.can in
         record {
           after = after;
-          ends = ends_at M V g z s v after (word_of M V g z q) (word_of M V g z (suc q)) (word_of M V g z q + plain_size V z.home o)
-              (word_of M V g z (suc (q + 0))) (omega (arith, next, size, word))
-              (longer M g.f g.own z.code s v after (word_of M V g z q) (word_of M V g z q + plain_size V z.home o) (word_of M V g z q)
-              (word_of M V g z (suc q)) (word_of M V g z q + plain_size V z.home o) (omega arith) (omega (arith, next)) e);
+          ends = ends_at M V g z s v after (word_of M V g z q) (end_of M V g z q) (word_of M V g z (suc q))
+              (word_of M V g z (suc (q + 0))) (ap (word_of M V g z) first)
+              (runs_on M V g z q o o here at same s v there sees none d.can);
           stand = subst (λ k. Standing M g z.home (named M V g z) (live_at z.of.code k) after new) first d.behind;
           same = d.same;
           lands = falls;
@@ -223,84 +213,29 @@ module _ {S : Type 0} (M : MachineMeaning S) (V : Vocabulary) (g : Setting M) (z
 
     -- ---- jumps and questions
 
-    -- a jump leads forward
+    -- a jump
     jumped :
         (over : ℕ) → plain_size V z.home o ≡ 0 → ending_of z.home o ≡ Some (Jump over) →
-        Ends M g.f g.own z.code s v (word_of M V g z q) (word_of M V g z (suc q)) (word_of M V g z (suc (q + over))) v
-    jumped over plain is =
-        let words = ending_there M V g z q o o here at same in
-        let i = word_of M V g z q + plain_size V z.home o in
-        let to = word_of M V g z (suc (q + over)) in
-        let next = next_word M V g z q o o here at same in
-        let rise = before_rises V z.home (ops M V g z) (suc q) (suc (q + over)) (omega arith) in
-        let within = before_within V z.home (ops M V g z) (suc (q + over)) in
-        let near = z.laid.near in
-        let low = in_code M V g z (suc (q + over)) in
-        let low_next = in_code M V g z (suc q) in
-        let size : ending_size V (ending_of z.home o) ≡ V.jump_size = ap (ending_size V) is in
-        let has : HasAt z.code i (V.jump_words i to) =
-        subst (λ e. HasAt z.code i (ending_words V z.home (ops M V g z) z.start q i e)) is words in
-        let e = z.speaks.jump g.f g.own z.code i to s v has (omega (arith, there, plain)) (omega (arith, next, size, plain, low_next)) low
-        (omega (arith, within, near)) (omega (arith, next, rise, plain)) sees in
-        longer M g.f g.own z.code s v v i (i + V.jump_size) (word_of M V g z q) (word_of M V g z (suc q)) to (omega arith)
-        (omega (arith, next, size)) e
+        Ends M g.f g.own z.code s v (word_of M V g z q) (end_of M V g z q) (word_of M V g z (suc (q + over))) v
+    jumped over plain is = goes_on M V g z q o o here at same s v there sees (suc (q + over)) (Some (Jump over)) plain is refl refl
 
     -- a step without words is behind itself
     passed :
         plain_size V z.home o ≡ 0 → ending_of z.home o ≡ None →
-        Ends M g.f g.own z.code s v (word_of M V g z q) (word_of M V g z (suc q)) (word_of M V g z (suc (q + 0))) v
+        Ends M g.f g.own z.code s v (word_of M V g z q) (end_of M V g z q) (word_of M V g z (suc (q + 0))) v
     passed plain none =
-        let next = next_word M V g z q o o here at same in
-        let size : ending_size V (ending_of z.home o) ≡ 0 = ap (ending_size V) none in
         let first : suc q ≡ suc (q + 0) = omega arith in
-        let word = ap (word_of M V g z) first in
-        ends_at M V g z s v v (word_of M V g z q) (word_of M V g z (suc q)) (word_of M V g z q) (word_of M V g z (suc (q + 0)))
-        (omega (arith, next, size, plain, word))
-        (longer M g.f g.own z.code s v v (word_of M V g z q) (word_of M V g z q) (word_of M V g z q) (word_of M V g z (suc q))
-        (word_of M V g z q) (omega arith) (omega (arith, next)) (stands_still M g.f g.own z.code s v (word_of M V g z q) there sees))
+        ends_at M V g z s v v (word_of M V g z q) (end_of M V g z q) (word_of M V g z (suc q)) (word_of M V g z (suc (q + 0)))
+        (ap (word_of M V g z) first)
+        (goes_on M V g z q o o here at same s v there sees (suc q) None plain none refl refl)
 
-    -- to one of two steps
-    abbrev LeadsTo : ℕ → Bool → Type 0
-    LeadsTo over r =
-        Ends M g.f g.own z.code s v (word_of M V g z q) (word_of M V g z (suc q))
-        (if r then word_of M V g z (suc (q + over)) else word_of M V g z (suc (q + 0))) v
-
-    -- the words of a question lead to one of them
-    answered :
-        (question : Question) (r : Bool) (over : ℕ) → plain_size V z.home o ≡ 0 → ending_of z.home o ≡ Some (Branch question over) →
-        CanAsk M g.f g.own question v → asked M g.f g.own question v.home v.bytes ≡ r → LeadsTo over r
-    answered question r over plain is can answer =
-        let words = ending_there M V g z q o o here at same in
-        let i = word_of M V g z q + plain_size V z.home o in
-        let to = word_of M V g z (suc (q + over)) in
-        let next = next_word M V g z q o o here at same in
-        let rise = before_rises V z.home (ops M V g z) (suc q) (suc (q + over)) (omega arith) in
-        let within = before_within V z.home (ops M V g z) (suc (q + over)) in
-        let near = z.laid.near in
-        let low = in_code M V g z (suc (q + over)) in
-        let size : ending_size V (ending_of z.home o) ≡ V.ask_size question = ap (ending_size V) is in
-        let first : suc q ≡ suc (q + 0) = omega arith in
-        let word = ap (word_of M V g z) first in
-        let has : HasAt z.code i (V.ask_words question i to) =
-        subst (λ e. HasAt z.code i (ending_words V z.home (ops M V g z) z.start q i e)) is words in
-        let e = z.speaks.ask g.f g.own z.code question i to s v g.frame_small g.own_small has (omega (arith, there, plain))
-        (omega (arith, next, rise, size, plain)) low (omega (arith, within, near)) sees can in
-        let there_is = ap (λ b. if b then to else i + V.ask_size question) answer in
-        ends_at M V g z s v v (word_of M V g z q) (word_of M V g z (suc q)) (if r then to else i + V.ask_size question)
-        (if r then to else word_of M V g z (suc (q + 0))) (one_of r to (i + V.ask_size question) (word_of M V g z (suc (q + 0)))
-        (omega (arith, next, size, plain, word)))
-        (ends_at M V g z s v v (word_of M V g z q) (word_of M V g z (suc q)) _ (if r then to else i + V.ask_size question) there_is
-        (longer M g.f g.own z.code s v v i (i + V.ask_size question) (word_of M V g z q) (word_of M V g z (suc q)) _ (omega arith)
-        (omega (arith, next, size)) e))
-      where
-        one_of : (r : Bool) (a b c : ℕ) → b ≡ c → (if r then a else b) ≡ (if r then a else c)
-        one_of true a b c e = refl
-        one_of false a b c e = e
+    abbrev Turns : ℕ → Bool → Type 0
+    Turns over r = LeadsTo M V g z q o o here at same s v there sees over r
 
     -- and so do those that stand for it where its answer is known
     known_or_asked :
         (question : Question) (r : Bool) (over : ℕ) → plain_size V z.home o ≡ 0 → ending_of z.home o ≡ branch question over →
-        CanAsk M g.f g.own question v → asked M g.f g.own question v.home v.bytes ≡ r → LeadsTo over r
+        CanAsk M g.f g.own question v → asked M g.f g.own question v.home v.bytes ≡ r → Turns over r
     known_or_asked question r over plain is can answer = by (known question) refl
       where
         ending : (k : Option Bool) → known question ≡ k → ending_of z.home o ≡ branch_by k question over
@@ -309,19 +244,19 @@ module _ {S : Type 0} (M : MachineMeaning S) (V : Vocabulary) (g : Setting M) (z
         comes_to : (b : Bool) → known question ≡ Some b → b ≡ r
         comes_to b e = sym (known_is M g.f g.own v.home v.bytes question b e) ∙ answer
 
-        by : (k : Option Bool) → known question ≡ k → LeadsTo over r
-        by None e = answered question r over plain (ending None e) can answer
-        by (Some true) e = subst (λ b. LeadsTo over b) (comes_to true e) (jumped over plain (ending (Some true) e))
-        by (Some false) e = subst (λ b. LeadsTo over b) (comes_to false e) (passed plain (ending (Some false) e))
+        by : (k : Option Bool) → known question ≡ k → Turns over r
+        by None e = answered M V g z q o o here at same s v there sees question r over plain (ending None e) can answer
+        by (Some true) e = subst (λ b. Turns over b) (comes_to true e) (jumped over plain (ending (Some true) e))
+        by (Some false) e = subst (λ b. Turns over b) (comes_to false e) (passed plain (ending (Some false) e))
 
     asks :
-        (t : Test) (wanted r : Bool) (over : ℕ) → o ≡ op.Branch t wanted over → Asked M V g z here v m stand t wanted r → LeadsTo over r
+        (t : Test) (wanted r : Bool) (over : ℕ) → o ≡ op.Branch t wanted over → Asked M V g z here v m stand t wanted r → Turns over r
     asks t wanted r over is a =
         known_or_asked (question_of z.home t wanted) r over (ap (plain_size V z.home) is) (ap (ending_of z.home) is) a.can a.is
 
     went_to :
         (over : ℕ) → direct_at z.of.code (q + over) ≡ None → Passes z.declared g.parts (drop (suc q) z.of.code) over here →
-        Ends M g.f g.own z.code s v (word_of M V g z q) (word_of M V g z (suc q)) (word_of M V g z (suc (q + over))) v →
+        Ends M g.f g.own z.code s v (word_of M V g z q) (end_of M V g z q) (word_of M V g z (suc (q + over))) v →
         Leads (Goes m over)
     went_to over lands flows e = record {
       after = v;
@@ -360,27 +295,11 @@ module _ {S : Type 0} (M : MachineMeaning S) (V : Vocabulary) (g : Setting M) (z
 
     loops :
         (back : ℕ) → o ≡ op.Again back → FineTop z.declared g.parts z.number z.of q back here → Leads (Loops back)
-    loops back is fine =
-        let words = ending_there M V g z q o o here at same in
-        let i = word_of M V g z q + plain_size V z.home o in
-        let to = word_of M V g z (q - back) in
-        let next = next_word M V g z q o o here at same in
-        let rise = before_rises V z.home (ops M V g z) (q - back) q (omega arith) in
-        let within = before_within V z.home (ops M V g z) q in
-        let near = z.laid.near in
-        let low = in_code M V g z (q - back) in
-        let low_next = in_code M V g z (suc q) in
-        let plain : plain_size V z.home o ≡ 0 = ap (plain_size V z.home) is in
-        let size : op_size V z.home o ≡ V.jump_size = ap (op_size V z.home) is ∙ (omega arith) in
-        let has : HasAt z.code i (V.jump_words i to) =
-        subst (λ e. HasAt z.code i (ending_words V z.home (ops M V g z) z.start q i e)) (ap (ending_of z.home) is) words in
-        let e = z.speaks.jump g.f g.own z.code i to s v has (omega (arith, there, plain)) (omega (arith, next, size, plain, low_next)) low
-        (omega (arith, rise, plain)) (omega (arith, within, near, plain)) sees in
-        record {
-          arrival = at_top q back here fine;
-          ends = longer M g.f g.own z.code s v v i (i + V.jump_size) (word_of M V g z q) (word_of M V g z (suc q)) to (omega arith)
-              (omega (arith, next, size, plain)) e;
-        }
+    loops back is fine = record {
+      arrival = at_top q back here fine;
+      ends = goes_on M V g z q o o here at same s v there sees (q - back) (Some (Again back)) (ap (plain_size V z.home) is)
+          (ap (ending_of z.home) is) refl refl;
+    }
 
   -- ---- all of them
 

@@ -1,5 +1,5 @@
 -- A result that goes at once to where the next step copies it: what the code of the first step does is what both steps do.
-use Rattle.std.proofs.Common.{◌≡◌, ◌≢◌, ℕ, suc, ◌+◌, List, length, Some, refl, sym, ap, subst, arith}
+use Rattle.std.proofs.Common.{◌≡◌, ◌≢◌, ℕ, suc, List, length, None, Some, refl, sym, ap, subst}
 use Rattle.std.proofs.Common.{inl, inr, ⊎_elim}
 use Rattle.ec_code.specs.Fine.{Has, live_at, live_if}
 use Rattle.ec_code.specs.Steps.{Machine, computed, on_numbers, on_two, operand_at, with_variable}
@@ -17,7 +17,7 @@ use Rattle.ec_machine_code.specs.Machine.{MachineMeaning}
 use Rattle.ec_machine_code.specs.Homes.{IsWithin}
 use Rattle.ec_machine_code.proofs.Direct.{nothing_moved}
 use Rattle.ec_machine_code.specs.Direct.{done_already, laid_op}
-use Rattle.ec_machine_code.specs.Layout.{op_size, plain_size, words_of_steps}
+use Rattle.ec_machine_code.specs.Layout.{plain_size, words_of_steps}
 use Rattle.ec_machine_code.specs.Lowering.{source_of, steps_of}
 use Rattle.ec_machine_code.specs.Micro.{Sight, found, gets, reckoned}
 use Rattle.ec_machine_code.specs.Speaks.{Ends, Sees, Vocabulary}
@@ -25,10 +25,10 @@ use Rattle.ec_machine_code.specs.declared.step.Step.{Step}
 use Rattle.ec_target.specs.Code.{pc_of}
 use Rattle.ec_world.specs.declared.value.Value.{Value}
 use Rattle.ec_machine_code.proofs.Operands.{found_is}
-use Rattle.ec_machine_code.proofs.Sites.{At, Site, ends_at, fine_at, flows_next, in_code, line_of, named, next_word, plain_there}
-use Rattle.ec_machine_code.proofs.Sites.{there_next, word_of}
+use Rattle.ec_machine_code.proofs.Goings.{goes_on, runs_on}
+use Rattle.ec_machine_code.proofs.Sites.{At, Site, end_of, fine_at, flows_next, line_of, named, there_next, word_of}
 use Rattle.ec_machine_code.proofs.Standing.{Beside, Flows, Held, Setting, Standing, can_write, writes_home, written_beside}
-use Rattle.ec_machine_code.proofs.Stretches.{CanAll, longer, runs_all}
+use Rattle.ec_machine_code.proofs.Stretches.{CanAll}
 use Rattle.ec_machine_code.proofs.Values.{reckons, stands_small, two_some}
 use Rattle.ec_machine_code.proofs.Variables.{set_other}
 
@@ -36,15 +36,15 @@ module _ {S : Type 0} (M : MachineMeaning S) (V : Vocabulary) (g : Setting M) (z
   -- the code leads from a place past the next step
   pub record Passed (p : ℕ) (s : S) (v : Sight) (new : Machine) : Type 0 where
     pub after : Sight
-    pub ends : Ends M g.f g.own z.code s v (word_of M V g z p) (word_of M V g z (suc p)) (word_of M V g z (suc (suc p))) after
+    pub first : Ends M g.f g.own z.code s v (word_of M V g z p) (end_of M V g z p) (word_of M V g z (suc p)) after
+    pub second :
+        Ends M g.f g.own z.code first.last after (word_of M V g z (suc p)) (end_of M V g z (suc p)) (word_of M V g z (suc (suc p))) after
     pub stand : Standing M g z.home (named M V g z) (live_at z.of.code (suc (suc p))) after new
     pub same : (address : ℕ) → Beside M g address → after.bytes address ≡ v.bytes address
 
   -- a step without words
-  done_size : (n : ℕ) → op_size V z.home (done_already n) ≡ 0
-  done_size n =
-      let none = ap (λ ms. length (words_of_steps V ms)) (nothing_moved z.home n) in
-      omega (arith, none)
+  done_size : (n : ℕ) → plain_size V z.home (done_already n) ≡ 0
+  done_size n = ap (λ ms. length (words_of_steps V ms)) (nothing_moved z.home n)
 
   module _ (p : ℕ) (how : Arithmetic) (t n : ℕ) (left right : Operand) (here next : List Live)
       (at : At M V g z p (op.Compute how (Temporary t) left right) here)
@@ -128,19 +128,12 @@ module _ {S : Type 0} (M : MachineMeaning S) (V : Vocabulary) (g : Setting M) (z
         let has = can_write M g (z.home (Named n)) v.bytes within stand.ground.frame in
         let can : CanAll M g.f g.own z.code steps v = ((has, one.can, two.can, r.can), tt) in
         let after = gets M g.f g.own (z.home (Named n)) word v in
-        let to_next = next_word M V g z p o x here at laid in
-        let to_last = next_word M V g z (suc p) copy (done_already n) next at_next laid_next in
-        let none = done_size n in
-        let low = in_code M V g z (suc p) in
-        let e = runs_all M g.f g.own z.code V z.speaks g.frame_small g.own_small steps (word_of M V g z p)
-        (word_of M V g z p + plain_size V z.home x) s v (plain_there M V g z p o x here at laid) refl there (omega (arith, to_next, low))
-        sees can in
+        let run = runs_on M V g z p o x here at laid s v there sees refl can in
         record {
           after = after;
-          ends = ends_at M V g z s v after (word_of M V g z p) (word_of M V g z (suc p)) (word_of M V g z p + plain_size V z.home x)
-              (word_of M V g z (suc (suc p))) (omega (arith, to_next, to_last, none))
-              (longer M g.f g.own z.code s v after (word_of M V g z p) (word_of M V g z p + plain_size V z.home x) (word_of M V g z p)
-              (word_of M V g z (suc p)) (word_of M V g z p + plain_size V z.home x) (omega arith) (omega (arith, to_next)) e);
+          first = run;
+          second = goes_on M V g z (suc p) copy (done_already n) next at_next laid_next run.last after run.at run.sees (suc (suc p)) None
+              (done_size n) refl refl refl;
           stand = stands_too after
               (writes_home M g z.home (named M V g z) here behind (Named n) u word v m flows
               (λ y of l ne. z.apart (suc p) (line_of copy next) (Named n) y of at_next refl l ne) (there_next M V g z (suc p)) within small

@@ -1,5 +1,5 @@
 -- The code of an operation does what silent steps do, up to the next stop.
-use Rattle.std.proofs.Common.{◌≡◌, ℕ, zero, suc, ◌+◌, ◌-◌, ◌≤◌, List, [], ◌∷◌, drop, Option, Some, None, refl, sym, ap, ◌∙◌, subst, arith}
+use Rattle.std.proofs.Common.{◌≡◌, ℕ, zero, suc, ◌+◌, ◌-◌, ◌<◌, List, [], ◌∷◌, drop, Option, Some, None, refl, sym, ap, ◌∙◌, subst, arith}
 use Rattle.std.specs.Prelude.{slice_get}
 use Rattle.ec_base.proofs.Lists.{drop_at}
 use Rattle.ec_code.specs.Activations.{Arrived, walk, walk_by}
@@ -22,41 +22,43 @@ use Rattle.ec_world.specs.declared.common.Common.{Common}
 use Rattle.ec_world.specs.declared.value.Value.{Value}
 use Rattle.ec_machine_code.proofs.Outcomes.{Arrival, Outcome, leads}
 use Rattle.ec_machine_code.proofs.Pairs.{passed}
-use Rattle.ec_machine_code.proofs.Sites.{At, Site, behind_all, line_of, named, none_past, rises, word_of}
+use Rattle.ec_machine_code.proofs.Sites.{At, Site, end_of, line_of, named, word_of}
+use Rattle.ec_machine_code.proofs.Spots.{Comes, comes_on, comes_there, is_there}
 use Rattle.ec_machine_code.proofs.Standing.{Beside, Setting, Standing}
-use Rattle.ec_machine_code.proofs.Stretches.{drop_next, get_drop, joins, longer, stays}
+use Rattle.ec_machine_code.proofs.Stretches.{drop_next, get_drop}
 use Rattle.ec_machine_code.proofs.Variables.{set_same}
 
 module _ {S : Type 0} (M : MachineMeaning S) (V : Vocabulary) (g : Setting M) (z : Site M V g) where
-  -- the code leads to the stop that is reached, through words of the operation that rise from one on
-  pub record Gets (s : S) (v : Sight) (low : ℕ) (c : Common) (r : Arrived) : Type 0 where
+  -- the code leads to the stop that is reached, through words of a step and of those behind it, none of them twice
+  pub record Gets (s : S) (v : Sight) (p : ℕ) (c : Common) (r : Arrived) : Type 0 where
     pub from : ℕ
     pub line : Line
     pub is_line : slice_get z.of.code from ≡ Some line
     pub arrival : Arrival M V g z r.place line.live
     pub sight : Sight
-    pub ends : Ends M g.f g.own z.code s v low (behind_all M V g z) (word_of M V g z r.place) sight
+    pub comes : Comes M V g z s v p (word_of M V g z r.place) sight
     pub stand : Standing M g z.home (named M V g z) line.live sight (machine_at c r)
     pub same : (address : ℕ) → Beside M g address → sight.bytes address ≡ v.bytes address
 
   -- where one is
   abbrev pub GetsTo : S → Sight → ℕ → Common × Option Arrived → Type 0
-  GetsTo s v low (c, None) = Unit {0}
-  GetsTo s v low (c, Some r) = Gets s v low c r
+  GetsTo s v p (c, None) = Unit {0}
+  GetsTo s v p (c, Some r) = Gets s v p c r
 
-  -- one stretch before
-  extends :
-      (s : S) (v u : Sight) (from mid low i : ℕ) (to : Common × Option Arrived) (e : Ends M g.f g.own z.code s v from mid i u) →
-      ((address : ℕ) → Beside M g address → u.bytes address ≡ v.bytes address) → mid ≤ low → GetsTo e.last u low to →
-      GetsTo s v from to
-  extends s v u from mid low i (c, None) e same rise h = tt
-  extends s v u from mid low i (c, Some r) e same rise h = record {
+  -- one step before
+  pub extends :
+      (s : S) (v u : Sight) (q p i : ℕ) (line : Line) (to : Common × Option Arrived) → slice_get z.of.code q ≡ Some line →
+      (e : Ends M g.f g.own z.code s v (word_of M V g z q) (end_of M V g z q) i u) →
+      ((address : ℕ) → Beside M g address → u.bytes address ≡ v.bytes address) → q < p → GetsTo e.last u p to →
+      GetsTo s v q to
+  extends s v u q p i line (c, None) is e same rise h = tt
+  extends s v u q p i line (c, Some r) is e same rise h = record {
     from = h.from;
     line = h.line;
     is_line = h.is_line;
     arrival = h.arrival;
     sight = h.sight;
-    ends = joins M g.f g.own z.code s v u h.sight from mid low (behind_all M V g z) i (word_of M V g z r.place) e h.ends rise;
+    comes = comes_on M V g z s v u q i line is e h.sight p (word_of M V g z r.place) rise h.comes;
     stand = h.stand;
     same = λ address out. h.same address out ∙ same address out;
   }
@@ -67,7 +69,7 @@ module _ {S : Type 0} (M : MachineMeaning S) (V : Vocabulary) (g : Setting M) (z
       (s : S) (v : Sight) → direct_before z.of.code (p + over) ≡ None → Sees M g.f g.own s v.home →
       M.place s ≡ pc_of (word_of M V g z (p + over)) →
       Standing M g z.home (named M V g z) (live_at z.of.code (p + over)) v m →
-      GetsTo s v (word_of M V g z (p + over)) (walk g.parts.literals g.self p rest over m)
+      GetsTo s v (p + over) (walk g.parts.literals g.self p rest over m)
 
   -- behind one step
   behind :
@@ -75,12 +77,11 @@ module _ {S : Type 0} (M : MachineMeaning S) (V : Vocabulary) (g : Setting M) (z
       laid_op z.of.code p line.op ≡ line.op → Standing M g z.home (named M V g z) line.live v m → Sees M g.f g.own s v.home →
       M.place s ≡ pc_of (word_of M V g z p) → Outcome M V g z p line.op line.live s v done →
       ((over : ℕ) (new : Machine) → From rest (suc p) over new) →
-      GetsTo s v (word_of M V g z p) (walk_by p (walk g.parts.literals g.self (suc p) rest) m done)
+      GetsTo s v p (walk_by p (walk g.parts.literals g.self (suc p) rest) m done)
   behind p line rest m (Goes new over) s v at same stand sees there went next =
       let on : suc (p + over) ≡ suc p + over = omega arith in
-      extends s v went.after (word_of M V g z p) (word_of M V g z (suc p)) (word_of M V g z (suc p + over))
-      (word_of M V g z (suc (p + over))) (walk g.parts.literals g.self (suc p) rest over new) went.ends went.same
-      (rises M V g z (suc p) (suc p + over) (omega arith))
+      extends s v went.after p (suc p + over) (word_of M V g z (suc (p + over))) line (walk g.parts.literals g.self (suc p) rest over new)
+      at went.ends went.same (omega arith)
       (next over new went.ends.last went.after (ap (direct_before z.of.code) (sym on) ∙ went.lands) went.ends.sees
       (went.ends.at ∙ ap (λ k. pc_of (word_of M V g z k)) on)
       (subst (λ k. Standing M g z.home (named M V g z) (live_at z.of.code k) went.after new) on went.stand))
@@ -90,8 +91,7 @@ module _ {S : Type 0} (M : MachineMeaning S) (V : Vocabulary) (g : Setting M) (z
     is_line = at;
     arrival = arrived.0;
     sight = v;
-    ends = longer M g.f g.own z.code s v v (word_of M V g z p) (word_of M V g z p) (word_of M V g z p) (behind_all M V g z)
-        (word_of M V g z p) (omega arith) (none_past M V g z p) (stays M g.f g.own z.code s v (word_of M V g z p) there sees);
+    comes = is_there M V g z s v p (word_of M V g z p) there sees;
     stand = stand;
     same = λ address out. refl;
   }
@@ -101,8 +101,7 @@ module _ {S : Type 0} (M : MachineMeaning S) (V : Vocabulary) (g : Setting M) (z
     is_line = at;
     arrival = looped.arrival;
     sight = v;
-    ends = longer M g.f g.own z.code s v v (word_of M V g z p) (word_of M V g z (suc p)) (word_of M V g z p) (behind_all M V g z)
-        (word_of M V g z (p - back)) (omega arith) (none_past M V g z (suc p)) looped.ends;
+    comes = comes_there M V g z s v v p (word_of M V g z (p - back)) line at looped.ends;
     stand = stand;
     same = λ address out. refl;
   }
@@ -127,7 +126,7 @@ module _ {S : Type 0} (M : MachineMeaning S) (V : Vocabulary) (g : Setting M) (z
 
     -- the walk goes on from a place behind both
     abbrev Gotten : Common × Option Arrived → Type 0
-    Gotten to = GetsTo s v (word_of M V g z p) to
+    Gotten to = GetsTo s v p to
 
     here : At M V g z p o line.live
     here = at ∙ ap (λ i. Some (line_of i line.live)) d.computes
@@ -161,13 +160,13 @@ module _ {S : Type 0} (M : MachineMeaning S) (V : Vocabulary) (g : Setting M) (z
         let a = passed M V g z p d.how d.temporary n d.left d.right line.live d.next.live here here_next laid laid_next d.dead s v m u stand
         sees there e in
         let on : suc (suc p) ≡ suc p + suc zero = omega arith in
-        extends s v a.after (word_of M V g z p) (word_of M V g z (suc p)) (word_of M V g z (suc p + suc zero))
-        (word_of M V g z (suc (suc p)))
-        (walk g.parts.literals g.self (suc p) (d.next ∷ rest) (suc zero) new) a.ends a.same
-        (rises M V g z (suc p) (suc p + suc zero) (omega arith))
-        (next (suc zero) new a.ends.last a.after (ap (direct_before z.of.code) (sym on) ∙ none_after) a.ends.sees
-        (a.ends.at ∙ ap (λ k. pc_of (word_of M V g z k)) on)
-        (subst (λ k. Standing M g z.home (named M V g z) (live_at z.of.code k) a.after new) on a.stand))
+        let to = walk g.parts.literals g.self (suc p) (d.next ∷ rest) (suc zero) new in
+        extends s v a.after p (suc p) (word_of M V g z (suc p)) line to at a.first a.same (omega arith)
+        (extends a.first.last a.after a.after (suc p) (suc p + suc zero) (word_of M V g z (suc (suc p))) d.next to d.is_next a.second
+        (λ address out. refl) (omega arith)
+        (next (suc zero) new a.second.last a.after (ap (direct_before z.of.code) (sym on) ∙ none_after) a.second.sees
+        (a.second.at ∙ ap (λ k. pc_of (word_of M V g z k)) on)
+        (subst (λ k. Standing M g z.home (named M V g z) (live_at z.of.code k) a.after new) on a.stand)))
 
     -- the second copies what the first gave
     given :
@@ -190,11 +189,11 @@ module _ {S : Type 0} (M : MachineMeaning S) (V : Vocabulary) (g : Setting M) (z
       (p : ℕ) (line : Line) (rest : List Line) (m : Machine) (s : S) (v : Sight) → slice_get z.of.code p ≡ Some line →
       drop (suc p) z.of.code ≡ rest → direct_before z.of.code p ≡ None → Standing M g z.home (named M V g z) line.live v m →
       Sees M g.f g.own s v.home → M.place s ≡ pc_of (word_of M V g z p) → ((over : ℕ) (new : Machine) → From rest (suc p) over new) →
-      GetsTo s v (word_of M V g z p) (walk g.parts.literals g.self p (line ∷ rest) zero m)
+      GetsTo s v p (walk g.parts.literals g.self p (line ∷ rest) zero m)
   one p line rest m s v at is before stand sees there next = by (direct_of z.of.code p line.op) refl
     where
       by : (k : Option ℕ) → direct_of z.of.code p line.op ≡ k →
-          GetsTo s v (word_of M V g z p) (walk g.parts.literals g.self p (line ∷ rest) zero m)
+          GetsTo s v p (walk g.parts.literals g.self p (line ∷ rest) zero m)
       by None single =
           let same : laid_op z.of.code p line.op ≡ line.op =
           ap (λ i. laid_by i (direct_of z.of.code p line.op) line.op) before ∙ ap (λ i. laid_by None i line.op) single in
@@ -204,7 +203,7 @@ module _ {S : Type 0} (M : MachineMeaning S) (V : Vocabulary) (g : Setting M) (z
           let d = is_direct z.of.code p line.op n direct in
           let last = drop (suc p + 1) z.of.code in
           let rest_is : rest ≡ d.next ∷ last = sym is ∙ drop_at z.of.code (suc p) d.next d.is_next in
-          subst (λ r. GetsTo s v (word_of M V g z p) (walk g.parts.literals g.self p (line ∷ r) zero m)) (sym rest_is)
+          subst (λ r. GetsTo s v p (walk g.parts.literals g.self p (line ∷ r) zero m)) (sym rest_is)
           (behind_two p n line last m s v at before direct d stand sees there
           (subst (λ r. (over : ℕ) (new : Machine) → From r (suc p) over new) rest_is next))
 
@@ -213,7 +212,7 @@ module _ {S : Type 0} (M : MachineMeaning S) (V : Vocabulary) (g : Setting M) (z
   gets [] p over m is s v none sees there stand = tt
   gets (line ∷ rest) p (suc over) m is s v none sees there stand =
       let on : p + suc over ≡ suc p + over = omega arith in
-      subst (λ k. GetsTo s v (word_of M V g z k) (walk g.parts.literals g.self (suc p) rest over m)) (sym on)
+      subst (λ k. GetsTo s v k (walk g.parts.literals g.self (suc p) rest over m)) (sym on)
       (gets rest (suc p) over m (drop_next z.of.code p line rest is) s v (ap (direct_before z.of.code) (sym on) ∙ none) sees
       (there ∙ ap (λ k. pc_of (word_of M V g z k)) on)
       (subst (λ k. Standing M g z.home (named M V g z) (live_at z.of.code k) v m) on stand))
@@ -223,6 +222,6 @@ module _ {S : Type 0} (M : MachineMeaning S) (V : Vocabulary) (g : Setting M) (z
       let here = there ∙ ap (λ k. pc_of (word_of M V g z k)) on in
       let held = subst (λ l. Standing M g z.home (named M V g z) l v m) (ap (live_at z.of.code) on ∙ ap live_if at) stand in
       let next = drop_next z.of.code p line rest is in
-      subst (λ k. GetsTo s v (word_of M V g z k) (walk g.parts.literals g.self p (line ∷ rest) zero m)) (sym on)
+      subst (λ k. GetsTo s v k (walk g.parts.literals g.self p (line ∷ rest) zero m)) (sym on)
       (one p line rest m s v at next (ap (direct_before z.of.code) (sym on) ∙ none) held sees here
       (λ over new. gets rest (suc p) over new next))

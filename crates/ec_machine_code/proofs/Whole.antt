@@ -1,10 +1,12 @@
 -- Code of a program that is laid out is faithful to it.
-use Rattle.std.proofs.Common.{◌≡◌, ℕ, suc, ◌+◌, ◌<◌, ◌≤◌, List, length, Option, Some, None, refl, sym}
+use Rattle.std.proofs.Common.{◌≡◌, ◌≢◌, ℕ, suc, ◌+◌, ◌<◌, ◌≤◌, List, length, Option, Some, None, refl, sym}
 use Rattle.std.proofs.Common.{ap, ◌∙◌, subst, arith, ⊎_elim, option_map}
 use Rattle.std.specs.Prelude.{slice_get}
 use Rattle.std.proofs.lemmas.Bool.{cases_order}
 use Rattle.std.proofs.lemmas.Option.{same_Some, slice_get-map, slice_get-get_or}
+use Rattle.ec_base.proofs.Lists.{get_within}
 use Rattle.ec_code.specs.Activations.{operation_at}
+use Rattle.ec_code.specs.Fine.{IsIn}
 use Rattle.ec_code.specs.declared.code.Line.{Line}
 use Rattle.ec_code.specs.declared.code.Op.TheVariants as op
 use Rattle.ec_code.specs.declared.code.Operation.{Operation}
@@ -16,9 +18,9 @@ use Rattle.ec_machine_code.specs.Stops.{address_of, stop_in, stop_of, stop_place
 use Rattle.ec_machine_code.specs.declared.code.Code.{Code}
 use Rattle.ec_machine_code.specs.declared.code.OperationCode.{OperationCode}
 use Rattle.ec_machine_code.specs.declared.homes.Home.{Home}
-use Rattle.ec_machine_code.proofs.Direct.{laid_there, rest_laid, stop_line as stop_laid}
+use Rattle.ec_machine_code.proofs.Direct.{laid_there, ops_long, rest_laid, stop_line as stop_laid}
 use Rattle.ec_machine_code.specs.Fitting.{CanBeLaidOut}
-use Rattle.ec_machine_code.specs.Layout.{Vocabularies, code_of, home_of, ops_of}
+use Rattle.ec_machine_code.specs.Layout.{IsOrder, Vocabularies, before, code_of, home_of, next_of, ops_of, order_of, size_if}
 use Rattle.ec_machine_code.specs.Layout.{stop_addresses, vocabulary_of, words_in}
 use Rattle.ec_machine_code.specs.Speaks.{Speaks}
 use Rattle.ec_target.proofs.Places.{place_of_word}
@@ -27,7 +29,8 @@ use Rattle.ec_machine_code.proofs.Laying.{laid_is}
 use Rattle.ec_machine_code.proofs.Programs.{before_is, code_there, itself, long_is, operation_there, place_in, speaks_of, start_of}
 use Rattle.ec_machine_code.proofs.Programs.{start_rises, start_within, stop_word_found, sum_is, words_there}
 use Rattle.ec_machine_code.proofs.Sites.{Laid}
-use Rattle.ec_machine_code.proofs.LaidOutSizes.{before_next, before_rises, before_within}
+use Rattle.ec_machine_code.proofs.Different.{same_or_not}
+use Rattle.ec_machine_code.proofs.LaidOutSizes.{behind, behind_within, spots_apart}
 use Rattle.ec_machine_code.proofs.Stops.{number_of, numbered, one_number, rest_is}
 
 -- a stop is laid out as it is
@@ -48,36 +51,42 @@ mapped : {A B : Type 0} (f : A → B) (o : Option A) (y : B) → option_map f o 
 mapped f None y e = absurd cc
 mapped f (Some x) y e = (x, refl, same_Some (f x) y e)
 
-module _ {S : Type 0} (M : MachineMeaning S) (vs : Vocabularies) (homes : List (List Home)) (d : Declared) (p : Parts)
-    (can : CanBeLaidOut M vs homes d p) where
+module _ {S : Type 0} (M : MachineMeaning S) (vs : Vocabularies) (homes : List (List Home)) (orders : List (List ℕ)) (d : Declared)
+    (p : Parts)
+    (can : CanBeLaidOut M vs homes orders d p) where
   abbrev pub code : Code
-  code = code_of vs homes p.operations
+  code = code_of vs homes orders p.operations
 
   abbrev pub start : ℕ → ℕ
-  start n = start_of M vs can.near can.middle can.far homes 0 0 p.operations n
+  start n = start_of M vs can.near can.middle can.far homes orders 0 0 p.operations n
 
   abbrev pub at_place : ℕ → Operation → ℕ → ℕ
-  at_place n o q = place_in M vs can.near can.middle can.far homes n o (start n) q
+  at_place n o q = place_in M vs can.near can.middle can.far homes orders n o (start n) q
 
-  abbrev pub speaks : (n : ℕ) (o : Operation) → Speaks M (vocabulary_of vs homes n o)
-  speaks n o = speaks_of M vs can.near can.middle can.far homes n o
+  abbrev pub speaks : (n : ℕ) (o : Operation) → Speaks M (vocabulary_of vs homes orders n o)
+  speaks n o = speaks_of M vs can.near can.middle can.far homes orders n o
+
+  -- the steps that are laid out have an order
+  ordered_at : (n : ℕ) (o : Operation) → operation_at p n ≡ Some o → IsOrder (length (ops_of o.code)) (order_of vs homes orders n)
+  ordered_at n o e = subst (λ k. IsOrder k (order_of vs homes orders n)) (sym (ops_long o.code)) (can.ordered n o e)
 
   pub laid_at :
       (n : ℕ) (o : Operation) → operation_at p n ≡ Some o →
-      Laid (vocabulary_of vs homes n o) (home_of homes n o) (ops_of o.code) code.words (start n)
+      Laid (vocabulary_of vs homes orders n o) (home_of homes n o) (ops_of o.code) (order_of vs homes orders n) code.words (start n)
   laid_at n o e =
-      let within = start_within M vs can.near can.middle can.far homes 0 0 n n p.operations o (omega arith) e in
+      let within = start_within M vs can.near can.middle can.far homes orders 0 0 n n p.operations o (omega arith) e in
       let low = can.room.low in
-      laid_is M (vocabulary_of vs homes n o) (speaks n o) (home_of homes n o) (ops_of o.code) (start n) code.words
-      (words_there M vs can.near can.middle can.far homes code.words 0 0 n n p.operations o (omega arith) (itself code.words) e)
+      laid_is M (vocabulary_of vs homes orders n o) (speaks n o) (home_of homes n o) (ops_of o.code) (order_of vs homes orders n) (start n)
+      code.words (ordered_at n o e)
+      (words_there M vs can.near can.middle can.far homes orders code.words 0 0 n n p.operations o (omega arith) (itself code.words) e)
       (omega (arith, within, low)) (can.room.near n o e)
 
   code_is :
       (n : ℕ) (o : Operation) → operation_at p n ≡ Some o →
-      slice_get code.operations n ≡ Some (record { words = words_in vs homes n o; stops = stop_addresses vs homes n (start n) o })
-  code_is n o e = code_there M vs can.near can.middle can.far homes 0 0 n n p.operations o (omega arith) e
+      slice_get code.operations n ≡ Some (record { words = words_in vs homes orders n o; stops = stop_addresses vs homes orders n (start n) o })
+  code_is n o e = code_there M vs can.near can.middle can.far homes orders 0 0 n n p.operations o (omega arith) e
 
-  pub words_are : (n : ℕ) (o : Operation) → operation_at p n ≡ Some o → words_of code n ≡ words_in vs homes n o
+  pub words_are : (n : ℕ) (o : Operation) → operation_at p n ≡ Some o → words_of code n ≡ words_in vs homes orders n o
   words_are n o e = ap words_if (code_is n o e)
 
   stops_are : (n k : ℕ) (o : Operation) → operation_at p n ≡ Some o →
@@ -126,7 +135,7 @@ module _ {S : Type 0} (M : MachineMeaning S) (vs : Vocabularies) (homes : List (
   pub known_is : (n k address : ℕ) → address_of code n k ≡ Some address → Known n k address
   known_is n k address e =
       let c = code_in (slice_get code.operations n) k address e in
-      let o = operation_there M vs can.near can.middle can.far homes 0 0 n p.operations c.0 c.1 in
+      let o = operation_there M vs can.near can.middle can.far homes orders 0 0 n p.operations c.0 c.1 in
       let q = mapped (λ q. pc_of (at_place n o.0 q)) (slice_get (stop_places o.0.code) k) address (sym (stops_are n k o.0 o.1) ∙ e) in
       record { operation = o.0; is_operation = o.1; place_of = q.0; is_place = q.1; sum = sym q.2 }
 
@@ -138,7 +147,8 @@ module _ {S : Type 0} (M : MachineMeaning S) (vs : Vocabularies) (homes : List (
   pub only : (address : ℕ) → word_at code.words address ≡ Some M.stop_word → (n k : ℕ) × (address_of code n k ≡ Some address)
   only address e =
       let w = place_of_word code.words address M.stop_word e in
-      let found = stop_word_found M vs can.near can.middle can.far homes 0 0 p.operations w.0
+      let found = stop_word_found M vs can.near can.middle can.far homes orders 0 0 p.operations w.0
+      (λ k n o sum there. (can.ordered n o (ap (slice_get p.operations) (let same : n ≡ k = omega (arith, sum) in same) ∙ there)).different)
       (slice_get-get_or code.words w.0 0 w.1 ∙ ap Some w.3) in
       let o = found.operation in
       let q = found.place in
@@ -148,52 +158,73 @@ module _ {S : Type 0} (M : MachineMeaning S) (vs : Vocabularies) (homes : List (
       let is_at = found.is_at in
       let same : found.at ≡ found.number = omega (arith, is_at) in
       let sum = found.sum in
-      let there = ap (λ n. place_in M vs can.near can.middle can.far homes n o (start found.number) q) same in
+      let there = ap (λ n. place_in M vs can.near can.middle can.far homes orders n o (start found.number) q) same in
       let address_there = address_is found.number number.0 q o found.is_operation (number.1 ∙ ap Some none) in
       let here : at_place found.number o q ≡ w.0 = omega (arith, sum, there) in
       (found.number, number.0, address_there ∙ ap (λ i. Some (pc_of i)) here ∙ ap Some (sym w.2))
 
+  -- where a stop begins and ends
+  pub record Stopped (n q : ℕ) (o : Operation) : Type 0 where
+    pub row : StopRow
+    pub is_row : slice_get (ops_of o.code) q ≡ Some (op.Rest row)
+    pub spot : IsIn q (order_of vs homes orders n)
+    pub end : at_place n o q < start n + behind (vocabulary_of vs homes orders n o) (home_of homes n o) (ops_of o.code)
+        (order_of vs homes orders n) q
+
+  pub stopped :
+      (n k q : ℕ) (o : Operation) → operation_at p n ≡ Some o → slice_get (stop_places o.code) k ≡ Some q → Stopped n q o
+  stopped n k q o e is =
+      let s = numbered o.code 0 k q is in
+      let sum = s.sum in
+      let same : s.place ≡ q = omega (arith, sum) in
+      let V = vocabulary_of vs homes orders n o in
+      let home = home_of homes n o in
+      let ops = ops_of o.code in
+      let order = order_of vs homes orders n in
+      let here : slice_get ops q ≡ Some (op.Rest s.row) =
+      op_at o.code q s.line s.row (subst (λ i. slice_get o.code i ≡ Some s.line) same s.is_line) s.is_stop
+      ∙ ap Some (rest_is s.line.op s.row s.is_stop) in
+      let size = ap (size_if V home ops (next_of (length ops) order q) q) here in
+      record {
+        row = s.row;
+        is_row = here;
+        spot = (ordered_at n o e).all q (get_within ops q (op.Rest s.row) here);
+        end = omega (arith, size);
+      }
+
   -- a stop's word is one of its operation's
   within_one :
       (n k q : ℕ) (o : Operation) → operation_at p n ≡ Some o → slice_get (stop_places o.code) k ≡ Some q →
-      at_place n o q < start n + words_in vs homes n o
+      at_place n o q < start n + words_in vs homes orders n o
   within_one n k q o e is =
-      let s = numbered o.code 0 k q is in
-      let sum = s.sum in
-      let same : s.place ≡ q = omega (arith, sum) in
-      let V = vocabulary_of vs homes n o in
-      let home = home_of homes n o in
-      let ops = ops_of o.code in
-      let here : slice_get ops q ≡ Some (op.Rest s.row) =
-      op_at o.code q s.line s.row (subst (λ i. slice_get o.code i ≡ Some s.line) same s.is_line) s.is_stop
-      ∙ ap Some (rest_is s.line.op s.row s.is_stop) in
-      let next = before_next V home ops q (op.Rest s.row) here in
-      let within = before_within V home ops (suc q) in
-      omega (arith, next, within)
+      let s = stopped n k q o e is in
+      let end = s.end in
+      let within = behind_within (vocabulary_of vs homes orders n o) (home_of homes n o) (ops_of o.code) (order_of vs homes orders n) q
+      s.spot in
+      omega (arith, end, within)
 
   two_stops :
       (n k j q r : ℕ) (o : Operation) → operation_at p n ≡ Some o → slice_get (stop_places o.code) k ≡ Some q →
-      q < r → at_place n o q < at_place n o r
-  two_stops n k j q r o e is lt =
-      let s = numbered o.code 0 k q is in
-      let sum = s.sum in
-      let same : s.place ≡ q = omega (arith, sum) in
-      let V = vocabulary_of vs homes n o in
+      slice_get (stop_places o.code) j ≡ Some r → q ≢ r → at_place n o q ≡ at_place n o r → ⊥
+  two_stops n k j q r o e is_q is_r other same =
+      let V = vocabulary_of vs homes orders n o in
       let home = home_of homes n o in
-      let ops = ops_of o.code in
-      let here : slice_get ops q ≡ Some (op.Rest s.row) =
-      op_at o.code q s.line s.row (subst (λ i. slice_get o.code i ≡ Some s.line) same s.is_line) s.is_stop
-      ∙ ap Some (rest_is s.line.op s.row s.is_stop) in
-      let next = before_next V home ops q (op.Rest s.row) here in
-      let rise = before_rises V home ops (suc q) r (omega (arith, lt)) in
-      omega (arith, next, rise)
+      let order = order_of vs homes orders n in
+      let a = stopped n k q o e is_q in
+      let b = stopped n j r o e is_r in
+      let a_end = a.end in
+      let b_end = b.end in
+      ⊎_elim
+      (λ (h : behind V home (ops_of o.code) order q ≤ before V home (ops_of o.code) order r). omega (arith, h, a_end, same))
+      (λ (h : behind V home (ops_of o.code) order r ≤ before V home (ops_of o.code) order q). omega (arith, h, b_end, same))
+      (spots_apart V home (ops_of o.code) order q r a.spot b.spot other)
 
   -- stops of two operations
   two_operations :
       (n k j i address : ℕ) → n < j → Known n k address → Known j i address → ⊥
   two_operations n k j i address lt a b =
       let within = within_one n k a.place_of a.operation a.is_operation a.is_place in
-      let rise = start_rises M vs can.near can.middle can.far homes 0 0 n j n p.operations a.operation (omega arith) lt a.is_operation in
+      let rise = start_rises M vs can.near can.middle can.far homes orders 0 0 n j n p.operations a.operation (omega arith) lt a.is_operation in
       let one = a.sum in
       let two = b.sum in
       omega (arith, within, rise, one, two)
@@ -209,14 +240,9 @@ module _ {S : Type 0} (M : MachineMeaning S) (vs : Vocabularies) (homes : List (
       let sum_a = a.sum in
       ⊎_elim
       (λ (e : a.place_of ≡ b.place_of). one_number o.code 0 k j b.place_of (a.is_place ∙ ap Some e) is_b)
-      (⊎_elim
-      (λ (lt : a.place_of < b.place_of).
-      let rise = two_stops n k j a.place_of b.place_of o a.is_operation a.is_place lt in
-      absurd (omega (arith, rise, sum_a, sum_b)))
-      (λ (lt : b.place_of < a.place_of).
-      let rise = two_stops n j k b.place_of a.place_of o a.is_operation is_b lt in
-      absurd (omega (arith, rise, sum_a, sum_b))))
-      (cases_order a.place_of b.place_of)
+      (λ (ne : a.place_of ≢ b.place_of).
+      absurd (two_stops n k j a.place_of b.place_of o a.is_operation a.is_place is_b ne (omega (arith, sum_a, sum_b))))
+      (same_or_not a.place_of b.place_of)
 
   pub apart :
       (n k j i address : ℕ) → address_of code n k ≡ Some address → address_of code j i ≡ Some address → (n ≡ j) × (k ≡ i)
@@ -232,7 +258,7 @@ module _ {S : Type 0} (M : MachineMeaning S) (vs : Vocabularies) (homes : List (
 
   pub whole : words_in_all code.operations ≡ length code.words
   whole =
-      sum_is M vs can.near can.middle can.far homes 0 0 p.operations ∙ sym (long_is M vs can.near can.middle can.far homes 0 0 p.operations)
+      sum_is M vs can.near can.middle can.far homes orders 0 0 p.operations ∙ sym (long_is M vs can.near can.middle can.far homes orders 0 0 p.operations)
 
   pub within :
       (n k address : ℕ) → address_of code n k ≡ Some address →
@@ -240,7 +266,7 @@ module _ {S : Type 0} (M : MachineMeaning S) (vs : Vocabularies) (homes : List (
   within n k address e =
       let a = known_is n k address e in
       let sum = a.sum in
-      let first = before_is M vs can.near can.middle can.far homes 0 0 p.operations n in
+      let first = before_is M vs can.near can.middle can.far homes orders 0 0 p.operations n in
       let below = within_one n k a.place_of a.operation a.is_operation a.is_place in
       let size = words_are n a.operation a.is_operation in
       ((omega (arith, sum, first)), (omega (arith, sum, first, below, size)))

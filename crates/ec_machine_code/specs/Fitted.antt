@@ -90,6 +90,7 @@ pub record FitAt {S : Type 0} (M : MachineMeaning S) (p : Parts) (code : Code) (
 -- Behind each stop there is such a one.
 abbrev pub EachStopHasAFit : {S : Type 0} → MachineMeaning S → Type 0
 EachStopHasAFit M =
-    (vs : Vocabularies) (homes : List (List Home)) (d : Declared) (p : Parts) → CanBeLaidOut M vs homes d p → CanRest M → HasFew d p →
+    (vs : Vocabularies) (homes : List (List Home)) (orders : List (List ℕ)) (d : Declared) (p : Parts) →
+    CanBeLaidOut M vs homes orders d p → CanRest M → HasFew d p →
     (n k q : ℕ) (o : Operation) → operation_at p n ≡ Some o → slice_get (stop_places o.code) k ≡ Some q →
-    FitAt M p (code_of vs homes p.operations) homes n q o
+    FitAt M p (code_of vs homes orders p.operations) homes n q o

@@ -22,7 +22,7 @@ use Rattle.ec_machine_code.specs.Stops.{home_in}
 use Rattle.ec_machine_code.specs.Homes.{IsWithin}
 use Rattle.ec_machine_code.specs.declared.homes.Home.{Home}
 use Rattle.ec_code.specs.Live.{reads, writes}
-use Rattle.ec_machine_code.specs.Layout.{HasRoom, Vocabularies, code_of, home_of}
+use Rattle.ec_machine_code.specs.Layout.{HasOrders, HasRoom, Vocabularies, code_of, home_of}
 use Rattle.ec_machine_code.specs.Speaks.{Speaks}
 
 -- a variable that a line reads, writes, or has as live
@@ -70,9 +70,9 @@ NumbersFit (op.Rest row) = Unit {0}
 -- ---- programs
 
 -- What code of a program in the words of a kind rests on: the kind speaks them, near and far ones; the program is well typed, and its
--- numbers fit words; homes fit its operations; and there is room for the code.
-pub record CanBeLaidOut {S : Type 0} (M : MachineMeaning S) (vs : Vocabularies) (homes : List (List Home)) (d : Declared) (p : Parts) :
-    Type 0 where
+-- numbers fit words; homes fit its operations; their steps have an order; and there is room for the code.
+pub record CanBeLaidOut {S : Type 0} (M : MachineMeaning S) (vs : Vocabularies) (homes : List (List Home)) (orders : List (List ℕ))
+    (d : Declared) (p : Parts) : Type 0 where
   pub near : Speaks M vs.near
   pub middle : Speaks M vs.middle
   pub far : Speaks M vs.far
@@ -80,10 +80,11 @@ pub record CanBeLaidOut {S : Type 0} (M : MachineMeaning S) (vs : Vocabularies) 
   pub numbers :
       (n q : ℕ) (o : Operation) (line : Line) → slice_get p.operations n ≡ Some o → slice_get o.code q ≡ Some line → NumbersFit line.op
   pub homes_fit : (n : ℕ) (o : Operation) → slice_get p.operations n ≡ Some o → HomesFit M.homes homes n o
-  pub room : HasRoom vs homes p
+  pub ordered : HasOrders orders p
+  pub room : HasRoom vs homes orders p
 
--- Code that is laid out so is faithful, and passes no word twice between two stops.
+-- Code that is laid out so, in any order of each operation's steps, is faithful, and passes no word twice between two stops.
 abbrev pub LaidOutIsFaithful : {S : Type 0} → MachineMeaning S → Type 0
 LaidOutIsFaithful M =
-    (vs : Vocabularies) (homes : List (List Home)) (d : Declared) (p : Parts) → CanBeLaidOut M vs homes d p →
-    FaithfulOnce M p (code_of vs homes p.operations) homes
+    (vs : Vocabularies) (homes : List (List Home)) (orders : List (List ℕ)) (d : Declared) (p : Parts) →
+    CanBeLaidOut M vs homes orders d p → FaithfulOnce M p (code_of vs homes orders p.operations) homes

@@ -43,6 +43,10 @@ nothing = source.Word 0
 abbrev pub question : Relation → Source → Source → Bool → Question
 question relation left right wanted = record { relation = relation; left = left; right = right; wanted = wanted }
 
+-- the question that is answered with yes where this one is answered with no
+abbrev pub opposite : Question → Question
+opposite q = question q.relation q.left q.right (not q.wanted)
+
 -- the answer to a question of two numbers, which is known when code is made
 abbrev pub known_by : Relation → Bool → Source → Source → Option Bool
 known_by relation wanted (source.Home h) right = None

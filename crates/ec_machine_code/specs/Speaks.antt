@@ -16,7 +16,7 @@ abbrev pub words_end : ℕ
 words_end = 0x03EFFFFF
 
 -- The words of a kind of machine: of a step; of a question that is asked at word `from` and leads to word `to` where the answer is
--- yes; of a jump at word `from` to word `to`; and of a stop. A question leads forward, and it and a jump reach so many words far.
+-- yes; of a jump at word `from` to word `to`; and of a stop. A question and a jump reach so many words far, forward and back.
 pub record Vocabulary : Type 0 where
   pub step_words : Step → List ℕ
   pub ask_words : Question → ℕ → ℕ → List ℕ
@@ -55,7 +55,8 @@ module _ {S : Type 0} (M : MachineMeaning S) (f own : ℕ) where
   abbrev pub AskLaw : Vocabulary → Type 0
   AskLaw V =
       (code : List ℕ) (q : Question) (i to : ℕ) (s : S) (v : Sight) → f < most_blocks → own < most_blocks →
-      HasAt code i (V.ask_words q i to) → M.place s ≡ pc_of i → i + V.ask_size q ≤ to → to ≤ words_end → to ≤ i + V.reach →
+      HasAt code i (V.ask_words q i to) → M.place s ≡ pc_of i → i + V.ask_size q ≤ words_end → to ≤ words_end →
+      to ≤ i + V.reach → i ≤ to + V.reach →
       Sees s v.home → CanAsk M f own q v →
       Ends code s v i (i + V.ask_size q) (if asked M f own q v.home v.bytes then to else i + V.ask_size q) v
 

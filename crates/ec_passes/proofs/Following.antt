@@ -19,7 +19,7 @@ use Rattle.ec_machine_code.specs.declared.homes.Home.TheVariants.{Register, Slot
 use Rattle.ec_world.specs.Words.{StandsFor}
 use Rattle.ec_world.specs.declared.common.Common.{Common}
 use Rattle.ec_world.specs.declared.value.Value.{Value}
-use Rattle.ec_passes.proofs.Different.{different_few}
+use Rattle.ec_machine_code.proofs.Different.{different_few}
 use Rattle.ec_passes.proofs.Passing.{Reached, reaches}
 use Rattle.ec_target.proofs.Climbing.{passes_lead}
 use Rattle.ec_passes.specs.Following.{EndsAlike, FollowingIsShort, FollowingKeepsFaithful, Follows, KeepsStops, SameHomes, StopsAt}

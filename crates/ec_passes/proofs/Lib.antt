@@ -1,4 +1,3 @@
-mod Different
 pub mod Following
 mod Itself
 mod Passing

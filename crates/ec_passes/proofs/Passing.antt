@@ -7,7 +7,7 @@ use Rattle.ec_code.specs.Fine.{IsIn}
 use Rattle.ec_machine_code.specs.Machine.{MachineMeaning}
 use Rattle.ec_machine_code.specs.Once.{AreDifferent}
 use Rattle.ec_machine_code.specs.declared.code.Code.{Code}
-use Rattle.ec_passes.proofs.Different.{different_append, different_apart, different_behind, in_either, in_split}
+use Rattle.ec_machine_code.proofs.Different.{different_append, different_apart, different_behind, in_either, in_split}
 use Rattle.ec_passes.specs.Following.{Follows, Stretch}
 use Rattle.ec_target.proofs.Climbing.{passes_append, passes_none}
 use Rattle.ec_target.specs.Paths.{Passes}

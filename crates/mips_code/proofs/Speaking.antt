@@ -42,7 +42,7 @@ use Rattle.mips_machine.specs.Machine.{mips_register}
 use Rattle.mips_machine.specs.Values.{extended, plus}
 use Rattle.mips_machine.specs.declared.machine.MipsMachine.{MipsMachine}
 use Rattle.mips_code.specs.Meaning.{mips_meaning}
-use Rattle.mips_code.specs.Words.{answer_words, branch, branch_at, branch_of, by_minus_one, constant_words, copied_words, difference_by}
+use Rattle.mips_code.specs.Words.{answer_words, branch, branch_at, branch_distance, branch_of, by_minus_one, constant_words, copied_words, difference_by}
 use Rattle.mips_code.specs.Words.{difference_words, divided_words, division_by, far_words, from_hilo, hilo_words, is_other_number}
 use Rattle.mips_code.specs.Words.{is_small}
 use Rattle.mips_code.specs.Words.{jump_words, less_by, less_words, loaded_words, lui, mips_far, mips_near, near_words, no_op, number_words}
@@ -470,7 +470,7 @@ taken_not Less wanted a c offset = branch_not (branch_of (not wanted)) 8 0 offse
 
 none_near : (q : Question) (from to : ℕ) → Free (near_words q from to)
 none_near q from to =
-    let offset = to - (from + branch_at q + 1) in
+    let offset = branch_distance (from + branch_at q + 1) to in
     none_with q.left q.right (λ a c. order_words q.relation a c ++ taken_where q.relation q.wanted a c offset ∷ no_op ∷ [])
     (none_append (order_words q.relation (source_register 8 q.left) (source_register 9 q.right)) _
     (none_order q.relation (source_register 8 q.left) (source_register 9 q.right))
@@ -516,7 +516,7 @@ near_speaks = record {
   reads_back = big_number-reads_back;
   length_bytes = λ n x. length-bytes_high_first n x;
   asks_size = λ q from to. ask_size q
-      (λ a c. taken_where q.relation q.wanted a c (to - (from + branch_at q + 1)) ∷ no_op ∷ []) 2 refl;
+      (λ a c. taken_where q.relation q.wanted a c (branch_distance (from + branch_at q + 1) to) ∷ no_op ∷ []) 2 refl;
   jumps_size = λ from to. refl;
   no_step = λ m. (none_step m).each;
   no_ask = λ q from to. (none_near q from to).each;

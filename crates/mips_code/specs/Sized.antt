@@ -25,7 +25,7 @@ use Rattle.mips_isa.specs.declared.instr.MoveFrom.{MoveFrom}
 use Rattle.mips_isa.specs.declared.instr.MoveFrom.TheVariants.{Mfhi, Mflo}
 use Rattle.mips_isa.specs.declared.instr.Operation.{Operation}
 use Rattle.mips_isa.specs.declared.instr.Operation.TheVariants.{Addu, Slt, Subu}
-use Rattle.mips_code.specs.Words.{answer_words, branch_at, constant_words, copied_words, difference_by, difference_words, division_by}
+use Rattle.mips_code.specs.Words.{answer_words, branch_at, branch_distance, constant_words, copied_words, difference_by, difference_words, division_by}
 use Rattle.mips_code.specs.Words.{far_words, hilo_words, is_other_number, is_small, jump_words, less_by, less_words, loaded_words, lui}
 use Rattle.mips_code.specs.Words.{mips_far, mips_near, move_words, near_words, no_op, number_words, on_number, on_registers, one_words}
 use Rattle.mips_code.specs.Words.{order_words, small, small_negative, source_register, source_words, step_words, stored_words, sum_by}
@@ -163,7 +163,7 @@ asked_length q behind n h =
 
 near_length : (q : Question) (from to : ℕ) → length (near_words q from to) ≡ branch_at q + 2
 near_length q from to =
-    asked_length q (λ a b. taken_where q.relation q.wanted a b (to - (from + branch_at q + 1)) ∷ no_op ∷ []) 2 (λ a b. refl)
+    asked_length q (λ a b. taken_where q.relation q.wanted a b (branch_distance (from + branch_at q + 1) to) ∷ no_op ∷ []) 2 (λ a b. refl)
 
 far_length : (q : Question) (from to : ℕ) → length (far_words q from to) ≡ branch_at q + 4
 far_length q from to =
@@ -244,7 +244,7 @@ few_order : (relation : Relation) → order_size relation ≤ 1
 few_order Same = omega arith
 few_order Less = omega arith
 
-few_asked : (q : Question) → branch_at q ≤ 5
+pub few_asked : (q : Question) → branch_at q ≤ 5
 few_asked q = omega (arith, branch_at_is q, few_two q.left q.right, few_order q.relation)
 
 -- ---- all of it

@@ -259,11 +259,15 @@ taken_where Less wanted a b offset = branch (branch_of (not wanted)) 8 0 offset
 abbrev pub branch_at : Question → ℕ
 branch_at q = length (with_two q.left q.right (order_words q.relation))
 
+-- how far it is from the slot of a branch to a word, modulo 2^16
+abbrev pub branch_distance : (from to : ℕ) → ℕ
+branch_distance from to = (2 ^ 16 + to - from) % 2 ^ 16
+
 -- The branch leads to the target,
 abbrev pub near_words : Question → (from to : ℕ) → List ℕ
 near_words q from to =
     with_two q.left q.right
-    (λ a b. order_words q.relation a b ++ taken_where q.relation q.wanted a b (to - (from + branch_at q + 1)) ∷ no_op ∷ [])
+    (λ a b. order_words q.relation a b ++ taken_where q.relation q.wanted a b (branch_distance (from + branch_at q + 1) to) ∷ no_op ∷ [])
 
 -- or the opposite branch leads over a jump to it.
 abbrev pub far_words : Question → (from to : ℕ) → List ℕ
@@ -272,7 +276,7 @@ far_words q from to =
     (λ a b. order_words q.relation a b
     ++ taken_where q.relation (not q.wanted) a b 3 ∷ no_op ∷ jump_words (from + branch_at q + 2) to)
 
--- ---- the vocabularies
+-- ---- the vocabularies. A branch reaches less than 2^15 words either way, from its slot; at most five words stand before the branch.
 
 abbrev pub mips_near : Vocabulary
 mips_near = record {
@@ -282,7 +286,7 @@ mips_near = record {
   jump_words = jump_words;
   jump_size = 2;
   stop_word = 0x0000000C;
-  reach = 2 ^ 15 - 1;
+  reach = 2 ^ 15 - 8;
 }
 
 -- A jump reaches each word of the code.

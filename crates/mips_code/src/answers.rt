@@ -19,6 +19,9 @@ use mips_isa::field::{Register, Sixteen};
 use mips_isa::instr::{Branch, Immediate, Instr, Operation};
 use std::alloc::AllocError;
 
+/// Two to the power of the bits of a branch's offset.
+const ROUND: u32 = 0x1_0000;
+
 const ONE: Sixteen = Sixteen { bits: 1 };
 
 // ---- answers in registers
@@ -135,13 +138,14 @@ fn put_branch(
 
 /// How far it is from the slot of the branch of a question at a word to another word.
 fn near_offset(question: Question, from: u32, to: u32) -> Sixteen
-    requires forward { from + (spec.branch_at question + 2) ≤ to }
-    requires room { to ≤ words_end }
-    requires near { to ≤ from + 32767 }
-    ensures { result.bits ≡ to - (from + spec.branch_at question + 1) }
+    requires from { from ≤ words_end }
+    requires to { to ≤ words_end }
+    requires back { from ≤ to + 32760 }
+    ensures { result.bits ≡ spec.branch_distance (from + spec.branch_at question + 1) to }
 {
+    let slot = from + branch_at(question) + 1;
     Sixteen {
-        bits: to - (from + branch_at(question) + 1),
+        bits: (ROUND + to - slot) % ROUND,
     }
 }
 
@@ -154,9 +158,9 @@ pub(crate) fn put_near(
     to: u32,
 ) -> Result<(), AllocError>
     requires homes { CanPutQuestion 6 question }
-    requires forward { from + (spec.branch_at question + 2) ≤ to }
-    requires room { to ≤ words_end }
-    requires near { to ≤ from + 32767 }
+    requires from { from ≤ words_end }
+    requires to { to ≤ words_end }
+    requires back { from ≤ to + 32760 }
     ensures { OnOk result (words.new ≡ words.old ++ spec.near_words question from to) }
 {
     let offset = near_offset(question, from, to);

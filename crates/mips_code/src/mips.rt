@@ -27,7 +27,7 @@ impl Kind for Mips {
 
     fn reach(&self, span: Span) -> u32 {
         match span {
-            Span::Near => 0x7FFF,
+            Span::Near => 0x7FF8,
             Span::Middle | Span::Far => 0x0400_0000,
         }
     }

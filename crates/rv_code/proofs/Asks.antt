@@ -29,7 +29,8 @@ use Rattle.rv_code.proofs.Places.{back_at, first_at, front_at, rest_at}
 use Rattle.rv_code.proofs.Results.{Both, Value, both_sources, first_register, second_register, still_seen}
 use Rattle.rv_code.proofs.Runs.{Run, jump_goes, jump_there_goes, pc, x5}
 use Rattle.rv_code.specs.Meaning.{rv_meaning}
-use Rattle.rv_code.specs.Words.{both_words, branch_of, branch_word, distance, far_jump_words, far_words, fetch_size, jump}
+use Rattle.rv_code.specs.Sized.{few_fetched}
+use Rattle.rv_code.specs.Words.{both_words, branch_distance, branch_of, branch_word, distance, far_jump_words, far_words, fetch_size, jump}
 use Rattle.rv_code.specs.Words.{jump_there, jump_words, lui, middle_words, near_words, source_register}
 
 -- ---- distances
@@ -41,6 +42,20 @@ forward_is p from to d at on high e near =
     let small : nat_lt d (2 ^ 12) ≡ true = grind (arith, nat_tests) in
     let there : plus p d ≡ pc_of to = omega (arith, at, on, high, e) in
     sym (ap (λ t. plus p (cond t d (d + (2 ^ 32 - 2 ^ 13)))) small ∙ there)
+
+-- a branch either way comes to its word
+branch_is : (from to : ℕ) → from ≤ words_end → to ≤ words_end → to < from + 2 ^ 10 → from ≤ to + 2 ^ 10 →
+    pc_of to ≡ plus (pc_of from) (extended 13 (branch_distance from to))
+branch_is from to low high near far = ⊎_elim
+    (λ (lt : branch_distance from to < 2 ^ 12).
+    let t : nat_lt (branch_distance from to) (2 ^ 12) ≡ true = grind (arith, nat_tests) in
+    sym (ap (λ b. plus (pc_of from) (cond b (branch_distance from to) (branch_distance from to + (2 ^ 32 - 2 ^ 13)))) t
+    ∙ omega (arith, low, high, near, far, lt)))
+    (λ (le : 2 ^ 12 ≤ branch_distance from to).
+    let t : nat_lt (branch_distance from to) (2 ^ 12) ≡ false = grind (arith, nat_tests) in
+    sym (ap (λ b. plus (pc_of from) (cond b (branch_distance from to) (branch_distance from to + (2 ^ 32 - 2 ^ 13)))) t
+    ∙ omega (arith, low, high, near, far, le)))
+    (cases_lt (branch_distance from to) (2 ^ 12))
 
 -- a jump comes to its word
 target_is : (from to : ℕ) → from ≤ words_end → to ≤ words_end → to < from + 2 ^ 18 → from < to + 2 ^ 18 →
@@ -188,38 +203,47 @@ module _ (code : List ℕ) (f own : ℕ) (f_small : f < most_blocks) (v : Sight)
   -- where the branch leads to the word itself
   near_end : (t : Bool) → answer ≡ t → (i to : ℕ) (m : RvMachine)
       (r : Run code v.bytes m i (i + fetch_size q) (Fetched m)) →
-      word_at code r.last.pc ≡ Some (branch_word q q.wanted (4 * (to - (i + fetch_size q)))) → i + (fetch_size q + 1) ≤ to →
-      to ≤ words_end → to ≤ i + 1023 → Seen code f own v m →
+      word_at code r.last.pc ≡ Some (branch_word q q.wanted (branch_distance (i + fetch_size q) to)) →
+      i + (fetch_size q + 1) ≤ words_end → to ≤ words_end → to ≤ i + 1020 → i ≤ to + 1020 → Seen code f own v m →
       Comes code f own v m i (i + (fetch_size q + 1)) (if t then to else i + (fetch_size q + 1))
-  near_end true e i to m r here forward high near g =
+  near_end t e i to m r here low high close back g =
       let from = i + fetch_size q in
-      let d = 4 * (to - from) in
-      let small : d < 2 ^ 12 = omega (arith, near) in
-      let offset : BranchOffset = record { bits = d; in_range = omega (arith, small); even = omega arith } in
-      let there = forward_is r.last.pc from to d r.at (omega (arith, forward)) high refl small in
-      let goes = branch_goes code r.last v.bytes (branch_of q.relation q.wanted) left right offset (pc_of to)
-      (takes q.wanted m r.last r.is ∙ e) there (omega arith) here in
-      ends m i from (i + (fetch_size q + 1)) to r (pc_of to) goes refl (omega arith) g
-  near_end false e i to m r here forward high near g =
-      let from = i + fetch_size q in
-      let d = 4 * (to - from) in
+      let d = branch_distance from to in
+      let few = few_fetched q in
+      let offset : BranchOffset =
+      record { bits = d; in_range = omega arith; even = omega (arith, low, high, close, back, few) } in
+      let there = branch_is from to (omega (arith, low)) high (omega (arith, close)) (omega (arith, back, few))
+      ∙ ap (λ p. plus p (extended 13 d)) (sym r.at) in
       let at1 = r.at in
-      let small : d < 2 ^ 12 = omega (arith, near) in
-      let offset : BranchOffset = record { bits = d; in_range = omega (arith, small); even = omega arith } in
-      let goes = branch_passes code r.last v.bytes (branch_of q.relation q.wanted) left right offset
-      (takes q.wanted m r.last r.is ∙ e) here (omega (arith, at1, forward, high)) in
-      ends m i from (i + (fetch_size q + 1)) (i + (fetch_size q + 1)) r (r.last.pc + 4) goes (omega (arith, at1)) (omega arith) g
+      by t (takes q.wanted m r.last r.is ∙ e) offset refl there (omega (arith, at1, low))
+    where
+      by : (t : Bool) →
+          is_taken (branch_of q.relation q.wanted) (rv_register r.last left.number) (rv_register r.last right.number) ≡ t →
+          (offset : BranchOffset) → offset.bits ≡ branch_distance (i + fetch_size q) to →
+          pc_of to ≡ plus r.last.pc (extended 13 (branch_distance (i + fetch_size q) to)) → r.last.pc + 4 < 2 ^ 32 →
+          Comes code f own v m i (i + (fetch_size q + 1)) (if t then to else i + (fetch_size q + 1))
+      by true taken offset bits there small =
+          let goes = branch_goes code r.last v.bytes (branch_of q.relation q.wanted) left right offset (pc_of to) taken
+          (there ∙ ap (λ d. plus r.last.pc (extended 13 d)) (sym bits)) (omega arith)
+          (here ∙ ap (λ d. Some (branch_word q q.wanted d)) (sym bits)) in
+          ends m i (i + fetch_size q) (i + (fetch_size q + 1)) to r (pc_of to) goes refl (omega arith) g
+      by false not_taken offset bits there small =
+          let at1 = r.at in
+          let goes = branch_passes code r.last v.bytes (branch_of q.relation q.wanted) left right offset not_taken
+          (here ∙ ap (λ d. Some (branch_word q q.wanted d)) (sym bits)) small in
+          ends m i (i + fetch_size q) (i + (fetch_size q + 1)) (i + (fetch_size q + 1)) r (r.last.pc + 4) goes (omega (arith, at1))
+          (omega arith) g
 
-  pub near : (i to : ℕ) (m : RvMachine) → HasAt code i (near_words q i to) → m.pc ≡ pc_of i → i + (fetch_size q + 1) ≤ to →
-      to ≤ words_end → to ≤ i + 1023 → Seen code f own v m →
+  pub near : (i to : ℕ) (m : RvMachine) → HasAt code i (near_words q i to) → m.pc ≡ pc_of i → i + (fetch_size q + 1) ≤ words_end →
+      to ≤ words_end → to ≤ i + 1020 → i ≤ to + 1020 → Seen code f own v m →
       Comes code f own v m i (i + (fetch_size q + 1)) (if answer then to else i + (fetch_size q + 1))
-  near i to m has at forward high close g =
+  near i to m has at low high close back g =
       let ws = both_words q.left q.right in
-      let u = branch_word q q.wanted (4 * (to - (i + fetch_size q))) in
+      let u = branch_word q q.wanted (branch_distance (i + fetch_size q) to) in
       let r = both_sources code f own f_small v q.left q.right can.0 can.1 i m (front_at code i ws (u ∷ []) has) at
-      (omega (arith, forward, high)) g in
+      (omega (arith, low)) g in
       near_end answer refl i to m r (first_at code (i + fetch_size q) u r.last.pc [] (back_at code i ws (u ∷ []) has) r.at)
-      forward high close g
+      low high close back g
 
   -- where the branch leads past a jump of so many words
   past_end : (t : Bool) → answer ≡ t → (size all : ℕ) (offset : BranchOffset) → offset.bits ≡ 4 * (size + 1) → size ≤ 2 →
@@ -227,7 +251,7 @@ module _ (code : List ℕ) (f own : ℕ) (f_small : f < most_blocks) (v : Sight)
       (r : Run code v.bytes m i (i + fetch_size q) (Fetched m)) →
       word_at code r.last.pc ≡ Some (branch_word q (not q.wanted) offset.bits) →
       ((n : RvMachine) → n.pc ≡ pc_of (i + fetch_size q + 1) → Seen code f own v n →
-      Comes code f own v n (i + fetch_size q + 1) (i + fetch_size q + 1 + size) to) → i + all ≤ to →
+      Comes code f own v n (i + fetch_size q + 1) (i + fetch_size q + 1 + size) to) → i + all ≤ words_end →
       to ≤ words_end → Seen code f own v m → Comes code f own v m i (i + all) (if t then to else i + all)
   past_end true e size all offset long few whole i to m r here jumps forward high g =
       let at1 = r.at in
@@ -253,7 +277,7 @@ module _ (code : List ℕ) (f own : ℕ) (f_small : f < most_blocks) (v : Sight)
       (i to : ℕ) (m : RvMachine) (jump : List ℕ) →
       HasAt code i (both_words q.left q.right ++ branch_word q (not q.wanted) offset.bits ∷ jump) → m.pc ≡ pc_of i →
       (HasAt code (i + fetch_size q + 1) jump → (n : RvMachine) → n.pc ≡ pc_of (i + fetch_size q + 1) → Seen code f own v n →
-      Comes code f own v n (i + fetch_size q + 1) (i + fetch_size q + 1 + size) to) → i + all ≤ to → to ≤ words_end →
+      Comes code f own v n (i + fetch_size q + 1) (i + fetch_size q + 1 + size) to) → i + all ≤ words_end → to ≤ words_end →
       Seen code f own v m → Comes code f own v m i (i + all) (if answer then to else i + all)
   past size all offset long few whole i to m jump has at jumps forward high g =
       let ws = both_words q.left q.right in
@@ -264,17 +288,18 @@ module _ (code : List ℕ) (f own : ℕ) (f_small : f < most_blocks) (v : Sight)
       past_end answer refl size all offset long few whole i to m r (first_at code (i + fetch_size q) u r.last.pc jump back r.at)
       (jumps (rest_at code (i + fetch_size q) u jump back)) forward high g
 
-  pub middle : (i to : ℕ) (m : RvMachine) → HasAt code i (middle_words q i to) → m.pc ≡ pc_of i → i + (fetch_size q + 2) ≤ to →
-      to ≤ words_end → to < i + 2 ^ 18 → Seen code f own v m →
+  pub middle : (i to : ℕ) (m : RvMachine) → HasAt code i (middle_words q i to) → m.pc ≡ pc_of i → i + (fetch_size q + 2) ≤ words_end →
+      to ≤ words_end → to + 8 ≤ i + 2 ^ 18 → i + 8 ≤ to + 2 ^ 18 → Seen code f own v m →
       Comes code f own v m i (i + (fetch_size q + 2)) (if answer then to else i + (fetch_size q + 2))
-  middle i to m has at forward high close g =
+  middle i to m has at forward high close back g =
+      let few = few_fetched q in
       past 1 (fetch_size q + 2) eight refl (omega arith) (omega arith) i to m (jump_words (i + fetch_size q + 1) to) has at
       (λ jump n on seen.
       jumped code f own v (i + fetch_size q + 1) to n jump on (omega (arith, forward, high)) high (omega (arith, close))
-      (omega (arith, forward)) seen)
+      (omega (arith, back, few)) seen)
       forward high g
 
-  pub far : (i to : ℕ) (m : RvMachine) → HasAt code i (far_words q to) → m.pc ≡ pc_of i → i + (fetch_size q + 3) ≤ to →
+  pub far : (i to : ℕ) (m : RvMachine) → HasAt code i (far_words q to) → m.pc ≡ pc_of i → i + (fetch_size q + 3) ≤ words_end →
       to ≤ words_end → Seen code f own v m →
       Comes code f own v m i (i + (fetch_size q + 3)) (if answer then to else i + (fetch_size q + 3))
   far i to m has at forward high g =

@@ -21,8 +21,8 @@ near_speaks = record {
   no_jump = no_jump;
   step = λ f own code m i s v frame_small own_small has at room sees can.
       step code f own frame_small own_small v m can i s has at room sees;
-  ask = λ f own code q i to s v frame_small own_small has at forward high close sees can.
-      near code f own frame_small v q can i to s has at forward high close sees;
+  ask = λ f own code q i to s v frame_small own_small has at low high close back sees can.
+      near code f own frame_small v q can i to s has at low high (omega (arith, close)) (omega (arith, back)) sees;
   jump = λ f own code i to s v has at low high close back sees.
       jumped code f own v i to s has at low high (omega (arith, close)) (omega (arith, back)) sees;
   halt = λ code s b rests here. ecall_stops code s b here;
@@ -41,8 +41,8 @@ middle_speaks = record {
   no_jump = no_jump;
   step = λ f own code m i s v frame_small own_small has at room sees can.
       step code f own frame_small own_small v m can i s has at room sees;
-  ask = λ f own code q i to s v frame_small own_small has at forward high close sees can.
-      middle code f own frame_small v q can i to s has at forward high (omega (arith, close)) sees;
+  ask = λ f own code q i to s v frame_small own_small has at low high close back sees can.
+      middle code f own frame_small v q can i to s has at low high (omega (arith, close)) (omega (arith, back)) sees;
   jump = λ f own code i to s v has at low high close back sees.
       jumped code f own v i to s has at low high (omega (arith, close)) (omega (arith, back)) sees;
   halt = λ code s b rests here. ecall_stops code s b here;
@@ -61,8 +61,8 @@ far_speaks = record {
   no_jump = λ from to. no_far_jump to;
   step = λ f own code m i s v frame_small own_small has at room sees can.
       step code f own frame_small own_small v m can i s has at room sees;
-  ask = λ f own code q i to s v frame_small own_small has at forward high close sees can.
-      far code f own frame_small v q can i to s has at forward high sees;
+  ask = λ f own code q i to s v frame_small own_small has at low high close back sees can.
+      far code f own frame_small v q can i to s has at low high sees;
   jump = λ f own code i to s v has at low high close back sees.
       far_jumped code f own v i to s has at low high sees;
   halt = λ code s b rests here. ecall_stops code s b here;

@@ -24,7 +24,7 @@ use Rattle.rv_isa.specs.declared.instr.Immediate.{Immediate}
 use Rattle.rv_isa.specs.declared.instr.Immediate.TheVariants.{Addi, Slti, Sltiu, Xori}
 use Rattle.rv_isa.specs.declared.instr.Operation.{Operation}
 use Rattle.rv_isa.specs.declared.instr.Operation.TheVariants.{Add, Div, Mul, Rem, Slt, Sltu, Sub}
-use Rattle.rv_code.specs.Words.{answer_words, apart_register, apart_words, both_words, branch, branch_of, branch_word, compared_words}
+use Rattle.rv_code.specs.Words.{answer_words, apart_register, apart_words, both_words, branch, branch_distance, branch_of, branch_word, compared_words}
 use Rattle.rv_code.specs.Words.{constant_words, copied_words, difference_by, difference_words, distance, far_jump_words, far_words}
 use Rattle.rv_code.specs.Words.{fetch_size}
 use Rattle.rv_code.specs.Words.{home_register, is_small, is_zero, jump, jump_there, jump_words, less_by, less_words, lui, lw, middle_words}
@@ -202,7 +202,7 @@ no_jump from to = single (jump (distance from to)) (by_jump (distance from to))
 
 pub no_near : (q : Question) (from to : ℕ) → IsNone stop (near_words q from to)
 no_near q from to =
-    let d = 4 * (to - (from + fetch_size q)) in
+    let d = branch_distance (from + fetch_size q) to in
     let u = branch_word q q.wanted d in
     behind (both_words q.left q.right) (u ∷ []) (both q.left q.right)
     (single u (by_branch (branch_of q.relation q.wanted) (source_register 5 q.left) (source_register 6 q.right) d))
@@ -230,7 +230,7 @@ no_far q to = past q 12 (far_jump_words to) (no_far_jump to)
 -- ---- sizes
 
 pub near_size : (q : Question) (from to : ℕ) → length (near_words q from to) ≡ fetch_size q + 1
-near_size q from to = length-append (both_words q.left q.right) (branch_word q q.wanted (4 * (to - (from + fetch_size q))) ∷ [])
+near_size q from to = length-append (both_words q.left q.right) (branch_word q q.wanted (branch_distance (from + fetch_size q) to) ∷ [])
 
 pub middle_size : (q : Question) (from to : ℕ) → length (middle_words q from to) ≡ fetch_size q + 2
 middle_size q from to =

@@ -21,7 +21,7 @@ use Rattle.rv_isa.specs.declared.instr.Immediate.{Immediate}
 use Rattle.rv_isa.specs.declared.instr.Immediate.TheVariants.{Addi, Slti, Xori}
 use Rattle.rv_isa.specs.declared.instr.Operation.{Operation}
 use Rattle.rv_isa.specs.declared.instr.Operation.TheVariants.{Add, Div, Mul, Rem, Slt, Sub}
-use Rattle.rv_code.specs.Words.{answer_words, apart_register, apart_words, both_words, branch_word, compared_words, constant_words}
+use Rattle.rv_code.specs.Words.{answer_words, apart_register, apart_words, both_words, branch_distance, branch_word, compared_words, constant_words}
 use Rattle.rv_code.specs.Words.{copied_words}
 use Rattle.rv_code.specs.Words.{difference_by, difference_words, far_jump_words, far_words, fetch_size, is_small, is_zero, jump_words}
 use Rattle.rv_code.specs.Words.{less_by}
@@ -215,7 +215,7 @@ few_fetched q = omega (arith, both_length q.left q.right, few_source q.left, few
 
 near_length : (q : Question) (from to : ℕ) → length (near_words q from to) ≡ fetch_size q + 1
 near_length q from to =
-    appended (both_words q.left q.right) (branch_word q q.wanted (4 * (to - (from + fetch_size q))) ∷ []) (fetch_size q) 1 refl refl
+    appended (both_words q.left q.right) (branch_word q q.wanted (branch_distance (from + fetch_size q) to) ∷ []) (fetch_size q) 1 refl refl
 
 middle_length : (q : Question) (from to : ℕ) → length (middle_words q from to) ≡ fetch_size q + 2
 middle_length q from to =

@@ -237,9 +237,13 @@ fetch_size q = length (both_words q.left q.right)
 abbrev pub branch_word : Question → Bool → (offset : ℕ) → ℕ
 branch_word q wanted offset = branch (branch_of q.relation wanted) (source_register 5 q.left) (source_register 6 q.right) offset
 
+-- how far it is from a branch to a word, in bytes, modulo 2^13
+abbrev pub branch_distance : (from to : ℕ) → ℕ
+branch_distance from to = (2 ^ 13 + 4 * to - 4 * from) % 2 ^ 13
+
 -- A near question branches straight to its word; another one branches past a jump where the answer is no.
 abbrev pub near_words : Question → (from to : ℕ) → List ℕ
-near_words q from to = both_words q.left q.right ++ branch_word q q.wanted (4 * (to - (from + fetch_size q))) ∷ []
+near_words q from to = both_words q.left q.right ++ branch_word q q.wanted (branch_distance (from + fetch_size q) to) ∷ []
 
 abbrev pub middle_words : Question → (from to : ℕ) → List ℕ
 middle_words q from to =
@@ -248,7 +252,8 @@ middle_words q from to =
 abbrev pub far_words : Question → (to : ℕ) → List ℕ
 far_words q to = both_words q.left q.right ++ branch_word q (not q.wanted) 12 ∷ far_jump_words to
 
--- ---- the vocabularies. A branch reaches less than 2^12 bytes forward, JAL less than 2^20 either way, JALR everywhere.
+-- ---- the vocabularies. A branch reaches less than 2^12 bytes either way, JAL less than 2^20, JALR everywhere. Before the branch of a
+-- question at most four words bring its sources, and before its jump one more.
 
 abbrev pub rv_near : Vocabulary
 rv_near = record {
@@ -258,7 +263,7 @@ rv_near = record {
   jump_words = jump_words;
   jump_size = 1;
   stop_word = 0x00000073;
-  reach = 2 ^ 10 - 1;
+  reach = 2 ^ 10 - 4;
 }
 
 abbrev pub rv_middle : Vocabulary
@@ -269,7 +274,7 @@ rv_middle = record {
   jump_words = jump_words;
   jump_size = 1;
   stop_word = 0x00000073;
-  reach = 2 ^ 18 - 1;
+  reach = 2 ^ 18 - 8;
 }
 
 abbrev pub rv_far : Vocabulary

@@ -1,5 +1,5 @@
 //! Questions: their answers as 1 or 0, and branches.
-ghost use Rattle.std.specs.Prelude.{◌≡◌, ℕ, ◌+◌, ◌-◌, ◌*◌, ◌≤◌, ◌++◌, OnOk};
+ghost use Rattle.std.specs.Prelude.{◌≡◌, ℕ, ◌+◌, ◌-◌, ◌*◌, ◌^◌, ◌≤◌, ◌++◌, OnOk};
 ghost use Rattle.ec_generate.specs.Puts.{CanPutQuestion, CanPutSource};
 ghost use Rattle.ec_machine_code.specs.Speaks.{words_end};
 ghost use Rattle.rv_isa.specs.Words.{word_of};
@@ -20,6 +20,9 @@ use std::alloc::AllocError;
 
 /// Where code starts, in bytes.
 const CODE_BASE: u32 = 0x0040_0000;
+
+/// Two to the power of the bits of a branch's offset.
+const ROUND: u32 = 0x2000;
 
 const ONE: Twelve = Twelve { bits: 1 };
 
@@ -158,13 +161,14 @@ fn branch_on(question: Question, wanted: bool, offset: BranchOffset) -> Instr
 
 /// How far it is from the branch of a question at a word to another word.
 fn near_offset(question: Question, from: u32, to: u32) -> BranchOffset
-    requires forward { from + spec.fetch_size question ≤ to }
-    requires room { to ≤ words_end }
-    requires near { to ≤ from + 1023 }
-    ensures { result.bits ≡ 4 * (to - (from + spec.fetch_size question)) }
+    requires from { from ≤ words_end }
+    requires to { to ≤ words_end }
+    requires back { from ≤ to + 1020 }
+    ensures { result.bits ≡ spec.branch_distance (from + spec.fetch_size question) to }
 {
+    let at = from + fetch_size(question);
     BranchOffset {
-        bits: 4 * (to - (from + fetch_size(question))),
+        bits: (ROUND + 4 * to - 4 * at) % ROUND,
     }
 }
 
@@ -176,9 +180,9 @@ pub(crate) fn put_near(
     to: u32,
 ) -> Result<(), AllocError>
     requires homes { CanPutQuestion 10 question }
-    requires forward { from + spec.fetch_size question ≤ to }
-    requires room { to ≤ words_end }
-    requires near { to ≤ from + 1023 }
+    requires from { from ≤ words_end }
+    requires to { to ≤ words_end }
+    requires back { from ≤ to + 1020 }
     ensures { OnOk result (words.new ≡ words.old ++ spec.near_words question from to) }
 {
     put_both(words, question.left, question.right)?;
@@ -194,8 +198,9 @@ pub(crate) fn put_middle(
     to: u32,
 ) -> Result<(), AllocError>
     requires homes { CanPutQuestion 10 question }
-    requires forward { from + spec.fetch_size question + 1 ≤ to }
-    requires room { to ≤ words_end }
+    requires from { from + spec.fetch_size question + 2 ≤ words_end }
+    requires to { to ≤ words_end }
+    requires back { from + 8 ≤ to + 2 ^ 18 }
     ensures { OnOk result (words.new ≡ words.old ++ spec.middle_words question from to) }
 {
     put_both(words, question.left, question.right)?;

@@ -28,8 +28,8 @@ impl Kind for Riscv {
 
     fn reach(&self, span: Span) -> u32 {
         match span {
-            Span::Near => 0x3FF,
-            Span::Middle => 0x3_FFFF,
+            Span::Near => 0x3FC,
+            Span::Middle => 0x3_FFF8,
             Span::Far => 0x03EF_FFFF,
         }
     }

@@ -6,7 +6,7 @@ use Rattle.ec_machine_code.specs.declared.code.OperationCode.{OperationCode}
 use Rattle.ec_generate.specs.Puts.{pick}
 use Rattle.ec_generate.specs.Sites.{home_there, ops_there, place_there, size_there}
 use Rattle.ec_machine_code.proofs.Direct.{ops_long}
-use Rattle.ec_machine_code.proofs.MicroSizes.{before_all}
+use Rattle.ec_machine_code.proofs.LaidOutSizes.{before_none}
 use Rattle.ec_target.specs.Code.{pc_of}
 use Rattle.ec_generate.proofs.operation.put_operation.Goals as goal
 
@@ -23,7 +23,8 @@ returns-clause-code g c =
     let size : c.at.result.now ≡ size_there V site =
     same_Some c.at.result.now (size_there V site)
     (sym c.at.ensures ∙ ap (slice_get c.in_ok-places.places) q ∙ c.in_ok-places.ensures.each (length ops) (omega arith)
-    ∙ ap Some (before_all V home ops)) in
+    ∙ ap Some (before_none V home ops site.order.now (length ops) (λ h.
+    let lt = c.requires.ordered.within (length ops) h in omega (arith, lt, ops_long site.code.now)))) in
     let code : ℕ → List ℕ → OperationCode = λ n s. record { words = n; stops = s } in
     ap (λ n. code n c.in_ok-stops.stops) size
     ∙ ap (λ s. code (size_there V site) s)

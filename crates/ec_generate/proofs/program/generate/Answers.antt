@@ -18,33 +18,37 @@ returns-clause-faithful g c =
     let vs = g.K.Kind.vocabularies in
     let p = c.args.parts.now in
     let homes = all_homes c.args.table.now.operations in
+    let orders = c.in_ok-orders.orders in
     let can =
-    can_be_laid_out g.M.Target.meaning vs homes c.requires.fine.0 p g.K.Kind.homes c.requires.near c.requires.middle c.requires.far
-    c.requires.homes c.requires.fine.1 c.requires.numbers c.in_ok-code.ensures.fit c.in_ok-code.ensures.room in
+    can_be_laid_out g.M.Target.meaning vs homes orders c.requires.fine.0 p g.K.Kind.homes c.requires.near c.requires.middle c.requires.far
+    c.requires.homes c.requires.fine.1 c.requires.numbers c.in_ok-code.ensures.fit c.in_ok-orders.ensures.ordered c.in_ok-code.ensures.room in
     subst (λ code. FaithfulOnce g.M.Target.meaning p code homes) (sym c.in_ok-code.ensures.code)
-    (faithful g.M.Target.meaning vs homes c.requires.fine.0 p can)
+    (faithful g.M.Target.meaning vs homes orders c.requires.fine.0 p can)
 
 pub returns-clause-met : goal.returns-clause-met
 returns-clause-met g c = λ d fine rests few.
     let vs = g.K.Kind.vocabularies in
     let p = c.args.parts.now in
     let homes = all_homes c.args.table.now.operations in
+    let orders = c.in_ok-orders.orders in
     let can =
-    can_be_laid_out g.M.Target.meaning vs homes d p g.K.Kind.homes c.requires.near c.requires.middle c.requires.far c.requires.homes fine
-    c.requires.numbers c.in_ok-code.ensures.fit c.in_ok-code.ensures.room in
+    can_be_laid_out g.M.Target.meaning vs homes orders d p g.K.Kind.homes c.requires.near c.requires.middle c.requires.far c.requires.homes fine
+    c.requires.numbers c.in_ok-code.ensures.fit c.in_ok-orders.ensures.ordered c.in_ok-code.ensures.room in
     subst (λ code. EachFits g.M.Target.meaning p code homes) (sym c.in_ok-code.ensures.code)
-    (each_fit g.M.Target.meaning vs homes d p can rests few)
+    (each_fit g.M.Target.meaning vs homes orders d p can rests few)
 
 pub returns-clause-low : goal.returns-clause-low
 returns-clause-low g c =
     let vs = g.K.Kind.vocabularies in
     let p = c.args.parts.now in
     let homes = all_homes c.args.table.now.operations in
-    let long = long_is g.M.Target.meaning vs c.requires.near c.requires.middle c.requires.far homes 0 0 p.operations in
+    let orders = c.in_ok-orders.orders in
+    let long = long_is g.M.Target.meaning vs c.requires.near c.requires.middle c.requires.far homes orders 0 0 p.operations in
     let low = c.in_ok-code.ensures.room.low in
     subst (λ (code : Code). length code.words ≤ words_end) (sym c.in_ok-code.ensures.code) (omega arith)
 
 pub returns-clause-few : goal.returns-clause-few
 returns-clause-few g c =
     subst HasFew (sym c.in_ok-code.ensures.code)
-    (has_few g.K.Kind.vocabularies (all_homes c.args.table.now.operations) c.args.parts.now c.requires.limits)
+    (has_few g.K.Kind.vocabularies (all_homes c.args.table.now.operations) c.in_ok-orders.orders
+    c.args.parts.now c.requires.limits)

@@ -1,66 +1,76 @@
-use Rattle.std.proofs.Common.{◌≡◌, ◌+◌, suc, ◌∷◌, [], ◌∙◌, sym, ap, arith, length, length-append}
-use Rattle.ec_base.proofs.Lists.{get_within}
+use Rattle.std.proofs.Common.{◌≡◌, ◌+◌, ◌∙◌, List, ℕ, ap, arith, drop, length, replicate, subst, suc, sym}
+use Rattle.std.specs.Prelude.{slice_get, slice_set}
+use Rattle.std.proofs.lemmas.List.{length-replicate}
+use Rattle.ec_base.proofs.Lists.{drop_at, get_within, length_set}
 use Rattle.ec_generate.specs.Puts.{pick}
 use Rattle.ec_generate.specs.Sites.{home_there, ops_there}
-use Rattle.ec_generate.proofs.Loops.{one_more}
-use Rattle.ec_machine_code.proofs.Direct.{laid_there as op_there, ops_long}
-use Rattle.ec_machine_code.specs.Direct.{laid_op}
-use Rattle.ec_machine_code.specs.Layout.{before}
-use Rattle.ec_machine_code.proofs.MicroSizes.{before_next, before_none}
+use Rattle.ec_generate.proofs.Loops.{filled, last_each, last_long, none_left, size_next}
+use Rattle.ec_generate.proofs.Orders.{as_many, in_order}
+use Rattle.ec_machine_code.proofs.Direct.{ops_long}
+use Rattle.ec_machine_code.specs.Layout.{IsOrder, size_of}
 use Rattle.ec_generate.proofs.sizes.places.Goals as goal
 
-pub loop-q-init : goal.loop-q-init
-loop-q-init g c =
-    let V = pick g.K.Kind.vocabularies c.args.span in
-    let home = home_there c.args.site.now in
-    let ops = ops_there c.args.site.now in
-    let none = before_none V home ops in
-    record {
-      here = sym none;
-      few = omega arith;
-      many = ap length c.in_ok-push.ensures.ok ∙ length-append c.new-places.result (0 ∷ [])
-          ∙ ap (λ n. n + 1) (ap length c.new-places.ensures);
-      each = one_more c.new-places.result c.push.new.self 0 (before V home ops) 0 c.in_ok-push.ensures.ok (ap length c.new-places.ensures)
-          (sym none) (λ k lt. absurd (omega arith));
-    }
+pub overflow_add-count : goal.overflow_add-count
+overflow_add-count g c = omega (arith, c.len-count.ensures, ops_long c.args.site.now.code.now, c.requires.few)
+
+pub index_mut-requires : goal.index_mut-requires
+index_mut-requires g c =
+    let order = c.args.site.now.order.now in
+    let lt = c.requires.ordered.within c.at-q.result.now (in_order order c.loop-spot.spot c.at-q.result.now c.at-q.ensures) in
+    omega (arith, lt, c.loop-spot.places.ok.0, c.loop-spot.invariant.long, c.len-count.ensures)
 
 pub overflow_add-at : goal.overflow_add-at
 overflow_add-at g c =
-    let code = c.args.site.now.code.now in
-    let there = get_within code c.loop-q.q c.at.result.now c.at.ensures in
-    omega (arith, ops_long code, there, c.requires.few, c.loop-q.invariant.few, c.op_size-at.ensures.few)
+    let few = as_many (length c.args.site.now.code.now) c.args.site.now.order.now c.requires.ordered in
+    let lt = get_within c.args.site.now.order.now c.loop-spot.spot c.at-q.result.now c.at-q.ensures in
+    omega (arith, few, lt, ops_long c.args.site.now.code.now, c.requires.few, c.loop-spot.invariant.few, c.spot_size-at.ensures.few)
 
-pub loop-q-preserved : goal.loop-q-preserved
-loop-q-preserved g c =
+pub loop-spot-preserved : goal.loop-spot-preserved
+loop-spot-preserved g c =
     let V = pick g.K.Kind.vocabularies c.args.span in
     let home = home_there c.args.site.now in
     let ops = ops_there c.args.site.now in
-    let q = c.loop-q.q in
-    let there = op_there c.args.site.now.code.now q c.at.result.now c.at.ensures in
-    let n : before V home ops (q + 1) ≡ before V home ops (suc q) =
-    ap (before V home ops) (let m : q + 1 ≡ suc q = omega arith in m) in
-    let here : c.loop-q.at + c.op_size-at.result ≡ before V home ops (q + 1) =
-    omega (
-      arith,
-      n,
-      before_next V home ops q (laid_op c.args.site.now.code.now q c.at.result.now.op) there,
-      c.loop-q.invariant.here,
-      c.op_size-at.ensures.is,
-    ) in
+    let order = c.args.site.now.order.now in
+    let items = c.loop-spot.places.items in
+    let at = c.loop-spot.at in
+    let spot = c.loop-spot.spot in
+    let q = c.at-q.result.now in
     record {
-      here = here;
-      few = omega (arith, c.loop-q.invariant.few, c.op_size-at.ensures.few);
-      many = ap length c.in_ok-push-2.ensures.ok ∙ length-append c.loop-q.places ((c.loop-q.at + c.op_size-at.result) ∷ [])
-          ∙ ap (λ n. n + 1) c.loop-q.invariant.many;
-      each = one_more c.loop-q.places c.push-in-loop-q.new.self (c.loop-q.at + c.op_size-at.result) (before V home ops) (q + 1)
-          c.in_ok-push-2.ensures.ok c.loop-q.invariant.many here c.loop-q.invariant.each;
+      table = ap (λ n. filled V home ops (slice_set items q at) (at + n) (drop (spot + 1) order)) c.spot_size-at.ensures.is
+          ∙ sym (ap (filled V home ops items at) (drop_at order spot q c.at-q.ensures)) ∙ c.loop-spot.invariant.table;
+      size = omega (
+        arith,
+        size_next V home ops order 0 spot q c.at-q.ensures,
+        c.loop-spot.invariant.size,
+        c.spot_size-at.ensures.is,
+      );
+      few = omega (arith, c.loop-spot.invariant.few, c.spot_size-at.ensures.few);
+      long = length_set items q at ∙ c.loop-spot.invariant.long;
     }
 
 pub returns : goal.returns
 returns g c =
+    let V = pick g.K.Kind.vocabularies c.args.span in
+    let home = home_there c.args.site.now in
+    let code = c.args.site.now.code.now in
     let ops = ops_there c.args.site.now in
-    let q : c.loop-q.q ≡ length ops = omega (arith, ops_long c.args.site.now.code.now) in
+    let order = c.args.site.now.order.now in
+    let items = c.loop-spot.places.items in
+    let at = c.loop-spot.at in
+    let count = c.len-count.result in
+    let first : List ℕ = replicate (count + 1) 0 in
+    let ordered : IsOrder (length ops) order = subst (λ k. IsOrder k order) (sym (ops_long code)) c.requires.ordered in
+    let none = none_left V home ops order 0 c.loop-spot.spot (omega arith) in
+    let nothing = ap (size_of V home ops) none in
+    let table : items ≡ filled V home ops first 0 order = sym (ap (filled V home ops items at) none) ∙ c.loop-spot.invariant.table in
+    let size : at ≡ size_of V home ops order = omega (arith, nothing, c.loop-spot.invariant.size) in
+    let same : count ≡ length ops = omega (arith, c.len-count.ensures, ops_long code) in
+    let zeros : length first ≡ count + 1 = length-replicate (count + 1) 0 in
+    let long : length first ≡ suc (length ops) = omega (arith, zeros, same) in
+    let all = filled V home ops first 0 order in
+    let last : c.from_vec.result ≡ slice_set all (length ops) (size_of V home ops order) =
+    c.from_vec.ensures ∙ ap (λ t. slice_set t count at) table ∙ ap (λ n. slice_set all n at) same ∙ ap (slice_set all (length ops)) size in
     record {
-      count = omega (arith, q, c.loop-q.invariant.many);
-      each = λ k h. c.loop-q.invariant.each k (omega (arith, q, h));
+      count = ap length last ∙ last_long V home ops order ordered first long;
+      each = λ q h. ap (λ t. slice_get t q) last ∙ last_each V home ops order ordered first long q h;
     }

@@ -4,7 +4,7 @@ use Rattle.std.proofs.Common.{arith, ⊎_elim}
 use Rattle.ec_code.specs.Fine.{IsIn}
 use Rattle.ec_machine_code.specs.Once.{AreDifferent}
 
-same_or_not : (x y : ℕ) → (x ≡ y) ⊎ (x ≢ y)
+pub same_or_not : (x y : ℕ) → (x ≡ y) ⊎ (x ≢ y)
 same_or_not zero zero = inl refl
 same_or_not zero (suc y) = inr (λ e. (cc))
 same_or_not (suc x) zero = inr (λ e. (cc))
@@ -15,11 +15,11 @@ same_or_not (suc x) (suc y) = ⊎_elim
 
 -- ---- one list behind another
 
-in_front : (k : ℕ) (xs ys : List ℕ) → IsIn k xs → IsIn k (xs ++ ys)
+pub in_front : (k : ℕ) (xs ys : List ℕ) → IsIn k xs → IsIn k (xs ++ ys)
 in_front k [] ys h = absurd h
 in_front k (x ∷ xs) ys h = ⊎_elim (λ (e : k ≡ x). inl e) (λ (r : IsIn k xs). inr (in_front k xs ys r)) h
 
-in_back : (k : ℕ) (xs ys : List ℕ) → IsIn k ys → IsIn k (xs ++ ys)
+pub in_back : (k : ℕ) (xs ys : List ℕ) → IsIn k ys → IsIn k (xs ++ ys)
 in_back k [] ys h = h
 in_back k (x ∷ xs) ys h = inr (in_back k xs ys h)
 
