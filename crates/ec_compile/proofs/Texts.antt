@@ -14,6 +14,7 @@ use Rattle.ec_code.specs.declared.code.Operation.{Operation}
 use Rattle.ec_code.specs.declared.code.Parts.{Parts}
 use Rattle.ec_code.specs.declared.code.Test.{Test}
 use Rattle.ec_code.specs.declared.code.Test.TheVariants as test
+use Rattle.ec_generate.specs.Fitting.{FitsMachines}
 use Rattle.ec_machine_code.specs.Limits.{HasLimits}
 use Rattle.ec_compile.proofs.Whole.{has_limits}
 use Rattle.ec_compile.specs.Texts.{IsOfText}
@@ -61,7 +62,7 @@ numbers_fit (op.Jump over) s = tt
 numbers_fit (op.Again back) s = tt
 numbers_fit (op.Rest row) s = tt
 
-pub all_numbers_fit : (s : Source) → IsOfText s → (p : Parts) → IsLowered s p → (n q : ℕ) (o : Operation) (line : Line) →
+all_numbers_fit : (s : Source) → IsOfText s → (p : Parts) → IsLowered s p → (n q : ℕ) (o : Operation) (line : Line) →
     slice_get p.operations n ≡ Some o → slice_get o.code q ≡ Some line → NumbersFit line.op
 all_numbers_fit s text p lowered n q o line is_operation is_line =
     let small : SmallProgram p =
@@ -79,5 +80,12 @@ text_is_accepted s text = record {
 pub text_is_fine : (s : Source) → IsOfText s → (p : Parts) → IsLowered s p → Fine (declared_of s) p
 text_is_fine s text p lowered = is_fine s text.program (text_is_accepted s text) p lowered
 
-pub text_has_limits : (s : Source) → IsOfText s → (p : Parts) → IsLowered s p → HasLimits p
+text_has_limits : (s : Source) → IsOfText s → (p : Parts) → IsLowered s p → HasLimits p
 text_has_limits s text p lowered = has_limits s text.program text.core text.tokens p text.scanned text.parsed lowered
+
+pub text_fits : (s : Source) → IsOfText s → (p : Parts) → IsLowered s p → FitsMachines p
+text_fits s text p lowered = record {
+  fine = (declared_of s, text_is_fine s text p lowered);
+  limits = text_has_limits s text p lowered;
+  numbers = all_numbers_fit s text p lowered;
+}

@@ -51,6 +51,6 @@ pub fn compile<K: Kind, M: Target>(
     ensures few { IfOk result (λ made. length made.image.code.words ≤ words_end) }
 {
     let program = LoweredProgram::new(alloc, program)?;
-    let image = build::<K, M>(alloc, kind, program.parts())?;
+    let image = build::<K, M>(alloc, kind, program.fitting())?;
     Ok(Compiled { program, image })
 }

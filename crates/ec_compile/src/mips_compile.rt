@@ -79,9 +79,9 @@ pub fn compile_for_mips(alloc: Global, program: &Program<'_>) -> Result<Compiled
     ensures none_left { IfOk result (λ made. HasNoLinks made.image.code.words → HasNoneLeft made.image.code.words) }
 {
     let program = LoweredProgram::new(alloc, program)?;
-    let parts = program.parts();
-    let mut table = assign(alloc, parts, Mips.home_registers(), SLOTS)?;
-    let generated = generate::<Mips, MipsMeaning>(alloc, &Mips, parts, &table)?;
+    let fitting = program.fitting();
+    let mut table = assign(alloc, fitting, Mips.home_registers(), SLOTS)?;
+    let generated = generate::<Mips, MipsMeaning>(alloc, &Mips, fitting, &table)?;
     let code = tightened(alloc, generated)?;
     table.bind(&code)?;
     let image = Image { code, table };

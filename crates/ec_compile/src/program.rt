@@ -1,21 +1,22 @@
 //! Programs of three-address code that are those of accepted programs.
 ghost use Rattle.std.specs.Prelude.{◌≡◌, IfOk};
-ghost use Rattle.ec_accepted.specs.Laws.{IsAccepted};
-ghost use Rattle.ec_ast.specs.declared.Program.{Program as Tree};
+ghost use Rattle.ec_compile.specs.Texts.{IsOfText};
 ghost use Rattle.ec_emission.specs.Lowered.{IsLowered};
 ghost use Rattle.ec_meaning.specs.Sources.{source_of};
 
 use ec_code::code::Parts;
+use ec_generate::fitting::FittingProgram;
 use ec_lowering::lower::lower;
 use ec_meaning::source::Program;
 use std::alloc::{AllocError, Global};
 use std::marker::Model;
 
 /// A program of three-address code to which the source of some accepted program is lowered. So it is well typed: code behind a
-/// stop reaches a stop, what a step reads and gives has the static types of its variables, and what is live is known.
+/// stop reaches a stop, what a step reads and gives has the static types of its variables, and what is live is known. And machine code can be
+/// made of it.
 #[derive(Drop)]
 pub struct LoweredProgram {
-    parts: Parts,
+    program: FittingProgram,
 }
 
 impl Model for LoweredProgram {
@@ -24,21 +25,23 @@ impl Model for LoweredProgram {
 
     ghost Value = { Parts };
 
-    ghost view = { λ p. p.parts };
+    ghost view = { λ p. p.program };
 
-    ghost invariant = { λ p. IsOfAccepted p.parts };
+    ghost invariant = { λ p. IsOfAccepted p.program };
 }
 
 impl LoweredProgram {
     ghost use Rattle.ec_compile.specs.Programs.{IsOfAccepted, IsWellTyped};
 
-    /// What the source of an accepted program is lowered to. The error is that of `lower`.
+    /// What the source of an accepted text is lowered to. The error is that of `lower`.
     pub fn new(alloc: Global, program: &Program<'_>) -> Result<LoweredProgram, AllocError>
-        requires accepted { (tree : Tree) × IsAccepted (source_of program.now) tree }
+        requires accepted { IsOfText (source_of program.now) }
         ensures of_it { IfOk result (IsLowered (source_of program.now)) }
     {
         let parts = lower(alloc, program)?;
-        Ok(LoweredProgram { parts })
+        Ok(LoweredProgram {
+            program: FittingProgram::new(parts),
+        })
     }
 
     /// The parts, with what the type keeps of them.
@@ -47,7 +50,14 @@ impl LoweredProgram {
         ensures accepted { IsOfAccepted self.now }
         ensures well_typed { IsWellTyped self.now }
     {
-        &self.parts
+        self.program.parts()
+    }
+
+    /// The program as one of which machine code can be made.
+    pub fn fitting(&self) -> &FittingProgram
+        ensures { result.now ≡ self.now }
+    {
+        &self.program
     }
 
     /// The parts alone, with what the type kept of them.
@@ -56,6 +66,6 @@ impl LoweredProgram {
         ensures accepted { IsOfAccepted result }
         ensures well_typed { IsWellTyped result }
     {
-        self.parts
+        self.program.into_parts()
     }
 }

@@ -1,6 +1,6 @@
 -- The homes of a program's stop table fit its operations.
 use Rattle.std.proofs.Common.{◌≡◌, ℕ, zero, suc, ◌⊎◌, inl, inr, ⊎_elim, List, [], ◌∷◌, length, Option, Some, None, option_map, refl}
-use Rattle.std.proofs.Common.{sym, ap}
+use Rattle.std.proofs.Common.{sym, ap, ◌≤◌, arith}
 use Rattle.std.proofs.Common.{◌∙◌, subst}
 use Rattle.std.specs.Prelude.{slice_get}
 use Rattle.std.proofs.lemmas.Option.{same_Some, slice_get-map}
@@ -15,12 +15,13 @@ use Rattle.ec_machine_code.specs.Frames.{slots}
 use Rattle.ec_machine_code.specs.Stops.{row_or_empty}
 use Rattle.ec_machine_code.specs.Homes.{IsVariable, IsWithin, column}
 use Rattle.ec_machine_code.specs.declared.homes.Home.{Home}
+use Rattle.ec_machine_code.specs.declared.homes.Home.TheVariants.{Register, Slot}
 use Rattle.ec_code.specs.Live.{reads, writes}
 use Rattle.ec_machine_code.specs.Fitting.{HomesFit, IsNamedBy}
 use Rattle.ec_machine_code.specs.Layout.{home_of, home_or}
 use Rattle.ec_generate.proofs.Homed.{has_home, has_in, homes_apart}
 use Rattle.ec_generate.proofs.Listing.{all_at}
-use Rattle.ec_generate.specs.Tables.{AreTablesOf, IsTableOf, all_homes}
+use Rattle.ec_generate.specs.Tables.{AreTablesOf, AreTablesWithin, IsTableOf, all_homes}
 use Rattle.ec_generate.specs.declared.table.OperationTable.{OperationTable}
 use Rattle.ec_world.specs.Agree.{AllTwo}
 
@@ -108,3 +109,21 @@ module _ (registers : ℕ) (p : Parts) (ts : List OperationTable) (limits : HasL
         let ot : home_of (all_homes ts) n o to ≡ ht.0 = ap home_or (in_row to ∙ ht.1) in
         λ equal. apart (sym ox ∙ equal ∙ ot);
   }
+
+-- ---- tables for fewer registers
+
+within_more : (few most count : ℕ) (h : Home) → few ≤ most → IsWithin few count h → IsWithin most count h
+within_more few most count (Register k) le w = omega arith
+within_more few most count (Slot n) le w = w
+
+homes_fit_more : (few most : ℕ) (homes : List (List Home)) (n : ℕ) (o : Operation) → few ≤ most → HomesFit few homes n o →
+    HomesFit most homes n o
+homes_fit_more few most homes n o le fit = record {
+  each = λ q line x e named_by. let h = fit.each q line x e named_by in (h.0, h.1, within_more few most slots h.0 le h.2);
+  apart = fit.apart;
+}
+
+pub tables_fit_within : (most : ℕ) (p : Parts) (ts : List OperationTable) (limits : HasLimits p) (tables : AreTablesWithin most p ts)
+    (n : ℕ) (o : Operation) (there : slice_get p.operations n ≡ Some o) → HomesFit most (all_homes ts) n o
+tables_fit_within most p ts limits tables n o there =
+    homes_fit_more tables.registers most (all_homes ts) n o tables.few (tables_fit tables.registers p ts limits tables.are n o there)

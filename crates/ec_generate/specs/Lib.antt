@@ -6,3 +6,4 @@ pub mod Entries
 pub mod Tables
 pub mod Fits
 pub mod Limits
+pub mod Fitting

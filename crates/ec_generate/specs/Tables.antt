@@ -1,8 +1,9 @@
 -- Which table is that of a program.
-use Rattle.std.specs.Prelude.{◌≡◌, ℕ, Bool, false, List, [], length, map, Option, Some, None, slice_get}
+use Rattle.std.specs.Prelude.{◌≡◌, ◌≤◌, ℕ, Bool, false, List, [], length, map, Option, Some, None, slice_get}
 use Rattle.ec_code.specs.declared.code.Operation.{Operation}
 use Rattle.ec_code.specs.declared.code.Parts.{Parts}
 use Rattle.ec_code.specs.declared.code.Variable.{Variable}
+use Rattle.ec_machine_code.specs.Frames.{slots}
 use Rattle.ec_machine_code.specs.Homes.{AreHomes, column}
 use Rattle.ec_machine_code.specs.declared.homes.Home.{Home}
 use Rattle.ec_machine_code.specs.declared.homes.Home.TheVariants.{Slot}
@@ -52,10 +53,16 @@ all_homes ts = map (λ t. t.homes) ts
 
 -- Homes are so many registers, and so many slots of the frame. Variables that meet have different homes, and one has a slot only where each
 -- register is the home of a variable that meets it.
-pub record IsTableOf (registers slots : ℕ) (o : Operation) (t : OperationTable) : Type 0 where
+pub record IsTableOf (registers count : ℕ) (o : Operation) (t : OperationTable) : Type 0 where
   pub named : t.named ≡ length o.variables
-  pub homes : AreHomes t.named slots registers o.code t.homes
+  pub homes : AreHomes t.named count registers o.code t.homes
   pub stops : t.stops ≡ entries_of o.code
 
 abbrev pub AreTablesOf : ℕ → ℕ → Parts → List OperationTable → Type 0
-AreTablesOf registers slots p ts = AllTwo (IsTableOf registers slots) p.operations ts
+AreTablesOf registers count p ts = AllTwo (IsTableOf registers count) p.operations ts
+
+-- those for at most so many registers, and for the slots of a frame
+pub record AreTablesWithin (most : ℕ) (p : Parts) (ts : List OperationTable) : Type 0 where
+  pub registers : ℕ
+  pub few : registers ≤ most
+  pub are : AreTablesOf registers slots p ts

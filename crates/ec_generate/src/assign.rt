@@ -1,13 +1,14 @@
 //! Homes for the variables of a program, and its stops.
 ghost use Rattle.std.specs.Prelude.{◌≡◌, ◌≤◌, ◌^◌, [], length, IfOk};
-ghost use Rattle.ec_machine_code.specs.Limits.{HasLimits, IsSmallOperation};
+ghost use Rattle.ec_machine_code.specs.Limits.{IsSmallOperation};
 ghost use Rattle.ec_generate.specs.Tables.{AreTablesOf, IsTableOf};
 
 use crate::addresses::Addresses;
 use crate::entries::entries_of;
+use crate::fitting::FittingProgram;
 use crate::table::{OperationTable, StopTable};
 use ec_base::list::Seq;
-use ec_code::code::{Operation, Parts};
+use ec_code::code::Operation;
 use ec_machine_code::homes::homes_of;
 use std::alloc::{AllocError, Global};
 
@@ -37,15 +38,15 @@ fn table_of(
 /// The time grows with the size of the program times the number of slots.
 pub fn assign(
     alloc: Global,
-    parts: &Parts,
+    program: &FittingProgram,
     registers: u32,
     slots: u32,
 ) -> Result<StopTable, AllocError>
-    requires limits { HasLimits parts.now }
     requires slots { 100 ≤ slots }
-    ensures tables { IfOk result (λ table. AreTablesOf registers slots parts.now table.operations) }
+    ensures tables { IfOk result (λ table. AreTablesOf registers slots program.now table.operations) }
     ensures unbound { IfOk result (λ table. table.addresses ≡ []) }
 {
+    let parts = program.parts();
     let mut operations = Seq::new(alloc);
     for operation in parts.operations.as_slice() {
         operations.push(table_of(alloc, operation, registers, slots)?)?;

@@ -4,6 +4,7 @@
 //! |---|---|
 //! | `image` | the image of a program: words, and the stop table that is bound to them |
 //! | `program`, `operation`, `order`, `lowering`, `conditions`, `direct`, `site`, `sizes` | the words of code |
+//! | `fitting` | the programs of which code can be made |
 //! | `kind` | what a kind of machine writes: rv_code and mips_code have one each |
 //! | `assign`, `addresses`, `entries`, `table` | the stop table: homes of variables, addresses of stops, what is live at each |
 //!
@@ -15,6 +16,7 @@ pub mod assign;
 pub mod conditions;
 mod direct;
 pub mod entries;
+pub mod fitting;
 pub mod image;
 pub mod kind;
 mod lowering;

@@ -3,19 +3,18 @@ ghost use Rattle.std.specs.Prelude.{◌≡◌, ℕ, ◌≤◌, Some, IfOk, lengt
 ghost use Rattle.ec_code.specs.declared.code.Operation.{Operation as One};
 ghost use Rattle.ec_code.specs.Fine.{Fine};
 ghost use Rattle.ec_code.specs.Typing.{Declared};
-ghost use Rattle.ec_code.specs.declared.code.Line.{Line};
 ghost use Rattle.ec_machine_code.specs.Limits.{HasLimits};
-ghost use Rattle.ec_machine_code.specs.Frames.{slots};
 ghost use Rattle.ec_machine_code.specs.Fitted.{CanRest, HasFew};
-ghost use Rattle.ec_machine_code.specs.Fitting.{HomesFit, NumbersFit};
+ghost use Rattle.ec_machine_code.specs.Fitting.{HomesFit};
 ghost use Rattle.ec_machine_code.specs.Layout.{HasOrders, HasRoom, code_of};
 ghost use Rattle.ec_machine_code.specs.Once.{FaithfulOnce};
 ghost use Rattle.ec_machine_code.specs.Speaks.{Speaks, words_end};
 ghost use Rattle.ec_generate.specs.Addresses.{HasFew as HasFewStops};
 ghost use Rattle.ec_generate.specs.Fits.{EachFits};
-ghost use Rattle.ec_generate.specs.Tables.{AreTablesOf, all_homes};
+ghost use Rattle.ec_generate.specs.Tables.{AreTablesWithin, all_homes};
 
 use crate::direct::led_to;
+use crate::fitting::FittingProgram;
 use crate::kind::Kind;
 use crate::operation::put_operation;
 use crate::order::order_of;
@@ -74,7 +73,7 @@ fn lay_out<K: Kind>(
 ) -> Result<Code, AllocError>
     requires fine { (d : Declared) × Fine d parts.now }
     requires limits { HasLimits parts.now }
-    requires tables { AreTablesOf K.homes slots parts.now table.now.operations }
+    requires tables { AreTablesWithin K.homes parts.now table.now.operations }
     requires ordered { HasOrders orders.now parts.now }
     requires many { length orders.now ≡ length parts.now.operations }
     ensures code { IfOk result (λ code.
@@ -96,30 +95,27 @@ fn lay_out<K: Kind>(
     Ok(Code { words, operations })
 }
 
-/// The machine code of a well typed program for a kind of machine, by its stop table, where the kind's words do on the machine what the
-/// steps do that they are of. Between any two stops the code does what the program's silent steps do, and passes no word twice. The
+/// The machine code of a program for a kind of machine, by a stop table for at most as many registers as the kind has for homes, where the
+/// kind's words do on the machine what the steps do that they are of. Between any two stops the code does what the program's silent steps do, and passes no word twice. The
 /// error is want of memory.
 pub fn generate<K: Kind, M: Target>(
     alloc: Global,
     kind: &K,
-    parts: &Parts,
+    program: &FittingProgram,
     table: &StopTable,
 ) -> Result<Code, AllocError>
     requires near { Speaks M.meaning K.vocabularies.near }
     requires middle { Speaks M.meaning K.vocabularies.middle }
     requires far { Speaks M.meaning K.vocabularies.far }
     requires homes { M.meaning.homes ≡ K.homes }
-    requires fine { (d : Declared) × Fine d parts.now }
-    requires limits { HasLimits parts.now }
-    requires numbers { (n q : ℕ) (o : One) (line : Line) → slice_get parts.now.operations n ≡ Some o →
-        slice_get o.code q ≡ Some line → NumbersFit line.op }
-    requires tables { AreTablesOf K.homes slots parts.now table.now.operations }
-    ensures faithful { IfOk result (λ code. FaithfulOnce M.meaning parts.now code (all_homes table.now.operations)) }
-    ensures met { IfOk result (λ code. (d : Declared) → Fine d parts.now → CanRest M.meaning → HasFew d parts.now →
-        EachFits M.meaning parts.now code (all_homes table.now.operations)) }
+    requires tables { AreTablesWithin K.homes program.now table.now.operations }
+    ensures faithful { IfOk result (λ code. FaithfulOnce M.meaning program.now code (all_homes table.now.operations)) }
+    ensures met { IfOk result (λ code. (d : Declared) → Fine d program.now → CanRest M.meaning → HasFew d program.now →
+        EachFits M.meaning program.now code (all_homes table.now.operations)) }
     ensures low { IfOk result (λ code. length code.words ≤ words_end) }
     ensures few { IfOk result (λ code. HasFewStops code) }
 {
+    let parts = program.parts();
     let orders = orders_of(alloc, parts)?;
     let code = lay_out(alloc, kind, parts, table, &orders)?;
     Ok(code)

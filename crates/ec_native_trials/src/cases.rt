@@ -94,12 +94,27 @@ impl<'a> Case<'a> {
             return Err(Fault::NoResult(String::from_str(alloc, self.name)?));
         };
         for (kind, name) in [(Kind::Riscv, "riscv"), (Kind::Mips, "mips")] {
-            let made = ManuallyDrop::new(compile_text(alloc, kind, &self.source)?);
-            let ran = run_loop(alloc, kind, &made)?;
+            let ran = self.run(alloc, kind, None)?;
             self.tell_run(rt, name, ran, wanted)?;
             tally.count(ran.result == Some(wanted));
+            for registers in [0, 3] {
+                let few = self.run(alloc, kind, Some(registers))?;
+                tally.count(few.result == Some(wanted));
+                if few.result != Some(wanted) {
+                    println!(rt;
+                        "{} {name} with {registers} registers comes out otherwise",
+                        self.name
+                    )?;
+                }
+            }
         }
         Ok(())
+    }
+
+    /// Runs its loop on a kind of machine; where a number is given, with at most so many registers as homes.
+    fn run(&self, alloc: Global, kind: Kind, registers: Option<u32>) -> Result<Ran, Fault> {
+        let made = ManuallyDrop::new(compile_text(alloc, kind, registers, &self.source)?);
+        Ok(run_loop(alloc, kind, &made)?)
     }
 
     /// Tells of a run.

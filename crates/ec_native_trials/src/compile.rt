@@ -1,26 +1,69 @@
 //! The native code of a text.
+ghost use Rattle.std.specs.Prelude.{◌≡◌};
 ghost use Rattle.ec_compile.specs.Texts.{IsOfText};
+ghost use Rattle.ec_machine_code.specs.Speaks.{Speaks};
 ghost use Rattle.ec_meaning.specs.Sources.{source_of};
+ghost use Rattle.mips_code.specs.Meaning.{mips_meaning};
+ghost use Rattle.mips_machine.specs.declared.machine.MipsMachine.{MipsMachine};
+ghost use Rattle.rv_code.specs.Meaning.{rv_meaning};
+ghost use Rattle.rv_machine.specs.declared.machine.RvMachine.{RvMachine};
 
 use crate::error::Fault;
 use ec_check::check::check;
 use ec_compile::compile::Compiled;
 use ec_compile::mips_compile::compile_for_mips;
+use ec_compile::program::LoweredProgram;
 use ec_compile::rv_compile::compile_for_riscv;
+use ec_generate::assign::assign;
+use ec_generate::image::Image;
+use ec_generate::kind::Kind as CodeKind;
+use ec_generate::program::generate;
 use ec_lexer::lex;
+use ec_machine_code::laws::Target;
 use ec_meaning::source::Program;
 use ec_parser::parse;
 use ec_world::node::Kind;
+use mips_code::mips::Mips;
+use rv_code::riscv::Riscv;
 use std::alloc::{AllocError, Global};
 use std::mem::ManuallyDrop;
 
-/// The native code of a text for a kind of machine.
-pub fn compile_text(alloc: Global, kind: Kind, text: &[u8]) -> Result<Compiled, Fault> {
+/// How many slots a frame has.
+const SLOTS: u32 = 100;
+
+/// What a RISC-V machine means to code.
+struct RiscvMeaning;
+
+impl Target for RiscvMeaning {
+    ghost State = { RvMachine };
+
+    ghost meaning = { rv_meaning };
+}
+
+/// What a MIPS I machine means to code.
+struct MipsMeaning;
+
+impl Target for MipsMeaning {
+    ghost State = { MipsMachine };
+
+    ghost meaning = { mips_meaning };
+}
+
+/// The native code of a text for a kind of machine; where a number is given, with at most so many registers as homes.
+pub fn compile_text(
+    alloc: Global,
+    kind: Kind,
+    registers: Option<u32>,
+    text: &[u8],
+) -> Result<Compiled, Fault> {
     let tokens = ManuallyDrop::new(lex(alloc, text)?);
     let tree = parse(alloc, tokens.as_slice())?;
     let checked = ManuallyDrop::new(check(alloc, tree)?);
     let program = ManuallyDrop::new(Program::new(alloc, text, &checked.table, &checked.core)?);
-    Ok(compile(alloc, kind, &program)?)
+    match registers {
+        Some(most) => Ok(compile_with_few(alloc, kind, most, &program)?),
+        None => Ok(compile(alloc, kind, &program)?),
+    }
 }
 
 /// The native code of a program for a kind of machine. The error is want of memory.
@@ -31,4 +74,40 @@ fn compile(alloc: Global, kind: Kind, program: &Program<'_>) -> Result<Compiled,
         Kind::Riscv => compile_for_riscv(alloc, program),
         Kind::Mips => compile_for_mips(alloc, program),
     }
+}
+
+/// The native code of a program for a kind of machine, with at most so many registers as homes. The error is want of memory.
+fn compile_with_few(
+    alloc: Global,
+    kind: Kind,
+    most: u32,
+    program: &Program<'_>,
+) -> Result<Compiled, AllocError>
+    requires { IsOfText (source_of program.now) }
+{
+    match kind {
+        Kind::Riscv => generate_with::<Riscv, RiscvMeaning>(alloc, &Riscv, most, program),
+        Kind::Mips => generate_with::<Mips, MipsMeaning>(alloc, &Mips, most, program),
+    }
+}
+
+fn generate_with<K: CodeKind, M: Target>(
+    alloc: Global,
+    kind: &K,
+    most: u32,
+    program: &Program<'_>,
+) -> Result<Compiled, AllocError>
+    requires near { Speaks M.meaning K.vocabularies.near }
+    requires middle { Speaks M.meaning K.vocabularies.middle }
+    requires far { Speaks M.meaning K.vocabularies.far }
+    requires homes { M.meaning.homes ≡ K.homes }
+    requires accepted { IsOfText (source_of program.now) }
+{
+    let program = LoweredProgram::new(alloc, program)?;
+    let registers = most.min(kind.home_registers());
+    let mut table = assign(alloc, program.fitting(), registers, SLOTS)?;
+    let code = generate::<K, M>(alloc, kind, program.fitting(), &table)?;
+    table.bind(&code)?;
+    let image = Image { code, table };
+    Ok(Compiled { program, image })
 }

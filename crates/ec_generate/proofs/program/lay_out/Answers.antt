@@ -1,6 +1,6 @@
 use Rattle.std.proofs.Common.{◌≡◌, ◌∙◌, ◌+◌, ◌++◌, ℕ, ap, length, arith, refl}
 use Rattle.ec_code.specs.declared.code.Operation.{Operation}
-use Rattle.ec_generate.proofs.Fit.{row_at, tables_fit}
+use Rattle.ec_generate.proofs.Fit.{row_at, tables_fit_within}
 use Rattle.ec_machine_code.proofs.Direct.{ops_long}
 use Rattle.ec_generate.proofs.Makeable.{makeable}
 use Rattle.ec_generate.proofs.Placed.{IsPlaced, code_is, is_ordered, near, same_home, same_size, words_are}
@@ -17,7 +17,7 @@ use Rattle.ec_world.proofs.Related.{all-length}
 
 pub at-requires : goal.at-requires
 at-requires g c =
-    let same = all-length (IsTableOf g.K.Kind.homes slots) c.args.parts.now.operations c.args.table.now.operations c.requires.tables in
+    let same = all-length (IsTableOf c.requires.tables.registers slots) c.args.parts.now.operations c.args.table.now.operations c.requires.tables.are in
     let there = get_within c.args.parts.now.operations c.loop-n.n c.at-operation.result.now c.at-operation.ensures in
     omega (arith, same, there)
 
@@ -64,7 +64,7 @@ put_operation-requires-clause-makeable g c =
     } in
     makeable c.requires.fine.0 c.args.parts.now c.requires.fine.1 c.requires.limits g.K.Kind.homes (all_homes c.args.table.now.operations)
     n o c.at-operation.ensures
-    (tables_fit g.K.Kind.homes c.args.parts.now c.args.table.now.operations c.requires.limits c.requires.tables n o
+    (tables_fit_within g.K.Kind.homes c.args.parts.now c.args.table.now.operations c.requires.limits c.requires.tables n o
     c.at-operation.ensures) site (same_home vs (all_homes c.args.table.now.operations) c.args.orders.now n o site c.span_of-span.result is)
     c.site_of-site.ensures.code
 
@@ -165,4 +165,4 @@ returns-clause-room g c = fits_room g.K.Kind.vocabularies g.met.K.Kind.sized (al
 
 pub returns-clause-fit : goal.returns-clause-fit
 returns-clause-fit g c = λ n o e.
-    tables_fit g.K.Kind.homes c.args.parts.now c.args.table.now.operations c.requires.limits c.requires.tables n o e
+    tables_fit_within g.K.Kind.homes c.args.parts.now c.args.table.now.operations c.requires.limits c.requires.tables n o e
