@@ -86,7 +86,12 @@ module _ {S : Type 0} (M : MachineMeaning S) (V : Vocabulary) (g : Setting M) (z
           let w = far.words k b in
           let least = w.least in
           record {
-            step = w.step; line = w.line; is_line = w.is_line; least = omega (arith, lt, least); low = w.low; high = w.high
+            step = w.step;
+            line = w.line;
+            is_line = w.is_line;
+            least = omega (arith, lt, least);
+            low = w.low;
+            high = w.high;
           })
           (in_either k e.climbs.path far.path h);
       at = far.at;
