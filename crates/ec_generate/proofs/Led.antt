@@ -1,6 +1,6 @@
 -- Steps that are laid out, by what is known of those that are laid out together, and of where code leads on.
 use Rattle.std.proofs.Common.{◌≡◌, ◌≢◌, ℕ, zero, suc, ◌+◌, ◌-◌, ◌<◌, ◌≤◌, ◌^◌, Bool, true, false, List, [], ◌∷◌, drop, length, Option}
-use Rattle.std.proofs.Common.{Some, None, refl, sym, ap, ◌∙◌, subst, arith, if◌then◌else◌, lt-ltb, ltb-true}
+use Rattle.std.proofs.Common.{Some, None, refl, sym, ap, ◌∙◌, arith, if◌then◌else◌, lt-ltb, ltb-true}
 use Rattle.std.specs.Prelude.{nat_lt, slice_get}
 use Rattle.ec_base.proofs.Lists.{drop_at}
 use Rattle.ec_code.specs.Fine.{live_at, live_if}

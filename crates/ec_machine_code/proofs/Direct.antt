@@ -24,10 +24,9 @@ use Rattle.ec_machine_code.specs.Stops.{stop_of}
 use Rattle.ec_machine_code.specs.declared.homes.Home.{Home}
 use Rattle.ec_machine_code.specs.declared.homes.Home.TheVariants.{Register, Slot}
 use Rattle.ec_code.proofs.Among.{in_among, same_is}
-use Rattle.ec_code.specs.Marks.{is_among}
 use Rattle.ec_machine_code.specs.Direct.{asked_for, asking, asks_by, copied_from, copied_to, done_already, far_over, if_so, into, into_named}
 use Rattle.ec_machine_code.specs.Direct.{is_known, is_live, is_unled, joined_at, joined_before, joined_if, joined_line, joined_of, joined_with}
-use Rattle.ec_machine_code.specs.Direct.{laid_by, laid_from, laid_op, led_far, led_to, left_out, marked, marked_one, unless, variable_in}
+use Rattle.ec_machine_code.specs.Direct.{laid_by, laid_from, laid_op, led_far, led_to, left_out, marked, marked_one, unless}
 use Rattle.ec_machine_code.specs.declared.joined.Joined.{Joined}
 use Rattle.ec_machine_code.specs.declared.joined.Joined.TheVariants.{Asks, Into}
 use Rattle.ec_machine_code.specs.Layout.{ops_of}

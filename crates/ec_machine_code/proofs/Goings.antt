@@ -1,13 +1,13 @@
 -- From the words of a step on to where another one begins.
-use Rattle.std.proofs.Common.{◌≡◌, ℕ, suc, ◌+◌, ◌-◌, ◌≤◌, List, [], ◌∷◌, ◌++◌, Some, None, Option, refl, sym, ap, ◌∙◌, subst, arith, Bool, true, false}
+use Rattle.std.proofs.Common.{◌≡◌, ℕ, suc, ◌+◌, ◌≤◌, List, [], ◌∷◌, ◌++◌, Some, None, Option, refl, ap, ◌∙◌, subst, arith, Bool, true, false}
 use Rattle.std.proofs.Common.{cond}
-use Rattle.std.specs.Prelude.{slice_get, not, ◌==◌, if◌then◌else◌}
+use Rattle.std.specs.Prelude.{not, ◌==◌, if◌then◌else◌}
 use Rattle.ec_code.specs.declared.code.Live.{Live}
 use Rattle.ec_code.specs.declared.code.Op.{Op}
 use Rattle.ec_code.specs.declared.code.Op.TheVariants as op
 use Rattle.ec_code.specs.declared.code.StopRow.{StopRow}
 use Rattle.ec_machine_code.specs.Direct.{laid_op}
-use Rattle.ec_machine_code.specs.Layout.{branch_size, branch_words, ending_size, ending_words, on_size, on_words, plain_size, size_of}
+use Rattle.ec_machine_code.specs.Layout.{ending_size, ending_words, on_size, on_words, plain_size, size_of}
 use Rattle.ec_machine_code.specs.Lowering.{ending_of, opposite, steps_of}
 use Rattle.ec_machine_code.specs.Machine.{MachineMeaning}
 use Rattle.ec_machine_code.specs.Micro.{CanAsk, Sight, asked}

@@ -37,7 +37,7 @@ use Rattle.ec_world.specs.declared.stop.Stop.TheVariants as stop
 use Rattle.ec_world.specs.declared.value.Value.{Value}
 use Rattle.ec_world.specs.declared.value.Value.TheVariants.{Ref, Str, Bool as Truth}
 use Rattle.ec_machine_code.proofs.Each.{Did, copies, decides_home, sets_field, takes_constant, takes_field, takes_itself, takes_literal, works}
-use Rattle.ec_machine_code.proofs.Operands.{Asked, asked_is, known_is}
+use Rattle.ec_machine_code.proofs.Operands.{asked_is, known_is}
 use Rattle.ec_machine_code.proofs.Goings.{Turns, answered, goes_on, runs_on}
 use Rattle.ec_machine_code.proofs.FineAt.{fine_at}
 use Rattle.ec_machine_code.proofs.Sites.{At, Site, end_of, ends_at, line_of, live_next, named, word_of}

@@ -1,5 +1,5 @@
 -- Runs through the words of several steps: each step has words of its own, and none is passed twice.
-use Rattle.std.proofs.Common.{◌≡◌, ◌≢◌, ℕ, suc, ◌+◌, ◌<◌, ◌≤◌, List, [], ◌++◌, length, Some, ap, arith, ⊎_elim}
+use Rattle.std.proofs.Common.{◌≡◌, ◌≢◌, ℕ, suc, ◌+◌, ◌<◌, ◌≤◌, List, [], ◌++◌, length, Some, arith, ⊎_elim}
 use Rattle.std.specs.Prelude.{slice_get}
 use Rattle.ec_code.specs.Fine.{IsIn}
 use Rattle.ec_code.specs.declared.code.Line.{Line}
