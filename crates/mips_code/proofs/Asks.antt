@@ -266,8 +266,8 @@ module _ (f own : ℕ) where
 
   -- where the opposite branch isn't taken, a jump follows
   far_by : (opposite answer : Bool) → answer ≡ not opposite → (code : List ℕ) (size i to : ℕ) (s : MipsMachine) (v : Sight) →
-      Asked code s v.bytes i (i + size + 2) (cond opposite (i + size + 1 + 3) (i + size + 2)) → i + (size + 4) ≤ words_end → to ≤ words_end →
-      Seen f own s v.home → HasAt code (i + size + 2) (jump_words (i + size + 2) to) →
+      Asked code s v.bytes i (i + size + 2) (cond opposite (i + size + 1 + 3) (i + size + 2)) → i + (size + 4) ≤ words_end →
+      to ≤ words_end → Seen f own s v.home → HasAt code (i + size + 2) (jump_words (i + size + 2) to) →
       Ends mips_meaning f own code s v i (i + (size + 4)) (cond answer to (i + (size + 4))) v
   far_by true answer e code size i to s v done room high g has =
       let at : cond answer to (i + (size + 4)) ≡ i + size + 4 = ap (λ t. cond t to (i + (size + 4))) e ∙ omega arith in

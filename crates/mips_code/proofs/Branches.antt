@@ -4,7 +4,8 @@ use mathlib.Core.List.{append_assoc}
 use Rattle.std.specs.Prelude.{not}
 use Rattle.ec_machine_code.specs.declared.step.Question.{Question}
 use Rattle.mips_code.specs.Sizes.{branch_words}
-use Rattle.mips_code.specs.Words.{branch_at, branch_distance, far_words, jump, near_words, no_op, order_words, source_register, source_words, taken_where}
+use Rattle.mips_code.specs.Words.{branch_at, branch_distance, far_words, jump, near_words, no_op, order_words}
+use Rattle.mips_code.specs.Words.{source_register, source_words, taken_where}
 
 pub near_is : (q : Question) (from to : ℕ) → near_words q from to ≡ branch_words q q.wanted (branch_distance (from + branch_at q + 1) to)
 near_is q from to = refl

@@ -25,11 +25,11 @@ use Rattle.mips_isa.specs.declared.instr.MoveFrom.{MoveFrom}
 use Rattle.mips_isa.specs.declared.instr.MoveFrom.TheVariants.{Mfhi, Mflo}
 use Rattle.mips_isa.specs.declared.instr.Operation.{Operation}
 use Rattle.mips_isa.specs.declared.instr.Operation.TheVariants.{Addu, Slt, Subu}
-use Rattle.mips_code.specs.Words.{answer_words, branch_at, branch_distance, constant_words, copied_words, difference_by, difference_words, division_by}
+use Rattle.mips_code.specs.Words.{answer_words, branch_at, branch_distance, constant_words, copied_words, difference_by, difference_words}
 use Rattle.mips_code.specs.Words.{far_words, hilo_words, is_other_number, is_small, jump_words, less_by, less_words, loaded_words, lui}
 use Rattle.mips_code.specs.Words.{mips_far, mips_near, move_words, near_words, no_op, number_words, on_number, on_registers, one_words}
 use Rattle.mips_code.specs.Words.{order_words, small, small_negative, source_register, source_words, step_words, stored_words, sum_by}
-use Rattle.mips_code.specs.Words.{sw, taken_where}
+use Rattle.mips_code.specs.Words.{division_by, sw, taken_where}
 use Rattle.mips_code.specs.Words.{target_register, target_words, two_words, with_two, work_words, zero_word}
 
 -- A jump reaches each word of the code.
