@@ -47,15 +47,15 @@ impl Model for Network {
 }
 
 impl Network {
-    ghost use Rattle.std.specs.Prelude.{IfErr, IfOk, IsSome, None, Some, is_some, length};
+    ghost use Rattle.std.specs.Prelude.{◌≤◌, ℕ, IfErr, IfOk, IsSome, None, Some, is_some, length};
     ghost use Rattle.ec_acts.specs.Loaded.{WhenFull};
     ghost use Rattle.ec_acts.specs.Loading.{LacksFirst, first_needs};
-    ghost use Rattle.ec_network.specs.Networks.{CanRun, ForStanding, KeepsNumbers, NetLoaded, NetMoved, NetMoveRefused, NetRefused};
+    ghost use Rattle.ec_network.specs.Networks.{CanRun, ForStanding, KeepsNumbers, NetLoaded, NetMoved, NetMoveRefused, NetRefused, Now};
     ghost use Rattle.ec_network.specs.Networks.{NetTurned};
     ghost use Rattle.ec_network.specs.Networks.{class_at, fixed_at, status_at};
     ghost use Rattle.ec_network.specs.Nets.{counts_of, system_of};
-    ghost use Rattle.ec_network.specs.Places.{FixedStay, FixedStayUnlessRefixed, GoTogether, NodesAreHome, place_on};
-    ghost use Rattle.ec_network.specs.Standing.{StandsInSome};
+    ghost use Rattle.ec_network.specs.Places.{FixedStay, FixedStayUnlessRefixed, GoTogether, IsFoundFrom, NodesAreHome, moves_on, place_on};
+    ghost use Rattle.ec_network.specs.Standing.{Stands, StandsInSome};
     ghost use Rattle.ec_rooms.specs.Places.{place_of};
 
     /// A network of no nodes, on which nothing was loaded. It meets its calls as a spent one does.
@@ -198,6 +198,32 @@ impl Network {
         ensures placed { ForStanding self.now (λ d s w. result ≡ place_of w oid) }
     {
         self.standing().cluster.whereabouts.place(oid)
+    }
+
+    /// The node where an object is, and how many hops it takes to find it from a node: how many addresses one follows behind the first,
+    /// which is the node's own, or where it has none that of the node where the object was made. From then on it takes no hop from there;
+    /// else the network shows what it showed. Want of memory spends the network, and a spent one answers nothing else.
+    pub fn find(&mut self, from: NodeNo, oid: Oid) -> Result<(NodeNo, u64), NetError>
+        requires made { IsSome (place_on self.old oid) }
+        ensures found { IfOk result (λ answer. place_on self.old oid ≡ Some answer.0) }
+        ensures hops { IfOk result (λ answer. IsFoundFrom self.old oid from answer.0 answer.1) }
+        ensures few_hops { IfOk result (λ answer. answer.1 ≤ moves_on self.old oid) }
+        ensures again { IfOk result (λ answer. IsFoundFrom self.new oid from answer.0 0) }
+        ensures shows { IfOk result (λ answer. ForStanding self.old (λ d s w. Now self.new (λ t. Stands d t w))) }
+        ensures places { IfOk result (λ answer. (x : ℕ) → place_on self.new x ≡ place_on self.old x) }
+        ensures numbers { KeepsNumbers self.old self.new }
+        ensures refused { IfErr result (λ e. self.new ≡ None) }
+    {
+        let Some(loaded) = &mut self.loaded else {
+            return Err(NetError::Memory(AllocError));
+        };
+        match loaded.system.cluster.whereabouts.find(from, oid) {
+            Ok(found) => Ok(found),
+            Err(e) => {
+                self.loaded = None;
+                Err(NetError::Memory(e))
+            }
+        }
     }
 
     /// How many instructions a node has run, up to 2^64 - 1; 0 where it is not there, or the network is spent.
