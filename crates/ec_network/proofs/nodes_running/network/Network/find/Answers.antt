@@ -46,3 +46,8 @@ pub returns-in-Ok-clause-places : goal.returns-in-Ok-clause-places
 returns-in-Ok-clause-places c = λ x.
     let kept = same c.in-Some.loaded.system c.find.new.self c.find.ensures.kept in
     kept.places x ∙ sym (ap (λ (n : Net). place_on n x) (sym c.self.view_is ∙ c.in-Some.is))
+
+pub returns-in-Ok-clause-moves : goal.returns-in-Ok-clause-moves
+returns-in-Ok-clause-moves c = λ x.
+    let kept = same c.in-Some.loaded.system c.find.new.self c.find.ensures.kept in
+    kept.moves x ∙ sym (ap (λ (n : Net). moves_on n x) (sym c.self.view_is ∙ c.in-Some.is))
