@@ -25,7 +25,7 @@ const NOT_FIVE: Question = Question {
     wanted: false,
 };
 
-/// Prints the words at word 100 that lead to word 110, or back.
+/// Prints the words at word 100 that lead to word 110, and back.
 pub fn print_riscv_ends(rt: &impl Print, alloc: Global) -> io::Result<()> {
     let mut words = Seq::new(alloc);
     Riscv.put_ask(Span::Near, LESS, 100, 110, &mut words)?;
@@ -39,7 +39,20 @@ pub fn print_riscv_ends(rt: &impl Print, alloc: Global) -> io::Result<()> {
     let mut words = Seq::new(alloc);
     Riscv.put_ask(Span::Far, LESS, 100, 110, &mut words)?;
     print_words(rt, "far r0 < r1", &words)?;
+    print_riscv_back(rt, alloc)?;
     print_riscv_jumps(rt, alloc)
+}
+
+fn print_riscv_back(rt: &impl Print, alloc: Global) -> io::Result<()> {
+    let mut words = Seq::new(alloc);
+    Riscv.put_ask(Span::Near, LESS, 110, 100, &mut words)?;
+    print_words(rt, "near back r0 < r1", &words)?;
+    let mut words = Seq::new(alloc);
+    Riscv.put_ask(Span::Near, NOT_FIVE, 110, 100, &mut words)?;
+    print_words(rt, "near back not r0 = 5", &words)?;
+    let mut words = Seq::new(alloc);
+    Riscv.put_ask(Span::Middle, LESS, 110, 100, &mut words)?;
+    print_words(rt, "middle back r0 < r1", &words)
 }
 
 fn print_riscv_jumps(rt: &impl Print, alloc: Global) -> io::Result<()> {
@@ -57,7 +70,7 @@ fn print_riscv_jumps(rt: &impl Print, alloc: Global) -> io::Result<()> {
     print_words(rt, "stop", &words)
 }
 
-/// Prints the words at word 100 that lead to word 110, or back.
+/// Prints the words at word 100 that lead to word 110, and back.
 pub fn print_mips_ends(rt: &impl Print, alloc: Global) -> io::Result<()> {
     let mut words = Seq::new(alloc);
     Mips.put_ask(Span::Near, LESS, 100, 110, &mut words)?;
@@ -68,7 +81,17 @@ pub fn print_mips_ends(rt: &impl Print, alloc: Global) -> io::Result<()> {
     let mut words = Seq::new(alloc);
     Mips.put_ask(Span::Far, LESS, 100, 110, &mut words)?;
     print_words(rt, "far r0 < r1", &words)?;
+    print_mips_back(rt, alloc)?;
     print_mips_jumps(rt, alloc)
+}
+
+fn print_mips_back(rt: &impl Print, alloc: Global) -> io::Result<()> {
+    let mut words = Seq::new(alloc);
+    Mips.put_ask(Span::Near, LESS, 110, 100, &mut words)?;
+    print_words(rt, "near back r0 < r1", &words)?;
+    let mut words = Seq::new(alloc);
+    Mips.put_ask(Span::Near, NOT_FIVE, 110, 100, &mut words)?;
+    print_words(rt, "near back not r0 = 5", &words)
 }
 
 fn print_mips_jumps(rt: &impl Print, alloc: Global) -> io::Result<()> {
