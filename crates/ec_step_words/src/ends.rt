@@ -17,6 +17,14 @@ const LESS: Question = Question {
     wanted: true,
 };
 
+/// Whether the first home is less than 10.
+const LESS_THAN_TEN: Question = Question {
+    relation: Relation::Less,
+    left: Source::Home(Home::Register(0)),
+    right: Source::Word(10),
+    wanted: true,
+};
+
 /// Whether the first home isn't 5.
 const NOT_FIVE: Question = Question {
     relation: Relation::Same,
@@ -75,6 +83,9 @@ pub fn print_mips_ends(rt: &impl Print, alloc: Global) -> io::Result<()> {
     let mut words = Seq::new(alloc);
     Mips.put_ask(Span::Near, LESS, 100, 110, &mut words)?;
     print_words(rt, "near r0 < r1", &words)?;
+    let mut words = Seq::new(alloc);
+    Mips.put_ask(Span::Near, LESS_THAN_TEN, 100, 110, &mut words)?;
+    print_words(rt, "near r0 < 10", &words)?;
     let mut words = Seq::new(alloc);
     Mips.put_ask(Span::Near, NOT_FIVE, 100, 110, &mut words)?;
     print_words(rt, "near not r0 = 5", &words)?;
