@@ -1,5 +1,8 @@
-//! A picture of a run: nodes, objects and their moves, by entries.
+//! A map of a run: its nodes, its objects with their moves, and what each process ran where, over time.
+use crate::picture::write_picture;
 use crate::refused::Refused;
+use crate::strip::write_strip;
+use crate::watch::watch;
 use std::alloc::Global;
 
 /// What a map is drawn as.
@@ -13,13 +16,17 @@ pub enum Form {
 
 /// Writes a map of a run.
 pub fn map(
-    _alloc: Global,
-    _source: &[u8],
-    _nodes: &[u8],
-    _schedule: &[u8],
-    _form: Form,
+    alloc: Global,
+    source: &[u8],
+    nodes: &[u8],
+    schedule: &[u8],
+    form: Form,
     out: &mut String,
 ) -> Result<(), Refused> {
-    out.push_str("not yet\n")?;
+    let history = watch(alloc, source, nodes, schedule, None)?;
+    match form {
+        Form::Picture => write_picture(alloc, &history, out)?,
+        Form::Text => write_strip(alloc, &history, out)?,
+    }
     Ok(())
 }
