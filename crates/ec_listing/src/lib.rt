@@ -3,9 +3,8 @@
 //! | module | what it has |
 //! |---|---|
 //! | `listing` | the listing of a source for a kind of machine, operation by operation |
-//! | `lines` | its lines: the heading of an operation, a word with its instruction, what is live at a stop |
-//! | `stops` | what a stop is called, and on which line of the source it stands |
-//! | `names` | the names of classes, operations, types, variables and homes |
+//! | `lines` | its lines: the heading of an operation, a word with its instruction, a stop and what is live there |
+//! | `names` | what types, variables and homes are called |
 //! | `riscv`, `mips` | an instruction in GNU syntax |
 #![tactic(auto)]
 
@@ -14,4 +13,3 @@ pub mod listing;
 pub mod mips;
 pub mod names;
 pub mod riscv;
-pub mod stops;

@@ -1,19 +1,22 @@
 //! The lines of a listing.
 use crate::mips::MipsAt;
-use crate::names::{Names, put_home, put_variable};
+use crate::names::{put_home, put_type, put_variable};
 use crate::riscv::RiscvAt;
-use crate::stops::{kind_name, line_of};
 use ec_code::code::{Live, Op, Operation, StopRow};
 use ec_generate::table::{OperationTable, StopEntry};
+use ec_meaning::source::Program;
+use ec_words::names::put_operation;
+use ec_words::stops::{line_of, put_stop};
 use ec_world::node::Kind;
 use ec_world::stop::Stop;
-use std::alloc::AllocError;
+use std::alloc::{AllocError, Global};
 use std::fmt::Write;
 
-/// An operation with its names, its number among all, and the homes of its variables on a kind of machine.
+/// An operation of a program: its number among all, and the homes of its variables on a kind of machine.
 #[derive(Clone, Copy)]
 pub struct Site<'a> {
-    pub names: Names<'a>,
+    pub alloc: Global,
+    pub program: &'a Program<'a>,
     pub kind: Kind,
     pub number: usize,
     /// The line of the source on which the operation begins; the program's own has none.
@@ -27,14 +30,14 @@ impl<'a> Site<'a> {
     pub fn put_heading(&self, words: usize, out: &mut String) -> Result<(), AllocError> {
         let number = self.number;
         write!(out, "operation {number}: ")?;
-        self.names.put_operation(number, out)?;
+        put_operation(self.program, number, out)?;
         if let Some(line) = self.line {
             write!(out, ", line {line}")?;
         }
         writeln!(out, ", {words} words")
     }
 
-    /// Writes the stop of a number: what it is and on which line, and what is live there, each with its home.
+    /// Writes the stop of a number: what it does and on which line, and what is live there, each with its home.
     pub fn put_stop(&self, number: u32, out: &mut String) -> Result<(), AllocError> {
         let Some(entry) = self.table.stops.get(number as usize) else {
             return Ok(());
@@ -42,8 +45,8 @@ impl<'a> Site<'a> {
         let Some(row) = self.row(entry.place) else {
             return Ok(());
         };
-        write!(out, "    stop {number}: {}", kind_name(row.stop))?;
-        self.put_named(row.stop, out)?;
+        write!(out, "    stop {number}: ")?;
+        put_stop(self.alloc, self.program, row.stop, out)?;
         if let Some(line) = self.line_at(row.stop) {
             write!(out, ", line {line}")?;
         }
@@ -64,25 +67,6 @@ impl<'a> Site<'a> {
         match stop {
             Stop::Entry => self.line,
             _ => line_of(stop),
-        }
-    }
-
-    /// Writes the name or the number that belongs to a stop, where it has one.
-    fn put_named(&self, stop: Stop, out: &mut String) -> Result<(), AllocError> {
-        match stop {
-            Stop::Invoke { name, .. } => {
-                out.push_str(" of ")?;
-                self.names.put_invoked(name, out)
-            }
-            Stop::New { class } => {
-                out.push_str(" of ")?;
-                self.names.put_class(class, out)
-            }
-            Stop::Global { index } => write!(out, " {index}"),
-            Stop::Wait { condition } | Stop::Signal { condition } => {
-                write!(out, " of condition {condition}")
-            }
-            _ => Ok(()),
         }
     }
 
@@ -114,7 +98,7 @@ impl<'a> Site<'a> {
     fn put_one(&self, one: Live, out: &mut String) -> Result<(), AllocError> {
         put_variable(self.operation, one.variable, out)?;
         out.push(' ')?;
-        self.names.put_type(one.of, out)?;
+        put_type(self.program.table(), one.of, out)?;
         out.push_str(" in ")?;
         put_home(self.kind, self.table.home(one.variable), out)
     }

@@ -8,12 +8,12 @@ ghost use Rattle.ec_meaning.specs.Sources.{source_of};
 ghost use Rattle.ec_tool.specs.Sources.{IsChecked, IsProgramText};
 
 use crate::lines::{Site, put_word};
-use crate::names::Names;
 use ec_compile::compile::Compiled;
 use ec_compile::mips_compile::compile_for_mips;
 use ec_compile::rv_compile::compile_for_riscv;
 use ec_meaning::source::Program;
 use ec_tool::source::{Accepted, Refused, SourceError, check_source};
+use ec_words::names::operation_of;
 use ec_world::node::Kind;
 use std::alloc::{AllocError, Global};
 use thiserror::Error;
@@ -78,6 +78,7 @@ fn list_accepted(
     let compiled = compile(alloc, kind, &program)?;
     put_operations(
         &Listed {
+            alloc,
             kind,
             program: &program,
             compiled: &compiled,
@@ -138,6 +139,7 @@ fn put_operation(
 /// A program with its machine code for a kind of machine.
 #[derive(Clone, Copy)]
 struct Listed<'a> {
+    alloc: Global,
     kind: Kind,
     program: &'a Program<'a>,
     compiled: &'a Compiled,
@@ -146,16 +148,13 @@ struct Listed<'a> {
 impl<'a> Listed<'a> {
     /// The operation of a number, where there is one.
     fn site(&self, number: usize) -> Option<Site<'a>> {
-        let names = Names {
-            table: self.program.table(),
-            core: self.program.core(),
-        };
-        let line = match names.operation(number) {
+        let line = match operation_of(self.program, number) {
             Some(operation) => Some(self.program.line(operation.at)),
             None => None,
         };
         Some(Site {
-            names,
+            alloc: self.alloc,
+            program: self.program,
             kind: self.kind,
             number,
             line,

@@ -2,9 +2,11 @@
 use crate::cargo::{Cargo, asked_move, carried_by, node_at};
 use crate::history::{LineSeen, StopSeen};
 use crate::watching::{CodeRun, Watched, Watching};
-use crate::words::{line_of, operation_of, push_operands, push_operation, push_stop};
+use crate::words::put_operands;
 use ec_code::activation::CodeActivation;
 use ec_network::nodes_running::network::Network;
+use ec_words::names::{operation_of, put_operation};
+use ec_words::stops::{line_of, put_stop};
 use ec_world::process::ProcStatus;
 use ec_world::run::RunEntry;
 use ec_world::stop::Stop;
@@ -67,16 +69,17 @@ fn stop_of(
     activation: &CodeActivation,
 ) -> Result<StopSeen, AllocError> {
     let mut what = String::new(watching.alloc);
-    push_operation(&watching.program, activation.operation, &mut what)?;
+    let number = activation.operation as usize;
+    put_operation(&watching.program, number, &mut what)?;
     what.push_str(": ")?;
     if activation.pending {
-        push_stop(
+        put_stop(
             watching.alloc,
             &watching.program,
             activation.stop,
             &mut what,
         )?;
-        push_operands(activation.operands.as_slice(), &mut what)?;
+        put_operands(activation.operands.as_slice(), &mut what)?;
     } else {
         what.push_str("go on")?;
     }
@@ -92,7 +95,8 @@ fn line_seen(watching: &Watching<'_>, activation: &CodeActivation) -> LineSeen {
     if let Some(line) = line_of(activation.stop) {
         return LineSeen::At(line);
     }
-    let Some(operation) = operation_of(&watching.program, activation.operation) else {
+    let number = activation.operation as usize;
+    let Some(operation) = operation_of(&watching.program, number) else {
         return LineSeen::Nowhere;
     };
     let first = watching.program.line(operation.at);
@@ -156,7 +160,8 @@ fn call_text(
         LineSeen::Within(line) => write!(text, "line {line} or below, in ")?,
         LineSeen::Nowhere => text.push_str("in ")?,
     }
-    push_operation(&watching.program, activation.operation, &mut text)?;
+    let number = activation.operation as usize;
+    put_operation(&watching.program, number, &mut text)?;
     let own = activation.own;
     let node = state.history.node_name(node_at(&state.net, own));
     write!(text, " on object {own} at {node}")?;

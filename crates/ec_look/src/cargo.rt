@@ -90,12 +90,16 @@ impl Cargo {
 
     /// The activations on members.
     fn add_activations(&mut self, running: &CodeRun<'_>) {
-        let parts = running.code.parts;
         for process in running.world.processes.as_slice() {
-            for activation in process.activations.as_slice() {
-                if self.has(activation.own) {
-                    self.add(activation_bytes(parts, activation));
-                }
+            self.add_those_of(process.activations.as_slice(), running.code.parts);
+        }
+    }
+
+    /// The activations of a process that are on members.
+    fn add_those_of(&mut self, activations: &[CodeActivation], parts: &Parts) {
+        for activation in activations {
+            if self.has(activation.own) {
+                self.add(activation_bytes(parts, activation));
             }
         }
     }

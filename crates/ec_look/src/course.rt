@@ -53,12 +53,7 @@ pub fn object_stays(alloc: Global, history: &History) -> Result<Vec<Stay>, Alloc
         last: Vec::new(alloc),
     };
     let end = entry_count(history);
-    for (place, object) in history.objects.iter().enumerate() {
-        stays.last.push(None)?;
-        if object.made_by == 0 && place >= history.nodes.len() {
-            stays.begin(place, object.node, 0, end)?;
-        }
-    }
+    stays.add_loaded(history, end)?;
     for entry in &history.entries {
         stays.add_entry(history, entry, end)?;
     }
@@ -66,6 +61,17 @@ pub fn object_stays(alloc: Global, history: &History) -> Result<Vec<Stay>, Alloc
 }
 
 impl Stays {
+    /// The stays of the objects that are there after loading.
+    fn add_loaded(&mut self, history: &History, end: u32) -> Result<(), AllocError> {
+        for (place, object) in history.objects.iter().enumerate() {
+            self.last.push(None)?;
+            if object.made_by == 0 && place >= history.nodes.len() {
+                self.begin(place, object.node, 0, end)?;
+            }
+        }
+        Ok(())
+    }
+
     /// The stays that an entry begins and ends.
     fn add_entry(
         &mut self,

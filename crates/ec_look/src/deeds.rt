@@ -3,9 +3,10 @@ use crate::before::{Before, top};
 use crate::cargo::{node_at, place};
 use crate::history::{Actor, Deed, EntrySeen, History, ObjectSeen, Step};
 use crate::watching::{CodeRun, Watched, Watching};
-use crate::words::{cause_text, push_class, push_quoted, wait_text};
+use crate::words::{cause_text, put_quoted, wait_text};
 use ec_network::nodes_running::network::Network;
 use ec_network::nodes_running::turns::Did;
+use ec_words::names::put_class;
 use ec_world::process::ProcStatus;
 use ec_world::run::RunEntry;
 use ec_world::value::{NodeNo, Oid, Pid};
@@ -107,7 +108,7 @@ fn add_printed(
     };
     if !new.is_empty() {
         let mut text = String::new(watching.alloc);
-        push_quoted(new, &mut text)?;
+        put_quoted(new, &mut text)?;
         deeds.push(Deed::Printed(text))?;
     }
     Ok(())
@@ -183,7 +184,7 @@ pub(crate) fn add_objects(
     let objects = running.world.common.objects.as_slice();
     for (place_in, object) in objects.iter().enumerate().skip(history.objects.len()) {
         let mut class = String::new(watching.alloc);
-        push_class(watching.alloc, &watching.program, object.class, &mut class)?;
+        put_class(watching.alloc, &watching.program, object.class, &mut class)?;
         history.objects.push(ObjectSeen {
             class,
             node: node_at(net, number_behind(place_in)?),

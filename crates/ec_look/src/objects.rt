@@ -19,16 +19,22 @@ pub fn objects(
 
 /// The lines of a history's objects.
 pub(crate) fn write_objects(history: &History, out: &mut String) -> Result<(), AllocError> {
+    write_loaded(history, out)?;
+    for entry in &history.entries {
+        write_changes(history, entry, out)?;
+    }
+    out.push_str("An entry that isn't listed makes and moves no object.\n")
+}
+
+/// The objects that are there after loading.
+fn write_loaded(history: &History, out: &mut String) -> Result<(), AllocError> {
     out.push_str("after loading\n")?;
     for (place, object) in history.objects.iter().enumerate() {
         if object.made_by == 0 {
             write_object(history, place.saturating_add(1), out)?;
         }
     }
-    for entry in &history.entries {
-        write_changes(history, entry, out)?;
-    }
-    out.push_str("An entry that isn't listed makes and moves no object.\n")
+    Ok(())
 }
 
 /// `  4 main at a`

@@ -20,20 +20,44 @@ pub(crate) fn write_picture(
     write_title(history, &drawn, out)?;
     write_lanes(history, &drawn, out)?;
     write_axis(&drawn, out)?;
-    for placed in &drawn.stays {
-        write_stay(&drawn, *placed, out)?;
-    }
-    for placed in &drawn.stays {
-        write_label(history, &drawn, *placed, out)?;
-    }
-    for stretch in &drawn.stretches {
-        write_stretch(history, &drawn, *stretch, out)?;
-    }
-    for note in &drawn.notes {
-        write_note(&drawn, *note, out)?;
-    }
+    write_stays(&drawn, out)?;
+    write_labels(history, &drawn, out)?;
+    write_stretches(history, &drawn, out)?;
+    write_notes(&drawn, out)?;
     write_legend(&drawn, out)?;
     out.push_str("</svg>\n")
+}
+
+/// The lines of objects.
+fn write_stays(drawn: &Layout, out: &mut String) -> Result<(), AllocError> {
+    for placed in &drawn.stays {
+        write_stay(drawn, *placed, out)?;
+    }
+    Ok(())
+}
+
+/// What stands above the lines of objects.
+fn write_labels(history: &History, drawn: &Layout, out: &mut String) -> Result<(), AllocError> {
+    for placed in &drawn.stays {
+        write_label(history, drawn, *placed, out)?;
+    }
+    Ok(())
+}
+
+/// The boxes of what processes run.
+fn write_stretches(history: &History, drawn: &Layout, out: &mut String) -> Result<(), AllocError> {
+    for stretch in &drawn.stretches {
+        write_stretch(history, drawn, *stretch, out)?;
+    }
+    Ok(())
+}
+
+/// The crosses of failures.
+fn write_notes(drawn: &Layout, out: &mut String) -> Result<(), AllocError> {
+    for note in &drawn.notes {
+        write_note(drawn, *note, out)?;
+    }
+    Ok(())
 }
 
 /// The size of the picture, its letters, and the head of an arrow.
@@ -230,19 +254,30 @@ fn write_stretch(
         out,
         "fill=\"{fill}\" stroke=\"#555555\" stroke-width=\"0.6\"/>"
     )?;
-    let (middle, base) = (x + width / 2.0, y + 13.0);
-    if width >= 10.0 * LETTER {
-        write!(
-            out,
-            "<text x=\"{middle:.1}\" y=\"{base:.1}\" text-anchor=\"middle\">process {process}</text>"
-        )?;
-    } else if width >= 2.0 * LETTER {
-        write!(
-            out,
-            "<text x=\"{middle:.1}\" y=\"{base:.1}\" text-anchor=\"middle\">{process}</text>"
-        )?;
-    }
+    write_process(process, x + width / 2.0, y + 13.0, width, out)?;
     out.push_str("</g>\n")
+}
+
+/// The number of a process around the middle of its box, with the word where there is room for it.
+fn write_process(
+    process: u32,
+    middle: f64,
+    base: f64,
+    width: f64,
+    out: &mut String,
+) -> Result<(), AllocError> {
+    if width < 2.0 * LETTER {
+        return Ok(());
+    }
+    let word = if width < 10.0 * LETTER {
+        ""
+    } else {
+        "process "
+    };
+    write!(
+        out,
+        "<text x=\"{middle:.1}\" y=\"{base:.1}\" text-anchor=\"middle\">{word}{process}</text>"
+    )
 }
 
 /// The fill of a process's boxes.
@@ -283,48 +318,20 @@ fn write_note(drawn: &Layout, note: PlacedNote, out: &mut String) -> Result<(), 
     )
 }
 
-/// What the marks mean.
+/// What the marks mean, in lines about a line of letters.
+const LEGEND: &str =
+    "<rect x='14' y='-13' width='22' height='18' fill='#f5c76b' stroke='#555555' stroke-width='0.6'/>
+<text x='22'>0</text><text x='44'>process 0 runs here</text>
+<path d='M190,-4 H222' stroke='#0060a8' stroke-width='2.5'/><circle cx='190' cy='-4' r='3' fill='#0060a8'/>
+<text x='230'>an object is made, and is here</text>
+<path d='M440,-16 V8' stroke='#b34700' stroke-width='2' marker-end='url(#head)'/><text x='450'>it moves</text>
+<path d='M530,-10 L540,0 M530,0 L540,-10' stroke='#111111' stroke-width='2.5'/><text x='548'>a process fails</text>
+";
+
+/// What the marks mean, below the lanes.
 fn write_legend(drawn: &Layout, out: &mut String) -> Result<(), AllocError> {
-    let (y, middle, box_top) = (
-        drawn.bottom + 30.0,
-        drawn.bottom + 26.0,
-        drawn.bottom + 17.0,
-    );
-    write!(
-        out,
-        "<rect x=\"14\" y=\"{box_top:.1}\" width=\"22\" height=\"18\" fill=\"{}\" ",
-        FILLS[0]
-    )?;
-    write!(
-        out,
-        "stroke=\"#555555\" stroke-width=\"0.6\"/><text x=\"22\" y=\"{y:.1}\">0</text>"
-    )?;
-    write!(
-        out,
-        "<text x=\"44\" y=\"{y:.1}\">process 0 runs here</text>\n"
-    )?;
-    write!(
-        out,
-        "<path d=\"M190,{middle:.1} H222\" stroke=\"#0060a8\" stroke-width=\"2.5\"/>"
-    )?;
-    write!(
-        out,
-        "<circle cx=\"190\" cy=\"{middle:.1}\" r=\"3\" fill=\"#0060a8\"/>"
-    )?;
-    write!(
-        out,
-        "<text x=\"230\" y=\"{y:.1}\">an object is made, and is here</text>\n"
-    )?;
-    let (up, down) = (drawn.bottom + 14.0, drawn.bottom + 38.0);
-    write!(
-        out,
-        "<path d=\"M440,{up:.1} V{down:.1}\" stroke=\"#b34700\" stroke-width=\"2\" marker-end=\"url(#head)\"/>"
-    )?;
-    write!(out, "<text x=\"450\" y=\"{y:.1}\">it moves</text>\n")?;
-    let (top, end) = (y - 10.0, y);
-    write!(
-        out,
-        "<path d=\"M530,{top:.1} L540,{end:.1} M530,{end:.1} L540,{top:.1}\" stroke=\"#111111\" stroke-width=\"2.5\"/>"
-    )?;
-    write!(out, "<text x=\"548\" y=\"{y:.1}\">a process fails</text>\n")
+    let base = drawn.bottom + 30.0;
+    write!(out, "<g transform=\"translate(0,{base:.1})\">")?;
+    out.push_str(LEGEND)?;
+    out.push_str("</g>\n")
 }

@@ -1,6 +1,7 @@
 //! The first history of a run, and how its end is told.
 use crate::history::{History, NodeSeen};
 use ec_report::end::ReportEnd;
+use ec_words::names::put_name;
 use ec_world::node::{Kind, NodeSpec};
 use ec_world::room::{Lack, Part};
 use ec_world::run::RunEnd;
@@ -23,12 +24,10 @@ pub(crate) fn first_history(alloc: Global, specs: &[NodeSpec]) -> Result<History
     })
 }
 
-/// A name, a letter for each byte.
+/// The name of a node.
 pub(crate) fn name_text(alloc: Global, name: &[u8]) -> Result<String, AllocError> {
     let mut text = String::new(alloc);
-    for byte in name {
-        text.push(char::from(*byte))?;
-    }
+    put_name(name, &mut text)?;
     Ok(text)
 }
 

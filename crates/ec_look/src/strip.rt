@@ -161,12 +161,7 @@ fn write_objects(
 ) -> Result<(), AllocError> {
     for place in 0..history.objects.len() {
         let object = number_at(place);
-        let mut here = Vec::new(alloc);
-        for stay in &drawn.stays {
-            if stay.object == object && stay.node == node {
-                here.push(*stay)?;
-            }
-        }
+        let here = stays_on(alloc, &drawn.stays, object, node)?;
         if !here.is_empty() {
             let class = history.class_name(object);
             write_name(format!(in alloc; "  {object} {class}")?.as_str(), out)?;
@@ -174,6 +169,22 @@ fn write_objects(
         }
     }
     Ok(())
+}
+
+/// The stays of an object on a node.
+fn stays_on(
+    alloc: Global,
+    stays: &[Stay],
+    object: u32,
+    node: u32,
+) -> Result<Vec<Stay>, AllocError> {
+    let mut here = Vec::new(alloc);
+    for stay in stays {
+        if stay.object == object && stay.node == node {
+            here.push(*stay)?;
+        }
+    }
+    Ok(here)
 }
 
 /// Whether an object is on a node, a mark for each column.

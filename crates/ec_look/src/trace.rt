@@ -32,10 +32,7 @@ pub(crate) fn write_trace(
     }
     write!(out, "stop {}\n", history.end)?;
     out.push_str("(4+: the stop tells no line; its operation begins in line 4)\n")?;
-    for entry in &history.entries {
-        write_tracebacks(history, entry, out)?;
-    }
-    Ok(())
+    write_tracebacks(history, out)
 }
 
 /// One line: `    24  0         a                    6             8  main.sum: move object 4 to object 2: ..`
@@ -134,8 +131,16 @@ fn write_moved(
     write!(out, " ({parcels} {noun}, {bytes} bytes)")
 }
 
-/// The calls of each process that an entry made fail, the innermost first.
-fn write_tracebacks(
+/// The calls of each process that failed.
+fn write_tracebacks(history: &History, out: &mut String) -> Result<(), AllocError> {
+    for entry in &history.entries {
+        write_traceback(history, entry, out)?;
+    }
+    Ok(())
+}
+
+/// The calls of the process that an entry made fail, the innermost first.
+fn write_traceback(
     history: &History,
     entry: &EntrySeen,
     out: &mut String,
@@ -143,10 +148,16 @@ fn write_tracebacks(
     for deed in &entry.deeds {
         if let Deed::Failed { why, line, calls } = deed {
             write_failure(history, entry, why, *line, out)?;
-            for call in calls {
-                write!(out, "  {call}\n")?;
-            }
+            write_calls(calls, out)?;
         }
+    }
+    Ok(())
+}
+
+/// Calls, a line each.
+fn write_calls(calls: &[String], out: &mut String) -> Result<(), AllocError> {
+    for call in calls {
+        write!(out, "  {call}\n")?;
     }
     Ok(())
 }
