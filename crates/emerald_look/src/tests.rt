@@ -130,7 +130,7 @@ fn lists_code_of_an_accepted_source(rt: HostRuntime) -> Result<(), Fail> {
     assert!(rt;
         told.text
             .as_str()
-            .starts_with("operation 0: program, its constants, ")
+            .starts_with("operation 0: program, ")
     );
     Ok(())
 }
