@@ -38,7 +38,7 @@ impl<'a> Site<'a> {
     }
 
     /// Writes the stop of a number: what it does and on which line, and what is live there, each with its home.
-    pub fn put_stop(&self, number: u32, out: &mut String) -> Result<(), AllocError> {
+    pub fn put_numbered_stop(&self, number: u32, out: &mut String) -> Result<(), AllocError> {
         let Some(entry) = self.table.stops.get(number as usize) else {
             return Ok(());
         };

@@ -129,7 +129,7 @@ fn put_operation(
     for word in words {
         put_word(listed.kind, address, *word, out)?;
         if let Some(id) = listed.compiled.image.table.at_pc(address) {
-            site.put_stop(id.stop, out)?;
+            site.put_numbered_stop(id.stop, out)?;
         }
         address = address.wrapping_add(4);
     }
