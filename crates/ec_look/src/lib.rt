@@ -6,7 +6,7 @@
 //! | `watch`, `watching`, `record` | a run on a network with the code's meaning beside it, and its history |
 //! | `before`, `deeds` | what is read before an entry, and behind it |
 //! | `cargo` | what a move carries, with its bytes |
-//! | `words` | stops, values and causes in words |
+//! | `words` | values, causes of failures and waits in words |
 //! | `history` | what happened, as plain data |
 //! | `course`, `layout`, `picture`, `strip` | a map: what is where and when, where that is drawn, and the two ways to draw it |
 #![tactic(auto)]

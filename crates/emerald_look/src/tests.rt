@@ -127,11 +127,7 @@ fn lists_code_of_an_accepted_source(rt: HostRuntime) -> Result<(), Fail> {
         &["look", "code", "s.em", "--kind", "mips"],
     )?;
     assert_eq!(rt; told.status, Status::Finished);
-    assert!(rt;
-        told.text
-            .as_str()
-            .starts_with("operation 0: program, ")
-    );
+    assert!(rt; told.text.as_str().starts_with("operation 0: program, "));
     Ok(())
 }
 
