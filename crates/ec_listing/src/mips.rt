@@ -1,5 +1,5 @@
 //! Instructions of MIPS I in GNU syntax, as `objdump -m mips:3000 -M no-aliases,reg-names=numeric` prints them.
-use mips_isa::field::{Sixteen, Target};
+use mips_isa::field::{Link, Register, Sixteen, Target};
 use mips_isa::instr::{
     Branch, HiLoOperation, Immediate, Instr, Load, MoveFrom, MoveTo, Operation, Shift, Store,
     VariableShift, ZeroBranch,
@@ -15,122 +15,97 @@ pub struct MipsAt {
 
 impl fmt::Display for MipsAt {
     fn fmt<W: fmt::Write>(&self, f: &mut fmt::Formatter<W>) -> fmt::Result {
+        write!(f, "{}", name_of(self.instr))?;
+        self.put_operands(f)
+    }
+}
+
+impl MipsAt {
+    /// Writes what stands behind the name, with a tab before it.
+    fn put_operands<W: fmt::Write>(&self, f: &mut fmt::Formatter<W>) -> fmt::Result {
         match self.instr {
-            Instr::OnShift {
-                shift,
-                rd,
-                rt,
-                amount,
-            } => {
-                let name = shift_name(shift);
-                write!(
-                    f,
-                    "{name}\t${},${},0x{:x}",
-                    rd.number, rt.number, amount.bits
-                )
+            Instr::OnShift { rd, rt, amount, .. } => {
+                write!(f, "\t${},${},0x{:x}", rd.number, rt.number, amount.bits)
             }
-            Instr::OnVariableShift { shift, rd, rt, rs } => {
-                let name = variable_shift_name(shift);
-                write!(f, "{name}\t${},${},${}", rd.number, rt.number, rs.number)
+            Instr::OnVariableShift { rd, rt, rs, .. } => put_three(rd, rt, rs, f),
+            Instr::OnRegisters { rd, rs, rt, .. } => put_three(rd, rs, rt, f),
+            Instr::OnHiLo { operation, rs, rt } => put_hi_lo(operation, rs, rt, f),
+            Instr::ReadHiLo { rd, .. } => write!(f, "\t${}", rd.number),
+            Instr::WriteHiLo { rs, .. } | Instr::Jr { rs } => write!(f, "\t${}", rs.number),
+            Instr::Jalr { link } => put_link(link, f),
+            Instr::Syscall => Ok(()),
+            Instr::J { target } | Instr::Jal { target } => {
+                write!(f, "\t0x{:x}", jump_target(self.address, target))
             }
-            Instr::OnRegisters {
-                operation,
-                rd,
-                rs,
-                rt,
-            } => {
-                let name = operation_name(operation);
-                write!(f, "{name}\t${},${},${}", rd.number, rs.number, rt.number)
+            Instr::BranchIf { rs, rt, offset, .. } => {
+                let to = branch_target(self.address, offset);
+                write!(f, "\t${},${},0x{to:x}", rs.number, rt.number)
             }
-            Instr::OnHiLo { operation, rs, rt } => {
-                let name = hi_lo_name(operation);
-                write!(
-                    f,
-                    "{name}\t{}${},${}",
-                    hi_lo_zero(operation),
-                    rs.number,
-                    rt.number
-                )
-            }
-            Instr::ReadHiLo { from, rd } => {
-                let name = move_from_name(from);
-                write!(f, "{name}\t${}", rd.number)
-            }
-            Instr::WriteHiLo { to, rs } => {
-                let name = move_to_name(to);
-                write!(f, "{name}\t${}", rs.number)
-            }
-            Instr::Jr { rs } => write!(f, "jr\t${}", rs.number),
-            Instr::Jalr { link } => {
-                if link.rd.number == 31 {
-                    write!(f, "jalr\t${}", link.rs.number)
-                } else {
-                    write!(f, "jalr\t${},${}", link.rd.number, link.rs.number)
-                }
-            }
-            Instr::Syscall => write!(f, "syscall"),
-            Instr::J { target } => {
-                let to = jump_target(self.address, target);
-                write!(f, "j\t0x{to:x}")
-            }
-            Instr::Jal { target } => {
-                let to = jump_target(self.address, target);
-                write!(f, "jal\t0x{to:x}")
-            }
-            Instr::BranchIf {
-                branch,
-                rs,
-                rt,
-                offset,
-            } => {
-                let (name, to) = (branch_name(branch), branch_target(self.address, offset));
-                write!(f, "{name}\t${},${},0x{to:x}", rs.number, rt.number)
-            }
-            Instr::BranchOnZero { branch, rs, offset } => {
-                let (name, to) = (
-                    zero_branch_name(branch),
-                    branch_target(self.address, offset),
-                );
-                write!(f, "{name}\t${},0x{to:x}", rs.number)
+            Instr::BranchOnZero { rs, offset, .. } => {
+                let to = branch_target(self.address, offset);
+                write!(f, "\t${},0x{to:x}", rs.number)
             }
             Instr::OnImmediate {
                 operation,
                 rt,
                 rs,
                 number,
-            } => {
-                let name = immediate_name(operation);
-                if is_signed(operation) {
-                    let by = signed(number);
-                    write!(f, "{name}\t${},${},{by}", rt.number, rs.number)
-                } else {
-                    write!(
-                        f,
-                        "{name}\t${},${},0x{:x}",
-                        rt.number, rs.number, number.bits
-                    )
-                }
-            }
-            Instr::Lui { rt, number } => write!(f, "lui\t${},0x{:x}", rt.number, number.bits),
-            Instr::LoadFrom {
-                load,
-                rt,
-                rs,
-                offset,
-            } => {
-                let (name, by) = (load_name(load), signed(offset));
-                write!(f, "{name}\t${},{by}(${})", rt.number, rs.number)
-            }
-            Instr::StoreTo {
-                store,
-                rt,
-                rs,
-                offset,
-            } => {
-                let (name, by) = (store_name(store), signed(offset));
-                write!(f, "{name}\t${},{by}(${})", rt.number, rs.number)
+            } => put_number(operation, rt, rs, number, f),
+            Instr::Lui { rt, number } => write!(f, "\t${},0x{:x}", rt.number, number.bits),
+            Instr::LoadFrom { rt, rs, offset, .. } | Instr::StoreTo { rt, rs, offset, .. } => {
+                write!(f, "\t${},{}(${})", rt.number, signed(offset), rs.number)
             }
         }
+    }
+}
+
+fn put_three<W: fmt::Write>(
+    one: Register,
+    two: Register,
+    three: Register,
+    f: &mut fmt::Formatter<W>,
+) -> fmt::Result {
+    write!(f, "\t${},${},${}", one.number, two.number, three.number)
+}
+
+/// A division of the machine's own is written with register 0 as its result.
+fn put_hi_lo<W: fmt::Write>(
+    operation: HiLoOperation,
+    rs: Register,
+    rt: Register,
+    f: &mut fmt::Formatter<W>,
+) -> fmt::Result {
+    match operation {
+        HiLoOperation::Mult | HiLoOperation::Multu => {
+            write!(f, "\t${},${}", rs.number, rt.number)
+        }
+        HiLoOperation::Div | HiLoOperation::Divu => {
+            write!(f, "\t$0,${},${}", rs.number, rt.number)
+        }
+    }
+}
+
+/// The register of a link is written unless it is 31.
+fn put_link<W: fmt::Write>(link: Link, f: &mut fmt::Formatter<W>) -> fmt::Result {
+    if link.rd.number == 31 {
+        write!(f, "\t${}", link.rs.number)
+    } else {
+        write!(f, "\t${},${}", link.rd.number, link.rs.number)
+    }
+}
+
+fn put_number<W: fmt::Write>(
+    operation: Immediate,
+    rt: Register,
+    rs: Register,
+    number: Sixteen,
+    f: &mut fmt::Formatter<W>,
+) -> fmt::Result {
+    write!(f, "\t${},${},", rt.number, rs.number)?;
+    if is_signed(operation) {
+        write!(f, "{}", signed(number))
+    } else {
+        write!(f, "0x{:x}", number.bits)
     }
 }
 
@@ -155,6 +130,29 @@ fn branch_target(address: u32, offset: Sixteen) -> u32 {
 /// Where a jump leads: the upper four bits are those of the place behind it.
 fn jump_target(address: u32, target: Target) -> u32 {
     (address.wrapping_add(4) & 0xF000_0000) | target.words.wrapping_mul(4)
+}
+
+/// The name of an instruction.
+fn name_of(instr: Instr) -> &'static str {
+    match instr {
+        Instr::OnShift { shift, .. } => shift_name(shift),
+        Instr::OnVariableShift { shift, .. } => variable_shift_name(shift),
+        Instr::OnRegisters { operation, .. } => operation_name(operation),
+        Instr::OnHiLo { operation, .. } => hi_lo_name(operation),
+        Instr::ReadHiLo { from, .. } => move_from_name(from),
+        Instr::WriteHiLo { to, .. } => move_to_name(to),
+        Instr::Jr { .. } => "jr",
+        Instr::Jalr { .. } => "jalr",
+        Instr::Syscall => "syscall",
+        Instr::J { .. } => "j",
+        Instr::Jal { .. } => "jal",
+        Instr::BranchIf { branch, .. } => branch_name(branch),
+        Instr::BranchOnZero { branch, .. } => zero_branch_name(branch),
+        Instr::OnImmediate { operation, .. } => immediate_name(operation),
+        Instr::Lui { .. } => "lui",
+        Instr::LoadFrom { load, .. } => load_name(load),
+        Instr::StoreTo { store, .. } => store_name(store),
+    }
 }
 
 fn shift_name(shift: Shift) -> &'static str {
@@ -194,14 +192,6 @@ fn hi_lo_name(operation: HiLoOperation) -> &'static str {
         HiLoOperation::Multu => "multu",
         HiLoOperation::Div => "div",
         HiLoOperation::Divu => "divu",
-    }
-}
-
-/// A division of the machine's own is written with register 0 as its result.
-fn hi_lo_zero(operation: HiLoOperation) -> &'static str {
-    match operation {
-        HiLoOperation::Mult | HiLoOperation::Multu => "",
-        HiLoOperation::Div | HiLoOperation::Divu => "$0,",
     }
 }
 

@@ -1,5 +1,5 @@
 //! Instructions of RV32IM in GNU syntax, as `objdump -M no-aliases,numeric` prints them.
-use rv_isa::field::{BranchOffset, JumpOffset, Twelve};
+use rv_isa::field::{BranchOffset, JumpOffset, Register, Twelve};
 use rv_isa::instr::{Branch, Immediate, Instr, Load, Operation, Shift, Store};
 use std::fmt;
 
@@ -12,78 +12,73 @@ pub struct RiscvAt {
 
 impl fmt::Display for RiscvAt {
     fn fmt<W: fmt::Write>(&self, f: &mut fmt::Formatter<W>) -> fmt::Result {
+        write!(f, "{}", name_of(self.instr))?;
+        self.put_operands(f)
+    }
+}
+
+impl RiscvAt {
+    /// Writes what stands behind the name, with a tab before it.
+    fn put_operands<W: fmt::Write>(&self, f: &mut fmt::Formatter<W>) -> fmt::Result {
         match self.instr {
-            Instr::Lui { rd, high } => write!(f, "lui\tx{},0x{:x}", rd.number, high.bits),
-            Instr::Auipc { rd, high } => write!(f, "auipc\tx{},0x{:x}", rd.number, high.bits),
+            Instr::Lui { rd, high } | Instr::Auipc { rd, high } => {
+                write!(f, "\tx{},0x{:x}", rd.number, high.bits)
+            }
             Instr::Jal { rd, offset } => {
                 let to = jump_target(self.address, offset);
-                write!(f, "jal\tx{},0x{to:x}", rd.number)
+                write!(f, "\tx{},0x{to:x}", rd.number)
             }
-            Instr::Jalr { rd, rs1, offset } => {
-                let by = signed(offset);
-                write!(f, "jalr\tx{},{by}(x{})", rd.number, rs1.number)
-            }
+            Instr::Jalr { rd, rs1, offset } => put_at(rd, offset, rs1, f),
             Instr::BranchIf {
-                branch,
                 rs1,
                 rs2,
                 offset,
+                ..
             } => {
-                let (name, to) = (branch_name(branch), branch_target(self.address, offset));
-                write!(f, "{name}\tx{},x{},0x{to:x}", rs1.number, rs2.number)
+                let to = branch_target(self.address, offset);
+                write!(f, "\tx{},x{},0x{to:x}", rs1.number, rs2.number)
             }
             Instr::LoadFrom {
-                load,
                 rd,
                 rs1,
                 offset,
-            } => {
-                let (name, by) = (load_name(load), signed(offset));
-                write!(f, "{name}\tx{},{by}(x{})", rd.number, rs1.number)
-            }
+                ..
+            } => put_at(rd, offset, rs1, f),
             Instr::StoreTo {
-                store,
                 rs1,
                 rs2,
                 offset,
-            } => {
-                let (name, by) = (store_name(store), signed(offset));
-                write!(f, "{name}\tx{},{by}(x{})", rs2.number, rs1.number)
-            }
+                ..
+            } => put_at(rs2, offset, rs1, f),
             Instr::OnImmediate {
-                operation,
                 rd,
                 rs1,
                 number,
-            } => {
-                let (name, by) = (immediate_name(operation), signed(number));
-                write!(f, "{name}\tx{},x{},{by}", rd.number, rs1.number)
-            }
+                ..
+            } => write!(f, "\tx{},x{},{}", rd.number, rs1.number, signed(number)),
             Instr::OnShift {
-                shift,
                 rd,
                 rs1,
                 amount,
-            } => {
-                let name = shift_name(shift);
-                write!(
-                    f,
-                    "{name}\tx{},x{},0x{:x}",
-                    rd.number, rs1.number, amount.bits
-                )
+                ..
+            } => write!(f, "\tx{},x{},0x{:x}", rd.number, rs1.number, amount.bits),
+            Instr::OnRegisters { rd, rs1, rs2, .. } => {
+                write!(f, "\tx{},x{},x{}", rd.number, rs1.number, rs2.number)
             }
-            Instr::OnRegisters {
-                operation,
-                rd,
-                rs1,
-                rs2,
-            } => {
-                let name = operation_name(operation);
-                write!(f, "{name}\tx{},x{},x{}", rd.number, rs1.number, rs2.number)
-            }
-            Instr::Ecall => write!(f, "ecall"),
+            Instr::Ecall => Ok(()),
         }
     }
+}
+
+/// A register, and a place so far from what another one has.
+fn put_at<W: fmt::Write>(
+    register: Register,
+    offset: Twelve,
+    from: Register,
+    f: &mut fmt::Formatter<W>,
+) -> fmt::Result {
+    let by = signed(offset);
+    write!(f, "\tx{},{by}(x{})", register.number, from.number)
 }
 
 /// Twelve bits as a signed number.
@@ -109,6 +104,23 @@ fn jump_target(address: u32, offset: JumpOffset) -> u32 {
         to
     } else {
         to.wrapping_sub(0x20_0000)
+    }
+}
+
+/// The name of an instruction.
+fn name_of(instr: Instr) -> &'static str {
+    match instr {
+        Instr::Lui { .. } => "lui",
+        Instr::Auipc { .. } => "auipc",
+        Instr::Jal { .. } => "jal",
+        Instr::Jalr { .. } => "jalr",
+        Instr::BranchIf { branch, .. } => branch_name(branch),
+        Instr::LoadFrom { load, .. } => load_name(load),
+        Instr::StoreTo { store, .. } => store_name(store),
+        Instr::OnImmediate { operation, .. } => immediate_name(operation),
+        Instr::OnShift { shift, .. } => shift_name(shift),
+        Instr::OnRegisters { operation, .. } => operation_name(operation),
+        Instr::Ecall => "ecall",
     }
 }
 
