@@ -13,6 +13,7 @@ use ec_base::list::Seq;
 use ec_code::code::Parts;
 use ec_inputs::nodes::{NodesError, read_nodes};
 use ec_inputs::schedule::{ScheduleError, read_schedule};
+use ec_inputs::words::DEFAULT_BUDGET;
 use ec_lowering::lower::lower;
 use ec_meaning::source::Program;
 use ec_meaning::types::kind_of;
@@ -30,9 +31,6 @@ use ec_world::running::Running;
 use ec_world::value::ValueType;
 use std::alloc::{AllocError, Global};
 use std::mem::replace;
-
-/// How many entries there are at most where no budget is given.
-const DEFAULT_BUDGET: u64 = 1_000_000;
 
 /// What happened in the run of a source on nodes along a schedule.
 pub(crate) fn watch(
@@ -57,7 +55,7 @@ pub(crate) fn watch(
         Err(ScheduleError::Refused { rule, line }) => return Err(Refused::Schedule { rule, line }),
         Err(ScheduleError::Memory) => return Err(Refused::Memory),
     };
-    let budget = budget.unwrap_or(DEFAULT_BUDGET);
+    let budget = budget.unwrap_or(u64::from(DEFAULT_BUDGET));
     match watch_run(alloc, &found, source, &specs, &entries, budget) {
         Ok(history) => Ok(history),
         Err(_) => Err(Refused::Memory),
