@@ -1,5 +1,6 @@
 -- One more object is noted.
 use Rattle.std.proofs.Common.{◌≡◌, ◌≢◌, ℕ, suc, List, Some, refl, sym, ◌∙◌, subst, arith}
+use Rattle.ec_cluster.proofs.Going.{made_moves}
 use Rattle.ec_cluster.proofs.Places.{gives_located, located}
 use Rattle.ec_cluster.specs.Cluster.{place}
 use Rattle.ec_cluster.specs.Makings.{Made}
@@ -33,4 +34,5 @@ module _ (c c' : Cluster) (maker oid : ℕ) (o : ObjectRec) (made : Made c c' ma
         count = one_more has;
         new = subst (λ x. place c' x ≡ place c maker) number (new_place has.node has.at ∙ sym has.at);
         others = λ other ne. gives.places other ∙ with_elsewhere (place c) oid other (Some has.node) (λ same. ne (same ∙ number));
+        moves = made_moves c.whereabouts c'.whereabouts oid has.node number (λ w gives'. made.noted w has.node gives' has.at);
       }

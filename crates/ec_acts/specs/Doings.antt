@@ -2,7 +2,7 @@
 use Rattle.std.specs.Prelude.{◌≡◌, ◌≢◌, ℕ, suc}
 use Rattle.ec_cluster.specs.Cluster.{CodeWorld, place}
 use Rattle.ec_cluster.specs.declared.cluster.Cluster.{Cluster}
-use Rattle.ec_cluster.specs.Whereabouts.{made_count}
+use Rattle.ec_cluster.specs.Whereabouts.{made_count, moves_of}
 use Rattle.ec_cluster.specs.SystemSteps.{Does}
 use Rattle.ec_cluster.specs.Systems.{Mirrors}
 use Rattle.ec_cluster.specs.declared.system.System.{System}
@@ -36,11 +36,12 @@ BringsNothing (Signals condition) = Unit {0}
 BringsNothing Finishes = Unit {0}
 BringsNothing (Breaks why line) = Unit {0}
 
--- There is one object more, where its maker is, and each other one is where it was.
+-- There is one object more, where its maker is, and each other one is where it was; none has moved.
 pub record OneMore (c c' : Cluster) (maker : ℕ) : Type 0 where
   pub count : made_count c'.whereabouts ≡ suc (made_count c.whereabouts)
   pub new : place c' (suc (made_count c.whereabouts)) ≡ place c maker
   pub others : (oid : ℕ) → oid ≢ suc (made_count c.whereabouts) → place c' oid ≡ place c oid
+  pub moves : (oid : ℕ) → moves_of c'.whereabouts oid ≡ moves_of c.whereabouts oid
 
 abbrev pub SamePlaces : Cluster → Cluster → Type 0
 SamePlaces c c' = c'.whereabouts ≡ c.whereabouts

@@ -1,11 +1,12 @@
 -- Objects get other places, one after another.
-use Rattle.std.proofs.Common.{◌≡◌, ◌≢◌, ℕ, ◌+◌, ◌≤◌, List, [], ◌∷◌, ◌++◌, length, take, Option, Some, refl, sym, ap, ◌∙◌, subst, arith, ⊎_elim}
+use Rattle.std.proofs.Common.{◌≡◌, ◌≢◌, ◌<◌, ◌-◌, ◌^◌, ℕ, ◌+◌, ◌≤◌, List, [], ◌∷◌, ◌++◌, length, take, Option, Some, refl, sym, ap, ◌∙◌, subst, arith, ⊎_elim}
 use Rattle.std.proofs.lemmas.Option.{same_Some}
 use Rattle.std.specs.Prelude.{Err, IsSome, Ok, OnOk, Result, slice_get}
 use Rattle.ec_base.proofs.Lists.{take_next}
 use Rattle.ec_carrying.specs.Moves.{AreAll, NotAny}
 use Rattle.ec_cluster.proofs.Places.{gives_located, located}
-use Rattle.ec_cluster.specs.Whereabouts.{Gives, Traces, made_count, place_at}
+use Rattle.ec_cluster.proofs.Going.{none_went, one_went, still_few, went_on}
+use Rattle.ec_cluster.specs.Whereabouts.{FewElsewhere, Gives, Traces, WentTo, made_count, moves_of, place_at}
 use Rattle.ec_cluster.specs.Located.{Located, moved_to, with_at}
 use Rattle.ec_world.proofs.Keys.{same_or_not}
 use Rattle.ec_world.specs.Held.{Distinct}
@@ -23,6 +24,7 @@ pub record Moving (old now : Traces) (objects : List ObjectPart) (from to i : �
   pub left : (j : ℕ) (part : ObjectPart) → i ≤ j → slice_get objects j ≡ Some part → place_at now part.number ≡ Some from
   pub others : (oid : ℕ) → NotAny (take i objects) oid → place_at now oid ≡ place_at old oid
   pub count : made_count now ≡ made_count old
+  pub went : WentTo to old now
 
 with_here : {A : Type 0} (f : ℕ → A) (oid : ℕ) (a : A) → with_at f oid a oid ≡ a
 with_here f oid a = grind arith
@@ -36,6 +38,11 @@ some_place x k e = rw e refl
 -- an object that was looked for is where it was
 pub still_there : (d d' : Traces) → ((w : Located) → Gives d w → Gives d' w) → (oid : ℕ) → place_at d' oid ≡ place_at d oid
 still_there d d' kept oid = (kept (located d) (gives_located d)).places oid
+
+-- and can move as it could
+pub may_move : (d d' : Traces) → ((w : Located) → Gives d w → Gives d' w) → (oid : ℕ) → moves_of d oid < 2 ^ 64 - 1 →
+    moves_of d' oid < 2 ^ 64 - 1
+may_move d d' kept oid few = subst (λ (m : ℕ). m < 2 ^ 64 - 1) (sym ((kept (located d) (gives_located d)).moves oid)) few
 
 -- and moves on from there
 pub goes_from : {A E : Type 0} (r : Result A E) (d d1 d2 : Traces) (oid at to : ℕ) → ((w : Located) → Gives d w → Gives d1 w) →
@@ -61,11 +68,20 @@ none_moved d objects from to there = record {
   left = λ j part l e. there part (record { at = j; is = e });
   others = λ oid h. refl;
   count = refl;
+  went = none_went to d d refl;
 }
 
 pub next_from : (old now : Traces) (objects : List ObjectPart) (from to i : ℕ) (part : ObjectPart) →
     Moving old now objects from to i → slice_get objects i ≡ Some part → place_at now part.number ≡ Some from
 next_from old now objects from to i part so e = so.left i part (omega arith) e
+
+-- it can move once more, as each object elsewhere could
+pub next_few : (old now : Traces) (objects : List ObjectPart) (from to i : ℕ) (part : ObjectPart) →
+    Moving old now objects from to i → slice_get objects i ≡ Some part → to ≢ from → FewElsewhere to old →
+    moves_of now part.number < 2 ^ 64 - 1
+next_few old now objects from to i part so e apart few =
+    still_few to old now so.went few part.number
+    (λ at. apart (same_Some to from (sym at ∙ next_from old now objects from to i part so e)))
 
 module _ (old now new : Traces) (objects : List ObjectPart) (from to i : ℕ) (part : ObjectPart)
     (once : Distinct (object_keys objects)) (so : Moving old now objects from to i) (is : slice_get objects i ≡ Some part)
@@ -102,6 +118,9 @@ module _ (old now new : Traces) (objects : List ObjectPart) (from to i : ℕ) (p
         (sym e))
         ∙ so.others oid (λ other b. not other (has_front other (take i objects) (part ∷ []) b));
     count = (moved now new part.number from to noted).made ∙ so.count;
+    went =
+        went_on to old now new so.went
+        (one_went now new part.number from to (next_from old now objects from to i part so is) noted);
   }
 
 pub all_moved : (old now : Traces) (objects : List ObjectPart) (from to i : ℕ) → length objects ≤ i →

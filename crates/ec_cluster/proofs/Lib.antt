@@ -1,6 +1,7 @@
 pub mod Places
 pub mod Noting
 pub mod Numbering
+pub mod Going
 pub mod Putting
 pub mod Changing
 pub mod Acting

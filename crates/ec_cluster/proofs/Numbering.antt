@@ -24,7 +24,7 @@ lacks : (x : Option Trace) → IsSome (option_map (λ t. (newest_of t).node) x) 
 lacks None h e = cc
 lacks (Some t) h e = cc
 
-within_or_past : (i n : ℕ) → (i ≤ n) ⊎ (n < i)
+pub within_or_past : (i n : ℕ) → (i ≤ n) ⊎ (n < i)
 within_or_past i n = of (leb_tells i n)
   where
     of : {A B C D : Type 0} → (A × B) ⊎ (C × D) → B ⊎ D

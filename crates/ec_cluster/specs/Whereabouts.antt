@@ -1,8 +1,9 @@
 -- The whereabouts of objects, which have the numbers from 1 on.
-use Rattle.std.specs.Prelude.{◌≡◌, ◌≢◌, ℕ, zero, suc, ◌<◌, ◌≤◌, List, length, Option, None, IsSome, option_map, unwrap_or, slice_get}
+use Rattle.std.specs.Prelude.{◌≡◌, ◌≢◌, ◌⊎◌, ◌-◌, ◌^◌, ℕ, zero, suc, ◌<◌, ◌≤◌, List, length, Option, None, Some, IsSome, option_map}
+use Rattle.std.specs.Prelude.{unwrap_or, slice_get}
 use Rattle.ec_cluster.specs.Each.{each_from}
 use Rattle.ec_cluster.specs.Located.{Located}
-use Rattle.ec_forwarding.specs.Addresses.{Addresses, with_address}
+use Rattle.ec_forwarding.specs.Addresses.{Addresses}
 use Rattle.ec_forwarding.specs.Forwardings.{ObjectTraces, addresses_in, trace_at}
 use Rattle.ec_forwarding.specs.declared.address.Address.{Address}
 use Rattle.ec_forwarding.specs.Traces.{Trace, first_trace, newest_of, start_of}
@@ -36,18 +37,44 @@ addresses_at d oid = addresses_in (known_of d oid)
 abbrev pub start_at : Traces → ℕ → ℕ → ℕ
 start_at d oid from = unwrap_or (option_map (λ t. start_of t from) (known_of d oid)) from
 
--- Of an object that went from one node to another both nodes have the address that it has there, behind one move more, and the other
--- nodes what they had.
-abbrev pub IsAddressed : Option Trace → Option Trace → ℕ → ℕ → Type 0
-IsAddressed before after from to =
-    let newest : Address = record { node = to; moves = suc (unwrap_or (option_map (λ t. (newest_of t).moves) before) 0) } in
-    from ≢ to → (k : ℕ) → addresses_in after k ≡ with_address (with_address (addresses_in before) to newest) from newest k
+-- the address of an object that goes to a node now
+abbrev pub address_on : Traces → ℕ → ℕ → Address
+address_on d oid to = record { node = to; moves = suc (moves_of d oid) }
 
 -- It is known of each object where it is, and how often it has moved.
 pub record Gives (d : Traces) (w : Located) : Type 0 where
   pub made : made_count d ≡ w.made
   pub places : (oid : ℕ) → place_at d oid ≡ w.place oid
   pub moves : (oid : ℕ) → moves_of d oid ≡ w.moves oid
+
+-- ---- how often objects move
+
+-- each object can move once more
+abbrev pub FewMoves : Traces → Type 0
+FewMoves d = (oid : ℕ) → moves_of d oid < 2 ^ 64 - 1
+
+-- so can each that isn't at node k
+abbrev pub FewElsewhere : ℕ → Traces → Type 0
+FewElsewhere k d = (oid : ℕ) → place_at d oid ≢ Some k → moves_of d oid < 2 ^ 64 - 1
+
+-- each object has moved at most once more
+abbrev pub MovedOnce : Traces → Traces → Type 0
+MovedOnce old new = (oid : ℕ) → moves_of new oid ≤ suc (moves_of old oid)
+
+-- An object is where it was, and has moved as often.
+pub record Stayed (old new : Traces) (oid : ℕ) : Type 0 where
+  pub place : place_at new oid ≡ place_at old oid
+  pub moves : moves_of new oid ≡ moves_of old oid
+
+-- An object has come to node k from elsewhere, by one move more.
+pub record CameTo (k : ℕ) (old new : Traces) (oid : ℕ) : Type 0 where
+  pub from : place_at old oid ≢ Some k
+  pub to : place_at new oid ≡ Some k
+  pub moves : moves_of new oid ≡ suc (moves_of old oid)
+
+-- objects have come to node k, or stayed
+abbrev pub WentTo : ℕ → Traces → Traces → Type 0
+WentTo k old new = (oid : ℕ) → Stayed old new oid ⊎ CameTo k old new oid
 
 -- ---- objects of any numbers, of which those from 1 on were noted
 

@@ -7,6 +7,7 @@ use Rattle.ec_activations.specs.Frames.{Numbered}
 use Rattle.ec_node_frames.specs.Carried.{IsCarried}
 use Rattle.ec_carrying.proofs.Steps.{places_along}
 use Rattle.ec_carrying.proofs.Texts.{back_fits}
+use Rattle.ec_cluster.proofs.Going.{moved_once}
 use Rattle.ec_cluster.proofs.Putting.{is_node}
 use Rattle.ec_cluster.specs.Cluster.{CodeWorld, Shows, frame_of, place, stores}
 use Rattle.ec_cluster.specs.Steps.{Changes, HasObject, HasPlace, Nothing, with_common}
@@ -17,7 +18,7 @@ use Rattle.ec_acts.proofs.ObjectsLemmas.{length_changed}
 use Rattle.ec_acts.proofs.Stepping.{Beside, mirrors_with_common, with_cluster}
 use Rattle.ec_fullness.proofs.Keeping.{steady_after}
 use Rattle.ec_fullness.proofs.Shown.{has_object}
-use Rattle.ec_cluster.specs.Whereabouts.{Traces, made_count, place_at}
+use Rattle.ec_cluster.specs.Whereabouts.{MovedOnce, Traces, WentTo, made_count, place_at}
 use Rattle.ec_fullness.specs.Fullness.{IsFull, gathered}
 use Rattle.ec_gathering.proofs.Along.{but_back, but_then, packs_along}
 use Rattle.ec_gathering.proofs.Changing.{changes_before, changes_behind}
@@ -77,6 +78,12 @@ objects_gone : (c : Common) (members : List ℕ) (target : ℕ) (fixes : Option 
     length (gone c members target fixes).objects ≡ length c.objects
 objects_gone c members target None = refl
 objects_gone c members target (Some x) = length_changed c.objects (flagged_so true) x
+
+-- each object has moved at most once more
+pub gone_once : (k : ℕ) (old loose mid new : Traces) → loose ≡ old → WentTo k loose mid → new ≡ mid → MovedOnce old new
+gone_once k old loose mid new before went behind =
+    subst (λ (d : Traces). MovedOnce d new) before
+    (subst (λ (d : Traces). MovedOnce loose d) (sym behind) (moved_once k loose mid went))
 
 -- ---- a group that may go
 

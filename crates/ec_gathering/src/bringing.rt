@@ -2,6 +2,7 @@
 ghost use Rattle.std.specs.Prelude.{◌≡◌, ℕ, false, true, List, IfSome, OnOk};
 ghost use Rattle.ec_cluster.specs.Cluster.{CodeWorld, Shows};
 ghost use Rattle.ec_cluster.specs.Steps.{Changes, HasObject, Nothing, with_common};
+ghost use Rattle.ec_cluster.specs.Whereabouts.{FewElsewhere, WentTo};
 ghost use Rattle.ec_code.specs.Typing.{Declared};
 ghost use Rattle.ec_gathering.specs.Bringing.{Brings, BringsSome, Brought, flag_if};
 
@@ -14,8 +15,7 @@ use ec_world::value::{NodeNo, Oid};
 use std::alloc::{AllocError, Global};
 
 /// The things of these parcels come to a node, those of one parcel after another. No object of the group is fixed. The error is want of
-/// memory, that an object has moved 2^64 - 1 times, or that the node has 2^32 - 1 texts or references; what the nodes keep is then left
-/// open.
+/// memory, or that the node has 2^32 - 1 texts or references; what the nodes keep is then left open.
 pub(crate) fn bring(
     cluster: &mut Cluster,
     alloc: Global,
@@ -23,9 +23,11 @@ pub(crate) fn bring(
     shipments: &[Shipment],
     to: NodeNo,
 ) -> Result<(), AllocError>
-    requires { BringsSome numbers.now cluster.old shipments.now to }
-    ensures { OnOk result ((d : Declared) (w : CodeWorld) (members : List ℕ) →
+    requires brings { BringsSome numbers.now cluster.old shipments.now to }
+    requires few { FewElsewhere to cluster.old.whereabouts }
+    ensures brought { OnOk result ((d : Declared) (w : CodeWorld) (members : List ℕ) →
         Brings d numbers.now cluster.old w members to shipments.now → Brought cluster.old cluster.new w members to) }
+    ensures went { OnOk result (WentTo to cluster.old.whereabouts cluster.new.whereabouts) }
 {
     for shipment in shipments {
         carry(

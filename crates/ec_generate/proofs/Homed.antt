@@ -1,7 +1,7 @@
 -- The homes of a table fit the code of its operation.
-use Rattle.std.proofs.Common.{◌≡◌, ◌≢◌, ℕ, zero, suc, ◌+◌, ◌<◌, ◌≤◌, ◌⊎◌, inl, inr, ⊎_elim, Bool, true, false, ◌||◌, List, [], ◌∷◌, ◌++◌}
-use Rattle.std.proofs.Common.{drop, length, map}
-use Rattle.std.proofs.Common.{Option, Some, None, refl, sym, ap, ◌∙◌, subst, arith}
+use Rattle.std.proofs.Common.{◌≡◌, ◌≢◌, ℕ, zero, suc, inl, inr, Bool, true, false, ◌||◌, List, [], ◌∷◌, ◌++◌}
+use Rattle.std.proofs.Common.{drop, map}
+use Rattle.std.proofs.Common.{Some, refl, sym, ap, ◌∙◌, subst, arith}
 use Rattle.std.specs.Prelude.{slice_get}
 use Rattle.std.proofs.lemmas.Bool.Decides.{nat_tests}
 use Rattle.std.proofs.lemmas.Option.{same_Some}
@@ -11,10 +11,10 @@ use Rattle.ec_code.specs.declared.code.Line.{Line}
 use Rattle.ec_code.specs.declared.code.Live.{Live}
 use Rattle.ec_code.specs.declared.code.Variable.{Variable}
 use Rattle.ec_code.specs.declared.code.Variable.TheVariants.{Named, Temporary}
-use Rattle.ec_machine_code.specs.Limits.{HasColumn, HasColumns}
+use Rattle.ec_machine_code.specs.Limits.{HasColumn}
 use Rattle.ec_types.specs.declared.conform.static_type.StaticType.{StaticType}
-use Rattle.ec_machine_code.specs.Homes.{AreHomes, IsVariable, IsWithin, LivesIn, column}
-use Rattle.ec_machine_code.specs.Meeting.{Meet, all_if, live_first, live_in, met_at, met_behind, met_by}
+use Rattle.ec_machine_code.specs.Homes.{AreHomes, IsVariable, IsWithin, column}
+use Rattle.ec_machine_code.specs.Meeting.{all_if, live_first, live_in, met_at, met_behind, met_by}
 use Rattle.ec_machine_code.specs.declared.homes.Home.{Home}
 use Rattle.ec_code.specs.Live.{writes}
 use Rattle.ec_code.specs.Marks.{is_among, is_same}

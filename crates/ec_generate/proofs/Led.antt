@@ -1,21 +1,26 @@
--- Steps that are laid out, by what is known of results that go at once to where they are copied.
-use Rattle.std.proofs.Common.{◌≡◌, ◌≢◌, ℕ, zero, suc, ◌+◌, ◌-◌, ◌≤◌, Bool, true, false, cond, List, [], ◌∷◌, drop, length, map, Option}
-use Rattle.std.proofs.Common.{Some, None, refl, sym, ap, ◌∙◌, arith}
-use Rattle.std.specs.Prelude.{slice_get}
+-- Steps that are laid out, by what is known of those that are laid out together, and of where code leads on.
+use Rattle.std.proofs.Common.{◌≡◌, ◌≢◌, ℕ, zero, suc, ◌+◌, ◌-◌, ◌<◌, ◌≤◌, ◌^◌, Bool, true, false, List, [], ◌∷◌, drop, length, Option}
+use Rattle.std.proofs.Common.{Some, None, refl, sym, ap, ◌∙◌, arith, if◌then◌else◌, lt-ltb, ltb-true}
+use Rattle.std.specs.Prelude.{nat_lt, slice_get}
 use Rattle.ec_base.proofs.Lists.{drop_at}
 use Rattle.ec_code.specs.Fine.{live_at, live_if}
 use Rattle.ec_code.specs.declared.code.Line.{Line}
-use Rattle.ec_code.specs.declared.code.Live.{Live}
 use Rattle.ec_code.specs.declared.code.Op.{Op}
+use Rattle.ec_code.specs.declared.code.Op.TheVariants as op
+use Rattle.ec_code.specs.declared.code.Test.{Test}
 use Rattle.ec_code.specs.declared.code.Variable.{Variable}
-use Rattle.ec_code.specs.declared.code.Variable.TheVariants.{Temporary}
 use Rattle.ec_machine_code.specs.declared.homes.Home.{Home}
-use Rattle.ec_code.specs.Marks.{is_among}
-use Rattle.ec_machine_code.proofs.Direct.{nothing_moved, same_ending}
-use Rattle.ec_machine_code.specs.Direct.{direct_before, direct_by, direct_if, direct_of, if_so, into_named, is_unled, laid_by, laid_op, led_to}
-use Rattle.ec_machine_code.specs.Direct.{marked}
-use Rattle.ec_machine_code.specs.Direct.{marked_one, temporary_of}
+use Rattle.ec_machine_code.specs.declared.joined.Joined.{Joined}
+use Rattle.ec_machine_code.specs.declared.joined.Joined.TheVariants.{Asks, Into}
+use Rattle.ec_machine_code.proofs.Direct.{is_joined, left_ending, none_made, nothing_moved, same_ending}
+use Rattle.ec_machine_code.specs.Direct.{asking, further, if_so, into_named, is_unled, joined_before, joined_if, joined_line, joined_of}
+use Rattle.ec_machine_code.specs.Direct.{joined_with, laid_by, laid_op, led_far, led_on, led_to, left_out, marked, marked_one, most_led, passed_if}
 use Rattle.ec_machine_code.specs.Lowering.{ending_of, steps_of}
+
+pub none_past : (code : List Line) (p : ℕ) → length code ≤ p → slice_get code p ≡ None
+none_past [] p h = refl
+none_past (l ∷ ls) zero h = absurd (omega arith)
+none_past (l ∷ ls) (suc p) h = none_past ls p (omega arith)
 
 pub live_there : (code : List Line) (p : ℕ) (line : Line) → slice_get code p ≡ Some line → live_at code p ≡ line.live
 live_there code p line e = ap live_if e
@@ -23,84 +28,206 @@ live_there code p line e = ap live_if e
 pub none_there : (code : List Line) (p : ℕ) → slice_get code p ≡ None → live_at code p ≡ []
 none_there code p e = ap live_if e
 
--- there is no step that copies it
-nothing_copied : (t u : Bool) → if_so t (cond u None None) ≡ None
-nothing_copied true true = refl
-nothing_copied true false = refl
-nothing_copied false u = refl
+pub next_live : (code : List Line) (p : ℕ) → live_at code (suc (p + 0)) ≡ live_at code (suc p)
+next_live code p = let e : p + 0 ≡ p = omega arith in ap (λ k. live_at code (suc k)) e
 
-pub none_next :
-    (code : List Line) (p d : ℕ) (unled : Bool) (behind : List Live) → length code ≤ p →
-    direct_by (Some d) (slice_get code p) unled behind ≡ None
-none_next code p d unled behind h =
-    let among = is_among (Temporary d) (map (λ l. l.variable) behind) in
-    ap (λ (o : Option Line). direct_by (Some d) o unled behind) (none_at code p h) ∙ nothing_copied unled among
-  where
-    none_at : (xs : List Line) (i : ℕ) → length xs ≤ i → slice_get xs i ≡ None
-    none_at [] i le = refl
-    none_at (x ∷ xs) zero le = absurd (omega arith)
-    none_at (x ∷ xs) (suc i) le = none_at xs i (omega arith)
+-- ---- where code leads on
 
-pub second_next : (code : List Line) (p : ℕ) → live_at code (p + 1 + 1) ≡ live_at code (p + 2)
-second_next code p = let e : p + 1 + 1 ≡ p + 2 = omega arith in ap (live_at code) e
+pub most_is : most_led ≡ 16
+unfolding most_led
+most_is = refl
 
--- the step at a place puts its result into a temporary, or it doesn't
-pub direct_next :
-    (code : List Line) (q d : ℕ) (o : Op) → temporary_of o ≡ Some d →
-    direct_of code q o
-    ≡ direct_by (Some d) (slice_get code (q + 1)) (is_unled (slice_get (led_to code) (q + 1))) (live_at code (q + 2))
-direct_next code q d o e =
-    let one : suc q ≡ q + 1 = omega arith in
-    let two : suc (suc q) ≡ q + 2 = omega arith in
-    ap (λ t. direct_by t (slice_get code (suc q)) (is_unled (slice_get (led_to code) (suc q))) (live_at code (suc (suc q)))) e
-    ∙ ap (λ i. direct_by (Some d) (slice_get code i) (is_unled (slice_get (led_to code) i)) (live_at code (suc (suc q)))) one
-    ∙ ap (λ i. direct_by (Some d) (slice_get code (q + 1)) (is_unled (slice_get (led_to code) (q + 1))) (live_at code i)) two
+module _ (code : List Line) (known : Option Variable) (value : Bool) (q : ℕ) where
+  -- how many steps the one passes over that stands past so many
+  abbrev passes : ℕ → Option ℕ
+  passes over = passed_if known value (slice_get code (suc (q + over)))
 
-pub direct_none : (code : List Line) (q : ℕ) (o : Op) → temporary_of o ≡ None → direct_of code q o ≡ None
-direct_none code q o e =
-    ap (λ t. direct_by t (slice_get code (suc q)) (is_unled (slice_get (led_to code) (suc q))) (live_at code (suc (suc q)))) e
+  chosen_so : (b : Bool) (x y : ℕ) → b ≡ true → (if b then x else y) ≡ x
+  chosen_so true x y e = refl
+  chosen_so false x y e = absurd (let no : false ≡ true = e in cc)
+
+  chosen_else : (b : Bool) (x y : ℕ) → b ≡ false → (if b then x else y) ≡ y
+  chosen_else true x y e = absurd (let no : true ≡ false = e in cc)
+  chosen_else false x y e = refl
+
+  not_below : (a b : ℕ) → b ≤ a → nat_lt a b ≡ false
+  not_below a b h = by (nat_lt a b) refl
+    where
+      by : (t : Bool) → nat_lt a b ≡ t → nat_lt a b ≡ false
+      by true e = let l = ltb-true a b e in absurd (omega (arith, h, l))
+      by false e = e
+
+  pub led_zero : (most over : ℕ) → most ≡ 0 → led_on most code known value q over ≡ over
+  led_zero most over e = ap (λ n. led_on n code known value q over) e
+
+  pub led_ends : (most over : ℕ) → passed_if known value (slice_get code (suc (q + over))) ≡ None →
+      led_on most code known value q over ≡ over
+  led_ends zero over e = refl
+  led_ends (suc n) over e = ap (further (led_on n code known value q) over) e
+
+  pub led_further : (most over more : ℕ) → most ≢ 0 → passed_if known value (slice_get code (suc (q + over))) ≡ Some more →
+      suc (over + more) < 2 ^ 32 → led_on most code known value q over ≡ led_on (most - 1) code known value q (suc (over + more))
+  led_further zero over more some e h = absurd (some refl)
+  led_further (suc n) over more some e h =
+      let on : n ≡ suc n - 1 = omega arith in
+      ap (further (led_on n code known value q) over) e
+      ∙ chosen_so (nat_lt (suc (over + more)) (2 ^ 32)) (led_on n code known value q (suc (over + more))) over
+      (lt-ltb (suc (over + more)) (2 ^ 32) h)
+      ∙ ap (λ k. led_on k code known value q (suc (over + more))) on
+
+  pub led_no_further : (most over more : ℕ) → passed_if known value (slice_get code (suc (q + over))) ≡ Some more →
+      2 ^ 32 ≤ suc (over + more) → led_on most code known value q over ≡ over
+  led_no_further zero over more e h = refl
+  led_no_further (suc n) over more e h =
+      ap (further (led_on n code known value q) over) e
+      ∙ chosen_else (nat_lt (suc (over + more)) (2 ^ 32)) (led_on n code known value q (suc (over + more))) over
+      (not_below (suc (over + more)) (2 ^ 32) h)
+
+-- ---- steps that are laid out with the next one
+
+module _ (code : List Line) (q : ℕ) (o : Op) where
+  abbrev joined_next_at : ℕ → Option Joined
+  joined_next_at n = if_so (is_unled (slice_get (led_to code) n)) (joined_if code n o (slice_get code n))
+
+  by_next : joined_of code q o ≡ joined_next_at (q + 1)
+  by_next = let one : suc q ≡ q + 1 = omega arith in ap joined_next_at one
+
+  pub is_led_to : is_unled (slice_get (led_to code) (q + 1)) ≡ false → joined_of code q o ≡ None
+  is_led_to e = by_next ∙ ap (λ b. if_so b (joined_if code (q + 1) o (slice_get code (q + 1)))) e
+
+  nothing : (b : Bool) → if_so b None ≡ None
+  nothing true = refl
+  nothing false = refl
+
+  pub none_next : slice_get code (q + 1) ≡ None → joined_of code q o ≡ None
+  none_next e =
+      by_next ∙ ap (λ n. if_so (is_unled (slice_get (led_to code) (q + 1))) (joined_if code (q + 1) o n)) e
+      ∙ nothing (is_unled (slice_get (led_to code) (q + 1)))
+
+  pub past_end : length code ≤ q + 1 → joined_of code q o ≡ None
+  past_end h = none_next (none_past code (q + 1) h)
+
+  pub joined_next :
+      (line : Line) → is_unled (slice_get (led_to code) (q + 1)) ≡ true → slice_get code (q + 1) ≡ Some line →
+      joined_of code q o ≡ joined_with code (q + 1) o line.op
+  joined_next line e f =
+      by_next ∙ ap (λ b. if_so b (joined_if code (q + 1) o (slice_get code (q + 1)))) e ∙ ap (joined_if code (q + 1) o) f
 
 -- what is known of the step before a place
-pub direct_is :
+pub joined_is :
     (code : List Line) (p : ℕ) (line : Line) → slice_get code (p - 1) ≡ Some line → p ≢ 0 →
-    direct_before code p ≡ direct_of code (p - 1) line.op
-direct_is code zero line e some = absurd (some refl)
-direct_is code (suc p) line e some =
+    joined_before code p ≡ joined_of code (p - 1) line.op
+joined_is code zero line e some = absurd (some refl)
+joined_is code (suc p) line e some =
     let one : suc p - 1 ≡ p = omega arith in
     let there : slice_get code p ≡ Some line = ap (slice_get code) (sym one) ∙ e in
-    ap (direct_if code p) there ∙ ap (λ i. direct_of code i line.op) (sym one)
+    ap (joined_line code p) there ∙ ap (λ i. joined_of code i line.op) (sym one)
 
-module _ (home : Variable → Home) (code : List Line) (q : ℕ) (o : Op) where
-  -- a copy that is done already has no words
-  pub no_steps : (n : ℕ) → direct_before code q ≡ Some n → steps_of home (laid_op code q o) ≡ []
-  no_steps n e = ap (λ b. steps_of home (laid_by b (direct_of code q o) o)) e ∙ nothing_moved home n
+-- ---- words
 
-  pub named_steps :
-      (n : ℕ) → direct_before code q ≡ None → direct_of code q o ≡ Some n →
-      steps_of home (laid_op code q o) ≡ steps_of home (into_named n o)
-  named_steps n e f =
-      ap (λ b. steps_of home (laid_by b (direct_of code q o) o)) e ∙ ap (λ b. steps_of home (laid_by None b o)) f
+module _ (home : Variable → Home) (code : List Line) (q : ℕ) where
+  pub far_steps : (o : Op) → steps_of home (led_far code q o) ≡ steps_of home o
+  far_steps (op.Copy to from) = refl
+  far_steps (op.Literal to index) = refl
+  far_steps (op.Itself to) = refl
+  far_steps (op.Field to field) = refl
+  far_steps (op.SetField field from) = refl
+  far_steps (op.Constant to index) = refl
+  far_steps (op.Compute how to left right) = refl
+  far_steps (op.Decide to t wanted) = refl
+  far_steps (op.Branch t wanted over) = refl
+  far_steps (op.Jump over) = refl
+  far_steps (op.Again back) = refl
+  far_steps (op.Rest row) = refl
 
-  pub own_steps : direct_before code q ≡ None → direct_of code q o ≡ None → steps_of home (laid_op code q o) ≡ steps_of home o
-  own_steps e f =
-      ap (λ b. steps_of home (laid_by b (direct_of code q o) o)) e ∙ ap (λ b. steps_of home (laid_by None b o)) f
+  pub far_into : (n : ℕ) (o : Op) → steps_of home (into_named n (led_far code q o)) ≡ steps_of home (into_named n o)
+  far_into n (op.Copy to from) = refl
+  far_into n (op.Literal to index) = refl
+  far_into n (op.Itself to) = refl
+  far_into n (op.Field to field) = refl
+  far_into n (op.SetField field from) = refl
+  far_into n (op.Constant to index) = refl
+  far_into n (op.Compute how to left right) = refl
+  far_into n (op.Decide to t wanted) = refl
+  far_into n (op.Branch t wanted over) = refl
+  far_into n (op.Jump over) = refl
+  far_into n (op.Again back) = refl
+  far_into n (op.Rest row) = refl
 
-  pub no_ending : (n : ℕ) → direct_before code q ≡ Some n → ending_of home (laid_op code q o) ≡ None
-  no_ending n e = ap (λ b. ending_of home (laid_by b (direct_of code q o) o)) e
+  pub asking_far : (t : Test) (wanted : Bool) (o : Op) → steps_of home (asking t wanted (led_far code q o)) ≡ steps_of home o
+  asking_far t wanted (op.Copy to from) = refl
+  asking_far t wanted (op.Literal to index) = refl
+  asking_far t wanted (op.Itself to) = refl
+  asking_far t wanted (op.Field to field) = refl
+  asking_far t wanted (op.SetField field from) = refl
+  asking_far t wanted (op.Constant to index) = refl
+  asking_far t wanted (op.Compute how to left right) = refl
+  asking_far t wanted (op.Decide to u is_true) = refl
+  asking_far t wanted (op.Branch u is_true over) = refl
+  asking_far t wanted (op.Jump over) = refl
+  asking_far t wanted (op.Again back) = refl
+  asking_far t wanted (op.Rest row) = refl
 
-  pub laid_ending : (k : Option ℕ) → ending_of home (laid_by None k o) ≡ ending_of home o
-  laid_ending None = refl
-  laid_ending (Some n) = same_ending home n o
+  -- a truth value that the next step asks for isn't made
+  pub left_far :
+      (t : Test) (wanted : Bool) (o : Op) → joined_of code q o ≡ Some (Asks t wanted) → steps_of home (left_out (led_far code q o)) ≡ []
+  left_far t wanted o e =
+      let d = is_joined code q o (Asks t wanted) e in
+      ap (λ i. steps_of home (left_out (led_far code q i))) d.decides ∙ none_made home _ t wanted
 
-  pub own_ending : direct_before code q ≡ None → ending_of home (laid_op code q o) ≡ ending_of home o
-  own_ending e = ap (λ b. ending_of home (laid_by b (direct_of code q o) o)) e ∙ laid_ending (direct_of code q o)
+  module _ (o : Op) where
+    abbrev far : Op
+    far = led_far code q o
+
+    abbrev here : Option Joined
+    here = joined_of code q o
+
+    -- a copy that is done already has no words
+    pub no_steps : (n : ℕ) → joined_before code q ≡ Some (Into n) → steps_of home (laid_op code q o) ≡ []
+    no_steps n e = ap (λ b. steps_of home (laid_by b here far)) e ∙ nothing_moved home n
+
+    pub question_steps :
+        (t : Test) (wanted : Bool) → joined_before code q ≡ Some (Asks t wanted) → steps_of home (laid_op code q o) ≡ steps_of home o
+    question_steps t wanted e = ap (λ b. steps_of home (laid_by b here far)) e ∙ asking_far t wanted o
+
+    pub named_steps :
+        (n : ℕ) → joined_before code q ≡ None → joined_of code q o ≡ Some (Into n) →
+        steps_of home (laid_op code q o) ≡ steps_of home (into_named n o)
+    named_steps n e f =
+        ap (λ b. steps_of home (laid_by b here far)) e ∙ ap (λ b. steps_of home (laid_by None b far)) f ∙ far_into n o
+
+    pub asked_steps :
+        (t : Test) (wanted : Bool) → joined_before code q ≡ None → joined_of code q o ≡ Some (Asks t wanted) →
+        steps_of home (laid_op code q o) ≡ []
+    asked_steps t wanted e f =
+        ap (λ b. steps_of home (laid_by b here far)) e ∙ ap (λ b. steps_of home (laid_by None b far)) f ∙ left_far t wanted o f
+
+    pub own_steps : joined_before code q ≡ None → joined_of code q o ≡ None → steps_of home (laid_op code q o) ≡ steps_of home o
+    own_steps e f =
+        ap (λ b. steps_of home (laid_by b here far)) e ∙ ap (λ b. steps_of home (laid_by None b far)) f ∙ far_steps o
+
+    pub no_ending : (n : ℕ) → joined_before code q ≡ Some (Into n) → ending_of home (laid_op code q o) ≡ None
+    no_ending n e = ap (λ b. ending_of home (laid_by b here far)) e
+
+    pub asking_ending :
+        (t : Test) (wanted : Bool) → joined_before code q ≡ Some (Asks t wanted) →
+        ending_of home (laid_op code q o) ≡ ending_of home (asking t wanted (led_far code q o))
+    asking_ending t wanted e = ap (λ b. ending_of home (laid_by b here far)) e
+
+    pub laid_ending : (k : Option Joined) → ending_of home (laid_by None k (led_far code q o)) ≡ ending_of home (led_far code q o)
+    laid_ending None = refl
+    laid_ending (Some (Into n)) = same_ending home n far
+    laid_ending (Some (Asks t wanted)) = left_ending home far
+
+    pub own_ending : joined_before code q ≡ None → ending_of home (laid_op code q o) ≡ ending_of home (led_far code q o)
+    own_ending e = ap (λ b. ending_of home (laid_by b here far)) e ∙ laid_ending here
 
 -- ---- the loop that marks places
 
 pub marked_next :
     (code : List Line) (q : ℕ) (line : Line) (marks : List Bool) → slice_get code q ≡ Some line →
-    marked (q + 1) (drop (q + 1) code) (marked_one q line.op marks) ≡ marked q (drop q code) marks
+    marked code (q + 1) (drop (q + 1) code) (marked_one q (led_far code q line.op) marks) ≡ marked code q (drop q code) marks
 marked_next code q line marks e =
     let next : q + 1 ≡ suc q = omega arith in
-    ap (λ k. marked k (drop (q + 1) code) (marked_one q line.op marks)) next
-    ∙ sym (ap (λ ls. marked q ls marks) (drop_at code q line e))
+    ap (λ k. marked code k (drop (q + 1) code) (marked_one q (led_far code q line.op) marks)) next
+    ∙ sym (ap (λ ls. marked code q ls marks) (drop_at code q line e))

@@ -13,11 +13,26 @@ use Rattle.ec_code.specs.declared.code.Variable.{Variable}
 use Rattle.ec_machine_code.specs.Stops.{places_from, stop_of, with_place}
 use Rattle.ec_generate.specs.Puts.{IsSized}
 use Rattle.ec_machine_code.specs.declared.homes.Home.{Home}
-use Rattle.ec_machine_code.specs.Layout.{IsOrder, before, first_of, op_size, op_words, place, size_at, size_if, size_of, words_from, words_if}
+use Rattle.ec_machine_code.specs.Layout.{IsOrder, before, ending_words, first_of, op_size, op_words, place, plain_size, size_at, size_if}
+use Rattle.ec_machine_code.specs.Layout.{size_of, words_from, words_if, words_of_steps}
+use Rattle.ec_machine_code.specs.Lowering.{ending_of, steps_of}
 use Rattle.ec_machine_code.specs.Once.{AreDifferent}
 use Rattle.ec_machine_code.specs.Speaks.{Vocabulary}
 use Rattle.ec_machine_code.proofs.Different.{same_or_not}
 use Rattle.ec_machine_code.proofs.LaidOutSizes.{before_here, before_none, before_there, in_rest, op_long}
+
+-- the words of a step of three-address code: those of its steps on words, and behind them those that lead on
+pub words_behind :
+    (V : Vocabulary) (home : Variable → Home) (place_of : ℕ → ℕ) (next p : ℕ) (o : Op) (old mid new : List ℕ) →
+    mid ≡ old ++ words_of_steps V (steps_of home o) →
+    new ≡ mid ++ ending_words V place_of next p (length mid) (ending_of home o) →
+    new ≡ old ++ op_words V home place_of next p (length old) o
+words_behind V home place_of next p o old mid new first second =
+    let ws = words_of_steps V (steps_of home o) in
+    let from = length old + plain_size V home o in
+    let ending = λ (n : ℕ). ending_words V place_of next p n (ending_of home o) in
+    let long : length mid ≡ from = ap length first ∙ length-append old ws in
+    second ∙ ap (λ n. mid ++ ending n) long ∙ ap (λ l. l ++ ending from) first ∙ append_assoc old ws (ending from)
 
 -- Loops by what remains: what is there, and what is made of the rest, is all.
 module _ (V : Vocabulary) (home : Variable → Home) (ops : List Op) (order : List ℕ) (start : ℕ) where

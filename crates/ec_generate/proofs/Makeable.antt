@@ -1,11 +1,11 @@
 -- Words can be written for each step of a well typed program with homes that fit.
-use Rattle.std.proofs.Common.{◌≡◌, ℕ, suc, ◌+◌, ◌<◌, ◌≤◌, ◌^◌, inl, inr, Bool, true, false, List, [], ◌∷◌, ◌++◌, length, drop}
-use Rattle.std.proofs.Common.{length-drop, Some, None, Option, refl, sym, ap, ◌∙◌, subst, arith, cond}
+use Rattle.std.proofs.Common.{◌≡◌, ℕ, zero, suc, ◌+◌, ◌<◌, ◌≤◌, ◌^◌, inl, inr, Bool, true, false, List, [], ◌∷◌, ◌++◌, length, drop}
+use Rattle.std.proofs.Common.{Some, None, Option, refl, sym, ap, ◌∙◌, subst, arith, cond}
 use Rattle.std.specs.Prelude.{slice_get, All}
 use Rattle.std.proofs.lemmas.List.Elements.{All-get_or}
 use Rattle.std.proofs.lemmas.Option.{same_Some, slice_get-get_or}
 use Rattle.ec_base.proofs.Lists.{get_within}
-use Rattle.ec_code.specs.Fine.{Fine, FineOperation, FineOp, IsFieldOf, IsIn}
+use Rattle.ec_code.specs.Fine.{Fine, FineOperation, FineOp, IsFieldOf, IsIn, Passes}
 use Rattle.ec_code.specs.Typing.{Declared, DeclaredClass, field_types, fields_if}
 use Rattle.ec_code.specs.declared.code.Line.{Line}
 use Rattle.ec_code.specs.declared.code.Live.{Live}
@@ -18,20 +18,23 @@ use Rattle.ec_code.specs.declared.code.Parts.{Parts}
 use Rattle.ec_code.specs.declared.code.Test.{Test}
 use Rattle.ec_code.specs.declared.code.Test.TheVariants as test
 use Rattle.ec_code.specs.declared.code.Variable.{Variable}
-use Rattle.ec_code.specs.declared.code.Variable.TheVariants.{Named}
+use Rattle.ec_code.specs.declared.code.Variable.TheVariants.{Named, Temporary}
 use Rattle.ec_machine_code.specs.Limits.{HasFewFields, HasLimits, IsSmallOperation}
 use Rattle.ec_types.specs.declared.conform.static_type.StaticType.{StaticType}
 use Rattle.ec_machine_code.specs.Frames.{block_words, slots}
 use Rattle.ec_generate.specs.Puts.{CanPutQuestion, CanPutSource}
-use Rattle.ec_generate.proofs.Led.{laid_ending}
+use Rattle.ec_generate.proofs.Led.{asking_far, far_into, far_steps, laid_ending, left_far}
 use Rattle.ec_generate.specs.Sites.{CanPutAll, CanPutEnding, IsMakeable, home_there, ops_there}
 use Rattle.ec_generate.specs.declared.site.Site.{Site}
 use Rattle.ec_machine_code.specs.Homes.{IsWithin}
 use Rattle.ec_machine_code.specs.declared.homes.Home.{Home}
 use Rattle.ec_code.specs.Live.{read_by, read_in, reads, writes}
-use Rattle.ec_machine_code.proofs.Direct.{IsDirect, is_direct, line_there, nothing_moved, ops_long}
+use Rattle.ec_machine_code.proofs.Direct.{IsDirect, is_joined, joined_there, line_there, nothing_moved, ops_long}
 use Rattle.ec_machine_code.proofs.FineAt.{fine_at}
-use Rattle.ec_machine_code.specs.Direct.{direct_before, direct_of, into_named, laid_by, laid_op}
+use Rattle.ec_machine_code.proofs.Leading.{leads_far, leads_to}
+use Rattle.ec_machine_code.specs.Direct.{asked_for, asking, far_over, into_named, joined_before, joined_of, laid_by, laid_op, led_far}
+use Rattle.ec_machine_code.specs.declared.joined.Joined.{Joined}
+use Rattle.ec_machine_code.specs.declared.joined.Joined.TheVariants.{Asks, Into}
 use Rattle.ec_machine_code.specs.Fitting.{HomesFit, IsNamedBy}
 use Rattle.ec_machine_code.specs.Layout.{home_of, home_or, ops_of}
 use Rattle.ec_machine_code.specs.Lowering.{branch_by, ending_of, is_there, known, question_of, source_of, steps_of}
@@ -39,6 +42,7 @@ use Rattle.ec_machine_code.specs.declared.step.Question.{Question}
 use Rattle.ec_machine_code.specs.declared.step.Source.{Source}
 use Rattle.ec_machine_code.specs.declared.step.Step.TheVariants as step
 use Rattle.ec_world.proofs.Related.{all-length}
+use Rattle.ec_world.specs.Same.{is_same_truth}
 use Rattle.ec_world.specs.declared.class.ClassNo.{ClassNo}
 use Rattle.ec_world.specs.declared.class.ClassNo.TheVariants.{Node, Program, Made, Vector}
 
@@ -107,10 +111,7 @@ module _ (registers : ℕ) (home : Variable → Home) where
   steps_put (op.Again back) r w few = tt
   steps_put (op.Rest row) r w few = tt
 
-  module _ (d : Declared) (p : Parts) (number : ℕ) (o : Operation) (q : ℕ) where
-    behind : (over : ℕ) → over < length (drop (suc q) o.code) → suc (q + over) < length o.code
-    behind over h = omega (arith, h, length-drop (suc q) o.code)
-
+  module _ (d : Declared) (p : Parts) (number : ℕ) (o : Operation) (all_fine : FineOperation d p number o) (q : ℕ) where
     branch_puts :
         (k : Option Bool) (question : Question) (over : ℕ) → CanPutQuestion registers question → suc (q + over) < length o.code →
         CanPutEnding registers (length o.code) q (branch_by k question over)
@@ -118,13 +119,29 @@ module _ (registers : ℕ) (home : Variable → Home) where
     branch_puts (Some true) question over puts h = h
     branch_puts (Some false) question over puts h = tt
 
+    -- there is code where a way leads on
+    pub far_within :
+        (known : Option Variable) (value : Bool) (over : ℕ) (live : List Live) → Passes d p (drop (suc q) o.code) over live →
+        suc (q + far_over o.code known value q over) < length o.code
+    far_within known value over live h =
+        (leads_far d p number o all_fine known value q over live (leads_to d p number o all_fine q over live h)).0
+
+    -- a question of other variables, which leads as far
+    pub question_puts_far :
+        (line : Line) (t u : Test) (is_true wanted : Bool) (over : ℕ) →
+        FineOp d p number o q (drop (suc q) o.code) line.live (op.Branch u is_true over) → AllHomed (read_by t) →
+        CanPutEnding registers (length o.code) q
+        (ending_of home (op.Branch t wanted (far_over o.code (asked_for u) is_true q over)))
+    question_puts_far line t u is_true wanted over fine r =
+        let question = question_of home t wanted in
+        branch_puts (known question) question (far_over o.code (asked_for u) is_true q over) (question_puts t wanted r)
+        (far_within (asked_for u) is_true over line.live fine.2)
+
     pub ending_puts :
         (line : Line) (i : Op) → FineOp d p number o q (drop (suc q) o.code) line.live i → AllHomed (reads i) →
-        CanPutEnding registers (length o.code) q (ending_of home i)
-    ending_puts line (op.Branch t wanted over) fine r =
-        let question = question_of home t wanted in
-        branch_puts (known question) question over (question_puts t wanted r) (behind over fine.2.0)
-    ending_puts line (op.Jump over) fine r = behind over fine.0
+        CanPutEnding registers (length o.code) q (ending_of home (led_far o.code q i))
+    ending_puts line (op.Branch t wanted over) fine r = question_puts_far line t t wanted wanted over fine r
+    ending_puts line (op.Jump over) fine r = far_within None true over line.live fine
     ending_puts line (op.Again back) fine r = fine.within
     ending_puts line (op.Rest row) fine r = tt
     ending_puts line (op.Copy to from) fine r = tt
@@ -206,36 +223,59 @@ module _ (d : Declared) (p : Parts) (fine : Fine d p) (limits : HasLimits p) (re
         let reading = λ (x : Variable) (i : IsIn x (read_in at_once.left ++ read_in at_once.right)).
         homed q line x e (inl (subst (λ i. IsIn x (reads i)) (sym at_once.computes) i)) in
         let two = two_put registers home at_once.left at_once.right reading in
-        let into = homed (suc q) at_once.next (Named k) at_once.is_next (inr (inl (ap writes at_once.copies_it))) in
+        let into = homed (suc q) at_once.before.next (Named k) at_once.before.is_next (inr (inl (ap writes at_once.copies_it))) in
         subst (λ i. CanPutAll registers (steps_of home (into_named k i))) (sym at_once.computes) ((into, two.0, two.1), tt)
 
     laid_put : (q : ℕ) (line : Line) → slice_get o.code q ≡ Some line → CanPutAll registers (steps_of home (laid_op o.code q line.op))
-    laid_put q line e = by (direct_before o.code q) (direct_of o.code q line.op) refl
+    laid_put q line e = by (joined_before o.code q) (joined_of o.code q line.op) refl
       where
-        by : (a b : Option ℕ) → direct_of o.code q line.op ≡ b → CanPutAll registers (steps_of home (laid_by a b line.op))
-        by (Some k) b is = subst (CanPutAll registers) (sym (nothing_moved home k)) tt
-        by None None is = own_put q line e
-        by None (Some k) is = named_put q k line e (is_direct o.code q line.op k is)
+        by : (a b : Option Joined) → joined_of o.code q line.op ≡ b →
+            CanPutAll registers (steps_of home (laid_by a b (led_far o.code q line.op)))
+        by (Some (Into k)) b is = subst (CanPutAll registers) (sym (nothing_moved home k)) tt
+        by (Some (Asks t wanted)) b is = subst (CanPutAll registers) (sym (asking_far home o.code q t wanted line.op)) (own_put q line e)
+        by None None is = subst (CanPutAll registers) (sym (far_steps home o.code q line.op)) (own_put q line e)
+        by None (Some (Into k)) is =
+            subst (CanPutAll registers) (sym (far_into home o.code q k line.op)) (named_put q k line e (is_joined o.code q line.op (Into k) is))
+        by None (Some (Asks t wanted)) is = subst (CanPutAll registers) (sym (left_far home o.code q t wanted line.op is)) tt
 
     steps : (q : ℕ) (i : Op) → slice_get (ops_of o.code) q ≡ Some i → CanPutAll registers (steps_of home i)
     steps q i e =
         let l = line_there o.code q i e in
         subst (λ x. CanPutAll registers (steps_of home x)) l.2 (laid_put q l.0 l.1)
 
-    laid_end : (q : ℕ) (line : Line) (a : Option ℕ) → slice_get o.code q ≡ Some line →
-        CanPutEnding registers (length o.code) q (ending_of home (laid_by a (direct_of o.code q line.op) line.op))
-    laid_end q line (Some k) e = tt
-    laid_end q line None e =
+    -- a question that the step before it hands on
+    asked_end : (q : ℕ) (line : Line) (t : Test) (wanted : Bool) → slice_get o.code q ≡ Some line →
+        joined_before o.code q ≡ Some (Asks t wanted) →
+        CanPutEnding registers (length o.code) q (ending_of home (asking t wanted (led_far o.code q line.op)))
+    asked_end zero line t wanted e joined = absurd cc
+    asked_end (suc q) line t wanted e joined =
+        let j = joined_there o.code q (Asks t wanted) joined in
+        let asked = j.2 in
+        let same : line ≡ asked.before.next = same_Some line asked.before.next (sym e ∙ asked.before.is_next) in
+        let is : line.op ≡ op.Branch (test.Holds (operand.Of (Temporary asked.temporary))) asked.is_true asked.over =
+        ap (λ (l : Line). l.op) same ∙ asked.asks_it in
+        let f = fine_at d p n o (suc q) line operation_fine e in
+        subst (λ i. CanPutEnding registers (length o.code) (suc q) (ending_of home (asking t wanted (led_far o.code (suc q) i)))) (sym is)
+        (question_puts_far registers home d p n o operation_fine (suc q) line t (test.Holds (operand.Of (Temporary asked.temporary))) asked.is_true
+        (is_same_truth asked.is_true wanted) asked.over
+        (subst (FineOp d p n o (suc q) (drop (suc (suc q)) o.code) line.live) is f)
+        (λ x r. homed q j.0 x j.1 (inl (subst (λ i. IsIn x (reads i)) (sym asked.decides) r))))
+
+    laid_end : (q : ℕ) (line : Line) (a : Option Joined) → slice_get o.code q ≡ Some line → joined_before o.code q ≡ a →
+        CanPutEnding registers (length o.code) q (ending_of home (laid_by a (joined_of o.code q line.op) (led_far o.code q line.op)))
+    laid_end q line (Some (Into k)) e before = tt
+    laid_end q line (Some (Asks t wanted)) e before = asked_end q line t wanted e before
+    laid_end q line None e before =
         let f = fine_at d p n o q line operation_fine e in
-        subst (CanPutEnding registers (length o.code) q) (sym (laid_ending home o.code q line.op (direct_of o.code q line.op)))
-        (ending_puts registers home d p n o q line line.op f (λ x r. homed q line x e (inl r)))
+        subst (CanPutEnding registers (length o.code) q) (sym (laid_ending home o.code q line.op (joined_of o.code q line.op)))
+        (ending_puts registers home d p n o operation_fine q line line.op f (λ x r. homed q line x e (inl r)))
 
     endings : (q : ℕ) (i : Op) → slice_get (ops_of o.code) q ≡ Some i →
         CanPutEnding registers (length (ops_of o.code)) q (ending_of home i)
     endings q i e =
         let l = line_there o.code q i e in
         subst (λ k. CanPutEnding registers k q (ending_of home i)) (sym (ops_long o.code))
-        (subst (λ x. CanPutEnding registers (length o.code) q (ending_of home x)) l.2 (laid_end q l.0 (direct_before o.code q) l.1))
+        (subst (λ x. CanPutEnding registers (length o.code) q (ending_of home x)) l.2 (laid_end q l.0 (joined_before o.code q) l.1 refl))
 
     pub makeable : IsMakeable registers site
     makeable =

@@ -1,16 +1,157 @@
-//! Results that go at once to the named variable that they are copied to.
-ghost use Rattle.std.specs.Prelude.{◌≡◌, ◌≤◌, ◌<◌, ◌+◌, ◌^◌, suc, true, Some, IfNone, IfOk, IfSome, length, map};
+//! Steps that are laid out with the next one, and questions and jumps that lead further than they say.
+ghost use Rattle.std.specs.Prelude.{◌≡◌, ◌≤◌, ◌<◌, ◌+◌, ◌^◌, suc, true, Some, None, IfNone, IfOk, IfSome, length};
 ghost use Rattle.std.specs.Prelude.{slice_get, slice_set};
 ghost use Rattle.ec_code.specs.Fine.{live_at};
+ghost use Rattle.ec_code.specs.declared.code.Variable.TheVariants.{Temporary};
 ghost use Rattle.ec_generate.specs.Sites.{IsLed};
-ghost use Rattle.ec_code.specs.Marks.{is_among};
+ghost use Rattle.ec_world.specs.Same.{is_same_truth};
 ghost use Rattle.ec_machine_code.specs.Direct as spec;
 
 use crate::site::Site;
 use ec_base::list::Seq;
-use ec_code::code::{Line, Live, Op, Operand, Variable};
+use ec_code::code::{Line, Live, Op, Operand, Test, Variable};
 use ec_code::steps::is_same;
+use ec_machine_code::joined::Joined;
 use std::alloc::{AllocError, Global};
+
+/// So many jumps and known questions are passed at most.
+#[tactic(auto, using(crate::proofs::Led::most_is))]
+fn most_led() -> u32
+    ensures { result ≡ spec.most_led }
+{
+    16
+}
+
+/// Whether a truth value comes out as wanted.
+pub(crate) fn comes_out(wanted: bool, value: bool) -> bool
+    ensures { result ≡ is_same_truth wanted value }
+{
+    if wanted { value } else { !value }
+}
+
+/// The variable for whose truth value a test asks.
+fn asked_for(test: Test) -> Option<Variable>
+    ensures { result ≡ spec.asked_for test }
+{
+    match test {
+        Test::Holds(Operand::Of(x)) => Some(x),
+        Test::Holds(Operand::Number(_) | Operand::Truth(_) | Operand::Nil)
+        | Test::Same(..)
+        | Test::Less(..)
+        | Test::LessEqual(..)
+        | Test::Divides(..) => None,
+    }
+}
+
+/// Whether the variable whose truth value is known is the one that is asked for.
+fn is_known(known: Option<Variable>, asked: Option<Variable>) -> bool
+    ensures { result ≡ spec.is_known known asked }
+{
+    match (known, asked) {
+        (Some(x), Some(y)) => is_same(x, y),
+        (None, _) | (Some(_), None) => false,
+    }
+}
+
+/// How many steps a step passes over on a way on which a variable is known to have a truth value.
+fn passed_over(known: Option<Variable>, value: bool, op: &Op) -> Option<u32>
+    ensures { result ≡ spec.passed_over known value op.now }
+{
+    match op {
+        Op::Branch { test, wanted, over } => {
+            if !is_known(known, asked_for(*test)) {
+                return None;
+            }
+            Some(if comes_out(*wanted, value) { *over } else { 0 })
+        }
+        Op::Jump { over } => Some(*over),
+        Op::Copy { .. }
+        | Op::Literal { .. }
+        | Op::Itself { .. }
+        | Op::Field { .. }
+        | Op::SetField { .. }
+        | Op::Constant { .. }
+        | Op::Compute { .. }
+        | Op::Decide { .. }
+        | Op::Again { .. }
+        | Op::Rest(_) => None,
+    }
+}
+
+/// The step so many steps past the next one, where there is such a one.
+#[tactic(auto, using(crate::proofs::Led::none_past))]
+fn line_past(code: &Seq<Line>, place: usize, over: u32) -> Option<&Line>
+    ensures some { IfSome result (λ line. slice_get code.now (suc (place + over)) ≡ Some line.now) }
+    ensures none { IfNone result (slice_get code.now (suc (place + over)) ≡ None) }
+{
+    let count = code.len();
+    match target(place, over) {
+        Some(to) if to < count => Some(code.at(to)),
+        Some(_) | None => None,
+    }
+}
+
+/// How many steps the step passes over that stands so many past the next one.
+fn passed_past(
+    code: &Seq<Line>,
+    known: Option<Variable>,
+    value: bool,
+    place: usize,
+    over: u32,
+) -> Option<u32>
+    ensures { result ≡ spec.passed_if known value (slice_get code.now (suc (place + over))) }
+{
+    match line_past(code, place, over) {
+        Some(line) => passed_over(known, value, &line.op),
+        None => None,
+    }
+}
+
+/// So many steps more and one, where 32 bits count them.
+fn further(over: u32, more: u32) -> Option<u32>
+    ensures some { IfSome result (λ n. (n ≡ suc (over + more)) × (suc (over + more) < 2 ^ 32)) }
+    ensures none { IfNone result (2 ^ 32 ≤ suc (over + more)) }
+{
+    over.checked_add(more)?.checked_add(1)
+}
+
+/// How many steps are passed over on a way that leads past so many, past so many jumps and known questions at most.
+#[tactic(auto, using(crate::proofs::Led::led_zero, crate::proofs::Led::led_ends, crate::proofs::Led::led_further, crate::proofs::Led::led_no_further))]
+fn led_on(
+    code: &Seq<Line>,
+    known: Option<Variable>,
+    value: bool,
+    place: usize,
+    over: u32,
+    most: u32,
+) -> u32
+    ensures { result ≡ spec.led_on most code.now known value place over }
+{
+    if most == 0 {
+        return over;
+    }
+    let Some(more) = passed_past(code, known, value, place, over) else {
+        return over;
+    };
+    match further(over, more) {
+        Some(on) => led_on(code, known, value, place, on, most - 1),
+        None => over,
+    }
+}
+
+/// How many steps are passed over in the end where the step at a place leads past so many, since a test came out as wanted.
+pub(crate) fn far_branch(code: &Seq<Line>, place: usize, test: Test, wanted: bool, over: u32) -> u32
+    ensures { result ≡ spec.far_over code.now (spec.asked_for test) wanted place over }
+{
+    led_on(code, asked_for(test), wanted, place, over, most_led())
+}
+
+/// How many steps are passed over in the end where the step at a place leads past so many.
+pub(crate) fn far_jump(code: &Seq<Line>, place: usize, over: u32) -> u32
+    ensures { result ≡ spec.far_over code.now None true place over }
+{
+    led_on(code, None, true, place, over, most_led())
+}
 
 /// The place so many steps past the next one. One beyond 64 bits is no place.
 fn target(place: usize, over: u32) -> Option<usize>
@@ -31,13 +172,16 @@ fn mark(marks: &mut Vec<bool>, place: usize, over: u32)
     }
 }
 
-/// The place to which a step may lead past the next one is marked.
-fn mark_one(marks: &mut Vec<bool>, place: usize, op: &Op)
-    ensures { marks.new.items ≡ spec.marked_one place op.now marks.old.items }
+/// The place to which the step at a place may lead in the end past the next one is marked.
+fn mark_one(code: &Seq<Line>, marks: &mut Vec<bool>, place: usize, op: &Op)
+    ensures { marks.new.items ≡ spec.marked_one place (spec.led_far code.now place op.now) marks.old.items }
 {
     match op {
-        Op::Branch { over, .. } => mark(marks, place, *over),
-        Op::Jump { over } => mark(marks, place, *over),
+        Op::Branch { test, wanted, over } => {
+            let over = far_branch(code, place, *test, *wanted, *over);
+            mark(marks, place, over)
+        }
+        Op::Jump { over } => mark(marks, place, far_jump(code, place, *over)),
         Op::Copy { .. }
         | Op::Literal { .. }
         | Op::Itself { .. }
@@ -51,42 +195,15 @@ fn mark_one(marks: &mut Vec<bool>, place: usize, op: &Op)
     }
 }
 
-/// For each place of the code whether a step leads there past the next one. The error is want of memory.
+/// For each place of the code whether a step leads there in the end past the next one. The error is want of memory.
 pub(crate) fn led_to(alloc: Global, code: &Seq<Line>) -> Result<Vec<bool>, AllocError>
     ensures { IfOk result (λ led. led.items ≡ spec.led_to code.now) }
 {
     let mut marks = vec![in alloc; false; code.len()]?;
     for place in 0..code.len() {
-        mark_one(&mut marks, place, &code.at(place).op);
+        mark_one(code, &mut marks, place, &code.at(place).op);
     }
     Ok(marks)
-}
-
-/// The temporary that gets the result of arithmetic.
-fn temporary_of(op: &Op) -> Option<u32>
-    ensures { result ≡ spec.temporary_of op.now }
-{
-    match op {
-        Op::Compute {
-            to: Variable::Temporary(d),
-            ..
-        } => Some(*d),
-        Op::Compute {
-            to: Variable::Named(_),
-            ..
-        }
-        | Op::Copy { .. }
-        | Op::Literal { .. }
-        | Op::Itself { .. }
-        | Op::Field { .. }
-        | Op::SetField { .. }
-        | Op::Constant { .. }
-        | Op::Decide { .. }
-        | Op::Branch { .. }
-        | Op::Jump { .. }
-        | Op::Again { .. }
-        | Op::Rest(_) => None,
-    }
 }
 
 /// The named variable that gets an operand, where this is a temporary.
@@ -129,7 +246,7 @@ fn copied_to(d: u32, op: &Op) -> Option<u32>
 
 /// Whether a variable is one of these.
 fn is_live(x: Variable, live: &[Live]) -> bool
-    ensures { result ≡ is_among x (map (λ l. l.variable) live.now) }
+    ensures { result ≡ spec.is_live x live.now }
 {
     for one in live {
         if is_same(x, one.variable) {
@@ -137,27 +254,6 @@ fn is_live(x: Variable, live: &[Live]) -> bool
         }
     }
     false
-}
-
-/// What is live at a place of the code; nothing behind its end.
-#[tactic(auto, using(crate::proofs::Led::live_there, crate::proofs::Led::none_there))]
-fn live_behind(code: &Seq<Line>, place: usize) -> &[Live]
-    ensures { result.now ≡ live_at code.now place }
-{
-    match code.get(place) {
-        Some(line) => line.live.as_slice(),
-        None => &[],
-    }
-}
-
-/// The named variable to which the step at a place copies a temporary.
-fn copied_by(code: &Seq<Line>, d: u32, place: usize) -> Option<u32>
-    ensures { result ≡ spec.copied_by d (slice_get code.now place) }
-{
-    match code.get(place) {
-        Some(line) => copied_to(d, &line.op),
-        None => None,
-    }
 }
 
 /// Whether no step leads to a place past the next one.
@@ -170,62 +266,134 @@ fn is_unled(led: &[bool], place: usize) -> bool
     }
 }
 
-impl<'a> Site<'a> {
-    /// The named variable to which a temporary goes at once that the step at a place copies, if this is so.
-    fn copied_at(&self, place: usize, d: u32) -> Option<u32>
-        requires led { IsLed self.now }
-        requires there { place < length self.now.code.now }
-        ensures { result ≡ spec.direct_by (Some d) (slice_get self.now.code.now place)
-            (spec.is_unled (slice_get (spec.led_to self.now.code.now) place)) (live_at self.now.code.now (place + 1)) }
-    {
-        if place >= self.code.len() || !is_unled(self.led, place) {
-            return None;
-        }
-        if is_live(Variable::Temporary(d), live_behind(self.code, place + 1)) {
-            return None;
-        }
-        copied_by(self.code, d, place)
+/// Whether a temporary is live so many steps past the step behind a place.
+#[tactic(auto, using(crate::proofs::Led::live_there, crate::proofs::Led::none_there))]
+fn is_live_past(code: &Seq<Line>, d: u32, place: usize, over: u32) -> bool
+    ensures { result ≡ spec.is_live (Temporary d) (live_at code.now (suc (place + over))) }
+{
+    match line_past(code, place, over) {
+        Some(line) => is_live(Variable::Temporary(d), line.live.as_slice()),
+        None => false,
     }
+}
 
-    /// The named variable to which the result goes at once that the step at a place puts into a temporary.
-    #[tactic(auto, using(crate::proofs::Led::none_next, crate::proofs::Led::second_next))]
-    fn direct_from(&self, place: usize, d: u32) -> Option<u32>
+/// The step at a place asks for the truth value of a temporary that isn't live where it leads to, for what is told of it.
+fn asks_by(code: &Seq<Line>, place: usize, d: u32, joined: Joined, op: &Op) -> Option<Joined>
+    ensures { result ≡ spec.asks_by code.now place d joined op.now }
+{
+    match op {
+        Op::Branch { test, wanted, over } => {
+            if !is_known(Some(Variable::Temporary(d)), asked_for(*test)) {
+                return None;
+            }
+            let far = far_branch(code, place, *test, *wanted, *over);
+            if is_live_past(code, d, place, far) {
+                return None;
+            }
+            Some(joined)
+        }
+        Op::Copy { .. }
+        | Op::Literal { .. }
+        | Op::Itself { .. }
+        | Op::Field { .. }
+        | Op::SetField { .. }
+        | Op::Constant { .. }
+        | Op::Compute { .. }
+        | Op::Decide { .. }
+        | Op::Jump { .. }
+        | Op::Again { .. }
+        | Op::Rest(_) => None,
+    }
+}
+
+/// What is told of a temporary, unless it's live behind the step at a place.
+#[tactic(auto, using(crate::proofs::Led::next_live))]
+fn unless_live(code: &Seq<Line>, d: u32, place: usize, joined: Option<Joined>) -> Option<Joined>
+    ensures { result ≡ spec.unless (spec.is_live (Temporary d) (live_at code.now (suc place))) joined }
+{
+    if is_live_past(code, d, place, 0) {
+        return None;
+    }
+    joined
+}
+
+/// A result goes at once to the named variable to which it is copied, where it is.
+fn into(copied_to: Option<u32>) -> Option<Joined>
+    ensures { result ≡ spec.into copied_to }
+{
+    match copied_to {
+        Some(n) => Some(Joined::Into(n)),
+        None => None,
+    }
+}
+
+/// How a step is laid out with the next one, which is at a place.
+fn joined_with(code: &Seq<Line>, place: usize, op: &Op, next: &Op) -> Option<Joined>
+    ensures { result ≡ spec.joined_with code.now place op.now next.now }
+{
+    match op {
+        Op::Compute {
+            to: Variable::Temporary(d),
+            ..
+        } => unless_live(code, *d, place, into(copied_to(*d, next))),
+        Op::Decide {
+            to: Variable::Temporary(d),
+            test,
+            wanted,
+        } => {
+            let asks = Joined::Asks {
+                test: *test,
+                wanted: *wanted,
+            };
+            unless_live(code, *d, place, asks_by(code, place, *d, asks, next))
+        }
+        Op::Compute {
+            to: Variable::Named(_),
+            ..
+        }
+        | Op::Decide {
+            to: Variable::Named(_),
+            ..
+        }
+        | Op::Copy { .. }
+        | Op::Literal { .. }
+        | Op::Itself { .. }
+        | Op::Field { .. }
+        | Op::SetField { .. }
+        | Op::Constant { .. }
+        | Op::Branch { .. }
+        | Op::Jump { .. }
+        | Op::Again { .. }
+        | Op::Rest(_) => None,
+    }
+}
+
+impl<'a> Site<'a> {
+    /// How the step at a place is laid out with the next one, where it is.
+    #[tactic(auto, using(crate::proofs::Led::is_led_to, crate::proofs::Led::joined_next, crate::proofs::Led::past_end))]
+    pub(crate) fn joined_of(&self, place: usize, op: &Op) -> Option<Joined>
         requires led { IsLed self.now }
         requires there { place < length self.now.code.now }
-        ensures { result ≡ spec.direct_by (Some d) (slice_get self.now.code.now (place + 1))
-            (spec.is_unled (slice_get (spec.led_to self.now.code.now) (place + 1))) (live_at self.now.code.now (place + 2)) }
+        ensures { result ≡ spec.joined_of self.now.code.now place op.now }
     {
         let count = self.code.len();
-        if place < count && place + 1 < count {
-            self.copied_at(place + 1, d)
-        } else {
-            None
+        let next = place + 1;
+        if next >= count || !is_unled(self.led, next) {
+            return None;
         }
+        joined_with(self.code, next, op, &self.code.at(next).op)
     }
 
-    /// The named variable to which the result of the step at a place goes at once.
-    #[tactic(auto, using(crate::proofs::Led::direct_next, crate::proofs::Led::direct_none))]
-    pub(crate) fn direct_of(&self, place: usize, op: &Op) -> Option<u32>
+    /// That of the step before a place with the one there.
+    #[tactic(auto, using(crate::proofs::Led::joined_is))]
+    pub(crate) fn joined_before(&self, place: usize) -> Option<Joined>
         requires led { IsLed self.now }
         requires there { place < length self.now.code.now }
-        ensures { result ≡ spec.direct_of self.now.code.now place op.now }
-    {
-        match temporary_of(op) {
-            Some(d) => self.direct_from(place, d),
-            None => None,
-        }
-    }
-
-    /// That of the step before a place.
-    #[tactic(auto, using(crate::proofs::Led::direct_is))]
-    pub(crate) fn direct_before(&self, place: usize) -> Option<u32>
-        requires led { IsLed self.now }
-        requires there { place < length self.now.code.now }
-        ensures { result ≡ spec.direct_before self.now.code.now place }
+        ensures { result ≡ spec.joined_before self.now.code.now place }
     {
         if place == 0 {
             return None;
         }
-        self.direct_of(place - 1, &self.code.at(place - 1).op)
+        self.joined_of(place - 1, &self.code.at(place - 1).op)
     }
 }

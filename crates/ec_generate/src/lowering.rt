@@ -5,9 +5,11 @@ ghost use Rattle.ec_machine_code.specs.Direct as direct;
 ghost use Rattle.ec_machine_code.specs.Lowering as spec;
 ghost use Rattle.ec_machine_code.specs.Micro.{related};
 
+use crate::direct::{comes_out, far_branch, far_jump};
 use crate::site::Site;
 use ec_code::code::{Op, Operand, Test, Variable};
 use ec_machine_code::homes::Home;
+use ec_machine_code::joined::Joined;
 use ec_machine_code::step::{Ending, Question, Relation, Source, Step};
 
 /// A word that is 0.
@@ -130,42 +132,75 @@ impl<'a> Site<'a> {
         }
     }
 
-    /// The step on words for the step at a place, where there is one: none for a copy that is done already.
-    #[tactic(auto, using(crate::proofs::Led::no_steps, crate::proofs::Led::own_steps, crate::proofs::Led::named_steps))]
+    /// The step on words for the step at a place, where there is one: none for a copy that is done already, and none for a truth value that
+    /// the next step asks for.
+    #[tactic(auto, using(crate::proofs::Led::no_steps, crate::proofs::Led::question_steps, crate::proofs::Led::own_steps, crate::proofs::Led::named_steps, crate::proofs::Led::asked_steps))]
     pub(crate) fn step_at(&self, place: usize, op: &Op) -> Option<Step>
         requires led { IsLed self.now }
         requires there { place < length self.now.code.now }
         ensures { listed result ≡ spec.steps_of (home_there self.now) (direct.laid_op self.now.code.now place op.now) }
     {
-        match self.direct_before(place) {
-            Some(_) => None,
-            None => match self.direct_of(place, op) {
-                Some(n) => self.step_into(n, op),
+        match self.joined_before(place) {
+            Some(Joined::Into(_)) => None,
+            Some(Joined::Asks { .. }) => self.step_of(op),
+            None => match self.joined_of(place, op) {
+                Some(Joined::Into(n)) => self.step_into(n, op),
+                Some(Joined::Asks { .. }) => None,
                 None => self.step_of(op),
             },
         }
     }
 
     /// How the code goes on behind the step at a place, where this isn't the next one.
-    #[tactic(auto, using(crate::proofs::Led::no_ending, crate::proofs::Led::own_ending))]
+    #[tactic(auto, using(crate::proofs::Led::no_ending, crate::proofs::Led::asking_ending, crate::proofs::Led::own_ending))]
     pub(crate) fn ending_at(&self, place: usize, op: &Op) -> Option<Ending>
         requires led { IsLed self.now }
         requires there { place < length self.now.code.now }
         ensures { result ≡ spec.ending_of (home_there self.now) (direct.laid_op self.now.code.now place op.now) }
     {
-        match self.direct_before(place) {
-            Some(_) => None,
-            None => self.ending_of(op),
+        match self.joined_before(place) {
+            Some(Joined::Into(_)) => None,
+            Some(Joined::Asks { test, wanted }) => self.ending_asking(place, test, wanted, op),
+            None => self.ending_of(place, op),
         }
     }
 
-    /// How the code goes on behind a step, where this isn't the next one.
-    fn ending_of(&self, op: &Op) -> Option<Ending>
-        ensures { result ≡ spec.ending_of (home_there self.now) op.now }
+    /// How the code goes on behind the step at a place that asks for the truth value of a test that is to come out so.
+    fn ending_asking(&self, place: usize, asked: Test, expected: bool, op: &Op) -> Option<Ending>
+        ensures { result ≡ spec.ending_of (home_there self.now)
+            (direct.asking asked expected (direct.led_far self.now.code.now place op.now)) }
     {
         match op {
-            Op::Branch { test, wanted, over } => { branch(self.question_of(*test, *wanted), *over) }
-            Op::Jump { over } => Some(Ending::Jump { over: *over }),
+            Op::Branch { test, wanted, over } => {
+                let over = far_branch(self.code, place, *test, *wanted, *over);
+                branch(self.question_of(asked, comes_out(*wanted, expected)), over)
+            }
+            Op::Jump { .. }
+            | Op::Again { .. }
+            | Op::Rest(_)
+            | Op::Copy { .. }
+            | Op::Literal { .. }
+            | Op::Itself { .. }
+            | Op::Field { .. }
+            | Op::SetField { .. }
+            | Op::Constant { .. }
+            | Op::Compute { .. }
+            | Op::Decide { .. } => self.ending_of(place, op),
+        }
+    }
+
+    /// How the code goes on behind the step at a place that is laid out by itself, where this isn't the next one.
+    fn ending_of(&self, place: usize, op: &Op) -> Option<Ending>
+        ensures { result ≡ spec.ending_of (home_there self.now) (direct.led_far self.now.code.now place op.now) }
+    {
+        match op {
+            Op::Branch { test, wanted, over } => {
+                let over = far_branch(self.code, place, *test, *wanted, *over);
+                branch(self.question_of(*test, *wanted), over)
+            }
+            Op::Jump { over } => Some(Ending::Jump {
+                over: far_jump(self.code, place, *over),
+            }),
             Op::Again { back } => Some(Ending::Again { back: *back }),
             Op::Rest(_) => Some(Ending::Stop),
             Op::Copy { .. }

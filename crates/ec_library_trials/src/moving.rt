@@ -113,6 +113,7 @@ fn a_run_leaves_its_network(rt: HostRuntime) -> Result<(), Fail> {
     assert_eq!(rt; net.output().as_slice(), b"hi".as_slice());
     assert_eq!(rt; net.is_fixed(1), Some(true));
     for (object, node) in [(1, 0), (3, 0), (3, 1), (4, 0)] {
+        assert!(rt; net.can_move());
         assert!(rt; net.operator_move(alloc, object, node).is_ok());
         assert!(rt; net.is_whole());
         assert_eq!(rt; net.place(3), Some(0));

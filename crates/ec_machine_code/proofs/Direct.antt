@@ -16,16 +16,19 @@ use Rattle.ec_code.specs.declared.code.Operand.{Operand}
 use Rattle.ec_code.specs.declared.code.Operand.TheVariants as operand
 use Rattle.ec_code.specs.declared.code.StopRow.{StopRow}
 use Rattle.ec_code.specs.declared.code.Test.{Test}
+use Rattle.ec_code.specs.declared.code.Test.TheVariants as test
 use Rattle.ec_code.specs.declared.code.Variable.{Variable}
 use Rattle.ec_code.specs.declared.code.Variable.TheVariants.{Named, Temporary}
 use Rattle.ec_types.specs.declared.conform.static_type.StaticType.{StaticType}
 use Rattle.ec_machine_code.specs.Stops.{stop_of}
 use Rattle.ec_machine_code.specs.declared.homes.Home.{Home}
 use Rattle.ec_machine_code.specs.declared.homes.Home.TheVariants.{Register, Slot}
-use Rattle.ec_code.proofs.Among.{in_among}
-use Rattle.ec_code.specs.Marks.{is_among}
-use Rattle.ec_machine_code.specs.Direct.{copied_by, copied_from, copied_to, direct_at, direct_before, direct_if, direct_of, done_already}
-use Rattle.ec_machine_code.specs.Direct.{if_so, into_named, is_unled, laid_by, laid_from, laid_op, led_to, marked, marked_one}
+use Rattle.ec_code.proofs.Among.{in_among, same_is}
+use Rattle.ec_machine_code.specs.Direct.{asked_for, asking, asks_by, copied_from, copied_to, done_already, far_over, if_so, into, into_named}
+use Rattle.ec_machine_code.specs.Direct.{is_known, is_live, is_unled, joined_at, joined_before, joined_if, joined_line, joined_of, joined_with}
+use Rattle.ec_machine_code.specs.Direct.{laid_by, laid_from, laid_op, led_far, led_to, left_out, marked, marked_one, unless}
+use Rattle.ec_machine_code.specs.declared.joined.Joined.{Joined}
+use Rattle.ec_machine_code.specs.declared.joined.Joined.TheVariants.{Asks, Into}
 use Rattle.ec_machine_code.specs.Layout.{ops_of}
 use Rattle.ec_machine_code.specs.Lowering.{ending_of, is_same_home, steps_of}
 use Rattle.ec_machine_code.specs.declared.step.Source.TheVariants as source
@@ -105,6 +108,26 @@ same_ending home n (op.Jump over) = refl
 same_ending home n (op.Again back) = refl
 same_ending home n (op.Rest row) = refl
 
+-- a truth value that isn't made has no words
+pub none_made : (home : Variable → Home) (to : Variable) (t : Test) (wanted : Bool) → steps_of home (left_out (op.Decide to t wanted)) ≡ []
+none_made home to t wanted =
+    let h = home to in
+    ap (λ b. cond {A = List Step} b [] (step.Move h (source.Home h) ∷ [])) (same_home_self h)
+
+pub left_ending : (home : Variable → Home) (o : Op) → ending_of home (left_out o) ≡ ending_of home o
+left_ending home (op.Copy to from) = refl
+left_ending home (op.Literal to index) = refl
+left_ending home (op.Itself to) = refl
+left_ending home (op.Field to field) = refl
+left_ending home (op.SetField field from) = refl
+left_ending home (op.Constant to index) = refl
+left_ending home (op.Compute how to left right) = refl
+left_ending home (op.Decide to t wanted) = refl
+left_ending home (op.Branch t wanted over) = refl
+left_ending home (op.Jump over) = refl
+left_ending home (op.Again back) = refl
+left_ending home (op.Rest row) = refl
+
 -- ---- where nothing leads
 
 stays_marked : (marks : List Bool) (i k : ℕ) → slice_get marks k ≢ Some false → slice_get (slice_set marks i true) k ≢ Some false
@@ -137,10 +160,11 @@ one_stays p (op.Decide to t wanted) marks k h = h
 one_stays p (op.Again back) marks k h = h
 one_stays p (op.Rest row) marks k h = h
 
-all_stay : (p : ℕ) (rest : List Line) (marks : List Bool) (k : ℕ) → slice_get marks k ≢ Some false →
-    slice_get (marked p rest marks) k ≢ Some false
-all_stay p [] marks k h = h
-all_stay p (l ∷ ls) marks k h = all_stay (suc p) ls (marked_one p l.op marks) k (one_stays p l.op marks k h)
+all_stay : (code : List Line) (p : ℕ) (rest : List Line) (marks : List Bool) (k : ℕ) → slice_get marks k ≢ Some false →
+    slice_get (marked code p rest marks) k ≢ Some false
+all_stay code p [] marks k h = h
+all_stay code p (l ∷ ls) marks k h =
+    all_stay code (suc p) ls (marked_one p (led_far code p l.op) marks) k (one_stays p (led_far code p l.op) marks k h)
 
 -- a step leads to a place past the next one
 abbrev pub LeadsPast : ℕ → Op → ℕ → Type 0
@@ -153,34 +177,35 @@ pub jump_leads : (q over : ℕ) → LeadsPast q (op.Jump over) (suc (q + over))
 jump_leads q over marks = is_marked marks (suc (q + over))
 
 led_by :
-    (p : ℕ) (rest : List Line) (marks : List Bool) (k : ℕ) (line : Line) (to : ℕ) → slice_get rest k ≡ Some line →
-    LeadsPast (p + k) line.op to → slice_get (marked p rest marks) to ≢ Some false
-led_by p [] marks k line to e leads = absurd cc
-led_by p (l ∷ ls) marks zero line to e leads =
+    (code : List Line) (p : ℕ) (rest : List Line) (marks : List Bool) (k : ℕ) (line : Line) (to : ℕ) → slice_get rest k ≡ Some line →
+    LeadsPast (p + k) (led_far code (p + k) line.op) to → slice_get (marked code p rest marks) to ≢ Some false
+led_by code p [] marks k line to e leads = absurd cc
+led_by code p (l ∷ ls) marks zero line to e leads =
     let none : p + 0 ≡ p = omega arith in
-    let one : LeadsPast p line.op to = subst (λ i. LeadsPast i line.op to) none leads in
-    all_stay (suc p) ls (marked_one p l.op marks) to
-    (subst (λ (x : Line). slice_get (marked_one p x.op marks) to ≢ Some false) (sym (same_Some l line e)) (one marks))
-led_by p (l ∷ ls) marks (suc k) line to e leads =
+    let one : LeadsPast p (led_far code p line.op) to = subst (λ i. LeadsPast i (led_far code i line.op) to) none leads in
+    all_stay code (suc p) ls (marked_one p (led_far code p l.op) marks) to
+    (subst (λ (x : Line). slice_get (marked_one p (led_far code p x.op) marks) to ≢ Some false) (sym (same_Some l line e)) (one marks))
+led_by code p (l ∷ ls) marks (suc k) line to e leads =
     let next : p + suc k ≡ suc p + k = omega arith in
-    led_by (suc p) ls (marked_one p l.op marks) k line to e (subst (λ i. LeadsPast i line.op to) next leads)
+    led_by code (suc p) ls (marked_one p (led_far code p l.op) marks) k line to e
+    (subst (λ i. LeadsPast i (led_far code i line.op) to) next leads)
 
 pub is_led :
-    (code : List Line) (q : ℕ) (line : Line) (to : ℕ) → slice_get code q ≡ Some line → LeadsPast q line.op to →
+    (code : List Line) (q : ℕ) (line : Line) (to : ℕ) → slice_get code q ≡ Some line → LeadsPast q (led_far code q line.op) to →
     slice_get (led_to code) to ≢ Some false
 is_led code q line to e leads =
     let none : q ≡ 0 + q = omega arith in
-    led_by 0 code (replicate (length code) false) q line to e (subst (λ i. LeadsPast i line.op to) none leads)
+    led_by code 0 code (replicate (length code) false) q line to e (subst (λ i. LeadsPast i (led_far code i line.op) to) none leads)
 
--- ---- a result that goes at once to where it is copied
+-- ---- steps that are laid out with the next one
 
-so_some : (t : Bool) (o : Option ℕ) (n : ℕ) → if_so t o ≡ Some n → (t ≡ true) × (o ≡ Some n)
-so_some true o n e = (refl, e)
-so_some false o n e = absurd cc
+so_some : (t : Bool) (o : Option Joined) (j : Joined) → if_so t o ≡ Some j → (t ≡ true) × (o ≡ Some j)
+so_some true o j e = (refl, e)
+so_some false o j e = absurd cc
 
-else_some : (t : Bool) (o : Option ℕ) (n : ℕ) → cond t None o ≡ Some n → (t ≡ false) × (o ≡ Some n)
-else_some true o n e = absurd cc
-else_some false o n e = (refl, e)
+unless_some : (t : Bool) (o : Option Joined) (j : Joined) → unless t o ≡ Some j → (t ≡ false) × (o ≡ Some j)
+unless_some true o j e = absurd cc
+unless_some false o j e = (refl, e)
 
 then_some : (t : Bool) (k n : ℕ) → cond t (Some k) None ≡ Some n → (t ≡ true) × (k ≡ n)
 then_some true k n e = (refl, same_Some k n e)
@@ -220,17 +245,46 @@ copies d n (op.Jump over) e = absurd cc
 copies d n (op.Again back) e = absurd cc
 copies d n (op.Rest row) e = absurd cc
 
+into_some : (o : Option ℕ) (j : Joined) → into o ≡ Some j → (n : ℕ) × (o ≡ Some n) × (j ≡ Into n)
+into_some None j e = absurd cc
+into_some (Some n) j e = (n, refl, sym (same_Some (Into n) j e))
+
+-- a variable isn't live at a place
+abbrev pub IsDead : List Line → ℕ → Variable → Type 0
+IsDead code p x = (t : StaticType) → Has (live_at code p) x t → ⊥
+
+-- a step and the next one, which only is reached from it
+pub record HasNext (code : List Line) (q : ℕ) : Type 0 where
+  pub next : Line
+  pub is_next : slice_get code (suc q) ≡ Some next
+  pub unled : slice_get (led_to code) (suc q) ≡ Some false
+
+-- a result that goes at once to where it is copied
 pub record IsDirect (code : List Line) (q : ℕ) (o : Op) (n : ℕ) : Type 0 where
   pub how : Arithmetic
   pub temporary : ℕ
   pub left : Operand
   pub right : Operand
   pub computes : o ≡ op.Compute how (Temporary temporary) left right
-  pub next : Line
-  pub is_next : slice_get code (suc q) ≡ Some next
-  pub copies_it : next.op ≡ op.Copy (Named n) (operand.Of (Temporary temporary))
-  pub unled : slice_get (led_to code) (suc q) ≡ Some false
-  pub dead : (t : StaticType) → Has (live_at code (suc (suc q))) (Temporary temporary) t → ⊥
+  pub before : HasNext code q
+  pub copies_it : before.next.op ≡ op.Copy (Named n) (operand.Of (Temporary temporary))
+  pub dead : IsDead code (suc (suc q)) (Temporary temporary)
+
+-- a truth value that only the next step asks for
+pub record IsAsked (code : List Line) (q : ℕ) (o : Op) (t : Test) (wanted : Bool) : Type 0 where
+  pub temporary : ℕ
+  pub decides : o ≡ op.Decide (Temporary temporary) t wanted
+  pub before : HasNext code q
+  pub is_true : Bool
+  pub over : ℕ
+  pub asks_it : before.next.op ≡ op.Branch (test.Holds (operand.Of (Temporary temporary))) is_true over
+  pub dead : IsDead code (suc (suc q)) (Temporary temporary)
+  pub dead_far :
+      IsDead code (suc (suc q + far_over code (Some (Temporary temporary)) is_true (suc q) over)) (Temporary temporary)
+
+abbrev pub IsJoined : List Line → ℕ → Op → Joined → Type 0
+IsJoined code q o (Into n) = IsDirect code q o n
+IsJoined code q o (Asks t wanted) = IsAsked code q o t wanted
 
 live_among : (ls : List Live) (x : Variable) (t : StaticType) → Has ls x t → IsIn x (map (λ l. l.variable) ls)
 live_among [] x t h = absurd h
@@ -239,81 +293,168 @@ live_among (l ∷ ls) x t h = ⊎_elim
     (λ (rest : Has ls x t). inr (live_among ls x t rest))
     h
 
-not_live : (ls : List Live) (x : Variable) → is_among x (map (λ l. l.variable) ls) ≡ false → (t : StaticType) → Has ls x t → ⊥
+pub not_live : (ls : List Live) (x : Variable) → is_live x ls ≡ false → (t : StaticType) → Has ls x t → ⊥
 not_live ls x e t h =
     let yes = in_among x (map (λ l. l.variable) ls) (live_among ls x t h) in
     let no : true ≡ false = sym yes ∙ e in
     cc
 
-copies_next :
-    (d n : ℕ) (o : Option Line) → copied_by d o ≡ Some n → (line : Line) × (o ≡ Some line) × Copies d n line.op
-copies_next d n None e = absurd cc
-copies_next d n (Some line) e = (line, refl, copies d n line.op e)
+-- a question for a truth value that is known asks for this variable
+pub known_asks : (x : Variable) (t : Test) → is_known (Some x) (asked_for t) ≡ true → t ≡ test.Holds (operand.Of x)
+known_asks x (test.Holds (operand.Of y)) e = ap (λ i. test.Holds (operand.Of i)) (sym (same_is x y e))
+known_asks x (test.Holds (operand.Number z)) e = absurd cc
+known_asks x (test.Holds (operand.Truth b)) e = absurd cc
+known_asks x (test.Holds operand.Nil) e = absurd cc
+known_asks x (test.Same y z) e = absurd cc
+known_asks x (test.Less y z) e = absurd cc
+known_asks x (test.LessEqual y z) e = absurd cc
+known_asks x (test.Divides y z) e = absurd cc
 
-computed_once :
-    (code : List Line) (q : ℕ) (how : Arithmetic) (d : ℕ) (left right : Operand) (n : ℕ) →
-    direct_of code q (op.Compute how (Temporary d) left right) ≡ Some n →
-    IsDirect code q (op.Compute how (Temporary d) left right) n
-computed_once code q how d left right n e =
-    let behind = live_at code (suc (suc q)) in
-    let next = slice_get code (suc q) in
-    let among = is_among (Temporary d) (map (λ l. l.variable) behind) in
-    let a = so_some (is_unled (slice_get (led_to code) (suc q))) (cond among None (copied_by d next)) n e in
-    let b = else_some among (copied_by d next) n a.1 in
-    let c = copies_next d n next b.1 in
+-- what a question of the next step tells
+pub record AsksNext (code : List Line) (p d : ℕ) (given j : Joined) (o : Op) : Type 0 where
+  pub same : given ≡ j
+  pub is_true : Bool
+  pub over : ℕ
+  pub asks_it : o ≡ op.Branch (test.Holds (operand.Of (Temporary d))) is_true over
+  pub dead_far : IsDead code (suc (p + far_over code (Some (Temporary d)) is_true p over)) (Temporary d)
+
+asks_next : (code : List Line) (p d : ℕ) (given j : Joined) (o : Op) → asks_by code p d given o ≡ Some j → AsksNext code p d given j o
+asks_next code p d given j (op.Branch t is_true over) e =
+    let to = λ (u : Test). suc (p + far_over code (asked_for u) is_true p over) in
+    let far = is_live (Temporary d) (live_at code (to t)) in
+    let a = so_some (is_known (Some (Temporary d)) (asked_for t)) (unless far (Some given)) j e in
+    let b = unless_some far (Some given) j a.1 in
+    let question = known_asks (Temporary d) t a.0 in
     record {
-      how = how;
-      temporary = d;
-      left = left;
-      right = right;
-      computes = refl;
-      next = c.0;
-      is_next = c.1;
-      copies_it = c.2;
-      unled = unled_is (slice_get (led_to code) (suc q)) a.0;
-      dead = not_live behind (Temporary d) b.0;
+      same = same_Some given j b.1;
+      is_true = is_true;
+      over = over;
+      asks_it = ap (λ u. op.Branch u is_true over) question;
+      dead_far = subst (λ u. IsDead code (to u) (Temporary d)) question (not_live (live_at code (to t)) (Temporary d) b.0);
     }
+asks_next code p d given j (op.Copy to from) e = absurd cc
+asks_next code p d given j (op.Literal to index) e = absurd cc
+asks_next code p d given j (op.Itself to) e = absurd cc
+asks_next code p d given j (op.Field to field) e = absurd cc
+asks_next code p d given j (op.SetField field from) e = absurd cc
+asks_next code p d given j (op.Constant to index) e = absurd cc
+asks_next code p d given j (op.Compute how to left right) e = absurd cc
+asks_next code p d given j (op.Decide to t wanted) e = absurd cc
+asks_next code p d given j (op.Jump over) e = absurd cc
+asks_next code p d given j (op.Again back) e = absurd cc
+asks_next code p d given j (op.Rest row) e = absurd cc
 
-pub is_direct : (code : List Line) (q : ℕ) (o : Op) (n : ℕ) → direct_of code q o ≡ Some n → IsDirect code q o n
-is_direct code q (op.Compute how (Temporary d) left right) n e = computed_once code q how d left right n e
-is_direct code q (op.Compute how (Named k) left right) n e = absurd cc
-is_direct code q (op.Copy to from) n e = absurd cc
-is_direct code q (op.Literal to index) n e = absurd cc
-is_direct code q (op.Itself to) n e = absurd cc
-is_direct code q (op.Field to field) n e = absurd cc
-is_direct code q (op.SetField field from) n e = absurd cc
-is_direct code q (op.Constant to index) n e = absurd cc
-is_direct code q (op.Decide to t wanted) n e = absurd cc
-is_direct code q (op.Branch t wanted over) n e = absurd cc
-is_direct code q (op.Jump over) n e = absurd cc
-is_direct code q (op.Again back) n e = absurd cc
-is_direct code q (op.Rest row) n e = absurd cc
+module _ (code : List Line) (q : ℕ) (h : HasNext code q) (j : Joined) where
+  computed_once :
+      (how : Arithmetic) (d : ℕ) (left right : Operand) →
+      joined_with code (suc q) (op.Compute how (Temporary d) left right) h.next.op ≡ Some j →
+      IsJoined code q (op.Compute how (Temporary d) left right) j
+  computed_once how d left right e =
+      let behind = live_at code (suc (suc q)) in
+      let a = unless_some (is_live (Temporary d) behind) (into (copied_to d h.next.op)) j e in
+      let b = into_some (copied_to d h.next.op) j a.1 in
+      subst (IsJoined code q (op.Compute how (Temporary d) left right)) (sym b.2) (record {
+        how = how;
+        temporary = d;
+        left = left;
+        right = right;
+        computes = refl;
+        before = h;
+        copies_it = copies d b.0 h.next.op b.1;
+        dead = not_live behind (Temporary d) a.0;
+      })
+
+  decided_once :
+      (d : ℕ) (t : Test) (wanted : Bool) → joined_with code (suc q) (op.Decide (Temporary d) t wanted) h.next.op ≡ Some j →
+      IsJoined code q (op.Decide (Temporary d) t wanted) j
+  decided_once d t wanted e =
+      let behind = live_at code (suc (suc q)) in
+      let a = unless_some (is_live (Temporary d) behind) (asks_by code (suc q) d (Asks t wanted) h.next.op) j e in
+      let b = asks_next code (suc q) d (Asks t wanted) j h.next.op a.1 in
+      subst (IsJoined code q (op.Decide (Temporary d) t wanted)) b.same (record {
+        temporary = d;
+        decides = refl;
+        before = h;
+        is_true = b.is_true;
+        over = b.over;
+        asks_it = b.asks_it;
+        dead = not_live behind (Temporary d) a.0;
+        dead_far = b.dead_far;
+      })
+
+  joined_so : (o : Op) → joined_with code (suc q) o h.next.op ≡ Some j → IsJoined code q o j
+  joined_so (op.Compute how (Temporary d) left right) e = computed_once how d left right e
+  joined_so (op.Decide (Temporary d) t wanted) e = decided_once d t wanted e
+  joined_so (op.Compute how (Named k) left right) e = absurd cc
+  joined_so (op.Decide (Named k) t wanted) e = absurd cc
+  joined_so (op.Copy to from) e = absurd cc
+  joined_so (op.Literal to index) e = absurd cc
+  joined_so (op.Itself to) e = absurd cc
+  joined_so (op.Field to field) e = absurd cc
+  joined_so (op.SetField field from) e = absurd cc
+  joined_so (op.Constant to index) e = absurd cc
+  joined_so (op.Branch t wanted over) e = absurd cc
+  joined_so (op.Jump over) e = absurd cc
+  joined_so (op.Again back) e = absurd cc
+  joined_so (op.Rest row) e = absurd cc
+
+next_some :
+    (code : List Line) (q : ℕ) (o : Op) (j : Joined) (n : Option Line) → joined_if code (suc q) o n ≡ Some j →
+    (next : Line) × (n ≡ Some next) × (joined_with code (suc q) o next.op ≡ Some j)
+next_some code q o j None e = absurd cc
+next_some code q o j (Some next) e = (next, refl, e)
+
+pub is_joined : (code : List Line) (q : ℕ) (o : Op) (j : Joined) → joined_of code q o ≡ Some j → IsJoined code q o j
+is_joined code q o j e =
+    let a = so_some (is_unled (slice_get (led_to code) (suc q))) (joined_if code (suc q) o (slice_get code (suc q))) j e in
+    let b = next_some code q o j (slice_get code (suc q)) a.1 in
+    joined_so code q (record { next = b.0; is_next = b.1; unled = unled_is (slice_get (led_to code) (suc q)) a.0 }) j o b.2
+
+pub next_of : (code : List Line) (q : ℕ) (o : Op) (j : Joined) → IsJoined code q o j → HasNext code q
+next_of code q o (Into n) h = h.before
+next_of code q o (Asks t wanted) h = h.before
 
 -- of the step at a place
-pub direct_there :
-    (code : List Line) (q n : ℕ) → direct_at code q ≡ Some n →
-    (line : Line) × (slice_get code q ≡ Some line) × IsDirect code q line.op n
-direct_there code q n e = by (slice_get code q) refl e
+pub joined_there :
+    (code : List Line) (q : ℕ) (j : Joined) → joined_at code q ≡ Some j →
+    (line : Line) × (slice_get code q ≡ Some line) × IsJoined code q line.op j
+joined_there code q j e = by (slice_get code q) refl e
   where
-    by : (o : Option Line) → slice_get code q ≡ o → direct_if code q o ≡ Some n →
-        (line : Line) × (slice_get code q ≡ Some line) × IsDirect code q line.op n
+    by : (o : Option Line) → slice_get code q ≡ o → joined_line code q o ≡ Some j →
+        (line : Line) × (slice_get code q ≡ Some line) × IsJoined code q line.op j
     by None is h = absurd cc
-    by (Some line) is h = (line, is, is_direct code q line.op n h)
+    by (Some line) is h = (line, is, is_joined code q line.op j h)
 
--- where a step leads past the next one, no copy has been done
+-- where a step leads past the next one, none is laid out with the one before
 pub none_led :
-    (code : List Line) (q : ℕ) (line : Line) (to : ℕ) → slice_get code q ≡ Some line → LeadsPast q line.op (suc to) →
-    direct_at code to ≡ None
-none_led code q line to e leads = by (direct_at code to) refl
+    (code : List Line) (q : ℕ) (line : Line) (to : ℕ) → slice_get code q ≡ Some line → LeadsPast q (led_far code q line.op) (suc to) →
+    joined_at code to ≡ None
+none_led code q line to e leads = by (joined_at code to) refl
   where
-    by : (o : Option ℕ) → direct_at code to ≡ o → o ≡ None
+    by : (o : Option Joined) → joined_at code to ≡ o → o ≡ None
     by None is = refl
-    by (Some n) is = absurd (is_led code q line (suc to) e leads (direct_there code to n is).2.unled)
+    by (Some j) is =
+        let there = joined_there code to j is in
+        absurd (is_led code q line (suc to) e leads (next_of code to there.0.op j there.2).unled)
 
--- behind a step whose result doesn't go at once no copy has been done
+-- behind a step that is laid out by itself none is laid out with it
 pub none_behind :
-    (code : List Line) (q : ℕ) (line : Line) → slice_get code q ≡ Some line → direct_of code q line.op ≡ None → direct_at code q ≡ None
-none_behind code q line e none = ap (direct_if code q) e ∙ none
+    (code : List Line) (q : ℕ) (line : Line) → slice_get code q ≡ Some line → joined_of code q line.op ≡ None → joined_at code q ≡ None
+none_behind code q line e none = ap (joined_line code q) e ∙ none
+
+-- a step that is laid out with no other
+pub never_joined :
+    (code : List Line) (q : ℕ) (o : Op) → ((next : Op) → joined_with code (suc q) o next ≡ None) → joined_of code q o ≡ None
+never_joined code q o never = so (is_unled (slice_get (led_to code) (suc q))) (by (slice_get code (suc q)))
+  where
+    by : (n : Option Line) → joined_if code (suc q) o n ≡ None
+    by None = refl
+    by (Some next) = never next.op
+
+    so : (b : Bool) → joined_if code (suc q) o (slice_get code (suc q)) ≡ None →
+        if_so b (joined_if code (suc q) o (slice_get code (suc q))) ≡ None
+    so true e = e
+    so false e = refl
 
 -- ---- stops are laid out as they are
 
@@ -331,32 +472,41 @@ stop_rests (op.Branch t wanted over) row e = absurd cc
 stop_rests (op.Jump over) row e = absurd cc
 stop_rests (op.Again back) row e = absurd cc
 
--- no copy is done before a step that is none
-pub none_before :
-    (code : List Line) (q : ℕ) (line : Line) → slice_get code q ≡ Some line →
-    ((d n : ℕ) → line.op ≢ op.Copy (Named n) (operand.Of (Temporary d))) → direct_before code q ≡ None
-none_before code zero line e other = refl
-none_before code (suc q) line e other = by (direct_at code q) refl
-  where
-    by : (o : Option ℕ) → direct_at code q ≡ o → o ≡ None
-    by None is = refl
-    by (Some n) is =
-        let d = (direct_there code q n is).2 in
-        let same : d.next ≡ line = same_Some d.next line (sym d.is_next ∙ e) in
-        absurd (other d.temporary n (ap (λ (l : Line). l.op) (sym same) ∙ d.copies_it))
-
 rest_no_copy : (row : StopRow) (d n : ℕ) → op.Rest row ≢ op.Copy (Named n) (operand.Of (Temporary d))
 rest_no_copy row d n e = cc
+
+rest_no_question : (row : StopRow) (t : Test) (wanted : Bool) (over : ℕ) → op.Rest row ≢ op.Branch t wanted over
+rest_no_question row t wanted over e = cc
+
+-- a stop is laid out with no step before it
+rest_alone : (code : List Line) (q : ℕ) (line : Line) (row : StopRow) → slice_get code q ≡ Some line → line.op ≡ op.Rest row →
+    joined_before code q ≡ None
+rest_alone code zero line row e rests = refl
+rest_alone code (suc q) line row e rests = by (joined_at code q) refl
+  where
+    -- the step there
+    there : (h : HasNext code q) → h.next.op ≡ op.Rest row
+    there h = ap (λ (l : Line). l.op) (same_Some h.next line (sym h.is_next ∙ e)) ∙ rests
+
+    by : (o : Option Joined) → joined_at code q ≡ o → o ≡ None
+    by None is = refl
+    by (Some (Into n)) is =
+        let d = (joined_there code q (Into n) is).2 in
+        absurd (rest_no_copy row d.temporary n (sym (there d.before) ∙ d.copies_it))
+    by (Some (Asks t wanted)) is =
+        let d = (joined_there code q (Asks t wanted) is).2 in
+        absurd (rest_no_question row (test.Holds (operand.Of (Temporary d.temporary))) d.is_true d.over (sym (there d.before) ∙ d.asks_it))
 
 pub rest_laid :
     (code : List Line) (q : ℕ) (line : Line) (row : StopRow) → slice_get code q ≡ Some line → stop_of line.op ≡ Some row →
     laid_op code q line.op ≡ line.op
 rest_laid code q line row e stop =
     let rests = stop_rests line.op row stop in
-    let before = none_before code q line e
-    (λ d n. subst (λ o. o ≢ op.Copy (Named n) (operand.Of (Temporary d))) (sym rests) (rest_no_copy row d n)) in
-    let here : direct_of code q line.op ≡ None = ap (direct_of code q) rests in
-    ap (λ b. laid_by b (direct_of code q line.op) line.op) before ∙ ap (λ b. laid_by None b line.op) here
+    let before = rest_alone code q line row e rests in
+    let here : joined_of code q line.op ≡ None = ap (joined_of code q) rests ∙ never_joined code q (op.Rest row) (λ next. refl) in
+    let far : led_far code q line.op ≡ line.op = ap (led_far code q) rests ∙ sym rests in
+    ap (λ b. laid_by b (joined_of code q line.op) (led_far code q line.op)) before
+    ∙ ap (λ b. laid_by None b (led_far code q line.op)) here ∙ far
 
 into_rests : (n : ℕ) (o : Op) (row : StopRow) → into_named n o ≡ op.Rest row → o ≡ op.Rest row
 into_rests n (op.Rest r) row e = e
@@ -372,10 +522,54 @@ into_rests n (op.Branch t wanted over) row e = absurd cc
 into_rests n (op.Jump over) row e = absurd cc
 into_rests n (op.Again back) row e = absurd cc
 
-laid_rests : (a b : Option ℕ) (o : Op) (row : StopRow) → laid_by a b o ≡ op.Rest row → o ≡ op.Rest row
-laid_rests (Some n) b o row e = absurd cc
-laid_rests None (Some n) o row e = into_rests n o row e
+left_rests : (o : Op) (row : StopRow) → left_out o ≡ op.Rest row → o ≡ op.Rest row
+left_rests (op.Rest r) row e = e
+left_rests (op.Copy to from) row e = absurd cc
+left_rests (op.Literal to index) row e = absurd cc
+left_rests (op.Itself to) row e = absurd cc
+left_rests (op.Field to field) row e = absurd cc
+left_rests (op.SetField field from) row e = absurd cc
+left_rests (op.Constant to index) row e = absurd cc
+left_rests (op.Compute how to left right) row e = absurd cc
+left_rests (op.Decide to t wanted) row e = absurd cc
+left_rests (op.Branch t wanted over) row e = absurd cc
+left_rests (op.Jump over) row e = absurd cc
+left_rests (op.Again back) row e = absurd cc
+
+asking_rests : (t : Test) (wanted : Bool) (o : Op) (row : StopRow) → asking t wanted o ≡ op.Rest row → o ≡ op.Rest row
+asking_rests t wanted (op.Rest r) row e = e
+asking_rests t wanted (op.Copy to from) row e = absurd cc
+asking_rests t wanted (op.Literal to index) row e = absurd cc
+asking_rests t wanted (op.Itself to) row e = absurd cc
+asking_rests t wanted (op.Field to field) row e = absurd cc
+asking_rests t wanted (op.SetField field from) row e = absurd cc
+asking_rests t wanted (op.Constant to index) row e = absurd cc
+asking_rests t wanted (op.Compute how to left right) row e = absurd cc
+asking_rests t wanted (op.Decide to u is_true) row e = absurd cc
+asking_rests t wanted (op.Branch u is_true over) row e = absurd cc
+asking_rests t wanted (op.Jump over) row e = absurd cc
+asking_rests t wanted (op.Again back) row e = absurd cc
+
+laid_rests : (a b : Option Joined) (o : Op) (row : StopRow) → laid_by a b o ≡ op.Rest row → o ≡ op.Rest row
+laid_rests (Some (Into n)) b o row e = absurd cc
+laid_rests (Some (Asks t wanted)) b o row e = asking_rests t wanted o row e
+laid_rests None (Some (Into n)) o row e = into_rests n o row e
+laid_rests None (Some (Asks t wanted)) o row e = left_rests o row e
 laid_rests None None o row e = e
+
+far_rests : (code : List Line) (q : ℕ) (o : Op) (row : StopRow) → led_far code q o ≡ op.Rest row → o ≡ op.Rest row
+far_rests code q (op.Rest r) row e = e
+far_rests code q (op.Copy to from) row e = absurd cc
+far_rests code q (op.Literal to index) row e = absurd cc
+far_rests code q (op.Itself to) row e = absurd cc
+far_rests code q (op.Field to field) row e = absurd cc
+far_rests code q (op.SetField field from) row e = absurd cc
+far_rests code q (op.Constant to index) row e = absurd cc
+far_rests code q (op.Compute how to left right) row e = absurd cc
+far_rests code q (op.Decide to t wanted) row e = absurd cc
+far_rests code q (op.Branch t wanted over) row e = absurd cc
+far_rests code q (op.Jump over) row e = absurd cc
+far_rests code q (op.Again back) row e = absurd cc
 
 -- the line of a stop that is laid out
 pub stop_line :
@@ -383,4 +577,5 @@ pub stop_line :
     (line : Line) × (slice_get code q ≡ Some line) × (line.op ≡ op.Rest row)
 stop_line code q row e =
     let r = line_there code q (op.Rest row) e in
-    (r.0, r.1, laid_rests (direct_before code q) (direct_of code q r.0.op) r.0.op row r.2)
+    let far = laid_rests (joined_before code q) (joined_of code q r.0.op) (led_far code q r.0.op) row r.2 in
+    (r.0, r.1, far_rests code q r.0.op row far)

@@ -1,5 +1,5 @@
 -- From a state that fits an activation the code does what silent steps do.
-use Rattle.std.proofs.Common.{◌≡◌, ℕ, suc, ◌+◌, ◌<◌, ◌≤◌, List, length, drop, Option, Some, None, refl, sym, ap, ◌∙◌}
+use Rattle.std.proofs.Common.{◌≡◌, ℕ, suc, ◌+◌, ◌≤◌, List, length, drop, Option, Some, None, refl, sym, ap, ◌∙◌}
 use Rattle.std.proofs.Common.{subst, arith, inr}
 use Rattle.std.specs.Prelude.{slice_get}
 use Rattle.std.proofs.lemmas.Option.{same_Some}
@@ -25,8 +25,9 @@ use Rattle.ec_machine_code.specs.Stops.{IsStopAt, home_in, stop_of, stop_places,
 use Rattle.ec_machine_code.specs.Homes.{IsWithin}
 use Rattle.ec_machine_code.specs.declared.homes.Home.{Home}
 use Rattle.ec_machine_code.specs.declared.homes.Home.TheVariants.{Register, Slot}
-use Rattle.ec_machine_code.proofs.Direct.{none_behind, rest_laid}
-use Rattle.ec_machine_code.specs.Direct.{direct_before, direct_of}
+use Rattle.ec_code.specs.declared.code.Op.TheVariants.{Rest}
+use Rattle.ec_machine_code.proofs.Direct.{never_joined, none_behind, rest_laid}
+use Rattle.ec_machine_code.specs.Direct.{joined_before, joined_of}
 use Rattle.ec_machine_code.specs.Fitting.{CanBeLaidOut, LaidOutIsFaithful}
 use Rattle.ec_machine_code.specs.Layout.{Vocabularies, home_of, home_or, order_of, vocabulary_of}
 use Rattle.ec_machine_code.specs.Micro.{Sight}
@@ -176,10 +177,12 @@ module _ {S : Type 0} (M : MachineMeaning S) (vs : Vocabularies) (homes : List (
         leaves M V g z a.at here.line.op here.line.op here.line.live here.is_line
         (rest_laid o.code a.at here.line here.row here.is_line here.is_stop) here.row s seen rests (omega (arith, behind, from)) sees
 
-    -- a stop does no copy of the step behind it
-    none_done : direct_before o.code (suc a.at) ≡ None
+    -- a stop isn't laid out with the step behind it
+    none_done : joined_before o.code (suc a.at) ≡ None
     none_done =
-        none_behind o.code a.at here.line here.is_line (ap (direct_of o.code a.at) (rest_is here.line.op here.row here.is_stop))
+        none_behind o.code a.at here.line here.is_line
+        (ap (joined_of o.code a.at) (rest_is here.line.op here.row here.is_stop)
+        ∙ never_joined o.code a.at (Rest here.row) (λ next. refl))
 
     module _ (e : Common) (r : Arrived)
         (walks : walk p.literals a.own (suc a.at) (drop (suc a.at) o.code) 0 m ≡ (e, Some r)) where
@@ -190,7 +193,7 @@ module _ {S : Type 0} (M : MachineMeaning S) (vs : Vocabularies) (homes : List (
           (λ address out. refl) (omega arith)
           (subst (λ to. GetsTo M V g z begins.last seen (suc a.at + 0) to) walks
           (gets M V g z (drop (suc a.at) o.code) (suc a.at) 0 m refl begins.last seen
-          (ap (direct_before o.code) (sym first) ∙ none_done) begins.sees
+          (ap (joined_before o.code) (sym first) ∙ none_done) begins.sees
           (begins.at ∙ ap (λ k. pc_of (word_of M V g z k)) first)
           (subst (λ k. Standing M g home (length o.variables) (live_at o.code k) seen m) first stands)))
 

@@ -45,7 +45,7 @@ use Rattle.ec_world.specs.declared.value.Value.{Value}
 use Rattle.ec_world.specs.declared.value.Value.TheVariants.{Nil}
 use Rattle.ec_world.specs.declared.value.ValueType.{ValueType}
 use Rattle.ec_world.specs.declared.value.ValueType.TheVariants.{Integer, Boolean, Bytes as Text, Reference}
-use Rattle.ec_machine_code.proofs.Sites.{fine_at}
+use Rattle.ec_machine_code.proofs.FineAt.{fine_at}
 use Rattle.ec_machine_code.proofs.Stretches.{get_front}
 use Rattle.ec_machine_code.proofs.LaidOutSizes.{before_within}
 use Rattle.ec_machine_code.proofs.Whole.{address_is, at_place, code, laid_at, speaks}

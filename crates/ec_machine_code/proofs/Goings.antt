@@ -1,13 +1,13 @@
 -- From the words of a step on to where another one begins.
-use Rattle.std.proofs.Common.{◌≡◌, ℕ, suc, ◌+◌, ◌-◌, ◌≤◌, List, [], ◌∷◌, ◌++◌, Some, None, Option, refl, sym, ap, ◌∙◌, subst, arith, Bool, true, false}
+use Rattle.std.proofs.Common.{◌≡◌, ℕ, suc, ◌+◌, ◌≤◌, List, [], ◌∷◌, ◌++◌, Some, None, Option, refl, ap, ◌∙◌, subst, arith, Bool, true, false}
 use Rattle.std.proofs.Common.{cond}
-use Rattle.std.specs.Prelude.{slice_get, not, ◌==◌, if◌then◌else◌}
+use Rattle.std.specs.Prelude.{not, ◌==◌, if◌then◌else◌}
 use Rattle.ec_code.specs.declared.code.Live.{Live}
 use Rattle.ec_code.specs.declared.code.Op.{Op}
 use Rattle.ec_code.specs.declared.code.Op.TheVariants as op
 use Rattle.ec_code.specs.declared.code.StopRow.{StopRow}
 use Rattle.ec_machine_code.specs.Direct.{laid_op}
-use Rattle.ec_machine_code.specs.Layout.{branch_size, branch_words, ending_size, ending_words, on_size, on_words, plain_size, size_of}
+use Rattle.ec_machine_code.specs.Layout.{ending_size, ending_words, on_size, on_words, plain_size, size_of}
 use Rattle.ec_machine_code.specs.Lowering.{ending_of, opposite, steps_of}
 use Rattle.ec_machine_code.specs.Machine.{MachineMeaning}
 use Rattle.ec_machine_code.specs.Micro.{CanAsk, Sight, asked}
@@ -129,13 +129,13 @@ module _ {S : Type 0} (M : MachineMeaning S) (V : Vocabulary) (g : Setting M) (z
         (on tail (suc q) e.last after has e.at (omega arith) (omega (arith, all, ending)) e.sees) (omega arith)
 
     -- to one of two steps
-    abbrev pub LeadsTo : ℕ → Bool → Type 0
-    LeadsTo over r = Ends M g.f g.own z.code s v (word q) end (if r then word (suc (q + over)) else word (suc (q + 0))) v
+    abbrev pub Turns : ℕ → Bool → Type 0
+    Turns over r = Ends M g.f g.own z.code s v (word q) end (if r then word (suc (q + over)) else word (suc (q + 0))) v
 
     -- the words of a question lead to one of them
     pub answered :
         (question : Question) (r : Bool) (over : ℕ) → plain_size V z.home x ≡ 0 → ending_of z.home x ≡ Some (Branch question over) →
-        CanAsk M g.f g.own question v → asked M g.f g.own question v.home v.bytes ≡ r → LeadsTo over r
+        CanAsk M g.f g.own question v → asked M g.f g.own question v.home v.bytes ≡ r → Turns over r
     answered question r over plain is can answer =
         by (next == suc (q + over)) refl
         (subst (λ k. HasAt z.code tail (ending_words V word next q tail k)) is (ending_there M V g z q o x here at same))
@@ -159,7 +159,7 @@ module _ {S : Type 0} (M : MachineMeaning S) (V : Vocabulary) (g : Setting M) (z
         -- asked as it is
         straight :
             (r : Bool) → asked M g.f g.own question v.home v.bytes ≡ r → HasAt z.code tail (asks ++ goes) →
-            end ≡ tail + (V.ask_size question + on_size V next (suc q)) → LeadsTo over r
+            end ≡ tail + (V.ask_size question + on_size V next (suc q)) → Turns over r
         straight r answer has sum =
             let low = ends_low in
             let inside = within in
@@ -175,7 +175,7 @@ module _ {S : Type 0} (M : MachineMeaning S) (V : Vocabulary) (g : Setting M) (z
             lead :
                 (r : Bool) → Ends M g.f g.own z.code s v tail (tail + V.ask_size question) (if r then to else tail + V.ask_size question) v →
                 HasAt z.code (tail + V.ask_size question) goes → end ≡ tail + (V.ask_size question + on_size V next (suc q)) →
-                LeadsTo over r
+                Turns over r
             lead true e back sum =
                 longer M g.f g.own z.code s v v tail (tail + V.ask_size question) (word q) end to (omega arith) (omega (arith, sum)) e
             lead false e back sum =
@@ -188,7 +188,7 @@ module _ {S : Type 0} (M : MachineMeaning S) (V : Vocabulary) (g : Setting M) (z
         by :
             (b : Bool) → (next == suc (q + over)) ≡ b →
             HasAt z.code tail (cond b (V.ask_words (opposite question) tail (word (suc q))) (asks ++ goes)) →
-            end ≡ tail + cond b (V.ask_size (opposite question)) (V.ask_size question + on_size V next (suc q)) → LeadsTo over r
+            end ≡ tail + cond b (V.ask_size (opposite question)) (V.ask_size question + on_size V next (suc q)) → Turns over r
         by true e has sum =
             let low = ends_low in
             let inside = within in

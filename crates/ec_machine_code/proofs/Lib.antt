@@ -6,6 +6,7 @@ pub mod Taking
 pub mod Different
 pub mod FineAt
 pub mod Direct
+pub mod Leading
 pub mod Values
 pub mod Variables
 pub mod Standing

@@ -19,8 +19,10 @@ use Rattle.ec_machine_code.specs.Machine.{MachineMeaning}
 use Rattle.ec_machine_code.specs.Stops.{live_list, stop_at, stop_in, without}
 use Rattle.ec_code.specs.Live.{stays}
 use Rattle.ec_code.specs.Marks.{is_same, is_written}
+use Rattle.ec_code.specs.Activations.{walk}
 use Rattle.ec_machine_code.proofs.Direct.{LeadsPast, branch_leads, jump_leads, none_behind, none_led}
-use Rattle.ec_machine_code.specs.Direct.{direct_at, direct_before, direct_of, laid_op}
+use Rattle.ec_machine_code.proofs.Leading.{LeadsTo, knows_asked, leads_far, leads_to, walks_on}
+use Rattle.ec_machine_code.specs.Direct.{asked_for, far_over, joined_at, joined_before, joined_of, laid_op, led_far}
 use Rattle.ec_machine_code.specs.Fitting.{TestFits}
 use Rattle.ec_machine_code.specs.Layout.{plain_size}
 use Rattle.ec_machine_code.specs.Lowering.{branch, branch_by, ending_of, known, question_of, steps_of}
@@ -35,9 +37,10 @@ use Rattle.ec_world.specs.declared.stop.Stop.TheVariants as stop
 use Rattle.ec_world.specs.declared.value.Value.{Value}
 use Rattle.ec_world.specs.declared.value.Value.TheVariants.{Ref, Str, Bool as Truth}
 use Rattle.ec_machine_code.proofs.Each.{Did, copies, decides_home, sets_field, takes_constant, takes_field, takes_itself, takes_literal, works}
-use Rattle.ec_machine_code.proofs.Operands.{Asked, asked_is, known_is}
-use Rattle.ec_machine_code.proofs.Goings.{LeadsTo, answered, goes_on, runs_on}
-use Rattle.ec_machine_code.proofs.Sites.{At, Site, end_of, ends_at, fine_at, line_of, live_next, named, passes_next, word_of}
+use Rattle.ec_machine_code.proofs.Operands.{asked_is, known_is}
+use Rattle.ec_machine_code.proofs.Goings.{Turns, answered, goes_on, runs_on}
+use Rattle.ec_machine_code.proofs.FineAt.{fine_at}
+use Rattle.ec_machine_code.proofs.Sites.{At, Site, end_of, ends_at, line_of, live_next, named, word_of}
 use Rattle.ec_machine_code.proofs.Standing.{Beside, Setting, Standing, passes_on}
 use Rattle.ec_machine_code.proofs.Stretches.{does_all}
 
@@ -78,21 +81,26 @@ module _ {S : Type 0} (M : MachineMeaning S) (V : Vocabulary) (g : Setting M) (z
     pub operands : (x : Variable) → IsIn x row.operands → (t : StaticType) × Has here x t
     pub live : (x : Variable) (t : StaticType) → Has (live_list z.of.code place row) x t → Has here x t
 
-  -- the code leads from the step at a place to another one, through words of its own
-  pub record Went (q : ℕ) (s : S) (v : Sight) (new : Machine) (to : ℕ) : Type 0 where
+  -- The code leads from the step at a place to another one, through words of its own. Silent steps that pass over so many steps behind
+  -- this one come there too.
+  pub record Went (q : ℕ) (s : S) (v : Sight) (new : Machine) (over : ℕ) : Type 0 where
+    pub far : ℕ
+    pub walks :
+        walk g.parts.literals g.self (suc q) (drop (suc q) z.of.code) over new
+        ≡ walk g.parts.literals g.self (suc q) (drop (suc q) z.of.code) far new
     pub after : Sight
-    pub ends : Ends M g.f g.own z.code s v (word_of M V g z q) (end_of M V g z q) (word_of M V g z to) after
-    pub stand : Standing M g z.home (named M V g z) (live_at z.of.code to) after new
+    pub ends : Ends M g.f g.own z.code s v (word_of M V g z q) (end_of M V g z q) (word_of M V g z (suc (q + far))) after
+    pub stand : Standing M g z.home (named M V g z) (live_at z.of.code (suc (q + far))) after new
     pub same : (address : ℕ) → Beside M g address → after.bytes address ≡ v.bytes address
-    -- no copy was done before it
-    pub lands : direct_before z.of.code to ≡ None
+    -- it isn't laid out with the step before it
+    pub lands : joined_before z.of.code (suc (q + far)) ≡ None
 
   pub record Looped (q back : ℕ) (here : List Live) (s : S) (v : Sight) : Type 0 where
     pub arrival : Arrival (q - back) here
     pub ends : Ends M g.f g.own z.code s v (word_of M V g z q) (end_of M V g z q) (word_of M V g z (q - back)) v
 
   abbrev pub Outcome : ℕ → Op → List Live → S → Sight → Done → Type 0
-  Outcome q o here s v (Goes new over) = Went q s v new (suc (q + over))
+  Outcome q o here s v (Goes new over) = Went q s v new over
   Outcome q o here s v (Rests row operands) = Arrival q here × (stop_at z.of.code q ≡ Some row)
   Outcome q o here s v (Loops back) = Looped q back here s v
   Outcome q o here s v NoCase = Unit {0}
@@ -158,10 +166,50 @@ module _ {S : Type 0} (M : MachineMeaning S) (V : Vocabulary) (g : Setting M) (z
       none_in : (x : Variable) → IsIn x [] → ⊥
       none_in x h = h
 
+  -- ---- jumps and questions
+
+  module _ (q : ℕ) (o x : Op) (here : List Live) (at : At M V g z q o here) (same : laid_op z.of.code q o ≡ x) (s : S) (v : Sight)
+      (there : M.place s ≡ pc_of (word_of M V g z q)) (sees : Sees M g.f g.own s v.home) where
+    -- a jump
+    jumped :
+        (over : ℕ) → plain_size V z.home x ≡ 0 → ending_of z.home x ≡ Some (Jump over) →
+        Ends M g.f g.own z.code s v (word_of M V g z q) (end_of M V g z q) (word_of M V g z (suc (q + over))) v
+    jumped over plain is = goes_on M V g z q o x here at same s v there sees (suc (q + over)) (Some (Jump over)) plain is refl refl
+
+    -- a step without words is behind itself
+    passed :
+        plain_size V z.home x ≡ 0 → ending_of z.home x ≡ None →
+        Ends M g.f g.own z.code s v (word_of M V g z q) (end_of M V g z q) (word_of M V g z (suc (q + 0))) v
+    passed plain none =
+        let first : suc q ≡ suc (q + 0) = omega arith in
+        ends_at M V g z s v v (word_of M V g z q) (end_of M V g z q) (word_of M V g z (suc q)) (word_of M V g z (suc (q + 0)))
+        (ap (word_of M V g z) first)
+        (goes_on M V g z q o x here at same s v there sees (suc q) None plain none refl refl)
+
+    abbrev Answers : ℕ → Bool → Type 0
+    Answers over r = Turns M V g z q o x here at same s v there sees over r
+
+    -- and so do those that stand for it where its answer is known
+    pub known_or_asked :
+        (question : Question) (r : Bool) (over : ℕ) → plain_size V z.home x ≡ 0 → ending_of z.home x ≡ branch question over →
+        CanAsk M g.f g.own question v → asked M g.f g.own question v.home v.bytes ≡ r → Answers over r
+    known_or_asked question r over plain is can answer = by (known question) refl
+      where
+        ending : (k : Option Bool) → known question ≡ k → ending_of z.home x ≡ branch_by k question over
+        ending k e = is ∙ ap (λ (j : Option Bool). branch_by j question over) e
+
+        comes_to : (b : Bool) → known question ≡ Some b → b ≡ r
+        comes_to b e = sym (known_is M g.f g.own v.home v.bytes question b e) ∙ answer
+
+        by : (k : Option Bool) → known question ≡ k → Answers over r
+        by None e = answered M V g z q o x here at same s v there sees question r over plain (ending None e) can answer
+        by (Some true) e = subst (λ b. Answers over b) (comes_to true e) (jumped over plain (ending (Some true) e))
+        by (Some false) e = subst (λ b. Answers over b) (comes_to false e) (passed plain (ending (Some false) e))
+
   -- ---- steps
 
-  module _ (q : ℕ) (o : Op) (here : List Live) (at : At M V g z q o here) (same : laid_op z.of.code q o ≡ o)
-      (single : direct_of z.of.code q o ≡ None) (s : S) (v : Sight) (m : Machine)
+  module _ (q : ℕ) (o : Op) (here : List Live) (at : At M V g z q o here) (same : laid_op z.of.code q o ≡ led_far z.of.code q o)
+      (single : joined_of z.of.code q o ≡ None) (s : S) (v : Sight) (m : Machine)
       (stand : Standing M g z.home (named M V g z) here v m) (sees : Sees M g.f g.own s v.home)
       (there : M.place s ≡ pc_of (word_of M V g z q)) where
     abbrev Leads : Done → Type 0
@@ -170,21 +218,25 @@ module _ {S : Type 0} (M : MachineMeaning S) (V : Vocabulary) (g : Setting M) (z
     abbrev Does : List Step → Machine → Type 0
     Does steps new = Did M V g z q o here at v m stand steps new
 
-    falls : direct_at z.of.code (q + 0) ≡ None
+    falls : joined_at z.of.code (q + 0) ≡ None
     falls =
         let none : q + 0 ≡ q = omega arith in
-        ap (direct_at z.of.code) none ∙ none_behind z.of.code q (line_of o here) at single
+        ap (joined_at z.of.code) none ∙ none_behind z.of.code q (line_of o here) at single
 
     -- a step behind which the next one follows
-    follows : (new : Machine) → ending_of z.home o ≡ None → Does (steps_of z.home o) new → Leads (Goes new 0)
-    follows new none d =
+    follows :
+        (new : Machine) → led_far z.of.code q o ≡ o → ending_of z.home o ≡ None → Does (steps_of z.home o) new → Leads (Goes new 0)
+    follows new as_it_is none d =
+        let same_op = same ∙ as_it_is in
         let first : suc q ≡ suc (q + 0) = omega arith in
         let after = does_all M g.f g.own z.code (steps_of z.home o) v in
         record {
+          far = 0;
+          walks = refl;
           after = after;
           ends = ends_at M V g z s v after (word_of M V g z q) (end_of M V g z q) (word_of M V g z (suc q))
               (word_of M V g z (suc (q + 0))) (ap (word_of M V g z) first)
-              (runs_on M V g z q o o here at same s v there sees none d.can);
+              (runs_on M V g z q o o here at same_op s v there sees none d.can);
           stand = subst (λ k. Standing M g z.home (named M V g z) (live_at z.of.code k) after new) first d.behind;
           same = d.same;
           lands = falls;
@@ -213,93 +265,89 @@ module _ {S : Type 0} (M : MachineMeaning S) (V : Vocabulary) (g : Setting M) (z
 
     -- ---- jumps and questions
 
-    -- a jump
-    jumped :
-        (over : ℕ) → plain_size V z.home o ≡ 0 → ending_of z.home o ≡ Some (Jump over) →
-        Ends M g.f g.own z.code s v (word_of M V g z q) (end_of M V g z q) (word_of M V g z (suc (q + over))) v
-    jumped over plain is = goes_on M V g z q o o here at same s v there sees (suc (q + over)) (Some (Jump over)) plain is refl refl
-
-    -- a step without words is behind itself
-    passed :
-        plain_size V z.home o ≡ 0 → ending_of z.home o ≡ None →
-        Ends M g.f g.own z.code s v (word_of M V g z q) (end_of M V g z q) (word_of M V g z (suc (q + 0))) v
-    passed plain none =
-        let first : suc q ≡ suc (q + 0) = omega arith in
-        ends_at M V g z s v v (word_of M V g z q) (end_of M V g z q) (word_of M V g z (suc q)) (word_of M V g z (suc (q + 0)))
-        (ap (word_of M V g z) first)
-        (goes_on M V g z q o o here at same s v there sees (suc q) None plain none refl refl)
-
-    abbrev Turns : ℕ → Bool → Type 0
-    Turns over r = LeadsTo M V g z q o o here at same s v there sees over r
-
-    -- and so do those that stand for it where its answer is known
-    known_or_asked :
-        (question : Question) (r : Bool) (over : ℕ) → plain_size V z.home o ≡ 0 → ending_of z.home o ≡ branch question over →
-        CanAsk M g.f g.own question v → asked M g.f g.own question v.home v.bytes ≡ r → Turns over r
-    known_or_asked question r over plain is can answer = by (known question) refl
-      where
-        ending : (k : Option Bool) → known question ≡ k → ending_of z.home o ≡ branch_by k question over
-        ending k e = is ∙ ap (λ (j : Option Bool). branch_by j question over) e
-
-        comes_to : (b : Bool) → known question ≡ Some b → b ≡ r
-        comes_to b e = sym (known_is M g.f g.own v.home v.bytes question b e) ∙ answer
-
-        by : (k : Option Bool) → known question ≡ k → Turns over r
-        by None e = answered M V g z q o o here at same s v there sees question r over plain (ending None e) can answer
-        by (Some true) e = subst (λ b. Turns over b) (comes_to true e) (jumped over plain (ending (Some true) e))
-        by (Some false) e = subst (λ b. Turns over b) (comes_to false e) (passed plain (ending (Some false) e))
-
-    asks :
-        (t : Test) (wanted r : Bool) (over : ℕ) → o ≡ op.Branch t wanted over → Asked M V g z here v m stand t wanted r → Turns over r
-    asks t wanted r over is a =
-        known_or_asked (question_of z.home t wanted) r over (ap (plain_size V z.home) is) (ap (ending_of z.home) is) a.can a.is
-
     went_to :
-        (over : ℕ) → direct_at z.of.code (q + over) ≡ None → Passes z.declared g.parts (drop (suc q) z.of.code) over here →
-        Ends M g.f g.own z.code s v (word_of M V g z q) (end_of M V g z q) (word_of M V g z (suc (q + over))) v →
-        Leads (Goes m over)
-    went_to over lands flows e = record {
+        (over far : ℕ) →
+        walk g.parts.literals g.self (suc q) (drop (suc q) z.of.code) over m
+        ≡ walk g.parts.literals g.self (suc q) (drop (suc q) z.of.code) far m →
+        joined_at z.of.code (q + far) ≡ None → LeadsTo z.declared g.parts z.number z.of z.fine q here far →
+        Ends M g.f g.own z.code s v (word_of M V g z q) (end_of M V g z q) (word_of M V g z (suc (q + far))) v → Leads (Goes m over)
+    went_to over far walks lands flows e = record {
+      far = far;
+      walks = walks;
       after = v;
       ends = e;
-      stand = passes_on M g z.home (named M V g z) here (live_at z.of.code (suc (q + over))) v m
-          (passes_next M V g z q over here flows) stand;
+      stand = passes_on M g z.home (named M V g z) here (live_at z.of.code (suc (q + far))) v m flows.1 stand;
       same = λ address out. refl;
       lands = lands;
     }
+
+    -- the way from here past so many steps leads to code
+    flows_to : (over : ℕ) → Passes z.declared g.parts (drop (suc q) z.of.code) over here →
+        LeadsTo z.declared g.parts z.number z.of z.fine q here over
+    flows_to over flows = leads_to z.declared g.parts z.number z.of z.fine q over here flows
+
+    flows_far :
+        (known : Option Variable) (value : Bool) (over : ℕ) → Passes z.declared g.parts (drop (suc q) z.of.code) over here →
+        LeadsTo z.declared g.parts z.number z.of z.fine q here (far_over z.of.code known value q over)
+    flows_far known value over flows = leads_far z.declared g.parts z.number z.of z.fine known value q over here (flows_to over flows)
+
+    abbrev branch_far : Test → Bool → ℕ → ℕ
+    branch_far t wanted over = far_over z.of.code (asked_for t) wanted q over
+
+    abbrev jump_far : ℕ → ℕ
+    jump_far over = far_over z.of.code None true q over
 
     branches :
         (t : Test) (wanted : Bool) (over : ℕ) → o ≡ op.Branch t wanted over → FineTest z.declared g.parts here t → TestFits t →
         Passes z.declared g.parts (drop (suc q) z.of.code) 0 here → Passes z.declared g.parts (drop (suc q) z.of.code) over here →
         Leads (passes m over (as_wanted wanted (tested m t)))
-    branches t wanted over is fine fits next far = by (as_wanted wanted (tested m t)) refl
+    branches t wanted over is fine fits next past = by (as_wanted wanted (tested m t)) refl
       where
-        led : direct_at z.of.code (q + over) ≡ None
-        led =
-            none_led z.of.code q (line_of o here) (q + over) at
-            (subst (λ i. LeadsPast q i (suc (q + over))) (sym is) (branch_leads q over t wanted))
+        laid : led_far z.of.code q o ≡ op.Branch t wanted (branch_far t wanted over)
+        laid = ap (led_far z.of.code q) is
 
-        is_asked : (r : Bool) → as_wanted wanted (tested m t) ≡ Some r → Asked M V g z here v m stand t wanted r
-        is_asked r e = asked_is M V g z here v m stand t wanted r fine fits e
+        led : joined_at z.of.code (q + (branch_far t wanted over)) ≡ None
+        led =
+            none_led z.of.code q (line_of o here) (q + (branch_far t wanted over)) at
+            (subst (λ i. LeadsPast q i (suc (q + (branch_far t wanted over)))) (sym laid) (branch_leads q (branch_far t wanted over) t wanted))
+
+        comes : (r : Bool) → as_wanted wanted (tested m t) ≡ Some r →
+            Answers q o (op.Branch t wanted (branch_far t wanted over)) here at (same ∙ laid) s v there sees (branch_far t wanted over) r
+        comes r e =
+            let a = asked_is M V g z here v m stand t wanted r fine fits e in
+            known_or_asked q o (op.Branch t wanted (branch_far t wanted over)) here at (same ∙ laid) s v there sees
+            (question_of z.home t wanted) r (branch_far t wanted over) refl refl a.can a.is
 
         by : (r : Option Bool) → as_wanted wanted (tested m t) ≡ r → Leads (passes m over r)
         by None e = tt
-        by (Some true) e = went_to over led far (asks t wanted true over is (is_asked true e))
-        by (Some false) e = went_to 0 falls next (asks t wanted false over is (is_asked false e))
+        by (Some true) e =
+            went_to over (branch_far t wanted over) (walks_on g.parts.literals g.self z.of.code (asked_for t) wanted q over m (knows_asked m t wanted e)) led
+            (flows_far (asked_for t) wanted over past) (comes true e)
+        by (Some false) e = went_to 0 0 refl falls (flows_to 0 next) (comes false e)
 
     jumps :
         (over : ℕ) → o ≡ op.Jump over → Passes z.declared g.parts (drop (suc q) z.of.code) over here → Leads (Goes m over)
     jumps over is flows =
-        went_to over
-        (none_led z.of.code q (line_of o here) (q + over) at (subst (λ i. LeadsPast q i (suc (q + over))) (sym is) (jump_leads q over)))
-        flows (jumped over (ap (plain_size V z.home) is) (ap (ending_of z.home) is))
+        went_to over (jump_far over) (walks_on g.parts.literals g.self z.of.code None true q over m tt) led (flows_far None true over flows)
+        (jumped q o (op.Jump (jump_far over)) here at (same ∙ laid) s v there sees (jump_far over) refl refl)
+      where
+        laid : led_far z.of.code q o ≡ op.Jump (jump_far over)
+        laid = ap (led_far z.of.code q) is
+
+        led : joined_at z.of.code (q + (jump_far over)) ≡ None
+        led =
+            none_led z.of.code q (line_of o here) (q + (jump_far over)) at
+            (subst (λ i. LeadsPast q i (suc (q + (jump_far over)))) (sym laid) (jump_leads q (jump_far over)))
 
     loops :
         (back : ℕ) → o ≡ op.Again back → FineTop z.declared g.parts z.number z.of q back here → Leads (Loops back)
-    loops back is fine = record {
-      arrival = at_top q back here fine;
-      ends = goes_on M V g z q o o here at same s v there sees (q - back) (Some (Again back)) (ap (plain_size V z.home) is)
-          (ap (ending_of z.home) is) refl refl;
-    }
+    loops back is fine =
+        let same_op = same ∙ (ap (led_far z.of.code q) is ∙ sym is) in
+        record {
+          arrival = at_top q back here fine;
+          ends = goes_on M V g z q o o here at same_op s v there sees (q - back) (Some (Again back)) (ap (plain_size V z.home) is)
+              (ap (ending_of z.home) is) refl refl;
+        }
 
   -- ---- all of them
 
@@ -308,7 +356,8 @@ module _ {S : Type 0} (M : MachineMeaning S) (V : Vocabulary) (g : Setting M) (z
   text_some (Some t) u e = (t, refl, same_Some (Str t) u e)
 
   pub leads :
-      (q : ℕ) (o : Op) (here : List Live) → At M V g z q o here → laid_op z.of.code q o ≡ o → direct_of z.of.code q o ≡ None →
+      (q : ℕ) (o : Op) (here : List Live) → At M V g z q o here → laid_op z.of.code q o ≡ led_far z.of.code q o →
+      joined_of z.of.code q o ≡ None →
       (s : S) (v : Sight) (m : Machine) →
       Standing M g z.home (named M V g z) here v m → Sees M g.f g.own s v.home → M.place s ≡ pc_of (word_of M V g z q) →
       Outcome q o here s v (act g.parts.literals g.self m o)
@@ -317,26 +366,26 @@ module _ {S : Type 0} (M : MachineMeaning S) (V : Vocabulary) (g : Setting M) (z
       let fine = fine_at z.declared g.parts z.number z.of q (line_of o here) z.fine at in
       let fits = z.numbers q (line_of o here) at in
       given q o here at same single s v m stand sees there to (operand_at m from)
-      (λ u e. follows q o here at same single s v m stand sees there (with_variable m to u) refl
+      (λ u e. follows q o here at same single s v m stand sees there (with_variable m to u) refl refl
       (copies M V g z q o here at v m stand to from fine.0 u refl fine.1 fits fine.2 e))
   leads q (op.Literal to index) here at same single s v m stand sees there =
       let o = op.Literal to index in
       let fine = fine_at z.declared g.parts z.number z.of q (line_of o here) z.fine at in
       given q o here at same single s v m stand sees there to (option_map Str (slice_get g.parts.literals index))
-      (λ u e. follows q o here at same single s v m stand sees there (with_variable m to u) refl
+      (λ u e. follows q o here at same single s v m stand sees there (with_variable m to u) refl refl
       (let t = text_some (slice_get g.parts.literals index) u e in
       subst (λ w. Did M V g z q o here at v m stand (steps_of z.home o) (with_variable m to w)) t.2
       (takes_literal M V g z q o here at v m stand to index _ t.0 refl fine.1 t.1)))
   leads q (op.Itself to) here at same single s v m stand sees there =
       let o = op.Itself to in
       let fine = fine_at z.declared g.parts z.number z.of q (line_of o here) z.fine at in
-      follows q o here at same single s v m stand sees there (with_variable m to (Ref g.self)) refl
+      follows q o here at same single s v m stand sees there (with_variable m to (Ref g.self)) refl refl
       (takes_itself M V g z q o here at v m stand to _ refl fine.1)
   leads q (op.Field to n) here at same single s v m stand sees there =
       let o = op.Field to n in
       let fine = fine_at z.declared g.parts z.number z.of q (line_of o here) z.fine at in
       given q o here at same single s v m stand sees there to (own_field m.common g.self n)
-      (λ u e. follows q o here at same single s v m stand sees there (with_variable m to u) refl
+      (λ u e. follows q o here at same single s v m stand sees there (with_variable m to u) refl refl
       (takes_field M V g z q o here at v m stand to n fine.0 u refl fine.2 e))
   leads q (op.SetField n from) here at same single s v m stand sees there =
       let o = op.SetField n from in
@@ -345,27 +394,27 @@ module _ {S : Type 0} (M : MachineMeaning S) (V : Vocabulary) (g : Setting M) (z
       let was = z.sets q n (line_of o here) from at refl in
       let old = stand.ground.kept n was.0 was.1 in
       is_stored_or_not q o here at same single s v m stand sees there n (operand_at m from)
-      (λ u e. follows q o here at same single s v m stand sees there (record m { common = with_field m.common g.self n u }) refl
+      (λ u e. follows q o here at same single s v m stand sees there (record m { common = with_field m.common g.self n u }) refl refl
       (sets_field M V g z q o here at v m stand n from fine.0.0 u old.0 fine.0.2 fits fine.1 e old.1))
   leads q (op.Constant to index) here at same single s v m stand sees there =
       let o = op.Constant to index in
       let fine = fine_at z.declared g.parts z.number z.of q (line_of o here) z.fine at in
       given q o here at same single s v m stand sees there to (slice_get m.common.globals index)
-      (λ u e. follows q o here at same single s v m stand sees there (with_variable m to u) refl
+      (λ u e. follows q o here at same single s v m stand sees there (with_variable m to u) refl refl
       (takes_constant M V g z q o here at v m stand to index fine.0 u refl fine.2 e))
   leads q (op.Compute how to left right) here at same single s v m stand sees there =
       let o = op.Compute how to left right in
       let fine = fine_at z.declared g.parts z.number z.of q (line_of o here) z.fine at in
       let fits = z.numbers q (line_of o here) at in
       given q o here at same single s v m stand sees there to (on_two (on_numbers (computed how)) (operand_at m left) (operand_at m right))
-      (λ u e. follows q o here at same single s v m stand sees there (with_variable m to u) refl
+      (λ u e. follows q o here at same single s v m stand sees there (with_variable m to u) refl refl
       (works M V g z q o here at v m stand how to left right _ _ u refl fine.1 fine.0.0 fine.0.1 fits.0 fits.1 e))
   leads q (op.Decide to t wanted) here at same single s v m stand sees there =
       let o = op.Decide to t wanted in
       let fine = fine_at z.declared g.parts z.number z.of q (line_of o here) z.fine at in
       let fits = z.numbers q (line_of o here) at in
       decided q o here at same single s v m stand sees there to (as_wanted wanted (tested m t))
-      (λ r e. follows q o here at same single s v m stand sees there (with_variable m to (Truth r)) refl
+      (λ r e. follows q o here at same single s v m stand sees there (with_variable m to (Truth r)) refl refl
       (decides_home M V g z q o here at v m stand to t wanted r _ refl fine.1
       (asked_is M V g z here v m stand t wanted r fine.0 fits e)))
   leads q (op.Branch t wanted over) here at same single s v m stand sees there =

@@ -26,7 +26,8 @@ use Rattle.ec_target.specs.Code.{pc_of}
 use Rattle.ec_world.specs.declared.value.Value.{Value}
 use Rattle.ec_machine_code.proofs.Operands.{found_is}
 use Rattle.ec_machine_code.proofs.Goings.{goes_on, runs_on}
-use Rattle.ec_machine_code.proofs.Sites.{At, Site, end_of, fine_at, flows_next, line_of, named, there_next, word_of}
+use Rattle.ec_machine_code.proofs.FineAt.{fine_at}
+use Rattle.ec_machine_code.proofs.Sites.{At, Site, end_of, flows_next, line_of, named, there_next, word_of}
 use Rattle.ec_machine_code.proofs.Standing.{Beside, Flows, Held, Setting, Standing, can_write, writes_home, written_beside}
 use Rattle.ec_machine_code.proofs.Stretches.{CanAll}
 use Rattle.ec_machine_code.proofs.Values.{reckons, stands_small, two_some}

@@ -1,11 +1,10 @@
 -- Code of an operation, where it stands in the code of a program; and what the typing of three-address code says of a place.
-use Rattle.std.proofs.Common.{◌≡◌, ◌≢◌, ℕ, zero, suc, ◌+◌, ◌≤◌, List, [], ◌∷◌, length, drop, Some, sym, ap, ◌∙◌}
+use Rattle.std.proofs.Common.{◌≡◌, ◌≢◌, ℕ, suc, ◌+◌, ◌≤◌, List, length, drop, Some, sym, ap, ◌∙◌}
 use Rattle.std.proofs.Common.{subst, arith, inl, inr, ⊎_elim}
 use Rattle.std.specs.Prelude.{slice_get}
-use Rattle.std.proofs.lemmas.Option.{same_Some}
 use Rattle.ec_base.proofs.Lists.{get_within}
 use Rattle.ec_code.specs.Fine.{IsIn}
-use Rattle.ec_code.specs.Fine.{FineCode, FineOp, FineOperation, Has, Passes, Writes, live_at, live_if}
+use Rattle.ec_code.specs.Fine.{FineOperation, Has, Passes, Writes, live_at, live_if}
 use Rattle.ec_code.specs.Steps.{own_field}
 use Rattle.ec_code.specs.Typing.{Declared}
 use Rattle.ec_code.specs.declared.code.Line.{Line}
@@ -14,7 +13,6 @@ use Rattle.ec_code.specs.declared.code.Op.{Op}
 use Rattle.ec_code.specs.declared.code.Op.TheVariants.{SetField}
 use Rattle.ec_code.specs.declared.code.Operand.{Operand}
 use Rattle.ec_code.specs.declared.code.Operation.{Operation}
-use Rattle.ec_code.specs.declared.code.Parts.{Parts}
 use Rattle.ec_code.specs.declared.code.Variable.{Variable}
 use Rattle.ec_code.specs.declared.code.Variable.TheVariants.{Named, Temporary}
 use Rattle.ec_types.specs.declared.conform.static_type.StaticType.{StaticType}
@@ -72,27 +70,6 @@ pub record Site {S : Type 0} (M : MachineMeaning S) (V : Vocabulary) (g : Settin
   pub laid : Laid V home (ops_of of.code) order code start
 
 -- ---- the typing of a place
-
-module _ (d : Declared) (p : Parts) (number : ℕ) (o : Operation) where
-  fine_from :
-      (code : List Line) (first q : ℕ) (line : Line) → FineCode d p number o first code → slice_get code q ≡ Some line →
-      FineOp d p number o (first + q) (drop (suc q) code) line.live line.op
-  fine_from [] first q line fine e = absurd cc
-  fine_from (l ∷ rest) first zero line fine e =
-      let same : l ≡ line = same_Some l line e in
-      let none : first ≡ first + 0 = omega arith in
-      subst (λ n. FineOp d p number o n rest line.live line.op) none
-      (subst (λ x. FineOp d p number o first rest x.live x.op) same fine.0)
-  fine_from (l ∷ rest) first (suc q) line fine e =
-      let next : suc first + q ≡ first + suc q = omega arith in
-      subst (λ n. FineOp d p number o n (drop (suc q) rest) line.live line.op) next (fine_from rest (suc first) q line fine.1 e)
-
-  pub fine_at :
-      (q : ℕ) (line : Line) → FineOperation d p number o → slice_get o.code q ≡ Some line →
-      FineOp d p number o q (drop (suc q) o.code) line.live line.op
-  fine_at q line fine e =
-      let none : 0 + q ≡ q = omega arith in
-      subst (λ n. FineOp d p number o n (drop (suc q) o.code) line.live line.op) none (fine_from o.code 0 q line fine.code e)
 
 -- what is live behind so many lines of what is behind a place
 pub live_behind : (code : List Line) (q over : ℕ) → live_at (drop (suc q) code) over ≡ live_at code (suc (q + over))

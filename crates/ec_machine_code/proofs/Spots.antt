@@ -1,5 +1,5 @@
 -- Runs through the words of several steps: each step has words of its own, and none is passed twice.
-use Rattle.std.proofs.Common.{◌≡◌, ◌≢◌, ℕ, suc, ◌+◌, ◌<◌, ◌≤◌, List, [], ◌++◌, length, Some, ap, arith, ⊎_elim}
+use Rattle.std.proofs.Common.{◌≡◌, ◌≢◌, ℕ, suc, ◌+◌, ◌<◌, ◌≤◌, List, [], ◌++◌, length, Some, arith, ⊎_elim}
 use Rattle.std.specs.Prelude.{slice_get}
 use Rattle.ec_code.specs.Fine.{IsIn}
 use Rattle.ec_code.specs.declared.code.Line.{Line}
@@ -86,7 +86,12 @@ module _ {S : Type 0} (M : MachineMeaning S) (V : Vocabulary) (g : Setting M) (z
           let w = far.words k b in
           let least = w.least in
           record {
-            step = w.step; line = w.line; is_line = w.is_line; least = omega (arith, lt, least); low = w.low; high = w.high
+            step = w.step;
+            line = w.line;
+            is_line = w.is_line;
+            least = omega (arith, lt, least);
+            low = w.low;
+            high = w.high;
           })
           (in_either k e.climbs.path far.path h);
       at = far.at;

@@ -1,32 +1,55 @@
 -- The code of an operation does what silent steps do, up to the next stop.
-use Rattle.std.proofs.Common.{◌≡◌, ℕ, zero, suc, ◌+◌, ◌-◌, ◌<◌, List, [], ◌∷◌, drop, Option, Some, None, refl, sym, ap, ◌∙◌, subst, arith}
+use Rattle.std.proofs.Common.{◌≡◌, ◌≢◌, ℕ, zero, suc, ◌+◌, ◌-◌, ◌<◌, Bool, true, false, List, [], ◌∷◌, drop, length, Option, Some, None}
+use Rattle.std.proofs.Common.{refl, sym, ap, ◌∙◌, subst, arith, ⊎_elim}
 use Rattle.std.specs.Prelude.{slice_get}
 use Rattle.ec_base.proofs.Lists.{drop_at}
 use Rattle.ec_code.specs.Activations.{Arrived, walk, walk_by}
-use Rattle.ec_code.specs.Fine.{live_at, live_if}
-use Rattle.ec_code.specs.Steps.{Done, Goes, Loops, Machine, NoCase, Rests, act, computed, gives, on_numbers, on_two, operand_at}
-use Rattle.ec_code.specs.Steps.{with_variable}
+use Rattle.ec_code.specs.Fine.{FineOp, Has, live_at, live_if}
+use Rattle.ec_code.specs.Steps.{Done, Goes, Loops, Machine, NoCase, Rests, act, as_wanted, computed, decides as decides_it, gives}
+use Rattle.ec_code.specs.Steps.{on_numbers, on_two, operand_at, passes, tested, truth_in, variable_at, with_variable}
 use Rattle.ec_code.specs.declared.code.Line.{Line}
 use Rattle.ec_code.specs.declared.code.Op.{Op}
 use Rattle.ec_code.specs.declared.code.Op.TheVariants as op
 use Rattle.ec_code.specs.declared.code.Operand.TheVariants as operand
+use Rattle.ec_code.specs.declared.code.Test.{Test}
+use Rattle.ec_code.specs.declared.code.Test.TheVariants as test
+use Rattle.ec_code.specs.declared.code.Variable.{Variable}
 use Rattle.ec_code.specs.declared.code.Variable.TheVariants.{Named, Temporary}
 use Rattle.ec_machine_code.specs.Faithful.{machine_at}
 use Rattle.ec_machine_code.specs.Machine.{MachineMeaning}
-use Rattle.ec_machine_code.proofs.Direct.{IsDirect, is_direct, none_behind}
-use Rattle.ec_machine_code.specs.Direct.{direct_at, direct_before, direct_if, direct_of, done_already, laid_by, laid_op}
+use Rattle.ec_machine_code.proofs.Direct.{HasNext, IsAsked, IsDead, IsDirect, branch_leads, is_joined, never_joined, none_behind, none_led, none_made}
+use Rattle.ec_machine_code.proofs.Leading.{LeadsTo, as_it_is, leads_far, leads_to, walks_on}
+use Rattle.ec_machine_code.specs.Direct.{done_already, far_over, joined_at, joined_before, joined_line, joined_of, laid_by, laid_op, led_far}
+use Rattle.ec_machine_code.specs.Direct.{left_out}
+use Rattle.ec_machine_code.specs.Layout.{words_of_steps}
+use Rattle.ec_machine_code.specs.Lowering.{question_of}
+use Rattle.ec_machine_code.specs.declared.joined.Joined.{Joined}
+use Rattle.ec_machine_code.specs.declared.joined.Joined.TheVariants.{Asks, Into}
 use Rattle.ec_machine_code.specs.Micro.{Sight}
 use Rattle.ec_machine_code.specs.Speaks.{Ends, Sees, Vocabulary}
 use Rattle.ec_target.specs.Code.{pc_of}
 use Rattle.ec_world.specs.declared.common.Common.{Common}
+use Rattle.ec_world.specs.Same.{is_same_truth}
 use Rattle.ec_world.specs.declared.value.Value.{Value}
-use Rattle.ec_machine_code.proofs.Outcomes.{Arrival, Outcome, leads}
+use Rattle.ec_world.specs.declared.value.Value.TheVariants.{Bool as Truth}
+use Rattle.ec_machine_code.proofs.Operands.{asked_is}
+use Rattle.ec_machine_code.proofs.Outcomes.{Arrival, Outcome, known_or_asked, leads}
 use Rattle.ec_machine_code.proofs.Pairs.{passed}
-use Rattle.ec_machine_code.proofs.Sites.{At, Site, end_of, line_of, named, word_of}
+use Rattle.ec_machine_code.proofs.Goings.{Turns, goes_on}
+use Rattle.ec_machine_code.proofs.FineAt.{fine_at}
+use Rattle.ec_machine_code.proofs.Sites.{At, Site, end_of, flows_next, line_of, named, word_of}
 use Rattle.ec_machine_code.proofs.Spots.{Comes, comes_on, comes_there, is_there}
-use Rattle.ec_machine_code.proofs.Standing.{Beside, Setting, Standing}
+use Rattle.ec_machine_code.proofs.Standing.{Beside, Held, Setting, Standing}
 use Rattle.ec_machine_code.proofs.Stretches.{drop_next, get_drop}
-use Rattle.ec_machine_code.proofs.Variables.{set_same}
+use Rattle.ec_machine_code.proofs.Values.{wanted_some}
+use Rattle.ec_machine_code.proofs.Variables.{set_other, set_same}
+
+-- what is wanted of what is wanted
+twice : (a b c : Bool) → is_same_truth (is_same_truth a b) c ≡ is_same_truth a (is_same_truth b c)
+twice true b c = refl
+twice false true c = refl
+twice false false true = refl
+twice false false false = refl
 
 module _ {S : Type 0} (M : MachineMeaning S) (V : Vocabulary) (g : Setting M) (z : Site M V g) where
   -- the code leads to the stop that is reached, through words of a step and of those behind it, none of them twice
@@ -63,10 +86,10 @@ module _ {S : Type 0} (M : MachineMeaning S) (V : Vocabulary) (g : Setting M) (z
     same = λ address out. h.same address out ∙ same address out;
   }
 
-  -- from where a step begins, before which no copy has been done
+  -- from where a step begins that isn't laid out with the one before it
   abbrev pub From : (rest : List Line) → ℕ → ℕ → Machine → Type 0
   From rest p over m =
-      (s : S) (v : Sight) → direct_before z.of.code (p + over) ≡ None → Sees M g.f g.own s v.home →
+      (s : S) (v : Sight) → joined_before z.of.code (p + over) ≡ None → Sees M g.f g.own s v.home →
       M.place s ≡ pc_of (word_of M V g z (p + over)) →
       Standing M g z.home (named M V g z) (live_at z.of.code (p + over)) v m →
       GetsTo s v (p + over) (walk g.parts.literals g.self p rest over m)
@@ -74,18 +97,21 @@ module _ {S : Type 0} (M : MachineMeaning S) (V : Vocabulary) (g : Setting M) (z
   -- behind one step
   behind :
       (p : ℕ) (line : Line) (rest : List Line) (m : Machine) (done : Done) (s : S) (v : Sight) → slice_get z.of.code p ≡ Some line →
-      laid_op z.of.code p line.op ≡ line.op → Standing M g z.home (named M V g z) line.live v m → Sees M g.f g.own s v.home →
+      drop (suc p) z.of.code ≡ rest → Standing M g z.home (named M V g z) line.live v m → Sees M g.f g.own s v.home →
       M.place s ≡ pc_of (word_of M V g z p) → Outcome M V g z p line.op line.live s v done →
       ((over : ℕ) (new : Machine) → From rest (suc p) over new) →
       GetsTo s v p (walk_by p (walk g.parts.literals g.self (suc p) rest) m done)
-  behind p line rest m (Goes new over) s v at same stand sees there went next =
-      let on : suc (p + over) ≡ suc p + over = omega arith in
-      extends s v went.after p (suc p + over) (word_of M V g z (suc (p + over))) line (walk g.parts.literals g.self (suc p) rest over new)
-      at went.ends went.same (omega arith)
-      (next over new went.ends.last went.after (ap (direct_before z.of.code) (sym on) ∙ went.lands) went.ends.sees
+  behind p line rest m (Goes new over) s v at is stand sees there went next =
+      let on : suc (p + went.far) ≡ suc p + went.far = omega arith in
+      let walks : walk g.parts.literals g.self (suc p) rest over new ≡ walk g.parts.literals g.self (suc p) rest went.far new =
+      subst (λ r. walk g.parts.literals g.self (suc p) r over new ≡ walk g.parts.literals g.self (suc p) r went.far new) is went.walks in
+      subst (GetsTo s v p) (sym walks)
+      (extends s v went.after p (suc p + went.far) (word_of M V g z (suc (p + went.far))) line
+      (walk g.parts.literals g.self (suc p) rest went.far new) at went.ends went.same (omega arith)
+      (next went.far new went.ends.last went.after (ap (joined_before z.of.code) (sym on) ∙ went.lands) went.ends.sees
       (went.ends.at ∙ ap (λ k. pc_of (word_of M V g z k)) on)
-      (subst (λ k. Standing M g z.home (named M V g z) (live_at z.of.code k) went.after new) on went.stand))
-  behind p line rest m (Rests row operands) s v at same stand sees there arrived next = record {
+      (subst (λ k. Standing M g z.home (named M V g z) (live_at z.of.code k) went.after new) on went.stand)))
+  behind p line rest m (Rests row operands) s v at is stand sees there arrived next = record {
     from = p;
     line = line;
     is_line = at;
@@ -95,7 +121,7 @@ module _ {S : Type 0} (M : MachineMeaning S) (V : Vocabulary) (g : Setting M) (z
     stand = stand;
     same = λ address out. refl;
   }
-  behind p line rest m (Loops back) s v at same stand sees there looped next = record {
+  behind p line rest m (Loops back) s v at is stand sees there looped next = record {
     from = p;
     line = line;
     is_line = at;
@@ -105,13 +131,13 @@ module _ {S : Type 0} (M : MachineMeaning S) (V : Vocabulary) (g : Setting M) (z
     stand = stand;
     same = λ address out. refl;
   }
-  behind p line rest m NoCase s v at same stand sees there none next = tt
+  behind p line rest m NoCase s v at is stand sees there none next = tt
 
   -- a step whose result goes at once to where the next one copies it
   module _ (p n : ℕ) (line : Line) (rest : List Line) (m : Machine) (s : S) (v : Sight) (at : slice_get z.of.code p ≡ Some line)
-      (before : direct_before z.of.code p ≡ None) (direct : direct_of z.of.code p line.op ≡ Some n)
+      (before : joined_before z.of.code p ≡ None) (direct : joined_of z.of.code p line.op ≡ Some (Into n))
       (d : IsDirect z.of.code p line.op n) (stand : Standing M g z.home (named M V g z) line.live v m) (sees : Sees M g.f g.own s v.home)
-      (there : M.place s ≡ pc_of (word_of M V g z p)) (next : (over : ℕ) (new : Machine) → From (d.next ∷ rest) (suc p) over new) where
+      (there : M.place s ≡ pc_of (word_of M V g z p)) (next : (over : ℕ) (new : Machine) → From (d.before.next ∷ rest) (suc p) over new) where
     abbrev o : Op
     o = op.Compute d.how (Temporary d.temporary) d.left d.right
 
@@ -131,24 +157,23 @@ module _ {S : Type 0} (M : MachineMeaning S) (V : Vocabulary) (g : Setting M) (z
     here : At M V g z p o line.live
     here = at ∙ ap (λ i. Some (line_of i line.live)) d.computes
 
-    here_next : At M V g z (suc p) copy d.next.live
-    here_next = d.is_next ∙ ap (λ i. Some (line_of i d.next.live)) d.copies_it
+    here_next : At M V g z (suc p) copy d.before.next.live
+    here_next = d.before.is_next ∙ ap (λ i. Some (line_of i d.before.next.live)) d.copies_it
 
     laid : laid_op z.of.code p o ≡ x
     laid =
-        let into : direct_of z.of.code p o ≡ Some n = ap (direct_of z.of.code p) (sym d.computes) ∙ direct in
-        ap (λ i. laid_by i (direct_of z.of.code p o) o) before ∙ ap (λ i. laid_by None i o) into
-
-    laid_line : laid_op z.of.code p line.op ≡ x
-    laid_line = ap (laid_op z.of.code p) d.computes ∙ laid
+        let goes : joined_of z.of.code p o ≡ Some (Into n) = ap (joined_of z.of.code p) (sym d.computes) ∙ direct in
+        ap (λ i. laid_by i (joined_of z.of.code p o) o) before ∙ ap (λ i. laid_by None i o) goes
 
     laid_next : laid_op z.of.code (suc p) copy ≡ done_already n
     laid_next =
-        let done : direct_at z.of.code p ≡ Some n = ap (direct_if z.of.code p) at ∙ direct in
-        ap (λ i. laid_by i (direct_of z.of.code (suc p) copy) copy) done
+        let done : joined_at z.of.code p ≡ Some (Into n) = ap (joined_line z.of.code p) at ∙ direct in
+        ap (λ i. laid_by i (joined_of z.of.code (suc p) copy) copy) done
 
-    none_after : direct_before z.of.code (suc (suc p)) ≡ None
-    none_after = none_behind z.of.code (suc p) d.next d.is_next (ap (direct_of z.of.code (suc p)) d.copies_it)
+    none_after : joined_before z.of.code (suc (suc p)) ≡ None
+    none_after =
+        none_behind z.of.code (suc p) d.before.next d.before.is_next
+        (ap (joined_of z.of.code (suc p)) d.copies_it ∙ never_joined z.of.code (suc p) copy (λ i. refl))
 
     -- behind both steps
     both :
@@ -157,55 +182,229 @@ module _ {S : Type 0} (M : MachineMeaning S) (V : Vocabulary) (g : Setting M) (z
         (with_variable (with_variable m (Temporary d.temporary) u) (Named n) u))
     both u e =
         let new = with_variable (with_variable m (Temporary d.temporary) u) (Named n) u in
-        let a = passed M V g z p d.how d.temporary n d.left d.right line.live d.next.live here here_next laid laid_next d.dead s v m u stand
+        let a = passed M V g z p d.how d.temporary n d.left d.right line.live d.before.next.live here here_next laid laid_next d.dead s v m u stand
         sees there e in
         let on : suc (suc p) ≡ suc p + suc zero = omega arith in
-        let to = walk g.parts.literals g.self (suc p) (d.next ∷ rest) (suc zero) new in
+        let to = walk g.parts.literals g.self (suc p) (d.before.next ∷ rest) (suc zero) new in
         extends s v a.after p (suc p) (word_of M V g z (suc p)) line to at a.first a.same (omega arith)
-        (extends a.first.last a.after a.after (suc p) (suc p + suc zero) (word_of M V g z (suc (suc p))) d.next to d.is_next a.second
-        (λ address out. refl) (omega arith)
-        (next (suc zero) new a.second.last a.after (ap (direct_before z.of.code) (sym on) ∙ none_after) a.second.sees
+        (extends a.first.last a.after a.after (suc p) (suc p + suc zero) (word_of M V g z (suc (suc p))) d.before.next to d.before.is_next
+        a.second (λ address out. refl) (omega arith)
+        (next (suc zero) new a.second.last a.after (ap (joined_before z.of.code) (sym on) ∙ none_after) a.second.sees
         (a.second.at ∙ ap (λ k. pc_of (word_of M V g z k)) on)
         (subst (λ k. Standing M g z.home (named M V g z) (live_at z.of.code k) a.after new) on a.stand)))
 
     -- the second copies what the first gave
     given :
         (r : Option Value) → result ≡ r →
-        Gotten (walk_by p (walk g.parts.literals g.self (suc p) (d.next ∷ rest)) m (gives m (Temporary d.temporary) r))
+        Gotten (walk_by p (walk g.parts.literals g.self (suc p) (d.before.next ∷ rest)) m (gives m (Temporary d.temporary) r))
     given None e = tt
     given (Some u) e =
         let first = with_variable m (Temporary d.temporary) u in
-        let copied : act g.parts.literals g.self first d.next.op ≡ Goes (with_variable first (Named n) u) 0 =
+        let copied : act g.parts.literals g.self first d.before.next.op ≡ Goes (with_variable first (Named n) u) 0 =
         ap (act g.parts.literals g.self first) d.copies_it ∙ ap (gives first (Named n)) (set_same m (Temporary d.temporary) u tt) in
         subst (λ done. Gotten (walk_by (suc p) (walk g.parts.literals g.self (suc (suc p)) rest) first done)) (sym copied) (both u e)
 
-    behind_two : Gotten (walk g.parts.literals g.self p (line ∷ d.next ∷ rest) zero m)
+    behind_two : Gotten (walk g.parts.literals g.self p (line ∷ d.before.next ∷ rest) zero m)
     behind_two =
-        subst (λ done. Gotten (walk_by p (walk g.parts.literals g.self (suc p) (d.next ∷ rest)) m done))
+        subst (λ done. Gotten (walk_by p (walk g.parts.literals g.self (suc p) (d.before.next ∷ rest)) m done))
         (sym (ap (act g.parts.literals g.self m) d.computes)) (given result refl)
 
-  -- from a step on, before which no copy has been done
+  -- a step that decides what only the next one asks for
+  module _ (p : ℕ) (t : Test) (wanted : Bool) (line : Line) (rest : List Line) (m : Machine) (s : S) (v : Sight)
+      (at : slice_get z.of.code p ≡ Some line) (before : joined_before z.of.code p ≡ None)
+      (asks : joined_of z.of.code p line.op ≡ Some (Asks t wanted)) (d : IsAsked z.of.code p line.op t wanted)
+      (rest_is : drop (suc (suc p)) z.of.code ≡ rest) (stand : Standing M g z.home (named M V g z) line.live v m)
+      (sees : Sees M g.f g.own s v.home) (there : M.place s ≡ pc_of (word_of M V g z p))
+      (next : (over : ℕ) (new : Machine) → From (d.before.next ∷ rest) (suc p) over new) where
+    abbrev to : Variable
+    to = Temporary d.temporary
+
+    abbrev decides : Op
+    decides = op.Decide to t wanted
+
+    abbrev question : Op
+    question = op.Branch (test.Holds (operand.Of to)) d.is_true d.over
+
+    abbrev Got : Common × Option Arrived → Type 0
+    Got to = GetsTo s v p to
+
+    decided_here : At M V g z p decides line.live
+    decided_here = at ∙ ap (λ i. Some (line_of i line.live)) d.decides
+
+    asked_there : At M V g z (suc p) question d.before.next.live
+    asked_there = d.before.is_next ∙ ap (λ i. Some (line_of i d.before.next.live)) d.asks_it
+
+    left : laid_op z.of.code p decides ≡ left_out decides
+    left =
+        let goes : joined_of z.of.code p decides ≡ Some (Asks t wanted) = ap (joined_of z.of.code p) (sym d.decides) ∙ asks in
+        ap (λ i. laid_by i (joined_of z.of.code p decides) decides) before ∙ ap (λ i. laid_by None i decides) goes
+
+    abbrev far : ℕ
+    far = far_over z.of.code (Some to) d.is_true (suc p) d.over
+
+    -- how the test is to come out
+    abbrev expected : Bool
+    expected = is_same_truth d.is_true wanted
+
+    asked_at_once : laid_op z.of.code (suc p) question ≡ op.Branch t expected far
+    asked_at_once =
+        let goes : joined_at z.of.code p ≡ Some (Asks t wanted) = ap (joined_line z.of.code p) at ∙ asks in
+        ap (λ i. laid_by i (joined_of z.of.code (suc p) question) (led_far z.of.code (suc p) question)) goes
+
+    fine_here : FineOp z.declared g.parts z.number z.of p (drop (suc p) z.of.code) line.live decides
+    fine_here = fine_at z.declared g.parts z.number z.of p (line_of decides line.live) z.fine decided_here
+
+    fine_there : FineOp z.declared g.parts z.number z.of (suc p) (drop (suc (suc p)) z.of.code) d.before.next.live question
+    fine_there = fine_at z.declared g.parts z.number z.of (suc p) (line_of question d.before.next.live) z.fine asked_there
+
+    none_joined : joined_of z.of.code (suc p) d.before.next.op ≡ None
+    none_joined = ap (joined_of z.of.code (suc p)) d.asks_it ∙ never_joined z.of.code (suc p) question (λ i. refl)
+
+    -- it has no words itself, and leads on to the question
+    leg : Ends M g.f g.own z.code s v (word_of M V g z p) (end_of M V g z p) (word_of M V g z (suc p)) v
+    leg =
+        goes_on M V g z p decides (left_out decides) line.live decided_here left s v there sees (suc p) None
+        (ap (λ ms. length (words_of_steps V ms)) (none_made z.home to t wanted)) refl refl refl
+
+    module _ (r : Bool) (comes : as_wanted wanted (tested m t) ≡ Some r) where
+      abbrev made : Machine
+      made = with_variable m to (Truth r)
+
+      -- the temporary alone differs, and isn't live
+      held_too : (y : Variable) → y ≢ to → Held M g z.home v m y → Held M g z.home v made y
+      held_too (Named k) ne h = record { value = h.value; is = h.is; fits = h.fits; holds = h.holds }
+      held_too (Temporary k) ne h =
+          record { value = h.value; is = set_other m to (Temporary k) (Truth r) h.value ne h.is; fits = h.fits; holds = h.holds }
+
+      stands_at :
+          (over : ℕ) → IsDead z.of.code (suc (suc p + over)) to →
+          LeadsTo z.declared g.parts z.number z.of z.fine (suc p) d.before.next.live over →
+          Standing M g z.home (named M V g z) (live_at z.of.code (suc (suc p + over))) v made
+      stands_at over dead leads = record {
+        held = λ y of l.
+            let ne : y ≢ to = λ e. dead of (subst (λ i. Has (live_at z.of.code (suc (suc p + over))) i of) e l) in
+            held_too y ne
+            (⊎_elim (λ (e : y ≡ to). absurd (ne e)) (λ (h : (y ≢ to) × Has line.live y of). stand.held y of h.1)
+            (flows_next M V g z p line.live to _ fine_here.1 y of
+            (subst (λ ls. Has ls y of) (sym (ap live_if d.before.is_next)) (leads.1 y of l))));
+        ground = stand.ground;
+        many = stand.many;
+      }
+
+      abbrev Way : Bool → Type 0
+      Way b = Turns M V g z (suc p) question (op.Branch t expected far) d.before.next.live asked_there asked_at_once leg.last v leg.at
+          leg.sees far b
+
+      -- the question gets the answer that the one for the truth value gets
+      way : Way (is_same_truth d.is_true r)
+      way =
+          let c = wanted_some wanted r (tested m t) comes in
+          let answer = ap (as_wanted expected) c.1 ∙ ap Some (twice d.is_true wanted c.0 ∙ ap (is_same_truth d.is_true) c.2) in
+          let fits = z.numbers p (line_of decides line.live) decided_here in
+          let a = asked_is M V g z line.live v m stand t expected (is_same_truth d.is_true r) fine_here.0 fits answer in
+          known_or_asked M V g z (suc p) question (op.Branch t expected far) d.before.next.live asked_there asked_at_once leg.last v leg.at
+          leg.sees (question_of z.home t expected) (is_same_truth d.is_true r) far refl refl a.can a.is
+
+      -- from where the question leads to
+      goes :
+          (over : ℕ) → joined_before z.of.code (suc (suc p + over)) ≡ None → IsDead z.of.code (suc (suc p + over)) to →
+          LeadsTo z.declared g.parts z.number z.of z.fine (suc p) d.before.next.live over →
+          Ends M g.f g.own z.code leg.last v (word_of M V g z (suc p)) (end_of M V g z (suc p)) (word_of M V g z (suc (suc p + over))) v →
+          Got (walk g.parts.literals g.self (suc (suc p)) rest over made)
+      goes over lands dead leads e =
+          let on : suc (suc p + over) ≡ suc p + suc over = omega arith in
+          let gets = walk g.parts.literals g.self (suc p) (d.before.next ∷ rest) (suc over) made in
+          extends s v v p (suc p) (word_of M V g z (suc p)) line gets at leg (λ address out. refl) (omega arith)
+          (extends leg.last v v (suc p) (suc p + suc over) (word_of M V g z (suc (suc p + over))) d.before.next gets d.before.is_next e
+          (λ address out. refl) (omega arith)
+          (next (suc over) made e.last v (ap (joined_before z.of.code) (sym on) ∙ lands) e.sees
+          (e.at ∙ ap (λ k. pc_of (word_of M V g z k)) on)
+          (subst (λ k. Standing M g z.home (named M V g z) (live_at z.of.code k) v made) on (stands_at over dead leads))))
+
+      led : joined_before z.of.code (suc (suc p + far)) ≡ None
+      led =
+          none_led z.of.code (suc p) (line_of question d.before.next.live) (suc p + far) asked_there
+          (branch_leads (suc p) far (test.Holds (operand.Of to)) d.is_true)
+
+      leads_to_far : LeadsTo z.declared g.parts z.number z.of z.fine (suc p) d.before.next.live far
+      leads_to_far =
+          leads_far z.declared g.parts z.number z.of z.fine (Some to) d.is_true (suc p) d.over d.before.next.live
+          (leads_to z.declared g.parts z.number z.of z.fine (suc p) d.over d.before.next.live fine_there.2)
+
+      known : variable_at made to ≡ Some (Truth r)
+      known = set_same m to (Truth r) tt
+
+      either :
+          (b : Bool) → is_same_truth d.is_true r ≡ b →
+          Got (walk_by (suc p) (walk g.parts.literals g.self (suc (suc p)) rest) made (passes made d.over (Some b)))
+      either true e =
+          let walks = walks_on g.parts.literals g.self z.of.code (Some to) d.is_true (suc p) d.over made
+          (known ∙ ap (λ i. Some (Truth i)) (as_it_is d.is_true r e)) in
+          let walks_rest = subst
+          (λ l. walk g.parts.literals g.self (suc (suc p)) l d.over made ≡ walk g.parts.literals g.self (suc (suc p)) l far made) rest_is walks
+          in
+          subst Got (sym walks_rest) (goes far led d.dead_far leads_to_far (subst Way e way))
+      either false e =
+          let none : suc p + 0 ≡ suc p = omega arith in
+          let first : suc (suc p) ≡ suc (suc p + 0) = ap suc (sym none) in
+          goes 0 (subst (λ k. joined_at z.of.code k ≡ None) (sym none) (none_behind z.of.code (suc p) d.before.next d.before.is_next none_joined))
+          (subst (λ k. IsDead z.of.code k to) first d.dead)
+          (leads_to z.declared g.parts z.number z.of z.fine (suc p) 0 d.before.next.live fine_there.1) (subst Way e way)
+
+      -- the second asks for what the first decided
+      asked_second : Got (walk g.parts.literals g.self (suc p) (d.before.next ∷ rest) zero made)
+      asked_second =
+          let answer : as_wanted d.is_true (tested made (test.Holds (operand.Of to))) ≡ Some (is_same_truth d.is_true r) =
+          ap (λ o. as_wanted d.is_true (truth_in o)) known in
+          let acts : act g.parts.literals g.self made d.before.next.op ≡ passes made d.over (Some (is_same_truth d.is_true r)) =
+          ap (act g.parts.literals g.self made) d.asks_it ∙ ap (passes made d.over) answer in
+          subst (λ done. Got (walk_by (suc p) (walk g.parts.literals g.self (suc (suc p)) rest) made done)) (sym acts)
+          (either (is_same_truth d.is_true r) refl)
+
+    decided :
+        (r : Option Bool) → as_wanted wanted (tested m t) ≡ r →
+        Got (walk_by p (walk g.parts.literals g.self (suc p) (d.before.next ∷ rest)) m (decides_it m to r))
+    decided None e = tt
+    decided (Some r) e = asked_second r e
+
+    behind_question : Got (walk g.parts.literals g.self p (line ∷ d.before.next ∷ rest) zero m)
+    behind_question =
+        subst (λ done. Got (walk_by p (walk g.parts.literals g.self (suc p) (d.before.next ∷ rest)) m done))
+        (sym (ap (act g.parts.literals g.self m) d.decides)) (decided (as_wanted wanted (tested m t)) refl)
+
+  -- from a step on that isn't laid out with the one before it
   one :
       (p : ℕ) (line : Line) (rest : List Line) (m : Machine) (s : S) (v : Sight) → slice_get z.of.code p ≡ Some line →
-      drop (suc p) z.of.code ≡ rest → direct_before z.of.code p ≡ None → Standing M g z.home (named M V g z) line.live v m →
+      drop (suc p) z.of.code ≡ rest → joined_before z.of.code p ≡ None → Standing M g z.home (named M V g z) line.live v m →
       Sees M g.f g.own s v.home → M.place s ≡ pc_of (word_of M V g z p) → ((over : ℕ) (new : Machine) → From rest (suc p) over new) →
       GetsTo s v p (walk g.parts.literals g.self p (line ∷ rest) zero m)
-  one p line rest m s v at is before stand sees there next = by (direct_of z.of.code p line.op) refl
+  one p line rest m s v at is before stand sees there next = by (joined_of z.of.code p line.op) refl
     where
-      by : (k : Option ℕ) → direct_of z.of.code p line.op ≡ k →
+      rest_is : (h : HasNext z.of.code p) → rest ≡ h.next ∷ drop (suc (suc p)) z.of.code
+      rest_is h =
+          let one_more : suc p + 1 ≡ suc (suc p) = omega arith in
+          sym is ∙ drop_at z.of.code (suc p) h.next h.is_next ∙ ap (λ k. h.next ∷ drop k z.of.code) one_more
+
+      by : (k : Option Joined) → joined_of z.of.code p line.op ≡ k →
           GetsTo s v p (walk g.parts.literals g.self p (line ∷ rest) zero m)
       by None single =
-          let same : laid_op z.of.code p line.op ≡ line.op =
-          ap (λ i. laid_by i (direct_of z.of.code p line.op) line.op) before ∙ ap (λ i. laid_by None i line.op) single in
-          behind p line rest m (act g.parts.literals g.self m line.op) s v at same stand sees there
+          let same : laid_op z.of.code p line.op ≡ led_far z.of.code p line.op =
+          ap (λ i. laid_by i (joined_of z.of.code p line.op) (led_far z.of.code p line.op)) before
+          ∙ ap (λ i. laid_by None i (led_far z.of.code p line.op)) single in
+          behind p line rest m (act g.parts.literals g.self m line.op) s v at is stand sees there
           (leads M V g z p line.op line.live at same single s v m stand sees there) next
-      by (Some n) direct =
-          let d = is_direct z.of.code p line.op n direct in
-          let last = drop (suc p + 1) z.of.code in
-          let rest_is : rest ≡ d.next ∷ last = sym is ∙ drop_at z.of.code (suc p) d.next d.is_next in
-          subst (λ r. GetsTo s v p (walk g.parts.literals g.self p (line ∷ r) zero m)) (sym rest_is)
-          (behind_two p n line last m s v at before direct d stand sees there
-          (subst (λ r. (over : ℕ) (new : Machine) → From r (suc p) over new) rest_is next))
+      by (Some (Into n)) joined =
+          let d = is_joined z.of.code p line.op (Into n) joined in
+          let cut = rest_is d.before in
+          subst (λ r. GetsTo s v p (walk g.parts.literals g.self p (line ∷ r) zero m)) (sym cut)
+          (behind_two p n line (drop (suc (suc p)) z.of.code) m s v at before joined d stand sees there
+          (subst (λ r. (over : ℕ) (new : Machine) → From r (suc p) over new) cut next))
+      by (Some (Asks t wanted)) joined =
+          let d = is_joined z.of.code p line.op (Asks t wanted) joined in
+          let cut = rest_is d.before in
+          subst (λ r. GetsTo s v p (walk g.parts.literals g.self p (line ∷ r) zero m)) (sym cut)
+          (behind_question p t wanted line (drop (suc (suc p)) z.of.code) m s v at before joined d refl stand sees there
+          (subst (λ r. (over : ℕ) (new : Machine) → From r (suc p) over new) cut next))
 
   -- from a place on
   pub gets : (rest : List Line) (p over : ℕ) (m : Machine) → drop p z.of.code ≡ rest → From rest p over m
@@ -213,7 +412,7 @@ module _ {S : Type 0} (M : MachineMeaning S) (V : Vocabulary) (g : Setting M) (z
   gets (line ∷ rest) p (suc over) m is s v none sees there stand =
       let on : p + suc over ≡ suc p + over = omega arith in
       subst (λ k. GetsTo s v k (walk g.parts.literals g.self (suc p) rest over m)) (sym on)
-      (gets rest (suc p) over m (drop_next z.of.code p line rest is) s v (ap (direct_before z.of.code) (sym on) ∙ none) sees
+      (gets rest (suc p) over m (drop_next z.of.code p line rest is) s v (ap (joined_before z.of.code) (sym on) ∙ none) sees
       (there ∙ ap (λ k. pc_of (word_of M V g z k)) on)
       (subst (λ k. Standing M g z.home (named M V g z) (live_at z.of.code k) v m) on stand))
   gets (line ∷ rest) p zero m is s v none sees there stand =
@@ -223,5 +422,5 @@ module _ {S : Type 0} (M : MachineMeaning S) (V : Vocabulary) (g : Setting M) (z
       let held = subst (λ l. Standing M g z.home (named M V g z) l v m) (ap (live_at z.of.code) on ∙ ap live_if at) stand in
       let next = drop_next z.of.code p line rest is in
       subst (λ k. GetsTo s v k (walk g.parts.literals g.self p (line ∷ rest) zero m)) (sym on)
-      (one p line rest m s v at next (ap (direct_before z.of.code) (sym on) ∙ none) held sees here
+      (one p line rest m s v at next (ap (joined_before z.of.code) (sym on) ∙ none) held sees here
       (λ over new. gets rest (suc p) over new next))

@@ -1,8 +1,9 @@
--- Results that go at once to the named variable that they are copied to. The result of arithmetic is put into a temporary, and copied
--- from there by the next step. Where nothing else reads the temporary, machine code puts it into the named variable at once, and the
--- copy has no words.
-use Rattle.std.specs.Prelude.{ℕ, zero, suc, ◌+◌, ◌==◌, Bool, true, false, if◌then◌else◌, List, [], ◌∷◌, length, map, replicate}
-use Rattle.std.specs.Prelude.{Option, Some, None, slice_get, slice_set}
+-- Which steps are laid out for those of three-address code. The result of arithmetic is put into a temporary, and copied from there by the
+-- next step: where nothing else reads the temporary, it goes into the named variable at once, and the copy has no words. A condition of
+-- parts puts truth values into a temporary, and asks for them where its parts join: where nothing else reads one, the question is that of
+-- the part, and the value isn't made; and a question or a jump leads past jumps, and past questions whose answer is known on the way.
+use Rattle.std.specs.Prelude.{ℕ, zero, suc, ◌+◌, ◌^◌, ◌==◌, Bool, true, false, if◌then◌else◌, List, [], ◌∷◌, length, map, replicate}
+use Rattle.std.specs.Prelude.{Option, Some, None, nat_lt, slice_get, slice_set}
 use Rattle.ec_code.specs.Fine.{live_at}
 use Rattle.ec_code.specs.declared.code.Line.{Line}
 use Rattle.ec_code.specs.declared.code.Live.{Live}
@@ -10,10 +11,75 @@ use Rattle.ec_code.specs.declared.code.Op.{Op}
 use Rattle.ec_code.specs.declared.code.Op.TheVariants as op
 use Rattle.ec_code.specs.declared.code.Operand.{Operand}
 use Rattle.ec_code.specs.declared.code.Operand.TheVariants as operand
+use Rattle.ec_code.specs.declared.code.Test.{Test}
+use Rattle.ec_code.specs.declared.code.Test.TheVariants as test
+use Rattle.ec_code.specs.declared.code.Variable.{Variable}
 use Rattle.ec_code.specs.declared.code.Variable.TheVariants.{Named, Temporary}
-use Rattle.ec_code.specs.Marks.{is_among}
+use Rattle.ec_code.specs.Marks.{is_among, is_same}
+use Rattle.ec_machine_code.specs.declared.joined.Joined.{Joined}
+use Rattle.ec_machine_code.specs.declared.joined.Joined.TheVariants.{Into, Asks}
+use Rattle.ec_world.specs.Same.{is_same_truth}
 
--- ---- where code leads
+-- ---- questions whose answer is known
+
+-- the variable for whose truth value a test asks
+abbrev pub variable_in : Operand → Option Variable
+variable_in (operand.Of x) = Some x
+variable_in _ = None
+
+abbrev pub asked_for : Test → Option Variable
+asked_for (test.Holds x) = variable_in x
+asked_for _ = None
+
+-- the one whose truth value is known is the one that is asked for
+abbrev pub is_known : Option Variable → Option Variable → Bool
+is_known (Some x) (Some y) = is_same x y
+is_known _ _ = false
+
+abbrev pub over_if : Bool → ℕ → ℕ
+over_if true over = over
+over_if false over = 0
+
+abbrev pub passed_by : Bool → ℕ → Option ℕ
+passed_by true over = Some over
+passed_by false over = None
+
+-- how many steps a step passes over on a way on which a variable is known to have a truth value
+abbrev pub passed_over : Option Variable → Bool → Op → Option ℕ
+passed_over known value (op.Branch t wanted over) =
+    passed_by (is_known known (asked_for t)) (over_if (is_same_truth wanted value) over)
+passed_over known value (op.Jump over) = Some over
+passed_over known value _ = None
+
+abbrev pub passed_if : Option Variable → Bool → Option Line → Option ℕ
+passed_if known value None = None
+passed_if known value (Some line) = passed_over known value line.op
+
+-- ---- where code leads on
+
+-- Further, where 32 bits count the steps that are passed over then.
+abbrev pub further : (ℕ → ℕ) → ℕ → Option ℕ → ℕ
+further on over None = over
+further on over (Some more) = if nat_lt (suc (over + more)) (2 ^ 32) then on (suc (over + more)) else over
+
+-- past so many jumps and known questions at most
+abbrev pub led_on : ℕ → List Line → Option Variable → Bool → ℕ → ℕ → ℕ
+led_on zero code known value q over = over
+led_on (suc n) code known value q over =
+    further (led_on n code known value q) over (passed_if known value (slice_get code (suc (q + over))))
+
+unfoldable pub most_led : ℕ
+most_led = 16
+
+-- How many steps are passed over in the end on a way that leads from a place past so many.
+abbrev pub far_over : List Line → Option Variable → Bool → ℕ → ℕ → ℕ
+far_over code known value q over = led_on most_led code known value q over
+
+-- Where a question is answered with yes, the truth value that it asks for is the wanted one.
+abbrev pub led_far : List Line → ℕ → Op → Op
+led_far code q (op.Branch t wanted over) = op.Branch t wanted (far_over code (asked_for t) wanted q over)
+led_far code q (op.Jump over) = op.Jump (far_over code None true q over)
+led_far code q o = o
 
 -- with the place marked to which a step may lead past the next one
 abbrev pub marked_one : ℕ → Op → List Bool → List Bool
@@ -22,25 +88,20 @@ marked_one p (op.Jump over) marks = slice_set marks (suc (p + over)) true
 marked_one p _ marks = marks
 
 -- with those of these lines, the first of which is at place p
-abbrev pub marked : ℕ → List Line → List Bool → List Bool
-marked p [] marks = marks
-marked p (line ∷ rest) marks = marked (suc p) rest (marked_one p line.op marks)
+abbrev pub marked : List Line → ℕ → List Line → List Bool → List Bool
+marked code p [] marks = marks
+marked code p (line ∷ rest) marks = marked code (suc p) rest (marked_one p (led_far code p line.op) marks)
 
--- for each place whether a step leads to it past the next one
+-- for each place whether a step leads to it in the end past the next one
 abbrev pub led_to : List Line → List Bool
-led_to code = marked 0 code (replicate (length code) false)
+led_to code = marked code 0 code (replicate (length code) false)
 
 abbrev pub is_unled : Option Bool → Bool
 is_unled (Some false) = true
 is_unled (Some true) = false
 is_unled None = false
 
--- ---- results
-
--- the temporary that gets the result of arithmetic
-abbrev pub temporary_of : Op → Option ℕ
-temporary_of (op.Compute how (Temporary d) left right) = Some d
-temporary_of _ = None
+-- ---- steps that are laid out with the next one
 
 -- the named variable to which a step copies a temporary
 abbrev pub copied_from : ℕ → ℕ → Operand → Option ℕ
@@ -51,37 +112,55 @@ abbrev pub copied_to : ℕ → Op → Option ℕ
 copied_to d (op.Copy (Named n) from) = copied_from d n from
 copied_to d _ = None
 
-abbrev pub if_so : Bool → Option ℕ → Option ℕ
-if_so true o = o
-if_so false o = None
+abbrev pub into : Option ℕ → Option Joined
+into None = None
+into (Some n) = Some (Into n)
 
-abbrev pub copied_by : ℕ → Option Line → Option ℕ
-copied_by d None = None
-copied_by d (Some line) = copied_to d line.op
+abbrev pub if_so : Bool → Option Joined → Option Joined
+if_so true j = j
+if_so false j = None
 
--- The named variable to which the result goes at once: the next step copies the temporary there, nothing leads between the two, and the
--- temporary isn't live behind them.
-abbrev pub direct_by : Option ℕ → Option Line → Bool → List Live → Option ℕ
-direct_by None next unled behind = None
-direct_by (Some d) next unled behind =
-    if_so unled (if is_among (Temporary d) (map (λ l. l.variable) behind) then None else copied_by d next)
+abbrev pub unless : Bool → Option Joined → Option Joined
+unless true j = None
+unless false j = j
 
--- of a step at place q of the code
-abbrev pub direct_of : List Line → ℕ → Op → Option ℕ
-direct_of code q o =
-    direct_by (temporary_of o) (slice_get code (suc q)) (is_unled (slice_get (led_to code) (suc q))) (live_at code (suc (suc q)))
+abbrev pub is_live : Variable → List Live → Bool
+is_live x live = is_among x (map (λ l. l.variable) live)
 
-abbrev pub direct_if : List Line → ℕ → Option Line → Option ℕ
-direct_if code q None = None
-direct_if code q (Some line) = direct_of code q line.op
+-- The step at place p asks for the truth value of a temporary, and this isn't live where it leads to.
+abbrev pub asks_by : List Line → ℕ → ℕ → Joined → Op → Option Joined
+asks_by code p d j (op.Branch t wanted over) =
+    if_so (is_known (Some (Temporary d)) (asked_for t))
+    (unless (is_live (Temporary d) (live_at code (suc (p + far_over code (asked_for t) wanted p over)))) (Some j))
+asks_by code p d j _ = None
 
-abbrev pub direct_at : List Line → ℕ → Option ℕ
-direct_at code q = direct_if code q (slice_get code q)
+-- A step with the next one, which is at place p: the temporary that the first writes isn't live behind the second.
+abbrev pub joined_with : List Line → ℕ → Op → Op → Option Joined
+joined_with code p (op.Compute how (Temporary d) left right) next =
+    unless (is_live (Temporary d) (live_at code (suc p))) (into (copied_to d next))
+joined_with code p (op.Decide (Temporary d) t wanted) next =
+    unless (is_live (Temporary d) (live_at code (suc p))) (asks_by code p d (Asks t wanted) next)
+joined_with code p _ next = None
 
--- that of the step before a place, whose copy is done then
-abbrev pub direct_before : List Line → ℕ → Option ℕ
-direct_before code zero = None
-direct_before code (suc q) = direct_at code q
+abbrev pub joined_if : List Line → ℕ → Op → Option Line → Option Joined
+joined_if code p o None = None
+joined_if code p o (Some line) = joined_with code p o line.op
+
+-- of a step at place q of the code, where nothing leads between the two
+abbrev pub joined_of : List Line → ℕ → Op → Option Joined
+joined_of code q o = if_so (is_unled (slice_get (led_to code) (suc q))) (joined_if code (suc q) o (slice_get code (suc q)))
+
+abbrev pub joined_line : List Line → ℕ → Option Line → Option Joined
+joined_line code q None = None
+joined_line code q (Some line) = joined_of code q line.op
+
+abbrev pub joined_at : List Line → ℕ → Option Joined
+joined_at code q = joined_line code q (slice_get code q)
+
+-- that of the step before a place with the one there
+abbrev pub joined_before : List Line → ℕ → Option Joined
+joined_before code zero = None
+joined_before code (suc q) = joined_at code q
 
 -- ---- the steps for which there are words
 
@@ -94,14 +173,26 @@ into_named n o = o
 abbrev pub done_already : ℕ → Op
 done_already n = op.Copy (Named n) (operand.Of (Named n))
 
-abbrev pub laid_by : Option ℕ → Option ℕ → Op → Op
-laid_by (Some n) here o = done_already n
-laid_by None (Some n) o = into_named n o
+-- a truth value that isn't made
+abbrev pub left_out : Op → Op
+left_out (op.Decide to t wanted) = op.Copy to (operand.Of to)
+left_out o = o
+
+-- a question for the truth value of a test that is to come out so
+abbrev pub asking : Test → Bool → Op → Op
+asking t wanted (op.Branch u is_true over) = op.Branch t (is_same_truth is_true wanted) over
+asking t wanted o = o
+
+abbrev pub laid_by : Option Joined → Option Joined → Op → Op
+laid_by (Some (Into n)) here o = done_already n
+laid_by (Some (Asks t wanted)) here o = asking t wanted o
+laid_by None (Some (Into n)) o = into_named n o
+laid_by None (Some (Asks t wanted)) o = left_out o
 laid_by None None o = o
 
 -- the step that is laid out for one at place q
 abbrev pub laid_op : List Line → ℕ → Op → Op
-laid_op code q o = laid_by (direct_before code q) (direct_of code q o) o
+laid_op code q o = laid_by (joined_before code q) (joined_of code q o) (led_far code q o)
 
 -- those for these lines, the first of which is at place p
 abbrev pub laid_from : List Line → ℕ → List Line → List Op

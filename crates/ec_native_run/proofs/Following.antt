@@ -1,15 +1,17 @@
 -- A network follows the run: at the load, and from one entry to the next.
 use Rattle.std.proofs.Common.{◌≡◌, ◌⊎◌, ℕ, suc, List, [], ◌∷◌, ◌++◌, length, Some, below_none, below_more, refl, sym}
-use Rattle.std.proofs.Common.{ap, subst, ◌∙◌, add-one}
+use Rattle.std.proofs.Common.{ap, subst, ◌∙◌, ◌<◌, ◌≤◌, ◌-◌, ◌^◌, None, add-one, arith}
 use Rattle.std.proofs.lemmas.Option.{same_Some}
+use Rattle.ec_cluster.proofs.Going.{first_none}
 use Rattle.ec_cluster.specs.Cluster.{CodeWorld}
+use Rattle.ec_cluster.specs.Whereabouts.{MovedOnce, Traces, moves_of}
 use Rattle.ec_cluster.specs.declared.cluster.Cluster.{Cluster}
 use Rattle.ec_cluster.specs.declared.cluster.Images.{Images}
 use Rattle.ec_code.specs.Activations.{code_meaning, code_silent}
 use Rattle.ec_code.specs.declared.activation.CodeActivation.{CodeActivation}
 use Rattle.ec_code.specs.declared.code.Parts.{Parts}
 use Rattle.ec_report.proofs.Coming.{comes_first, comes_next, entry_is, run_more, run_start_is}
-use Rattle.ec_report.specs.Driver.{IsDone, IsRefused}
+use Rattle.ec_report.specs.Driver.{IsDone, IsNext, IsRefused}
 use Rattle.ec_report.specs.Progress.{IsStep, Progress, advanced, at_start}
 use Rattle.ec_report.specs.declared.driver.Refusal.{Refusal}
 use Rattle.ec_report.specs.declared.step.Step.TheVariants.{Does}
@@ -25,6 +27,7 @@ use Rattle.ec_native_run.specs.Runs.{AreNodes}
 use Rattle.ec_network.proofs.Networks.{is_running}
 use Rattle.ec_network.specs.Nets.{AreCode, Net, system_of}
 use Rattle.ec_network.specs.Networks.{CanRun, KeepsNumbers, NetLoaded, NetMoved, NetMoveRefused, NetRefused, NetTurned}
+use Rattle.ec_network.specs.Places.{known_on, moves_on}
 use Rattle.ec_network.specs.Standing.{Stands}
 use Rattle.ec_network.specs.declared.nodes_running.turns.Did.{Did}
 use Rattle.ec_network.specs.declared.nodes_running.turns.Did.TheVariants.{Acted, Idle, Moved}
@@ -62,7 +65,7 @@ pools_more p n schedule k c h = h
 -- ---- the load
 
 module _ (p : Parts) (images : Images) (specs : List NodeSpec) (schedule : List Entry) (budget : ℕ) (net : Net) (nodes : AreNodes specs)
-    (can : CanRun p images specs) (written : List VectorType) (l : NetLoaded p written images specs net) where
+    (can : CanRun p images specs) (written : List VectorType) (l : NetLoaded p written images specs net) (few : budget < 2 ^ 64) where
   abbrev own : Parts
   own = l.start.cluster.parts
 
@@ -104,6 +107,8 @@ module _ (p : Parts) (images : Images) (specs : List NodeSpec) (schedule : List 
       pools = pools_first own (length specs) schedule l.start.cluster
           (loads_full.pools own l.start.cluster.images specs l.start loaded_is);
     };
+    few = few;
+    moves = λ x. let none = l.loaded.whereabouts.moves x ∙ first_none (length specs) x in omega (arith, none);
   }
 
   -- what was just loaded follows the run
@@ -164,7 +169,8 @@ module _ (specs : List NodeSpec) (start : System) (schedule : List Entry) (budge
         (subst (λ (v : CodeWorld). IsFullFrom v (next_action parts n schedule progress.done) node part need free)
         (sym h.comes.world_is) full)
 
-    module _ (new : System) (g : GoneOn specs h.declared parts now w e Pool new) where
+    module _ (new : System) (g : GoneOn specs h.declared parts now w e Pool new)
+        (once : MovedOnce now.cluster.whereabouts new.cluster.whereabouts) where
       along_more : Along parts start begins (code_run parts n schedule (suc progress.done)).done new
       along_more =
           let world : w ≡ after_entries code_meaning (code_silent parts) begins here.done =
@@ -196,9 +202,20 @@ module _ (specs : List NodeSpec) (start : System) (schedule : List Entry) (budge
           sizes = g.sizes;
           pools = rw (add-one progress.done) pools_next;
         };
+        few = h.few;
+        moves = λ x. let before = h.moves x in let then = once x in omega (arith, before, then);
       }
 
 -- ---- what the network answers
+
+-- what the nodes of a network know is what those of its system do
+known_is : (net : Net) (s : System) → system_of net ≡ Some s → known_on net ≡ s.cluster.whereabouts
+known_is None s e = absurd cc
+known_is (Some n) s e = ap (λ (x : System). x.cluster.whereabouts) (same_Some n.system s e)
+
+-- each object has moved at most once more, if any
+abbrev HasMoved : Net → Net → Type 0
+HasMoved net net' = (x : ℕ) → moves_on net' x ≤ suc (moves_on net x)
 
 -- an entry that is done leads to what follows the run one entry further
 abbrev GoesTo : List NodeSpec → Net → List Entry → ℕ → Progress → RunEntry → Net → Type 0
@@ -215,9 +232,9 @@ module _ (specs : List NodeSpec) (old : Net) (schedule : List Entry) (budget : �
 
   module _ (e : RunEntry) (step : IsStep statuses budget progress (Does e)) where
     -- told over the program that the system has
-    follows_next : (net' : Net) (new : System) → system_of net' ≡ Some new → KeepsNumbers net net' →
+    follows_next : (net' : Net) (new : System) → system_of net' ≡ Some new → KeepsNumbers net net' → HasMoved net net' →
         GoneOn specs f.come.declared f.now.cluster.parts f.now f.world e PoolHere new → GoesTo specs old schedule budget progress e net'
-    follows_next net' new is keeps g =
+    follows_next net' new is keeps moved g =
         let its : GoneOn specs f.come.declared f.start.cluster.parts f.now f.world e PoolHere new =
         subst (λ (p : Parts). GoneOn specs f.come.declared p f.now f.world e PoolHere new) f.come.parts g in (
           statuses_of (after_entry code_meaning (code_silent f.start.cluster.parts) f.world e),
@@ -228,7 +245,9 @@ module _ (specs : List NodeSpec) (old : Net) (schedule : List Entry) (budget : �
             is = is;
             numbers = keeps (is_running net' new is) ∙ f.numbers;
             world = after_entry code_meaning (code_silent f.start.cluster.parts) f.world e;
-            come = come_next specs f.start schedule budget statuses progress f.now f.world f.come e step new its;
+            come = come_next specs f.start schedule budget statuses progress f.now f.world f.come e step new its
+                (subst (λ (d : Traces). MovedOnce d new.cluster.whereabouts) (known_is net f.now f.is)
+                (subst (λ (d : Traces). MovedOnce (known_on net) d) (known_is net' new is) moved));
           },
         )
 
@@ -262,16 +281,16 @@ module _ (specs : List NodeSpec) (old : Net) (schedule : List Entry) (budget : �
 
   -- a turn
   module _ (p : ℕ) (step : IsStep statuses budget progress (Does (ATurn p))) (net' : Net) (keeps : KeepsNumbers net net') where
-    pub turn_acted : (steps : ℕ) → NetTurned net net' p (Acted steps) → GoesTo specs old schedule budget progress (ATurn p) net'
-    turn_acted steps turned =
+    pub turn_acted : (steps : ℕ) → NetTurned net net' p (Acted steps) → HasMoved net net' → GoesTo specs old schedule budget progress (ATurn p) net'
+    turn_acted steps turned once =
         let t = turned f.come.declared f.now f.world f.is f.come.stands in
-        follows_next (ATurn p) step net' t.system t.is keeps
+        follows_next (ATurn p) step net' t.system t.is keeps once
         (turn_leaves specs f.come.declared f.now t.system f.world PoolHere f.come.stands f.come.shows p steps t.told)
 
-    pub turn_idle : NetTurned net net' p Idle → GoesTo specs old schedule budget progress (ATurn p) net'
-    turn_idle turned =
+    pub turn_idle : NetTurned net net' p Idle → HasMoved net net' → GoesTo specs old schedule budget progress (ATurn p) net'
+    turn_idle turned once =
         let t = turned f.come.declared f.now f.world f.is f.come.stands in
-        follows_next (ATurn p) step net' t.system t.is keeps
+        follows_next (ATurn p) step net' t.system t.is keeps once
         (rest_leaves specs f.come.declared f.now t.system f.world PoolHere f.come.stands f.come.shows p t.told)
 
     -- one that finds a node full leaves the network as it was
@@ -287,16 +306,16 @@ module _ (specs : List NodeSpec) (old : Net) (schedule : List Entry) (budget : �
   -- a move by the operator
   module _ (o k : ℕ) (step : IsStep statuses budget progress (Does (AMove o k))) (net' : Net)
       (keeps : KeepsNumbers net net') where
-    pub move_idle : NetMoved net net' o k Idle → GoesTo specs old schedule budget progress (AMove o k) net'
-    move_idle moved =
+    pub move_idle : NetMoved net net' o k Idle → HasMoved net net' → GoesTo specs old schedule budget progress (AMove o k) net'
+    move_idle moved once =
         let t = moved f.come.declared f.now f.world f.is f.come.stands in
-        follows_next (AMove o k) step net' t.system t.is keeps
+        follows_next (AMove o k) step net' t.system t.is keeps once
         (stay_leaves specs f.come.declared f.now t.system f.world PoolHere f.come.stands f.come.shows o k t.told)
 
-    pub move_done : NetMoved net net' o k Moved → GoesTo specs old schedule budget progress (AMove o k) net'
-    move_done moved =
+    pub move_done : NetMoved net net' o k Moved → HasMoved net net' → GoesTo specs old schedule budget progress (AMove o k) net'
+    move_done moved once =
         let t = moved f.come.declared f.now f.world f.is f.come.stands in
-        follows_next (AMove o k) step net' t.system t.is keeps
+        follows_next (AMove o k) step net' t.system t.is keeps once
         (move_leaves specs f.come.declared f.now t.system f.world PoolHere f.come.stands f.come.shows o k t.told)
 
     pub move_full : (lack : Lack) → NetMoveRefused net net' o k (Full lack) →
@@ -310,6 +329,16 @@ module _ (specs : List NodeSpec) (old : Net) (schedule : List Entry) (budget : �
 
 -- ---- entries, as they are given
 
+-- each object can move once more where an entry is next
+pub may_move : (specs : List NodeSpec) (net : Net) (e : RunEntry) → IsNext (Follows specs) (FullNext specs) e net →
+    (x : ℕ) → moves_on net x < 2 ^ 64 - 1
+may_move specs net e next x =
+    let f = next.stands in
+    let known = subst (λ (d : Traces). moves_of d x ≤ next.progress.done) (sym (known_is net f.now f.is)) (f.come.moves x) in
+    let few = f.come.few in
+    let before = next.next.1.1 in
+    omega (arith, known, few, before)
+
 module _ (specs : List NodeSpec) (net net' : Net) (keeps : KeepsNumbers net net') (entry : RunEntry) where
   abbrev IsDoneBy : RunEntry → Type 0
   IsDoneBy e = IsDone (Follows specs) (FullNext specs) e net net'
@@ -318,12 +347,12 @@ module _ (specs : List NodeSpec) (net net' : Net) (keeps : KeepsNumbers net net'
   IsRefusedBy e r = IsRefused (Follows specs) (FullNext specs) e net net' r
 
   module _ (p : ℕ) (is : entry ≡ ATurn p) where
-    turned_done : (did : Did) → NetTurned net net' p did → IsDoneBy (ATurn p)
-    turned_done (Acted steps) turned = λ old schedule budget statuses progress f step.
-        turn_acted specs old schedule budget statuses progress net f p step net' keeps steps turned
-    turned_done Idle turned = λ old schedule budget statuses progress f step.
-        turn_idle specs old schedule budget statuses progress net f p step net' keeps turned
-    turned_done Moved turned = λ old schedule budget statuses progress f step.
+    turned_done : (did : Did) → NetTurned net net' p did → HasMoved net net' → IsDoneBy (ATurn p)
+    turned_done (Acted steps) turned once = λ old schedule budget statuses progress f step.
+        turn_acted specs old schedule budget statuses progress net f p step net' keeps steps turned once
+    turned_done Idle turned once = λ old schedule budget statuses progress f step.
+        turn_idle specs old schedule budget statuses progress net f p step net' keeps turned once
+    turned_done Moved turned once = λ old schedule budget statuses progress f step.
         absurd (turned f.come.declared f.now f.world f.is f.come.stands).told
 
     turned_refused : (e : NetError) → NetRefused net net' p e → IsRefusedBy (ATurn p) (refusal_of e)
@@ -331,8 +360,8 @@ module _ (specs : List NodeSpec) (net net' : Net) (keeps : KeepsNumbers net net'
         turn_full specs old schedule budget statuses progress net f p step net' keeps lack refused
     turned_refused (Memory e) refused = tt
 
-    pub turn_done : (did : Did) → NetTurned net net' p did → IsDoneBy entry
-    turn_done did turned = subst (λ (e : RunEntry). IsDoneBy e) (sym is) (turned_done did turned)
+    pub turn_done : (did : Did) → NetTurned net net' p did → HasMoved net net' → IsDoneBy entry
+    turn_done did turned once = subst (λ (e : RunEntry). IsDoneBy e) (sym is) (turned_done did turned once)
 
     pub turn_refused : (e : NetError) (r : Refusal) → r ≡ refusal_of e → NetRefused net net' p e → IsRefusedBy entry r
     turn_refused e r why refused =
@@ -345,16 +374,16 @@ module _ (specs : List NodeSpec) (net net' : Net) (keeps : KeepsNumbers net net'
         move_full specs old schedule budget statuses progress net f o k step net' keeps lack refused
     moved_refused (Memory e) refused = tt
 
-    shift_done : (did : Did) → NetMoved net net' o k did → IsDoneBy (AMove o k)
-    shift_done Moved moved = λ old schedule budget statuses progress f step.
-        move_done specs old schedule budget statuses progress net f o k step net' keeps moved
-    shift_done Idle moved = λ old schedule budget statuses progress f step.
-        move_idle specs old schedule budget statuses progress net f o k step net' keeps moved
-    shift_done (Acted steps) moved = λ old schedule budget statuses progress f step.
+    shift_done : (did : Did) → NetMoved net net' o k did → HasMoved net net' → IsDoneBy (AMove o k)
+    shift_done Moved moved once = λ old schedule budget statuses progress f step.
+        move_done specs old schedule budget statuses progress net f o k step net' keeps moved once
+    shift_done Idle moved once = λ old schedule budget statuses progress f step.
+        move_idle specs old schedule budget statuses progress net f o k step net' keeps moved once
+    shift_done (Acted steps) moved once = λ old schedule budget statuses progress f step.
         absurd (moved f.come.declared f.now f.world f.is f.come.stands).told
 
-    pub moved_done : (did : Did) → NetMoved net net' o k did → IsDoneBy entry
-    moved_done did moved = subst (λ (e : RunEntry). IsDoneBy e) (sym is) (shift_done did moved)
+    pub moved_done : (did : Did) → NetMoved net net' o k did → HasMoved net net' → IsDoneBy entry
+    moved_done did moved once = subst (λ (e : RunEntry). IsDoneBy e) (sym is) (shift_done did moved once)
 
     pub move_refused : (e : NetError) (r : Refusal) → r ≡ refusal_of e → NetMoveRefused net net' o k e → IsRefusedBy entry r
     move_refused e r why refused =

@@ -1,6 +1,7 @@
 -- How far a run has come on a network.
-use Rattle.std.specs.Prelude.{◌≡◌, ℕ, List, length, Some}
+use Rattle.std.specs.Prelude.{◌≡◌, ◌<◌, ◌≤◌, ◌^◌, ℕ, List, length, Some}
 use Rattle.ec_cluster.specs.Cluster.{CodeWorld}
+use Rattle.ec_cluster.specs.Whereabouts.{moves_of}
 use Rattle.ec_code.specs.Activations.{code_meaning, code_silent}
 use Rattle.ec_code.specs.Typing.{Declared}
 use Rattle.ec_report.specs.Comes.{Comes}
@@ -41,7 +42,8 @@ refusal_of (Memory e) = refusals.Memory
 
 -- From a system that was just loaded onto nodes, the run of its program along a schedule, within a budget of entries, has come to a system
 -- that stands in its world, with this progress: entries have led there, each of them found room, and no earlier one was the last. The
--- system has the sizes of the nodes, and the texts of the worlds on the way.
+-- system has the sizes of the nodes, and the texts of the worlds on the way. No object has moved more often than entries are done, which
+-- are counted in 64 bits.
 pub record HasCome (specs : List NodeSpec) (start : System) (schedule : List Entry) (budget : ℕ) (statuses : List ProcStatus)
     (progress : Progress) (now : System) (w : CodeWorld) : Type 0 where
   pub nodes : AreNodes specs
@@ -56,6 +58,8 @@ pub record HasCome (specs : List NodeSpec) (start : System) (schedule : List Ent
       (code_run start.cluster.parts (length specs) schedule progress.done).done now
   pub fits : NoneFullBefore start.cluster.parts specs schedule progress.done
   pub shows : ShowsWith specs now w (PoolAfter start.cluster.parts (length specs) schedule progress.done)
+  pub few : budget < 2 ^ 64
+  pub moves : (x : ℕ) → moves_of now.cluster.whereabouts x ≤ progress.done
 
 -- so it is for two networks, of which the later one has the numbers of classes that the earlier one had
 pub record Follows (specs : List NodeSpec) (old : Net) (schedule : List Entry) (budget : ℕ) (statuses : List ProcStatus)

@@ -11,7 +11,7 @@ use Rattle.ec_cluster.specs.declared.cluster.Cluster.{Cluster}
 use Rattle.ec_code.specs.Activations.{code_meaning}
 use Rattle.ec_code.specs.declared.activation.CodeActivation.{CodeActivation}
 use Rattle.ec_acts.specs.Doings.{OneMore, Places}
-use Rattle.ec_cluster.specs.Whereabouts.{place_at}
+use Rattle.ec_cluster.specs.Whereabouts.{moves_of, place_at}
 use Rattle.ec_monitors.specs.Monitors.{dropped}
 use Rattle.ec_monitors.specs.declared.record.MonitorRec.{MonitorRec}
 use Rattle.ec_world.specs.declared.key.Key.{Key}
@@ -122,6 +122,25 @@ still_there c c' own (Waits condition) p x k at = ap (λ d. place_at d x) p ∙ 
 still_there c c' own (Signals condition) p x k at = ap (λ d. place_at d x) p ∙ at
 still_there c c' own Finishes p x k at = ap (λ d. place_at d x) p ∙ at
 still_there c c' own (Breaks why line) p x k at = ap (λ d. place_at d x) p ∙ at
+
+-- And no object has moved.
+pub done_moves : (c c' : Cluster) (own : ℕ) (doing : Doing) → Places c c' own doing → (x : ℕ) →
+    moves_of c'.whereabouts x ≡ moves_of c.whereabouts x
+done_moves c c' own (Passes given) p x = ap (λ d. moves_of d x) p
+done_moves c c' own (Prints text) p x = ap (λ d. moves_of d x) p
+done_moves c c' own (Defines index v) p x = ap (λ d. moves_of d x) p
+done_moves c c' own (Stores oid i v) p x = ap (λ d. moves_of d x) p
+done_moves c c' own (Makes class given) p x = p.moves x
+done_moves c c' own (MakesVector of n) p x = p.moves x
+done_moves c c' own (Invokes op callee args) p x = ap (λ d. moves_of d x) p
+done_moves c c' own (Returns given leaves section) p x = ap (λ d. moves_of d x) p
+done_moves c c' own (Moves members to fixes) p x = absurd p
+done_moves c c' own (Unfixes y) p x = ap (λ d. moves_of d x) p
+done_moves c c' own Enters p x = ap (λ d. moves_of d x) p
+done_moves c c' own (Waits condition) p x = ap (λ d. moves_of d x) p
+done_moves c c' own (Signals condition) p x = ap (λ d. moves_of d x) p
+done_moves c c' own Finishes p x = ap (λ d. moves_of d x) p
+done_moves c c' own (Breaks why line) p x = ap (λ d. moves_of d x) p
 
 module _ (old mid new : Cluster) (w : CodeWorld) (below : List CodeActivation) (top : CodeActivation) (who : Who) (doing : Doing)
     (o : Outcome) (shows : Shows old w) (frames : frame_of mid ≡ frame_of old)

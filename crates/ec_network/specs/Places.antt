@@ -1,10 +1,12 @@
 -- Where objects are on the nodes of a network, and what moves there: a group goes together, a fixed object goes by its own refix alone, and
 -- a node never does. (Jul, Levy, Hutchinson, Black 1988: move, fix, refix.)
-use Rattle.std.specs.Prelude.{◌≡◌, ◌<◌, ◌⊎◌, ℕ, suc, length, Option, Some, None, IsSome}
+use Rattle.std.specs.Prelude.{◌≡◌, ◌<◌, ◌⊎◌, ℕ, suc, [], length, Option, Some, None, IsSome}
 use Rattle.ec_cluster.specs.Cluster.{CodeWorld, place}
+use Rattle.ec_cluster.specs.Whereabouts.{Traces, addresses_at, moves_of, start_at}
 use Rattle.ec_cluster.specs.declared.system.System.{System}
 use Rattle.ec_code.specs.Activations.{code_meaning}
 use Rattle.ec_code.specs.Typing.{Declared}
+use Rattle.ec_forwarding.specs.Following.{IsFound}
 use Rattle.ec_moving.specs.Placed.{AsksToMove, ComeTo, IsFixed, MayGo, Refixes, TakesAlong}
 use Rattle.ec_network.specs.Moving.{MovedTo}
 use Rattle.ec_network.specs.Nets.{Net, system_of}
@@ -63,6 +65,19 @@ place_in (Some s) x = place s.cluster x
 -- the node at which an object is; none where it is not there, or the network is spent
 abbrev pub place_on : Net → ℕ → Option ℕ
 place_on net x = place_in (system_of net) x
+
+-- what nodes know of objects; nothing where the network is spent
+abbrev pub known_on : Net → Traces
+known_on None = []
+known_on (Some n) = n.system.cluster.whereabouts
+
+-- how often an object has moved
+abbrev pub moves_on : Net → ℕ → ℕ
+moves_on net x = moves_of (known_on net) x
+
+-- from a node one finds an object at this place in so many hops
+abbrev pub IsFoundFrom : Net → ℕ → ℕ → ℕ → ℕ → Type 0
+IsFoundFrom net x from place hops = IsFound (addresses_at (known_on net) x) (start_at (known_on net) x from) place hops
 
 abbrev pub nodes_on : Net → ℕ
 nodes_on None = 0

@@ -1,5 +1,5 @@
 -- An activation in a frame of a node: by which tables its words lie there, whether it is there, and at which stop it rests.
-use Rattle.std.specs.Prelude.{◌≡◌, ℕ, ◌<◌, ◌≤◌, List, length, Option, Some, None}
+use Rattle.std.specs.Prelude.{◌≡◌, ℕ, ◌<◌, ◌≤◌, List, length, Some}
 use Rattle.ec_activations.specs.Frames.{number_if, stop_of}
 use Rattle.ec_code.specs.Activations.{operation_at, variables_if}
 use Rattle.ec_code.specs.Fine.{Fine}

@@ -3,8 +3,8 @@ pub mod Beginning
 pub mod Finishing
 pub mod Loops
 pub mod Operands
+pub mod Reading
 pub mod Carried
 pub mod Arriving
 pub mod Spelled
-pub mod ArrivalsLoops
 pub mod Laws

@@ -1,5 +1,5 @@
 -- What an action that is pending takes from the frame of its activation.
-use Rattle.std.specs.Prelude.{◌≡◌, ℕ, ◌<◌, true, List, length, Some, slice_get}
+use Rattle.std.specs.Prelude.{◌≡◌, ℕ, true, List, Some, slice_get}
 use Rattle.ec_activations.specs.Frames.{value_in}
 use Rattle.ec_code.specs.Typing.{Declared, kind_of}
 use Rattle.ec_code.specs.declared.activation.CodeActivation.{CodeActivation}
@@ -7,15 +7,11 @@ use Rattle.ec_code.specs.declared.code.Live.{Live}
 use Rattle.ec_code.specs.declared.code.Parts.{Parts}
 use Rattle.ec_machine_code.specs.declared.homes.Home.{Home}
 use Rattle.ec_node_frames.specs.Finishing.{RestsHere}
-use Rattle.ec_node_frames.specs.Loops.{spot_of}
-use Rattle.ec_world.specs.declared.key.Key.TheVariants.{Frame}
 use Rattle.ec_objects.specs.Kinds.{IsOfKind}
 use Rattle.ec_generate.specs.declared.table.OperationTable.{OperationTable}
 use Rattle.ec_generate.specs.declared.table.StopEntry.{StopEntry}
-use Rattle.ec_stores.specs.Changes.{FirstBlock}
-use Rattle.ec_things.specs.Store.{Owned, StandsAt, Store}
+use Rattle.ec_things.specs.Store.{Store}
 use Rattle.ec_world.specs.declared.node.Kind.{Kind}
-use Rattle.ec_world.specs.declared.value.Value.{Value}
 
 -- A node shows an activation whose action is pending at a stop, and each of its operands is of the kind of its type.
 pub record ActsHere (s : Store) (table : OperationTable) (e : StopEntry) (process depth : ℕ) (d : Declared) (p : Parts)
@@ -32,24 +28,3 @@ pub record HasOperands (s : Store) (table : OperationTable) (e : StopEntry) (pro
   pub tables : List OperationTable
   pub activation : CodeActivation
   pub acts : ActsHere s table e process depth declared parts homes tables activation
-
--- the word at the home of a variable stands for a value, of the kind of the variable's type
-pub record ReadsAs (s : Store) (table : OperationTable) (process depth : ℕ) (l : Live) (v : Value) : Type 0 where
-  pub row : Owned
-  pub there : s.row (Frame process depth) ≡ Some row
-  pub one : length row.blocks ≡ 1
-  pub low : spot_of table l < 128
-  pub stands : StandsAt s row.blocks (spot_of table l) v
-  pub kind : IsOfKind (kind_of l.of) v
-
--- the same, in the frame of an activation that is this block
-pub record ReadsIn (s : Store) (table : OperationTable) (block : ℕ) (l : Live) (v : Value) : Type 0 where
-  pub process : ℕ
-  pub depth : ℕ
-  pub first : FirstBlock s (Frame process depth) block
-  pub reads : ReadsAs s table process depth l v
-
--- there is such a value
-pub record HasOperand (s : Store) (table : OperationTable) (process depth : ℕ) (l : Live) : Type 0 where
-  pub value : Value
-  pub reads : ReadsAs s table process depth l value

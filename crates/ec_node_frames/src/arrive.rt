@@ -1,9 +1,8 @@
 //! An activation comes from another node: its frame is made.
-ghost use Rattle.std.specs.Prelude.{◌≡◌, suc, ◌≤◌, ◌<◌, ◌∷◌, ℕ, length, slice_get, slice_set, if◌then◌else◌, IfOk, None, OnOk, Some};
+ghost use Rattle.std.specs.Prelude.{◌≡◌, ◌<◌, ◌∷◌, length, if◌then◌else◌, IfOk, None, OnOk, Some};
 ghost use Rattle.ec_node_frames.specs.Arriving.{Arrives};
 ghost use Rattle.ec_node_frames.specs.Carried as spec;
 ghost use Rattle.ec_node_frames.specs.Frames.{IsFrame};
-ghost use Rattle.ec_node_frames.specs.Loops.{IsFilled};
 ghost use Rattle.ec_node_frames.specs.Spelled.{HaveHomes, frame_by};
 ghost use Rattle.ec_world.specs.declared.key.Key.TheVariants.{Frame as OfFrame};
 ghost use Rattle.ec_objects.specs.Values.{HasWords, TextsFit};
@@ -13,9 +12,8 @@ ghost use Rattle.ec_things.specs.Things.{Puts};
 ghost use Rattle.ec_world.specs.Group.{Has};
 ghost use Rattle.ec_world.specs.declared.value.Value.TheVariants.{Ref, Str};
 
-use crate::carried::{carried, home_word, live_at};
-use crate::frames::Headings;
-use ec_code::code::Live;
+use crate::carried::carried;
+use crate::frames::{Headings, filled};
 use ec_generate::table::{OperationTable, StopEntry};
 use ec_objects::values::{word_for, words_for};
 use ec_stores::node::NodeStore;
@@ -92,45 +90,4 @@ fn words_with_own(
     let mut words = Vec::from_slice(alloc, &[own_word])?;
     words.extend_from_slice(others.as_slice())?;
     Ok(words)
-}
-
-/// A frame of 128 words that begins with these.
-fn headed(alloc: Global, heads: &[u32]) -> Result<Vec<u32>, AllocError>
-    requires { length heads.now ≤ 128 }
-    ensures long { IfOk result (λ frame. length frame.items ≡ 128) }
-    ensures headed { IfOk result (λ frame. (i w : ℕ) → slice_get heads.now i ≡ Some w → slice_get frame.items i ≡ Some w) }
-{
-    let mut frame = Vec::from_slice(alloc, heads)?;
-    frame.resize(128, 0)?;
-    Ok(frame)
-}
-
-/// Sets a word of a frame, where it has as many.
-fn set_word(frame: &mut Vec<u32>, at: usize, word: u32)
-    ensures { frame.new.items ≡ slice_set frame.old.items at word }
-{
-    if at < frame.len() {
-        frame[at] = word;
-    }
-}
-
-/// A frame: these words at its head, and the word of each variable, behind the first word, at its home.
-fn filled(
-    alloc: Global,
-    table: &OperationTable,
-    held: &[Live],
-    words: &[u32],
-    heads: &[u32],
-) -> Result<Vec<u32>, AllocError>
-    requires few { length heads.now ≤ 8 }
-    requires each { length words.now ≡ suc (length held.now) }
-    ensures { IfOk result (λ frame. IsFilled table.now held.now words.now heads.now frame.items (length held.now)) }
-{
-    let mut frame = headed(alloc, heads)?;
-    for i in 0..held.len() {
-        let live = live_at(held, i);
-        let at = home_word(table.home(live.variable));
-        set_word(&mut frame, at, words[i + 1]);
-    }
-    Ok(frame)
 }

@@ -1,9 +1,8 @@
 //! An activation begins: its frame is made.
-ghost use Rattle.std.specs.Prelude.{◌≡◌, suc, ◌≤◌, ◌<◌, ◌∷◌, ℕ, length, map, slice_get, slice_set, IfOk, None, OnOk, Some};
+ghost use Rattle.std.specs.Prelude.{◌≡◌, ◌<◌, ◌∷◌, map, IfOk, None, OnOk};
 ghost use Rattle.ec_node_frames.specs.Beginning as spec;
 ghost use Rattle.ec_node_frames.specs.Beginning.{BeginsFrame, HasEntry};
 ghost use Rattle.ec_node_frames.specs.Frames.{IsFrame};
-ghost use Rattle.ec_node_frames.specs.Loops.{IsFilled};
 ghost use Rattle.ec_world.specs.declared.key.Key.TheVariants.{Frame as OfFrame};
 ghost use Rattle.ec_objects.specs.Values.{TextsFit};
 ghost use Rattle.ec_stores.specs.Node.{store_of};
@@ -11,7 +10,7 @@ ghost use Rattle.ec_things.specs.Texts.{GetsTexts};
 ghost use Rattle.ec_world.specs.Group.{Has};
 ghost use Rattle.ec_world.specs.declared.value.Value.TheVariants.{Ref, Str};
 
-use crate::frames::home_word;
+use crate::frames::filled;
 use ec_code::code::{Live, Variable};
 use ec_generate::table::OperationTable;
 use ec_objects::values::words_for;
@@ -93,53 +92,4 @@ pub fn first_values(
         values.push(value)?;
     }
     Ok(values)
-}
-
-/// A frame of 128 words that begins with these.
-fn headed(alloc: Global, heads: &[u32]) -> Result<Vec<u32>, AllocError>
-    requires { length heads.now ≤ 128 }
-    ensures long { IfOk result (λ frame. length frame.items ≡ 128) }
-    ensures headed { IfOk result (λ frame. (i w : ℕ) → slice_get heads.now i ≡ Some w → slice_get frame.items i ≡ Some w) }
-{
-    let mut frame = Vec::from_slice(alloc, heads)?;
-    frame.resize(128, 0)?;
-    Ok(frame)
-}
-
-/// Sets a word of a frame, where it has as many.
-fn set_word(frame: &mut Vec<u32>, at: usize, word: u32)
-    ensures { frame.new.items ≡ slice_set frame.old.items at word }
-{
-    if at < frame.len() {
-        frame[at] = word;
-    }
-}
-
-/// One of these variables.
-fn live_at(held: &[Live], i: usize) -> Live
-    requires { i < length held.now }
-    ensures { slice_get held.now i ≡ Some result }
-{
-    held[i]
-}
-
-/// The frame of a new activation: these words at its head, and the word of each variable, behind the first word, at its home.
-fn filled(
-    alloc: Global,
-    table: &OperationTable,
-    held: &[Live],
-    words: &[u32],
-    heads: &[u32],
-) -> Result<Vec<u32>, AllocError>
-    requires few { length heads.now ≤ 8 }
-    requires each { length words.now ≡ suc (length held.now) }
-    ensures { IfOk result (λ frame. IsFilled table.now held.now words.now heads.now frame.items (length held.now)) }
-{
-    let mut frame = headed(alloc, heads)?;
-    for i in 0..held.len() {
-        let live = live_at(held, i);
-        let at = home_word(table.home(live.variable));
-        set_word(&mut frame, at, words[i + 1]);
-    }
-    Ok(frame)
 }

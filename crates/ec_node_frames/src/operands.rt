@@ -1,12 +1,14 @@
-//! The operands of a pending action, read from the frame.
+//! Values of variables, read from the frame: the operands of a pending action.
 ghost use Rattle.std.specs.Prelude.{◌≡◌, List, map, IfOk};
 ghost use Rattle.ec_activations.specs.Frames.{held_in};
 ghost use Rattle.ec_code.specs.Typing as typing;
 ghost use Rattle.ec_code.specs.Typing.{Declared};
 ghost use Rattle.ec_code.specs.declared.activation.CodeActivation.{CodeActivation};
+ghost use Rattle.ec_code.specs.declared.code.Live.{Live as LiveData};
 ghost use Rattle.ec_code.specs.declared.code.Parts.{Parts};
 ghost use Rattle.ec_machine_code.specs.declared.homes.Home.{Home as HomeData};
-ghost use Rattle.ec_node_frames.specs.Operands.{ActsHere, HasOperands, ReadsIn};
+ghost use Rattle.ec_node_frames.specs.Operands.{ActsHere, HasOperands};
+ghost use Rattle.ec_node_frames.specs.Reading.{AreRead, ReadsIn};
 ghost use Rattle.ec_generate.specs.declared.table.OperationTable.{OperationTable as TableData};
 ghost use Rattle.ec_stores.specs.Node.{store_of};
 ghost use Rattle.ec_world.specs.declared.node.Kind.{Kind as KindData};
@@ -38,29 +40,43 @@ pub fn operands_of(
         IfOk result (λ values. values ≡ map (λ h. h.value) (held_in p a entry.now.operands)) }
 {
     let block = node.block_of_frame(process, depth);
+    values_at(node, alloc, table, entry.operands.as_slice(), block)
+}
+
+/// The values of variables in the frame that is a block. The error is want of memory.
+pub(crate) fn values_at(
+    node: &NodeStore,
+    alloc: Global,
+    table: &OperationTable,
+    held: &[Live],
+    block: u32,
+) -> Result<Values, AllocError>
+    requires { (value : LiveData → ValueData) × AreRead (store_of node.now) table.now block held.now value }
+    ensures { (value : LiveData → ValueData) → AreRead (store_of node.now) table.now block held.now value →
+        IfOk result (λ values. values ≡ map value held.now) }
+{
     let mut values = Seq::new(alloc);
-    for i in 0..entry.operands.len() {
-        let operand = *entry.operands.at(i);
-        let value = operand_of(node, table, operand, block)?;
+    for live in held {
+        let value = value_at(node, table, *live, block)?;
         values.push(value)?;
     }
     Ok(values)
 }
 
-/// The value of an operand in the frame that is a block, read by its type. The error is want of memory.
-fn operand_of(
+/// The value of a variable in the frame that is a block, read by its type. The error is want of memory.
+fn value_at(
     node: &NodeStore,
     table: &OperationTable,
-    operand: Live,
+    live: Live,
     block: u32,
 ) -> Result<Value, AllocError>
-    requires { (v : ValueData) × ReadsIn (store_of node.now) table.now block operand v }
-    ensures { (v : ValueData) → ReadsIn (store_of node.now) table.now block operand v → IfOk result (λ u. u ≡ v) }
+    requires { (v : ValueData) × ReadsIn (store_of node.now) table.now block live v }
+    ensures { (v : ValueData) → ReadsIn (store_of node.now) table.now block live v → IfOk result (λ u. u ≡ v) }
 {
     let _kind = node.kind();
-    let at = home_word(table.home(operand.variable));
+    let at = home_word(table.home(live.variable));
     let word = node.word_in(block, at as u32);
-    value_of(node, kind_of(operand.of), word)
+    value_of(node, kind_of(live.of), word)
 }
 
 /// What a variable, a field or a constant of a type holds.

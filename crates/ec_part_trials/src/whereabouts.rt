@@ -42,5 +42,6 @@ fn an_object_is_found_where_it_went(rt: HostRuntime) -> Result<(), Fail> {
     assert_eq!(rt; find(&mut whereabouts, 3, 2)?, None);
     assert!(rt; whereabouts.place(0).is_none());
     assert!(rt; whereabouts.place(2).is_none());
+    assert!(rt; whereabouts.each_can_move());
     Ok(())
 }

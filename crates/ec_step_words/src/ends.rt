@@ -17,6 +17,14 @@ const LESS: Question = Question {
     wanted: true,
 };
 
+/// Whether the first home is less than 10.
+const LESS_THAN_TEN: Question = Question {
+    relation: Relation::Less,
+    left: Source::Home(Home::Register(0)),
+    right: Source::Word(10),
+    wanted: true,
+};
+
 /// Whether the first home isn't 5.
 const NOT_FIVE: Question = Question {
     relation: Relation::Same,
@@ -25,7 +33,7 @@ const NOT_FIVE: Question = Question {
     wanted: false,
 };
 
-/// Prints the words at word 100 that lead to word 110, or back.
+/// Prints the words at word 100 that lead to word 110, and back.
 pub fn print_riscv_ends(rt: &impl Print, alloc: Global) -> io::Result<()> {
     let mut words = Seq::new(alloc);
     Riscv.put_ask(Span::Near, LESS, 100, 110, &mut words)?;
@@ -39,7 +47,20 @@ pub fn print_riscv_ends(rt: &impl Print, alloc: Global) -> io::Result<()> {
     let mut words = Seq::new(alloc);
     Riscv.put_ask(Span::Far, LESS, 100, 110, &mut words)?;
     print_words(rt, "far r0 < r1", &words)?;
+    print_riscv_back(rt, alloc)?;
     print_riscv_jumps(rt, alloc)
+}
+
+fn print_riscv_back(rt: &impl Print, alloc: Global) -> io::Result<()> {
+    let mut words = Seq::new(alloc);
+    Riscv.put_ask(Span::Near, LESS, 110, 100, &mut words)?;
+    print_words(rt, "near back r0 < r1", &words)?;
+    let mut words = Seq::new(alloc);
+    Riscv.put_ask(Span::Near, NOT_FIVE, 110, 100, &mut words)?;
+    print_words(rt, "near back not r0 = 5", &words)?;
+    let mut words = Seq::new(alloc);
+    Riscv.put_ask(Span::Middle, LESS, 110, 100, &mut words)?;
+    print_words(rt, "middle back r0 < r1", &words)
 }
 
 fn print_riscv_jumps(rt: &impl Print, alloc: Global) -> io::Result<()> {
@@ -57,18 +78,31 @@ fn print_riscv_jumps(rt: &impl Print, alloc: Global) -> io::Result<()> {
     print_words(rt, "stop", &words)
 }
 
-/// Prints the words at word 100 that lead to word 110, or back.
+/// Prints the words at word 100 that lead to word 110, and back.
 pub fn print_mips_ends(rt: &impl Print, alloc: Global) -> io::Result<()> {
     let mut words = Seq::new(alloc);
     Mips.put_ask(Span::Near, LESS, 100, 110, &mut words)?;
     print_words(rt, "near r0 < r1", &words)?;
+    let mut words = Seq::new(alloc);
+    Mips.put_ask(Span::Near, LESS_THAN_TEN, 100, 110, &mut words)?;
+    print_words(rt, "near r0 < 10", &words)?;
     let mut words = Seq::new(alloc);
     Mips.put_ask(Span::Near, NOT_FIVE, 100, 110, &mut words)?;
     print_words(rt, "near not r0 = 5", &words)?;
     let mut words = Seq::new(alloc);
     Mips.put_ask(Span::Far, LESS, 100, 110, &mut words)?;
     print_words(rt, "far r0 < r1", &words)?;
+    print_mips_back(rt, alloc)?;
     print_mips_jumps(rt, alloc)
+}
+
+fn print_mips_back(rt: &impl Print, alloc: Global) -> io::Result<()> {
+    let mut words = Seq::new(alloc);
+    Mips.put_ask(Span::Near, LESS, 110, 100, &mut words)?;
+    print_words(rt, "near back r0 < r1", &words)?;
+    let mut words = Seq::new(alloc);
+    Mips.put_ask(Span::Near, NOT_FIVE, 110, 100, &mut words)?;
+    print_words(rt, "near back not r0 = 5", &words)
 }
 
 fn print_mips_jumps(rt: &impl Print, alloc: Global) -> io::Result<()> {

@@ -1,23 +1,23 @@
 -- Jumps and questions.
 use Rattle.std.proofs.Common.{◌≡◌, ℕ, ◌+◌, ◌-◌, ◌*◌, ◌^◌, ◌<◌, ◌≤◌, List, [], ◌∷◌, ◌++◌, length, length-append, refl, sym}
-use Rattle.std.proofs.Common.{⊎_elim, zero, suc, Some, ap, ◌∙◌, subst, arith, cond, true, false, lit<}
-use Rattle.std.specs.Prelude.{Bool, slice_get, ◌==◌, int_lt, nat_lt, not}
+use Rattle.std.proofs.Common.{⊎_elim, ap, ◌∙◌, subst, arith, cond, true, false, lit<}
+use mathlib.Core.List.{append_assoc}
+use Rattle.std.specs.Prelude.{Bool, ◌==◌, int_lt, nat_lt, not}
 use Rattle.std.specs.Int.{w32, cast_signed, from_bool}
 use Rattle.std.proofs.lemmas.Bool.{cases_lt}
 use Rattle.std.proofs.lemmas.Bool.Decides.{nat_tests}
 use Rattle.ec_base.specs.Bytes.{Bytes}
 use Rattle.ec_machine_code.specs.Frames.{most_blocks}
-use Rattle.ec_machine_code.specs.Micro.{CanAsk, Sight, asked, related}
+use Rattle.ec_machine_code.specs.Micro.{CanFind, Sight, asked, related}
 use Rattle.ec_machine_code.specs.Speaks.{AskLaw, Ends, HasAt, JumpLaw, words_end}
-use Rattle.ec_machine_code.specs.declared.step.Question.{Question}
 use Rattle.ec_machine_code.specs.declared.step.Relation.{Relation}
 use Rattle.ec_machine_code.specs.declared.step.Relation.TheVariants.{Less, Same}
+use Rattle.ec_machine_code.specs.declared.step.Source.{Source}
 use Rattle.ec_world.specs.Same.{is_same_truth}
 use Rattle.ec_target.specs.Code.{pc_of}
 use Rattle.mips_isa.specs.declared.field.Sixteen.{Sixteen}
 use Rattle.mips_isa.specs.declared.field.Target.{Target}
 use Rattle.mips_isa.specs.declared.instr.Branch.{Branch}
-use Rattle.mips_isa.specs.declared.instr.Operation.TheVariants.{Slt}
 use Rattle.mips_machine.proofs.Effects.{branch_climbs, jump_climbs, moved}
 use Rattle.mips_machine.specs.Machine.{mips_register, mips_rests}
 use Rattle.mips_machine.specs.Step.{branch_target}
@@ -25,11 +25,11 @@ use Rattle.mips_machine.specs.Values.{extended, is_taken, plus}
 use Rattle.mips_machine.specs.declared.machine.MipsMachine.{MipsMachine}
 use Rattle.mips_code.specs.Meaning.{mips_meaning}
 use Rattle.mips_code.specs.Sized.{few_asked}
-use Rattle.mips_code.specs.Words.{branch, branch_at, branch_distance, branch_of, jump_words, mips_far, mips_near, no_op, order_words}
-use Rattle.mips_code.specs.Words.{source_register, source_words, taken_where, with_two}
+use Rattle.mips_code.specs.Words.{branch, branch_at, branch_by, branch_distance, branch_of, compared_words, jump_words, mips_far, mips_near, no_op}
+use Rattle.mips_code.specs.Words.{source_register, source_words, taken_where}
 use Rattle.mips_code.proofs.SourcesLemmas.{Word, reg, sixteen, source_low}
 use Rattle.mips_code.proofs.Ways.{Seen, Way, has_back, has_front, nth_at, rest_at, seen_still, way_by, way_on, way_to}
-use Rattle.mips_code.proofs.Works.{both_got, operates}
+use Rattle.mips_code.proofs.Works.{both_got, less_made}
 
 -- ---- jumps
 
@@ -138,19 +138,6 @@ conds : (t : Bool) (x y u w : ℕ) → x ≡ u → y ≡ w → cond t x y ≡ co
 conds true x y u w e f = e
 conds false x y u w e f = f
 
--- the first two of these words
-get_two : (xs : List ℕ) (u w : ℕ) (zs : List ℕ) (k x : ℕ) → slice_get (xs ++ u ∷ w ∷ []) k ≡ Some x →
-    slice_get (xs ++ u ∷ w ∷ zs) k ≡ Some x
-get_two [] u w zs zero x e = e
-get_two [] u w zs (suc zero) x e = e
-get_two [] u w zs (suc (suc k)) x e = absurd (cc)
-get_two (y ∷ xs) u w zs zero x e = e
-get_two (y ∷ xs) u w zs (suc k) x e = get_two xs u w zs k x e
-
-front_two : (code : List ℕ) (j : ℕ) (xs : List ℕ) (u w : ℕ) (zs : List ℕ) → HasAt code j (xs ++ u ∷ w ∷ zs) →
-    HasAt code j (xs ++ u ∷ w ∷ [])
-front_two code j xs u w zs h k x e = h k x (get_two xs u w zs k x e)
-
 -- only scratch registers are others, and the machine rests at another place
 record Asked (code : List ℕ) (n : MipsMachine) (b : Bytes) (from end at : ℕ) : Type 0 where
   before : MipsMachine
@@ -158,99 +145,108 @@ record Asked (code : List ℕ) (n : MipsMachine) (b : Bytes) (from end at : ℕ)
   way : Way code n b from end at (moved before to) b
   others : (q : ℕ) → 12 ≤ q → mips_register before q ≡ mips_register n q
 
--- From a state with two sources in registers a and c, through the words of an order and the branch
-asks : (code : List ℕ) (r : Relation) (wanted : Bool) (n : MipsMachine) (b : Bytes) (j a c x y offset to : ℕ) → mips_rests n →
-    n.flow.pc ≡ pc_of j → j + length (order_words r a c) + 2 ≤ words_end → Leads (j + length (order_words r a c)) offset to →
-    a < 2 ^ 5 → c < 2 ^ 5 → mips_register n a ≡ x → mips_register n c ≡ y →
-    HasAt code j (order_words r a c ++ taken_where r wanted a c offset ∷ no_op ∷ []) →
-    Asked code n b j (j + length (order_words r a c) + 2)
-    (cond (is_same_truth wanted (related r x y)) to (j + length (order_words r a c) + 2))
-asks code Same wanted n b j a c x y offset to rest pc low leads small_a small_c ea ec has =
-    let t = is_same_truth wanted (x == y) in
-    let e : is_taken (branch_of wanted) (mips_register n a) (mips_register n c) ≡ t =
-    ap (λ z. is_taken (branch_of wanted) z (mips_register n c)) ea ∙ ap (is_taken (branch_of wanted) x) ec ∙ same_taken wanted x y in
-    let here : j ≡ j + 0 = omega arith in
-    let k = j + 0 in
-    let way = turns code t (branch_of wanted) n b k a c offset to rest (pc ∙ ap pc_of here) low leads small_a small_c e
-    (subst (λ i. HasAt code i (branch (branch_of wanted) a c offset ∷ no_op ∷ [])) here has) in
+-- through the words before a branch, to where it is taken if a test says so
+record Compared (code : List ℕ) (s : MipsMachine) (b : Bytes) (from end : ℕ) (row : Branch) (p q : ℕ) (t : Bool) : Type 0 where
+  last : MipsMachine
+  way : Way code s b from end end last b
+  rests : mips_rests last
+  decides : is_taken row (mips_register last p) (mips_register last q) ≡ t
+  others : (r : ℕ) → 12 ≤ r → mips_register last r ≡ mips_register s r
+
+-- and through that branch
+branched : (code : List ℕ) (s : MipsMachine) (b : Bytes) (i k : ℕ) (row : Branch) (p q : ℕ) (t : Bool) (offset to : ℕ) (ws : List ℕ) →
+    Compared code s b i k row p q t → k + 2 ≤ words_end → Leads k offset to → p < 2 ^ 5 → q < 2 ^ 5 →
+    HasAt code k (branch row p q offset ∷ no_op ∷ ws) → Asked code s b i (k + 2) (cond t to (k + 2))
+branched code s b i k row p q t offset to ws c low leads small_p small_q has =
     let there = cond t to (k + 2) in
+    let way = turns code t row c.last b k p q offset to c.rests c.way.at low leads small_p small_q c.decides
+    (has_front code k (branch row p q offset ∷ no_op ∷ []) ws has) in
     record {
-      before = n;
+      before = c.last;
       to = pc_of there;
-      way = way_to code n (moved n (pc_of there)) b b k (k + 2) j (k + 2) there there way (omega arith) (omega arith) refl;
-      others = λ q h. refl;
-    }
-asks code Less wanted n b j a c x y offset to rest pc low leads small_a small_c ea ec has =
-    let less = int_lt (cast_signed w32 x) (cast_signed w32 y) in
-    let t = is_same_truth wanted less in
-    let one = operates code b 8 (omega arith) (lit< tt) Slt n j a c x y (λ p q. refl) rest pc (omega (arith, low)) small_a small_c ea ec
-    (has_front code j (order_words Less a c) (taken_where Less wanted a c offset ∷ no_op ∷ []) has) in
-    let e : is_taken (branch_of (not wanted)) (mips_register one.last 8) (mips_register one.last 0) ≡ t =
-    ap (λ z. is_taken (branch_of (not wanted)) z 0) one.gave.holds ∙ less_taken wanted less in
-    let way = turns code t (branch_of (not wanted)) one.last b (j + 1) 8 0 offset to one.gave.rests one.way.at low leads (lit< tt) (lit< tt)
-    e (has_back code j (order_words Less a c) (taken_where Less wanted a c offset ∷ no_op ∷ []) has) in
-    record {
-      before = one.last;
-      to = pc_of (cond t to (j + 1 + 2));
-      way = way_on code n one.last (moved one.last (pc_of (cond t to (j + 1 + 2)))) b b b j (j + 1) (j + 1)
-          (j + 1 + 2) (j + 1) (cond t to (j + 1 + 2)) one.way way (omega arith);
-      others = λ q h. one.gave.others q h (λ e. omega (arith, e, h));
+      way = way_on code s c.last (moved c.last (pc_of there)) b b b i k k (k + 2) k there c.way way (omega arith);
+      others = c.others;
     }
 
 -- ---- questions
 
 module _ (f own : ℕ) where
-  -- through the sources of a question and its branch
-  turned : (code : List ℕ) (q : Question) (wanted : Bool) (offset i to : ℕ) (s : MipsMachine) (v : Sight) (ws : List ℕ) →
-      (f_small : f < most_blocks) → (own_small : own < most_blocks) →
-      HasAt code i (with_two q.left q.right (λ a c. order_words q.relation a c ++ taken_where q.relation wanted a c offset ∷ no_op ∷ ws)) →
-      s.flow.pc ≡ pc_of i → i + branch_at q + 2 ≤ words_end → Leads (i + branch_at q) offset to →
-      Seen f own s v.home → CanAsk mips_meaning f own q v →
-      Asked code s v.bytes i (i + branch_at q + 2)
-      (cond (is_same_truth wanted (related q.relation (Word code f own f_small own_small q.left v.home v.bytes)
-      (Word code f own f_small own_small q.right v.home v.bytes))) to (i + branch_at q + 2))
-  turned code q wanted offset i to s v ws f_small own_small has at low leads g can =
-      let ws1 = source_words 8 q.left in
-      let ws2 = source_words 9 q.right in
-      let a = source_register 8 q.left in
-      let c = source_register 9 q.right in
-      let order = order_words q.relation a c in
-      let jump = taken_where q.relation wanted a c offset ∷ no_op ∷ [] in
-      let word = taken_where q.relation wanted a c offset in
-      let all = order ++ word ∷ no_op ∷ ws in
-      let size : branch_at q ≡ length ws1 + length ws2 + length order =
-      omega (arith, length-append ws1 (ws2 ++ order), length-append ws2 order) in
-      let j = i + length ws1 + length ws2 in
-      let both = both_got code f own f_small own_small s v i g at q.left q.right all can.0 can.1 (omega (arith, low, size)) has in
-      let back = has_back code (i + length ws1) ws2 all (has_back code i ws1 (ws2 ++ all) has) in
-      let here : HasAt code j (order ++ jump) = front_two code j order word no_op ws back in
-      let x = Word code f own f_small own_small q.left v.home v.bytes in
-      let y = Word code f own f_small own_small q.right v.home v.bytes in
-      let same_word : i + branch_at q ≡ j + length order = omega (arith, size) in
-      let done = asks code q.relation wanted both.last v.bytes j a c x y offset to both.rests both.way.at (omega (arith, low, size))
-      (subst (λ k. Leads k offset to) same_word leads) (source_low code f own f_small own_small q.left v.home v.bytes 8 can.0 (lit< tt))
-      (source_low code f own f_small own_small q.right v.home v.bytes 9 can.1 (lit< tt)) both.left_holds both.right_holds here in
-      let t = is_same_truth wanted (related q.relation x y) in
-      let lands = cond t to (j + length order + 2) in
-      let same : lands ≡ cond t to (i + branch_at q + 2) =
-      conds t to (j + length order + 2) to (i + branch_at q + 2) refl (omega (arith, size)) in
-      let way = way_on code s both.last (moved done.before done.to) v.bytes v.bytes v.bytes i j j (j + length order + 2) j lands
-      both.way done.way (omega arith) in
-      record {
-        before = done.before;
-        to = done.to;
-        way = way_to code s (moved done.before done.to) v.bytes v.bytes i (j + length order + 2) i
-            (i + branch_at q + 2) lands (cond t to (i + branch_at q + 2)) way (omega arith)
-            (omega (arith, size)) same;
-        others = λ p h. done.others p h ∙ both.others p h;
-      }
+  module _ (code : List ℕ) (f_small : f < most_blocks) (own_small : own < most_blocks) (s : MipsMachine) (v : Sight) (i : ℕ)
+      (g : Seen f own s v.home) (at : s.flow.pc ≡ pc_of i) (left right : Source) (can_left : CanFind mips_meaning f own left v.home v.bytes)
+      (can_right : CanFind mips_meaning f own right v.home v.bytes) where
+    abbrev X : ℕ
+    X = Word code f own f_small own_small left v.home v.bytes
+
+    abbrev Y : ℕ
+    Y = Word code f own f_small own_small right v.home v.bytes
+
+    -- so many words on
+    abbrev behind : Relation → ℕ
+    behind r = i + length (compared_words r left right)
+
+    abbrev Answers : Relation → Bool → Branch → ℕ → ℕ → Type 0
+    Answers r wanted row p q = Compared code s v.bytes i (behind r) row p q (is_same_truth wanted (related r X Y))
+
+    same_compared : (wanted : Bool) (ws : List ℕ) → behind Same ≤ words_end → HasAt code i (compared_words Same left right ++ ws) →
+        Answers Same wanted (branch_of wanted) (source_register 8 left) (source_register 9 right)
+    same_compared wanted ws low has =
+        let ws1 = source_words 8 left in
+        let ws2 = source_words 9 right in
+        let long = length-append ws1 ws2 in
+        let k = i + length (ws1 ++ ws2) in
+        let room : k ≤ words_end = low in
+        let both = both_got code f own f_small own_small s v i g at left right ws can_left can_right (omega (arith, room, long))
+        (subst (HasAt code i) (append_assoc ws1 ws2 ws) has) in
+        record {
+          last = both.last;
+          way = way_to code s both.last v.bytes v.bytes i (i + length ws1 + length ws2) i k (i + length ws1 + length ws2) k both.way
+              (omega arith) (omega (arith, long)) (omega (arith, long));
+          rests = both.rests;
+          decides = ap (λ z. is_taken (branch_of wanted) z (mips_register both.last (source_register 9 right))) both.left_holds
+              ∙ ap (is_taken (branch_of wanted) X) both.right_holds ∙ same_taken wanted X Y;
+          others = both.others;
+        }
+
+    less_compared : (wanted : Bool) (ws : List ℕ) → behind Less ≤ words_end → HasAt code i (compared_words Less left right ++ ws) →
+        Answers Less wanted (branch_of (not wanted)) 8 0
+    less_compared wanted ws low has =
+        let less = int_lt (cast_signed w32 X) (cast_signed w32 Y) in
+        let made = less_made code f own f_small own_small s v i g at 8 (omega arith) (lit< tt) left right can_left can_right low
+        (has_front code i (compared_words Less left right) ws has) in
+        record {
+          last = made.last;
+          way = made.way;
+          rests = made.gave.rests;
+          decides = ap (λ z. is_taken (branch_of (not wanted)) z 0) made.gave.holds ∙ less_taken wanted less;
+          others = λ r h. made.gave.others r h (λ e. omega (arith, e, h));
+        }
+
+    -- through the words of a question up to its branch's slot
+    turned : (r : Relation) (wanted : Bool) (offset to : ℕ) (ws : List ℕ) →
+        HasAt code i (compared_words r left right ++ taken_where r wanted left right offset ∷ no_op ∷ ws) → behind r + 2 ≤ words_end →
+        Leads (behind r) offset to → Asked code s v.bytes i (behind r + 2) (cond (is_same_truth wanted (related r X Y)) to (behind r + 2))
+    turned Same wanted offset to ws has low leads =
+        let a = source_register 8 left in
+        let c = source_register 9 right in
+        let word = taken_where Same wanted left right offset in
+        branched code s v.bytes i (behind Same) (branch_of wanted) a c (is_same_truth wanted (related Same X Y)) offset to ws
+        (same_compared wanted (word ∷ no_op ∷ ws) (omega (arith, low)) has) low leads
+        (source_low code f own f_small own_small left v.home v.bytes 8 can_left (lit< tt))
+        (source_low code f own f_small own_small right v.home v.bytes 9 can_right (lit< tt))
+        (has_back code i (compared_words Same left right) (word ∷ no_op ∷ ws) has)
+    turned Less wanted offset to ws has low leads =
+        let word = taken_where Less wanted left right offset in
+        branched code s v.bytes i (behind Less) (branch_of (not wanted)) 8 0 (is_same_truth wanted (related Less X Y)) offset to ws
+        (less_compared wanted (word ∷ no_op ∷ ws) (omega (arith, low)) has) low leads (lit< tt) (lit< tt)
+        (has_back code i (compared_words Less left right) (word ∷ no_op ∷ ws) has)
 
   pub near_law : AskLaw mips_meaning f own mips_near
   near_law code q i to s v f_small own_small has at room high near back g can =
       let few = few_asked q in
       let offset = branch_distance (i + branch_at q + 1) to in
       let leads = leads_either (i + branch_at q) to (omega (arith, room)) high (omega (arith, near)) (omega (arith, back, few)) in
-      let done = turned code q q.wanted offset i to s v [] f_small own_small has at (omega (arith, room)) leads g can in
+      let done = turned code f_small own_small s v i g at q.left q.right can.0 can.1 q.relation q.wanted offset to [] has
+      (omega (arith, room)) leads in
       let t = asked mips_meaning f own q v.home v.bytes in
       let same : cond t to (i + branch_at q + 2) ≡ cond t to (i + (branch_at q + 2)) =
       conds t to (i + branch_at q + 2) to (i + (branch_at q + 2)) refl (omega arith) in
@@ -303,22 +299,14 @@ module _ (f own : ℕ) where
   pub far_law : AskLaw mips_meaning f own mips_far
   far_law code q i to s v f_small own_small has at room high near back g can =
       let k = i + branch_at q + 2 in
-      let ws1 = source_words 8 q.left in
-      let ws2 = source_words 9 q.right in
-      let order = order_words q.relation (source_register 8 q.left) (source_register 9 q.right) in
-      let word = taken_where q.relation (not q.wanted) (source_register 8 q.left) (source_register 9 q.right) 3 in
+      let word = branch_by q (not q.wanted) 3 in
       let last = jump_words k to in
       let leads = leads_forward (i + branch_at q) 3 (omega (arith, room)) (lit< tt) in
-      let done = turned code q (not q.wanted) 3 i (i + branch_at q + 1 + 3) s v last f_small own_small has at (omega (arith, room)) leads g
-      can in
-      let size : branch_at q ≡ length ws1 + length ws2 + length order =
-      omega (arith, length-append ws1 (ws2 ++ order), length-append ws2 order) in
-      let all = order ++ word ∷ no_op ∷ last in
-      let j = i + length ws1 + length ws2 in
-      let back = has_back code (i + length ws1) ws2 all (has_back code i ws1 (ws2 ++ all) has) in
-      let behind = has_back code j order (word ∷ no_op ∷ last) back in
-      let jump = rest_at code (j + length order + 1) no_op last (rest_at code (j + length order) word (no_op ∷ last) behind) in
-      let here : j + length order + 1 + 1 ≡ k = omega (arith, size) in
+      let done = turned code f_small own_small s v i g at q.left q.right can.0 can.1 q.relation (not q.wanted) 3 (i + branch_at q + 1 + 3) last has
+      (omega (arith, room)) leads in
+      let behind = has_back code i (compared_words q.relation q.left q.right) (word ∷ no_op ∷ last) has in
+      let jump = rest_at code (i + branch_at q + 1) no_op last (rest_at code (i + branch_at q) word (no_op ∷ last) behind) in
+      let here : i + branch_at q + 1 + 1 ≡ k = omega arith in
       let x = Word code f own f_small own_small q.left v.home v.bytes in
       let y = Word code f own f_small own_small q.right v.home v.bytes in
       let r = related q.relation x y in

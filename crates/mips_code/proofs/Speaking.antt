@@ -1,5 +1,5 @@
 -- The words of steps do what the steps do.
-use Rattle.std.proofs.Common.{◌≡◌, ◌≢◌, ℕ, zero, suc, ◌+◌, ◌-◌, ◌*◌, ◌%◌, ◌^◌, ◌<◌, ◌≤◌, List, [], ◌∷◌, ◌++◌, length, length-append}
+use Rattle.std.proofs.Common.{◌≡◌, ◌≢◌, ℕ, zero, suc, ◌+◌, ◌*◌, ◌%◌, ◌^◌, ◌<◌, ◌≤◌, List, [], ◌∷◌, ◌++◌, length, length-append}
 use Rattle.std.proofs.Common.{Option, Some}
 use Rattle.std.proofs.Common.{None, refl, sym, ap, ◌∙◌, subst, arith, cond, true, false, lit<}
 use Rattle.std.specs.Prelude.{Bool, ◌==◌, not}
@@ -42,13 +42,14 @@ use Rattle.mips_machine.specs.Machine.{mips_register}
 use Rattle.mips_machine.specs.Values.{extended, plus}
 use Rattle.mips_machine.specs.declared.machine.MipsMachine.{MipsMachine}
 use Rattle.mips_code.specs.Meaning.{mips_meaning}
-use Rattle.mips_code.specs.Words.{answer_words, branch, branch_at, branch_distance, branch_of, by_minus_one, constant_words, copied_words, difference_by}
+use Rattle.mips_code.specs.Words.{answer_words, branch, branch_at, branch_distance, branch_of, by_minus_one, compared_words, constant_words, copied_words, difference_by}
 use Rattle.mips_code.specs.Words.{difference_words, divided_words, division_by, far_words, from_hilo, hilo_words, is_other_number}
 use Rattle.mips_code.specs.Words.{is_small}
 use Rattle.mips_code.specs.Words.{jump_words, less_by, less_words, loaded_words, lui, mips_far, mips_near, near_words, no_op, number_words}
-use Rattle.mips_code.specs.Words.{on_number, on_registers, one_words, order_words, slot_offset, small, small_negative, source_register}
+use Rattle.mips_code.specs.Words.{on_number, on_registers, one_words, slot_offset, small, small_negative, source_register}
 use Rattle.mips_code.specs.Words.{source_words, step_words, stored_words, sum_by, sw, taken_where, target_register, target_words}
 use Rattle.mips_code.specs.Words.{two_words, with_two, work_words, zero_word}
+use Rattle.mips_code.specs.Sized.{far_length, near_length}
 use Rattle.mips_code.proofs.Asks.{far_law, jump_law_far, jump_law_near, near_law}
 use Rattle.mips_code.proofs.SourcesLemmas.{Finds, Gets, Made, Word, from_base, high_part, loads, made_keeps, made_of, number_got, reg, slot_got}
 use Rattle.mips_code.proofs.SourcesLemmas.{source_got, source_low, stores}
@@ -460,49 +461,26 @@ none_step (step.Decide into q) =
 none_jump : (from to : ℕ) → Free (jump_words from to)
 none_jump from to = none_cons _ _ (λ e. omega (arith, e)) (none_one _ no_op_not)
 
-none_order : (r : Relation) (a c : ℕ) → Free (order_words r a c)
-none_order Same a c = none_nil
-none_order Less a c = none_one _ (on_registers_not operations.Slt 8 a c)
+none_compared : (r : Relation) (left right : Source) → Free (compared_words r left right)
+none_compared Same left right =
+    none_append (source_words 8 left) (source_words 9 right) (none_source 8 left) (none_source 9 right)
+none_compared Less left right = none_less (small right) 8 left right
 
-taken_not : (r : Relation) (wanted : Bool) (a c offset : ℕ) → taken_where r wanted a c offset ≢ 0x0000000C
-taken_not Same wanted a c offset = branch_not (branch_of wanted) a c offset
-taken_not Less wanted a c offset = branch_not (branch_of (not wanted)) 8 0 offset
+taken_not : (r : Relation) (wanted : Bool) (left right : Source) (offset : ℕ) → taken_where r wanted left right offset ≢ 0x0000000C
+taken_not Same wanted left right offset = branch_not (branch_of wanted) (source_register 8 left) (source_register 9 right) offset
+taken_not Less wanted left right offset = branch_not (branch_of (not wanted)) 8 0 offset
 
 none_near : (q : Question) (from to : ℕ) → Free (near_words q from to)
 none_near q from to =
     let offset = branch_distance (from + branch_at q + 1) to in
-    none_with q.left q.right (λ a c. order_words q.relation a c ++ taken_where q.relation q.wanted a c offset ∷ no_op ∷ [])
-    (none_append (order_words q.relation (source_register 8 q.left) (source_register 9 q.right)) _
-    (none_order q.relation (source_register 8 q.left) (source_register 9 q.right))
-    (none_cons _ _ (taken_not q.relation q.wanted (source_register 8 q.left) (source_register 9 q.right) offset) (none_one _ no_op_not)))
+    none_append (compared_words q.relation q.left q.right) _ (none_compared q.relation q.left q.right)
+    (none_cons _ _ (taken_not q.relation q.wanted q.left q.right offset) (none_one _ no_op_not))
 
 none_far : (q : Question) (from to : ℕ) → Free (far_words q from to)
 none_far q from to =
-    let jump = jump_words (from + branch_at q + 2) to in
-    none_with q.left q.right (λ a c. order_words q.relation a c ++ taken_where q.relation (not q.wanted) a c 3 ∷ no_op ∷ jump)
-    (none_append (order_words q.relation (source_register 8 q.left) (source_register 9 q.right)) _
-    (none_order q.relation (source_register 8 q.left) (source_register 9 q.right))
-    (none_cons _ _ (taken_not q.relation (not q.wanted) (source_register 8 q.left) (source_register 9 q.right) 3)
-    (none_cons _ _ no_op_not (none_jump (from + branch_at q + 2) to))))
-
--- ---- sizes
-
-ask_size : (q : Question) (made : ℕ → ℕ → List ℕ) (k : ℕ) → length (made (source_register 8 q.left) (source_register 9 q.right)) ≡ k →
-    length (with_two q.left q.right (λ a c. order_words q.relation a c ++ made a c)) ≡ branch_at q + k
-ask_size q made k e =
-    let ws1 = source_words 8 q.left in
-    let ws2 = source_words 9 q.right in
-    let order = order_words q.relation (source_register 8 q.left) (source_register 9 q.right) in
-    let ws = made (source_register 8 q.left) (source_register 9 q.right) in
-    omega (
-      arith,
-      e,
-      length-append ws1 (ws2 ++ (order ++ ws)),
-      length-append ws2 (order ++ ws),
-      length-append order ws,
-      length-append ws1 (ws2 ++ order),
-      length-append ws2 order,
-    )
+    none_append (compared_words q.relation q.left q.right) _ (none_compared q.relation q.left q.right)
+    (none_cons _ _ (taken_not q.relation (not q.wanted) q.left q.right 3)
+    (none_cons _ _ no_op_not (none_jump (from + branch_at q + 2) to)))
 
 -- ---- the whole
 
@@ -515,8 +493,7 @@ near_speaks = record {
   stop_same = refl;
   reads_back = big_number-reads_back;
   length_bytes = λ n x. length-bytes_high_first n x;
-  asks_size = λ q from to. ask_size q
-      (λ a c. taken_where q.relation q.wanted a c (branch_distance (from + branch_at q + 1) to) ∷ no_op ∷ []) 2 refl;
+  asks_size = near_length;
   jumps_size = λ from to. refl;
   no_step = λ m. (none_step m).each;
   no_ask = λ q from to. (none_near q from to).each;
@@ -533,8 +510,7 @@ far_speaks = record {
   stop_same = refl;
   reads_back = big_number-reads_back;
   length_bytes = λ n x. length-bytes_high_first n x;
-  asks_size = λ q from to. ask_size q
-      (λ a c. taken_where q.relation (not q.wanted) a c 3 ∷ no_op ∷ jump_words (from + branch_at q + 2) to) 4 refl;
+  asks_size = far_length;
   jumps_size = λ from to. refl;
   no_step = λ m. (none_step m).each;
   no_ask = λ q from to. (none_far q from to).each;

@@ -1,5 +1,5 @@
 -- The words are as many as their sizes say, and few.
-use Rattle.std.proofs.Common.{◌≡◌, ℕ, ◌+◌, ◌-◌, ◌*◌, ◌≤◌, List, [], ◌∷◌, ◌++◌, length, length-append, Option, Some, None, refl}
+use Rattle.std.proofs.Common.{◌≡◌, ℕ, ◌+◌, ◌*◌, ◌≤◌, List, [], ◌∷◌, ◌++◌, length, length-append, Option, Some, None, refl}
 use Rattle.std.proofs.Common.{arith, true, false}
 use Rattle.std.specs.Prelude.{◌==◌, Bool, if◌then◌else◌, not}
 use Rattle.ec_code.specs.declared.code.Arithmetic.{Arithmetic}
@@ -15,7 +15,7 @@ use Rattle.ec_machine_code.specs.declared.step.Source.{Source}
 use Rattle.ec_machine_code.specs.declared.step.Source.TheVariants.{Home, Word}
 use Rattle.ec_machine_code.specs.declared.step.Step.{Step}
 use Rattle.ec_machine_code.specs.declared.step.Step.TheVariants.{Constant, Decide, Field, Itself, Move, SetField, Work}
-use Rattle.mips_code.specs.Sizes.{answer_size, both_size, copied_size, division_size, move_size, number_size, one_size, order_size}
+use Rattle.mips_code.specs.Sizes.{answer_size, both_size, compared_size, copied_size, division_size, move_size, number_size, one_size}
 use Rattle.mips_code.specs.Sizes.{source_size, step_size, sum_size, target_size, two_size, with_number_size, work_size}
 use Rattle.mips_isa.specs.Parts.{high_of, low_of}
 use Rattle.mips_isa.specs.declared.instr.Immediate.{Immediate}
@@ -25,11 +25,11 @@ use Rattle.mips_isa.specs.declared.instr.MoveFrom.{MoveFrom}
 use Rattle.mips_isa.specs.declared.instr.MoveFrom.TheVariants.{Mfhi, Mflo}
 use Rattle.mips_isa.specs.declared.instr.Operation.{Operation}
 use Rattle.mips_isa.specs.declared.instr.Operation.TheVariants.{Addu, Slt, Subu}
-use Rattle.mips_code.specs.Words.{answer_words, branch_at, branch_distance, constant_words, copied_words, difference_by, difference_words, division_by}
+use Rattle.mips_code.specs.Words.{answer_words, branch_at, branch_by, branch_distance, compared_words, constant_words, copied_words, difference_by, difference_words, division_by}
 use Rattle.mips_code.specs.Words.{far_words, hilo_words, is_other_number, is_small, jump_words, less_by, less_words, loaded_words, lui}
 use Rattle.mips_code.specs.Words.{mips_far, mips_near, move_words, near_words, no_op, number_words, on_number, on_registers, one_words}
-use Rattle.mips_code.specs.Words.{order_words, small, small_negative, source_register, source_words, step_words, stored_words, sum_by}
-use Rattle.mips_code.specs.Words.{sw, taken_where}
+use Rattle.mips_code.specs.Words.{small, small_negative, source_register, source_words, step_words, stored_words, sum_by}
+use Rattle.mips_code.specs.Words.{sw}
 use Rattle.mips_code.specs.Words.{target_register, target_words, two_words, with_two, work_words, zero_word}
 
 -- A jump reaches each word of the code.
@@ -146,28 +146,22 @@ step_length (Decide into q) =
 
 -- ---- questions
 
-order_length : (relation : Relation) (a b : ℕ) → length (order_words relation a b) ≡ order_size relation
-order_length Same a b = refl
-order_length Less a b = refl
+compared_length : (relation : Relation) (x y : Source) → length (compared_words relation x y) ≡ compared_size relation x y
+compared_length Same x y =
+    appended (source_words 8 x) (source_words 9 y) (source_size x) (source_size y) (source_length 8 x) (source_length 9 y)
+compared_length Less x y = less_length (small y) 8 x y
 
-pub branch_at_is : (q : Question) → branch_at q ≡ both_size q.left q.right + order_size q.relation
-branch_at_is q = with_length q.left q.right (order_words q.relation) (order_size q.relation) (order_length q.relation)
+pub branch_at_is : (q : Question) → branch_at q ≡ compared_size q.relation q.left q.right
+branch_at_is q = compared_length q.relation q.left q.right
 
--- the words of a question with so many behind those of its order
-asked_length : (q : Question) (behind : ℕ → ℕ → List ℕ) (n : ℕ) → ((a b : ℕ) → length (behind a b) ≡ n) →
-    length (with_two q.left q.right (λ a b. order_words q.relation a b ++ behind a b)) ≡ branch_at q + n
-asked_length q behind n h =
-    let all = with_length q.left q.right (λ a b. order_words q.relation a b ++ behind a b) (order_size q.relation + n)
-    (λ a b. appended (order_words q.relation a b) (behind a b) (order_size q.relation) n (order_length q.relation a b) (h a b)) in
-    omega (arith, all, branch_at_is q)
-
-near_length : (q : Question) (from to : ℕ) → length (near_words q from to) ≡ branch_at q + 2
+pub near_length : (q : Question) (from to : ℕ) → length (near_words q from to) ≡ branch_at q + 2
 near_length q from to =
-    asked_length q (λ a b. taken_where q.relation q.wanted a b (branch_distance (from + branch_at q + 1) to) ∷ no_op ∷ []) 2 (λ a b. refl)
+    length-append (compared_words q.relation q.left q.right) (branch_by q q.wanted (branch_distance (from + branch_at q + 1) to) ∷ no_op ∷ [])
 
-far_length : (q : Question) (from to : ℕ) → length (far_words q from to) ≡ branch_at q + 4
+pub far_length : (q : Question) (from to : ℕ) → length (far_words q from to) ≡ branch_at q + 4
 far_length q from to =
-    asked_length q (λ a b. taken_where q.relation (not q.wanted) a b 3 ∷ no_op ∷ jump_words (from + branch_at q + 2) to) 4 (λ a b. refl)
+    length-append (compared_words q.relation q.left q.right)
+    (branch_by q (not q.wanted) 3 ∷ no_op ∷ jump_words (from + branch_at q + 2) to)
 
 -- ---- few words
 
@@ -240,12 +234,12 @@ few_step (Decide into q) = omega (arith, few_answer q.relation q.wanted q.left q
 few_words : (m : Step) → length (step_words m) ≤ most_words
 few_words m = omega (arith, step_length m, few_step m)
 
-few_order : (relation : Relation) → order_size relation ≤ 1
-few_order Same = omega arith
-few_order Less = omega arith
+few_compared : (relation : Relation) (x y : Source) → compared_size relation x y ≤ 5
+few_compared Same x y = omega (arith, few_source x, few_source y)
+few_compared Less x y = few_with_number (small y) x y
 
 pub few_asked : (q : Question) → branch_at q ≤ 5
-few_asked q = omega (arith, branch_at_is q, few_two q.left q.right, few_order q.relation)
+few_asked q = omega (arith, branch_at_is q, few_compared q.relation q.left q.right)
 
 -- ---- all of it
 

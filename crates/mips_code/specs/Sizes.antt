@@ -11,7 +11,7 @@ use Rattle.ec_machine_code.specs.declared.step.Source.{Source}
 use Rattle.ec_machine_code.specs.declared.step.Source.TheVariants as source
 use Rattle.ec_machine_code.specs.declared.step.Step.{Step}
 use Rattle.ec_machine_code.specs.declared.step.Step.TheVariants as step
-use Rattle.mips_code.specs.Words.{is_other_number, is_small, no_op, order_words, small, small_negative, taken_where, with_two}
+use Rattle.mips_code.specs.Words.{branch_by, compared_words, is_other_number, is_small, no_op, small, small_negative}
 
 abbrev pub number_size : ℕ → ℕ
 number_size n = if is_small n then 1 else 2
@@ -78,11 +78,10 @@ step_size (step.Constant into i) = 3 + target_size into
 step_size (step.Work how into left right) = work_size how left right + target_size into
 step_size (step.Decide into q) = answer_size q.relation q.wanted q.left q.right + target_size into
 
-abbrev pub order_size : Relation → ℕ
-order_size Same = 0
-order_size Less = 1
+abbrev pub compared_size : Relation → Source → Source → ℕ
+compared_size Same left right = both_size left right
+compared_size Less left right = with_number_size (small right) left right
 
 -- a question up to the no-op in the slot of its branch, which leads so many words past the slot where the answer is as wanted
 abbrev pub branch_words : Question → Bool → ℕ → List ℕ
-branch_words q wanted offset =
-    with_two q.left q.right (λ a b. order_words q.relation a b ++ taken_where q.relation wanted a b offset ∷ no_op ∷ [])
+branch_words q wanted offset = compared_words q.relation q.left q.right ++ branch_by q wanted offset ∷ no_op ∷ []

@@ -245,19 +245,23 @@ abbrev pub branch_of : Bool → Branch
 branch_of true = Beq
 branch_of false = Bne
 
--- the words before the branch of a question: SLT $8 for an order
-abbrev pub order_words : Relation → (a b : ℕ) → List ℕ
-order_words Same a b = []
-order_words Less a b = on_registers Slt 8 a b ∷ []
+-- the words before the branch of a question: those of its sources; for an order those by which $8 gets 1 or 0
+abbrev pub compared_words : Relation → Source → Source → List ℕ
+compared_words Same left right = source_words 8 left ++ source_words 9 right
+compared_words Less left right = less_words 8 left right
 
 -- the branch, so many words past its slot, that is taken where a relation comes out as wanted
-abbrev pub taken_where : Relation → Bool → (a b offset : ℕ) → ℕ
-taken_where Same wanted a b offset = branch (branch_of wanted) a b offset
-taken_where Less wanted a b offset = branch (branch_of (not wanted)) 8 0 offset
+abbrev pub taken_where : Relation → Bool → Source → Source → (offset : ℕ) → ℕ
+taken_where Same wanted left right offset = branch (branch_of wanted) (source_register 8 left) (source_register 9 right) offset
+taken_where Less wanted left right offset = branch (branch_of (not wanted)) 8 0 offset
 
 -- how many words stand before the branch of a question
 abbrev pub branch_at : Question → ℕ
-branch_at q = length (with_two q.left q.right (order_words q.relation))
+branch_at q = length (compared_words q.relation q.left q.right)
+
+-- the branch of a question
+abbrev pub branch_by : Question → Bool → ℕ → ℕ
+branch_by q wanted offset = taken_where q.relation wanted q.left q.right offset
 
 -- how far it is from the slot of a branch to a word, modulo 2^16
 abbrev pub branch_distance : (from to : ℕ) → ℕ
@@ -266,15 +270,12 @@ branch_distance from to = (2 ^ 16 + to - from) % 2 ^ 16
 -- The branch leads to the target,
 abbrev pub near_words : Question → (from to : ℕ) → List ℕ
 near_words q from to =
-    with_two q.left q.right
-    (λ a b. order_words q.relation a b ++ taken_where q.relation q.wanted a b (branch_distance (from + branch_at q + 1) to) ∷ no_op ∷ [])
+    compared_words q.relation q.left q.right ++ branch_by q q.wanted (branch_distance (from + branch_at q + 1) to) ∷ no_op ∷ []
 
 -- or the opposite branch leads over a jump to it.
 abbrev pub far_words : Question → (from to : ℕ) → List ℕ
 far_words q from to =
-    with_two q.left q.right
-    (λ a b. order_words q.relation a b
-    ++ taken_where q.relation (not q.wanted) a b 3 ∷ no_op ∷ jump_words (from + branch_at q + 2) to)
+    compared_words q.relation q.left q.right ++ branch_by q (not q.wanted) 3 ∷ no_op ∷ jump_words (from + branch_at q + 2) to
 
 -- ---- the vocabularies. A branch reaches less than 2^15 words either way, from its slot; at most five words stand before the branch.
 

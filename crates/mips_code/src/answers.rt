@@ -87,27 +87,37 @@ fn branch_of(wanted: bool) -> Branch
     if wanted { Branch::Beq } else { Branch::Bne }
 }
 
-/// Writes the words before the branch of a question on two registers. The error is want of memory.
-fn put_order(
+/// Writes the words before the branch of a question. The error is want of memory.
+fn put_compared(
     words: &mut Seq<u32>,
     relation: Relation,
-    a: Register,
-    b: Register,
+    left: Source,
+    right: Source,
 ) -> Result<(), AllocError>
-    ensures { OnOk result (words.new ≡ words.old ++ spec.order_words relation a.number b.number) }
+    requires left { CanPutSource 6 left }
+    requires right { CanPutSource 6 right }
+    ensures { OnOk result (words.new ≡ words.old ++ spec.compared_words relation left right) }
 {
     match relation {
-        Relation::Same => Ok(()),
-        Relation::Less => put(words, on_registers(Operation::Slt, A, a, b)),
+        Relation::Same => {
+            put_source(words, A, left)?;
+            put_source(words, B, right)
+        }
+        Relation::Less => put_less(words, A, left, right),
     }
 }
 
-/// The branch that is taken where a relation comes out as wanted.
-fn taken_where(relation: Relation, wanted: bool, a: Register, b: Register, offset: Sixteen) -> Instr
-    ensures { word_of result ≡ spec.taken_where relation wanted a.number b.number offset.bits }
+/// The branch of a question that is taken where its relation comes out as wanted.
+fn branch_by(question: Question, wanted: bool, offset: Sixteen) -> Instr
+    requires { CanPutQuestion 6 question }
+    ensures { word_of result ≡ spec.branch_by question wanted offset.bits }
 {
-    match relation {
-        Relation::Same => branch(branch_of(wanted), a, b, offset),
+    match question.relation {
+        Relation::Same => {
+            let a = register_of(A, question.left);
+            let b = register_of(B, question.right);
+            branch(branch_of(wanted), a, b, offset)
+        }
         Relation::Less => branch(branch_of(!wanted), A, ZERO, offset),
     }
 }
@@ -122,18 +132,8 @@ fn put_branch(
     requires { CanPutQuestion 6 question }
     ensures { OnOk result (words.new ≡ words.old ++ branch_words question wanted offset.bits) }
 {
-    let Question {
-        relation,
-        left,
-        right,
-        ..
-    } = question;
-    put_source(words, A, left)?;
-    put_source(words, B, right)?;
-    let a = register_of(A, left);
-    let b = register_of(B, right);
-    put_order(words, relation, a, b)?;
-    put_delayed(words, taken_where(relation, wanted, a, b, offset))
+    put_compared(words, question.relation, question.left, question.right)?;
+    put_delayed(words, branch_by(question, wanted, offset))
 }
 
 /// How far it is from the slot of the branch of a question at a word to another word.

@@ -156,13 +156,13 @@ pub(crate) fn step_size(step: Step) -> u32
     }
 }
 
-fn order_size(relation: Relation) -> u32
-    ensures is { result ≡ sizes.order_size relation }
-    ensures few { result ≤ 1 }
+fn compared_size(relation: Relation, left: Source, right: Source) -> u32
+    ensures is { result ≡ sizes.compared_size relation left right }
+    ensures few { result ≤ 5 }
 {
     match relation {
-        Relation::Same => 0,
-        Relation::Less => 1,
+        Relation::Same => both_size(left, right),
+        Relation::Less => with_number_size(small(right), left, right),
     }
 }
 
@@ -172,5 +172,5 @@ pub(crate) fn branch_at(question: Question) -> u32
     ensures is { result ≡ spec.branch_at question }
     ensures few { result ≤ 5 }
 {
-    both_size(question.left, question.right) + order_size(question.relation)
+    compared_size(question.relation, question.left, question.right)
 }

@@ -252,22 +252,22 @@ module _ (code : List ℕ) (f own : ℕ) (f_small : f < most_blocks) (v : Sight)
       word_at code r.last.pc ≡ Some (branch_word q (not q.wanted) offset.bits) →
       ((n : RvMachine) → n.pc ≡ pc_of (i + fetch_size q + 1) → Seen code f own v n →
       Comes code f own v n (i + fetch_size q + 1) (i + fetch_size q + 1 + size) to) → i + all ≤ words_end →
-      to ≤ words_end → Seen code f own v m → Comes code f own v m i (i + all) (if t then to else i + all)
-  past_end true e size all offset long few whole i to m r here jumps forward high g =
+      Seen code f own v m → Comes code f own v m i (i + all) (if t then to else i + all)
+  past_end true e size all offset long few whole i to m r here jumps low g =
       let at1 = r.at in
       let turned = takes (not q.wanted) m r.last r.is ∙ not_wanted q.wanted is_related ∙ ap not e in
       let goes = branch_passes code r.last v.bytes (branch_of q.relation (not q.wanted)) left right offset turned here
-      (omega (arith, at1, forward, high, whole)) in
+      (omega (arith, at1, low, whole)) in
       let on : r.last.pc + 4 ≡ pc_of (i + fetch_size q + 1) = omega (arith, at1) in
       let first = ends m i (i + fetch_size q) (i + fetch_size q + 1) (i + fetch_size q + 1) r (r.last.pc + 4) goes on (omega arith) g in
       let sum : i + fetch_size q + 1 + size ≡ i + all = omega (arith, whole) in
       subst (λ end. Comes code f own v m i end to) sum
       (joined code f own v m i (i + fetch_size q + 1) (i + fetch_size q + 1 + size) (i + fetch_size q + 1) to first
       (jumps first.last first.at first.sees))
-  past_end false e size all offset long few whole i to m r here jumps forward high g =
+  past_end false e size all offset long few whole i to m r here jumps low g =
       let turned = takes (not q.wanted) m r.last r.is ∙ not_wanted q.wanted is_related ∙ ap not e in
       let d : offset.bits ≡ 4 * ((i + all) - (i + fetch_size q)) = omega (arith, long, whole) in
-      let there = forward_is r.last.pc (i + fetch_size q) (i + all) offset.bits r.at (omega (arith, whole)) (omega (arith, forward, high)) d
+      let there = forward_is r.last.pc (i + fetch_size q) (i + all) offset.bits r.at (omega (arith, whole)) low d
       (omega (arith, long, few)) in
       let goes = branch_goes code r.last v.bytes (branch_of q.relation (not q.wanted)) left right offset (pc_of (i + all)) turned there
       (omega arith) here in
@@ -277,32 +277,32 @@ module _ (code : List ℕ) (f own : ℕ) (f_small : f < most_blocks) (v : Sight)
       (i to : ℕ) (m : RvMachine) (jump : List ℕ) →
       HasAt code i (both_words q.left q.right ++ branch_word q (not q.wanted) offset.bits ∷ jump) → m.pc ≡ pc_of i →
       (HasAt code (i + fetch_size q + 1) jump → (n : RvMachine) → n.pc ≡ pc_of (i + fetch_size q + 1) → Seen code f own v n →
-      Comes code f own v n (i + fetch_size q + 1) (i + fetch_size q + 1 + size) to) → i + all ≤ words_end → to ≤ words_end →
+      Comes code f own v n (i + fetch_size q + 1) (i + fetch_size q + 1 + size) to) → i + all ≤ words_end →
       Seen code f own v m → Comes code f own v m i (i + all) (if answer then to else i + all)
-  past size all offset long few whole i to m jump has at jumps forward high g =
+  past size all offset long few whole i to m jump has at jumps low g =
       let ws = both_words q.left q.right in
       let u = branch_word q (not q.wanted) offset.bits in
       let r = both_sources code f own f_small v q.left q.right can.0 can.1 i m (front_at code i ws (u ∷ jump) has) at
-      (omega (arith, forward, high, whole)) g in
+      (omega (arith, low, whole)) g in
       let back = back_at code i ws (u ∷ jump) has in
       past_end answer refl size all offset long few whole i to m r (first_at code (i + fetch_size q) u r.last.pc jump back r.at)
-      (jumps (rest_at code (i + fetch_size q) u jump back)) forward high g
+      (jumps (rest_at code (i + fetch_size q) u jump back)) low g
 
   pub middle : (i to : ℕ) (m : RvMachine) → HasAt code i (middle_words q i to) → m.pc ≡ pc_of i → i + (fetch_size q + 2) ≤ words_end →
       to ≤ words_end → to + 8 ≤ i + 2 ^ 18 → i + 8 ≤ to + 2 ^ 18 → Seen code f own v m →
       Comes code f own v m i (i + (fetch_size q + 2)) (if answer then to else i + (fetch_size q + 2))
-  middle i to m has at forward high close back g =
+  middle i to m has at low high close back g =
       let few = few_fetched q in
       past 1 (fetch_size q + 2) eight refl (omega arith) (omega arith) i to m (jump_words (i + fetch_size q + 1) to) has at
       (λ jump n on seen.
-      jumped code f own v (i + fetch_size q + 1) to n jump on (omega (arith, forward, high)) high (omega (arith, close))
+      jumped code f own v (i + fetch_size q + 1) to n jump on (omega (arith, low)) high (omega (arith, close))
       (omega (arith, back, few)) seen)
-      forward high g
+      low g
 
   pub far : (i to : ℕ) (m : RvMachine) → HasAt code i (far_words q to) → m.pc ≡ pc_of i → i + (fetch_size q + 3) ≤ words_end →
       to ≤ words_end → Seen code f own v m →
       Comes code f own v m i (i + (fetch_size q + 3)) (if answer then to else i + (fetch_size q + 3))
-  far i to m has at forward high g =
+  far i to m has at low high g =
       past 2 (fetch_size q + 3) twelve refl (omega arith) (omega arith) i to m (far_jump_words to) has at
-      (λ jump n on seen. far_jumped code f own v (i + fetch_size q + 1) to n jump on (omega (arith, forward, high)) high seen)
-      forward high g
+      (λ jump n on seen. far_jumped code f own v (i + fetch_size q + 1) to n jump on (omega (arith, low)) high seen)
+      low g

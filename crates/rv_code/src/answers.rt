@@ -1,5 +1,5 @@
 //! Questions: their answers as 1 or 0, and branches.
-ghost use Rattle.std.specs.Prelude.{◌≡◌, ℕ, ◌+◌, ◌-◌, ◌*◌, ◌^◌, ◌≤◌, ◌++◌, OnOk};
+ghost use Rattle.std.specs.Prelude.{◌≡◌, ◌+◌, ◌^◌, ◌≤◌, ◌++◌, OnOk};
 ghost use Rattle.ec_generate.specs.Puts.{CanPutQuestion, CanPutSource};
 ghost use Rattle.ec_machine_code.specs.Speaks.{words_end};
 ghost use Rattle.rv_isa.specs.Words.{word_of};

@@ -1,6 +1,7 @@
 //! The action of a process on nodes.
 ghost use Rattle.std.specs.Prelude.{IfErr, IfOk};
 ghost use Rattle.ec_cluster.specs.Cluster.{CodeWorld};
+ghost use Rattle.ec_cluster.specs.Whereabouts.{FewMoves, MovedOnce};
 ghost use Rattle.ec_code.specs.Typing.{Declared};
 ghost use Rattle.ec_network.specs.Acts.{ActedIn, AsksBetween, AsksBetweenSome, AsksInSome, AsksOfEach, Begins, BeginsSome, RefusedIn};
 ghost use Rattle.ec_fullness.specs.Fullness.{StaysPut};
@@ -27,11 +28,13 @@ pub fn act(
     numbers: &ClassNumbers,
     p: Pid,
 ) -> Result<Acted, ActError>
-    requires { BeginsSome system.old numbers.now }
+    requires begins { BeginsSome system.old numbers.now }
+    requires few { FewMoves system.old.cluster.whereabouts }
     ensures acted { IfOk result (λ a. (d : Declared) (w : CodeWorld) → Begins d system.old w numbers.now →
         ActedIn d system.old system.new w p a) }
     ensures refused { IfErr result (λ e. (d : Declared) (w : CodeWorld) → Begins d system.old w numbers.now →
         RefusedIn system.old system.new w p e) }
+    ensures moves { IfOk result (λ a. MovedOnce system.old.cluster.whereabouts system.new.cluster.whereabouts) }
 {
     match asked(system, alloc, p) {
         Ok(Some(asked)) => perform(system, alloc, numbers, asked),
@@ -47,11 +50,13 @@ fn perform(
     numbers: &ClassNumbers,
     asked: Asked,
 ) -> Result<Acted, ActError>
-    requires { AsksBetweenSome system.old numbers.now asked.who asked.doing }
+    requires asks { AsksBetweenSome system.old numbers.now asked.who asked.doing }
+    requires few { FewMoves system.old.cluster.whereabouts }
     ensures acted { IfOk result (λ a. (d : Declared) (w : CodeWorld) → AsksBetween d system.old w numbers.now asked.who asked.doing →
         ActedIn d system.old system.new w asked.who.process a) }
     ensures refused { IfErr result (λ e. (d : Declared) (w : CodeWorld) → AsksBetween d system.old w numbers.now asked.who asked.doing →
         RefusedIn system.old system.new w asked.who.process e) }
+    ensures moves { IfOk result (λ a. MovedOnce system.old.cluster.whereabouts system.new.cluster.whereabouts) }
 {
     let Asked { who, doing } = asked;
     match doing {
@@ -80,6 +85,7 @@ fn perform_here(
         ActedIn d system.old system.new w who.process a) }
     ensures refused { IfErr result (λ e. (d : Declared) (w : CodeWorld) → AsksOfEach d system.old w who doing →
         RefusedIn system.old system.new w who.process e) }
+    ensures moves { IfOk result (λ a. MovedOnce system.old.cluster.whereabouts system.new.cluster.whereabouts) }
 {
     match fullness(system, alloc, who, &doing) {
         Ok(Some(lack)) => Err(ActError::Full(lack)),

@@ -16,7 +16,6 @@ pub enum Acted {
 pub enum ActError {
     /// A node lacks room for it. Nothing has changed.
     Full(Lack),
-    /// There was no memory, a table of numbers of 32 bits is full, or an object that was to move has moved 2^64 - 1 times. Nothing is said
-    /// of the nodes then.
+    /// There was no memory, or a table of numbers of 32 bits is full. Nothing is said of the nodes then.
     Memory(AllocError),
 }

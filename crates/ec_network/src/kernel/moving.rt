@@ -1,6 +1,7 @@
 //! A move of objects.
 ghost use Rattle.std.specs.Prelude.{IfErr, IfOk};
 ghost use Rattle.ec_cluster.specs.Cluster.{CodeWorld};
+ghost use Rattle.ec_cluster.specs.Whereabouts.{FewMoves, MovedOnce};
 ghost use Rattle.ec_code.specs.Typing.{Declared};
 ghost use Rattle.ec_network.specs.Acts.{ActedIn, AsksBetween, AsksBetweenSome, RefusedIn};
 ghost use Rattle.ec_world.specs.declared.doing.Doing.TheVariants.{Moves};
@@ -26,13 +27,15 @@ pub(crate) fn perform_move(
     target: Oid,
     fixes: Option<Oid>,
 ) -> Result<Acted, ActError>
-    requires { AsksBetweenSome system.old numbers.now who (Moves members.now target fixes) }
+    requires asks { AsksBetweenSome system.old numbers.now who (Moves members.now target fixes) }
+    requires few { FewMoves system.old.cluster.whereabouts }
     ensures acted { IfOk result (λ a. (d : Declared) (w : CodeWorld) →
         AsksBetween d system.old w numbers.now who (Moves members.now target fixes) →
         ActedIn d system.old system.new w who.process a) }
     ensures refused { IfErr result (λ e. (d : Declared) (w : CodeWorld) →
         AsksBetween d system.old w numbers.now who (Moves members.now target fixes) →
         RefusedIn system.old system.new w who.process e) }
+    ensures moves { IfOk result (λ a. MovedOnce system.old.cluster.whereabouts system.new.cluster.whereabouts) }
 {
     match gather(system, alloc, numbers, members, target, fixes) {
         Ok(None) => {

@@ -1,6 +1,7 @@
 //! Both steps of an action on nodes.
 ghost use Rattle.std.specs.Prelude.{IfErr, IfOk};
 ghost use Rattle.ec_cluster.specs.Cluster.{CodeWorld};
+ghost use Rattle.ec_cluster.specs.Whereabouts.{MovedOnce};
 ghost use Rattle.ec_code.specs.Typing.{Declared};
 ghost use Rattle.ec_network.specs.Acts.{ActedIn, AsksInSome, AsksOfEach, HasRoomInEach, RefusedIn};
 
@@ -24,6 +25,7 @@ pub(crate) fn both_steps(
     ensures acted { IfOk result (λ a. (d : Declared) (w : CodeWorld) → AsksOfEach d system.old w who doing →
         ActedIn d system.old system.new w who.process a) }
     ensures refused { IfErr result (λ e. (w : CodeWorld) → RefusedIn system.old system.new w who.process e) }
+    ensures moves { IfOk result (λ a. MovedOnce system.old.cluster.whereabouts system.new.cluster.whereabouts) }
 {
     let outcome = match does(system, alloc, who, doing) {
         Ok(outcome) => outcome,

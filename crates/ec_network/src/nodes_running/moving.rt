@@ -1,6 +1,7 @@
 //! A move by the operator on the nodes of a system.
 ghost use Rattle.std.specs.Prelude.{◌≡◌, ◌<◌, ◌^◌, suc, IfErr, IfOk, IfSome};
 ghost use Rattle.ec_cluster.specs.Cluster.{CodeWorld};
+ghost use Rattle.ec_cluster.specs.Whereabouts.{FewMoves, MovedOnce};
 ghost use Rattle.ec_code.specs.Typing.{Declared};
 ghost use Rattle.ec_network.specs.Moving.{MoveRefusedIn, MovedIn, members_seen};
 ghost use Rattle.ec_network.specs.Standing.{HasNumbers, Stands, StandsInSome};
@@ -29,10 +30,12 @@ pub(crate) fn shift(
 ) -> Result<Did, NetError>
     requires stands { StandsInSome system.old }
     requires numbers { HasNumbers system.old numbers.now }
+    requires few { FewMoves system.old.cluster.whereabouts }
     ensures moved { IfOk result (λ did. (d : Declared) (w : CodeWorld) → Stands d system.old w →
         MovedIn d system.old system.new w o k did) }
     ensures refused { IfErr result (λ e. (d : Declared) (w : CodeWorld) → Stands d system.old w →
         MoveRefusedIn system.old system.new w o k e) }
+    ensures moves { IfOk result (λ did. MovedOnce system.old.cluster.whereabouts system.new.cluster.whereabouts) }
 {
     let members = match members_of_move(&seen(system), alloc, o, k) {
         Ok(Some(members)) => members,

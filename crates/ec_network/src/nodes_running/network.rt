@@ -47,15 +47,15 @@ impl Model for Network {
 }
 
 impl Network {
-    ghost use Rattle.std.specs.Prelude.{IfErr, IfOk, IsSome, None, Some, is_some, length};
+    ghost use Rattle.std.specs.Prelude.{◌<◌, ◌≤◌, ◌-◌, ◌^◌, ◌↔◌, ℕ, suc, IfErr, IfOk, IsSome, IsTrue, None, Some, is_some, length};
     ghost use Rattle.ec_acts.specs.Loaded.{WhenFull};
     ghost use Rattle.ec_acts.specs.Loading.{LacksFirst, first_needs};
-    ghost use Rattle.ec_network.specs.Networks.{CanRun, ForStanding, KeepsNumbers, NetLoaded, NetMoved, NetMoveRefused, NetRefused};
+    ghost use Rattle.ec_network.specs.Networks.{CanRun, ForStanding, KeepsNumbers, NetLoaded, NetMoved, NetMoveRefused, NetRefused, Now};
     ghost use Rattle.ec_network.specs.Networks.{NetTurned};
     ghost use Rattle.ec_network.specs.Networks.{class_at, fixed_at, status_at};
     ghost use Rattle.ec_network.specs.Nets.{counts_of, system_of};
-    ghost use Rattle.ec_network.specs.Places.{FixedStay, FixedStayUnlessRefixed, GoTogether, NodesAreHome, place_on};
-    ghost use Rattle.ec_network.specs.Standing.{StandsInSome};
+    ghost use Rattle.ec_network.specs.Places.{FixedStay, FixedStayUnlessRefixed, GoTogether, IsFoundFrom, NodesAreHome, moves_on, place_on};
+    ghost use Rattle.ec_network.specs.Standing.{Stands, StandsInSome};
     ghost use Rattle.ec_rooms.specs.Places.{place_of};
 
     /// A network of no nodes, on which nothing was loaded. It meets its calls as a spent one does.
@@ -81,6 +81,7 @@ impl Network {
     ) -> Result<Network, LoadError>
         requires { CanRun parts images specs.now }
         ensures loaded { IfOk result (λ net. NetLoaded parts written.now images specs.now net) }
+        ensures moves { IfOk result (λ net. (x : ℕ) → moves_on net x ≡ 0) }
         ensures full { WhenFull result (LacksFirst (first_needs parts images (length specs.now)) specs.now) }
     {
         look_at_conditions(parts.classes.as_slice());
@@ -108,9 +109,11 @@ impl Network {
     /// least one that does is told, blocks before text, and nothing has changed. Want of memory spends the network, and a spent one answers
     /// nothing else.
     pub fn turn(&mut self, alloc: Global, p: Pid) -> Result<Did, NetError>
+        requires few { (x : ℕ) → moves_on self.old x < 2 ^ 64 - 1 }
         ensures turned { IfOk result (λ did. IsSome self.old × NetTurned self.old self.new p did) }
         ensures fixed { IfOk result (λ did. FixedStayUnlessRefixed self.old self.new p) }
         ensures nodes { IfOk result (λ did. NodesAreHome self.new) }
+        ensures moves { IfOk result (λ did. (x : ℕ) → moves_on self.new x ≤ suc (moves_on self.old x)) }
         ensures numbers { KeepsNumbers self.old self.new }
         ensures refused { IfErr result (λ e. NetRefused self.old self.new p e) }
     {
@@ -131,10 +134,12 @@ impl Network {
     /// A move of an object's group by the operator to where the object of a node is; or nothing, where the object or the node isn't there,
     /// or a member of the group is fixed. It is refused as a turn is.
     pub fn operator_move(&mut self, alloc: Global, o: Oid, k: NodeNo) -> Result<Did, NetError>
+        requires few { (x : ℕ) → moves_on self.old x < 2 ^ 64 - 1 }
         ensures moved { IfOk result (λ did. IsSome self.old × NetMoved self.old self.new o k did) }
         ensures together { IfOk result (λ did. GoTogether self.old self.new o k did) }
         ensures fixed { IfOk result (λ did. FixedStay self.old self.new) }
         ensures nodes { IfOk result (λ did. NodesAreHome self.new) }
+        ensures moves { IfOk result (λ did. (x : ℕ) → moves_on self.new x ≤ suc (moves_on self.old x)) }
         ensures numbers { KeepsNumbers self.old self.new }
         ensures refused { IfErr result (λ e. NetMoveRefused self.old self.new o k e) }
     {
@@ -198,6 +203,43 @@ impl Network {
         ensures placed { ForStanding self.now (λ d s w. result ≡ place_of w oid) }
     {
         self.standing().cluster.whereabouts.place(oid)
+    }
+
+    /// Whether each object can move once more, so that a turn or a move may be asked for. A spent network has none.
+    pub fn can_move(&self) -> bool
+        ensures { IsTrue result ↔ ((x : ℕ) → moves_on self.now x < 2 ^ 64 - 1) }
+    {
+        match &self.loaded {
+            Some(loaded) => loaded.system.cluster.whereabouts.each_can_move(),
+            None => true,
+        }
+    }
+
+    /// The node where an object is, and how many hops it takes to find it from a node: how many addresses one follows behind the first,
+    /// which is the node's own, or where it has none that of the node where the object was made. From then on it takes no hop from there;
+    /// else the network shows what it showed. Want of memory spends the network, and a spent one answers nothing else.
+    pub fn find(&mut self, from: NodeNo, oid: Oid) -> Result<(NodeNo, u64), NetError>
+        requires made { IsSome (place_on self.old oid) }
+        ensures found { IfOk result (λ answer. place_on self.old oid ≡ Some answer.0) }
+        ensures hops { IfOk result (λ answer. IsFoundFrom self.old oid from answer.0 answer.1) }
+        ensures few_hops { IfOk result (λ answer. answer.1 ≤ moves_on self.old oid) }
+        ensures again { IfOk result (λ answer. IsFoundFrom self.new oid from answer.0 0) }
+        ensures shows { IfOk result (λ answer. ForStanding self.old (λ d s w. Now self.new (λ t. Stands d t w))) }
+        ensures places { IfOk result (λ answer. (x : ℕ) → place_on self.new x ≡ place_on self.old x) }
+        ensures moves { IfOk result (λ answer. (x : ℕ) → moves_on self.new x ≡ moves_on self.old x) }
+        ensures numbers { KeepsNumbers self.old self.new }
+        ensures refused { IfErr result (λ e. self.new ≡ None) }
+    {
+        let Some(loaded) = &mut self.loaded else {
+            return Err(NetError::Memory(AllocError));
+        };
+        match loaded.system.cluster.whereabouts.find(from, oid) {
+            Ok(found) => Ok(found),
+            Err(e) => {
+                self.loaded = None;
+                Err(NetError::Memory(e))
+            }
+        }
     }
 
     /// How many instructions a node has run, up to 2^64 - 1; 0 where it is not there, or the network is spent.

@@ -22,6 +22,7 @@ pub(crate) fn run_on(system: &mut System, machines: &mut Machines, p: Pid) -> Op
     ensures some { IfSome result (λ steps. (d : Declared) (w : CodeWorld) → Works d system.old w →
         WentOn d system.old system.new w p steps) }
     ensures none { IfNone result ((d : Declared) (w : CodeWorld) → Works d system.old w → Rested system.old system.new w p) }
+    ensures whereabouts { system.new.cluster.whereabouts ≡ system.old.cluster.whereabouts }
 {
     let headings = top_of(system, p)?;
     if headings.pending {

@@ -1,6 +1,7 @@
 //! A turn of a process on the nodes of a system.
-ghost use Rattle.std.specs.Prelude.{IfErr, IfOk};
+ghost use Rattle.std.specs.Prelude.{◌≡◌, IfErr, IfOk};
 ghost use Rattle.ec_cluster.specs.Cluster.{CodeWorld};
+ghost use Rattle.ec_cluster.specs.Whereabouts.{FewMoves, MovedOnce};
 ghost use Rattle.ec_code.specs.Typing.{Declared};
 ghost use Rattle.ec_network.specs.Running.{AfterAction};
 ghost use Rattle.ec_network.specs.Standing.{HasNumbers, Stands, StandsInSome, Works, WorksInSome};
@@ -27,10 +28,12 @@ pub(crate) fn turn(
 ) -> Result<Did, NetError>
     requires stands { StandsInSome system.old }
     requires numbers { HasNumbers system.old numbers.now }
+    requires few { FewMoves system.old.cluster.whereabouts }
     ensures turned { IfOk result (λ did. (d : Declared) (w : CodeWorld) → Stands d system.old w →
         TurnedIn d system.old system.new w p did) }
     ensures refused { IfErr result (λ e. (d : Declared) (w : CodeWorld) → Stands d system.old w →
         RefusedIn system.old system.new w p e) }
+    ensures moves { IfOk result (λ did. MovedOnce system.old.cluster.whereabouts system.new.cluster.whereabouts) }
 {
     let Some(_headings) = top_of(system, p) else {
         return Ok(Did::Idle);
@@ -50,7 +53,8 @@ pub(crate) fn turn(
 /// The code behind a stop up to the next one, where the process may go on. Answers how many instructions have been run.
 fn run_if_done(system: &mut System, machines: &mut Machines, p: Pid) -> u64
     requires { WorksInSome system.old }
-    ensures { (d : Declared) (w : CodeWorld) → Works d system.old w → AfterAction d system.old system.new w p result }
+    ensures after { (d : Declared) (w : CodeWorld) → Works d system.old w → AfterAction d system.old system.new w p result }
+    ensures whereabouts { system.new.cluster.whereabouts ≡ system.old.cluster.whereabouts }
 {
     match run_on(system, machines, p) {
         Some(steps) => steps,

@@ -21,8 +21,7 @@ pub enum NetError {
     /// A node lacks room for it. Nothing has changed.
     #[error("a node lacks room: {0:?}")]
     Full(Lack),
-    /// There was no memory, a table of numbers of 32 bits is full, or an object that was to move has moved 2^64 - 1 times; or a call before
-    /// this one has met that. The network is spent.
+    /// There was no memory, or a table of numbers of 32 bits is full; or a call before this one has met that. The network is spent.
     #[error("there was no memory")]
     Memory(AllocError),
 }

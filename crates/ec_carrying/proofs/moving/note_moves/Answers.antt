@@ -1,6 +1,6 @@
 -- Objects get their places one after another.
 use Rattle.std.proofs.Common.{arith}
-use Rattle.ec_carrying.proofs.Places.{all_moved, next_from, none_moved, one_moved, some_place}
+use Rattle.ec_carrying.proofs.Places.{all_moved, next_few, next_from, none_moved, one_moved, some_place}
 use Rattle.ec_carrying.proofs.moving.note_moves.Goals as goal
 
 pub loop-i-init : goal.loop-i-init
@@ -12,6 +12,9 @@ note_arrival-requires c = record {
       some_place _ c.args.from
       (next_from c.args.whereabouts.now c.loop-i.whereabouts c.args.objects.now c.args.from c.args.to c.loop-i.i c.at.result.now
       c.loop-i.invariant c.at.ensures);
+  few =
+      next_few c.args.whereabouts.now c.loop-i.whereabouts c.args.objects.now c.args.from c.args.to c.loop-i.i c.at.result.now
+      c.loop-i.invariant c.at.ensures c.requires.apart c.requires.few;
 }
 
 pub loop-i-preserved : goal.loop-i-preserved
@@ -26,4 +29,4 @@ pub returns : goal.returns
 returns c =
     let all = all_moved c.args.whereabouts.now c.loop-i.whereabouts c.args.objects.now c.args.from c.args.to c.loop-i.i
     (omega (arith, c.len-i-end.ensures)) c.loop-i.invariant in
-    record { there = all.0; others = all.1; count = c.loop-i.invariant.count }
+    record { there = all.0; others = all.1; count = c.loop-i.invariant.count; went = c.loop-i.invariant.went }

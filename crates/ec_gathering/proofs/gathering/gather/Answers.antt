@@ -1,9 +1,11 @@
 -- A group goes, or the node is full.
 use Rattle.std.proofs.Common.{◌≡◌, ◌∙◌, ℕ, List, Option, false, ap, subst, sym, true}
 use Rattle.std.specs.Prelude.{is_some, not}
+use Rattle.ec_cluster.proofs.Going.{few_elsewhere, none_moved}
 use Rattle.ec_cluster.specs.Cluster.{CodeWorld}
+use Rattle.ec_cluster.specs.Whereabouts.{FewMoves, MovedOnce, Traces}
 use Rattle.ec_code.specs.Typing.{Declared}
-use Rattle.ec_gathering.proofs.Gone.{brings_these, classed_these, fixed_still, fixed_there, has_gone, lacking_these, loosened}
+use Rattle.ec_gathering.proofs.Gone.{brings_these, classed_these, fixed_still, fixed_there, gone_once, has_gone, lacking_these, loosened}
 use Rattle.ec_gathering.proofs.Gone.{target_placed, to_low}
 use Rattle.ec_gathering.proofs.Told.{if_none, if_some, none_told, some_told}
 use Rattle.ec_gathering.proofs.gathering.gather.Goals as goal
@@ -19,19 +21,19 @@ use Rattle.ec_cluster.specs.declared.system.System.{System}
 
 pub node_of-to-requires : goal.node_of-to-requires
 node_of-to-requires c =
-    let h = c.requires in
+    let h = c.requires.may in
     target_placed h.declared c.args.system.now h.world c.args.numbers.now c.args.members.now c.args.target c.args.fixes h.may
 
 pub lack_of-requires-clause-there : goal.lack_of-requires-clause-there
 lack_of-requires-clause-there c =
-    let h = c.requires in
+    let h = c.requires.may in
     let ships = c.in_ok-shipments.ensures h.declared h.world c.args.target c.args.fixes h.may in
     to_low h.declared c.args.system.now h.world c.args.numbers.now c.args.members.now c.args.target c.args.fixes h.may c.node_of-to.result
     c.node_of-to.ensures c.made-made.ensures.table c.in_ok-shipments.shipments.items ships
 
 pub lack_of-requires-clause-classed : goal.lack_of-requires-clause-classed
 lack_of-requires-clause-classed c =
-    let h = c.requires in
+    let h = c.requires.may in
     let ships = c.in_ok-shipments.ensures h.declared h.world c.args.target c.args.fixes h.may in
     classed_these h.declared c.args.system.now h.world c.args.numbers.now c.args.members.now c.args.target c.args.fixes h.may
     c.node_of-to.result c.node_of-to.ensures c.made-made.ensures.table c.in_ok-shipments.shipments.items ships
@@ -39,12 +41,17 @@ lack_of-requires-clause-classed c =
 
 pub flag-requires : goal.flag-requires
 flag-requires c =
-    let h = c.requires in
+    let h = c.requires.may in
     fixed_there h.declared c.args.system.now h.world c.args.numbers.now c.args.members.now c.args.target c.args.fixes h.may
 
-pub bring-requires : goal.bring-requires
-bring-requires c =
-    let h = c.requires in
+pub bring-requires-clause-few : goal.bring-requires-clause-few
+bring-requires-clause-few c =
+    few_elsewhere c.node_of-to.result c.flag.new.cluster.whereabouts
+    (subst (λ (d : Traces). FewMoves d) (sym c.flag.ensures.whereabouts) c.requires.few)
+
+pub bring-requires-clause-brings : goal.bring-requires-clause-brings
+bring-requires-clause-brings c =
+    let h = c.requires.may in
     let s : System = c.args.system.now in
     let table : ClassTable = c.args.numbers.now in
     let members : List ℕ = c.args.members.now in
@@ -65,7 +72,7 @@ bring-requires c =
 
 pub flag-requires-then-is_none : goal.flag-requires-then-is_none
 flag-requires-then-is_none c =
-    let h = c.requires in
+    let h = c.requires.may in
     let s : System = c.args.system.now in
     let table : ClassTable = c.args.numbers.now in
     let members : List ℕ = c.args.members.now in
@@ -81,7 +88,7 @@ flag-requires-then-is_none c =
     (λ store e. none_told c.in_ok-lack.lack none (c.in_ok-lack.ensures.none store e)) in
     fixed_still h.declared s h.world table members c.args.target fixes h.may c.node_of-to.result c.node_of-to.ensures
     c.made-made.ensures.table bs ships c.flag.new.cluster c.flag.ensures.changes c.flag.ensures.whereabouts shows c.bring.new.cluster
-    (c.in_ok-bring.ensures h.declared (loosened h.declared s h.world table members c.args.target fixes h.may) members brings)
+    (c.in_ok-bring.ensures.brought h.declared (loosened h.declared s h.world table members c.args.target fixes h.may) members brings)
 
 pub returns-clause-done : goal.returns-clause-done
 returns-clause-done c = if_none c.in_ok-lack.lack (λ none d w may.
@@ -100,7 +107,7 @@ returns-clause-done c = if_none c.in_ok-lack.lack (λ none d w may.
           c.as_slice-shipments.ensures.value
           (λ store e. none_told c.in_ok-lack.lack none (c.in_ok-lack.ensures.none store e)) in
           let loose : CodeWorld = loosened d s w table members c.args.target fixes may in
-          let brought = v.in_ok-bring.ensures d loose members brings in
+          let brought = v.in_ok-bring.ensures.brought d loose members brings in
           subst (λ (t : System). Gathers s t w members c.args.target fixes) (sym v.system-is)
           (has_gone d s w table members c.args.target fixes may c.node_of-to.result c.node_of-to.ensures c.made-made.ensures.table bs ships
           v.flag.new.cluster v.flag.ensures.changes v.flag.ensures.whereabouts shows v.bring.new.cluster brought
@@ -131,3 +138,16 @@ returns-clause-full c = if_some (λ (lack : Lack). (c.if-is_none.system ≡ c.ar
             c.in_ok-lack.lack lack is (c.in_ok-lack.ensures.some store e)),
       )
     ])
+
+pub returns-clause-moves : goal.returns-clause-moves
+returns-clause-moves c =
+    let s : System = c.args.system.now in
+    elim c.if-is_none.branch [
+      | then-is_none+in_ok-bring v ↦
+          subst (λ (t : System). MovedOnce s.cluster.whereabouts t.cluster.whereabouts) (sym v.system-is)
+          (gone_once c.node_of-to.result s.cluster.whereabouts v.flag.new.cluster.whereabouts v.bring.new.cluster.whereabouts
+          v.flag-then-is_none.new.cluster.whereabouts v.flag.ensures.whereabouts v.in_ok-bring.ensures.went
+          v.flag-then-is_none.ensures.whereabouts)
+      | else-is_none v ↦
+          subst (λ (t : System). MovedOnce s.cluster.whereabouts t.cluster.whereabouts) (sym v.system-is) (none_moved s.cluster.whereabouts)
+    ]

@@ -1,5 +1,4 @@
-use Rattle.std.proofs.Common.{◌≡◌, ◌≢◌, ℕ, ◌+◌, ◌<◌, Some, arith}
-use Rattle.std.specs.Prelude.{slice_get}
+use Rattle.std.proofs.Common.{arith}
 use Rattle.ec_base.proofs.Lists.{get_within}
 use Rattle.ec_generate.proofs.Noting.{one_noted}
 use Rattle.ec_generate.proofs.addresses.note.Goals as goal

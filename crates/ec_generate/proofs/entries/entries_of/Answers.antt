@@ -1,4 +1,4 @@
-use Rattle.std.proofs.Common.{◌≡◌, Some, arith}
+use Rattle.std.proofs.Common.{arith}
 use Rattle.ec_base.proofs.Lists.{get_there}
 use Rattle.ec_generate.proofs.Listing.{one_stop}
 use Rattle.ec_generate.specs.Entries.{entries_of}

@@ -1,4 +1,4 @@
-use Rattle.std.proofs.Common.{◌≡◌}
+use Rattle.std.proofs.Common.{◌≡◌, arith}
 use Rattle.ec_meaning.specs.Sources.{source_of}
 use Rattle.ec_native_run.proofs.Ending.{can_run, load_full, runs_to}
 use Rattle.ec_native_run.proofs.Following.{first_follows}
@@ -21,9 +21,10 @@ run_loaded-requires c =
     let images = c.in_ok-made.made.images in
     let specs = c.args.specs.now in
     let can = can_run p images specs c.in_ok-made.ensures.runnable c.requires.nodes in
+    let few = c.ranges.budget in
     record {
       loaded = first_follows p images specs c.args.schedule.now c.args.budget c.in-Ok.loaded c.requires.nodes can
-          c.args.written.now c.in-Ok.ensures.loaded;
+          c.args.written.now c.in-Ok.ensures.loaded (omega arith);
     }
 
 pub returns-in-Ok : goal.returns-in-Ok

@@ -1,28 +1,40 @@
 -- What is read is what goes.
-use Rattle.std.proofs.Common.{◌≡◌, List, map, sym, ap, ◌∙◌, subst}
-use Rattle.std.specs.Prelude.{IfOk}
+use Rattle.std.proofs.Common.{List, sym, ◌∙◌, subst}
 use Rattle.ec_activations.specs.Frames.{value_in}
-use Rattle.ec_node_frames.proofs.Carrying.{are_read, have_values, read_carried}
-use Rattle.ec_node_frames.proofs.carried.carried_values.Goals as goal
-use Rattle.ec_node_frames.specs.ArrivalsLoops.{AreRead, HaveValues}
 use Rattle.ec_code.specs.declared.code.Live.{Live}
+use Rattle.ec_node_frames.proofs.Carrying.{read_carried}
+use Rattle.ec_node_frames.proofs.Reading.{carried_read, same_read}
+use Rattle.ec_node_frames.proofs.Shown.{is_here, shown_here}
+use Rattle.ec_node_frames.proofs.carried.carried_values.Goals as goal
+use Rattle.ec_node_frames.specs.Carried.{carried}
+use Rattle.ec_node_frames.specs.Reading.{AreRead}
 use Rattle.ec_stores.specs.Node.{store_of}
-use Rattle.ec_world.specs.declared.value.Value.{Value}
 
-pub values_of-requires : goal.values_of-requires
-values_of-requires c =
+pub block_of_frame-block-requires : goal.block_of_frame-block-requires
+block_of_frame-block-requires c =
+    let has = c.requires in
     let s = store_of c.args.node.now in
-    subst (λ (ls : List Live). HaveValues s c.args.table.now c.args.process c.args.depth ls)
-    (sym (c.as_slice.ensures.value ∙ c.in_ok-held.ensures))
-    (have_values s c.args.table.now c.args.entry.now c.args.process c.args.depth c.args.pending c.requires)
+    is_here s c.args.process c.args.depth
+    (shown_here s has.parts has.homes c.args.process c.args.depth has.activation has.goes.here.shown)
+
+pub values_at-requires : goal.values_at-requires
+values_at-requires c =
+    let s = store_of c.args.node.now in
+    let has = c.requires in
+    let a = has.activation in (
+      λ l. value_in has.parts a l.variable,
+      subst (λ (ls : List Live). AreRead s c.args.table.now c.block_of_frame-block.result ls (λ l. value_in has.parts a l.variable))
+          (sym (c.as_slice.ensures.value ∙ c.in_ok-held.ensures))
+          (carried_read s c.args.table.now c.args.entry.now c.args.process c.args.depth c.block_of_frame-block.result
+          c.block_of_frame-block.ensures.first has.declared has.parts has.homes has.tables a c.args.pending has.goes),
+    )
 
 pub returns : goal.returns
 returns c = λ d p homes tables a goes.
     let s = store_of c.args.node.now in
-    let same = c.as_slice.ensures.value ∙ c.in_ok-held.ensures in
-    let reads =
-    subst (λ (ls : List Live). AreRead s c.args.table.now c.args.process c.args.depth ls (λ l. value_in p a l.variable)) (sym same)
-    (are_read s c.args.table.now c.args.entry.now c.args.process c.args.depth c.args.pending d p homes tables a goes) in
-    subst (λ (vs : List Value). IfOk c.values_of.result (λ values. values ≡ vs))
-    (ap (λ (ls : List Live). map (λ l. value_in p a l.variable) ls) same ∙ read_carried p a c.args.entry.now c.args.pending)
-    (c.values_of.ensures (λ l. value_in p a l.variable) reads)
+    let block = c.block_of_frame-block.result in
+    same_read s c.args.table.now block c.as_slice.result.now (carried c.args.entry.now c.args.pending) (λ l. value_in p a l.variable) _
+    c.values_at.result (c.as_slice.ensures.value ∙ c.in_ok-held.ensures)
+    (carried_read s c.args.table.now c.args.entry.now c.args.process c.args.depth block c.block_of_frame-block.ensures.first d p homes
+    tables a c.args.pending goes)
+    (read_carried p a c.args.entry.now c.args.pending) c.values_at.ensures

@@ -1,5 +1,4 @@
 -- The headings' words are those of the activation that is shown.
-use Rattle.std.proofs.Common.{lit<}
 use Rattle.ec_node_frames.proofs.Shown.{headings_are, is_here}
 use Rattle.ec_node_frames.proofs.frames.headings_of.Goals as goal
 use Rattle.ec_stores.specs.Node.{store_of}

@@ -1,4 +1,4 @@
-use Rattle.std.proofs.Common.{◌≡◌, ◌+◌, ◌++◌, [], ◌∷◌, ℕ, List, Some, ap, sym, ◌∙◌, take, map, arith, length}
+use Rattle.std.proofs.Common.{◌≡◌, ◌++◌, [], ◌∷◌, ℕ, ap, sym, ◌∙◌, take, map, arith}
 use Rattle.std.specs.Prelude.{slice_get}
 use Rattle.ec_base.proofs.Lists.{take_next}
 use Rattle.ec_machine_code.specs.Stops.{address_of, stops_if}

@@ -22,4 +22,5 @@ returns-in_default c = record {
   refused = if_err c.perform_here.result
       (λ e told d w b. told d w (asks_of_each d c.args.system.now w c.args.numbers.now c.args.asked.who c.args.asked.doing b))
       c.perform_here.ensures.refused;
+  moves = c.perform_here.ensures.moves;
 }

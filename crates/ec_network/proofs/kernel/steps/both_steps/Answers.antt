@@ -1,5 +1,9 @@
 -- The second step finds what it asks for behind the first, and both make the world that the table of actions has.
+use Rattle.std.proofs.Common.{subst, sym}
+use Rattle.ec_cluster.proofs.Going.{same_moved}
+use Rattle.ec_cluster.specs.Whereabouts.{MovedOnce, Traces}
 use Rattle.ec_network.proofs.Both.{can_be_settled, can_do, has_acted, settles_in}
+use Rattle.ec_network.proofs.Strings.{done_moves}
 use Rattle.ec_network.proofs.kernel.steps.both_steps.Goals as goal
 use Rattle.ec_cluster.specs.SystemSteps.{world_done}
 
@@ -28,3 +32,10 @@ returns-in-Ok-settle-clause-acted c = λ d w a.
     (settles_in d c.args.system.now w c.args.who c.args.doing a room c.does.new.system c.in-Ok.outcome does c.in-Ok.ensures.texts
     c.in-Ok.ensures.places))
     c.in-Ok-settle.ensures.whereabouts
+
+pub returns-in-Ok-settle-clause-moves : goal.returns-in-Ok-settle-clause-moves
+returns-in-Ok-settle-clause-moves c =
+    let old = c.args.system.now.cluster in
+    let mid = c.does.new.system.cluster in
+    subst (λ (d : Traces). MovedOnce old.whereabouts d) (sym c.in-Ok-settle.ensures.whereabouts)
+    (same_moved old.whereabouts mid.whereabouts (done_moves old mid c.args.who.own c.args.doing c.in-Ok.ensures.places))

@@ -1,5 +1,6 @@
 -- What is seen of the nodes is what the world has; a group that has gone is where the move has it.
 use Rattle.std.proofs.Common.{◌≡◌, ◌+◌, ℕ, List, Some, None, suc, sym, ◌∙◌, subst, arith}
+use Rattle.ec_cluster.proofs.Going.{none_moved}
 use Rattle.ec_gathering.specs.Gathers.{Gathers, LacksFor, MayGather}
 use Rattle.ec_network.specs.Acts.{FoundFull}
 use Rattle.ec_network.proofs.Moved.{found_full, has_moved, may, members_are, not_moved}
@@ -15,8 +16,11 @@ returns-in-Ok-None-clause-moved c = λ d w s.
     (members_are (seen_common c.seen.result) w c.args.o c.args.k None (sym c.in-Ok-None.field-0-is ∙ c.in-Ok-None.ensures.members)
     (c.seen.ensures d w s))
 
-pub gather-requires : goal.gather-requires
-gather-requires c =
+pub returns-in-Ok-None-clause-moves : goal.returns-in-Ok-None-clause-moves
+returns-in-Ok-None-clause-moves c = none_moved c.args.system.now.cluster.whereabouts
+
+pub gather-requires-clause-may : goal.gather-requires-clause-may
+gather-requires-clause-may c =
     let d = c.requires.stands.0 in
     let w = c.requires.stands.1.0 in
     let s = c.requires.stands.1.1 in

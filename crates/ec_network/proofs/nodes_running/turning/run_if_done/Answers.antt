@@ -2,8 +2,8 @@
 use Rattle.std.proofs.Common.{inl, inr, refl}
 use Rattle.ec_network.proofs.nodes_running.turning.run_if_done.Goals as goal
 
-pub returns-in-Some : goal.returns-in-Some
-returns-in-Some c = λ d w s. inl (c.in-Some.ensures.some d w s)
+pub returns-in-Some-clause-after : goal.returns-in-Some-clause-after
+returns-in-Some-clause-after c = λ d w s. inl (c.in-Some.ensures.some d w s)
 
-pub returns-in-None : goal.returns-in-None
-returns-in-None c = λ d w s. inr (c.in-None.ensures.none d w s, refl)
+pub returns-in-None-clause-after : goal.returns-in-None-clause-after
+returns-in-None-clause-after c = λ d w s. inr (c.in-None.ensures.none d w s, refl)

@@ -1,11 +1,19 @@
 -- The object goes, and no other.
-use Rattle.std.proofs.Common.{◌≡◌, ◌-◌, ◌<◌, ◌^◌, ◌∙◌, ℕ, Option, subst, sym}
-use Rattle.std.specs.Prelude.{OnOk}
+use Rattle.std.proofs.Common.{◌≡◌, ◌≢◌, ◌-◌, ◌<◌, ◌^◌, ◌∙◌, ℕ, Option, subst, suc, sym}
+use Rattle.std.specs.Prelude.{OnOk, option_map, unwrap_or}
 use Rattle.ec_cluster.proofs.Numbering.{gives_moved, known_is, known_now, moves_now, numbered_moved, place_now, same_stays}
 use Rattle.ec_cluster.proofs.forward.whereabouts.Whereabouts.note_move.Goals as goal
-use Rattle.ec_cluster.specs.Whereabouts.{Gives, IsAddressed, Traces, known_of, numbered}
-use Rattle.ec_forwarding.specs.Forwardings.{trace_at}
-use Rattle.ec_forwarding.specs.Traces.{Trace}
+use Rattle.ec_cluster.specs.Whereabouts.{Gives, Traces, known_of, numbered}
+use Rattle.ec_forwarding.specs.Addresses.{with_address}
+use Rattle.ec_forwarding.specs.Forwardings.{addresses_in, trace_at}
+use Rattle.ec_forwarding.specs.Traces.{Trace, newest_of}
+use Rattle.ec_forwarding.specs.declared.address.Address.{Address}
+
+-- what a move writes, by what was known of the object before and after
+abbrev IsAddressed : Option Trace → Option Trace → ℕ → ℕ → Type 0
+IsAddressed before after from to =
+    let newest : Address = record { node = to; moves = suc (unwrap_or (option_map (λ t. (newest_of t).moves) before) 0) } in
+    from ≢ to → (k : ℕ) → addresses_in after k ≡ with_address (with_address (addresses_in before) to newest) from newest k
 
 pub note_move-requires-clause-there : goal.note_move-requires-clause-there
 note_move-requires-clause-there c =

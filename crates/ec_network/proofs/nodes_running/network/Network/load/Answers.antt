@@ -1,5 +1,6 @@
 -- What is loaded stands in its first world, and has the numbers of its classes.
 use Rattle.std.proofs.Common.{List, Some, ap, length, refl, subst, sym, ◌∙◌}
+use Rattle.ec_cluster.proofs.Going.{first_none}
 use Rattle.ec_parcels.specs.Vectors.{table_of}
 use Rattle.ec_acts.specs.Worlds.{world_first}
 use Rattle.ec_network.proofs.Loading.{stands_first}
@@ -23,6 +24,10 @@ returns-in-Ok-load-clause-loaded c =
           stands_first c.args.parts c.args.images c.args.specs.now c.in-Ok-load.system c.in-Ok-load.ensures.loaded d c.requires conditions
           (c.in-Ok-load.ensures.runs d are) code;
     }
+
+pub returns-in-Ok-load-clause-moves : goal.returns-in-Ok-load-clause-moves
+returns-in-Ok-load-clause-moves c = λ x.
+    c.in-Ok-load.ensures.loaded.whereabouts.moves x ∙ first_none (length c.args.specs.now) x
 
 pub invariant_of-result : goal.invariant_of-result
 invariant_of-result c =

@@ -1,9 +1,12 @@
 -- A move on its system is one on the network.
 use Rattle.std.proofs.Common.{sym, ◌∙◌, subst}
+use Rattle.ec_cluster.specs.Whereabouts.{FewMoves, MovedOnce}
 use Rattle.ec_network.proofs.Networks.{has_left, is_there, move_full, moved_left, net_moved}
 use Rattle.ec_network.proofs.Places.{net_fixed_moved, net_together, nodes_home}
 use Rattle.ec_network.specs.Moving.{MoveRefusedIn}
+use Rattle.ec_network.specs.Nets.{Net}
 use Rattle.ec_network.specs.Networks.{IsLoaded}
+use Rattle.ec_network.specs.Places.{known_on}
 use Rattle.ec_network.proofs.nodes_running.network.Network.operator_move.Goals as goal
 
 pub shift-requires-clause-stands : goal.shift-requires-clause-stands
@@ -11,6 +14,9 @@ shift-requires-clause-stands c = (subst IsLoaded c.in-Some.is c.self.invariant).
 
 pub shift-requires-clause-numbers : goal.shift-requires-clause-numbers
 shift-requires-clause-numbers c = (subst IsLoaded c.in-Some.is c.self.invariant).1
+
+pub shift-requires-clause-few : goal.shift-requires-clause-few
+shift-requires-clause-few c = subst (λ (n : Net). FewMoves (known_on n)) (sym c.self.view_is ∙ c.in-Some.is) c.requires.few
 
 pub invariant_of-self-in-Ok : goal.invariant_of-self-in-Ok
 invariant_of-self-in-Ok c =
@@ -43,6 +49,11 @@ returns-in-Ok-clause-nodes c =
     let loaded = subst IsLoaded c.in-Some.is c.self.invariant in
     nodes_home (record { system = c.shift.new.system; numbers = c.in-Some.loaded.numbers })
     (moved_left c.in-Some.loaded.system c.shift.new.system c.args.o c.args.k c.in-Ok.did loaded.0 c.in-Ok.ensures.moved).stands
+
+pub returns-in-Ok-clause-moves : goal.returns-in-Ok-clause-moves
+returns-in-Ok-clause-moves c =
+    subst (λ (n : Net). MovedOnce (known_on n) c.shift.new.system.cluster.whereabouts) (sym (sym c.self.view_is ∙ c.in-Some.is))
+    c.in-Ok.ensures.moves
 
 pub returns-in-Err-Full-clause-refused : goal.returns-in-Err-Full-clause-refused
 returns-in-Err-Full-clause-refused c =

@@ -1,4 +1,4 @@
-use Rattle.ec_node_frames.proofs.arrive.filled.Given as goal
+use Rattle.ec_node_frames.proofs.frames.filled.Given as goal
 use Rattle.ec_node_frames.specs.Loops.{IsFilled}
 
 abbrev pub invariant-loop-i : goal.invariant-loop-i

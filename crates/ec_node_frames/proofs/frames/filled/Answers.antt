@@ -4,7 +4,7 @@ use Rattle.std.specs.Prelude.{slice_set}
 use Rattle.std.proofs.lemmas.Option.{slice_get-get_or}
 use Rattle.ec_machine_code.specs.Frames.{home_word}
 use Rattle.ec_node_frames.proofs.Filling.{one_filled}
-use Rattle.ec_node_frames.proofs.arrive.filled.Goals as goal
+use Rattle.ec_node_frames.proofs.frames.filled.Goals as goal
 
 pub loop-i-preserved : goal.loop-i-preserved
 loop-i-preserved c =
