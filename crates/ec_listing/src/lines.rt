@@ -1,12 +1,12 @@
 //! The lines of a listing.
+use crate::homes::{put_home, put_type, put_variable};
 use crate::mips::MipsAt;
-use crate::names::{put_home, put_type, put_variable};
+use crate::names::put_operation;
 use crate::riscv::RiscvAt;
+use crate::stops::{line_of, put_stop};
 use ec_code::code::{Live, Op, Operation, StopRow};
 use ec_generate::table::{OperationTable, StopEntry};
 use ec_meaning::source::Program;
-use ec_words::names::put_operation;
-use ec_words::stops::{line_of, put_stop};
 use ec_world::node::Kind;
 use ec_world::stop::Stop;
 use std::alloc::{AllocError, Global};

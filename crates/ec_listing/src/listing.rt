@@ -8,12 +8,12 @@ ghost use Rattle.ec_meaning.specs.Sources.{source_of};
 ghost use Rattle.ec_tool.specs.Sources.{IsChecked, IsProgramText};
 
 use crate::lines::{Site, put_word};
+use crate::names::operation_of;
 use ec_compile::compile::Compiled;
 use ec_compile::mips_compile::compile_for_mips;
 use ec_compile::rv_compile::compile_for_riscv;
 use ec_meaning::source::Program;
 use ec_tool::source::{Accepted, Refused, SourceError, check_source};
-use ec_words::names::operation_of;
 use ec_world::node::Kind;
 use std::alloc::{AllocError, Global};
 use thiserror::Error;

@@ -1,7 +1,7 @@
 //! The first history of a run, and how its end is told.
 use crate::history::{History, NodeSeen};
+use ec_listing::names::put_name;
 use ec_report::end::ReportEnd;
-use ec_words::names::put_name;
 use ec_world::node::{Kind, NodeSpec};
 use ec_world::room::{Lack, Part};
 use ec_world::run::RunEnd;
