@@ -1,5 +1,5 @@
 -- All that is in a parcel goes from a node.
-use Rattle.std.proofs.Common.{◌≡◌, ℕ, List, [], Some, sym, ap, ◌∙◌}
+use Rattle.std.proofs.Common.{◌≡◌, ℕ, [], Some, sym, ap, ◌∙◌}
 use Rattle.std.specs.Prelude.{false}
 use Rattle.ec_carrying.proofs.Once.{once_apart, once_back, once_front}
 use Rattle.ec_carrying.proofs.Steps.{frames_along, thing_along}

@@ -80,7 +80,7 @@ text_is_accepted s text = record {
 pub text_is_fine : (s : Source) → IsOfText s → (p : Parts) → IsLowered s p → Fine (declared_of s) p
 text_is_fine s text p lowered = is_fine s text.program (text_is_accepted s text) p lowered
 
-text_has_limits : (s : Source) → IsOfText s → (p : Parts) → IsLowered s p → HasLimits p
+pub text_has_limits : (s : Source) → IsOfText s → (p : Parts) → IsLowered s p → HasLimits p
 text_has_limits s text p lowered = has_limits s text.program text.core text.tokens p text.scanned text.parsed lowered
 
 pub text_fits : (s : Source) → IsOfText s → (p : Parts) → IsLowered s p → FitsMachines p

@@ -60,37 +60,32 @@ pub fn compile_text(
     let tree = parse(alloc, tokens.as_slice())?;
     let checked = ManuallyDrop::new(check(alloc, tree)?);
     let program = ManuallyDrop::new(Program::new(alloc, text, &checked.table, &checked.core)?);
-    match registers {
-        Some(most) => Ok(compile_with_few(alloc, kind, most, &program)?),
-        None => Ok(compile(alloc, kind, &program)?),
-    }
+    Ok(compile(alloc, kind, registers, &program)?)
 }
 
-/// The native code of a program for a kind of machine. The error is want of memory.
-fn compile(alloc: Global, kind: Kind, program: &Program<'_>) -> Result<Compiled, AllocError>
-    requires { IsOfText (source_of program.now) }
-{
-    match kind {
-        Kind::Riscv => compile_for_riscv(alloc, program),
-        Kind::Mips => compile_for_mips(alloc, program),
-    }
-}
-
-/// The native code of a program for a kind of machine, with at most so many registers as homes. The error is want of memory.
-fn compile_with_few(
+/// The native code of a program for a kind of machine; where a number is given, with at most so many registers as homes. The error is want
+/// of memory.
+fn compile(
     alloc: Global,
     kind: Kind,
-    most: u32,
+    registers: Option<u32>,
     program: &Program<'_>,
 ) -> Result<Compiled, AllocError>
     requires { IsOfText (source_of program.now) }
 {
-    match kind {
-        Kind::Riscv => generate_with::<Riscv, RiscvMeaning>(alloc, &Riscv, most, program),
-        Kind::Mips => generate_with::<Mips, MipsMeaning>(alloc, &Mips, most, program),
+    match (kind, registers) {
+        (Kind::Riscv, None) => compile_for_riscv(alloc, program),
+        (Kind::Mips, None) => compile_for_mips(alloc, program),
+        (Kind::Riscv, Some(most)) => {
+            generate_with::<Riscv, RiscvMeaning>(alloc, &Riscv, most, program)
+        }
+        (Kind::Mips, Some(most)) => {
+            generate_with::<Mips, MipsMeaning>(alloc, &Mips, most, program)
+        }
     }
 }
 
+/// The native code of a program, as it is before any pass, with at most so many registers as homes. The error is want of memory.
 fn generate_with<K: CodeKind, M: Target>(
     alloc: Global,
     kind: &K,
