@@ -99,8 +99,11 @@ impl<'a> Watching<'a> {
         keep(&mut state.history, seen)
     }
 
-    /// An entry is done on the network.
+    /// An entry is done on the network. Want of memory is told too where an object has moved 2^64 - 1 times.
     fn net_does(&self, net: &mut Network, entry: RunEntry) -> Result<Did, NetError> {
+        if !net.can_move() {
+            return Err(NetError::Memory(AllocError));
+        }
         match entry {
             RunEntry::TurnOf(p) => net.turn(self.alloc, p),
             RunEntry::MoveOf { o, k } => net.operator_move(self.alloc, o, k),
