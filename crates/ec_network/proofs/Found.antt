@@ -1,5 +1,6 @@
 -- What stands when an object was looked for: each object is where it was.
-use Rattle.std.proofs.Common.{◌≡◌, ℕ, Option, sym, ◌∙◌, ap, fun_ext, refl, subst, Some}
+use mathlib.Core.Path.{fun_ext}
+use Rattle.std.proofs.Common.{◌≡◌, ℕ, Option, sym, ◌∙◌, ap, refl, subst, Some}
 use Rattle.ec_cluster.specs.Cluster.{CodeWorld, frame_of, place, stores}
 use Rattle.ec_cluster.specs.Located.{Located}
 use Rattle.ec_cluster.specs.Systems.{Mirrors, Runs}

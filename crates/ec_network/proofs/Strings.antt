@@ -1,7 +1,7 @@
 -- The texts of the world between the two steps of an action: the nodes had them before, or the world behind both steps has them.
-use Rattle.std.proofs.Common.{◌≡◌, ◌≢◌, ◌⊎◌, ℕ, zero, suc, ◌≤◌, List, [], ◌∷◌, Option, Some, None, refl, sym, ap, ◌∙◌, subst, arith}
+use Rattle.std.proofs.Common.{◌≡◌, ◌≢◌, ◌⊎◌, ℕ, zero, suc, List, [], ◌∷◌, Option, Some, None, refl, sym, ap, ◌∙◌, subst, arith}
 use Rattle.std.proofs.Common.{inl, inr, ⊎_elim}
-use Rattle.std.specs.Prelude.{option_map, slice_get, slice_set}
+use Rattle.std.specs.Prelude.{slice_get, slice_set}
 use Rattle.std.proofs.lemmas.Option.{same_Some}
 use Rattle.ec_base.proofs.Lists.{get_set_other, get_set_same, get_within}
 use Rattle.ec_cluster.proofs.Changing.{before_suc}

@@ -230,15 +230,15 @@ impl Network {
         ensures numbers { KeepsNumbers self.old self.new }
         ensures refused { IfErr result (λ e. self.new ≡ None) }
     {
-        let Some(loaded) = &mut self.loaded else {
+        let Some(mut loaded) = self.loaded.take() else {
             return Err(NetError::Memory(AllocError));
         };
         match loaded.system.cluster.whereabouts.find(from, oid) {
-            Ok(found) => Ok(found),
-            Err(e) => {
-                self.loaded = None;
-                Err(NetError::Memory(e))
+            Ok(found) => {
+                self.loaded = Some(loaded);
+                Ok(found)
             }
+            Err(e) => Err(NetError::Memory(e)),
         }
     }
 
