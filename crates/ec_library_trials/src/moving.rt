@@ -118,5 +118,8 @@ fn a_run_leaves_its_network(rt: HostRuntime) -> Result<(), Fail> {
         assert!(rt; net.is_whole());
         assert_eq!(rt; net.place(3), Some(0));
     }
+    assert!(rt; net.is_whole());
+    assert_eq!(rt; net.place(3), Some(0));
+    assert_eq!(rt; net.find(0, 3).ok(), Some((0, 0)));
     Ok(())
 }

@@ -336,7 +336,7 @@ may_move specs net e next x =
     let f = next.stands in
     let known = subst (λ (d : Traces). moves_of d x ≤ next.progress.done) (sym (known_is net f.now f.is)) (f.come.moves x) in
     let few = f.come.few in
-    let before = next.next.1.1 in
+    let before = next.next.2 in
     omega (arith, known, few, before)
 
 module _ (specs : List NodeSpec) (net net' : Net) (keeps : KeepsNumbers net net') (entry : RunEntry) where
