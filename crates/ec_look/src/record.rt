@@ -1,5 +1,5 @@
 //! The first history of a run, and how its end is told.
-use crate::history::{History, NodeSeen};
+use ec_history::history::{History, NodeSeen};
 use ec_listing::names::put_name;
 use ec_report::end::ReportEnd;
 use ec_world::node::{Kind, NodeSpec};

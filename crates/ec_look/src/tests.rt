@@ -1,8 +1,6 @@
 //! What is printed of examples. Bytes of parcels are counted by hand, by the wire form.
-use crate::map::{Form, map};
-use crate::objects::objects;
+use crate::pages::{Form, map, objects, trace};
 use crate::refused::Refused;
-use crate::trace::trace;
 use std::process::Abort;
 use std::test::Fail;
 

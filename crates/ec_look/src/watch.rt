@@ -4,7 +4,7 @@ ghost use Rattle.ec_check.specs.Accepted.{HasCore};
 ghost use Rattle.ec_native_run.specs.Runs.{AreNodes};
 ghost use Rattle.ec_tool.specs.Sources.{IsProgramText};
 
-use crate::history::History;
+use ec_history::history::History;
 use crate::record::{end_text, first_history, full_text};
 use crate::refused::Refused;
 use crate::watching::{CodeRun, Watched, Watching};

@@ -1,6 +1,6 @@
 //! The command line of `emerald_look`.
 use clap::{Arg, ArgAction, ArgMatches, Command, Error};
-use ec_look::map::Form;
+use ec_look::pages::Form;
 use ec_world::node::Kind;
 use std::alloc::{AllocError, Global};
 

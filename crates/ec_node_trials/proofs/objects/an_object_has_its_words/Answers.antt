@@ -1,6 +1,6 @@
 -- Nothing is there yet, and no field is a text.
 use Rattle.ec_objects.proofs.Creating.{no_texts_fit}
-use Rattle.ec_part_trials.proofs.objects.an_object_has_its_words.Goals as goal
+use Rattle.ec_node_trials.proofs.objects.an_object_has_its_words.Goals as goal
 use Rattle.ec_world.specs.declared.key.Key.TheVariants.{Object}
 use Rattle.ec_stores.specs.Node.{store_of}
 

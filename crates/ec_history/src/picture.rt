@@ -10,7 +10,7 @@ const FILLS: [&str; 6] = [
 ];
 
 /// Writes the picture of a history.
-pub(crate) fn write_picture(
+pub fn write_picture(
     alloc: Global,
     history: &History,
     out: &mut String,

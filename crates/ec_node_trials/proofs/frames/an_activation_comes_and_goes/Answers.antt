@@ -3,7 +3,7 @@ use Rattle.std.proofs.Common.{◌≡◌, ℕ, zero, suc, List, ◌∷◌, [], po
 use Rattle.std.specs.Prelude.{slice_get}
 use Rattle.ec_activations.specs.Frames.{or_nil}
 use Rattle.ec_node_frames.proofs.Texts.{no_texts_begun}
-use Rattle.ec_part_trials.proofs.frames.an_activation_comes_and_goes.Goals as goal
+use Rattle.ec_node_trials.proofs.frames.an_activation_comes_and_goes.Goals as goal
 use Rattle.ec_world.specs.declared.key.Key.TheVariants.{Frame}
 use Rattle.ec_stores.specs.Node.{store_of}
 use Rattle.ec_world.specs.declared.value.Value.TheVariants.{Int, Str}

@@ -3,8 +3,8 @@ use Rattle.std.proofs.Common.{◌≡◌, List, Some, false, sym, ap, ◌∙◌, 
 use Rattle.std.proofs.lemmas.Option.{slice_get-get_or}
 use Rattle.std.specs.Prelude.{is_some, slice_get}
 use Rattle.ec_parcel_fits.proofs.Parts.{none_there}
-use Rattle.ec_parcel_trials.proofs.Unpacked.{owns_word}
-use Rattle.ec_parcel_trials.proofs.trials.unpacked_word.Goals as goal
+use Rattle.ec_node_trials.proofs.Unpacked.{owns_word}
+use Rattle.ec_node_trials.proofs.trials.unpacked_word.Goals as goal
 use Rattle.ec_parcel_fits.specs.Unfitting.{Fits}
 use Rattle.ec_stores.specs.Node.{store_of}
 use Rattle.ec_wire.specs.declared.parcel.ActivationPart.{ActivationPart}

@@ -1,25 +1,9 @@
 //! What each entry of a run did, a line each.
 use crate::history::{Actor, Deed, EntrySeen, History, LineSeen, Step};
-use crate::refused::Refused;
-use crate::watch::watch;
 use std::alloc::{AllocError, Global};
 
 /// Writes what each entry of a run did, a line each, and a traceback of each process that failed.
-pub fn trace(
-    alloc: Global,
-    source: &[u8],
-    nodes: &[u8],
-    schedule: &[u8],
-    budget: Option<u64>,
-    out: &mut String,
-) -> Result<(), Refused> {
-    let history = watch(alloc, source, nodes, schedule, budget)?;
-    write_trace(alloc, &history, out)?;
-    Ok(())
-}
-
-/// The lines of a history's entries, and a traceback for each failure.
-pub(crate) fn write_trace(
+pub fn write_trace(
     alloc: Global,
     history: &History,
     out: &mut String,

@@ -1,24 +1,9 @@
 //! Which objects there are, with their numbers, so that a schedule can name them.
 use crate::history::{Actor, Deed, EntrySeen, History, Step};
-use crate::refused::Refused;
-use crate::watch::watch;
-use std::alloc::{AllocError, Global};
+use std::alloc::AllocError;
 
 /// Writes the objects that are there after loading, and for each entry those that it made or moved.
-pub fn objects(
-    alloc: Global,
-    source: &[u8],
-    nodes: &[u8],
-    schedule: &[u8],
-    out: &mut String,
-) -> Result<(), Refused> {
-    let history = watch(alloc, source, nodes, schedule, None)?;
-    write_objects(&history, out)?;
-    Ok(())
-}
-
-/// The lines of a history's objects.
-pub(crate) fn write_objects(history: &History, out: &mut String) -> Result<(), AllocError> {
+pub fn write_objects(history: &History, out: &mut String) -> Result<(), AllocError> {
     write_loaded(history, out)?;
     for entry in &history.entries {
         write_changes(history, entry, out)?;

@@ -25,7 +25,7 @@ struct Drawn {
 }
 
 /// The lines of a history's map.
-pub(crate) fn write_strip(
+pub fn write_strip(
     alloc: Global,
     history: &History,
     out: &mut String,

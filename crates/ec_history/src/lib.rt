@@ -1,0 +1,17 @@
+//! What happened in a run, as plain data, and the pages that are printed of it. It stands on no other crate: whoever has a history can print it.
+//!
+//! | modules | what they have |
+//! |---|---|
+//! | `history` | nodes, objects, and what each entry did |
+//! | `trace`, `objects` | a line for each entry; a line for each object |
+//! | `course`, `layout` | what is where and when, and where that is drawn |
+//! | `picture`, `strip` | the map of a run as SVG, and as lines of text |
+#![tactic(auto)]
+
+mod course;
+pub mod history;
+mod layout;
+pub mod objects;
+pub mod picture;
+pub mod strip;
+pub mod trace;
