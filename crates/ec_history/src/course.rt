@@ -4,7 +4,7 @@ ghost use Rattle.std.specs.Prelude.{◌≤◌};
 use crate::history::{Actor, Deed, EntrySeen, History, Step};
 use std::alloc::{AllocError, Global};
 
-/// An object is on a node for a while. `came_from` is its stay before this one, by place.
+/// An object is on a node for a while: from a time until another one. `came_from` is its stay before this one, by place.
 #[derive(Clone, Copy)]
 pub struct Stay {
     pub object: u32,
@@ -14,7 +14,7 @@ pub struct Stay {
     pub came_from: Option<usize>,
 }
 
-/// A process has all entries from one to another, and runs on one node.
+/// A process has all entries from the first to the last one, by their numbers, and runs so many instructions on one node.
 #[derive(Clone, Copy)]
 pub struct Stretch {
     pub process: u32,
@@ -124,7 +124,7 @@ impl Stays {
     }
 }
 
-/// The number of the object at a place.
+/// The number of the object at a place, from 0; 2^32 - 1 where it has none of 32 bits.
 pub fn number_at(place: usize) -> u32 {
     match u32::try_from(place) {
         Ok(place) => place.saturating_add(1),

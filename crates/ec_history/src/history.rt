@@ -1,4 +1,5 @@
-//! What happened in a run, as plain data. The trace, the map and the list of objects are printed from it.
+//! What happened in a run, as plain data. The trace, the map and the list of objects are printed from it. Nodes and processes are counted
+//! from 0; objects, entries and lines of the source from 1.
 
 /// A node: its name, and the kind of its machine.
 #[derive(Drop)]
@@ -103,7 +104,7 @@ pub struct History {
 }
 
 impl History {
-    /// The name of a node.
+    /// The name of a node; `nowhere` where there is no such node.
     pub fn node_name(&self, node: u32) -> &str {
         match self.nodes.get(node as usize) {
             Some(node) => node.name.as_str(),
@@ -111,7 +112,7 @@ impl History {
         }
     }
 
-    /// The name of an object's class.
+    /// The name of an object's class; `nothing` where there is no such object.
     pub fn class_name(&self, object: u32) -> &str {
         match self.object(object) {
             Some(object) => object.class.as_str(),
@@ -119,7 +120,7 @@ impl History {
         }
     }
 
-    /// The object of a number.
+    /// The object of a number, where it is there.
     pub fn object(&self, number: u32) -> Option<&ObjectSeen> {
         let place = number.checked_sub(1)?;
         self.objects.get(place as usize)

@@ -34,7 +34,7 @@ fn write_object(history: &History, number: usize, out: &mut String) -> Result<()
     write!(out, "  {number} {class} at {node}\n")
 }
 
-/// What an entry changes: `after entry 3, turn 0`, and a line for each object that it made or moved.
+/// What an entry changes: `after entry 3, a turn of process 0`, and a line for each object that it made or moved.
 fn write_changes(history: &History, entry: &EntrySeen, out: &mut String) -> Result<(), AllocError> {
     if !entry.deeds.iter().any(is_change) {
         return Ok(());

@@ -1,6 +1,6 @@
 //! A map as a picture: SVG, with a lane for each node, a line for each object, and boxes for what each process runs.
 use crate::course::{Stretch, at_least_one};
-use crate::history::History;
+use crate::history::{History, NodeSeen};
 use crate::layout::{LEFT, LETTER, Lane, Layout, PlacedNote, PlacedStay, Scale, lay_out};
 use std::alloc::{AllocError, Global};
 
@@ -10,11 +10,7 @@ const FILLS: [&str; 6] = [
 ];
 
 /// Writes the picture of a history.
-pub fn write_picture(
-    alloc: Global,
-    history: &History,
-    out: &mut String,
-) -> Result<(), AllocError> {
+pub fn write_picture(alloc: Global, history: &History, out: &mut String) -> Result<(), AllocError> {
     let drawn = lay_out(alloc, history)?;
     write_head(&drawn, out)?;
     write_title(history, &drawn, out)?;
@@ -100,24 +96,34 @@ fn write_lanes(history: &History, drawn: &Layout, out: &mut String) -> Result<()
     let width = LEFT + drawn.scale.width + 138.0;
     for (place, (lane, node)) in drawn.lanes.iter().zip(history.nodes.iter()).enumerate() {
         let fill = if place % 2 == 0 { "#f3f3f3" } else { "#ffffff" };
-        let (top, height) = (lane.top, lane.bottom() - lane.top);
-        write!(
-            out,
-            "<rect x=\"6\" y=\"{top:.1}\" width=\"{width:.1}\" height=\"{height:.1}\" "
-        )?;
-        write!(out, "fill=\"{fill}\" stroke=\"#bbbbbb\"/>\n")?;
-        let (name, kind) = (node.name.as_str(), node.kind);
-        let (first, second) = (top + 18.0, top + 32.0);
-        write!(
-            out,
-            "<text x=\"14\" y=\"{first:.1}\" font-size=\"13\" font-weight=\"bold\">"
-        )?;
-        write!(
-            out,
-            "{name}</text>\n<text x=\"14\" y=\"{second:.1}\">{kind}</text>\n"
-        )?;
+        write_lane(*lane, width, fill, out)?;
+        write_node(*lane, node, out)?;
     }
     Ok(())
+}
+
+/// The ground of a lane.
+fn write_lane(lane: Lane, width: f64, fill: &str, out: &mut String) -> Result<(), AllocError> {
+    let (top, height) = (lane.top, lane.bottom() - lane.top);
+    write!(
+        out,
+        "<rect x=\"6\" y=\"{top:.1}\" width=\"{width:.1}\" height=\"{height:.1}\" "
+    )?;
+    write!(out, "fill=\"{fill}\" stroke=\"#bbbbbb\"/>\n")
+}
+
+/// The name of a lane's node, and the kind of its machine below it.
+fn write_node(lane: Lane, node: &NodeSeen, out: &mut String) -> Result<(), AllocError> {
+    let (name, kind) = (node.name.as_str(), node.kind);
+    let (first, second) = (lane.top + 18.0, lane.top + 32.0);
+    write!(
+        out,
+        "<text x=\"14\" y=\"{first:.1}\" font-size=\"13\" font-weight=\"bold\">"
+    )?;
+    write!(
+        out,
+        "{name}</text>\n<text x=\"14\" y=\"{second:.1}\">{kind}</text>\n"
+    )
 }
 
 /// How many entries lie between two numbers of the axis.
@@ -291,17 +297,26 @@ fn write_note(drawn: &Layout, note: PlacedNote, out: &mut String) -> Result<(), 
         return Ok(());
     };
     let (x, y) = (drawn.scale.x(note.entry), lane.note(note.row));
-    let (left, right, up) = (x - 13.0, x - 3.0, y - 10.0);
-    let (box_top, mark) = (lane.boxes() + 18.0, y - 12.0);
+    write_cross(x, y, lane.boxes() + 18.0, out)?;
+    write_reason(note, x, y, out)
+}
+
+/// A cross to the left of a place, and a line up to the boxes.
+fn write_cross(x: f64, y: f64, boxes: f64, out: &mut String) -> Result<(), AllocError> {
+    let (left, middle, right) = (x - 13.0, x - 8.0, x - 3.0);
+    let (up, mark) = (y - 10.0, y - 12.0);
     write!(
         out,
         "<path d=\"M{left:.1},{up:.1} L{right:.1},{y:.1} M{left:.1},{y:.1} L{right:.1},{up:.1} "
     )?;
     write!(
         out,
-        "M{:.1},{box_top:.1} V{mark:.1}\" stroke=\"#111111\" stroke-width=\"2.5\"/>",
-        x - 8.0
-    )?;
+        "M{middle:.1},{boxes:.1} V{mark:.1}\" stroke=\"#111111\" stroke-width=\"2.5\"/>"
+    )
+}
+
+/// Why a process failed, to the left of its cross or to the right.
+fn write_reason(note: PlacedNote, x: f64, y: f64, out: &mut String) -> Result<(), AllocError> {
     let (process, line, why) = (note.process, note.line, note.why);
     let (anchor, at) = if note.is_left {
         ("end", x - 18.0)

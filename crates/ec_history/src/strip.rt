@@ -25,11 +25,7 @@ struct Drawn {
 }
 
 /// The lines of a history's map.
-pub fn write_strip(
-    alloc: Global,
-    history: &History,
-    out: &mut String,
-) -> Result<(), AllocError> {
+pub fn write_strip(alloc: Global, history: &History, out: &mut String) -> Result<(), AllocError> {
     let entries = entry_count(history);
     let per_column = at_least_one(entries.div_ceil(COLUMNS));
     let grid = Grid {
@@ -47,17 +43,7 @@ pub fn write_strip(
         history.end
     )?;
     write_axis(grid, out)?;
-    for (place, node) in history.nodes.iter().enumerate() {
-        let Ok(number) = u32::try_from(place) else {
-            return Ok(());
-        };
-        write_name(
-            format!(in alloc; "{} {}", node.name, node.kind)?.as_str(),
-            out,
-        )?;
-        write_node(history, &drawn, number, out)?;
-        write_objects(alloc, history, &drawn, number, out)?;
-    }
+    write_nodes(alloc, history, &drawn, out)?;
     out.push_str(LEGEND)
 }
 
@@ -84,6 +70,25 @@ fn write_name(name: &str, out: &mut String) -> Result<(), AllocError> {
     out.push_str(name)?;
     for _ in name.len()..NAMES {
         out.push(' ')?;
+    }
+    Ok(())
+}
+
+/// The lines of each node.
+fn write_nodes(
+    alloc: Global,
+    history: &History,
+    drawn: &Drawn,
+    out: &mut String,
+) -> Result<(), AllocError> {
+    for (place, node) in history.nodes.iter().enumerate() {
+        let Ok(number) = u32::try_from(place) else {
+            return Ok(());
+        };
+        let (name, kind) = (node.name.as_str(), node.kind);
+        write_name(format!(in alloc; "{name} {kind}")?.as_str(), out)?;
+        write_node(history, drawn, number, out)?;
+        write_objects(alloc, history, drawn, number, out)?;
     }
     Ok(())
 }

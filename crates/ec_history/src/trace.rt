@@ -3,11 +3,7 @@ use crate::history::{Actor, Deed, EntrySeen, History, LineSeen, Step};
 use std::alloc::{AllocError, Global};
 
 /// Writes what each entry of a run did, a line each, and a traceback of each process that failed.
-pub fn write_trace(
-    alloc: Global,
-    history: &History,
-    out: &mut String,
-) -> Result<(), AllocError> {
+pub fn write_trace(alloc: Global, history: &History, out: &mut String) -> Result<(), AllocError> {
     out.push_str(
         " entry  process   node              line  instructions  at the stop, and what it did\n",
     )?;
@@ -40,8 +36,14 @@ fn write_entry(
     let instructions = entry.instructions;
     write!(out, "{node:<16}  {line:>4}  {instructions:>12}  ")?;
     if let Some(stop) = &entry.stop {
-        write!(out, "{}", stop.what)?;
+        out.push_str(stop.what.as_str())?;
     }
+    write_deeds(history, entry, out)?;
+    out.push('\n')
+}
+
+/// What an entry did, behind its stop.
+fn write_deeds(history: &History, entry: &EntrySeen, out: &mut String) -> Result<(), AllocError> {
     for (place, deed) in entry.deeds.iter().enumerate() {
         out.push_str(if place == 0 && entry.stop.is_some() {
             ": "
@@ -52,7 +54,7 @@ fn write_entry(
         })?;
         write_deed(history, deed, out)?;
     }
-    out.push('\n')
+    Ok(())
 }
 
 /// The line of a stop; `6+` where the stop tells none but its operation begins in line 6.
@@ -67,7 +69,7 @@ fn line_text(alloc: Global, entry: &EntrySeen) -> Result<String, AllocError> {
     }
 }
 
-/// What an entry did, in words.
+/// One thing that an entry did, in words.
 fn write_deed(history: &History, deed: &Deed, out: &mut String) -> Result<(), AllocError> {
     match deed {
         Deed::Idle => out.push_str("idle"),

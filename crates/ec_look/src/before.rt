@@ -1,9 +1,9 @@
 //! What is read before an entry: the stop at which its process rests, what a move would carry, and the calls of a process.
 use crate::cargo::{Cargo, asked_move, carried_by, node_at};
-use ec_history::history::{LineSeen, StopSeen};
 use crate::watching::{CodeRun, Watched, Watching};
 use crate::words::put_operands;
 use ec_code::activation::CodeActivation;
+use ec_history::history::{LineSeen, StopSeen};
 use ec_listing::names::{operation_of, put_operation};
 use ec_listing::stops::{line_of, put_stop};
 use ec_network::nodes_running::network::Network;

@@ -1,9 +1,9 @@
 //! What an entry did, read behind it: by the network where things are, by the meaning what became of processes and of the output.
 use crate::before::{Before, top};
 use crate::cargo::{node_at, place};
-use ec_history::history::{Actor, Deed, EntrySeen, History, ObjectSeen, Step};
 use crate::watching::{CodeRun, Watched, Watching};
 use crate::words::{cause_text, put_quoted, wait_text};
+use ec_history::history::{Actor, Deed, EntrySeen, History, ObjectSeen, Step};
 use ec_listing::names::put_class;
 use ec_network::nodes_running::network::Network;
 use ec_network::nodes_running::turns::Did;

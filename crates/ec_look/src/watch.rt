@@ -4,13 +4,13 @@ ghost use Rattle.ec_check.specs.Accepted.{HasCore};
 ghost use Rattle.ec_native_run.specs.Runs.{AreNodes};
 ghost use Rattle.ec_tool.specs.Sources.{IsProgramText};
 
-use ec_history::history::History;
 use crate::record::{end_text, first_history, full_text};
 use crate::refused::Refused;
 use crate::watching::{CodeRun, Watched, Watching};
 use ec_acts::load::LoadError;
 use ec_base::list::Seq;
 use ec_code::code::Parts;
+use ec_history::history::History;
 use ec_inputs::nodes::{NodesError, read_nodes};
 use ec_inputs::schedule::{ScheduleError, read_schedule};
 use ec_inputs::words::DEFAULT_BUDGET;

@@ -4,8 +4,8 @@ ghost use Rattle.ec_world.specs.Run.{statuses_of};
 
 use crate::before::{Before, calls_if_failed, read_before};
 use crate::deeds::{add_objects, seen_behind};
-use ec_history::history::{EntrySeen, History};
 use ec_code::activation::CodeActivation;
+use ec_history::history::{EntrySeen, History};
 use ec_meaning::source::Program;
 use ec_network::nodes_running::network::Network;
 use ec_network::nodes_running::turns::{Did, NetError};

@@ -24,7 +24,7 @@ pub struct Answer {
 }
 
 /// The answer to what is asked for, of the files on a shelf.
-pub fn answer<F: Shelf>(
+pub fn answer_to<F: Shelf>(
     alloc: Global,
     shelf: &mut F,
     asked: Asked<'_>,

@@ -19,7 +19,7 @@ mod tests;
 mod why;
 mod words;
 
-use crate::answer::{Answer, answer};
+use crate::answer::{Answer, answer_to};
 use crate::words::asked_by;
 use clap::error::ErrorKind;
 use ec_outside::file_shelf::FileShelf;
@@ -54,7 +54,7 @@ fn call_with<'a>(rt: &HostRuntime, words: &'a [&'a str]) -> Result<Status, Alloc
     match asked_by(alloc, words) {
         Ok(asked) => {
             let mut shelf = FileShelf::new(alloc, rt, words)?;
-            let answer = answer(alloc, &mut shelf, asked)?;
+            let answer = answer_to(alloc, &mut shelf, asked)?;
             Ok(tell(rt, &answer))
         }
         Err(error) => tell_error(rt, &error),

@@ -1,5 +1,5 @@
 //! What the program prints, of files on a shelf in memory.
-use crate::answer::{Answer, answer};
+use crate::answer::{Answer, answer_to};
 use crate::messages::row::{Example, Row};
 use crate::messages::sources::{RULES, TEXTS};
 use crate::words::asked_by;
@@ -19,7 +19,7 @@ fn answered<'a>(
 ) -> Result<Answer, Fail> {
     let mut shelf = MemShelf::new(alloc, files, 4096, &[])?;
     let asked = asked_by(alloc, words)?;
-    Ok(answer(alloc, &mut shelf, asked)?)
+    Ok(answer_to(alloc, &mut shelf, asked)?)
 }
 
 /// What a check says of a source.
