@@ -21,3 +21,5 @@ mod Linking
 pub mod Decoded
 pub mod Looking
 pub mod Fits
+mod Heads
+mod HeadsFound

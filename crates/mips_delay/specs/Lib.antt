@@ -5,3 +5,4 @@ pub mod Alike
 pub mod Fill
 pub mod Choice
 pub mod Fitting
+pub mod Heads

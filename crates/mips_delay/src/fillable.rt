@@ -107,7 +107,7 @@ fn is_free(words: &[u32], j: usize) -> bool
 // ---- places
 
 /// Word j can go into the slot of the branch behind it.
-fn is_fillable(words: &[u32], landed: &[bool], j: usize) -> bool
+pub(crate) fn is_fillable(words: &[u32], landed: &[bool], j: usize) -> bool
     requires there { j < length words.now }
     requires long { length landed.now ≡ length words.now }
     requires led { (k : ℕ) → set_at landed.now k ≡ true → GoesTo words.now k }

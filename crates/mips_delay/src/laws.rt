@@ -2,6 +2,7 @@
 ghost use Rattle.mips_delay.specs.Alike.{FilledGoes, KeptGoes};
 ghost use Rattle.mips_delay.specs.Fill.{FilledFollows, FilledIsShort, FilledKeeps};
 ghost use Rattle.mips_delay.specs.Fitting.{FilledFits};
+ghost use Rattle.mips_delay.specs.Heads.{CopiedServes};
 ghost use Rattle.mips_delay.specs.Places.{NoneIsLeft};
 ghost use Rattle.mips_delay.specs.Swap.{SwapRejoins};
 
@@ -43,4 +44,9 @@ pub fn none_is_left()
 /// What fits a code behind a stop fits it too with its slots filled.
 pub fn filled_fits()
     ensures { FilledFits }
+{}
+
+/// A code whose slots have copies of the sums to which branches lead serves as the code that it was.
+pub fn copied_serves()
+    ensures { CopiedServes }
 {}

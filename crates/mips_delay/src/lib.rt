@@ -4,6 +4,7 @@
 //! |---|---|
 //! | `fill` | the call |
 //! | `fillable` | which words can go into a slot |
+//! | `heads` | slots filled with copies of sums to which branches lead |
 //! | `landings`, `branches` | where jumps and branches go |
 //! | `moves` | where each word goes when some go away |
 //! | `words`, `operations` | what is written there |
@@ -14,6 +15,7 @@
 mod branches;
 pub mod fill;
 mod fillable;
+pub mod heads;
 pub mod landings;
 pub mod laws;
 pub mod links;
