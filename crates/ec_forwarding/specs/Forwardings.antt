@@ -1,19 +1,17 @@
 -- What forwarding addresses give of objects.
-use Rattle.std.specs.Prelude.{ℕ, suc, ◌==◌, if◌then◌else◌, List, [], ◌∷◌, ◌++◌, Option, None, Some, MatchOption, option_map, unwrap_or}
-use Rattle.std.specs.BTreeMap.{is_at}
+use Rattle.std.specs.Prelude.{ℕ, suc, ◌==◌, if◌then◌else◌, List, [], ◌∷◌, ◌++◌, Option, None, Some, MatchOption, nat_eq, option_map, unwrap_or}
 use Rattle.std.specs.Map.{lookup}
-use Rattle.std.specs.Ordering.{nat_cmp}
 use Rattle.ec_forwarding.specs.Addresses.{Addresses}
 use Rattle.ec_forwarding.specs.declared.address.Address.{Address}
 use Rattle.ec_forwarding.specs.Traces.{IsTraceOf, Trace, addresses_of, newest_of, start_of}
 
--- the traces of the objects that were noted, each behind the object's number, in the order of the numbers
+-- the traces of the objects that were noted, each behind the object's number, in some order
 abbrev pub ObjectTraces : Type 0
 ObjectTraces = List (ℕ × Trace)
 
 -- the trace of the object with this number, where it was noted
 abbrev pub trace_at : ObjectTraces → ℕ → Option Trace
-trace_at d oid = lookup (is_at (nat_cmp oid)) d
+trace_at d oid = lookup (nat_eq oid) d
 
 -- the node at which an object is, which is what the newest address says of it, where it was noted
 abbrev pub place_at : ObjectTraces → ℕ → Option ℕ

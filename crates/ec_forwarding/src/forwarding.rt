@@ -8,14 +8,14 @@ ghost use Rattle.ec_forwarding.specs.Forwardings.{moves_at, moves_of, no_address
 use crate::trail::Trail;
 use ec_world::value::{NodeNo, Oid};
 use std::alloc::{AllocError, Global};
-use std::collections::BTreeMap;
+use std::collections::HashMap;
 use std::marker::Model;
 
 /// What each node knows of where objects are. They have any numbers, and are noted in any order. Nothing else says where an object is:
 /// each call follows the addresses that the nodes have of it.
 #[derive(Drop)]
 pub struct Forwarding {
-    trails: BTreeMap<Oid, Trail>,
+    trails: HashMap<Oid, Trail>,
     alloc: Global,
 }
 
@@ -33,7 +33,7 @@ impl Forwarding {
         ensures { result ≡ [] }
     {
         Forwarding {
-            trails: BTreeMap::new(alloc),
+            trails: HashMap::new(alloc),
             alloc,
         }
     }

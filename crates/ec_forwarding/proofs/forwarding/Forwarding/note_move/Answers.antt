@@ -1,14 +1,13 @@
 use Rattle.std.proofs.Common.{ap, sym, ◌∙◌}
-use Rattle.std.specs.BTreeMap.{is_at}
 use Rattle.std.specs.Map.{set_value}
 use Rattle.std.specs.Option.{option_copied_mut}
-use Rattle.std.specs.Ordering.{nat_cmp}
+use Rattle.std.specs.Prelude.{nat_eq}
 use Rattle.ec_forwarding.proofs.Entries.{on_err, written_same}
 use Rattle.ec_forwarding.proofs.forwarding.Forwarding.note_move.Goals as goal
 
 pub returns-in_err-go-clause-err : goal.returns-in_err-go-clause-err
 returns-in_err-go-clause-err c =
-    let test = is_at (nat_cmp c.args.oid) in
+    let test = nat_eq c.args.oid in
     let entries = c.self.inside.trails.entries in
     let there = sym c.get_mut.ensures.value ∙ ap option_copied_mut c.unwrap.ensures in
     on_err c.from_residual.result
