@@ -1,9 +1,8 @@
 -- The row of one owner changes, but for its blocks, its class and its size.
-use Rattle.std.proofs.Common.{◌≡◌, ◌≢◌, ℕ, Option, Some, None, Bor, BTreeMap, refl, sym, ap, ◌∙◌, ⊎_elim}
+use Rattle.std.proofs.Common.{◌≡◌, ◌≢◌, ℕ, Option, Some, None, Bor, HashMap, refl, sym, ap, ◌∙◌, ⊎_elim}
 use Rattle.std.specs.Option.{option_copied}
-use Rattle.std.specs.Prelude.{IfSome, option_map}
-use Rattle.std.specs.BTreeMap.{UpdatesBy}
-use Rattle.std.specs.Ordering.{nat_cmp}
+use Rattle.std.specs.Prelude.{IfSome, nat_eq, option_map}
+use Rattle.std.specs.HashMap.{UpdatesBy}
 use Rattle.ec_monitors.specs.declared.record.MonitorRec.{MonitorRec}
 use Rattle.ec_world.proofs.Keys.{key_or_not}
 use Rattle.ec_world.specs.declared.key.Key.{Key}
@@ -17,9 +16,9 @@ use Rattle.ec_stores.proofs.Keyed.{rows_object}
 use Rattle.ec_stores.proofs.Owned.{Alike, owned_alike}
 use Rattle.ec_stores.proofs.Placing.{with_owners}
 
-module _ (node : NodeData) (old new : BTreeMap ℕ ObjectRow) (oid : ℕ) (row now : ObjectRow) (laid : Laid node)
+module _ {S : Type 0} (node : NodeData) (old new : HashMap ℕ ObjectRow S) (oid : ℕ) (row now : ObjectRow) (laid : Laid node)
     (is : node.objects ≡ old.entries) (was : Some row ≡ object_in old.entries oid)
-    (updates : UpdatesBy nat_cmp (nat_cmp oid) old new (Some now)) (blocks : now.blocks ≡ row.blocks) (class : now.class ≡ row.class)
+    (updates : UpdatesBy nat_eq (nat_eq oid) old new (Some now)) (blocks : now.blocks ≡ row.blocks) (class : now.class ≡ row.class)
     (size : now.size ≡ row.size) where
   abbrev after : NodeData
   after = with_owners node node.memory new.entries node.frames

@@ -1,10 +1,9 @@
 -- Objects and activations come and go by the maps that hold them.
-use Rattle.std.proofs.Common.{◌≡◌, ◌≢◌, ℕ, ◌*◌, ◌≤◌, Bool, true, false, List, [], ◌∷◌, length, Option, Some, None, BTreeMap, refl}
+use Rattle.std.proofs.Common.{◌≡◌, ◌≢◌, ℕ, ◌*◌, ◌≤◌, Bool, true, false, List, [], ◌∷◌, length, Option, Some, None, HashMap, refl}
 use Rattle.std.proofs.Common.{sym, ap, ◌∙◌, subst, arith}
 use Rattle.std.specs.Bool.{OnFalse}
-use Rattle.std.specs.Prelude.{◌↔◌, IsSome, IsTrue, is_some, option_map}
-use Rattle.std.specs.BTreeMap.{Updates}
-use Rattle.std.specs.Ordering.{nat_cmp}
+use Rattle.std.specs.Prelude.{◌↔◌, IsSome, IsTrue, is_some, nat_eq, option_map}
+use Rattle.std.specs.HashMap.{Updates}
 use Rattle.ec_world.specs.Things.{class_blocks}
 use Rattle.ec_world.specs.declared.key.Key.{Key}
 use Rattle.ec_world.specs.declared.key.Key.TheVariants.{Object, Frame}
@@ -38,9 +37,9 @@ is_absent f (Some a) false e = cc
 
 -- ---- an object comes
 
-module _ (node : NodeData) (m : NodeMemory) (old new : BTreeMap ℕ ObjectRow) (oid : ℕ) (row : ObjectRow) (given : List ℕ)
+module _ {S : Type 0} (node : NodeData) (m : NodeMemory) (old new : HashMap ℕ ObjectRow S) (oid : ℕ) (row : ObjectRow) (given : List ℕ)
     (laid : Laid node) (is : node.objects ≡ old.entries) (absent : row_of node (Object oid) ≡ None)
-    (updates : Updates nat_cmp old new oid (Some row)) (filled : FilledList node.memory m row.blocks given)
+    (updates : Updates nat_eq old new oid (Some row)) (filled : FilledList node.memory m row.blocks given)
     (many : length row.blocks ≡ class_blocks row.class row.size) (short : length given ≤ 128 * class_blocks row.class row.size) where
   here : row_of (with_owners node m new.entries node.frames) (Object oid) ≡ Some (owned_object oid row)
   here = ap (option_map (owned_object oid)) updates.1
@@ -90,9 +89,9 @@ module _ (node : NodeData) (m : NodeMemory) (new : List ((ℕ × ℕ) × FrameRo
 
 -- ---- an object goes
 
-module _ (node : NodeData) (m : NodeMemory) (old new : BTreeMap ℕ ObjectRow) (oid : ℕ) (row : ObjectRow) (laid : Laid node)
+module _ {S : Type 0} (node : NodeData) (m : NodeMemory) (old new : HashMap ℕ ObjectRow S) (oid : ℕ) (row : ObjectRow) (laid : Laid node)
     (is : node.objects ≡ old.entries) (was : Some row ≡ object_in old.entries oid)
-    (updates : Updates nat_cmp old new oid None) (gives : GivesList node.memory m row.blocks) where
+    (updates : Updates nat_eq old new oid None) (gives : GivesList node.memory m row.blocks) where
   found : row_of node (Object oid) ≡ Some (owned_object oid row)
   found = ap (λ es. option_map (owned_object oid) (object_in es oid)) is ∙ found_is (owned_object oid) (object_in old.entries oid) row was
 

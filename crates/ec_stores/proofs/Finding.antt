@@ -1,10 +1,11 @@
 -- Maps by which references and texts are found, when one more comes behind the others.
 use Rattle.std.proofs.Common.{◌≡◌, ◌≢◌, ℕ, zero, suc, ◌^◌, ◌<◌, Bool, true, false, true≢false, List, [], ◌∷◌, ◌++◌, length, Option, Some}
-use Rattle.std.proofs.Common.{arith, None, Vec, BTreeMap}
+use Rattle.std.proofs.Common.{arith, None, Vec, BTreeMap, HashMap}
 use Rattle.std.proofs.Common.{refl, sym, ap, ◌∙◌, ◌⊎◌, inl, inr, ⊎_elim}
-use Rattle.std.specs.Prelude.{◌↔◌, IfNone, IfSome, IsTrue, is_some, slice_get}
-use Rattle.std.specs.BTreeMap.{Updates, get}
+use Rattle.std.specs.Prelude.{◌↔◌, IfNone, IfSome, IsTrue, is_some, nat_eq, slice_get}
+use Rattle.std.specs.BTreeMap.{Updates}
 use Rattle.std.specs.Cmp.Lexicographic.{bytes_decides, slice_cmp}
+use Rattle.std.specs.HashMap.{Updates as UpdatesHash, get}
 use Rattle.std.specs.Map.{KeepsOthers}
 use Rattle.std.specs.Ordering.{is_eq, nat_cmp}
 use Rattle.std.proofs.lemmas.Map.Text.{is_eq-slice_cmp}
@@ -12,14 +13,14 @@ use Rattle.ec_world.proofs.Procs.{get_end}
 use Rattle.ec_world.proofs.Keys.{same_or_not}
 use Rattle.ec_stores.specs.Tables.{ArePlaces, AreReferences, by_bytes, get_bytes, local_in}
 use Rattle.ec_stores.proofs.Numbers.{end_or, kept_end, length_more}
-use Rattle.ec_stores.proofs.Keyed.{other_object}
+use Rattle.ec_stores.proofs.Keyed.{unlike}
 
 -- ---- references
 
-pub no_references : (words : BTreeMap ℕ ℕ) → words.entries ≡ [] → AreReferences words []
+pub no_references : {S : Type 0} (words : HashMap ℕ ℕ S) → words.entries ≡ [] → AreReferences words []
 no_references words empty = record {
   each = λ i oid e. cc;
-  only = λ oid word e. absurd (let none : get nat_cmp words oid ≡ None = rw empty refl in let no : ⊥ = cc in no);
+  only = λ oid word e. absurd (let none : get nat_eq words oid ≡ None = rw empty refl in let no : ⊥ = cc in no);
   few = omega arith;
 }
 
@@ -27,23 +28,23 @@ pub local_kept : (xs : List ℕ) (x i b : ℕ) → local_in xs i ≡ Some b → 
 local_kept xs x zero b e = e
 local_kept xs x (suc i) b e = kept_end xs x i b e
 
-module _ (words words' : BTreeMap ℕ ℕ) (named : List ℕ) (oid word : ℕ) (are : AreReferences words named)
+module _ {S : Type 0} (words words' : HashMap ℕ ℕ S) (named : List ℕ) (oid word : ℕ) (are : AreReferences words named)
     (absent : (i : ℕ) → slice_get named i ≢ Some oid) (count : word ≡ suc (length named)) (few : word < 2 ^ 32)
-    (updates : Updates nat_cmp words words' oid (Some word)) where
+    (updates : UpdatesHash nat_eq words words' oid (Some word)) where
   pub references_added : AreReferences words' (named ++ oid ∷ [])
   references_added = record {
     each = λ i o e. ⊎_elim
         (λ (old : slice_get named i ≡ Some o).
         let ne : o ≢ oid = λ same. absent i (old ∙ ap Some same) in
-        updates.2 o (other_object oid o ne) ∙ are.each i o old)
+        updates.2 o (unlike oid o ne) ∙ are.each i o old)
         (λ (new : (i ≡ length named) × (o ≡ oid)).
-        ap (get nat_cmp words') new.1 ∙ updates.1 ∙ ap Some (count ∙ ap suc (sym new.0)))
+        ap (get nat_eq words') new.1 ∙ updates.1 ∙ ap Some (count ∙ ap suc (sym new.0)))
         (end_or named oid i o e);
     only = λ o w e. ⊎_elim
         (λ (same : o ≡ oid).
-        let is : word ≡ w = by_some word w (sym updates.1 ∙ ap (get nat_cmp words') (sym same) ∙ e) in
+        let is : word ≡ w = by_some word w (sym updates.1 ∙ ap (get nat_eq words') (sym same) ∙ e) in
         ap (local_in (named ++ oid ∷ [])) (sym is ∙ count) ∙ get_end named oid ∙ ap Some (sym same))
-        (λ (ne : o ≢ oid). local_kept named oid w o (are.only o w (sym (updates.2 o (other_object oid o ne)) ∙ e)))
+        (λ (ne : o ≢ oid). local_kept named oid w o (are.only o w (sym (updates.2 o (unlike oid o ne)) ∙ e)))
         (same_or_not o oid);
     few = (let n = length_more named oid in omega arith);
   }
@@ -52,7 +53,7 @@ module _ (words words' : BTreeMap ℕ ℕ) (named : List ℕ) (oid word : ℕ) (
       by_some a b h = cc
 
 -- an object that the map hasn't has no reference
-pub not_named : (words : BTreeMap ℕ ℕ) (named : List ℕ) (oid : ℕ) → AreReferences words named → get nat_cmp words oid ≡ None →
+pub not_named : {S : Type 0} (words : HashMap ℕ ℕ S) (named : List ℕ) (oid : ℕ) → AreReferences words named → get nat_eq words oid ≡ None →
     (i : ℕ) → slice_get named i ≢ Some oid
 not_named words named oid are none i e = let there = are.each i oid e in let no : ⊥ = cc in no
 

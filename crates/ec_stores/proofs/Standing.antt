@@ -1,11 +1,12 @@
 -- Activations by process and depth, and again by the objects that they are on.
-use Rattle.std.proofs.Common.{◌≡◌, ◌≢◌, ℕ, ◌-◌, ◌^◌, ◌<◌, ◌&&◌, ◌||◌, Bool, true, false, true≢false, not, List, [], ◌∷◌, map, Option, Some, None, BTreeMap, Result, Ok, Err, IfOk, Vec, refl}
+use Rattle.std.proofs.Common.{◌≡◌, ◌≢◌, ℕ, ◌-◌, ◌^◌, ◌<◌, ◌&&◌, ◌||◌, Bool, true, false, true≢false, not, List, [], ◌∷◌, map, Option, Some, None, HashMap, Result, Ok, Err, IfOk, Vec, refl}
 use Rattle.std.proofs.Common.{sym, ap, ◌∙◌, subst, arith, ⊎_elim}
 use Rattle.std.proofs.lemmas.List.Kept.{IsStrictlySortedBy-filter}
 use Rattle.std.proofs.lemmas.Option.{same_Some}
-use Rattle.std.specs.BTreeMap.{is_at, Updates}
+use Rattle.std.specs.BTreeMap.{is_at}
 use Rattle.std.specs.BTreeMap.Range.{range_contains}
 use Rattle.std.specs.BTreeSet.{BTreeSet, Updates as SetUpdates, contains, keys_between}
+use Rattle.std.specs.HashMap.{Updates}
 use Rattle.std.specs.List.{AllByRecursion, filter, list_any}
 use Rattle.std.specs.List.Sorted.{IsStrictlySortedBy}
 use Rattle.std.specs.Prelude.{cond, option_map}
@@ -20,7 +21,7 @@ use Rattle.ec_world.proofs.Members.{has_first, has_later, has_none, has_parts}
 use Rattle.ec_world.specs.Group.{Has}
 use Rattle.ec_stores.specs.Changes.{HasOn, StandsOn}
 use Rattle.ec_stores.specs.Node.{NodeData, owned_frame, store_of}
-use Rattle.ec_stores.specs.Tables.{AreOn, AreStanding, IsOn, SetsFrame, frame_cmp, frame_in, standing_cmp}
+use Rattle.ec_stores.specs.Tables.{AreOn, AreStanding, IsOn, SetsFrame, frame_cmp, frame_eq, frame_in, standing_cmp}
 use Rattle.ec_stores.specs.declared.rows.FrameRow.{FrameRow}
 use Rattle.ec_stores.proofs.Keyed.{not_equal_first, not_equal_second, other_frame, other_object}
 
@@ -193,7 +194,7 @@ module _ (standing standing' : BTreeSet (ℕ × ℕ × ℕ)) (rows rows' : List 
   }
 
 -- a map has changed at one activation
-pub sets_frame : (old new : BTreeMap (ℕ × ℕ) FrameRow) (p d : ℕ) (row : Option FrameRow) → Updates frame_cmp old new (p, d) row →
+pub sets_frame : {S : Type 0} (old new : HashMap (ℕ × ℕ) FrameRow S) (p d : ℕ) (row : Option FrameRow) → Updates frame_eq old new (p, d) row →
     SetsFrame old.entries new.entries p d row
 sets_frame old new p d row updates = record { here = updates.1; others = updates.2 }
 

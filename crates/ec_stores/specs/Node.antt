@@ -1,8 +1,7 @@
 -- What a node keeps, as data; the store that it is; and what it keeps by itself.
-use Rattle.std.specs.Prelude.{◌≡◌, ℕ, ◌+◌, ◌/◌, ◌%◌, ◌<◌, ◌≤◌, false, List, [], ◌∷◌, length, Option, Some, None, slice_get, option_map}
-use Rattle.std.specs.BTreeMap.{is_at}
+use Rattle.std.specs.Prelude.{◌≡◌, ℕ, ◌+◌, ◌/◌, ◌%◌, ◌<◌, ◌≤◌, false, List, [], ◌∷◌, length, Option, Some, None, nat_eq, slice_get}
+use Rattle.std.specs.Prelude.{option_map}
 use Rattle.std.specs.Map.{lookup}
-use Rattle.std.specs.Ordering.{nat_cmp}
 use Rattle.ec_base.specs.Bytes.{Bytes}
 use Rattle.ec_memory.specs.Store.{Store as Memory, IsWhole}
 use Rattle.ec_memory.specs.Words.{block_word_at, global_word_at}
@@ -35,7 +34,7 @@ pub record NodeData : Type 0 where
 -- ---- owners
 
 abbrev pub object_in : List (ℕ × ObjectRow) → ℕ → Option ObjectRow
-object_in objects oid = lookup (is_at (nat_cmp oid)) objects
+object_in objects oid = lookup (nat_eq oid) objects
 
 abbrev pub owned_object : ℕ → ObjectRow → Owned
 owned_object oid r = record {

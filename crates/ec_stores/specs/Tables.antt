@@ -1,8 +1,10 @@
 -- Local references and texts, found both ways, and activations, found by process and depth and by their objects.
-use Rattle.std.specs.Prelude.{◌≡◌, ◌↔◌, ℕ, zero, suc, ◌^◌, ◌<◌, ◌≤◌, false, true, List, length, Option, Some, None, Vec, slice_get}
-use Rattle.std.specs.BTreeMap.{BTreeMap, get, get_by, is_at}
+use Rattle.std.specs.Prelude.{◌≡◌, ◌↔◌, ◌&&◌, ℕ, zero, suc, ◌^◌, ◌<◌, ◌≤◌, Bool, false, true, List, length, Option, Some, None, Vec}
+use Rattle.std.specs.Prelude.{nat_eq, slice_get}
+use Rattle.std.specs.BTreeMap.{BTreeMap, get_by}
 use Rattle.std.specs.BTreeSet.{BTreeSet, contains}
 use Rattle.std.specs.Cmp.Lexicographic.{slice_cmp}
+use Rattle.std.specs.HashMap.{HashMap, get}
 use Rattle.std.specs.List.Sorted.{IsStrictlySortedBy}
 use Rattle.std.specs.Map.{lookup}
 use Rattle.std.specs.Ordering.{nat_cmp, ordering_then}
@@ -15,11 +17,12 @@ abbrev pub local_in : List ℕ → ℕ → Option ℕ
 local_in named zero = None
 local_in named (suc i) = slice_get named i
 
--- a map has the reference of each object that one names, and no other; references have 32 bits
-pub record AreReferences (words : BTreeMap ℕ ℕ) (named : List ℕ) : Type 0 where
-  pub each : (i oid : ℕ) → slice_get named i ≡ Some oid → get nat_cmp words oid ≡ Some (suc i)
-  pub only : (oid word : ℕ) → get nat_cmp words oid ≡ Some word → local_in named word ≡ Some oid
-  pub few : length named < 2 ^ 32
+module _ {S : Type 0} where
+  -- a map has the reference of each object that one names, and no other; references have 32 bits
+  pub record AreReferences (words : HashMap ℕ ℕ S) (named : List ℕ) : Type 0 where
+    pub each : (i oid : ℕ) → slice_get named i ≡ Some oid → get nat_eq words oid ≡ Some (suc i)
+    pub only : (oid word : ℕ) → get nat_eq words oid ≡ Some word → local_in named word ≡ Some oid
+    pub few : length named < 2 ^ 32
 
 -- ---- activations
 
@@ -31,8 +34,12 @@ frame_cmp a b = ordering_then (nat_cmp a.0 b.0) (nat_cmp a.1 b.1)
 abbrev pub standing_cmp : ℕ × ℕ × ℕ → ℕ × ℕ × ℕ → Ordering
 standing_cmp a b = ordering_then (ordering_then (nat_cmp a.0 b.0) (nat_cmp a.1 b.1)) (nat_cmp a.2 b.2)
 
+-- whether they are the same
+abbrev pub frame_eq : ℕ × ℕ → ℕ × ℕ → Bool
+frame_eq a b = nat_eq a.0 b.0 && nat_eq a.1 b.1
+
 abbrev pub frame_in : List ((ℕ × ℕ) × FrameRow) → ℕ → ℕ → Option FrameRow
-frame_in frames p d = lookup (is_at (frame_cmp (p, d))) frames
+frame_in frames p d = lookup (frame_eq (p, d)) frames
 
 -- a set has each activation behind its object, and nothing else; all numbers have 32 bits
 pub record AreStanding (standing : BTreeSet (ℕ × ℕ × ℕ)) (frames : List ((ℕ × ℕ) × FrameRow)) : Type 0 where
@@ -44,7 +51,7 @@ pub record AreStanding (standing : BTreeSet (ℕ × ℕ × ℕ)) (frames : List 
 -- one activation now has this row, or none; every other has the one that it had
 pub record SetsFrame (old new : List ((ℕ × ℕ) × FrameRow)) (p d : ℕ) (row : Option FrameRow) : Type 0 where
   pub here : frame_in new p d ≡ row
-  pub others : (q : ℕ × ℕ) → is_at (frame_cmp (p, d)) q ≡ false → frame_in new q.0 q.1 ≡ frame_in old q.0 q.1
+  pub others : (q : ℕ × ℕ) → frame_eq (p, d) q ≡ false → frame_in new q.0 q.1 ≡ frame_in old q.0 q.1
 
 -- an activation, told by its process and its depth, is there, on an object
 pub record IsOn (frames : List ((ℕ × ℕ) × FrameRow)) (oid : ℕ) (at : ℕ × ℕ) : Type 0 where

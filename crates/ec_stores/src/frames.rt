@@ -5,7 +5,7 @@ ghost use Rattle.ec_stores.specs.Tables.{AreOn, SetsFrame, frame_in};
 use crate::rows::FrameRow;
 use ec_world::value::{Oid, Pid};
 use std::alloc::{AllocError, Global};
-use std::collections::{BTreeMap, BTreeSet};
+use std::collections::{BTreeSet, HashMap};
 use std::marker::Model;
 
 // An activation behind the object that it is on: the object, the process, and the depth from the bottom (from 0).
@@ -15,7 +15,7 @@ type Standing = (Oid, Pid, u32);
 /// Contracts see the rows.
 #[derive(Drop)]
 pub(crate) struct Frames {
-    rows: BTreeMap<(Pid, u32), FrameRow>,
+    rows: HashMap<(Pid, u32), FrameRow>,
     standing: BTreeSet<Standing>,
 }
 
@@ -37,7 +37,7 @@ impl Frames {
         ensures { result ≡ [] }
     {
         Frames {
-            rows: BTreeMap::new(alloc),
+            rows: HashMap::new(alloc),
             standing: BTreeSet::new(alloc),
         }
     }

@@ -9,7 +9,7 @@ use crate::rows::ObjectRow;
 use ec_world::node::Kind;
 use ec_world::value::Oid;
 use std::alloc::{AllocError, Global};
-use std::collections::BTreeMap;
+use std::collections::HashMap;
 use std::marker::Model;
 
 /// A node: its kind, its memory, its objects by their numbers, its activations by process and depth from the bottom (from 0), its own
@@ -18,7 +18,7 @@ use std::marker::Model;
 pub struct NodeStore {
     pub(crate) kind: Kind,
     pub(crate) memory: NodeMemory,
-    pub(crate) objects: BTreeMap<Oid, ObjectRow>,
+    pub(crate) objects: HashMap<Oid, ObjectRow>,
     pub(crate) frames: Frames,
     pub(crate) references: References,
     pub(crate) pool: Pool,
@@ -61,7 +61,7 @@ impl NodeStore {
         Ok(NodeStore {
             kind,
             memory: NodeMemory::new(alloc, kind, blocks, globals)?,
-            objects: BTreeMap::new(alloc),
+            objects: HashMap::new(alloc),
             frames: Frames::new(alloc),
             references: References::new(alloc),
             pool: Pool::new(alloc, room),

@@ -1,13 +1,12 @@
 //! A node's own references to objects.
 ghost use Rattle.std.specs.Prelude.{◌≡◌, ◌≢◌, ◌+◌, ◌^◌, ◌<◌, ◌++◌, [], ◌∷◌, ℕ, Some, length, slice_get};
-ghost use Rattle.std.specs.Prelude.{IsSome, IfOk, IfSome, IfNone, OnOk, OnErr};
-ghost use Rattle.std.specs.BTreeMap.{IsUnchanged, Updates};
-ghost use Rattle.std.specs.Ordering.{nat_cmp};
+ghost use Rattle.std.specs.Prelude.{IsSome, IfOk, IfSome, IfNone, OnOk, OnErr, nat_eq};
+ghost use Rattle.std.specs.HashMap.{IsUnchanged, Updates};
 ghost use Rattle.ec_stores.specs.Tables.{local_in};
 
 use ec_world::value::Oid;
 use std::alloc::{AllocError, Global};
-use std::collections::BTreeMap;
+use std::collections::HashMap;
 use std::marker::Model;
 
 /// References to objects, from 1, each object having one at most. Contracts see the list of the objects that they name.
@@ -15,7 +14,7 @@ use std::marker::Model;
 pub(crate) struct References {
     named: Vec<Oid>,
     // the reference of each object
-    words: BTreeMap<Oid, u32>,
+    words: HashMap<Oid, u32>,
 }
 
 impl Model for References {
@@ -36,7 +35,7 @@ impl References {
     {
         References {
             named: Vec::new(alloc),
-            words: BTreeMap::new(alloc),
+            words: HashMap::new(alloc),
         }
     }
 
@@ -85,8 +84,8 @@ impl References {
 }
 
 // An object gets a reference. The error is want of memory, and then nothing has changed.
-fn enter(words: &mut BTreeMap<Oid, u32>, oid: Oid, word: u32) -> Result<(), AllocError>
-    ensures entered { OnOk result (Updates nat_cmp words.old words.new oid (Some word)) }
+fn enter(words: &mut HashMap<Oid, u32>, oid: Oid, word: u32) -> Result<(), AllocError>
+    ensures entered { OnOk result (Updates nat_eq words.old words.new oid (Some word)) }
     ensures kept { OnErr result (IsUnchanged words.old words.new) }
 {
     words.insert(oid, word)?;
