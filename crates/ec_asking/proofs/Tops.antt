@@ -11,10 +11,9 @@ use Rattle.ec_base.proofs.Stacks.{below_of-push, top_of-push}
 use Rattle.ec_base.specs.Stack.{below_of, top_of}
 use Rattle.ec_cluster.specs.Cluster.{CodeWorld, place}
 use Rattle.ec_cluster.specs.Images.{homes_on}
-use Rattle.ec_cluster.specs.Steps.{HasPlace}
-use Rattle.ec_cluster.proofs.Finishing.{its_node, own_has_place, rests_here, rests_there, some_rests, some_rests_here}
+use Rattle.ec_cluster.proofs.Finishing.{its_node, rests_here, rests_there, said_here, said_there}
 use Rattle.ec_cluster.specs.Frames.{RestsIn}
-use Rattle.ec_cluster.specs.Stops.{RestsThere, SomeRests, SomeRestsHere, tables_for}
+use Rattle.ec_cluster.specs.Stops.{RestsThere, ToldHere, ToldThere, tables_for}
 use Rattle.ec_code.specs.Activations.{code_meaning, operation_at}
 use Rattle.ec_code.specs.Steps.{with_itself}
 use Rattle.ec_code.specs.Typing.{Declared}
@@ -25,7 +24,9 @@ use Rattle.ec_code.specs.declared.code.Parts.{Parts}
 use Rattle.ec_code.specs.declared.code.StopRow.{StopRow}
 use Rattle.ec_machine_code.specs.Stops as stops
 use Rattle.ec_node_frames.specs.Finishing.{RestsHere}
+use Rattle.ec_node_frames.specs.Frames.{AreHeadings}
 use Rattle.ec_node_frames.specs.Operands.{ActsHere}
+use Rattle.ec_node_frames.specs.declared.frames.Headings.{Headings}
 use Rattle.ec_world.proofs.Procs.{get_end}
 use Rattle.ec_code.specs.Worlds.{RangedActivation, RangedProc}
 use Rattle.ec_activations.proofs.Operands.{held_for_it}
@@ -101,14 +102,6 @@ module _ (d : Declared) (s : System) (w : CodeWorld) (below : List CodeActivatio
   pub acts_in : RestsIn d s.cluster w who.process who.depth proc top entry_here
   acts_in = rests_in d s w h.runs who.process who.depth proc top h.is_top.is its_depth is_pending.rests
 
-  pub has_place : HasPlace s.cluster who.own
-  has_place =
-      subst (λ x. HasPlace s.cluster x) (sym its_own)
-      (own_has_place d s.cluster w who.process who.depth proc top entry_here acts_in)
-
-  pub top_at : (k : ℕ) → place s.cluster who.own ≡ Some k → place s.cluster top.own ≡ Some k
-  top_at k at = ap (place s.cluster) (sym its_own) ∙ at
-
   pub its_stop : HasStop s.cluster.parts who.operation entry_here.place is_pending.rests.row
   its_stop = record {
     of = is_pending.rests.of;
@@ -144,24 +137,26 @@ module _ (d : Declared) (s : System) (w : CodeWorld) (below : List CodeActivatio
 
   -- ---- its node
 
-  module _ (k : ℕ) (at : place s.cluster who.own ≡ Some k) where
+  module _ (k : ℕ) (at : place s.cluster top.own ≡ Some k) where
     pub node_within : k < length s.cluster.nodes
-    node_within = its_node d s.cluster w who.process who.depth proc top entry_here acts_in k (top_at k at)
+    node_within = its_node d s.cluster w who.process who.depth proc top entry_here acts_in k at
 
     module _ (n : NodeData) (is : slice_get s.cluster.nodes k ≡ Some n) where
       pub there : RestsThere d s.cluster.parts s.cluster.images (store_of n) who.process who.depth top entry_here
-      there = rests_there d s.cluster w who.process who.depth proc top entry_here acts_in k (top_at k at) n is
+      there = rests_there d s.cluster w who.process who.depth proc top entry_here acts_in k at n is
 
-      pub some_there : SomeRests s.cluster.images (store_of n) who.process who.depth
-      some_there = some_rests d s.cluster w who.process who.depth proc top entry_here acts_in k (top_at k at) n is
+      pub told_there : (headings : Headings) → AreHeadings s.cluster.parts top headings → ToldThere s.cluster.images (store_of n) headings
+      told_there headings are =
+          said_there d s.cluster w who.process who.depth proc top entry_here acts_in k at n is headings are
 
       module _ (t : OperationTable) (its : slice_get (tables_for s.cluster.images (store_of n)) top.operation ≡ Some t) where
         pub here : RestsHere (store_of n) t entry_here who.process who.depth d s.cluster.parts (homes_on s.cluster.images)
             (tables_for s.cluster.images (store_of n)) top
-        here = rests_here d s.cluster w who.process who.depth proc top entry_here acts_in k (top_at k at) n is t its
+        here = rests_here d s.cluster w who.process who.depth proc top entry_here acts_in k at n is t its
 
-        pub some_here : SomeRestsHere t (store_of n) who.process who.depth
-        some_here = some_rests_here d s.cluster w who.process who.depth proc top entry_here acts_in k (top_at k at) n is t its
+        pub told_here : (headings : Headings) → AreHeadings s.cluster.parts top headings → ToldHere t headings
+        told_here headings are =
+            said_here d s.cluster w who.process who.depth proc top entry_here acts_in k at n is headings are t its
 
         pub acts_here : IsTypedOnce s.cluster.parts → (e : StopEntry) → e ≡ entry_here →
             ActsHere (store_of n) t e who.process who.depth d s.cluster.parts (homes_on s.cluster.images)

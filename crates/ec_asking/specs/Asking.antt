@@ -1,6 +1,6 @@
 -- Who acts in a world that a system runs, and the stop at which it acts.
 use Rattle.std.specs.Prelude.{◌≡◌, ℕ, List, Some, true, slice_get}
-use Rattle.ec_cluster.specs.Cluster.{CodeWorld}
+use Rattle.ec_cluster.specs.Cluster.{CodeWorld, place}
 use Rattle.ec_code.specs.Activations.{code_meaning, operation_at}
 use Rattle.ec_code.specs.Typing.{Declared}
 use Rattle.ec_code.specs.declared.activation.CodeActivation.{CodeActivation}
@@ -11,7 +11,9 @@ use Rattle.ec_code.specs.declared.code.Parts.{Parts}
 use Rattle.ec_code.specs.declared.code.StopRow.{StopRow}
 use Rattle.ec_cluster.specs.Acting.{IsTop}
 use Rattle.ec_cluster.specs.Systems.{Runs}
+use Rattle.ec_cluster.specs.declared.finding.Found.{Found}
 use Rattle.ec_cluster.specs.declared.system.System.{System}
+use Rattle.ec_node_frames.specs.Frames.{AreHeadings}
 use Rattle.ec_world.specs.World.{Action, who_of}
 use Rattle.ec_world.specs.declared.process.ProcStatus.TheVariants.{Ready}
 use Rattle.ec_world.specs.declared.stop.Who.{Who}
@@ -39,6 +41,16 @@ abbrev pub EachActs : System → ℕ → Who → Type 0
 EachActs s p who =
     (d : Declared) (w : CodeWorld) → Runs d s w →
     (who.process ≡ p) × ((below : List CodeActivation) × ((top : CodeActivation) × Acts d s w below top who))
+
+-- an activation was found: its own object is at this node, and these are its headings
+pub record IsFound (s : System) (a : CodeActivation) (found : Found) : Type 0 where
+  pub at : place s.cluster a.own ≡ Some found.node
+  pub are : AreHeadings s.cluster.parts a found.headings
+
+-- in each world that the system runs who acts was found
+abbrev pub EachFound : System → Who → Found → Type 0
+EachFound s who found =
+    (d : Declared) (w : CodeWorld) (below : List CodeActivation) (top : CodeActivation) → Acts d s w below top who → IsFound s top found
 
 -- the action of a process does nothing to any world that the system runs
 abbrev pub IsIdle : System → ℕ → Type 0

@@ -26,10 +26,11 @@ pub fn asked(system: &System, alloc: Global, p: Pid) -> Result<Option<Asked>, Al
         (a.who.process ≡ p) × ((below : List CodeActivation) × ((top : CodeActivation) × Asks w below top a.who a.doing)))) }
     ensures none { IfOk result (λ r. IfNone r ((d : Declared) (w : CodeWorld) → Runs d system.now w → Action code_meaning w p ≡ w)) }
 {
-    let Some(who) = acting(system, p) else {
+    let Some(actor) = acting(system, p) else {
         return Ok(None);
     };
-    let (stop, operands) = stop_of(system, alloc, who)?;
+    let (who, found) = actor;
+    let (stop, operands) = stop_of(system, alloc, who, found)?;
     match doing_on(alloc, &system.cluster, who, stop, operands)? {
         Some(doing) => Ok(Some(Asked { who, doing })),
         None => unreachable!(),

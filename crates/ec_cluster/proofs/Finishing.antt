@@ -1,5 +1,5 @@
 -- An activation that rests in a world, at its node.
-use Rattle.std.proofs.Common.{◌≡◌, ◌<◌, ℕ, Option, Some, None, refl, sym, ap, ◌∙◌, subst}
+use Rattle.std.proofs.Common.{◌≡◌, ◌<◌, ℕ, Option, Some, None, refl, sym, ap, ◌∙◌}
 use Rattle.std.specs.Prelude.{length, option_map, slice_get}
 use Rattle.ec_cluster.proofs.Putting.{is_node}
 use Rattle.ec_cluster.specs.Cluster.{CodeWorld, frame_of, place, stores}
@@ -8,7 +8,7 @@ use Rattle.ec_cluster.specs.Steps.{HasPlace}
 use Rattle.ec_cluster.specs.declared.cluster.Cluster.{Cluster}
 use Rattle.ec_cluster.proofs.Stacks.{frame_shown}
 use Rattle.ec_cluster.specs.Frames.{RestsIn, RestsOn}
-use Rattle.ec_cluster.specs.Stops.{RestsThere, SomeRests, SomeRestsHere, tables_for}
+use Rattle.ec_cluster.specs.Stops.{RestsThere, ToldHere, ToldThere, tables_for}
 use Rattle.ec_code.specs.Activations.{finished, into_variable}
 use Rattle.ec_code.specs.Typing.{Declared}
 use Rattle.ec_code.specs.declared.activation.CodeActivation.{CodeActivation}
@@ -16,7 +16,8 @@ use Rattle.ec_code.specs.declared.code.Variable.{Variable}
 use Rattle.ec_code.specs.declared.code.Variable.TheVariants.{Named, Temporary}
 use Rattle.ec_node_frames.proofs.Shown.{shown_here}
 use Rattle.ec_node_frames.specs.Finishing.{RestsHere}
-use Rattle.ec_node_frames.specs.Frames.{IsFrame}
+use Rattle.ec_node_frames.specs.Frames.{AreHeadings, IsFrame, TellsHere}
+use Rattle.ec_node_frames.specs.declared.frames.Headings.{Headings}
 use Rattle.ec_world.proofs.Procs.{activation_is}
 use Rattle.ec_world.specs.declared.key.Key.TheVariants.{Frame}
 use Rattle.ec_generate.specs.declared.table.OperationTable.{OperationTable}
@@ -63,21 +64,47 @@ module _ (d : Declared) (c : Cluster) (w : CodeWorld) (p depth : ℕ) (proc : Pr
       pub in_frame : IsFrame (store_of n) p depth
       in_frame = shown_here (store_of n) c.parts (homes_on c.images) p depth a rests_there.shown
 
-      pub some_rests : SomeRests c.images (store_of n) p depth
-      some_rests = record { declared = d; program = c.parts; activation = a; entry = e; rests = rests_there }
-
       pub rests_here : (t : OperationTable) → slice_get (tables_for c.images (store_of n)) a.operation ≡ Some t →
           RestsHere (store_of n) t e p depth d c.parts (homes_on c.images) (tables_for c.images (store_of n)) a
       rests_here t its = record { shown = rests_there.shown; rests = r.rests; has = rests_there.has; its = its }
 
-      pub some_rests_here : (t : OperationTable) → slice_get (tables_for c.images (store_of n)) a.operation ≡ Some t →
-          SomeRestsHere t (store_of n) p depth
-      some_rests_here t its = record {
-        declared = d;
-        program = c.parts;
-        homes = homes_on c.images;
-        tables = tables_for c.images (store_of n);
-        activation = a;
-        entry = e;
-        rests = rests_here t its;
-      }
+      -- ---- headings that tell of it
+
+      module _ (h : Headings) (are : AreHeadings c.parts a h) where
+        pub said_there : ToldThere c.images (store_of n) h
+        said_there = record {
+          process = p;
+          depth = depth;
+          declared = d;
+          program = c.parts;
+          activation = a;
+          entry = e;
+          rests = rests_there;
+          are = are;
+        }
+
+        pub said_here : (t : OperationTable) → slice_get (tables_for c.images (store_of n)) a.operation ≡ Some t → ToldHere t h
+        said_here t its = record {
+          store = store_of n;
+          process = p;
+          depth = depth;
+          declared = d;
+          program = c.parts;
+          homes = homes_on c.images;
+          tables = tables_for c.images (store_of n);
+          activation = a;
+          entry = e;
+          rests = rests_here t its;
+          are = are;
+        }
+
+      -- as those do that are read there
+      module _ (h : Headings) (tells : TellsHere (store_of n) p depth h) where
+        pub told : AreHeadings c.parts a h
+        told = tells c.parts (homes_on c.images) a rests_there.shown
+
+        pub told_there : ToldThere c.images (store_of n) h
+        told_there = said_there h told
+
+        pub told_here : (t : OperationTable) → slice_get (tables_for c.images (store_of n)) a.operation ≡ Some t → ToldHere t h
+        told_here t its = said_here h told t its

@@ -6,7 +6,7 @@ use Rattle.ec_cluster.specs.Cluster.{CodeWorld, Shows, frame_of, place, stores}
 use Rattle.ec_cluster.specs.Images.{homes_on}
 use Rattle.ec_cluster.specs.declared.cluster.Cluster.{Cluster}
 use Rattle.ec_cluster.proofs.Putting.{is_node, shown_there}
-use Rattle.ec_cluster.specs.Finding.{NoFrame, NoneBefore, TellsOf}
+use Rattle.ec_cluster.specs.Finding.{IsAt, NoFrame, NoneBefore, TellsOf}
 use Rattle.ec_code.specs.declared.activation.CodeActivation.{CodeActivation}
 use Rattle.ec_code.specs.declared.code.Parts.{Parts}
 use Rattle.ec_activations.specs.Frames.{frame_thing}
@@ -34,19 +34,28 @@ here_is_frame n p depth h = by (frame_in n.frames p depth) refl h
     by None e g = absurd cc
     by (Some r) e g = record { row = owned_frame r; there = ap (option_map owned_frame) e; one = refl }
 
--- it is shown at this node
-pub tells_of : (c : Cluster) (k p depth : ℕ) (n : NodeData) (h : Headings) → slice_get c.nodes k ≡ Some n →
-    IsSome ((store_of n).row (Frame p depth)) →
-    ((q : Parts) (homes : Kind → List (List Home)) (a : CodeActivation) →
-    Shown (store_of n) (Frame p depth) (frame_thing q homes p depth a) → AreHeadings q a h) → TellsOf c p depth h
-tells_of c k p depth n h is row headings w proc a shows is_proc there =
+-- it is where its own object is
+pub is_at : (c : Cluster) (k p depth : ℕ) (n : NodeData) → slice_get c.nodes k ≡ Some n → IsSome ((store_of n).row (Frame p depth)) →
+    IsAt c p depth k
+is_at c k p depth n is row w proc a shows is_proc there =
     let frame = here_is_frame n p depth row in
     let stands : stores c k ≡ Some (store_of n) = ap (option_map store_of) is in
     let z = shows.things_stand.only k (store_of n) (Frame p depth) frame.row stands frame.there in
     let thing : things_of (frame_of c) w (Frame p depth) ≡ Some (frame_of c p depth a) =
     ap (frame_if (frame_of c) p depth) (activation_is w.processes p depth proc is_proc ∙ there) in
     let same : z.0 ≡ frame_of c p depth a = same_Some z.0 (frame_of c p depth a) (sym z.1 ∙ thing) in
-    let home : place c a.own ≡ Some k = ap (λ (t : Thing). place c t.home) (sym same) ∙ z.2 in
+    ap (λ (t : Thing). place c t.home) (sym same) ∙ z.2
+
+-- it is shown at this node
+pub tells_of : (c : Cluster) (k p depth : ℕ) (n : NodeData) (h : Headings) → slice_get c.nodes k ≡ Some n →
+    IsSome ((store_of n).row (Frame p depth)) →
+    ((q : Parts) (homes : Kind → List (List Home)) (a : CodeActivation) →
+    Shown (store_of n) (Frame p depth) (frame_thing q homes p depth a) → AreHeadings q a h) → TellsOf c p depth h
+tells_of c k p depth n h is row headings w proc a shows is_proc there =
+    let stands : stores c k ≡ Some (store_of n) = ap (option_map store_of) is in
+    let thing : things_of (frame_of c) w (Frame p depth) ≡ Some (frame_of c p depth a) =
+    ap (frame_if (frame_of c) p depth) (activation_is w.processes p depth proc is_proc ∙ there) in
+    let home = is_at c k p depth n is row w proc a shows is_proc there in
     headings c.parts (homes_on c.images) a (shown_there c w k (store_of n) (Frame p depth) (frame_of c p depth a) shows thing home stands)
 
 pub none_before : (c : Cluster) (p depth : ℕ) → NoneBefore c p depth 0

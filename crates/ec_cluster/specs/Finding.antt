@@ -1,6 +1,6 @@
 -- An activation that is looked for at all nodes.
 use Rattle.std.specs.Prelude.{◌≡◌, ◌<◌, ℕ, Some, None, slice_get}
-use Rattle.ec_cluster.specs.Cluster.{CodeWorld, Shows, stores}
+use Rattle.ec_cluster.specs.Cluster.{CodeWorld, Shows, place, stores}
 use Rattle.ec_cluster.specs.declared.cluster.Cluster.{Cluster}
 use Rattle.ec_code.specs.declared.activation.CodeActivation.{CodeActivation}
 use Rattle.ec_node_frames.specs.Frames.{AreHeadings}
@@ -22,3 +22,9 @@ abbrev pub TellsOf : Cluster → ℕ → ℕ → Headings → Type 0
 TellsOf c p depth h =
     (w : CodeWorld) (proc : Proc CodeActivation) (a : CodeActivation) → Shows c w → slice_get w.processes p ≡ Some proc →
     slice_get proc.activations depth ≡ Some a → AreHeadings c.parts a h
+
+-- In each such world its own object is at node k.
+abbrev pub IsAt : Cluster → ℕ → ℕ → ℕ → Type 0
+IsAt c p depth k =
+    (w : CodeWorld) (proc : Proc CodeActivation) (a : CodeActivation) → Shows c w → slice_get w.processes p ≡ Some proc →
+    slice_get proc.activations depth ≡ Some a → place c a.own ≡ Some k

@@ -8,7 +8,8 @@ use Rattle.ec_code.specs.declared.activation.CodeActivation.{CodeActivation}
 use Rattle.ec_code.specs.declared.code.Parts.{Parts}
 use Rattle.ec_machine_code.specs.declared.homes.Home.{Home}
 use Rattle.ec_node_frames.specs.Finishing.{RestsHere}
-use Rattle.ec_node_frames.specs.Frames.{HasTables, RestsAt}
+use Rattle.ec_node_frames.specs.Frames.{AreHeadings, HasTables, RestsAt}
+use Rattle.ec_node_frames.specs.declared.frames.Headings.{Headings}
 use Rattle.ec_world.specs.declared.key.Key.TheVariants.{Frame}
 use Rattle.ec_generate.specs.declared.table.OperationTable.{OperationTable}
 use Rattle.ec_generate.specs.declared.table.StopEntry.{StopEntry}
@@ -27,20 +28,27 @@ pub record RestsThere (d : Declared) (p : Parts) (images : Images) (s : Store) (
   pub rests : RestsAt p a e
   pub has : HasTables d p s.kind (homes_on images) (tables_for images s)
 
--- it shows some
-pub record SomeRests (images : Images) (s : Store) (process depth : ℕ) : Type 0 where
+-- it shows one, and these headings tell of it
+pub record ToldThere (images : Images) (s : Store) (h : Headings) : Type 0 where
+  pub process : ℕ
+  pub depth : ℕ
   pub declared : Declared
   pub program : Parts
   pub activation : CodeActivation
   pub entry : StopEntry
   pub rests : RestsThere declared program images s process depth activation entry
+  pub are : AreHeadings program activation h
 
--- it shows some, of the operation of a table
-pub record SomeRestsHere (table : OperationTable) (s : Store) (process depth : ℕ) : Type 0 where
+-- a node shows one of the operation of a table, and these headings tell of it
+pub record ToldHere (table : OperationTable) (h : Headings) : Type 0 where
+  pub store : Store
+  pub process : ℕ
+  pub depth : ℕ
   pub declared : Declared
   pub program : Parts
   pub homes : Kind → List (List Home)
   pub tables : List OperationTable
   pub activation : CodeActivation
   pub entry : StopEntry
-  pub rests : RestsHere s table entry process depth declared program homes tables activation
+  pub rests : RestsHere store table entry process depth declared program homes tables activation
+  pub are : AreHeadings program activation h

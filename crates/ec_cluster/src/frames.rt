@@ -18,7 +18,7 @@ use crate::objects::node_of;
 use crate::stops::{entry_of, table_of};
 use ec_node_frames::begin::begin_frame;
 use ec_node_frames::finish::finish_frame;
-use ec_node_frames::frames::close_frame;
+use ec_node_frames::frames::{close_frame, headings_of};
 use ec_world::value::{Oid, OpNo, Pid, Value};
 use std::alloc::{AllocError, Global};
 
@@ -42,8 +42,9 @@ pub fn finish(
 {
     let k = node_of(cluster, own);
     let node = cluster.nodes.at_mut(k as usize);
-    let table = table_of(&cluster.images, node, process, depth);
-    let entry = entry_of(table, node, process, depth);
+    let headings = headings_of(node, process, depth);
+    let table = table_of(&cluster.images, node, headings);
+    let entry = entry_of(table, headings);
     finish_frame(node, table, entry, process, depth, given)
 }
 

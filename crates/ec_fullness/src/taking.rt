@@ -17,6 +17,7 @@ use ec_cluster::finding::headings_at;
 use ec_cluster::objects::node_of;
 use ec_cluster::stops::{entry_of, table_of};
 use ec_cluster::system::System;
+use ec_node_frames::frames::headings_of;
 use ec_objects::lacks::lack_of;
 use ec_world::room::Lack;
 use ec_world::stop::Who;
@@ -41,8 +42,9 @@ pub(crate) fn lack_to_take(
 {
     let k = node_of(cluster, own);
     let node = cluster.nodes.at(k as usize);
-    let table = table_of(&cluster.images, node, process, depth);
-    let entry = entry_of(table, node, process, depth);
+    let headings = headings_of(node, process, depth);
+    let table = table_of(&cluster.images, node, headings);
+    let entry = entry_of(table, headings);
     match given {
         None => Ok(None),
         Some(value) => match entry.result {

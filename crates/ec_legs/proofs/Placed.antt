@@ -1,23 +1,21 @@
 -- The activation that goes on in a system: where it is, and that it can step there.
-use Rattle.std.proofs.Common.{◌≡◌, ◌<◌, ◌-◌, ℕ, zero, suc, List, ◌∷◌, [], length, Some, None, sym, ap, ◌∙◌, subst, map, arith}
+use Rattle.std.proofs.Common.{◌≡◌, ◌<◌, ◌-◌, ℕ, zero, suc, List, ◌∷◌, [], length, Some, sym, ap, ◌∙◌, subst, map, arith}
 use Rattle.std.specs.Prelude.{option_map, slice_get}
 use Rattle.std.proofs.lemmas.Option.{same_Some}
 use Rattle.ec_cluster.proofs.Putting.{is_node}
 use Rattle.ec_cluster.specs.Cluster.{CodeWorld, Shows, frame_of, place, stores}
 use Rattle.ec_cluster.specs.Images.{homes_on, image_of}
 use Rattle.ec_cluster.specs.declared.cluster.Cluster.{Cluster}
-use Rattle.ec_cluster.specs.Finding.{NoFrame, TellsOf}
 use Rattle.ec_code.specs.Fine.{Fine}
 use Rattle.ec_code.specs.Typing.{Declared}
 use Rattle.ec_code.specs.declared.activation.CodeActivation.{CodeActivation}
 use Rattle.ec_machine_code.specs.Limits.{HasLimits}
 use Rattle.ec_legs.proofs.Showing.{frame_at, its_object, own_there, shows_all}
 use Rattle.ec_legs.proofs.Stepping.{can_step}
-use Rattle.ec_legs.proofs.Tops.{count_is, there, top_ranged, top_sound}
+use Rattle.ec_legs.proofs.Tops.{count_is, top_ranged, top_sound}
 use Rattle.ec_legs.specs.Going.{GoesIn, HasCode}
 use Rattle.ec_legs.specs.Nodes.{EachHasGoneOn, IsCodeFor, SomeSteps, StepsThere}
 use Rattle.ec_legs.specs.Legs.{Leg}
-use Rattle.ec_node_frames.specs.declared.frames.Headings.{Headings}
 use Rattle.ec_world.specs.declared.key.Key.TheVariants.{Frame}
 use Rattle.ec_stores.specs.Node.{NodeData, store_of}
 use Rattle.ec_cluster.specs.Systems.{row_of}
@@ -68,19 +66,6 @@ module _ (d : Declared) (s : System) (w : CodeWorld) (p : ℕ) (below : List Cod
 
   pub own_place : place c top.own ≡ Some shown_at.node
   own_place = shown_at.home
-
-  -- some node has the activation
-  pub has_frame : (depth : ℕ) → depth ≡ length below → NoFrame c p depth → ⊥
-  has_frame depth e none =
-      let no : shown_at.store.row (Frame p (length below)) ≡ None =
-      subst (λ x. shown_at.store.row (Frame p x) ≡ None) e (none shown_at.node shown_at.store shown_at.there) in
-      let some = shown_at.shown.there in
-      cc
-
-  pub own_is : (depth : ℕ) (h : Headings) → depth ≡ length below → TellsOf c p depth h → h.own ≡ top.own
-  own_is depth h e tells =
-      (tells w g.is.is_top.proc top shows g.is.is_top.is
-      (ap (slice_get g.is.is_top.proc.activations) e ∙ there w p below top g.is)).own
 
   pub is_there : (k : ℕ) → place c top.own ≡ Some k → k < length c.nodes
   is_there k at =

@@ -66,6 +66,12 @@ pub record GoesInSome (s : System) (p : ℕ) : Type 0 where
   pub top : CodeActivation
   pub goes : GoesIn declared s world p below top
 
+-- in each such world the activation's own object is at node k
+abbrev pub EachAt : System → ℕ → ℕ → Type 0
+EachAt s p k =
+    (d : Declared) (w : CodeWorld) (below : List CodeActivation) (top : CodeActivation) → GoesIn d s w p below top →
+    place s.cluster top.own ≡ Some k
+
 -- ---- what has been run
 
 -- a node has the kind, the room, the free room and the texts that it had

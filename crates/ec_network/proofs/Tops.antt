@@ -7,14 +7,14 @@ use Rattle.ec_asking.specs.Rows.{depth_if}
 use Rattle.ec_base.proofs.Stacks.{stack_parts, top_of-push}
 use Rattle.ec_base.specs.Stack.{below_of, top_of}
 use Rattle.ec_cluster.specs.Cluster.{CodeWorld, frame_of, place, stores}
-use Rattle.ec_cluster.specs.Finding.{NoFrame, TellsOf}
+use Rattle.ec_cluster.specs.Finding.{IsAt, NoFrame, TellsOf}
 use Rattle.ec_code.specs.Activations.{code_meaning, code_silent}
 use Rattle.ec_code.specs.Typing.{Declared}
 use Rattle.ec_code.specs.declared.activation.CodeActivation.{CodeActivation}
 use Rattle.ec_node_frames.specs.declared.frames.Headings.{Headings}
 use Rattle.ec_world.proofs.Procs.{activation_is}
 use Rattle.ec_world.specs.declared.key.Key.TheVariants.{Frame}
-use Rattle.ec_network.specs.Running.{EachTop, HasNoTop, TopTold}
+use Rattle.ec_network.specs.Running.{EachTop, HasNoTop, TopAt, TopTold}
 use Rattle.ec_network.specs.Showing.{Waits, gone_on}
 use Rattle.ec_cluster.specs.Systems.{Runs, row_of}
 use Rattle.ec_cluster.specs.declared.system.ProcessRow.{ProcessRow}
@@ -134,6 +134,16 @@ module _ (s : System) (p : ℕ) where
           ready = t.ready;
           pending = (tells w t.proc t.last.item runs.mirrors.shows t.is_proc t.last.is).pending;
         }
+
+    pub top_at : (k : ℕ) → IsAt s.cluster p n k → TopAt s p k
+    top_at k at d w below top runs is =
+        let t = on_top d w runs in
+        let proc : t.proc ≡ is.proc = same_Some t.proc is.proc (sym t.is_proc ∙ is.is) in
+        let item : t.last.item ≡ top =
+        same_Some t.last.item top
+        (sym t.last.top ∙ ap (λ (q : Proc CodeActivation). top_of q.activations) proc ∙ ap top_of is.stack ∙ top_of-push below top) in
+        ap (λ (a : CodeActivation). place s.cluster a.own) (sym item)
+        ∙ at w t.proc t.last.item runs.mirrors.shows t.is_proc t.last.is
 
 -- what is told is the activation on top
 pub told_top : (w : CodeWorld) (p : ℕ) (h : Headings) (t : TopTold w p h) → top_of (stack_at w p) ≡ Some t.top

@@ -19,7 +19,9 @@ use Rattle.ec_network.proofs.Tops.{without_top}
 use Rattle.ec_network.specs.Running.{AfterAction, WentOn}
 use Rattle.ec_network.specs.Showing.{CameToShow, NoTurn, RanOrRested, RanToStop, Rested, ShowsPlaced, TookTurn, gone_on, turned}
 use Rattle.ec_network.specs.Standing.{HasNumbers, Stands, Works, WorksInSome}
-use Rattle.ec_network.specs.Turns.{TurnOf}
+use Rattle.ec_network.specs.Turns.{TurnOf, TurnedAlone, TurnedIn}
+use Rattle.ec_network.specs.declared.nodes_running.turns.Did.{Did}
+use Rattle.ec_network.specs.declared.nodes_running.turns.Did.TheVariants.{Idle, Acted, Moved}
 use Rattle.ec_cluster.proofs.Pools.{strings_come}
 use Rattle.ec_cluster.specs.declared.system.System.{System}
 use Rattle.ec_world.specs.World.{Action, GoOn, act_on, stack_at}
@@ -135,3 +137,16 @@ module _ (d : Declared) (old middle : System) (w : CodeWorld) (p : ℕ) (s : Sta
   pub turn_idle : (new : System) (steps : ℕ) → WasIdle old middle w p → IsSome (top_of (stack_at w p)) →
       ((e : Declared) (x : CodeWorld) → Works e middle x → AfterAction e middle new x p steps) → TurnOf d old new w p steps
   turn_idle new steps idle top after = turn_acted new steps (idle_acted d old middle w p s.works.goes idle) top after
+
+  -- a turn in which the activation on top goes on alone, if there is one
+  works_still : WasIdle old middle w p → Works d middle w
+  works_still idle = subst (λ (x : System). Works d x w) (sym idle.same) s.works
+
+  pub turned_alone : (new : System) (did : Did) → WasIdle old middle w p →
+      ((e : Declared) (x : CodeWorld) → Works e middle x → TurnedAlone e middle new x p did) → TurnedIn d old new w p did
+  turned_alone new Idle idle told =
+      let t = told d w (works_still idle) in
+      subst (λ (x : System). NoTurn old x w p) (sym (t.1 ∙ idle.same)) (no_turn old w p t.0)
+  turned_alone new (Acted steps) idle told =
+      turn_idle new steps idle (told d w (works_still idle)).0 (λ e x works. (told e x works).1)
+  turned_alone new Moved idle told = absurd (told d w (works_still idle))

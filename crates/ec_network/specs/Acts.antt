@@ -1,5 +1,6 @@
 -- The action of a process on the nodes of a system.
-use Rattle.std.specs.Prelude.{◌≡◌, ℕ, List}
+use Rattle.std.specs.Prelude.{◌≡◌, ℕ, List, IsSome}
+use Rattle.ec_base.specs.Stack.{top_of}
 use Rattle.ec_asking.specs.Typed.{IsTypedOnce}
 use Rattle.ec_parcels.specs.Vectors.{IsTableOf}
 use Rattle.ec_cluster.specs.Cluster.{CodeWorld}
@@ -22,7 +23,7 @@ use Rattle.ec_cluster.specs.Acting.{Asks}
 use Rattle.ec_cluster.specs.Systems.{Runs, Strings}
 use Rattle.ec_cluster.specs.declared.system.System.{System}
 use Rattle.ec_generate.specs.Limits.{CarriesFew}
-use Rattle.ec_world.specs.World.{Action}
+use Rattle.ec_world.specs.World.{Action, stack_at}
 use Rattle.ec_world.specs.declared.doing.Doing.{Doing}
 use Rattle.ec_world.specs.declared.stop.Who.{Who}
 
@@ -87,6 +88,11 @@ pub record WasIdle (old new : System) (w : CodeWorld) (p : ℕ) : Type 0 where
 abbrev pub ActedIn : Declared → System → System → CodeWorld → ℕ → Acted → Type 0
 ActedIn d old new w p came.Idle = WasIdle old new w p
 ActedIn d old new w p came.Done = HasActed d old new w p
+
+-- what has acted was on top of the process
+abbrev pub HadTop : CodeWorld → ℕ → Acted → Type 0
+HadTop w p came.Idle = Unit {0}
+HadTop w p came.Done = IsSome (top_of (stack_at w p))
 
 -- A node is full, as the world tells that would come, and nothing has changed.
 pub record FoundFull (old new : System) (w w' : CodeWorld) (lack : Lack) : Type 0 where

@@ -1,6 +1,6 @@
 -- The code behind a stop, up to the next one.
-use Rattle.std.specs.Prelude.{◌≡◌, ◌⊎◌, ℕ, List, []}
-use Rattle.ec_cluster.specs.Cluster.{CodeWorld}
+use Rattle.std.specs.Prelude.{◌≡◌, ◌⊎◌, ℕ, List, [], Some}
+use Rattle.ec_cluster.specs.Cluster.{CodeWorld, place}
 use Rattle.ec_code.specs.Typing.{Declared}
 use Rattle.ec_code.specs.declared.activation.CodeActivation.{CodeActivation}
 use Rattle.ec_node_frames.specs.declared.frames.Headings.{Headings}
@@ -25,6 +25,12 @@ pub record TopTold (w : CodeWorld) (p : ℕ) (h : Headings) : Type 0 where
 -- so it is in each world that the system runs
 abbrev pub EachTop : System → ℕ → Headings → Type 0
 EachTop s p h = (d : Declared) (w : CodeWorld) → Runs d s w → TopTold w p h
+
+-- in each such world its own object is at node k
+abbrev pub TopAt : System → ℕ → ℕ → Type 0
+TopAt s p k =
+    (d : Declared) (w : CodeWorld) (below : List CodeActivation) (top : CodeActivation) → Runs d s w → IsTop w p below top →
+    place s.cluster top.own ≡ Some k
 
 -- in each such world a process is not there or not Ready, or has no activation
 abbrev pub HasNoTop : System → ℕ → Type 0

@@ -1,6 +1,6 @@
 -- An activation in a frame of a node: by which tables its words lie there, whether it is there, and at which stop it rests.
 use Rattle.std.specs.Prelude.{◌≡◌, ℕ, ◌<◌, ◌≤◌, List, length, Some}
-use Rattle.ec_activations.specs.Frames.{number_if, stop_of}
+use Rattle.ec_activations.specs.Frames.{frame_thing, number_if, stop_of}
 use Rattle.ec_code.specs.Activations.{operation_at, variables_if}
 use Rattle.ec_code.specs.Fine.{Fine}
 use Rattle.ec_code.specs.Typing.{Declared}
@@ -15,6 +15,7 @@ use Rattle.ec_generate.specs.Tables.{AreTablesOf, all_homes}
 use Rattle.ec_generate.specs.declared.table.OperationTable.{OperationTable}
 use Rattle.ec_generate.specs.declared.table.StopEntry.{StopEntry}
 use Rattle.ec_things.specs.Store.{Owned, Store}
+use Rattle.ec_things.specs.Things.{Shown}
 use Rattle.ec_world.specs.declared.node.Kind.{Kind}
 
 -- The homes of a well typed program within its limits on a kind are those of these tables. The kind has at most 20 registers for them, as
@@ -40,6 +41,12 @@ pub record AreHeadings (p : Parts) (a : CodeActivation) (h : Headings) : Type 0 
   pub stop : h.stop ≡ number_if (stop_of p a)
   pub pending : h.pending ≡ a.pending
   pub own : h.own ≡ a.own
+
+-- so they say of whatever activation is shown there
+abbrev pub TellsHere : Store → ℕ → ℕ → Headings → Type 0
+TellsHere s process depth h =
+    (p : Parts) (homes : Kind → List (List Home)) (a : CodeActivation) →
+    Shown s (Frame process depth) (frame_thing p homes process depth a) → AreHeadings p a h
 
 -- An activation rests at a stop. Behind its entry all named variables are there.
 pub record RestsAt (p : Parts) (a : CodeActivation) (e : StopEntry) : Type 0 where

@@ -1,17 +1,13 @@
 //! Activations in frames of a node: what their headings say, how one goes, and where its words lie.
-ghost use Rattle.std.specs.Prelude.{◌≡◌, suc, ◌≤◌, ◌<◌, ℕ, List, length, slice_get, slice_set, IfOk, None, Some};
-ghost use Rattle.ec_activations.specs.Frames.{frame_thing};
-ghost use Rattle.ec_code.specs.declared.activation.CodeActivation.{CodeActivation};
-ghost use Rattle.ec_code.specs.declared.code.Parts.{Parts};
+ghost use Rattle.std.specs.Prelude.{◌≡◌, suc, ◌≤◌, ◌<◌, ℕ, length, slice_get, slice_set, IfOk, None, Some};
 ghost use Rattle.ec_machine_code.specs.Frames as spec;
-ghost use Rattle.ec_machine_code.specs.declared.homes.Home.{Home as HomeData};
-ghost use Rattle.ec_node_frames.specs.Frames.{AreHeadings, IsFrame};
+ghost use Rattle.ec_node_frames.specs.Frames.{IsFrame, TellsHere};
 ghost use Rattle.ec_node_frames.specs.Loops.{IsFilled};
 ghost use Rattle.ec_world.specs.declared.key.Key.TheVariants.{Frame as OfFrame};
+ghost use Rattle.ec_stores.specs.Changes.{FirstBlock};
 ghost use Rattle.ec_stores.specs.Node.{store_of};
 ghost use Rattle.ec_things.specs.Texts.{GetsTexts, NoTexts};
-ghost use Rattle.ec_things.specs.Things.{Puts, Shown};
-ghost use Rattle.ec_world.specs.declared.node.Kind.{Kind as KindData};
+ghost use Rattle.ec_things.specs.Things.{Puts};
 
 use ec_code::code::Live;
 use ec_generate::table::OperationTable;
@@ -36,10 +32,18 @@ pub(crate) const PENDING: u32 = 4;
 /// What the headings of an activation that is here say.
 pub fn headings_of(node: &NodeStore, process: Pid, depth: u32) -> Headings
     requires { IsFrame (store_of node.now) process depth }
-    ensures { (p : Parts) (homes : KindData → List (List HomeData)) (a : CodeActivation) →
-        Shown (store_of node.now) (OfFrame process depth) (frame_thing p homes process depth a) → AreHeadings p a result }
+    ensures { TellsHere (store_of node.now) process depth result }
 {
     let block = node.block_of_frame(process, depth);
+    headings_in(node, block)
+}
+
+/// What the headings of an activation that is here say, in the block that is its frame.
+pub fn headings_in(node: &NodeStore, block: u32) -> Headings
+    requires { (process : ℕ) × ((depth : ℕ) × FirstBlock (store_of node.now) (OfFrame process depth) block) }
+    ensures { (process depth : ℕ) → FirstBlock (store_of node.now) (OfFrame process depth) block →
+        TellsHere (store_of node.now) process depth result }
+{
     let operation = node.word_in(block, 2);
     let stop = node.word_in(block, 3);
     let pending = node.word_in(block, PENDING);

@@ -59,14 +59,26 @@ impl NodeStore {
         }
     }
 
+    /// The block of an activation, where it is here.
+    pub fn frame_block(&self, process: Pid, depth: u32) -> Option<u32>
+        ensures some { IfSome result (λ block. FirstBlock (store_of self.now) (OfFrame process depth) block) }
+        ensures small { IfSome result (λ block. block < 65536) }
+        ensures none { IfNone result ((store_of self.now).row (OfFrame process depth) ≡ None) }
+    {
+        match self.frames.find(process, depth) {
+            Some(row) => Some(row.block),
+            None => None,
+        }
+    }
+
     /// The block of an activation that is here.
     pub fn block_of_frame(&self, process: Pid, depth: u32) -> u32
         requires { IsSome ((store_of self.now).row (OfFrame process depth)) }
         ensures first { FirstBlock (store_of self.now) (OfFrame process depth) result }
         ensures small { result < 65536 }
     {
-        match self.frames.find(process, depth) {
-            Some(row) => row.block,
+        match self.frame_block(process, depth) {
+            Some(block) => block,
             None => unreachable!(),
         }
     }

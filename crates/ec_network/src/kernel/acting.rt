@@ -3,7 +3,7 @@ ghost use Rattle.std.specs.Prelude.{IfErr, IfOk};
 ghost use Rattle.ec_cluster.specs.Cluster.{CodeWorld};
 ghost use Rattle.ec_cluster.specs.Whereabouts.{FewMoves, MovedOnce};
 ghost use Rattle.ec_code.specs.Typing.{Declared};
-ghost use Rattle.ec_network.specs.Acts.{ActedIn, AsksBetween, AsksBetweenSome, AsksInSome, AsksOfEach, Begins, BeginsSome, RefusedIn};
+ghost use Rattle.ec_network.specs.Acts.{ActedIn, AsksBetween, AsksBetweenSome, AsksInSome, AsksOfEach, Begins, BeginsSome, HadTop, RefusedIn};
 ghost use Rattle.ec_fullness.specs.Fullness.{StaysPut};
 
 use crate::kernel::acts::{ActError, Acted};
@@ -32,6 +32,7 @@ pub fn act(
     requires few { FewMoves system.old.cluster.whereabouts }
     ensures acted { IfOk result (λ a. (d : Declared) (w : CodeWorld) → Begins d system.old w numbers.now →
         ActedIn d system.old system.new w p a) }
+    ensures top { IfOk result (λ a. (d : Declared) (w : CodeWorld) → Begins d system.old w numbers.now → HadTop w p a) }
     ensures refused { IfErr result (λ e. (d : Declared) (w : CodeWorld) → Begins d system.old w numbers.now →
         RefusedIn system.old system.new w p e) }
     ensures moves { IfOk result (λ a. MovedOnce system.old.cluster.whereabouts system.new.cluster.whereabouts) }

@@ -3,15 +3,14 @@ ghost use Rattle.std.specs.Prelude.{◌≡◌, IfNone, IfSome};
 ghost use Rattle.ec_asking.specs.Rows.{depth_if};
 ghost use Rattle.ec_cluster.specs.Cluster.{CodeWorld};
 ghost use Rattle.ec_code.specs.Typing.{Declared};
-ghost use Rattle.ec_network.specs.Running.{EachTop, HasNoTop, WentOn};
+ghost use Rattle.ec_network.specs.Running.{EachTop, HasNoTop, TopAt, WentOn};
 ghost use Rattle.ec_network.specs.Showing.{Rested};
 ghost use Rattle.ec_network.specs.Standing.{Works, WorksInSome};
 
-use ec_cluster::finding::headings_at;
+use ec_cluster::finding::{Found, find};
 use ec_cluster::system::{ProcessRow, System};
 use ec_legs::going::go_on;
 use ec_legs::machines::Machines;
-use ec_node_frames::frames::Headings;
 use ec_world::process::ProcStatus;
 use ec_world::value::Pid;
 
@@ -24,21 +23,22 @@ pub(crate) fn run_on(system: &mut System, machines: &mut Machines, p: Pid) -> Op
     ensures none { IfNone result ((d : Declared) (w : CodeWorld) → Works d system.old w → Rested system.old system.new w p) }
     ensures whereabouts { system.new.cluster.whereabouts ≡ system.old.cluster.whereabouts }
 {
-    let headings = top_of(system, p)?;
-    if headings.pending {
+    let found = top_of(system, p)?;
+    if found.headings.pending {
         return None;
     }
-    Some(go_on(system, machines, p))
+    Some(go_on(system, machines, p, found.node))
 }
 
-/// What the headings of the activation on top of a process that is Ready say; nothing where there is none.
-pub(crate) fn top_of(system: &System, p: Pid) -> Option<Headings>
-    ensures some { IfSome result (λ h. EachTop system.now p h) }
+/// The activation on top of a process that is Ready; nothing where there is none.
+pub(crate) fn top_of(system: &System, p: Pid) -> Option<Found>
+    ensures some { IfSome result (λ found. EachTop system.now p found.headings) }
+    ensures at { IfSome result (λ found. TopAt system.now p found.node) }
     ensures none { IfNone result (HasNoTop system.now p) }
 {
     let row = system.processes.get(p as usize)?;
     let depth = depth_of_top(row)?;
-    headings_at(&system.cluster, p, depth)
+    find(&system.cluster, p, depth)
 }
 
 /// The depth of the activation on top, where a process is Ready and has one.

@@ -5,7 +5,7 @@ ghost use Rattle.ec_cluster.specs.Whereabouts.{FewMoves, MovedOnce};
 ghost use Rattle.ec_code.specs.Typing.{Declared};
 ghost use Rattle.ec_network.specs.Running.{AfterAction};
 ghost use Rattle.ec_network.specs.Standing.{HasNumbers, Stands, StandsInSome, Works, WorksInSome};
-ghost use Rattle.ec_network.specs.Turns.{RefusedIn, TurnedIn};
+ghost use Rattle.ec_network.specs.Turns.{RefusedIn, TurnedAlone, TurnedIn};
 
 use crate::kernel::acting::act;
 use crate::kernel::acts::{ActError, Acted};
@@ -35,18 +35,27 @@ pub(crate) fn turn(
         RefusedIn system.old system.new w p e) }
     ensures moves { IfOk result (λ did. MovedOnce system.old.cluster.whereabouts system.new.cluster.whereabouts) }
 {
-    let Some(_headings) = top_of(system, p) else {
-        return Ok(Did::Idle);
-    };
     match act(system, alloc, numbers, p) {
-        Ok(Acted::Idle) => Ok(Did::Acted {
-            steps: run_if_done(system, machines, p),
-        }),
+        Ok(Acted::Idle) => Ok(turn_alone(system, machines, p)),
         Ok(Acted::Done) => Ok(Did::Acted {
             steps: run_if_done(system, machines, p),
         }),
         Err(ActError::Full(lack)) => Err(NetError::Full(lack)),
         Err(ActError::Memory(e)) => Err(NetError::Memory(e)),
+    }
+}
+
+/// A turn where no action is to be done: the code behind the stop of the activation on top, where there is one.
+fn turn_alone(system: &mut System, machines: &mut Machines, p: Pid) -> Did
+    requires { WorksInSome system.old }
+    ensures turned { (d : Declared) (w : CodeWorld) → Works d system.old w → TurnedAlone d system.old system.new w p result }
+    ensures whereabouts { system.new.cluster.whereabouts ≡ system.old.cluster.whereabouts }
+{
+    match top_of(system, p) {
+        Some(_top) => Did::Acted {
+            steps: run_if_done(system, machines, p),
+        },
+        None => Did::Idle,
     }
 }
 

@@ -15,7 +15,7 @@ unreachable-requires c =
     let runs = c.requires.runs.1.1 in
     let acts = (c.in-Some.ensures.some d w runs).1 in
     let at = c.in_ok-stop.ensures d w acts.0 acts.1.0 acts.1.1 in
-    asks_not_nothing d s w acts.0 acts.1.0 c.in-Some.who acts.1.1 c.in_ok-stop.stop c.in_ok-stop.operands c.in_ok-doing.field-0 at.0 at.1
+    asks_not_nothing d s w acts.0 acts.1.0 c.in-Some.actor.0 acts.1.1 c.in_ok-stop.stop c.in_ok-stop.operands c.in_ok-doing.field-0 at.0 at.1
     (c.in_ok-doing.ensures w (runs_program d s w runs c.requires.readable.bare)) c.in-None.is
 
 pub returns-clause-some : goal.returns-clause-some
@@ -29,7 +29,7 @@ returns-clause-some c = λ d w runs.
         acts.0,
         (
           acts.1.0,
-          asks_for d s w acts.0 acts.1.0 c.in-Some.who acts.1.1 c.in_ok-stop.stop c.in_ok-stop.operands c.in_ok-doing.field-0
+          asks_for d s w acts.0 acts.1.0 c.in-Some.actor.0 acts.1.1 c.in_ok-stop.stop c.in_ok-stop.operands c.in_ok-doing.field-0
               c.in-Some-2.doing at.0 at.1 (c.in_ok-doing.ensures w (runs_program d s w runs c.requires.readable.bare)) c.in-Some-2.is,
         ),
       ),

@@ -7,8 +7,8 @@ use Rattle.ec_cluster.proofs.Changing.{object_changes}
 use Rattle.ec_cluster.specs.Cluster.{place}
 use Rattle.ec_cluster.specs.Images.{homes_on}
 use Rattle.ec_cluster.specs.Steps.{HasPlace}
-use Rattle.ec_cluster.proofs.Finishing.{finished_own, in_frame, its_node, own_has_place, rests_here, rests_there, some_rests}
-use Rattle.ec_cluster.proofs.Finishing.{some_rests_here}
+use Rattle.ec_cluster.proofs.Finishing.{finished_own, in_frame, its_node, own_has_place, rests_here, rests_there, told, told_here}
+use Rattle.ec_cluster.proofs.Finishing.{told_there}
 use Rattle.ec_cluster.proofs.Stacks.{frame_became}
 use Rattle.ec_cluster.proofs.frames.finish.Goals as goal
 use Rattle.ec_cluster.specs.Stops.{tables_for}
@@ -30,11 +30,18 @@ at_mut-node-requires c =
     its_node on.declared c.args.cluster.now on.world c.args.process c.args.depth on.proc on.activation c.requires.rests.0 on.rests
     c.node_of-k.result (ap (place c.args.cluster.now) on.owns ∙ c.node_of-k.ensures)
 
+pub headings_of-headings-requires : goal.headings_of-headings-requires
+headings_of-headings-requires c =
+    let on = c.requires.rests.1 in
+    in_frame on.declared c.args.cluster.now on.world c.args.process c.args.depth on.proc on.activation c.requires.rests.0 on.rests
+    c.node_of-k.result (ap (place c.args.cluster.now) on.owns ∙ c.node_of-k.ensures) c.at_mut-node.result.now c.at_mut-node.ensures.value
+
 pub table_of-table-requires : goal.table_of-table-requires
 table_of-table-requires c =
     let on = c.requires.rests.1 in
-    some_rests on.declared c.args.cluster.now on.world c.args.process c.args.depth on.proc on.activation c.requires.rests.0 on.rests
+    told_there on.declared c.args.cluster.now on.world c.args.process c.args.depth on.proc on.activation c.requires.rests.0 on.rests
     c.node_of-k.result (ap (place c.args.cluster.now) on.owns ∙ c.node_of-k.ensures) c.at_mut-node.result.now c.at_mut-node.ensures.value
+    c.headings_of-headings.result c.headings_of-headings.ensures
 
 pub entry_of-entry-requires : goal.entry_of-entry-requires
 entry_of-entry-requires c =
@@ -43,9 +50,13 @@ entry_of-entry-requires c =
     let at = ap (place cluster) on.owns ∙ c.node_of-k.ensures in
     let there = rests_there on.declared cluster on.world c.args.process c.args.depth on.proc on.activation c.requires.rests.0 on.rests
     c.node_of-k.result at c.at_mut-node.result.now c.at_mut-node.ensures.value in
-    some_rests_here on.declared cluster on.world c.args.process c.args.depth on.proc on.activation c.requires.rests.0 on.rests
-    c.node_of-k.result at c.at_mut-node.result.now c.at_mut-node.ensures.value c.table_of-table.result.now
-    (c.table_of-table.ensures on.declared cluster.parts on.activation c.requires.rests.0 there)
+    let are = told on.declared cluster on.world c.args.process c.args.depth on.proc on.activation c.requires.rests.0 on.rests
+    c.node_of-k.result at c.at_mut-node.result.now c.at_mut-node.ensures.value c.headings_of-headings.result
+    c.headings_of-headings.ensures in
+    told_here on.declared cluster on.world c.args.process c.args.depth on.proc on.activation c.requires.rests.0 on.rests
+    c.node_of-k.result at c.at_mut-node.result.now c.at_mut-node.ensures.value c.headings_of-headings.result
+    c.headings_of-headings.ensures c.table_of-table.result.now
+    (c.table_of-table.ensures c.args.process c.args.depth on.declared cluster.parts on.activation c.requires.rests.0 are there)
 
 pub finish_frame-requires-clause-here : goal.finish_frame-requires-clause-here
 finish_frame-requires-clause-here c =
@@ -61,11 +72,13 @@ finish_frame-requires-clause-text c =
     let at = ap (place cluster) on.owns ∙ c.node_of-k.ensures in
     let there = rests_there on.declared cluster on.world c.args.process c.args.depth on.proc on.activation e on.rests
     c.node_of-k.result at c.at_mut-node.result.now c.at_mut-node.ensures.value in
+    let are = told on.declared cluster on.world c.args.process c.args.depth on.proc on.activation e on.rests c.node_of-k.result at
+    c.at_mut-node.result.now c.at_mut-node.ensures.value c.headings_of-headings.result c.headings_of-headings.ensures in
     let here = rests_here on.declared cluster on.world c.args.process c.args.depth on.proc on.activation e on.rests
     c.node_of-k.result at c.at_mut-node.result.now c.at_mut-node.ensures.value c.table_of-table.result.now
-    (c.table_of-table.ensures on.declared cluster.parts on.activation e there) in
-    let same = c.entry_of-entry.ensures on.declared cluster.parts (homes_on cluster.images)
-    (tables_for cluster.images (store_of c.at_mut-node.result.now)) on.activation e here in
+    (c.table_of-table.ensures c.args.process c.args.depth on.declared cluster.parts on.activation e are there) in
+    let same = c.entry_of-entry.ensures (store_of c.at_mut-node.result.now) c.args.process c.args.depth on.declared cluster.parts
+    (homes_on cluster.images) (tables_for cluster.images (store_of c.at_mut-node.result.now)) on.activation e are here in
     subst (λ (x : StopEntry). HasRoomIn (store_of c.at_mut-node.result.now) x.result (option_copied c.args.given)) (sym same)
     (c.requires.rests.2 c.node_of-k.result (store_of c.at_mut-node.result.now) c.node_of-k.ensures
     (ap (option_map store_of) c.at_mut-node.ensures.value))
@@ -77,10 +90,13 @@ returns-clause-changes c = on_ok c.finish_frame.result
     let at = ap (place cluster) own ∙ c.node_of-k.ensures in
     let there = rests_there d cluster w c.args.process c.args.depth proc a e r c.node_of-k.result at c.at_mut-node.result.now
     c.at_mut-node.ensures.value in
+    let are = told d cluster w c.args.process c.args.depth proc a e r c.node_of-k.result at c.at_mut-node.result.now
+    c.at_mut-node.ensures.value c.headings_of-headings.result c.headings_of-headings.ensures in
     let here = rests_here d cluster w c.args.process c.args.depth proc a e r c.node_of-k.result at c.at_mut-node.result.now
-    c.at_mut-node.ensures.value c.table_of-table.result.now (c.table_of-table.ensures d cluster.parts a e there) in
-    let same = c.entry_of-entry.ensures d cluster.parts (homes_on cluster.images)
-    (tables_for cluster.images (store_of c.at_mut-node.result.now)) a e here in
+    c.at_mut-node.ensures.value c.table_of-table.result.now
+    (c.table_of-table.ensures c.args.process c.args.depth d cluster.parts a e are there) in
+    let same = c.entry_of-entry.ensures (store_of c.at_mut-node.result.now) c.args.process c.args.depth d cluster.parts
+    (homes_on cluster.images) (tables_for cluster.images (store_of c.at_mut-node.result.now)) a e are here in
     object_changes cluster c.args.own c.node_of-k.result c.at_mut-node.result.now c.finish_frame.new.node
     (IsTaken e.result (option_copied c.args.given)) c.node_of-k.ensures c.at_mut-node.ensures.value
     (subst (λ (x : StopEntry). GetsTexts (IsTaken x.result (option_copied c.args.given)) (store_of c.at_mut-node.result.now)
@@ -94,10 +110,13 @@ returns-clause-shows c = on_ok c.finish_frame.result
     let at = ap (place cluster) own ∙ c.node_of-k.ensures in
     let there = rests_there d cluster w c.args.process c.args.depth proc a e r c.node_of-k.result at c.at_mut-node.result.now
     c.at_mut-node.ensures.value in
+    let are = told d cluster w c.args.process c.args.depth proc a e r c.node_of-k.result at c.at_mut-node.result.now
+    c.at_mut-node.ensures.value c.headings_of-headings.result c.headings_of-headings.ensures in
     let here = rests_here d cluster w c.args.process c.args.depth proc a e r c.node_of-k.result at c.at_mut-node.result.now
-    c.at_mut-node.ensures.value c.table_of-table.result.now (c.table_of-table.ensures d cluster.parts a e there) in
-    let same = c.entry_of-entry.ensures d cluster.parts (homes_on cluster.images)
-    (tables_for cluster.images (store_of c.at_mut-node.result.now)) a e here in
+    c.at_mut-node.ensures.value c.table_of-table.result.now
+    (c.table_of-table.ensures c.args.process c.args.depth d cluster.parts a e are there) in
+    let same = c.entry_of-entry.ensures (store_of c.at_mut-node.result.now) c.args.process c.args.depth d cluster.parts
+    (homes_on cluster.images) (tables_for cluster.images (store_of c.at_mut-node.result.now)) a e are here in
     let entry_here = subst (λ (x : StopEntry). RestsHere (store_of c.at_mut-node.result.now) c.table_of-table.result.now x c.args.process
     c.args.depth d cluster.parts (homes_on cluster.images) (tables_for cluster.images (store_of c.at_mut-node.result.now)) a) (sym same)
     here in

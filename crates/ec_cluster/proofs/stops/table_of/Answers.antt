@@ -10,17 +10,12 @@ pub at-requires : goal.at-requires
 at-requires c =
     let s = store_of c.args.node.now in
     let images = c.args.images.now in
-    let r = c.requires.rests in
-    let h = c.headings_of-headings.ensures c.requires.program (homes_on images) c.requires.activation r.shown in
-    let t = table_there c.requires.declared c.requires.program s.kind (homes_on images) (tables_for images s) r.has c.requires.activation
-    c.requires.entry r.rests in
-    table_within images s c.kind.result c.of.result.now c.kind.ensures.kind c.of.ensures c.requires.activation.operation
-    c.headings_of-headings.result.operation t.0 h.operation t.1
+    let r = c.requires in
+    let t = table_there r.declared r.program s.kind (homes_on images) (tables_for images s) r.rests.has r.activation r.entry r.rests.rests in
+    table_within images s c.kind.result c.of.result.now c.kind.ensures.kind c.of.ensures r.activation.operation
+    c.args.headings.operation t.0 r.are.operation t.1
 
 pub returns : goal.returns
-returns c = λ d p a e there.
-    let s = store_of c.args.node.now in
-    let images = c.args.images.now in
-    let h = c.headings_of-headings.ensures p (homes_on images) a there.shown in
-    table_got images s c.kind.result c.of.result.now c.kind.ensures.kind c.of.ensures a.operation c.headings_of-headings.result.operation
-    c.at.result.now h.operation c.at.ensures
+returns c = λ process depth d p a e are there.
+    table_got c.args.images.now (store_of c.args.node.now) c.kind.result c.of.result.now c.kind.ensures.kind c.of.ensures a.operation
+    c.args.headings.operation c.at.result.now are.operation c.at.ensures

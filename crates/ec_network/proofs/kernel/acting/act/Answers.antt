@@ -1,10 +1,15 @@
 -- What a process asks of nodes is performed.
 use Rattle.std.proofs.Common.{subst}
+use Rattle.std.specs.Prelude.{IsSome}
 use Rattle.ec_asking.proofs.Programs.{bare_shown}
+use Rattle.ec_base.specs.Stack.{top_of}
+use Rattle.ec_cluster.proofs.Answered.{if_ok}
 use Rattle.ec_cluster.proofs.Going.{none_moved}
+use Rattle.ec_network.proofs.Asking.{asks_top, had_top}
 use Rattle.ec_network.proofs.KernelTold.{if_err, some_told}
 use Rattle.ec_network.proofs.kernel.acting.act.Goals as goal
 use Rattle.ec_network.specs.Acts.{RefusedIn}
+use Rattle.ec_world.specs.World.{stack_at}
 
 pub asked-requires-clause-readable : goal.asked-requires-clause-readable
 asked-requires-clause-readable c =
@@ -22,6 +27,15 @@ returns-in-Ok-Some-clause-refused c = if_err c.perform.result
     subst (λ q. RefusedIn c.args.system.now c.perform.new.system w q e) x.0
     (refused d w (record { begins = begins; below = x.1.0; top = x.1.1.0; asks = x.1.1.1 })))
     c.perform.ensures.refused
+
+pub returns-in-Ok-Some-clause-top : goal.returns-in-Ok-Some-clause-top
+returns-in-Ok-Some-clause-top c = if_ok c.perform.result
+    (λ a acted d w begins.
+    let x = some_told _ c.in-Ok-Some.field-0 c.in-Ok-Some.asked c.in-Ok-Some.field-0-is c.in-Ok-Some.ensures.some d w begins.goes.runs in
+    had_top w c.args.p a
+    (subst (λ q. IsSome (top_of (stack_at w q))) x.0
+    (asks_top w x.1.0 x.1.1.0 c.in-Ok-Some.asked.who c.in-Ok-Some.asked.doing x.1.1.1)))
+    c.perform.ensures.acted
 
 pub returns-in-Ok-None-clause-moves : goal.returns-in-Ok-None-clause-moves
 returns-in-Ok-None-clause-moves c = none_moved c.args.system.now.cluster.whereabouts

@@ -1,7 +1,7 @@
 -- The row tells whether there is an activation on top, and its headings what is asked of it.
 use Rattle.std.proofs.Common.{sym, ◌∙◌}
 use Rattle.ec_network.proofs.NodesRunningTold.{if_none, if_some, is_none}
-use Rattle.ec_network.proofs.Tops.{each_top, no_frame, no_top}
+use Rattle.ec_network.proofs.Tops.{each_top, no_frame, no_top, top_at}
 use Rattle.ec_network.proofs.nodes_running.running.top_of.Goals as goal
 use Rattle.ec_network.specs.Running.{HasNoTop}
 
@@ -11,13 +11,19 @@ returns-in_err-depth-clause-none c =
     (no_top c.args.system.now c.args.p c.in_ok-row.row.now c.in_ok-row.ensures.some (sym c.depth_of_top.ensures ∙ c.in_err-depth.was))
 
 pub returns-clause-some : goal.returns-clause-some
-returns-clause-some c = if_some c.headings_at.result
-    (λ h tells. each_top c.args.system.now c.args.p c.in_ok-row.row.now c.in_ok-depth.depth c.in_ok-row.ensures.some
-    (sym c.depth_of_top.ensures ∙ c.in_ok-depth.was) h tells)
-    c.headings_at.ensures.some
+returns-clause-some c = if_some c.find.result
+    (λ found tells. each_top c.args.system.now c.args.p c.in_ok-row.row.now c.in_ok-depth.depth c.in_ok-row.ensures.some
+    (sym c.depth_of_top.ensures ∙ c.in_ok-depth.was) found.headings tells)
+    c.find.ensures.tells
+
+pub returns-clause-at : goal.returns-clause-at
+returns-clause-at c = if_some c.find.result
+    (λ found at. top_at c.args.system.now c.args.p c.in_ok-row.row.now c.in_ok-depth.depth c.in_ok-row.ensures.some
+    (sym c.depth_of_top.ensures ∙ c.in_ok-depth.was) found.node at)
+    c.find.ensures.at
 
 pub returns-clause-none : goal.returns-clause-none
-returns-clause-none c = if_none c.headings_at.result
+returns-clause-none c = if_none c.find.result
     (λ none. no_frame c.args.system.now c.args.p c.in_ok-row.row.now c.in_ok-depth.depth c.in_ok-row.ensures.some
     (sym c.depth_of_top.ensures ∙ c.in_ok-depth.was) none)
-    c.headings_at.ensures.none
+    c.find.ensures.none

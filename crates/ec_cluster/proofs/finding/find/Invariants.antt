@@ -1,4 +1,4 @@
-use Rattle.ec_cluster.proofs.finding.headings_at.Given as goal
+use Rattle.ec_cluster.proofs.finding.find.Given as goal
 use Rattle.ec_cluster.specs.Finding.{NoneBefore}
 
 abbrev pub invariant-loop-k : goal.invariant-loop-k
