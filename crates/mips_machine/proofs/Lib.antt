@@ -4,4 +4,5 @@ pub mod Following
 pub mod Divisions
 pub mod Effects
 pub mod Products
+pub mod Quiet
 pub mod Sums

@@ -179,6 +179,10 @@ led i f on = record {
   since = behind i f.since;
 }
 
+-- nothing is pending that an instruction has to keep: no jump, no loaded register, and neither HI nor LO was read just now
+abbrev pub is_quiet : Flow → Bool
+is_quiet f = not f.delayed && ((f.loaded == 0) && not (is_recent f.since))
+
 -- nothing is pending at a place
 abbrev pub resting : ℕ → Flow
 resting pc = record { pc = pc; next = plus pc 4; delayed = false; loaded = 0; since = LongAgo }

@@ -30,6 +30,9 @@ impl MipsMachine {
             (state_of self.old (M.byte_at memory.old)) result (state_of self.new (M.byte_at memory.new)) }
         ensures rest { M.alike memory.old memory.new }
     {
+        if self.flow.is_quiet() {
+            return self.execute(memory, instr);
+        }
         if is_jump(instr) && self.flow.delayed {
             return self.trap(Cause::Slot);
         }

@@ -4,7 +4,7 @@ ghost use Rattle.std.specs.Prelude.{◌≡◌, ℕ};
 ghost use Rattle.mips_isa.specs.declared.instr.Instr.{Instr};
 ghost use Rattle.mips_machine.specs.Hazards.{reads, writes, touches, is_jump, sets_hilo, reads_hilo, loads};
 ghost use Rattle.mips_machine.specs.Laws.{SlotIsFirst, LoadPasses};
-ghost use Rattle.mips_machine.specs.Step.{behind, is_recent, later, led, resting};
+ghost use Rattle.mips_machine.specs.Step.{behind, is_quiet, is_recent, later, led, resting};
 
 use mips_isa::instr::Instr;
 
@@ -79,6 +79,13 @@ impl Flow {
             loaded: 0,
             since: Since::LongAgo,
         }
+    }
+
+    /// Nothing is pending that an instruction has to keep: no jump, no loaded register, and neither HI nor LO was read just now.
+    pub(crate) fn is_quiet(self) -> bool
+        ensures { result ≡ is_quiet self }
+    {
+        !self.delayed && (self.loaded == 0 && !self.since.is_recent())
     }
 
     /// Behind an instruction. The one behind the next is at `on`: in a jump that is its target, as the one in the slot comes
