@@ -5,21 +5,22 @@ use Rattle.ec_ast.specs.declared.Link.{Link, roll-Link, ind-Link}
 use Rattle.ec_ast.specs.declared.Member.{Member, roll-Member, ind-Member}
 use Rattle.ec_ast.specs.declared.Statement.{Statement, roll-Statement, ind-Statement}
 use Rattle.ec_ast.specs.declared.Addend.{Addend, roll-Addend, ind-Addend}
+use Rattle.ec_ast.specs.declared.Argument.{Argument, roll-Argument, ind-Argument}
 use Rattle.ec_ast.specs.declared.Arm.{Arm, roll-Arm, ind-Arm}
 use Rattle.ec_ast.specs.declared.Block.{Block, roll-Block, ind-Block}
 use Rattle.ec_ast.specs.declared.Body.{Body, roll-Body, ind-Body}
 use Rattle.ec_ast.specs.declared.Factor.{Factor, roll-Factor, ind-Factor}
 use Rattle.ec_ast.specs.declared.ObjectConstructor.{ObjectConstructor, roll-ObjectConstructor, ind-ObjectConstructor}
 use Rattle.ec_ast.specs.declared.Operation.{Operation, roll-Operation, ind-Operation}
-use Rattle.ec_ast.specs.declared.ProcessSection.{ProcessSection, roll-ProcessSection, ind-ProcessSection}
+use Rattle.ec_ast.specs.declared.Section.{Section, roll-Section, ind-Section}
 use Rattle.ec_ast.specs.Kinds.{Kinds, tree}
-use Rattle.ec_ast.specs.Kinds.{ExpressionOf, LinkOf, MemberOf, StatementOf, AddendOf, ArmOf, BlockOf, BodyOf, FactorOf}
-use Rattle.ec_ast.specs.Kinds.{ObjectOf, OperationOf, ProcessOf}
-use Rattle.ec_ast.specs.Kinds.{ExpressionLayer, LinkLayer, MemberLayer, StatementLayer, AddendLayer, ArmLayer, BlockLayer}
-use Rattle.ec_ast.specs.Kinds.{BodyLayer, FactorLayer, ObjectLayer, OperationLayer, ProcessLayer}
+use Rattle.ec_ast.specs.Kinds.{ExpressionOf, LinkOf, MemberOf, StatementOf, AddendOf, ArgumentOf, ArmOf, BlockOf, BodyOf, FactorOf}
+use Rattle.ec_ast.specs.Kinds.{ObjectOf, OperationOf, SectionOf}
+use Rattle.ec_ast.specs.Kinds.{ExpressionLayer, LinkLayer, MemberLayer, StatementLayer, AddendLayer, ArgumentLayer, ArmLayer, BlockLayer}
+use Rattle.ec_ast.specs.Kinds.{BodyLayer, FactorLayer, ObjectLayer, OperationLayer, SectionLayer}
 use Rattle.ec_ast.specs.Layers.{Maps, expression_mapped, link_mapped, member_mapped, statement_mapped, addend_mapped}
 use Rattle.ec_ast.specs.Layers.{arm_mapped, block_mapped, body_mapped, factor_mapped, object_mapped, operation_mapped}
-use Rattle.ec_ast.specs.Layers.{process_mapped}
+use Rattle.ec_ast.specs.Layers.{section_mapped}
 
 -- a claim of the parts of each kind
 pub record Claims : Type 1 where
@@ -28,13 +29,14 @@ pub record Claims : Type 1 where
   pub member : Member → Type 0
   pub statement : Statement → Type 0
   pub addend : Addend → Type 0
+  pub argument : Argument → Type 0
   pub arm : Arm → Type 0
   pub block : Block → Type 0
   pub body : Body → Type 0
   pub factor : Factor → Type 0
   pub object : ObjectConstructor → Type 0
   pub operation : Operation → Type 0
-  pub process : ProcessSection → Type 0
+  pub section : Section → Type 0
 
 -- ---- parts, each with the proof of its claim
 
@@ -52,13 +54,14 @@ module _ (c : Claims) where
     member = Held c.member;
     statement = Held c.statement;
     addend = Held c.addend;
+    argument = Held c.argument;
     arm = Held c.arm;
     block = Held c.block;
     body = Held c.body;
     factor = Held c.factor;
     object = Held c.object;
     operation = Held c.operation;
-    process = Held c.process;
+    section = Held c.section;
   }
 
   abbrev pub bare : Maps held tree
@@ -68,13 +71,14 @@ module _ (c : Claims) where
     member = λ x. x.0;
     statement = λ x. x.0;
     addend = λ x. x.0;
+    argument = λ x. x.0;
     arm = λ x. x.0;
     block = λ x. x.0;
     body = λ x. x.0;
     factor = λ x. x.0;
     object = λ x. x.0;
     operation = λ x. x.0;
-    process = λ x. x.0;
+    section = λ x. x.0;
   }
 
   -- ---- one layer with such parts in it
@@ -106,8 +110,14 @@ module _ (c : Claims) where
   abbrev pub AddendWith : Type 0
   AddendWith = AddendOf held
 
+  abbrev pub ArgumentWith : Type 0
+  ArgumentWith = ArgumentOf held
+
   abbrev pub bare_addend : AddendWith → AddendLayer
   bare_addend = addend_mapped bare
+
+  abbrev pub bare_argument : ArgumentWith → ArgumentLayer
+  bare_argument = argument_mapped bare
 
   abbrev pub ArmWith : Type 0
   ArmWith = ArmOf held
@@ -145,11 +155,11 @@ module _ (c : Claims) where
   abbrev pub bare_operation : OperationWith → OperationLayer
   bare_operation = operation_mapped bare
 
-  abbrev pub ProcessWith : Type 0
-  ProcessWith = ProcessOf held
+  abbrev pub SectionWith : Type 0
+  SectionWith = SectionOf held
 
-  abbrev pub bare_process : ProcessWith → ProcessLayer
-  bare_process = process_mapped bare
+  abbrev pub bare_section : SectionWith → SectionLayer
+  bare_section = section_mapped bare
 
 -- It holds of a part, where it holds of the parts within it.
 pub record Passes (c : Claims) : Type 0 where
@@ -158,13 +168,14 @@ pub record Passes (c : Claims) : Type 0 where
   pub member : (y : MemberWith c) → c.member (roll-Member (bare_member c y))
   pub statement : (y : StatementWith c) → c.statement (roll-Statement (bare_statement c y))
   pub addend : (y : AddendWith c) → c.addend (roll-Addend (bare_addend c y))
+  pub argument : (y : ArgumentWith c) → c.argument (roll-Argument (bare_argument c y))
   pub arm : (y : ArmWith c) → c.arm (roll-Arm (bare_arm c y))
   pub block : (y : BlockWith c) → c.block (roll-Block (bare_block c y))
   pub body : (y : BodyWith c) → c.body (roll-Body (bare_body c y))
   pub factor : (y : FactorWith c) → c.factor (roll-Factor (bare_factor c y))
   pub object : (y : ObjectWith c) → c.object (roll-ObjectConstructor (bare_object c y))
   pub operation : (y : OperationWith c) → c.operation (roll-Operation (bare_operation c y))
-  pub process : (y : ProcessWith c) → c.process (roll-ProcessSection (bare_process c y))
+  pub section : (y : SectionWith c) → c.section (roll-Section (bare_section c y))
 
 -- ---- the induction
 
@@ -184,6 +195,9 @@ module _ {c : Claims} (p : Passes c) where
   addend_from : (x : AddendLayer) (y : AddendWith c) → bare_addend c y ≡ x → c.addend (roll-Addend x)
   addend_from x y is = subst (λ z. c.addend (roll-Addend z)) is (p.addend y)
 
+  argument_from : (x : ArgumentLayer) (y : ArgumentWith c) → bare_argument c y ≡ x → c.argument (roll-Argument x)
+  argument_from x y is = subst (λ z. c.argument (roll-Argument z)) is (p.argument y)
+
   arm_from : (x : ArmLayer) (y : ArmWith c) → bare_arm c y ≡ x → c.arm (roll-Arm x)
   arm_from x y is = subst (λ z. c.arm (roll-Arm z)) is (p.arm y)
 
@@ -202,89 +216,96 @@ module _ {c : Claims} (p : Passes c) where
   operation_from : (x : OperationLayer) (y : OperationWith c) → bare_operation c y ≡ x → c.operation (roll-Operation x)
   operation_from x y is = subst (λ z. c.operation (roll-Operation z)) is (p.operation y)
 
-  process_from : (x : ProcessLayer) (y : ProcessWith c) → bare_process c y ≡ x → c.process (roll-ProcessSection x)
-  process_from x y is = subst (λ z. c.process (roll-ProcessSection z)) is (p.process y)
+  section_from : (x : SectionLayer) (y : SectionWith c) → bare_section c y ≡ x → c.section (roll-Section x)
+  section_from x y is = subst (λ z. c.section (roll-Section z)) is (p.section y)
 
   pub expression_holds : (x : Expression) → c.expression x
   expression_holds =
       ind-Expression
-      c.expression c.link c.member c.statement c.addend c.arm c.block c.body c.factor c.object c.operation c.process
-      expression_from link_from member_from statement_from addend_from arm_from block_from body_from factor_from object_from
-      operation_from process_from
+      c.expression c.link c.member c.statement c.addend c.argument c.arm c.block c.body c.factor c.object c.operation c.section
+      expression_from link_from member_from statement_from addend_from argument_from arm_from block_from body_from factor_from object_from
+      operation_from section_from
 
   pub link_holds : (x : Link) → c.link x
   link_holds =
       ind-Link
-      c.expression c.link c.member c.statement c.addend c.arm c.block c.body c.factor c.object c.operation c.process
-      expression_from link_from member_from statement_from addend_from arm_from block_from body_from factor_from object_from
-      operation_from process_from
+      c.expression c.link c.member c.statement c.addend c.argument c.arm c.block c.body c.factor c.object c.operation c.section
+      expression_from link_from member_from statement_from addend_from argument_from arm_from block_from body_from factor_from object_from
+      operation_from section_from
 
   pub member_holds : (x : Member) → c.member x
   member_holds =
       ind-Member
-      c.expression c.link c.member c.statement c.addend c.arm c.block c.body c.factor c.object c.operation c.process
-      expression_from link_from member_from statement_from addend_from arm_from block_from body_from factor_from object_from
-      operation_from process_from
+      c.expression c.link c.member c.statement c.addend c.argument c.arm c.block c.body c.factor c.object c.operation c.section
+      expression_from link_from member_from statement_from addend_from argument_from arm_from block_from body_from factor_from object_from
+      operation_from section_from
 
   pub statement_holds : (x : Statement) → c.statement x
   statement_holds =
       ind-Statement
-      c.expression c.link c.member c.statement c.addend c.arm c.block c.body c.factor c.object c.operation c.process
-      expression_from link_from member_from statement_from addend_from arm_from block_from body_from factor_from object_from
-      operation_from process_from
+      c.expression c.link c.member c.statement c.addend c.argument c.arm c.block c.body c.factor c.object c.operation c.section
+      expression_from link_from member_from statement_from addend_from argument_from arm_from block_from body_from factor_from object_from
+      operation_from section_from
 
   pub addend_holds : (x : Addend) → c.addend x
   addend_holds =
       ind-Addend
-      c.expression c.link c.member c.statement c.addend c.arm c.block c.body c.factor c.object c.operation c.process
-      expression_from link_from member_from statement_from addend_from arm_from block_from body_from factor_from object_from
-      operation_from process_from
+      c.expression c.link c.member c.statement c.addend c.argument c.arm c.block c.body c.factor c.object c.operation c.section
+      expression_from link_from member_from statement_from addend_from argument_from arm_from block_from body_from factor_from object_from
+      operation_from section_from
+
+  pub argument_holds : (x : Argument) → c.argument x
+  argument_holds =
+      ind-Argument
+      c.expression c.link c.member c.statement c.addend c.argument c.arm c.block c.body c.factor c.object c.operation c.section
+      expression_from link_from member_from statement_from addend_from argument_from arm_from block_from body_from factor_from object_from
+      operation_from section_from
 
   pub arm_holds : (x : Arm) → c.arm x
   arm_holds =
       ind-Arm
-      c.expression c.link c.member c.statement c.addend c.arm c.block c.body c.factor c.object c.operation c.process
-      expression_from link_from member_from statement_from addend_from arm_from block_from body_from factor_from object_from
-      operation_from process_from
+      c.expression c.link c.member c.statement c.addend c.argument c.arm c.block c.body c.factor c.object c.operation c.section
+      expression_from link_from member_from statement_from addend_from argument_from arm_from block_from body_from factor_from object_from
+      operation_from section_from
 
   pub block_holds : (x : Block) → c.block x
   block_holds =
       ind-Block
-      c.expression c.link c.member c.statement c.addend c.arm c.block c.body c.factor c.object c.operation c.process
-      expression_from link_from member_from statement_from addend_from arm_from block_from body_from factor_from object_from
-      operation_from process_from
+      c.expression c.link c.member c.statement c.addend c.argument c.arm c.block c.body c.factor c.object c.operation c.section
+      expression_from link_from member_from statement_from addend_from argument_from arm_from block_from body_from factor_from object_from
+      operation_from section_from
 
   pub body_holds : (x : Body) → c.body x
   body_holds =
       ind-Body
-      c.expression c.link c.member c.statement c.addend c.arm c.block c.body c.factor c.object c.operation c.process
-      expression_from link_from member_from statement_from addend_from arm_from block_from body_from factor_from object_from
-      operation_from process_from
+      c.expression c.link c.member c.statement c.addend c.argument c.arm c.block c.body c.factor c.object c.operation c.section
+      expression_from link_from member_from statement_from addend_from argument_from arm_from block_from body_from factor_from object_from
+      operation_from section_from
 
   pub factor_holds : (x : Factor) → c.factor x
   factor_holds =
       ind-Factor
-      c.expression c.link c.member c.statement c.addend c.arm c.block c.body c.factor c.object c.operation c.process
-      expression_from link_from member_from statement_from addend_from arm_from block_from body_from factor_from object_from
-      operation_from process_from
+      c.expression c.link c.member c.statement c.addend c.argument c.arm c.block c.body c.factor c.object c.operation c.section
+      expression_from link_from member_from statement_from addend_from argument_from arm_from block_from body_from factor_from object_from
+      operation_from section_from
 
   pub object_holds : (x : ObjectConstructor) → c.object x
   object_holds =
       ind-ObjectConstructor
-      c.expression c.link c.member c.statement c.addend c.arm c.block c.body c.factor c.object c.operation c.process
-      expression_from link_from member_from statement_from addend_from arm_from block_from body_from factor_from object_from
-      operation_from process_from
+      c.expression c.link c.member c.statement c.addend c.argument c.arm c.block c.body c.factor c.object c.operation c.section
+      expression_from link_from member_from statement_from addend_from argument_from arm_from block_from body_from factor_from object_from
+      operation_from section_from
 
   pub operation_holds : (x : Operation) → c.operation x
   operation_holds =
       ind-Operation
-      c.expression c.link c.member c.statement c.addend c.arm c.block c.body c.factor c.object c.operation c.process
-      expression_from link_from member_from statement_from addend_from arm_from block_from body_from factor_from object_from
-      operation_from process_from
+      c.expression c.link c.member c.statement c.addend c.argument c.arm c.block c.body c.factor c.object c.operation c.section
+      expression_from link_from member_from statement_from addend_from argument_from arm_from block_from body_from factor_from object_from
+      operation_from section_from
 
-  pub process_holds : (x : ProcessSection) → c.process x
-  process_holds =
-      ind-ProcessSection
-      c.expression c.link c.member c.statement c.addend c.arm c.block c.body c.factor c.object c.operation c.process
-      expression_from link_from member_from statement_from addend_from arm_from block_from body_from factor_from object_from
-      operation_from process_from
+  pub section_holds : (x : Section) → c.section x
+  section_holds =
+      ind-Section
+      c.expression c.link c.member c.statement c.addend c.argument c.arm c.block c.body c.factor c.object c.operation c.section
+      expression_from link_from member_from statement_from addend_from argument_from arm_from block_from body_from factor_from object_from
+      operation_from section_from

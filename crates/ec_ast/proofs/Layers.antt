@@ -56,8 +56,9 @@ module _ {k : Kinds} (m : Maps tree k) where
   pub node_at_layer : (x : Expression) (at word : Span) → layer_of m (e.NodeAt x at word) ≡ Expression-F.NodeAt (m.expression x) at word
   node_at_layer x at word = layer_of_expression (e.NodeAt x at word) (Expression-F.NodeAt x at word) (e.rolls-NodeAt x at word)
 
-  pub node_count_layer : (at : Span) → layer_of m (e.NodeCount at) ≡ Expression-F.NodeCount at
-  node_count_layer at = layer_of_expression (e.NodeCount at) (Expression-F.NodeCount at) (e.rolls-NodeCount at)
+  pub node_count_layer : (at word : Span) → layer_of m (e.NodeCount at word) ≡ Expression-F.NodeCount at word
+  node_count_layer at word =
+      layer_of_expression (e.NodeCount at word) (Expression-F.NodeCount at word) (e.rolls-NodeCount at word)
 
   pub new_vector_layer : (of : TypeName) (x : Expression) (at word : Span) →
       layer_of m (e.NewVector of x at word) ≡ Expression-F.NewVector of (m.expression x) at word

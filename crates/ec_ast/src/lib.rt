@@ -102,8 +102,8 @@ pub enum Expression {
     Constructor(Boxed<ObjectConstructor>),
     /// `node.at[EXPRESSION]`, at its first word; the last place is that of `at`.
     NodeAt(Boxed<Expression>, Span, Span),
-    /// `node.count`
-    NodeCount(Span),
+    /// `node.count`, at its first word; the last place is that of `count`.
+    NodeCount(Span, Span),
     /// `vector.of[TYPE].create[EXPRESSION]`, at its first word; the last place is that of `create`.
     NewVector(TypeName, Boxed<Expression>, Span, Span),
     /// A primary and its links, at least one.
@@ -128,10 +128,34 @@ pub enum Expression {
 #[cycle(tree)]
 #[derive(Drop)]
 pub enum Link {
-    /// `.NAME` without arguments, or `.NAME[EXPRESSIONS]`.
-    Call(Name, Items<Expression>),
+    /// `.NAME` without arguments, or `.NAME[ARGUMENTS]`.
+    Call(Name, Items<Argument>),
     /// `[EXPRESSION]`, at its `[`.
     Index(Expression, Span),
+}
+
+/// How an argument goes along with a call.
+#[derive(Clone, Copy, PartialEq, Eq, Debug)]
+pub enum How {
+    /// It stays where the call is.
+    Move,
+    /// It comes back with the call's return.
+    Visit,
+}
+
+/// The word before an argument that goes along, and its place.
+#[derive(Clone, Copy, PartialEq, Eq, Debug)]
+pub struct Carried {
+    pub how: How,
+    pub at: Span,
+}
+
+/// `[move | visit] EXPRESSION`, of a call.
+#[cycle(tree)]
+#[derive(Drop)]
+pub struct Argument {
+    pub carried: Option<Carried>,
+    pub value: Expression,
 }
 
 /// An operator of a product, its place, and what it takes to its right.
@@ -152,32 +176,37 @@ pub struct Addend {
     pub value: Expression,
 }
 
-/// `[monitor] object NAME BODY end NAME`, at its first word.
+/// `[immutable] [monitor] object NAME BODY end NAME`, at its first word.
 #[cycle(tree)]
 #[derive(Drop)]
 pub struct ObjectConstructor {
     pub at: Span,
+    /// The place of the word `object`.
+    pub object_at: Span,
+    pub is_immutable: bool,
     pub is_monitored: bool,
     pub name: Name,
     pub body: Body,
     pub end_name: Name,
 }
 
-/// What an object constructor or a class holds.
+/// What an object constructor or a class holds, and the place of the `end` that closes it.
 #[cycle(tree)]
 #[derive(Drop)]
 pub struct Body {
     pub members: Items<Member>,
-    pub initially: Option<Block>,
-    pub process: Option<ProcessSection>,
+    pub initially: Option<Section>,
+    pub process: Option<Section>,
+    pub end_at: Span,
 }
 
-/// `process BLOCK end process`, at its first word.
+/// `WORD BLOCK end WORD` for `initially`, `process` or `failure`: at its first word, and the place of its closing `end`.
 #[cycle(tree)]
 #[derive(Drop)]
-pub struct ProcessSection {
+pub struct Section {
     pub block: Block,
     pub at: Span,
+    pub end_at: Span,
 }
 
 /// A member of a body.
@@ -193,7 +222,8 @@ pub enum Member {
     Operation(Operation),
 }
 
-/// `[export] operation NAME PARAMETERS [-> [RESULT]] BLOCK end NAME`, also with `function`.
+/// `[export] operation NAME PARAMETERS [-> [RESULT]] BLOCK [FAILURE] end NAME`, also with `function`; at the end the place of
+/// its closing `end`.
 #[cycle(tree)]
 #[derive(Drop)]
 pub struct Operation {
@@ -202,7 +232,10 @@ pub struct Operation {
     pub parameters: Items<Parameter>,
     pub result: Option<Parameter>,
     pub block: Block,
+    /// `failure BLOCK end failure`
+    pub failure: Option<Section>,
     pub end_name: Name,
+    pub end_at: Span,
 }
 
 /// Declarations and statements, in their order.
@@ -252,9 +285,10 @@ pub struct Arm {
     pub block: Block,
 }
 
-/// `[monitor] class NAME PARAMETERS BODY end NAME`
+/// `[immutable] [monitor] class NAME PARAMETERS BODY end NAME`
 #[derive(Drop)]
 pub struct Class {
+    pub is_immutable: bool,
     pub is_monitored: bool,
     pub name: Name,
     pub parameters: Items<Parameter>,
