@@ -13,16 +13,18 @@ use Rattle.ec_parser.proofs.Lists.{grown_parameter, kept_parameter, grown_member
 
 pub complete_ClassRest : {vs ws : Values} {ts us : List Token} → Means part.ClassRest vs ts us ws → Taken part.ClassRest vs ts us ws
 unfolding rest top_or
-complete_ClassRest (a_ClassRest (IsClassRest.class e0 h1 h2 h3 e5 h6)) =
+complete_ClassRest (a_ClassRest (IsClassRest.class e0 h1 h2 (IsBody.body m i p) e5 h6)) =
     took here (bound (token e0
     (reads_part (a_Name h1)
-    (reads_part (a_Parameters h2) (reads_part (a_Body h3) (bound (token e5 (reads_part (a_Name h6) (made (finished refl))))))))))
+    (reads_part (a_Parameters h2)
+    (reads_part (a_Body m i p) (bound (keep e5 (made (reads_part (a_Name h6) (made (finished refl)))))))))))
 
 pub complete_ObjectRest : {vs ws : Values} {ts us : List Token} → Means part.ObjectRest vs ts us ws → Taken part.ObjectRest vs ts us ws
 unfolding rest top_or
-complete_ObjectRest (a_ObjectRest (IsObjectRest.object e0 h1 h2 e4 h5)) =
-    took here (bound (token e0
-    (reads_part (a_Name h1) (reads_part (a_Body h2) (bound (token e4 (reads_part (a_Name h5) (made (finished refl)))))))))
+complete_ObjectRest (a_ObjectRest (IsObjectRest.object e0 h1 (IsBody.body m i p) e4 h5)) =
+    took here (bound (keep e0
+    (reads_part (a_Name h1)
+    (reads_part (a_Body m i p) (bound (keep e4 (made (reads_part (a_Name h5) (made (finished refl))))))))))
 
 pub complete_Parameters : {vs ws : Values} {ts us : List Token} → Means part.Parameters vs ts us ws → Taken part.Parameters vs ts us ws
 unfolding rest
@@ -51,8 +53,8 @@ complete_Parameter (a_Parameter (IsParam.param h0 e1 h2)) =
 
 pub complete_Body : {vs ws : Values} {ts us : List Token} → Means part.Body vs ts us ws → Taken part.Body vs ts us ws
 unfolding rest top_or
-complete_Body (a_Body (IsBody.body h1 h2 h3)) =
-    took here (made (reads_part (a_Members h1) (reads_part (a_Initially h2) (reads_part (a_Process h3) (made (finished refl))))))
+complete_Body (a_Body h1 h2 h3) =
+    took here (made (reads_part (a_Members h1) (reads_part (a_Initially h2) (reads_part (a_Process h3) (finished refl)))))
 
 pub complete_Members : {vs ws : Values} {ts us : List Token} → Means part.Members vs ts us ws → Taken part.Members vs ts us ws
 unfolding rest top_or
@@ -63,11 +65,11 @@ complete_Members (a_Members AreMembers.members_end) = taken_as (kept_member _) (
 pub complete_Initially : {vs ws : Values} {ts us : List Token} → Means part.Initially vs ts us ws → Taken part.Initially vs ts us ws
 unfolding rest top_or
 complete_Initially (a_Initially (IsInitially.initially e0 h1 e3 e4)) =
-    took here (bound (token e0 (reads_part (a_Block h1) (bound (token e3 (token e4 (made (finished refl))))))))
+    took here (bound (keep e0 (reads_part (a_Block h1) (bound (keep e3 (token e4 (made (finished refl))))))))
 complete_Initially (a_Initially IsInitially.no_initially) = took (later here) (made (finished refl))
 
 pub complete_Process : {vs ws : Values} {ts us : List Token} → Means part.Process vs ts us ws → Taken part.Process vs ts us ws
 unfolding rest top_or
 complete_Process (a_Process (IsProcess.process e0 h1 e3 e4)) =
-    took here (bound (keep e0 (reads_part (a_Block h1) (bound (token e3 (token e4 (made (finished refl))))))))
+    took here (bound (keep e0 (reads_part (a_Block h1) (bound (keep e3 (token e4 (made (finished refl))))))))
 complete_Process (a_Process IsProcess.no_process) = took (later here) (made (finished refl))

@@ -9,7 +9,7 @@ use Rattle.ec_parser.specs.HasTree.{IsTypeOption, IsParam, IsResult, IsFlag, IsB
 use Rattle.ec_parser.proofs.Meaning.{Means, a_Name, a_OperationWord, a_Type, a_Parameters, a_Member, a_AttachedField, a_ConstantField}
 use Rattle.ec_parser.proofs.Meaning.{a_FieldValue, a_ConditionTail, a_OperationRest, a_OperationResult, a_Initial, a_TypedValue, a_Block}
 use Rattle.ec_parser.proofs.Meaning.{a_Expression, IsTypedValue, IsAttachedField, IsFieldValue, IsConstantField, IsOperationRest}
-use Rattle.ec_parser.proofs.Seq.{finished, token, part as reads_part, bound, made, Taken, took}
+use Rattle.ec_parser.proofs.Seq.{finished, token, keep, part as reads_part, bound, made, Taken, took}
 
 pub complete_Member : {vs ws : Values} {ts us : List Token} → Means part.Member vs ts us ws → Taken part.Member vs ts us ws
 unfolding rest top_or
@@ -74,7 +74,7 @@ complete_OperationRest (a_OperationRest (IsOperationRest.operation h0 h1 h2 h3 h
     (reads_part (a_Name h1)
     (reads_part (a_Parameters h2)
     (reads_part (a_OperationResult h3)
-    (reads_part (a_Block h4) (bound (token e6 (reads_part (a_Name h7) (made (finished refl)))))))))))
+    (reads_part (a_Block h4) (bound (keep e6 (reads_part (a_Name h7) (made (finished refl)))))))))))
 
 pub complete_OperationResult : {vs ws : Values} {ts us : List Token} → Means part.OperationResult vs ts us ws →
     Taken part.OperationResult vs ts us ws

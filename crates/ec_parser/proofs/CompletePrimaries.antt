@@ -6,12 +6,12 @@ use Rattle.ec_parser.specs.declared.grammar.Part.TheVariants as part
 use Rattle.ec_parser.specs.declared.values.Values.{Values}
 use Rattle.ec_parser.specs.Reads.{first as here, later}
 use Rattle.ec_parser.specs.Filled.{rest, top_or}
-use Rattle.ec_parser.specs.HasTree.{MayIndex, Ending, IsFlag, IsPrimary, IsPostfix, AreLinks, AreArguments, AreMoreArguments, IsObject}
+use Rattle.ec_parser.specs.HasTree.{MayIndex, Ending, IsFlag, IsPrimary, IsPostfix, AreLinks, AreArguments, AreMoreArguments, IsBody, IsObject}
 use Rattle.ec_parser.proofs.Meaning.{Means, a_Name, a_Type, a_ObjectRest, a_Body, a_Expression, a_Postfix, a_PostfixTail, a_AfterDot}
 use Rattle.ec_parser.proofs.Meaning.{a_Arguments, a_MoreArguments, a_Primary, a_Plain, a_OtherPlain, a_NodeRest, Linked, IsObjectRest}
 use Rattle.ec_parser.proofs.Meaning.{IsAfterDot, IsNodeRest}
 use Rattle.ec_parser.proofs.Seq.{finished, token, keep, part as reads_part, bound, made, Taken, took, taken_as}
-use Rattle.ec_parser.proofs.Lists.{grown_expression, kept_expression, grown_link, kept_link, one_link}
+use Rattle.ec_parser.proofs.Lists.{grown_argument, kept_argument, grown_link, kept_link, one_link}
 use Rattle.ec_parser.proofs.Phrases.{differs, id_first, relinked, no_monitor}
 
 may_of : {ts us : List Token} {x : Expression} {last : Ending} → IsPrimary ts us x last → MayIndex last
@@ -58,16 +58,16 @@ complete_AfterDot (a_AfterDot (IsAfterDot.field (Linked.linked (AreLinks.index n
 pub complete_Arguments : {vs ws : Values} {ts us : List Token} → Means part.Arguments vs ts us ws → Taken part.Arguments vs ts us ws
 unfolding rest top_or
 complete_Arguments (a_Arguments (AreArguments.arguments h0 h2)) =
-    taken_as (grown_expression _ _ _) (took here (reads_part (a_Expression h0) (made (reads_part (a_MoreArguments h2) (finished refl)))))
-complete_Arguments (a_Arguments AreArguments.no_arguments) = taken_as (kept_expression _) (took (later here) (finished refl))
+    taken_as (grown_argument _ _ _) (took here (reads_part (a_Expression h0) (made (reads_part (a_MoreArguments h2) (finished refl)))))
+complete_Arguments (a_Arguments AreArguments.no_arguments) = taken_as (kept_argument _) (took (later here) (finished refl))
 
 pub complete_MoreArguments : {vs ws : Values} {ts us : List Token} → Means part.MoreArguments vs ts us ws →
     Taken part.MoreArguments vs ts us ws
 unfolding rest top_or
 complete_MoreArguments (a_MoreArguments (AreMoreArguments.comma_argument e0 h1 h3)) =
-    taken_as (grown_expression _ _ _)
+    taken_as (grown_argument _ _ _)
     (took here (token e0 (reads_part (a_Expression h1) (made (reads_part (a_MoreArguments h3) (finished refl))))))
-complete_MoreArguments (a_MoreArguments AreMoreArguments.arguments_end) = taken_as (kept_expression _) (took (later here) (finished refl))
+complete_MoreArguments (a_MoreArguments AreMoreArguments.arguments_end) = taken_as (kept_argument _) (took (later here) (finished refl))
 
 pub complete_Primary : {vs ws : Values} {ts us : List Token} → Means part.Primary vs ts us ws → Taken part.Primary vs ts us ws
 unfolding rest top_or
@@ -133,10 +133,10 @@ complete_OtherPlain (a_OtherPlain (IsPrimary.self_word e0) u) =
 complete_OtherPlain (a_OtherPlain (IsPrimary.parenthesised e0 h1 e3) u) =
     took (later (later (later (later (later (later here))))))
     (bound (keep e0 (reads_part (a_Expression h1) (bound (token e3 (made (finished refl)))))))
-complete_OtherPlain (a_OtherPlain (IsPrimary.object (IsObject.object_constructor IsFlag.without o b c d f)) u) =
+complete_OtherPlain (a_OtherPlain (IsPrimary.object (IsObject.object_constructor IsFlag.without o b (IsBody.body m i p) d f)) u) =
     took (later (later (later (later (later (later (later here)))))))
     (bound (keep o (made (reads_part (a_Name b)
-    (reads_part (a_Body c) (bound (token d (reads_part (a_Name f) (made (made (finished refl)))))))))))
+    (reads_part (a_Body m i p) (bound (keep d (made (reads_part (a_Name f) (made (made (finished refl))))))))))))
 complete_OtherPlain (a_OtherPlain (IsPrimary.object (IsObject.object_constructor (IsFlag.with_word h) o b c d f)) u) =
     absurd (no_monitor u h)
 complete_OtherPlain (a_OtherPlain (IsPrimary.node_at e0 e1 b c d f) u) =
@@ -156,4 +156,4 @@ pub complete_NodeRest : {vs ws : Values} {ts us : List Token} → Means part.Nod
 unfolding rest top_or
 complete_NodeRest (a_NodeRest (IsNodeRest.node_at e0 e1 h2 e4)) =
     took here (keep e0 (bound (token e1 (reads_part (a_Expression h2) (bound (token e4 (made (finished refl))))))))
-complete_NodeRest (a_NodeRest (IsNodeRest.node_count e0)) = took (later here) (token e0 (made (finished refl)))
+complete_NodeRest (a_NodeRest (IsNodeRest.node_count e0)) = took (later here) (keep e0 (made (finished refl)))

@@ -1,6 +1,7 @@
 -- A list on the top of a stack that grows.
 use Rattle.std.proofs.Common.{◌≡◌, List, [], ◌∷◌, ◌++◌, refl, sym, ap, append_assoc, append-nil}
 use Rattle.ec_ast.specs.declared.Addend.{Addend}
+use Rattle.ec_ast.specs.declared.Argument.{Argument}
 use Rattle.ec_ast.specs.declared.Arm.{Arm}
 use Rattle.ec_ast.specs.declared.Constant.{Constant}
 use Rattle.ec_ast.specs.declared.Expression.{Expression}
@@ -13,10 +14,10 @@ use Rattle.ec_ast.specs.declared.Statement.{Statement}
 use Rattle.ec_ast.specs.declared.TypeName.{TypeName}
 use Rattle.ec_parser.specs.declared.values.Values.{Values}
 use Rattle.ec_parser.specs.Filled.{rest, top_or}
-use Rattle.ec_parser.specs.Tops.{first_expression_list, first_addend_list, first_factor_list, first_link_list, first_type_list}
+use Rattle.ec_parser.specs.Tops.{first_expression_list, first_argument_list, first_addend_list, first_factor_list, first_link_list, first_type_list}
 use Rattle.ec_parser.specs.Tops.{first_parameter_list, first_member_list, first_statement_list, first_arm_list, first_signature_list}
 use Rattle.ec_parser.specs.Tops.{first_constant_list}
-use Rattle.ec_parser.proofs.Meaning.{extend, add_expression, add_addend, add_factor, add_link, add_type, add_parameter, add_member}
+use Rattle.ec_parser.proofs.Meaning.{extend, add_expression, add_argument, add_addend, add_factor, add_link, add_type, add_parameter, add_member}
 use Rattle.ec_parser.proofs.Meaning.{add_statement, add_arm, add_signature, add_constant}
 
 -- nothing behind the list on the top
@@ -44,6 +45,14 @@ grown_expression x xs vs = ap (λ ls. record vs { expression_lists = ls }) (grow
 
 pub kept_expression : (vs : Values) → vs ≡ add_expression [] vs
 kept_expression vs = ap (λ ls. record vs { expression_lists = ls }) (kept vs.expression_lists)
+
+pub grown_argument : (x : Argument) (xs : List Argument) (vs : Values) →
+    add_argument xs (record vs { argument_lists = (first_argument_list vs.argument_lists ++ x ∷ []) ∷ rest vs.argument_lists }) ≡
+    add_argument (x ∷ xs) vs
+grown_argument x xs vs = ap (λ ls. record vs { argument_lists = ls }) (grown_in x xs vs.argument_lists)
+
+pub kept_argument : (vs : Values) → vs ≡ add_argument [] vs
+kept_argument vs = ap (λ ls. record vs { argument_lists = ls }) (kept vs.argument_lists)
 
 pub grown_addend : (x : Addend) (xs : List Addend) (vs : Values) →
     add_addend xs (record vs { addend_lists = (first_addend_list vs.addend_lists ++ x ∷ []) ∷ rest vs.addend_lists }) ≡

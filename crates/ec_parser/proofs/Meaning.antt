@@ -1,6 +1,6 @@
 -- What each part of the factored grammar means, in the words of the printed one: what tokens it takes, and how it
 -- changes the values.
-use Rattle.std.specs.Prelude.{Bool, List, [], ◌∷◌, ◌++◌, Option, Some, None}
+use Rattle.std.specs.Prelude.{Bool, false, List, [], ◌∷◌, ◌++◌, Option, Some, None}
 use Rattle.ec_ast.specs.declared.Name.{Name}
 use Rattle.ec_ast.specs.declared.TypeName.{TypeName}
 use Rattle.ec_ast.specs.declared.TypeName.TheVariants as type_of
@@ -14,9 +14,10 @@ use Rattle.ec_ast.specs.declared.Link.{Link}
 use Rattle.ec_ast.specs.declared.Link.TheVariants as link
 use Rattle.ec_ast.specs.declared.Factor.{Factor}
 use Rattle.ec_ast.specs.declared.Addend.{Addend}
+use Rattle.ec_ast.specs.declared.Argument.{Argument}
 use Rattle.ec_ast.specs.declared.ObjectConstructor.{ObjectConstructor, roll-ObjectConstructor}
 use Rattle.ec_ast.specs.declared.Body.{Body}
-use Rattle.ec_ast.specs.declared.ProcessSection.{ProcessSection}
+use Rattle.ec_ast.specs.declared.Section.{Section}
 use Rattle.ec_ast.specs.declared.Member.{Member}
 use Rattle.ec_ast.specs.declared.Member.TheVariants as m
 use Rattle.ec_ast.specs.declared.Operation.{roll-Operation}
@@ -87,11 +88,11 @@ put_statement x vs = record vs { statements = x ∷ vs.statements }
 abbrev pub put_maybe_block : Option Block → Values → Values
 put_maybe_block x vs = record vs { maybe_blocks = x ∷ vs.maybe_blocks }
 
-abbrev pub put_maybe_process : Option ProcessSection → Values → Values
-put_maybe_process x vs = record vs { maybe_processes = x ∷ vs.maybe_processes }
+abbrev pub put_maybe_section : Option Section → Values → Values
+put_maybe_section x vs = record vs { maybe_sections = x ∷ vs.maybe_sections }
 
-abbrev pub put_body : Body → Values → Values
-put_body x vs = record vs { bodies = x ∷ vs.bodies }
+abbrev pub put_member_list : List Member → Values → Values
+put_member_list x vs = record vs { member_lists = x ∷ vs.member_lists }
 
 abbrev pub put_object : ObjectConstructor → Values → Values
 put_object x vs = record vs { objects = x ∷ vs.objects }
@@ -143,6 +144,9 @@ extend xs (l ∷ ls) = (l ++ xs) ∷ ls
 -- the list on the top of one stack with more behind it
 abbrev pub add_expression : List Expression → Values → Values
 add_expression xs vs = record vs { expression_lists = extend xs vs.expression_lists }
+
+abbrev pub add_argument : List Argument → Values → Values
+add_argument xs vs = record vs { argument_lists = extend xs vs.argument_lists }
 
 abbrev pub add_addend : List Addend → Values → Values
 add_addend xs vs = record vs { addend_lists = extend xs vs.addend_lists }
@@ -210,14 +214,31 @@ pub data IsConstantRest : List Token → List Token → Option TypeName → Cons
 pub data IsClassRest : List Token → List Token → Bool → Class → Type 0 where
   class : {a b c d : Token} {ts us vs : List Token} {flag : Bool} {name end_name : Name} {xs : List Parameter} {x : Body} →
       Is t.Class a → IsId b name → IsParamsOption ts us xs → IsBody us (c ∷ d ∷ vs) x → Is t.End c → IsId d end_name →
-      IsClassRest (a ∷ b ∷ ts) vs flag (record { is_monitored = flag; name = name; parameters = xs; body = x; end_name = end_name })
+      IsClassRest (a ∷ b ∷ ts) vs flag
+      (record {
+        is_immutable = false;
+        is_monitored = flag;
+        name = name;
+        parameters = xs;
+        body = x;
+        end_name = end_name;
+      })
 
 -- an object without its `monitor`, which stands at the place: "object" ID body "end" ID
 pub data IsObjectRest : List Token → List Token → Bool → Span → ObjectConstructor → Type 0 where
   object : {a b c d : Token} {ts us : List Token} {flag : Bool} {at : Span} {name end_name : Name} {x : Body} →
       Is t.Object a → IsId b name → IsBody ts (c ∷ d ∷ us) x → Is t.End c → IsId d end_name →
       IsObjectRest (a ∷ b ∷ ts) us flag at
-      (roll-ObjectConstructor (record { at = at; is_monitored = flag; name = name; body = x; end_name = end_name }))
+      (roll-ObjectConstructor
+      (record {
+        at = at;
+        object_at = a.at;
+        is_immutable = false;
+        is_monitored = flag;
+        name = name;
+        body = x;
+        end_name = end_name;
+      }))
 
 -- behind a sum x: [ ( "==" | .. | ">=" ) sum ]; the last index is the whole, here and below
 pub data IsCompareTail (x : Expression) : List Token → List Token → Expression → Type 0 where
@@ -288,7 +309,9 @@ pub data IsOperationRest (flag : Bool) : List Token → List Token → Member �
         parameters = xs;
         result = x;
         block = roll-Block (record { statements = block });
+        failure = None;
         end_name = end_name;
+        end_at = c.at;
       })))
 
 -- "var" ID ":" type [ "<-" expr ] | "const" ID [ ":" type ] "<-" expr | stmt
@@ -315,7 +338,7 @@ pub data IsRest (first : Expression) : Ending → List Link → List Token → L
   field : {a b : Token} {ending : Ending} {ts us : List Token} {links : List Link} {name : Name} {x : Statement} →
       Is t.Dot a → IsId b name → IsRest first a_field (links ++ link.Call name [] ∷ []) ts us x →
       IsRest first ending links (a ∷ b ∷ ts) us x
-  call : {a b c d : Token} {ending : Ending} {ts us vs : List Token} {links : List Link} {name : Name} {xs : List Expression}
+  call : {a b c d : Token} {ending : Ending} {ts us vs : List Token} {links : List Link} {name : Name} {xs : List Argument}
       {x : Statement} →
       Is t.Dot a → IsId b name → Is t.OpenBracket c → AreArguments ts (d ∷ us) xs → Is t.CloseBracket d →
       IsRest first a_call (links ++ link.Call name xs ∷ []) us vs x → IsRest first ending links (a ∷ b ∷ c ∷ ts) vs x
@@ -327,14 +350,14 @@ pub data IsRest (first : Expression) : Ending → List Link → List Token → L
 pub data IsAfterField (first : Expression) (links : List Link) (name : Name) : List Token → List Token → Statement → Type 0 where
   field : {ts us : List Token} {x : Statement} → IsRest first a_field (links ++ link.Call name [] ∷ []) ts us x →
       IsAfterField first links name ts us x
-  call : {a b : Token} {ts us vs : List Token} {xs : List Expression} {x : Statement} →
+  call : {a b : Token} {ts us vs : List Token} {xs : List Argument} {x : Statement} →
       Is t.OpenBracket a → AreArguments ts (b ∷ us) xs → Is t.CloseBracket b →
       IsRest first a_call (links ++ link.Call name xs ∷ []) us vs x → IsAfterField first links name (a ∷ ts) vs x
 
 -- behind "." ID in an expression: [ "[" [ expr { "," expr } ] "]" ], and the links behind it
 pub data IsAfterDot (name : Name) : List Token → List Token → List Link → Type 0 where
   field : {ts us : List Token} {links : List Link} → Linked a_field ts us links → IsAfterDot name ts us (link.Call name [] ∷ links)
-  call : {a b : Token} {ts us vs : List Token} {xs : List Expression} {links : List Link} →
+  call : {a b : Token} {ts us vs : List Token} {xs : List Argument} {links : List Link} →
       Is t.OpenBracket a → AreArguments ts (b ∷ us) xs → Is t.CloseBracket b → Linked a_call us vs links →
       IsAfterDot name (a ∷ ts) vs (link.Call name xs ∷ links)
 
@@ -342,7 +365,7 @@ pub data IsAfterDot (name : Name) : List Token → List Token → List Link → 
 pub data IsNodeRest (at : Span) : List Token → List Token → Expression → Type 0 where
   node_at : {a b c : Token} {ts us : List Token} {x : Expression} →
       Is t.At a → Is t.OpenBracket b → IsExpr ts (c ∷ us) x → Is t.CloseBracket c → IsNodeRest at (a ∷ b ∷ ts) us (e.NodeAt x at a.at)
-  node_count : {a : Token} {us : List Token} → Is t.Count a → IsNodeRest at (a ∷ us) us (e.NodeCount at)
+  node_count : {a : Token} {us : List Token} → Is t.Count a → IsNodeRest at (a ∷ us) us (e.NodeCount at a.at)
 
 -- "!" not
 pub data IsNotPrefix : List Token → List Token → Expression → Type 0 where
@@ -405,12 +428,14 @@ pub data Means : Part_of → Values → List Token → List Token → Values →
   a_Parameter : {vs : Values} {ts us : List Token} {x : Parameter} → IsParam ts us x →
       Means part.Parameter vs ts us
       (record vs { parameter_lists = (first_parameter_list vs.parameter_lists ++ x ∷ []) ∷ rest vs.parameter_lists })
-  a_Body : {vs : Values} {ts us : List Token} {x : Body} → IsBody ts us x → Means part.Body vs ts us (put_body x vs)
+  a_Body : {vs : Values} {ts us bs cs : List Token} {xs : List Member} {initially process : Option Section} → AreMembers ts bs xs →
+      IsInitially bs cs initially → IsProcess cs us process →
+      Means part.Body vs ts us (put_maybe_section process (put_maybe_section initially (put_member_list xs vs)))
   a_Members : {vs : Values} {ts us : List Token} {xs : List Member} → AreMembers ts us xs → Means part.Members vs ts us (add_member xs vs)
-  a_Initially : {vs : Values} {ts us : List Token} {x : Option Block} → IsInitially ts us x →
-      Means part.Initially vs ts us (put_maybe_block x vs)
-  a_Process : {vs : Values} {ts us : List Token} {x : Option ProcessSection} → IsProcess ts us x →
-      Means part.Process vs ts us (put_maybe_process x vs)
+  a_Initially : {vs : Values} {ts us : List Token} {x : Option Section} → IsInitially ts us x →
+      Means part.Initially vs ts us (put_maybe_section x vs)
+  a_Process : {vs : Values} {ts us : List Token} {x : Option Section} → IsProcess ts us x →
+      Means part.Process vs ts us (put_maybe_section x vs)
   a_Member : {vs : Values} {ts us : List Token} {x : Member} → IsMember ts us x → Means part.Member vs ts us (put_member x vs)
   a_AttachedField : {vs : Values} {ts us : List Token} {x : Member} → IsAttachedField (first_flag vs.flags) ts us x →
       Means part.AttachedField vs ts us (put_member x (drop_flag vs))
@@ -485,10 +510,10 @@ pub data Means : Part_of → Values → List Token → List Token → Values →
       Means part.PostfixTail vs ts us (add_link xs vs)
   a_AfterDot : {vs : Values} {ts us : List Token} {xs : List Link} → IsAfterDot (first_name vs.names) ts us xs →
       Means part.AfterDot vs ts us (add_link xs (drop_name vs))
-  a_Arguments : {vs : Values} {ts us : List Token} {xs : List Expression} → AreArguments ts us xs →
-      Means part.Arguments vs ts us (add_expression xs vs)
-  a_MoreArguments : {vs : Values} {ts us : List Token} {xs : List Expression} → AreMoreArguments ts us xs →
-      Means part.MoreArguments vs ts us (add_expression xs vs)
+  a_Arguments : {vs : Values} {ts us : List Token} {xs : List Argument} → AreArguments ts us xs →
+      Means part.Arguments vs ts us (add_argument xs vs)
+  a_MoreArguments : {vs : Values} {ts us : List Token} {xs : List Argument} → AreMoreArguments ts us xs →
+      Means part.MoreArguments vs ts us (add_argument xs vs)
   a_Primary : {vs : Values} {ts us : List Token} {x : Expression} {last : Ending} → MayIndex last → IsPrimary ts us x last →
       Means part.Primary vs ts us (put_expression x vs)
   a_Plain : {vs : Values} {ts us : List Token} {x : Expression} {last : Ending} → MayIndex last → IsPrimary ts us x last → NotMonitor ts →

@@ -2,6 +2,7 @@
 use Rattle.std.proofs.Common.{◌≡◌, Bool, true, false, List, [], ◌∷◌, ◌++◌, Option, sym, ◌∙◌, ap, subst, append_assoc, append-nil}
 use Rattle.ec_ast.specs.declared.Name.{Name}
 use Rattle.ec_ast.specs.declared.TypeName.{TypeName}
+use Rattle.ec_ast.specs.declared.Argument.{Argument}
 use Rattle.ec_ast.specs.declared.Expression.{Expression}
 use Rattle.ec_ast.specs.declared.Expression.TheVariants as e
 use Rattle.ec_ast.specs.declared.Link.{Link}
@@ -191,7 +192,7 @@ module _ (first : Expression) (links : List Link) where
       subst (λ z. Ends first before links (a ∷ b ∷ ts) us (s.Invoke z)) (sym (moved first links (link.Call name []) more))
       (Ends.invoke (AreLinks.field e h l) n)
 
-  by_call : {before : Ending} {a b c d : Token} {ts us vs : List Token} {name : Name} {xs : List Expression} {x : Statement} →
+  by_call : {before : Ending} {a b c d : Token} {ts us vs : List Token} {name : Name} {xs : List Argument} {x : Statement} →
       Is t.Dot a → IsId b name → Is t.OpenBracket c → AreArguments ts (d ∷ us) xs → Is t.CloseBracket d →
       Ends first a_call (links ++ link.Call name xs ∷ []) us vs x → Ends first before links (a ∷ b ∷ c ∷ ts) vs x
   by_call {before = before} {a = a} {b = b} {c = c} {ts = ts} {vs = vs} {name = name} {xs = xs} e h i j o

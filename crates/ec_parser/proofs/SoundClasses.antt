@@ -18,16 +18,18 @@ pub sound_ClassRest : {r : List Symbol} {vs ws : Values} {ts us : List Token} �
 unfolding rest top_or
 sound_ClassRest here (bound
     (token e0 (reads_part (a_Name h1)
-    (reads_part (a_Parameters h2) (reads_part (a_Body h3) (bound (token e5 (reads_part (a_Name h6) (made (finished q)))))))))) = into q
-    (a_ClassRest (IsClassRest.class e0 h1 h2 h3 e5 h6))
+    (reads_part (a_Parameters h2)
+    (reads_part (a_Body m i p) (bound (keep e5 (made (reads_part (a_Name h6) (made (finished q))))))))))) = into q
+    (a_ClassRest (IsClassRest.class e0 h1 h2 (IsBody.body m i p) e5 h6))
 sound_ClassRest (later x) _ = elim x [ ]
 
 pub sound_ObjectRest : {r : List Symbol} {vs ws : Values} {ts us : List Token} → IsRule r (rules part.ObjectRest) → Seq r vs ts us ws →
     Means part.ObjectRest vs ts us ws
 unfolding rest top_or
 sound_ObjectRest here
-    (bound (token e0 (reads_part (a_Name h1) (reads_part (a_Body h2) (bound (token e4 (reads_part (a_Name h5) (made (finished q))))))))) =
-    into q (a_ObjectRest (IsObjectRest.object e0 h1 h2 e4 h5))
+    (bound (keep e0 (reads_part (a_Name h1)
+    (reads_part (a_Body m i p) (bound (keep e4 (made (reads_part (a_Name h5) (made (finished q)))))))))) =
+    into q (a_ObjectRest (IsObjectRest.object e0 h1 (IsBody.body m i p) e4 h5))
 sound_ObjectRest (later x) _ = elim x [ ]
 
 pub sound_Parameters : {r : List Symbol} {vs ws : Values} {ts us : List Token} → IsRule r (rules part.Parameters) → Seq r vs ts us ws →
@@ -64,8 +66,8 @@ sound_Parameter (later x) _ = elim x [ ]
 pub sound_Body : {r : List Symbol} {vs ws : Values} {ts us : List Token} → IsRule r (rules part.Body) → Seq r vs ts us ws →
     Means part.Body vs ts us ws
 unfolding rest top_or
-sound_Body here (made (reads_part (a_Members h1) (reads_part (a_Initially h2) (reads_part (a_Process h3) (made (finished q)))))) =
-    into q (a_Body (IsBody.body h1 h2 h3))
+sound_Body here (made (reads_part (a_Members h1) (reads_part (a_Initially h2) (reads_part (a_Process h3) (finished q))))) =
+    into q (a_Body h1 h2 h3)
 sound_Body (later x) _ = elim x [ ]
 
 pub sound_Members : {r : List Symbol} {vs ws : Values} {ts us : List Token} → IsRule r (rules part.Members) → Seq r vs ts us ws →
@@ -79,7 +81,7 @@ sound_Members (later (later x)) _ = elim x [ ]
 pub sound_Initially : {r : List Symbol} {vs ws : Values} {ts us : List Token} → IsRule r (rules part.Initially) → Seq r vs ts us ws →
     Means part.Initially vs ts us ws
 unfolding rest top_or
-sound_Initially here (bound (token e0 (reads_part (a_Block h1) (bound (token e3 (token e4 (made (finished q)))))))) =
+sound_Initially here (bound (keep e0 (reads_part (a_Block h1) (bound (keep e3 (token e4 (made (finished q)))))))) =
     into q (a_Initially (IsInitially.initially e0 h1 e3 e4))
 sound_Initially (later here) (made (finished q)) = into q (a_Initially IsInitially.no_initially)
 sound_Initially (later (later x)) _ = elim x [ ]
@@ -87,7 +89,7 @@ sound_Initially (later (later x)) _ = elim x [ ]
 pub sound_Process : {r : List Symbol} {vs ws : Values} {ts us : List Token} → IsRule r (rules part.Process) → Seq r vs ts us ws →
     Means part.Process vs ts us ws
 unfolding rest top_or
-sound_Process here (bound (keep e0 (reads_part (a_Block h1) (bound (token e3 (token e4 (made (finished q)))))))) =
+sound_Process here (bound (keep e0 (reads_part (a_Block h1) (bound (keep e3 (token e4 (made (finished q)))))))) =
     into q (a_Process (IsProcess.process e0 h1 e3 e4))
 sound_Process (later here) (made (finished q)) = into q (a_Process IsProcess.no_process)
 sound_Process (later (later x)) _ = elim x [ ]

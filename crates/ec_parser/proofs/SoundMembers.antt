@@ -11,7 +11,7 @@ use Rattle.ec_parser.specs.HasTree.{IsTypeOption, IsParam, IsResult, IsFlag, IsB
 use Rattle.ec_parser.proofs.Meaning.{Means, a_Name, a_OperationWord, a_Type, a_Parameters, a_Member, a_AttachedField, a_ConstantField}
 use Rattle.ec_parser.proofs.Meaning.{a_FieldValue, a_ConditionTail, a_OperationRest, a_OperationResult, a_Initial, a_TypedValue, a_Block}
 use Rattle.ec_parser.proofs.Meaning.{a_Expression, IsTypedValue, IsAttachedField, IsFieldValue, IsConstantField, IsOperationRest}
-use Rattle.ec_parser.proofs.Seq.{Seq, finished, token, part as reads_part, bound, made, into}
+use Rattle.ec_parser.proofs.Seq.{Seq, finished, token, keep, part as reads_part, bound, made, into}
 use Rattle.ec_parser.proofs.Phrases.{attached, plain_const, operation_member}
 
 pub sound_Member : {r : List Symbol} {vs ws : Values} {ts us : List Token} → IsRule r (rules part.Member) → Seq r vs ts us ws →
@@ -71,7 +71,7 @@ sound_OperationRest here
     (reads_part (a_Name h1)
     (reads_part (a_Parameters h2)
     (reads_part (a_OperationResult h3)
-    (reads_part (a_Block h4) (bound (token e6 (reads_part (a_Name h7) (made (finished q))))))))))) = into q
+    (reads_part (a_Block h4) (bound (keep e6 (reads_part (a_Name h7) (made (finished q))))))))))) = into q
     (a_OperationRest (IsOperationRest.operation h0 h1 h2 h3 h4 e6 h7))
 sound_OperationRest (later x) _ = elim x [ ]
 

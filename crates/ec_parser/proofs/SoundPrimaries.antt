@@ -7,11 +7,11 @@ use Rattle.ec_parser.specs.declared.values.Values.{Values}
 use Rattle.ec_parser.specs.Rules.{rules}
 use Rattle.ec_parser.specs.Reads.{IsRule, first as here, later}
 use Rattle.ec_parser.specs.Filled.{rest, top_or}
-use Rattle.ec_parser.specs.HasTree.{IsFlag, IsPrimary, AreLinks, AreArguments, AreMoreArguments, IsObject}
+use Rattle.ec_parser.specs.HasTree.{IsFlag, IsPrimary, AreLinks, AreArguments, AreMoreArguments, IsBody, IsObject}
 use Rattle.ec_parser.proofs.Meaning.{Means, a_Name, a_Type, a_ObjectRest, a_Body, a_Expression, a_PostfixTail, a_AfterDot, a_Arguments}
 use Rattle.ec_parser.proofs.Meaning.{a_MoreArguments, a_Primary, a_Plain, a_OtherPlain, a_NodeRest, Linked, IsAfterDot, IsNodeRest}
 use Rattle.ec_parser.proofs.Seq.{Seq, finished, token, keep, part as reads_part, bound, made, into, same_as}
-use Rattle.ec_parser.proofs.Lists.{grown_expression, kept_expression, grown_link, kept_link, one_link}
+use Rattle.ec_parser.proofs.Lists.{grown_argument, kept_argument, grown_link, kept_link, one_link}
 use Rattle.ec_parser.proofs.Phrases.{object_of, differs, id_first, index_first, postfix_part, links_of_dot, node_rest}
 
 pub sound_Postfix : {r : List Symbol} {vs ws : Values} {ts us : List Token} → IsRule r (rules part.Postfix) → Seq r vs ts us ws →
@@ -48,16 +48,16 @@ pub sound_Arguments : {r : List Symbol} {vs ws : Values} {ts us : List Token} �
     Means part.Arguments vs ts us ws
 unfolding rest top_or
 sound_Arguments here (reads_part (a_Expression h0) (made (reads_part (a_MoreArguments h2) (finished q)))) =
-    into q (same_as (grown_expression _ _ _) (a_Arguments (AreArguments.arguments h0 h2)))
-sound_Arguments (later here) (finished q) = into q (same_as (kept_expression _) (a_Arguments AreArguments.no_arguments))
+    into q (same_as (grown_argument _ _ _) (a_Arguments (AreArguments.arguments h0 h2)))
+sound_Arguments (later here) (finished q) = into q (same_as (kept_argument _) (a_Arguments AreArguments.no_arguments))
 sound_Arguments (later (later x)) _ = elim x [ ]
 
 pub sound_MoreArguments : {r : List Symbol} {vs ws : Values} {ts us : List Token} → IsRule r (rules part.MoreArguments) →
     Seq r vs ts us ws → Means part.MoreArguments vs ts us ws
 unfolding rest top_or
 sound_MoreArguments here (token e0 (reads_part (a_Expression h1) (made (reads_part (a_MoreArguments h3) (finished q))))) =
-    into q (same_as (grown_expression _ _ _) (a_MoreArguments (AreMoreArguments.comma_argument e0 h1 h3)))
-sound_MoreArguments (later here) (finished q) = into q (same_as (kept_expression _) (a_MoreArguments AreMoreArguments.arguments_end))
+    into q (same_as (grown_argument _ _ _) (a_MoreArguments (AreMoreArguments.comma_argument e0 h1 h3)))
+sound_MoreArguments (later here) (finished q) = into q (same_as (kept_argument _) (a_MoreArguments AreMoreArguments.arguments_end))
 sound_MoreArguments (later (later x)) _ = elim x [ ]
 
 pub sound_Primary : {r : List Symbol} {vs ws : Values} {ts us : List Token} → IsRule r (rules part.Primary) → Seq r vs ts us ws →
@@ -92,8 +92,9 @@ sound_OtherPlain (later (later (later (later (later (later here))))))
     into q (a_OtherPlain (IsPrimary.parenthesised e0 h1 e3) (differs e0 (λ x. cc)))
 sound_OtherPlain (later (later (later (later (later (later (later here)))))))
     (bound (keep e0 (made
-    (reads_part (a_Name h2) (reads_part (a_Body h3) (bound (token e5 (reads_part (a_Name h6) (made (made (finished q))))))))))) = into q
-    (a_OtherPlain (IsPrimary.object (IsObject.object_constructor IsFlag.without e0 h2 h3 e5 h6)) (differs e0 (λ x. cc)))
+    (reads_part (a_Name h2)
+    (reads_part (a_Body m i p) (bound (keep e5 (made (reads_part (a_Name h6) (made (made (finished q)))))))))))) = into q
+    (a_OtherPlain (IsPrimary.object (IsObject.object_constructor IsFlag.without e0 h2 (IsBody.body m i p) e5 h6)) (differs e0 (λ x. cc)))
 sound_OtherPlain (later (later (later (later (later (later (later (later here))))))))
     (keep e0 (token e1 (reads_part (a_NodeRest h2) (finished q)))) = into q (a_OtherPlain (node_rest e0 e1 h2) (differs e0 (λ x. cc)))
 sound_OtherPlain (later (later (later (later (later (later (later (later (later here)))))))))
@@ -109,5 +110,5 @@ pub sound_NodeRest : {r : List Symbol} {vs ws : Values} {ts us : List Token} →
 unfolding rest top_or
 sound_NodeRest here (keep e0 (bound (token e1 (reads_part (a_Expression h2) (bound (token e4 (made (finished q)))))))) =
     into q (a_NodeRest (IsNodeRest.node_at e0 e1 h2 e4))
-sound_NodeRest (later here) (token e0 (made (finished q))) = into q (a_NodeRest (IsNodeRest.node_count e0))
+sound_NodeRest (later here) (keep e0 (made (finished q))) = into q (a_NodeRest (IsNodeRest.node_count e0))
 sound_NodeRest (later (later x)) _ = elim x [ ]

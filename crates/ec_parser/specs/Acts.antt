@@ -2,9 +2,10 @@
 use Rattle.std.specs.Prelude.{true, false, [], ◌∷◌, ◌++◌, Some, None}
 use Rattle.ec_ast.specs.declared.Factor.{roll-Factor}
 use Rattle.ec_ast.specs.declared.Addend.{roll-Addend}
+use Rattle.ec_ast.specs.declared.Argument.{roll-Argument}
 use Rattle.ec_ast.specs.declared.ObjectConstructor.{roll-ObjectConstructor}
 use Rattle.ec_ast.specs.declared.Body.{roll-Body}
-use Rattle.ec_ast.specs.declared.ProcessSection.{roll-ProcessSection}
+use Rattle.ec_ast.specs.declared.Section.{roll-Section}
 use Rattle.ec_ast.specs.declared.Operation.{roll-Operation}
 use Rattle.ec_ast.specs.declared.Block.{roll-Block}
 use Rattle.ec_ast.specs.declared.Arm.{roll-Arm}
@@ -19,8 +20,8 @@ use Rattle.ec_parser.specs.Filled.{rest}
 use Rattle.ec_parser.specs.Chains.{or_of, and_of, sum_of, term_of, postfix_of}
 use Rattle.ec_parser.specs.Tops.{first_name, first_number, first_literal, first_place, first_comparison, first_additive}
 use Rattle.ec_parser.specs.Tops.{first_multiplicative, first_flag, first_type, first_maybe_type, first_maybe_parameter, first_expression}
-use Rattle.ec_parser.specs.Tops.{first_maybe_expression, first_member, first_statement, first_maybe_block, first_maybe_process}
-use Rattle.ec_parser.specs.Tops.{first_body, first_object, first_class, first_value, first_expression_list, first_addend_list}
+use Rattle.ec_parser.specs.Tops.{first_maybe_expression, first_member, first_statement, first_maybe_block, first_maybe_section}
+use Rattle.ec_parser.specs.Tops.{first_body, first_object, first_class, first_value, first_expression_list, first_argument_list, first_addend_list}
 use Rattle.ec_parser.specs.Tops.{first_factor_list, first_link_list, first_type_list, first_parameter_list, first_member_list}
 use Rattle.ec_parser.specs.Tops.{first_statement_list, first_arm_list, first_signature_list, first_constant_list}
 
@@ -31,6 +32,10 @@ begin_constants vs =
 abbrev pub begin_expressions : Values → Values
 begin_expressions vs =
     record vs { expression_lists = [] ∷ vs.expression_lists }
+
+abbrev pub begin_arguments : Values → Values
+begin_arguments vs =
+    record vs { argument_lists = [] ∷ vs.argument_lists }
 
 abbrev pub begin_addends : Values → Values
 begin_addends vs =
@@ -119,20 +124,22 @@ abbrev pub no_block : Values → Values
 no_block vs =
     record vs { maybe_blocks = None ∷ vs.maybe_blocks }
 
-abbrev pub some_process : Values → Values
-some_process vs =
+abbrev pub some_section : Values → Values
+some_section vs =
+    let end_at = first_place vs.places in
     let statements = first_statement_list vs.statement_lists in
-    let at = first_place vs.places in
+    let at = first_place (rest vs.places) in
     record vs {
+      places = rest (rest vs.places);
       statement_lists = rest vs.statement_lists;
-      places = rest vs.places;
-      maybe_processes = (Some (roll-ProcessSection (record { block = (roll-Block (record { statements = statements })); at = at }))) ∷
-          vs.maybe_processes;
+      maybe_sections =
+          (Some (roll-Section (record { block = (roll-Block (record { statements = statements })); at = at; end_at = end_at }))) ∷
+          vs.maybe_sections;
     }
 
-abbrev pub no_process : Values → Values
-no_process vs =
-    record vs { maybe_processes = None ∷ vs.maybe_processes }
+abbrev pub no_section : Values → Values
+no_section vs =
+    record vs { maybe_sections = None ∷ vs.maybe_sections }
 
 abbrev pub some_parameter : Values → Values
 some_parameter vs =
@@ -255,14 +262,15 @@ push_parameter vs =
 
 abbrev pub make_body : Values → Values
 make_body vs =
-    let process = first_maybe_process vs.maybe_processes in
-    let initially = first_maybe_block vs.maybe_blocks in
+    let end_at = first_place vs.places in
+    let process = first_maybe_section vs.maybe_sections in
+    let initially = first_maybe_section (rest vs.maybe_sections) in
     let members = first_member_list vs.member_lists in
     record vs {
-      maybe_processes = rest vs.maybe_processes;
-      maybe_blocks = rest vs.maybe_blocks;
+      places = rest vs.places;
+      maybe_sections = rest (rest vs.maybe_sections);
       member_lists = rest vs.member_lists;
-      bodies = (roll-Body (record { members = members; initially = initially; process = process })) ∷ vs.bodies;
+      bodies = (roll-Body (record { members = members; initially = initially; process = process; end_at = end_at })) ∷ vs.bodies;
     }
 
 abbrev pub make_class : Values → Values
@@ -277,8 +285,15 @@ make_class vs =
       bodies = rest vs.bodies;
       parameter_lists = rest vs.parameter_lists;
       flags = rest vs.flags;
-      classes = (record { is_monitored = is_monitored; name = name; parameters = parameters; body = body; end_name = end_name }) ∷
-          vs.classes;
+      classes =
+          (record {
+            is_immutable = false;
+            is_monitored = is_monitored;
+            name = name;
+            parameters = parameters;
+            body = body;
+            end_name = end_name;
+          }) ∷ vs.classes;
     }
 
 abbrev pub make_object : Values → Values
@@ -294,7 +309,40 @@ make_object vs =
       flags = rest vs.flags;
       places = rest vs.places;
       objects = (roll-ObjectConstructor
-          (record { at = at; is_monitored = is_monitored; name = name; body = body; end_name = end_name })) ∷ vs.objects;
+          (record {
+            at = at;
+            object_at = at;
+            is_immutable = false;
+            is_monitored = is_monitored;
+            name = name;
+            body = body;
+            end_name = end_name;
+          })) ∷ vs.objects;
+    }
+
+abbrev pub make_monitored_object : Values → Values
+make_monitored_object vs =
+    let end_name = first_name vs.names in
+    let body = first_body vs.bodies in
+    let name = first_name (rest vs.names) in
+    let object_at = first_place vs.places in
+    let is_monitored = first_flag vs.flags in
+    let at = first_place (rest vs.places) in
+    record vs {
+      names = rest (rest vs.names);
+      bodies = rest vs.bodies;
+      places = rest (rest vs.places);
+      flags = rest vs.flags;
+      objects = (roll-ObjectConstructor
+          (record {
+            at = at;
+            object_at = object_at;
+            is_immutable = false;
+            is_monitored = is_monitored;
+            name = name;
+            body = body;
+            end_name = end_name;
+          })) ∷ vs.objects;
     }
 
 abbrev pub make_constructor : Values → Values
@@ -344,6 +392,7 @@ make_condition vs =
 abbrev pub make_operation : Values → Values
 make_operation vs =
     let end_name = first_name vs.names in
+    let end_at = first_place vs.places in
     let statements = first_statement_list vs.statement_lists in
     let result = first_maybe_parameter vs.maybe_parameters in
     let parameters = first_parameter_list vs.parameter_lists in
@@ -351,6 +400,7 @@ make_operation vs =
     let is_exported = first_flag vs.flags in
     record vs {
       names = rest (rest vs.names);
+      places = rest vs.places;
       statement_lists = rest vs.statement_lists;
       maybe_parameters = rest vs.maybe_parameters;
       parameter_lists = rest vs.parameter_lists;
@@ -363,7 +413,9 @@ make_operation vs =
             parameters = parameters;
             result = result;
             block = (roll-Block (record { statements = statements }));
+            failure = None;
             end_name = end_name;
+            end_at = end_at;
           }))) ∷ vs.members;
     }
 
@@ -526,11 +578,11 @@ push_index vs =
 
 abbrev pub push_call : Values → Values
 push_call vs =
-    let arguments = first_expression_list vs.expression_lists in
+    let arguments = first_argument_list vs.argument_lists in
     let name = first_name vs.names in
     let list = first_link_list vs.link_lists in
     record vs {
-      expression_lists = rest vs.expression_lists;
+      argument_lists = rest vs.argument_lists;
       names = rest vs.names;
       link_lists = (list ++ (aLink.Call name arguments) ∷ []) ∷ rest vs.link_lists;
     }
@@ -546,6 +598,15 @@ push_expression vs =
     let x = first_expression vs.expressions in
     let list = first_expression_list vs.expression_lists in
     record vs { expressions = rest vs.expressions; expression_lists = (list ++ x ∷ []) ∷ rest vs.expression_lists }
+
+abbrev pub push_argument : Values → Values
+push_argument vs =
+    let value = first_expression vs.expressions in
+    let list = first_argument_list vs.argument_lists in
+    record vs {
+      expressions = rest vs.expressions;
+      argument_lists = (list ++ (roll-Argument (record { carried = None; value = value })) ∷ []) ∷ rest vs.argument_lists;
+    }
 
 abbrev pub push_addend : Values → Values
 push_addend vs =
@@ -698,5 +759,6 @@ make_node_at vs =
 
 abbrev pub make_node_count : Values → Values
 make_node_count vs =
+    let count = first_name vs.names in
     let at = first_place vs.places in
-    record vs { places = rest vs.places; expressions = (aExpression.NodeCount at) ∷ vs.expressions }
+    record vs { names = rest vs.names; places = rest vs.places; expressions = (aExpression.NodeCount at count.at) ∷ vs.expressions }

@@ -29,7 +29,7 @@ pub data Stack : Type 0 where
   a_member : Stack
   a_statement : Stack
   a_maybe_block : Stack
-  a_maybe_process : Stack
+  a_maybe_section : Stack
   a_body : Stack
   a_object : Stack
   a_class : Stack
@@ -46,12 +46,13 @@ pub data Stack : Type 0 where
   a_arm_list : Stack
   a_signature_list : Stack
   a_constant_list : Stack
+  a_argument_list : Stack
 
 abbrev pub all_stacks : List Stack
 all_stacks = a_name ∷ a_number ∷ a_literal ∷ a_place ∷ a_comparison ∷ a_additive ∷ a_multiplicative ∷ a_flag ∷ a_type ∷ a_maybe_type ∷
-    a_maybe_parameter ∷ a_expression ∷ a_maybe_expression ∷ a_member ∷ a_statement ∷ a_maybe_block ∷ a_maybe_process ∷ a_body ∷ a_object ∷
+    a_maybe_parameter ∷ a_expression ∷ a_maybe_expression ∷ a_member ∷ a_statement ∷ a_maybe_block ∷ a_maybe_section ∷ a_body ∷ a_object ∷
     a_class ∷ a_value ∷ a_program ∷ a_expression_list ∷ a_addend_list ∷ a_factor_list ∷ a_link_list ∷ a_type_list ∷ a_parameter_list ∷
-    a_member_list ∷ a_statement_list ∷ a_arm_list ∷ a_signature_list ∷ a_constant_list ∷ []
+    a_member_list ∷ a_statement_list ∷ a_arm_list ∷ a_signature_list ∷ a_constant_list ∷ a_argument_list ∷ []
 
 -- the number of a stack
 abbrev pub number : Stack → ℕ
@@ -71,7 +72,7 @@ number a_maybe_expression = 12
 number a_member = 13
 number a_statement = 14
 number a_maybe_block = 15
-number a_maybe_process = 16
+number a_maybe_section = 16
 number a_body = 17
 number a_object = 18
 number a_class = 19
@@ -88,6 +89,7 @@ number a_statement_list = 29
 number a_arm_list = 30
 number a_signature_list = 31
 number a_constant_list = 32
+number a_argument_list = 33
 
 -- the stack has a top
 abbrev pub has_top : Stack → Values → Type 0
@@ -107,7 +109,7 @@ has_top a_maybe_expression vs = IsFilled vs.maybe_expressions
 has_top a_member vs = IsFilled vs.members
 has_top a_statement vs = IsFilled vs.statements
 has_top a_maybe_block vs = IsFilled vs.maybe_blocks
-has_top a_maybe_process vs = IsFilled vs.maybe_processes
+has_top a_maybe_section vs = IsFilled vs.maybe_sections
 has_top a_body vs = IsFilled vs.bodies
 has_top a_object vs = IsFilled vs.objects
 has_top a_class vs = IsFilled vs.classes
@@ -124,6 +126,7 @@ has_top a_statement_list vs = IsFilled vs.statement_lists
 has_top a_arm_list vs = IsFilled vs.arm_lists
 has_top a_signature_list vs = IsFilled vs.signature_lists
 has_top a_constant_list vs = IsFilled vs.constant_lists
+has_top a_argument_list vs = IsFilled vs.argument_lists
 
 -- the values without the top of a stack
 abbrev pub without : Stack → Values → Values
@@ -143,7 +146,7 @@ without a_maybe_expression vs = record vs { maybe_expressions = rest vs.maybe_ex
 without a_member vs = record vs { members = rest vs.members }
 without a_statement vs = record vs { statements = rest vs.statements }
 without a_maybe_block vs = record vs { maybe_blocks = rest vs.maybe_blocks }
-without a_maybe_process vs = record vs { maybe_processes = rest vs.maybe_processes }
+without a_maybe_section vs = record vs { maybe_sections = rest vs.maybe_sections }
 without a_body vs = record vs { bodies = rest vs.bodies }
 without a_object vs = record vs { objects = rest vs.objects }
 without a_class vs = record vs { classes = rest vs.classes }
@@ -160,6 +163,7 @@ without a_statement_list vs = record vs { statement_lists = rest vs.statement_li
 without a_arm_list vs = record vs { arm_lists = rest vs.arm_lists }
 without a_signature_list vs = record vs { signature_lists = rest vs.signature_lists }
 without a_constant_list vs = record vs { constant_lists = rest vs.constant_lists }
+without a_argument_list vs = record vs { argument_lists = rest vs.argument_lists }
 
 -- the values without the tops of these stacks
 abbrev pub without_all : List Stack → Values → Values
@@ -189,6 +193,7 @@ kept_as _ = a_place
 abbrev pub takes : Act → List Stack
 takes act'.BeginConstants = []
 takes act'.BeginExpressions = []
+takes act'.BeginArguments = []
 takes act'.BeginAddends = []
 takes act'.BeginFactors = []
 takes act'.BeginLinks = []
@@ -206,8 +211,8 @@ takes act'.SomeExpression = a_expression ∷ []
 takes act'.NoExpression = []
 takes act'.SomeBlock = a_statement_list ∷ []
 takes act'.NoBlock = []
-takes act'.SomeProcess = a_statement_list ∷ a_place ∷ []
-takes act'.NoProcess = []
+takes act'.SomeSection = a_place ∷ a_statement_list ∷ a_place ∷ []
+takes act'.NoSection = []
 takes act'.SomeParameter = a_type ∷ a_name ∷ []
 takes act'.NoParameter = []
 takes act'.Yes = []
@@ -227,15 +232,16 @@ takes act'.TypeAny = a_place ∷ []
 takes act'.TypeNode = a_place ∷ []
 takes act'.TypeVector = a_type ∷ a_place ∷ []
 takes act'.PushParameter = a_type ∷ a_name ∷ a_parameter_list ∷ []
-takes act'.MakeBody = a_maybe_process ∷ a_maybe_block ∷ a_member_list ∷ []
+takes act'.MakeBody = a_place ∷ a_maybe_section ∷ a_maybe_section ∷ a_member_list ∷ []
 takes act'.MakeClass = a_name ∷ a_body ∷ a_parameter_list ∷ a_name ∷ a_flag ∷ []
 takes act'.MakeObject = a_name ∷ a_body ∷ a_name ∷ a_flag ∷ a_place ∷ []
+takes act'.MakeMonitoredObject = a_name ∷ a_body ∷ a_name ∷ a_place ∷ a_flag ∷ a_place ∷ []
 takes act'.MakeConstructor = a_object ∷ []
 takes act'.PushMember = a_member ∷ a_member_list ∷ []
 takes act'.VariableField = a_maybe_expression ∷ a_type ∷ a_name ∷ a_flag ∷ []
 takes act'.ConstantField = a_expression ∷ a_maybe_type ∷ a_name ∷ a_flag ∷ []
 takes act'.MakeCondition = a_name ∷ a_flag ∷ []
-takes act'.MakeOperation = a_name ∷ a_statement_list ∷ a_maybe_parameter ∷ a_parameter_list ∷ a_name ∷ a_flag ∷ []
+takes act'.MakeOperation = a_name ∷ a_place ∷ a_statement_list ∷ a_maybe_parameter ∷ a_parameter_list ∷ a_name ∷ a_flag ∷ []
 takes act'.PushStatement = a_statement ∷ a_statement_list ∷ []
 takes act'.LocalVariable = a_maybe_expression ∷ a_type ∷ a_name ∷ []
 takes act'.LocalConstant = a_expression ∷ a_maybe_type ∷ a_name ∷ []
@@ -256,9 +262,10 @@ takes act'.MakeSignal = a_name ∷ a_place ∷ []
 takes act'.MakeAssign = a_expression ∷ a_expression ∷ []
 takes act'.MakeInvoke = a_expression ∷ []
 takes act'.PushIndex = a_expression ∷ a_place ∷ a_link_list ∷ []
-takes act'.PushCall = a_expression_list ∷ a_name ∷ a_link_list ∷ []
+takes act'.PushCall = a_argument_list ∷ a_name ∷ a_link_list ∷ []
 takes act'.PushField = a_name ∷ a_link_list ∷ []
 takes act'.PushExpression = a_expression ∷ a_expression_list ∷ []
+takes act'.PushArgument = a_expression ∷ a_argument_list ∷ []
 takes act'.PushAddend = a_expression ∷ a_additive ∷ a_place ∷ a_addend_list ∷ []
 takes act'.PushFactor = a_expression ∷ a_multiplicative ∷ a_place ∷ a_factor_list ∷ []
 takes act'.MakeOr = a_expression_list ∷ a_expression ∷ []
@@ -280,7 +287,7 @@ takes act'.MakeItself = a_place ∷ []
 takes act'.MakeParenthesised = a_expression ∷ a_place ∷ []
 takes act'.MakeVector = a_expression ∷ a_name ∷ a_type ∷ a_place ∷ []
 takes act'.MakeNodeAt = a_expression ∷ a_place ∷ a_place ∷ []
-takes act'.MakeNodeCount = a_place ∷ []
+takes act'.MakeNodeCount = a_name ∷ a_place ∷ []
 takes (act'.Compare x) = []
 takes (act'.Add x) = []
 takes (act'.Multiply x) = []
@@ -288,6 +295,7 @@ takes (act'.Multiply x) = []
 abbrev pub gives : Act → Stack
 gives act'.BeginConstants = a_constant_list
 gives act'.BeginExpressions = a_expression_list
+gives act'.BeginArguments = a_argument_list
 gives act'.BeginAddends = a_addend_list
 gives act'.BeginFactors = a_factor_list
 gives act'.BeginLinks = a_link_list
@@ -305,8 +313,8 @@ gives act'.SomeExpression = a_maybe_expression
 gives act'.NoExpression = a_maybe_expression
 gives act'.SomeBlock = a_maybe_block
 gives act'.NoBlock = a_maybe_block
-gives act'.SomeProcess = a_maybe_process
-gives act'.NoProcess = a_maybe_process
+gives act'.SomeSection = a_maybe_section
+gives act'.NoSection = a_maybe_section
 gives act'.SomeParameter = a_maybe_parameter
 gives act'.NoParameter = a_maybe_parameter
 gives act'.Yes = a_flag
@@ -329,6 +337,7 @@ gives act'.PushParameter = a_parameter_list
 gives act'.MakeBody = a_body
 gives act'.MakeClass = a_class
 gives act'.MakeObject = a_object
+gives act'.MakeMonitoredObject = a_object
 gives act'.MakeConstructor = a_expression
 gives act'.PushMember = a_member_list
 gives act'.VariableField = a_member
@@ -358,6 +367,7 @@ gives act'.PushIndex = a_link_list
 gives act'.PushCall = a_link_list
 gives act'.PushField = a_link_list
 gives act'.PushExpression = a_expression_list
+gives act'.PushArgument = a_argument_list
 gives act'.PushAddend = a_addend_list
 gives act'.PushFactor = a_factor_list
 gives act'.MakeOr = a_expression
@@ -459,8 +469,8 @@ part_takes part.UnaryPrefix = []
 part_takes part.Postfix = []
 part_takes part.PostfixTail = a_link_list ∷ []
 part_takes part.AfterDot = a_name ∷ a_link_list ∷ []
-part_takes part.Arguments = a_expression_list ∷ []
-part_takes part.MoreArguments = a_expression_list ∷ []
+part_takes part.Arguments = a_argument_list ∷ []
+part_takes part.MoreArguments = a_argument_list ∷ []
 part_takes part.Primary = []
 part_takes part.Plain = []
 part_takes part.OtherPlain = []
@@ -492,10 +502,10 @@ part_gives part.Parameters = a_parameter_list ∷ []
 part_gives part.ParameterList = a_parameter_list ∷ []
 part_gives part.MoreParameters = a_parameter_list ∷ []
 part_gives part.Parameter = a_parameter_list ∷ []
-part_gives part.Body = a_body ∷ []
+part_gives part.Body = a_maybe_section ∷ a_maybe_section ∷ a_member_list ∷ []
 part_gives part.Members = a_member_list ∷ []
-part_gives part.Initially = a_maybe_block ∷ []
-part_gives part.Process = a_maybe_process ∷ []
+part_gives part.Initially = a_maybe_section ∷ []
+part_gives part.Process = a_maybe_section ∷ []
 part_gives part.Member = a_member ∷ []
 part_gives part.AttachedField = a_member ∷ []
 part_gives part.ConstantField = a_member ∷ []
@@ -537,8 +547,8 @@ part_gives part.UnaryPrefix = a_expression ∷ []
 part_gives part.Postfix = a_expression ∷ []
 part_gives part.PostfixTail = a_link_list ∷ []
 part_gives part.AfterDot = a_link_list ∷ []
-part_gives part.Arguments = a_expression_list ∷ []
-part_gives part.MoreArguments = a_expression_list ∷ []
+part_gives part.Arguments = a_argument_list ∷ []
+part_gives part.MoreArguments = a_argument_list ∷ []
 part_gives part.Primary = a_expression ∷ []
 part_gives part.Plain = a_expression ∷ []
 part_gives part.OtherPlain = a_expression ∷ []

@@ -18,9 +18,10 @@ use Rattle.ec_ast.specs.declared.Link.{Link}
 use Rattle.ec_ast.specs.declared.Link.TheVariants as link
 use Rattle.ec_ast.specs.declared.Factor.{Factor, roll-Factor}
 use Rattle.ec_ast.specs.declared.Addend.{Addend, roll-Addend}
+use Rattle.ec_ast.specs.declared.Argument.{Argument, roll-Argument}
 use Rattle.ec_ast.specs.declared.ObjectConstructor.{ObjectConstructor, roll-ObjectConstructor}
 use Rattle.ec_ast.specs.declared.Body.{Body, roll-Body}
-use Rattle.ec_ast.specs.declared.ProcessSection.{ProcessSection, roll-ProcessSection}
+use Rattle.ec_ast.specs.declared.Section.{Section, roll-Section}
 use Rattle.ec_ast.specs.declared.Member.{Member}
 use Rattle.ec_ast.specs.declared.Member.TheVariants as m
 use Rattle.ec_ast.specs.declared.Operation.{roll-Operation}
@@ -225,7 +226,7 @@ mutual
         Is t.Node a → Is t.Dot b → Is t.At c → Is t.OpenBracket d → IsExpr ts (f ∷ us) x → Is t.CloseBracket f →
         IsPrimary (a ∷ b ∷ c ∷ d ∷ ts) us (e.NodeAt x a.at c.at) a_primary
     node_count : {a b c : Token} {us : List Token} →
-        Is t.Node a → Is t.Dot b → Is t.Count c → IsPrimary (a ∷ b ∷ c ∷ us) us (e.NodeCount a.at) a_primary
+        Is t.Node a → Is t.Dot b → Is t.Count c → IsPrimary (a ∷ b ∷ c ∷ us) us (e.NodeCount a.at c.at) a_primary
     vector : {a b c d f g h i j : Token} {ts us vs : List Token} {of : TypeName} {x : Expression} →
         Is t.Vector a → Is t.Dot b → Is t.Of c → Is t.OpenBracket d → IsType ts (f ∷ g ∷ h ∷ i ∷ us) of → Is t.CloseBracket f →
         Is t.Dot g → Is t.Create h → Is t.OpenBracket i → IsExpr us (j ∷ vs) x → Is t.CloseBracket j →
@@ -241,7 +242,7 @@ mutual
     links_end : {us : List Token} {last : Ending} → AreLinks last us us [] last
     field : {a b : Token} {us vs : List Token} {name : Name} {links : List Link} {before last : Ending} →
         Is t.Dot a → IsId b name → AreLinks a_field us vs links last → AreLinks before (a ∷ b ∷ us) vs (link.Call name [] ∷ links) last
-    call : {a b c d : Token} {ts us vs : List Token} {name : Name} {xs : List Expression} {links : List Link} {before last : Ending} →
+    call : {a b c d : Token} {ts us vs : List Token} {name : Name} {xs : List Argument} {links : List Link} {before last : Ending} →
         Is t.Dot a → IsId b name → Is t.OpenBracket c → AreArguments ts (d ∷ us) xs → Is t.CloseBracket d →
         AreLinks a_call us vs links last →
         AreLinks before (a ∷ b ∷ c ∷ ts) vs (link.Call name xs ∷ links) last
@@ -249,17 +250,18 @@ mutual
         MayIndex before → Is t.OpenBracket a → IsExpr ts (b ∷ us) x → Is t.CloseBracket b → AreLinks an_index us vs links last →
         AreLinks before (a ∷ ts) vs (link.Index x a.at ∷ links) last
 
-  -- [ expr { "," expr } ]
-  pub data AreArguments : List Token → List Token → List Expression → Type 0 where
+  -- [ expr { "," expr } ]; no argument goes along with the call
+  pub data AreArguments : List Token → List Token → List Argument → Type 0 where
     no_arguments : {us : List Token} → AreArguments us us []
-    arguments : {ts us vs : List Token} {x : Expression} {xs : List Expression} →
-        IsExpr ts us x → AreMoreArguments us vs xs → AreArguments ts vs (x ∷ xs)
+    arguments : {ts us vs : List Token} {x : Expression} {xs : List Argument} →
+        IsExpr ts us x → AreMoreArguments us vs xs → AreArguments ts vs (roll-Argument (record { carried = None; value = x }) ∷ xs)
 
   -- { "," expr }
-  pub data AreMoreArguments : List Token → List Token → List Expression → Type 0 where
+  pub data AreMoreArguments : List Token → List Token → List Argument → Type 0 where
     arguments_end : {us : List Token} → AreMoreArguments us us []
-    comma_argument : {a : Token} {ts us vs : List Token} {x : Expression} {xs : List Expression} →
-        Is t.Comma a → IsExpr ts us x → AreMoreArguments us vs xs → AreMoreArguments (a ∷ ts) vs (x ∷ xs)
+    comma_argument : {a : Token} {ts us vs : List Token} {x : Expression} {xs : List Argument} →
+        Is t.Comma a → IsExpr ts us x → AreMoreArguments us vs xs →
+        AreMoreArguments (a ∷ ts) vs (roll-Argument (record { carried = None; value = x }) ∷ xs)
 
   -- unary = "-" unary | "view" unary "as" type | "isfixed" unary | postfix
   pub data IsUnary : List Token → List Token → Expression → Type 0 where
@@ -418,7 +420,9 @@ mutual
           parameters = xs;
           result = x;
           block = roll-Block (record { statements = block });
+          failure = None;
           end_name = end_name;
+          end_at = c.at;
         })))
 
   -- { member }
@@ -427,24 +431,27 @@ mutual
     member : {ts us vs : List Token} {x : Member} {xs : List Member} → IsMember ts us x → AreMembers us vs xs → AreMembers ts vs (x ∷ xs)
 
   -- [ "initially" block "end" "initially" ]
-  pub data IsInitially : List Token → List Token → Option Block → Type 0 where
+  pub data IsInitially : List Token → List Token → Option Section → Type 0 where
     no_initially : {us : List Token} → IsInitially us us None
     initially : {a b c : Token} {ts us : List Token} {xs : List Statement} →
         Is t.Initially a → IsBlock ts (b ∷ c ∷ us) xs → Is t.End b → Is t.Initially c →
-        IsInitially (a ∷ ts) us (Some (roll-Block (record { statements = xs })))
+        IsInitially (a ∷ ts) us
+        (Some (roll-Section (record { block = roll-Block (record { statements = xs }); at = a.at; end_at = b.at })))
 
   -- [ "process" block "end" "process" ]
-  pub data IsProcess : List Token → List Token → Option ProcessSection → Type 0 where
+  pub data IsProcess : List Token → List Token → Option Section → Type 0 where
     no_process : {us : List Token} → IsProcess us us None
     process : {a b c : Token} {ts us : List Token} {xs : List Statement} →
         Is t.Process a → IsBlock ts (b ∷ c ∷ us) xs → Is t.End b → Is t.Process c →
-        IsProcess (a ∷ ts) us (Some (roll-ProcessSection (record { block = roll-Block (record { statements = xs }); at = a.at })))
+        IsProcess (a ∷ ts) us
+        (Some (roll-Section (record { block = roll-Block (record { statements = xs }); at = a.at; end_at = b.at })))
 
   -- body = { member } [ "initially" block "end" "initially" ] [ "process" block "end" "process" ]
+  -- Behind it stands the `end` that closes it.
   pub data IsBody : List Token → List Token → Body → Type 0 where
-    body : {ts us vs ws : List Token} {xs : List Member} {initially : Option Block} {process : Option ProcessSection} →
-        AreMembers ts us xs → IsInitially us vs initially → IsProcess vs ws process →
-        IsBody ts ws (roll-Body (record { members = xs; initially = initially; process = process }))
+    body : {ts us vs ws : List Token} {c : Token} {xs : List Member} {initially process : Option Section} →
+        AreMembers ts us xs → IsInitially us vs initially → IsProcess vs (c ∷ ws) process →
+        IsBody ts (c ∷ ws) (roll-Body (record { members = xs; initially = initially; process = process; end_at = c.at }))
 
   -- object = [ "monitor" ] "object" ID body "end" ID
   pub data IsObject : List Token → List Token → ObjectConstructor → Type 0 where
@@ -452,14 +459,29 @@ mutual
         IsFlag t.Monitor (z ∷ zs) (a ∷ b ∷ ts) flag → Is t.Object a → IsId b name → IsBody ts (c ∷ d ∷ us) x → Is t.End c →
         IsId d end_name →
         IsObject (z ∷ zs) us (roll-ObjectConstructor
-        (record { at = z.at; is_monitored = flag; name = name; body = x; end_name = end_name }))
+        (record {
+          at = z.at;
+          object_at = a.at;
+          is_immutable = false;
+          is_monitored = flag;
+          name = name;
+          body = x;
+          end_name = end_name;
+        }))
 
 -- class = [ "monitor" ] "class" ID [ params ] body "end" ID
 pub data IsClass : List Token → List Token → Class → Type 0 where
   class : {a b c d : Token} {ts us vs zs : List Token} {flag : Bool} {name end_name : Name} {xs : List Parameter} {x : Body} →
       IsFlag t.Monitor zs (a ∷ b ∷ ts) flag → Is t.Class a → IsId b name → IsParamsOption ts us xs → IsBody us (c ∷ d ∷ vs) x →
       Is t.End c → IsId d end_name →
-      IsClass zs vs (record { is_monitored = flag; name = name; parameters = xs; body = x; end_name = end_name })
+      IsClass zs vs (record {
+        is_immutable = false;
+        is_monitored = flag;
+        name = name;
+        parameters = xs;
+        body = x;
+        end_name = end_name;
+      })
 
 -- program = { "const" ID "<-" ( class | typeobj ) | "const" ID [ ":" type ] "<-" expr }
 pub data AreConstants : List Token → List Token → List Constant → Type 0 where

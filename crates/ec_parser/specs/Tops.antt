@@ -14,9 +14,10 @@ use Rattle.ec_ast.specs.declared.Expression.{Expression}
 use Rattle.ec_ast.specs.declared.Link.{Link}
 use Rattle.ec_ast.specs.declared.Factor.{Factor}
 use Rattle.ec_ast.specs.declared.Addend.{Addend}
+use Rattle.ec_ast.specs.declared.Argument.{Argument}
 use Rattle.ec_ast.specs.declared.ObjectConstructor.{ObjectConstructor, roll-ObjectConstructor}
 use Rattle.ec_ast.specs.declared.Body.{Body, roll-Body}
-use Rattle.ec_ast.specs.declared.ProcessSection.{ProcessSection}
+use Rattle.ec_ast.specs.declared.Section.{Section}
 use Rattle.ec_ast.specs.declared.Member.{Member}
 use Rattle.ec_ast.specs.declared.Block.{Block}
 use Rattle.ec_ast.specs.declared.Statement.{Statement}
@@ -43,7 +44,7 @@ abbrev pub no_name : Name
 no_name = record { text = []; at = no_place }
 
 abbrev pub no_body : Body
-no_body = roll-Body (record { members = []; initially = None; process = None })
+no_body = roll-Body (record { members = []; initially = None; process = None; end_at = no_place })
 
 abbrev pub first_name : List Name → Name
 first_name = top_or no_name
@@ -93,18 +94,35 @@ first_statement = top_or (aStatement.Return no_place)
 abbrev pub first_maybe_block : List (Option Block) → Option Block
 first_maybe_block = top_or None
 
-abbrev pub first_maybe_process : List (Option ProcessSection) → Option ProcessSection
-first_maybe_process = top_or None
+abbrev pub first_maybe_section : List (Option Section) → Option Section
+first_maybe_section = top_or None
 
 abbrev pub first_body : List Body → Body
 first_body = top_or no_body
 
 abbrev pub first_object : List ObjectConstructor → ObjectConstructor
 first_object = top_or
-    (roll-ObjectConstructor (record { at = no_place; is_monitored = false; name = no_name; body = no_body; end_name = no_name }))
+    (roll-ObjectConstructor
+    (record {
+      at = no_place;
+      object_at = no_place;
+      is_immutable = false;
+      is_monitored = false;
+      name = no_name;
+      body = no_body;
+      end_name = no_name;
+    }))
 
 abbrev pub first_class : List Class → Class
-first_class = top_or (record { is_monitored = false; name = no_name; parameters = []; body = no_body; end_name = no_name })
+first_class = top_or
+    (record {
+      is_immutable = false;
+      is_monitored = false;
+      name = no_name;
+      parameters = [];
+      body = no_body;
+      end_name = no_name;
+    })
 
 abbrev pub first_value : List ConstantValue → ConstantValue
 first_value = top_or (aConstantValue.Expression (aExpression.Nil no_place))
@@ -114,6 +132,9 @@ first_program = top_or (record { constants = [] })
 
 abbrev pub first_expression_list : List (List Expression) → List Expression
 first_expression_list = top_or []
+
+abbrev pub first_argument_list : List (List Argument) → List Argument
+first_argument_list = top_or []
 
 abbrev pub first_addend_list : List (List Addend) → List Addend
 first_addend_list = top_or []

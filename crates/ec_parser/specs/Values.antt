@@ -8,15 +8,15 @@ use Rattle.ec_parser.specs.declared.grammar.Act.{Act}
 use Rattle.ec_parser.specs.declared.grammar.Act.TheVariants as act'
 use Rattle.ec_parser.specs.declared.values.Values.{Values}
 use Rattle.ec_parser.specs.Acts.{begin_constants, begin_expressions, begin_addends, begin_factors, begin_links, begin_types}
-use Rattle.ec_parser.specs.Acts.{begin_parameters, begin_members, begin_statements, begin_arms, begin_signatures, make_program}
-use Rattle.ec_parser.specs.Acts.{push_constant, some_type, no_type, some_expression, no_expression, some_block, no_block, some_process}
-use Rattle.ec_parser.specs.Acts.{no_process, some_parameter, no_parameter, yes, no, expression_value, class_value, monitored_class_value}
+use Rattle.ec_parser.specs.Acts.{begin_parameters, begin_members, begin_statements, begin_arms, begin_signatures, begin_arguments, make_program}
+use Rattle.ec_parser.specs.Acts.{push_constant, some_type, no_type, some_expression, no_expression, some_block, no_block, some_section}
+use Rattle.ec_parser.specs.Acts.{no_section, some_parameter, no_parameter, yes, no, expression_value, class_value, monitored_class_value}
 use Rattle.ec_parser.specs.Acts.{make_typeobject, push_signature, push_type, drop_name, named_type, type_integer, type_boolean}
-use Rattle.ec_parser.specs.Acts.{type_string, type_any, type_node, type_vector, push_parameter, make_body, make_class, make_object}
+use Rattle.ec_parser.specs.Acts.{type_string, type_any, type_node, type_vector, push_parameter, make_body, make_class, make_object, make_monitored_object}
 use Rattle.ec_parser.specs.Acts.{make_constructor, push_member, variable_field, constant_field, make_condition, make_operation}
 use Rattle.ec_parser.specs.Acts.{push_statement, local_variable, local_constant, make_variable, make_print, push_arm, make_if, make_loop}
 use Rattle.ec_parser.specs.Acts.{make_exit, make_return, make_assert, make_move, make_fix, make_refix, make_unfix, make_wait, make_signal}
-use Rattle.ec_parser.specs.Acts.{make_assign, make_invoke, push_index, push_call, push_field, push_expression, push_addend, push_factor}
+use Rattle.ec_parser.specs.Acts.{make_assign, make_invoke, push_index, push_call, push_field, push_expression, push_argument, push_addend, push_factor}
 use Rattle.ec_parser.specs.Acts.{make_or, make_and, make_sum, make_term, make_postfix, make_not, make_compare, make_negative, make_view}
 use Rattle.ec_parser.specs.Acts.{make_is_fixed, make_number, make_literal, make_true, make_false, make_nil, make_itself}
 use Rattle.ec_parser.specs.Acts.{make_parenthesised, make_vector, make_node_at, make_node_count}
@@ -41,7 +41,7 @@ no_values = record {
   statements =
       [];
   maybe_blocks = [];
-  maybe_processes = [];
+  maybe_sections = [];
   bodies = [];
   objects = [];
   classes = [];
@@ -49,6 +49,7 @@ no_values = record {
   programs = [];
   expression_lists =
       [];
+  argument_lists = [];
   addend_lists = [];
   factor_lists = [];
   link_lists = [];
@@ -76,6 +77,7 @@ keep _ t vs = record vs { places = t.at ∷ vs.places }
 abbrev pub act : Act → Values → Values
 act act'.BeginConstants vs = begin_constants vs
 act act'.BeginExpressions vs = begin_expressions vs
+act act'.BeginArguments vs = begin_arguments vs
 act act'.BeginAddends vs = begin_addends vs
 act act'.BeginFactors vs = begin_factors vs
 act act'.BeginLinks vs = begin_links vs
@@ -93,8 +95,8 @@ act act'.SomeExpression vs = some_expression vs
 act act'.NoExpression vs = no_expression vs
 act act'.SomeBlock vs = some_block vs
 act act'.NoBlock vs = no_block vs
-act act'.SomeProcess vs = some_process vs
-act act'.NoProcess vs = no_process vs
+act act'.SomeSection vs = some_section vs
+act act'.NoSection vs = no_section vs
 act act'.SomeParameter vs = some_parameter vs
 act act'.NoParameter vs = no_parameter vs
 act act'.Yes vs = yes vs
@@ -117,6 +119,7 @@ act act'.PushParameter vs = push_parameter vs
 act act'.MakeBody vs = make_body vs
 act act'.MakeClass vs = make_class vs
 act act'.MakeObject vs = make_object vs
+act act'.MakeMonitoredObject vs = make_monitored_object vs
 act act'.MakeConstructor vs = make_constructor vs
 act act'.PushMember vs = push_member vs
 act act'.VariableField vs = variable_field vs
@@ -146,6 +149,7 @@ act act'.PushIndex vs = push_index vs
 act act'.PushCall vs = push_call vs
 act act'.PushField vs = push_field vs
 act act'.PushExpression vs = push_expression vs
+act act'.PushArgument vs = push_argument vs
 act act'.PushAddend vs = push_addend vs
 act act'.PushFactor vs = push_factor vs
 act act'.MakeOr vs = make_or vs

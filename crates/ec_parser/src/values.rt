@@ -6,9 +6,9 @@ ghost use Rattle.ec_parser.specs.Values as spec;
 use crate::pile::Pile;
 use crate::terminal::{Terminal, number_of, text_of};
 use ec_ast::{
-    Addend, Additive, Arm, Block, Body, Class, Comparison, Constant, ConstantValue, Expression,
-    Factor, Link, Literal, Member, Multiplicative, Name, Number, ObjectConstructor, Parameter,
-    ProcessSection, Program, Signature, Span, Statement, TypeName,
+    Addend, Additive, Argument, Arm, Block, Body, Class, Comparison, Constant, ConstantValue,
+    Expression, Factor, Link, Literal, Member, Multiplicative, Name, Number, ObjectConstructor,
+    Parameter, Program, Section, Signature, Span, Statement, TypeName,
 };
 use ec_lexer::token::Token;
 use sqlite_items::Items;
@@ -33,13 +33,14 @@ pub struct Values {
     pub members: Pile<Member>,
     pub statements: Pile<Statement>,
     pub maybe_blocks: Pile<Option<Block>>,
-    pub maybe_processes: Pile<Option<ProcessSection>>,
+    pub maybe_sections: Pile<Option<Section>>,
     pub bodies: Pile<Body>,
     pub objects: Pile<ObjectConstructor>,
     pub classes: Pile<Class>,
     pub values: Pile<ConstantValue>,
     pub programs: Pile<Program>,
     pub expression_lists: Pile<Items<Expression>>,
+    pub argument_lists: Pile<Items<Argument>>,
     pub addend_lists: Pile<Items<Addend>>,
     pub factor_lists: Pile<Items<Factor>>,
     pub link_lists: Pile<Items<Link>>,
@@ -73,13 +74,14 @@ pub(crate) fn no_values(alloc: Global) -> Values
         members: Pile::new(alloc),
         statements: Pile::new(alloc),
         maybe_blocks: Pile::new(alloc),
-        maybe_processes: Pile::new(alloc),
+        maybe_sections: Pile::new(alloc),
         bodies: Pile::new(alloc),
         objects: Pile::new(alloc),
         classes: Pile::new(alloc),
         values: Pile::new(alloc),
         programs: Pile::new(alloc),
         expression_lists: Pile::new(alloc),
+        argument_lists: Pile::new(alloc),
         addend_lists: Pile::new(alloc),
         factor_lists: Pile::new(alloc),
         link_lists: Pile::new(alloc),

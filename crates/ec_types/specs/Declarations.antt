@@ -3,21 +3,22 @@
 use Rattle.std.specs.Prelude.{if◌then◌else◌, List, [], ◌∷◌, ◌++◌, map, Option, Some, None, option_map}
 use Rattle.ec_ast.specs.declared.Arm.{Arm, fold-Arm}
 use Rattle.ec_ast.specs.declared.Addend.{Addend, fold-Addend}
+use Rattle.ec_ast.specs.declared.Argument.{Argument, fold-Argument}
 use Rattle.ec_ast.specs.declared.Block.{Block, fold-Block}
 use Rattle.ec_ast.specs.declared.Body.{Body, fold-Body}
 use Rattle.ec_ast.specs.declared.Class.{Class}
 use Rattle.ec_ast.specs.declared.ConstantValue.{ConstantValue}
 use Rattle.ec_ast.specs.declared.ConstantValue.TheVariants as value
 use Rattle.ec_ast.specs.declared.Expression.{Expression, fold-Expression}
-use Rattle.ec_ast.specs.declared.Expression.TheOpen.{Expression-F, Link-F, Member-F, Statement-F, Addend-F, Arm-F, Block-F, Body-F}
-use Rattle.ec_ast.specs.declared.Expression.TheOpen.{Factor-F, ObjectConstructor-F, Operation-F, ProcessSection-F}
+use Rattle.ec_ast.specs.declared.Expression.TheOpen.{Expression-F, Link-F, Member-F, Statement-F, Addend-F, Argument-F, Arm-F, Block-F, Body-F}
+use Rattle.ec_ast.specs.declared.Expression.TheOpen.{Factor-F, ObjectConstructor-F, Operation-F, Section-F}
 use Rattle.ec_ast.specs.declared.Factor.{Factor, fold-Factor}
 use Rattle.ec_ast.specs.declared.Link.{Link, fold-Link}
 use Rattle.ec_ast.specs.declared.Member.{Member, fold-Member}
 use Rattle.ec_ast.specs.declared.Name.{Name}
 use Rattle.ec_ast.specs.declared.ObjectConstructor.{ObjectConstructor, fold-ObjectConstructor}
 use Rattle.ec_ast.specs.declared.Parameter.{Parameter}
-use Rattle.ec_ast.specs.declared.ProcessSection.{ProcessSection, fold-ProcessSection}
+use Rattle.ec_ast.specs.declared.Section.{Section, fold-Section}
 use Rattle.ec_ast.specs.declared.Program.{Program}
 use Rattle.ec_ast.specs.declared.Signature.{Signature}
 use Rattle.ec_ast.specs.declared.Span.{Span}
@@ -60,6 +61,21 @@ pub record BodyPart : Type 0 where
   pub members : List MemberPart
   pub within : Declarations
 
+-- a section, at its first word, and what is declared in it
+pub record SectionPart : Type 0 where
+  pub at : Span
+  pub within : Declarations
+
+-- what is declared in an `initially` block or in a failure clause
+abbrev pub in_clause : Option SectionPart → Declarations
+in_clause None = nothing
+in_clause (Some s) = s.within
+
+-- A process section is an operation of its own.
+abbrev pub in_process : Option SectionPart → Declarations
+in_process None = nothing
+in_process (Some s) = operation_at s.at s.within
+
 abbrev pub within_members : List MemberPart → Declarations
 within_members [] = nothing
 within_members (m ∷ ms) = both m.within (within_members ms)
@@ -84,8 +100,7 @@ object_of name parameters body = both (object_with name parameters body.members)
 
 -- ---- each part, with what its own parts declare in their places
 
-abbrev pub expression_step : Expression-F Declarations Declarations MemberPart Declarations Declarations Declarations Declarations
-    BodyPart Declarations Declarations MemberPart Declarations → Declarations
+abbrev pub expression_step : Expression-F Declarations Declarations MemberPart Declarations Declarations Declarations Declarations Declarations BodyPart Declarations Declarations MemberPart SectionPart → Declarations
 expression_step (Expression-F.Parenthesised e at) = e
 expression_step (Expression-F.Constructor object) = object
 expression_step (Expression-F.NodeAt e at word) = e
@@ -102,36 +117,32 @@ expression_step (Expression-F.And e es) = both e (joined es)
 expression_step (Expression-F.Or e es) = both e (joined es)
 expression_step _ = nothing
 
-abbrev pub link_step : Link-F Declarations Declarations MemberPart Declarations Declarations Declarations Declarations BodyPart
-    Declarations Declarations MemberPart Declarations → Declarations
+abbrev pub link_step : Link-F Declarations Declarations MemberPart Declarations Declarations Declarations Declarations Declarations BodyPart Declarations Declarations MemberPart SectionPart → Declarations
 link_step (Link-F.Call name arguments) = joined arguments
 link_step (Link-F.Index e at) = e
 
-abbrev pub factor_step : Factor-F Declarations Declarations MemberPart Declarations Declarations Declarations Declarations
-    BodyPart Declarations Declarations MemberPart Declarations → Declarations
+abbrev pub factor_step : Factor-F Declarations Declarations MemberPart Declarations Declarations Declarations Declarations Declarations BodyPart Declarations Declarations MemberPart SectionPart → Declarations
 factor_step factor = factor.value
 
-abbrev pub addend_step : Addend-F Declarations Declarations MemberPart Declarations Declarations Declarations Declarations
-    BodyPart Declarations Declarations MemberPart Declarations → Declarations
+abbrev pub argument_step : Argument-F Declarations Declarations MemberPart Declarations Declarations Declarations Declarations Declarations BodyPart Declarations Declarations MemberPart SectionPart → Declarations
+argument_step argument = argument.value
+
+abbrev pub addend_step : Addend-F Declarations Declarations MemberPart Declarations Declarations Declarations Declarations Declarations BodyPart Declarations Declarations MemberPart SectionPart → Declarations
 addend_step addend = addend.value
 
-abbrev pub constructor_step : ObjectConstructor-F Declarations Declarations MemberPart Declarations Declarations Declarations
-    Declarations BodyPart Declarations Declarations MemberPart Declarations → Declarations
+abbrev pub constructor_step : ObjectConstructor-F Declarations Declarations MemberPart Declarations Declarations Declarations Declarations Declarations BodyPart Declarations Declarations MemberPart SectionPart → Declarations
 constructor_step object = object_of object.name [] object.body
 
-abbrev pub body_step : Body-F Declarations Declarations MemberPart Declarations Declarations Declarations Declarations BodyPart
-    Declarations Declarations MemberPart Declarations → BodyPart
+abbrev pub body_step : Body-F Declarations Declarations MemberPart Declarations Declarations Declarations Declarations Declarations BodyPart Declarations Declarations MemberPart SectionPart → BodyPart
 body_step body = record {
   members = body.members;
-  within = both (within_members body.members) (both (if_there body.initially) (if_there body.process));
+  within = both (within_members body.members) (both (in_clause body.initially) (in_process body.process));
 }
 
-abbrev pub process_step : ProcessSection-F Declarations Declarations MemberPart Declarations Declarations Declarations
-    Declarations BodyPart Declarations Declarations MemberPart Declarations → Declarations
-process_step process = operation_at process.at process.block
+abbrev pub section_step : Section-F Declarations Declarations MemberPart Declarations Declarations Declarations Declarations Declarations BodyPart Declarations Declarations MemberPart SectionPart → SectionPart
+section_step section = record { at = section.at; within = section.block }
 
-abbrev pub member_step : Member-F Declarations Declarations MemberPart Declarations Declarations Declarations Declarations
-    BodyPart Declarations Declarations MemberPart Declarations → MemberPart
+abbrev pub member_step : Member-F Declarations Declarations MemberPart Declarations Declarations Declarations Declarations Declarations BodyPart Declarations Declarations MemberPart SectionPart → MemberPart
 member_step (Member-F.Member::Variable attached name of e) = record { name = name.text; operations = []; within = if_there e }
 member_step (Member-F.Constant attached name of e) = record { name = name.text; operations = []; within = e }
 member_step (Member-F.Condition name) = record { name = name.text; operations = []; within = nothing }
@@ -146,20 +157,17 @@ signature_with name parameters result = record {
 }
 
 -- Others may call an operation where it is exported.
-abbrev pub operation_step : Operation-F Declarations Declarations MemberPart Declarations Declarations Declarations Declarations
-    BodyPart Declarations Declarations MemberPart Declarations → MemberPart
+abbrev pub operation_step : Operation-F Declarations Declarations MemberPart Declarations Declarations Declarations Declarations Declarations BodyPart Declarations Declarations MemberPart SectionPart → MemberPart
 operation_step o = record {
   name = o.name.text;
   operations = if o.is_exported then signature_with o.name o.parameters o.result ∷ [] else [];
-  within = operation_at o.name.at o.block;
+  within = operation_at o.name.at (both o.block (in_clause o.failure));
 }
 
-abbrev pub block_step : Block-F Declarations Declarations MemberPart Declarations Declarations Declarations Declarations BodyPart
-    Declarations Declarations MemberPart Declarations → Declarations
+abbrev pub block_step : Block-F Declarations Declarations MemberPart Declarations Declarations Declarations Declarations Declarations BodyPart Declarations Declarations MemberPart SectionPart → Declarations
 block_step block = joined block.statements
 
-abbrev pub statement_step : Statement-F Declarations Declarations MemberPart Declarations Declarations Declarations Declarations
-    BodyPart Declarations Declarations MemberPart Declarations → Declarations
+abbrev pub statement_step : Statement-F Declarations Declarations MemberPart Declarations Declarations Declarations Declarations Declarations BodyPart Declarations Declarations MemberPart SectionPart → Declarations
 statement_step (Statement-F.LocalVariable name of e) = if_there e
 statement_step (Statement-F.LocalConstant name of e) = e
 statement_step (Statement-F.Assign a b) = both a b
@@ -177,66 +185,56 @@ statement_step (Statement-F.Unfix e at) = e
 statement_step (Statement-F.Wait name at) = nothing
 statement_step (Statement-F.Signal name at) = nothing
 
-abbrev pub arm_step : Arm-F Declarations Declarations MemberPart Declarations Declarations Declarations Declarations BodyPart
-    Declarations Declarations MemberPart Declarations → Declarations
+abbrev pub arm_step : Arm-F Declarations Declarations MemberPart Declarations Declarations Declarations Declarations Declarations BodyPart Declarations Declarations MemberPart SectionPart → Declarations
 arm_step arm = both arm.condition arm.block
 
 -- ---- whole parts
 
 abbrev pub in_expression : Expression → Declarations
-in_expression = fold-Expression Declarations Declarations MemberPart Declarations Declarations Declarations Declarations BodyPart
-    Declarations Declarations MemberPart Declarations expression_step link_step member_step statement_step addend_step arm_step
-    block_step body_step factor_step constructor_step operation_step process_step
+in_expression = fold-Expression Declarations Declarations MemberPart Declarations Declarations Declarations Declarations Declarations BodyPart Declarations Declarations MemberPart SectionPart expression_step link_step member_step statement_step addend_step argument_step arm_step
+    block_step body_step factor_step constructor_step operation_step section_step
 
 abbrev pub in_link : Link → Declarations
-in_link = fold-Link Declarations Declarations MemberPart Declarations Declarations Declarations Declarations BodyPart Declarations
-    Declarations MemberPart Declarations expression_step link_step member_step statement_step addend_step arm_step block_step
-    body_step factor_step constructor_step operation_step process_step
+in_link = fold-Link Declarations Declarations MemberPart Declarations Declarations Declarations Declarations Declarations BodyPart Declarations Declarations MemberPart SectionPart expression_step link_step member_step statement_step addend_step argument_step arm_step block_step
+    body_step factor_step constructor_step operation_step section_step
 
 abbrev pub in_member : Member → MemberPart
-in_member = fold-Member Declarations Declarations MemberPart Declarations Declarations Declarations Declarations BodyPart
-    Declarations Declarations MemberPart Declarations expression_step link_step member_step statement_step addend_step arm_step
-    block_step body_step factor_step constructor_step operation_step process_step
+in_member = fold-Member Declarations Declarations MemberPart Declarations Declarations Declarations Declarations Declarations BodyPart Declarations Declarations MemberPart SectionPart expression_step link_step member_step statement_step addend_step argument_step arm_step
+    block_step body_step factor_step constructor_step operation_step section_step
 
 abbrev pub in_statement : Statement → Declarations
-in_statement = fold-Statement Declarations Declarations MemberPart Declarations Declarations Declarations Declarations BodyPart
-    Declarations Declarations MemberPart Declarations expression_step link_step member_step statement_step addend_step arm_step
-    block_step body_step factor_step constructor_step operation_step process_step
+in_statement = fold-Statement Declarations Declarations MemberPart Declarations Declarations Declarations Declarations Declarations BodyPart Declarations Declarations MemberPart SectionPart expression_step link_step member_step statement_step addend_step argument_step arm_step
+    block_step body_step factor_step constructor_step operation_step section_step
 
 abbrev pub in_addend : Addend → Declarations
-in_addend = fold-Addend Declarations Declarations MemberPart Declarations Declarations Declarations Declarations BodyPart
-    Declarations Declarations MemberPart Declarations expression_step link_step member_step statement_step addend_step arm_step
-    block_step body_step factor_step constructor_step operation_step process_step
+in_addend = fold-Addend Declarations Declarations MemberPart Declarations Declarations Declarations Declarations Declarations BodyPart Declarations Declarations MemberPart SectionPart expression_step link_step member_step statement_step addend_step argument_step arm_step
+    block_step body_step factor_step constructor_step operation_step section_step
+
+abbrev pub in_argument : Argument → Declarations
+in_argument = fold-Argument Declarations Declarations MemberPart Declarations Declarations Declarations Declarations Declarations BodyPart Declarations Declarations MemberPart SectionPart expression_step link_step member_step statement_step addend_step argument_step arm_step block_step body_step factor_step constructor_step operation_step section_step
 
 abbrev pub in_arm : Arm → Declarations
-in_arm = fold-Arm Declarations Declarations MemberPart Declarations Declarations Declarations Declarations BodyPart Declarations
-    Declarations MemberPart Declarations expression_step link_step member_step statement_step addend_step arm_step block_step
-    body_step factor_step constructor_step operation_step process_step
+in_arm = fold-Arm Declarations Declarations MemberPart Declarations Declarations Declarations Declarations Declarations BodyPart Declarations Declarations MemberPart SectionPart expression_step link_step member_step statement_step addend_step argument_step arm_step block_step
+    body_step factor_step constructor_step operation_step section_step
 
 abbrev pub in_block : Block → Declarations
-in_block = fold-Block Declarations Declarations MemberPart Declarations Declarations Declarations Declarations BodyPart
-    Declarations Declarations MemberPart Declarations expression_step link_step member_step statement_step addend_step arm_step
-    block_step body_step factor_step constructor_step operation_step process_step
+in_block = fold-Block Declarations Declarations MemberPart Declarations Declarations Declarations Declarations Declarations BodyPart Declarations Declarations MemberPart SectionPart expression_step link_step member_step statement_step addend_step argument_step arm_step
+    block_step body_step factor_step constructor_step operation_step section_step
 
 abbrev pub in_body : Body → BodyPart
-in_body = fold-Body Declarations Declarations MemberPart Declarations Declarations Declarations Declarations BodyPart Declarations
-    Declarations MemberPart Declarations expression_step link_step member_step statement_step addend_step arm_step block_step
-    body_step factor_step constructor_step operation_step process_step
+in_body = fold-Body Declarations Declarations MemberPart Declarations Declarations Declarations Declarations Declarations BodyPart Declarations Declarations MemberPart SectionPart expression_step link_step member_step statement_step addend_step argument_step arm_step block_step
+    body_step factor_step constructor_step operation_step section_step
 
 abbrev pub in_factor : Factor → Declarations
-in_factor = fold-Factor Declarations Declarations MemberPart Declarations Declarations Declarations Declarations BodyPart
-    Declarations Declarations MemberPart Declarations expression_step link_step member_step statement_step addend_step arm_step
-    block_step body_step factor_step constructor_step operation_step process_step
+in_factor = fold-Factor Declarations Declarations MemberPart Declarations Declarations Declarations Declarations Declarations BodyPart Declarations Declarations MemberPart SectionPart expression_step link_step member_step statement_step addend_step argument_step arm_step
+    block_step body_step factor_step constructor_step operation_step section_step
 
 abbrev pub in_constructor : ObjectConstructor → Declarations
-in_constructor = fold-ObjectConstructor Declarations Declarations MemberPart Declarations Declarations Declarations Declarations
-    BodyPart Declarations Declarations MemberPart Declarations expression_step link_step member_step statement_step addend_step
-    arm_step block_step body_step factor_step constructor_step operation_step process_step
+in_constructor = fold-ObjectConstructor Declarations Declarations MemberPart Declarations Declarations Declarations Declarations Declarations BodyPart Declarations Declarations MemberPart SectionPart expression_step link_step member_step statement_step addend_step argument_step arm_step block_step body_step factor_step constructor_step operation_step section_step
 
-abbrev pub in_process : ProcessSection → Declarations
-in_process = fold-ProcessSection Declarations Declarations MemberPart Declarations Declarations Declarations Declarations BodyPart
-    Declarations Declarations MemberPart Declarations expression_step link_step member_step statement_step addend_step arm_step
-    block_step body_step factor_step constructor_step operation_step process_step
+abbrev pub in_section : Section → SectionPart
+in_section = fold-Section Declarations Declarations MemberPart Declarations Declarations Declarations Declarations Declarations BodyPart Declarations Declarations MemberPart SectionPart expression_step link_step member_step statement_step addend_step argument_step arm_step
+    block_step body_step factor_step constructor_step operation_step section_step
 
 abbrev pub in_class : Class → Declarations
 in_class class = object_of class.name (map (λ p. p.name.text) class.parameters) (in_body class.body)

@@ -23,18 +23,21 @@ pub(super) fn push_parameter(values: &mut Values) -> Result<(), AllocError>
 }
 
 pub(super) fn make_body(values: &mut Values) -> Result<(), AllocError>
-    requires process { IsFilled values.old.maybe_processes }
-    requires initially { IsFilled values.old.maybe_blocks }
+    requires end_at { IsFilled values.old.places }
+    requires process { IsFilled values.old.maybe_sections }
+    requires initially { IsFilled (rest values.old.maybe_sections) }
     requires members { IsFilled values.old.member_lists }
     ensures { OnOk result (values.new ≡ spec.make_body values.old) }
 {
-    let process = values.maybe_processes.take();
-    let initially = values.maybe_blocks.take();
+    let end_at = values.places.take();
+    let process = values.maybe_sections.take();
+    let initially = values.maybe_sections.take();
     let members = values.member_lists.take();
     values.bodies.push(Body {
         members,
         initially,
         process,
+        end_at,
     })
 }
 
@@ -52,6 +55,7 @@ pub(super) fn make_class(values: &mut Values) -> Result<(), AllocError>
     let name = values.names.take();
     let is_monitored = values.flags.take();
     values.classes.push(Class {
+        is_immutable: false,
         is_monitored,
         name,
         parameters,
@@ -75,11 +79,41 @@ pub(super) fn make_object(values: &mut Values) -> Result<(), AllocError>
     let at = values.places.take();
     values.objects.push(ObjectConstructor {
         at,
+        object_at: at,
+        is_immutable: false,
         is_monitored,
         name,
         body,
         end_name,
     })
+}
+
+/// The place of `object` stands on that of the first word.
+pub(super) fn make_monitored_object(values: &mut Values) -> Result<(), AllocError>
+    requires end_name { IsFilled values.old.names }
+    requires body { IsFilled values.old.bodies }
+    requires name { IsFilled (rest values.old.names) }
+    requires object_at { IsFilled values.old.places }
+    requires is_monitored { IsFilled values.old.flags }
+    requires at { IsFilled (rest values.old.places) }
+    ensures { OnOk result (values.new ≡ spec.make_monitored_object values.old) }
+{
+    let end_name = values.names.take();
+    let body = values.bodies.take();
+    let name = values.names.take();
+    let object_at = values.places.take();
+    let is_monitored = values.flags.take();
+    let at = values.places.take();
+    let object = ObjectConstructor {
+        at,
+        object_at,
+        is_immutable: false,
+        is_monitored,
+        name,
+        body,
+        end_name,
+    };
+    values.objects.push(object)
 }
 
 pub(super) fn make_constructor(alloc: Global, values: &mut Values) -> Result<(), AllocError>
@@ -143,6 +177,7 @@ pub(super) fn make_condition(values: &mut Values) -> Result<(), AllocError>
 
 pub(super) fn make_operation(values: &mut Values) -> Result<(), AllocError>
     requires end_name { IsFilled values.old.names }
+    requires end_at { IsFilled values.old.places }
     requires statements { IsFilled values.old.statement_lists }
     requires result { IsFilled values.old.maybe_parameters }
     requires parameters { IsFilled values.old.parameter_lists }
@@ -151,6 +186,7 @@ pub(super) fn make_operation(values: &mut Values) -> Result<(), AllocError>
     ensures { OnOk result (values.new ≡ spec.make_operation values.old) }
 {
     let end_name = values.names.take();
+    let end_at = values.places.take();
     let statements = values.statement_lists.take();
     let result = values.maybe_parameters.take();
     let parameters = values.parameter_lists.take();
@@ -162,6 +198,8 @@ pub(super) fn make_operation(values: &mut Values) -> Result<(), AllocError>
         parameters,
         result,
         block: Block { statements },
+        failure: None,
         end_name,
+        end_at,
     }))
 }

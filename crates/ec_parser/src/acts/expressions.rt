@@ -6,7 +6,7 @@ ghost use Rattle.ec_parser.specs.Acts as spec;
 
 use super::chains::{and_of, or_of, postfix_of, sum_of, term_of};
 use crate::values::Values;
-use ec_ast::{Addend, Expression, Factor, Link};
+use ec_ast::{Addend, Argument, Expression, Factor, Link};
 use sqlite_items::{Boxed, Items};
 use std::alloc::{AllocError, Global};
 
@@ -32,12 +32,12 @@ pub(super) fn push_index(values: &mut Values) -> Result<(), AllocError>
 }
 
 pub(super) fn push_call(values: &mut Values) -> Result<(), AllocError>
-    requires arguments { IsFilled values.old.expression_lists }
+    requires arguments { IsFilled values.old.argument_lists }
     requires name { IsFilled values.old.names }
     requires list { IsFilled values.old.link_lists }
     ensures { OnOk result (values.new ≡ spec.push_call values.old) }
 {
-    let arguments = values.expression_lists.take();
+    let arguments = values.argument_lists.take();
     let name = values.names.take();
     let mut list = values.link_lists.take();
     list.push(Link::Call(name, arguments))?;
@@ -64,6 +64,21 @@ pub(super) fn push_expression(values: &mut Values) -> Result<(), AllocError>
     let mut list = values.expression_lists.take();
     list.push(x)?;
     values.expression_lists.push(list)
+}
+
+/// An argument of which nothing is said goes along with no call.
+pub(super) fn push_argument(values: &mut Values) -> Result<(), AllocError>
+    requires value { IsFilled values.old.expressions }
+    requires list { IsFilled values.old.argument_lists }
+    ensures { OnOk result (values.new ≡ spec.push_argument values.old) }
+{
+    let value = values.expressions.take();
+    let mut list = values.argument_lists.take();
+    list.push(Argument {
+        carried: None,
+        value,
+    })?;
+    values.argument_lists.push(list)
 }
 
 pub(super) fn push_addend(values: &mut Values) -> Result<(), AllocError>
@@ -312,9 +327,11 @@ pub(super) fn make_node_at(alloc: Global, values: &mut Values) -> Result<(), All
 }
 
 pub(super) fn make_node_count(values: &mut Values) -> Result<(), AllocError>
+    requires count { IsFilled values.old.names }
     requires at { IsFilled values.old.places }
     ensures { OnOk result (values.new ≡ spec.make_node_count values.old) }
 {
+    let count = values.names.take();
     let at = values.places.take();
-    values.expressions.push(Expression::NodeCount(at))
+    values.expressions.push(Expression::NodeCount(at, count.at))
 }

@@ -19,6 +19,12 @@ pub(super) fn begin_expressions(alloc: Global, values: &mut Values) -> Result<()
     values.expression_lists.push(Items::new(alloc))
 }
 
+pub(super) fn begin_arguments(alloc: Global, values: &mut Values) -> Result<(), AllocError>
+    ensures { OnOk result (values.new ≡ spec.begin_arguments values.old) }
+{
+    values.argument_lists.push(Items::new(alloc))
+}
+
 pub(super) fn begin_addends(alloc: Global, values: &mut Values) -> Result<(), AllocError>
     ensures { OnOk result (values.new ≡ spec.begin_addends values.old) }
 {

@@ -1,11 +1,11 @@
 //! What may be left out, and whether a word stands.
 
 ghost use Rattle.std.specs.Prelude.{◌≡◌, OnOk};
-ghost use Rattle.ec_parser.specs.Filled.{IsFilled};
+ghost use Rattle.ec_parser.specs.Filled.{IsFilled, rest};
 ghost use Rattle.ec_parser.specs.Acts as spec;
 
 use crate::values::Values;
-use ec_ast::{Block, Parameter, ProcessSection};
+use ec_ast::{Block, Parameter, Section};
 use std::alloc::AllocError;
 
 pub(super) fn some_type(values: &mut Values) -> Result<(), AllocError>
@@ -50,23 +50,26 @@ pub(super) fn no_block(values: &mut Values) -> Result<(), AllocError>
     values.maybe_blocks.push(None)
 }
 
-pub(super) fn some_process(values: &mut Values) -> Result<(), AllocError>
+pub(super) fn some_section(values: &mut Values) -> Result<(), AllocError>
+    requires end_at { IsFilled values.old.places }
     requires statements { IsFilled values.old.statement_lists }
-    requires at { IsFilled values.old.places }
-    ensures { OnOk result (values.new ≡ spec.some_process values.old) }
+    requires at { IsFilled (rest values.old.places) }
+    ensures { OnOk result (values.new ≡ spec.some_section values.old) }
 {
+    let end_at = values.places.take();
     let statements = values.statement_lists.take();
     let at = values.places.take();
-    values.maybe_processes.push(Some(ProcessSection {
+    values.maybe_sections.push(Some(Section {
         block: Block { statements },
         at,
+        end_at,
     }))
 }
 
-pub(super) fn no_process(values: &mut Values) -> Result<(), AllocError>
-    ensures { OnOk result (values.new ≡ spec.no_process values.old) }
+pub(super) fn no_section(values: &mut Values) -> Result<(), AllocError>
+    ensures { OnOk result (values.new ≡ spec.no_section values.old) }
 {
-    values.maybe_processes.push(None)
+    values.maybe_sections.push(None)
 }
 
 pub(super) fn some_parameter(values: &mut Values) -> Result<(), AllocError>

@@ -11,7 +11,8 @@ pub(super) const CLASS_REST: [Alternative; 1] = [&[
     Symbol::Part(Part::Parameters),
     Symbol::Part(Part::Body),
     Symbol::Bound(Bound::Closes(Opened::Word)),
-    Symbol::Token(Terminal::End),
+    Symbol::Keep(Terminal::End),
+    Symbol::Do(Act::MakeBody),
     Symbol::Part(Part::Name),
     Symbol::Do(Act::MakeClass),
 ]];
@@ -19,13 +20,14 @@ pub(super) const CLASS_REST: [Alternative; 1] = [&[
 // object   = [ "monitor" ] "object" ID body "end" ID    (behind `monitor`)
 pub(super) const OBJECT_REST: [Alternative; 1] = [&[
     Symbol::Bound(Bound::Opens(Opened::Word)),
-    Symbol::Token(Terminal::Object),
+    Symbol::Keep(Terminal::Object),
     Symbol::Part(Part::Name),
     Symbol::Part(Part::Body),
     Symbol::Bound(Bound::Closes(Opened::Word)),
-    Symbol::Token(Terminal::End),
+    Symbol::Keep(Terminal::End),
+    Symbol::Do(Act::MakeBody),
     Symbol::Part(Part::Name),
-    Symbol::Do(Act::MakeObject),
+    Symbol::Do(Act::MakeMonitoredObject),
 ]];
 
 // params   = "[" [ ID ":" type { "," ID ":" type } ] "]"
@@ -71,7 +73,6 @@ pub(super) const BODY: [Alternative; 1] = [&[
     Symbol::Part(Part::Members),
     Symbol::Part(Part::Initially),
     Symbol::Part(Part::Process),
-    Symbol::Do(Act::MakeBody),
 ]];
 
 pub(super) const MEMBERS: [Alternative; 2] = [
@@ -86,14 +87,14 @@ pub(super) const MEMBERS: [Alternative; 2] = [
 pub(super) const INITIALLY: [Alternative; 2] = [
     &[
         Symbol::Bound(Bound::Opens(Opened::Word)),
-        Symbol::Token(Terminal::Initially),
+        Symbol::Keep(Terminal::Initially),
         Symbol::Part(Part::Block),
         Symbol::Bound(Bound::Closes(Opened::Word)),
-        Symbol::Token(Terminal::End),
+        Symbol::Keep(Terminal::End),
         Symbol::Token(Terminal::Initially),
-        Symbol::Do(Act::SomeBlock),
+        Symbol::Do(Act::SomeSection),
     ],
-    &[Symbol::Do(Act::NoBlock)],
+    &[Symbol::Do(Act::NoSection)],
 ];
 
 pub(super) const PROCESS: [Alternative; 2] = [
@@ -102,11 +103,11 @@ pub(super) const PROCESS: [Alternative; 2] = [
         Symbol::Keep(Terminal::Process),
         Symbol::Part(Part::Block),
         Symbol::Bound(Bound::Closes(Opened::Word)),
-        Symbol::Token(Terminal::End),
+        Symbol::Keep(Terminal::End),
         Symbol::Token(Terminal::Process),
-        Symbol::Do(Act::SomeProcess),
+        Symbol::Do(Act::SomeSection),
     ],
-    &[Symbol::Do(Act::NoProcess)],
+    &[Symbol::Do(Act::NoSection)],
 ];
 
 // member   = [ "attached" ] "var" ID ":" type [ "<-" expr ]
@@ -207,7 +208,7 @@ pub(super) const OPERATION_REST: [Alternative; 1] = [&[
     Symbol::Part(Part::OperationResult),
     Symbol::Part(Part::Block),
     Symbol::Bound(Bound::Closes(Opened::Word)),
-    Symbol::Token(Terminal::End),
+    Symbol::Keep(Terminal::End),
     Symbol::Part(Part::Name),
     Symbol::Do(Act::MakeOperation),
 ]];

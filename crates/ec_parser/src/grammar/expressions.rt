@@ -232,7 +232,7 @@ pub(super) const AFTER_DOT: [Alternative; 3] = [
     &[
         Symbol::Bound(Bound::Opens(Opened::Bracket)),
         Symbol::Token(Terminal::OpenBracket),
-        Symbol::Do(Act::BeginExpressions),
+        Symbol::Do(Act::BeginArguments),
         Symbol::Part(Part::Arguments),
         Symbol::Bound(Bound::Closes(Opened::Bracket)),
         Symbol::Token(Terminal::CloseBracket),
@@ -251,7 +251,7 @@ pub(super) const AFTER_DOT: [Alternative; 3] = [
 pub(super) const ARGUMENTS: [Alternative; 2] = [
     &[
         Symbol::Part(Part::Expression),
-        Symbol::Do(Act::PushExpression),
+        Symbol::Do(Act::PushArgument),
         Symbol::Part(Part::MoreArguments),
     ],
     &[],
@@ -261,7 +261,7 @@ pub(super) const MORE_ARGUMENTS: [Alternative; 2] = [
     &[
         Symbol::Token(Terminal::Comma),
         Symbol::Part(Part::Expression),
-        Symbol::Do(Act::PushExpression),
+        Symbol::Do(Act::PushArgument),
         Symbol::Part(Part::MoreArguments),
     ],
     &[],
@@ -310,7 +310,8 @@ pub(super) const OTHER_PLAIN: [Alternative; 10] = [
         Symbol::Part(Part::Name),
         Symbol::Part(Part::Body),
         Symbol::Bound(Bound::Closes(Opened::Word)),
-        Symbol::Token(Terminal::End),
+        Symbol::Keep(Terminal::End),
+        Symbol::Do(Act::MakeBody),
         Symbol::Part(Part::Name),
         Symbol::Do(Act::MakeObject),
         Symbol::Do(Act::MakeConstructor),
@@ -351,7 +352,7 @@ pub(super) const NODE_REST: [Alternative; 2] = [
         Symbol::Do(Act::MakeNodeAt),
     ],
     &[
-        Symbol::Token(Terminal::Count),
+        Symbol::Keep(Terminal::Count),
         Symbol::Do(Act::MakeNodeCount),
     ],
 ];

@@ -214,7 +214,7 @@ pub(super) const AFTER_FIELD: [Alternative; 3] = [
     &[
         Symbol::Bound(Bound::Opens(Opened::Bracket)),
         Symbol::Token(Terminal::OpenBracket),
-        Symbol::Do(Act::BeginExpressions),
+        Symbol::Do(Act::BeginArguments),
         Symbol::Part(Part::Arguments),
         Symbol::Bound(Bound::Closes(Opened::Bracket)),
         Symbol::Token(Terminal::CloseBracket),

@@ -6,8 +6,8 @@ ghost use Rattle.ec_types.specs.Declarations as spec;
 
 use crate::names::Names;
 use ec_ast::{
-    Addend, Arm, Block, Body, Class, Constant, ConstantValue, Expression, Factor, Link, Member,
-    Name, ObjectConstructor, Parameter, ProcessSection, Program, Signature, Span, Statement,
+    Addend, Argument, Arm, Block, Body, Class, Constant, ConstantValue, Expression, Factor, Link,
+    Member, Name, ObjectConstructor, Parameter, Program, Section, Signature, Span, Statement,
     TypeName, Typeobject,
 };
 use sqlite_items::{Boxed, Items};
@@ -313,7 +313,7 @@ fn in_body(alloc: Global, body: &Body, found: &mut Declarations) -> Result<(), A
     ensures { OnOk result (found.new ≡ spec.both found.old (spec.in_body body.now).within) }
 {
     in_members(alloc, body.members.as_slice(), found)?;
-    in_block_if_there(alloc, &body.initially, found)?;
+    in_clause_if_there(alloc, &body.initially, found)?;
     in_process_if_there(alloc, &body.process, found)
 }
 
@@ -337,7 +337,8 @@ fn in_member(alloc: Global, member: &Member, found: &mut Declarations) -> Result
         Member::Condition(_) => Ok(()),
         Member::Operation(operation) => {
             found.operations.push(operation.name.at)?;
-            in_block(alloc, &operation.block, found)
+            in_block(alloc, &operation.block, found)?;
+            in_clause_if_there(alloc, &operation.failure, found)
         }
     }
 }
@@ -345,10 +346,10 @@ fn in_member(alloc: Global, member: &Member, found: &mut Declarations) -> Result
 #[cycle(types)]
 fn in_process_if_there(
     alloc: Global,
-    process: &Option<ProcessSection>,
+    process: &Option<Section>,
     found: &mut Declarations,
 ) -> Result<(), AllocError>
-    ensures { OnOk result (found.new ≡ spec.both found.old (spec.if_there (option_map spec.in_process process.now))) }
+    ensures { OnOk result (found.new ≡ spec.both found.old (spec.in_process (option_map spec.in_section process.now))) }
 {
     match process {
         None => Ok(()),
@@ -356,6 +357,21 @@ fn in_process_if_there(
             found.operations.push(process.at)?;
             in_block(alloc, &process.block, found)
         }
+    }
+}
+
+/// An `initially` block or a failure clause.
+#[cycle(types)]
+fn in_clause_if_there(
+    alloc: Global,
+    clause: &Option<Section>,
+    found: &mut Declarations,
+) -> Result<(), AllocError>
+    ensures { OnOk result (found.new ≡ spec.both found.old (spec.in_clause (option_map spec.in_section clause.now))) }
+{
+    match clause {
+        None => Ok(()),
+        Some(clause) => in_block(alloc, &clause.block, found),
     }
 }
 
@@ -519,9 +535,23 @@ fn in_link(alloc: Global, link: &Link, found: &mut Declarations) -> Result<(), A
     ensures { OnOk result (found.new ≡ spec.both found.old (spec.in_link link.now)) }
 {
     match link {
-        Link::Call(_, arguments) => in_expressions(alloc, arguments.as_slice(), found),
+        Link::Call(_, arguments) => in_arguments(alloc, arguments.as_slice(), found),
         Link::Index(e, _) => in_expression(alloc, e, found),
     }
+}
+
+#[cycle(types)]
+fn in_arguments(
+    alloc: Global,
+    arguments: &[Argument],
+    found: &mut Declarations,
+) -> Result<(), AllocError>
+    ensures { OnOk result (found.new ≡ spec.both found.old (spec.joined (map spec.in_argument arguments.now))) }
+{
+    for argument in arguments {
+        in_expression(alloc, &argument.value, found)?;
+    }
+    Ok(())
 }
 
 #[cycle(types)]

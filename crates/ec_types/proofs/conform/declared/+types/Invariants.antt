@@ -27,6 +27,11 @@ invariant-in_links-loop-link l =
     spec.both l.found (spec.joined (map spec.in_link (drop l.link-index l.links)))
     ≡ spec.both l.initial.found (spec.joined (map spec.in_link l.links))
 
+abbrev pub invariant-in_arguments-loop-argument : goal.invariant-in_arguments-loop-argument
+invariant-in_arguments-loop-argument l =
+    spec.both l.found (spec.joined (map spec.in_argument (drop l.argument-index l.arguments)))
+    ≡ spec.both l.initial.found (spec.joined (map spec.in_argument l.arguments))
+
 abbrev pub invariant-in_factors-loop-factor : goal.invariant-in_factors-loop-factor
 invariant-in_factors-loop-factor l =
     spec.both l.found (spec.joined (map spec.in_factor (drop l.factor-index l.factors)))
